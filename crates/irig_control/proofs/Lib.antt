@@ -1,0 +1,4 @@
+pub mod ControlLaws
+pub mod ParityLaws
+pub mod ParityKeeps
+pub mod StandardFacts

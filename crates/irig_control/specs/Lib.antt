@@ -1,0 +1,3 @@
+pub mod ControlTable
+pub mod Control
+pub mod Parity

@@ -1,0 +1,66 @@
+//! The parity of a frame.
+
+ghost use Rattle.std.specs.Prelude.{◌≡◌, ◌<◌, Bool, slice_set};
+ghost use Rattle.irig_control.specs.Parity.{is_counted, ones, remainder_of, has_parity, HasParity, data_symbol};
+
+use irig_frame::Symbol;
+
+/// Whether the ones that the parity counts are even or odd in number.
+///
+/// Source: IEEE 1344-1995, annex on IRIG-B, has the parity bit, at element 75. What it counts, and
+/// that it may be even or odd, is this project's profile.
+#[derive(Clone, Copy, Debug, PartialEq, Eq)]
+pub enum Parity {
+    /// An even number of ones.
+    Even,
+    /// An odd number of ones.
+    Odd,
+}
+
+/// Whether the frame has the parity: of its data places 1 to 75, element 75 included, an even or
+/// an odd number hold a one. Marker places never count.
+///
+/// What the parity counts is this project's profile.
+pub fn parity_ok(frame: &[Symbol; 100], parity: Parity) -> bool
+    ensures { result ≡ has_parity parity frame.now }
+{
+    ones_in(frame) % 2 == remainder(parity)
+}
+
+/// Gives the frame the parity, by a 0 or a 1 at element 75; no other element changes.
+pub fn set_parity(frame: &mut [Symbol; 100], parity: Parity)
+    ensures parity { HasParity parity frame.new }
+    ensures others { (b : Bool) × (frame.new ≡ slice_set frame.old 75 (data_symbol b)) }
+{
+    frame[75] = Symbol::Zero;
+    if !parity_ok(frame, parity) {
+        frame[75] = Symbol::One;
+    }
+}
+
+/// How many of the data places 1 to 75 hold a one.
+#[tactic(auto, unfolding(crate::specs::Parity::ones))]
+fn ones_in(frame: &[Symbol; 100]) -> usize
+    ensures { result ≡ ones frame.now }
+{
+    (1..76).filter(|element| counts(frame, *element)).count()
+}
+
+/// Whether the element is a data place that holds a one.
+fn counts(frame: &[Symbol; 100], element: usize) -> bool
+    requires { element < 100 }
+    ensures { result ≡ is_counted frame.now element }
+{
+    let is_marker_place = element == 0 || element % 10 == 9;
+    !is_marker_place && frame[element] == Symbol::One
+}
+
+/// The remainder by 2 of a number of ones.
+fn remainder(parity: Parity) -> usize
+    ensures { result ≡ remainder_of parity }
+{
+    match parity {
+        Parity::Even => 0,
+        Parity::Odd => 1,
+    }
+}

@@ -1,0 +1,11 @@
+-- What is seen of a watched device.
+use Rattle.std.specs.Prelude.{Bool}
+use Rattle.irig_device.specs.declared.watched.Watched.{Watched}
+
+-- the device itself
+abbrev pub device_of : {T : Type 0} → Watched T → T
+device_of w = w.inner
+
+-- whether the note says that one of its calls failed
+abbrev pub has_failed : {T : Type 0} → Watched T → Bool
+has_failed w = w.is_noted

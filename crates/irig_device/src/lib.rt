@@ -1,0 +1,11 @@
+//! A reader or a writer that keeps a note of whether one of its calls failed, and devices for
+//! tests that fail or never end.
+#![tactic(auto)]
+
+mod test_devices;
+#[cfg(test)]
+mod tests;
+mod watched;
+
+pub use test_devices::{Break, Endless, Fuse};
+pub use watched::{DeviceFault, Watched};

@@ -1,0 +1,97 @@
+//! A device with a note.
+
+ghost use Rattle.std.specs.Prelude.{◌≡◌, ◌<◌, ◌≤◌, ◌||◌, false, length, take, option_to_list, None, IfOk, OnErr, is_err};
+ghost use Rattle.std.specs.Io.KnownBytes.{Appends, Consumes, IsAtEnd, Keeps};
+ghost use Rattle.irig_device.specs.Watched.{device_of, has_failed};
+
+use std::io::{BufRead, Write};
+
+/// A reader or a writer, and a note that one of its calls failed. The calls of this crate alone
+/// set the note, and nothing takes it away.
+#[derive(Debug, Drop)]
+pub struct Watched<T> {
+    inner: T,
+    is_noted: bool,
+}
+
+/// A call of the device failed, was interrupted or took nothing.
+#[derive(Clone, Copy, Debug, PartialEq, Eq)]
+pub struct DeviceFault;
+
+impl<T> Watched<T> {
+    /// A device of which no call has failed yet.
+    pub fn new(inner: T) -> Watched<T>
+        ensures device { device_of result ≡ inner }
+        ensures whole { has_failed result ≡ false }
+    {
+        Watched {
+            inner,
+            is_noted: false,
+        }
+    }
+
+    /// Whether a call of the device failed, was interrupted or took nothing.
+    pub fn failed(&self) -> bool
+        ensures { result ≡ has_failed self.now }
+    {
+        self.is_noted
+    }
+
+    /// The device as its last call left it.
+    pub fn into_inner(self) -> T
+        ensures { result ≡ device_of self }
+    {
+        let Watched { inner, is_noted: _ } = self;
+        inner
+    }
+}
+
+impl<R: BufRead> Watched<R> {
+    /// The next byte, by one `fill_buf`, or `None` where no byte is left. At a fault the bytes
+    /// stay, and the note is set.
+    pub fn read_byte(&mut self) -> Result<Option<u8>, DeviceFault>
+        ensures byte { IfOk result (λ byte. Consumes (R.remaining (device_of self.old))
+            (R.remaining (device_of self.new)) (option_to_list byte)) }
+        ensures end { IfOk result (λ byte. byte ≡ None → IsAtEnd (R.remaining (device_of self.old))) }
+        ensures err { OnErr result
+            (Keeps (R.remaining (device_of self.old)) (R.remaining (device_of self.new))) }
+        ensures note { has_failed self.new ≡ (has_failed self.old || is_err result) }
+    {
+        match self.inner.fill_buf() {
+            Ok(available) => {
+                let byte = available.first().copied();
+                if byte.is_some() {
+                    self.inner.consume(1);
+                }
+                Ok(byte)
+            }
+            Err(_) => {
+                self.is_noted = true;
+                Err(DeviceFault)
+            }
+        }
+    }
+}
+
+impl<W: Write> Watched<W> {
+    /// How many of the first bytes one `write` took, at least one. At a fault none was taken, and
+    /// the note is set.
+    pub fn write_some(&mut self, bytes: &[u8]) -> Result<usize, DeviceFault>
+        requires { 0 < length bytes.now }
+        ensures taken { IfOk result (λ count. Appends (W.contents (device_of self.old))
+            (W.contents (device_of self.new)) (take count bytes.now)) }
+        ensures some { IfOk result (λ count. 0 < count) }
+        ensures within { IfOk result (λ count. count ≤ length bytes.now) }
+        ensures err { OnErr result
+            (Keeps (W.contents (device_of self.old)) (W.contents (device_of self.new))) }
+        ensures note { has_failed self.new ≡ (has_failed self.old || is_err result) }
+    {
+        match self.inner.write(bytes) {
+            Ok(count) if count > 0 => Ok(count),
+            _ => {
+                self.is_noted = true;
+                Err(DeviceFault)
+            }
+        }
+    }
+}

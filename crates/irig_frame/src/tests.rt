@@ -1,0 +1,131 @@
+use super::*;
+use std::test::*;
+
+/// A second of 2016-12-31T23:59:59 with a leap second pending, and the text of its frame.
+const LEAP_DAY: &str =
+    "P10010101P 100101010P 110000100P 011000110P 110000000P 011001000P 100000000P 000001000P 111111101P 000101010P";
+
+/// The frame of 2000-01-03T00:00:00.
+const PLAIN: &str =
+    "P00000000P 000000000P 000000000P 110000000P 000000000P 000000000P 000000000P 000000000P 000000000P 000000000P";
+
+fn symbol_of(letter: u8) -> Option<Symbol> {
+    match letter {
+        b'0' => Some(Symbol::Zero),
+        b'1' => Some(Symbol::One),
+        b'P' => Some(Symbol::Marker),
+        b'?' => Some(Symbol::Bad),
+        _ => None,
+    }
+}
+
+/// The first hundred symbols of a text, without its blanks.
+fn frame(text: &str) -> [Symbol; 100] {
+    let letters = text.as_bytes().iter();
+    let mut symbols = [Symbol::Zero; 100];
+    for (place, symbol) in symbols
+        .iter_mut()
+        .zip(letters.filter_map(|letter| symbol_of(*letter)))
+    {
+        *place = symbol;
+    }
+    symbols
+}
+
+/// The plain frame with some elements replaced.
+fn changed(changes: &[(usize, Symbol)]) -> [Symbol; 100] {
+    let mut symbols = frame(PLAIN);
+    for (element, symbol) in changes {
+        if *element < 100 {
+            symbols[*element] = *symbol;
+        }
+    }
+    symbols
+}
+
+#[test]
+fn widths_are_classified_at_their_bounds(rt: HostRuntime) {
+    let rows = [
+        (0, Symbol::Bad),
+        (499, Symbol::Bad),
+        (500, Symbol::Zero),
+        (3499, Symbol::Zero),
+        (3500, Symbol::One),
+        (6499, Symbol::One),
+        (6500, Symbol::Marker),
+        (9499, Symbol::Marker),
+        (9500, Symbol::Bad),
+        (u32::MAX, Symbol::Bad),
+    ];
+    for (width_us, symbol) in rows {
+        assert!(rt; classify(width_us) == symbol, "at {width_us}");
+    }
+}
+
+#[test]
+fn a_leap_day_is_written_and_read(rt: HostRuntime) {
+    let coded = Coded {
+        second: 59,
+        minute: 59,
+        hour: 23,
+        day: 366,
+        year: 16,
+        control: 16385,
+        sbs: 86399,
+    };
+    assert!(rt; in_range(&coded));
+    assert!(rt;
+        !in_range(&Coded {
+            second: 61,
+            ..coded
+        })
+    );
+    assert!(rt; encode(&coded) == frame(LEAP_DAY));
+    assert!(rt; decode(&frame(LEAP_DAY)) == Ok(coded));
+}
+
+#[test]
+fn the_first_fault_is_told(rt: HostRuntime) {
+    let rows = [
+        (
+            changed(&[(2, Symbol::One), (4, Symbol::One)]),
+            FrameFault::Digit(Field::Second),
+        ),
+        (
+            changed(&[
+                (1, Symbol::One),
+                (2, Symbol::One),
+                (7, Symbol::One),
+                (8, Symbol::One),
+            ]),
+            FrameFault::Range(Field::Second),
+        ),
+        (changed(&[(9, Symbol::Zero)]), FrameFault::Marker(9)),
+        (changed(&[(12, Symbol::Bad)]), FrameFault::Pulse(12)),
+        (
+            changed(&[(12, Symbol::Bad), (20, Symbol::Bad)]),
+            FrameFault::Pulse(12),
+        ),
+    ];
+    for (symbols, fault) in rows {
+        assert!(rt; decode(&symbols) == Err(fault), "at {fault:?}");
+    }
+}
+
+#[test]
+fn a_wrong_length_goes_before_a_wrong_element(rt: HostRuntime) {
+    let plain = frame(PLAIN);
+    let mut long = [Symbol::Marker; 101];
+    long[12] = Symbol::Bad;
+    if let Some((_, rest)) = plain.split_last() {
+        assert!(rt; decode(rest) == Err(FrameFault::Short(99)));
+    }
+    assert!(rt; decode(&[]) == Err(FrameFault::Short(0)));
+    assert!(rt; decode(&long) == Err(FrameFault::Long));
+}
+
+#[test]
+fn elements_without_a_field_are_ignored(rt: HostRuntime) {
+    assert!(rt; decode(&changed(&[(42, Symbol::One)])) == decode(&frame(PLAIN)));
+    assert!(rt; decode(&frame(PLAIN)).is_ok());
+}

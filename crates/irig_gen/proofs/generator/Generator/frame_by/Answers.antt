@@ -1,0 +1,46 @@
+use Rattle.std.proofs.Common.{◌≡◌, ◌≤◌, ℤ, List, Option, Some, None, MatchOption, sym, subst, unsigned_abs}
+use Rattle.irig_control.specs.Control.{IsControl}
+use Rattle.irig_frame.specs.declared.symbol.Symbol.{Symbol}
+use Rattle.irig_time.specs.declared.second.UtcSecond.{UtcSecond}
+use Rattle.irig_time.specs.Times.{IsSecond}
+use Rattle.irig_gen.specs.Frames.{gen, IsFrameBy}
+use Rattle.irig_gen.proofs.GenLaws.{sent_zone_fits, control_fits, round8, frame_at_is, faulted_fits}
+use Rattle.irig_gen.proofs.generator.Generator.frame_by.Goals as goal
+
+pub control_at-control-requires : goal.control_at-control-requires
+control_at-control-requires c =
+    let i = c.self.inside in
+    sent_zone_fits (gen i.zone i.changes.items i.rules i.edge i.fault i.since) _ c.in_ok-utc.utc c.zone_at-zone.result c.self.invariant c.deref.ensures.value c.zone_at-zone.ensures
+
+pub frame_with-requires-clause-local : goal.frame_with-requires-clause-local
+frame_with-requires-clause-local c =
+    let i = c.self.inside in
+    let small = sent_zone_fits (gen i.zone i.changes.items i.rules i.edge i.fault i.since) _ c.in_ok-utc.utc c.zone_at-zone.result c.self.invariant c.deref.ensures.value c.zone_at-zone.ensures in
+    subst (λ (h : ℤ). unsigned_abs h ≤ 31) (sym (round8 c.zone_at-zone.result.half_hours small)) small
+
+pub frame_with-requires-clause-control : goal.frame_with-requires-clause-control
+frame_with-requires-clause-control c =
+    let i = c.self.inside in
+    let small = sent_zone_fits (gen i.zone i.changes.items i.rules i.edge i.fault i.since) _ c.in_ok-utc.utc c.zone_at-zone.result c.self.invariant c.deref.ensures.value c.zone_at-zone.ensures in
+    let k = subst IsControl (sym c.control_at-control.ensures) (control_fits i.rules.sense c.zone_at-zone.result c.deref-2.result.now c.leap-leap.result c.in_ok-utc.utc small) in
+    subst IsControl (sym c.faulted-sent.ensures) (faulted_fits c.args.fault c.control_at-control.result k)
+
+pub returns : goal.returns
+returns c =
+    let i = c.self.inside in
+    let u = c.in_ok-utc.utc in
+    let z = c.zone_at-zone.result in
+    let g = gen i.zone i.changes.items i.rules i.edge i.fault i.since in
+    let small = sent_zone_fits g _ u z c.self.invariant c.deref.ensures.value c.zone_at-zone.ensures in
+    frame_at_is g c.args.self.now c.args.timeline.now c.args.edge u c.frame_with.result _ z c.control_at-control.result c.deref.result.now c.deref-2.result.now c.leap-leap.result
+    c.self.view_is ((c.at.ensures.second u).0 c.in_ok-utc.was) c.deref.ensures.value c.deref-2.ensures.value c.zone_at-zone.ensures (round8 z.half_hours small)
+    c.leap-leap.ensures c.control_at-control.ensures c.args.fault c.faulted-sent.result c.faulted-sent.ensures c.frame_with.ensures
+
+pub returns-in_err-utc : goal.returns-in_err-utc
+returns-in_err-utc c =
+    subst (λ (o : Option (List Symbol)). MatchOption o ((u : UtcSecond) → ¬ IsSecond c.args.timeline.now c.args.edge u) (IsFrameBy c.args.fault c.args.self.now c.args.timeline.now c.args.edge))
+    (sym c.from_residual.ensures)
+    (λ u h.
+    let some : c.at.result ≡ Some u = (c.at.ensures.second u).1 h in
+    let none : c.at.result ≡ None = c.in_err-utc.was in
+    cc)

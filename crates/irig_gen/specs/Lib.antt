@@ -1,0 +1,5 @@
+pub mod Zones
+pub mod ControlBits
+pub mod Faults
+pub mod Frames
+pub mod Refusals

@@ -1,0 +1,64 @@
+//! What the control bits of a second truly say.
+
+ghost use Rattle.std.specs.Prelude.{◌≡◌, ◌≤◌, ◌==◌, unsigned_abs};
+ghost use Rattle.std.specs.List.{list_any};
+ghost use Rattle.irig_time.specs.Seconds.{minute_of};
+ghost use Rattle.irig_gen.specs.ControlBits.{ends_minute as is_end, control_in, offset_sent};
+
+use crate::zone::{Change, Zone};
+use irig_control::Control;
+use irig_time::{Leap, Sense, UtcSecond};
+
+/// What the control bits say at the second, in this zone and on a day with this leap; quality 0.
+pub(crate) fn control_at(
+    sense: Sense,
+    zone: Zone,
+    changes: &[Change],
+    leap: Option<Leap>,
+    utc: &UtcSecond,
+) -> Control
+    requires { unsigned_abs zone.half_hours ≤ 31 }
+    ensures { result ≡ control_in sense zone changes.now leap utc.now }
+{
+    let is_last = is_last_minute(utc);
+    Control {
+        leap_pending: leap.is_some() && is_last,
+        leap_delete: matches!(leap, Some(Leap::Delete)) && is_last,
+        dst_pending: any_ends(utc, changes),
+        dst: zone.dst,
+        offset_half_hours: offset(sense, zone.half_hours),
+        quality: 0,
+    }
+}
+
+/// Whether the second lies in the last minute of its day.
+fn is_last_minute(utc: &UtcSecond) -> bool
+    ensures { result ≡ (minute_of utc.now == 1439) }
+{
+    (utc.sod / 60).min(1439) == 1439
+}
+
+/// Whether the minute of the second ends with one of the changes.
+fn any_ends(utc: &UtcSecond, changes: &[Change]) -> bool
+    ensures { result ≡ list_any (λ x. is_end utc.now x.at) changes.now }
+{
+    changes.iter().any(|change| ends_minute(utc, change.at))
+}
+
+fn ends_minute(utc: &UtcSecond, at: UtcSecond) -> bool
+    ensures { result ≡ is_end utc.now at }
+{
+    let next = u64::from(utc.day) * 1440 + u64::from((utc.sod / 60).min(1439)) + 1;
+    u64::from(at.day) * 1440 + u64::from(at.sod / 60) == next
+}
+
+/// The offset that turns local time into UTC.
+fn offset(sense: Sense, half_hours: i8) -> i8
+    requires { unsigned_abs half_hours ≤ 31 }
+    ensures { result ≡ offset_sent sense half_hours }
+{
+    match sense {
+        Sense::Add => -half_hours,
+        Sense::Subtract => half_hours,
+    }
+}

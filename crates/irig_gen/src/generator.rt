@@ -1,0 +1,144 @@
+//! A generator.
+
+ghost use Rattle.std.specs.Prelude.{◌≡◌, ◌+◌, ◌<◌, Some, None, unwrap_or, MatchResult};
+ghost use Rattle.irig_gen.specs.Frames.{gen, IsFrameIf, IsSent};
+ghost use Rattle.irig_gen.specs.Refusals.{gen_refusal};
+
+use crate::control::control_at;
+use crate::fault::{GenFault, edge_sent, faulted};
+use crate::frame::frame_with;
+use crate::zone::{Change, Zone, all_fit, in_order, zone_at};
+use irig_frame::Symbol;
+use irig_time::{Rules, Timeline};
+use std::alloc::Global;
+use std::marker::Model;
+
+/// Why there is no such generator, in the order in which refusals are told.
+#[derive(Clone, Copy, Debug, PartialEq, Eq)]
+pub enum GenRefusal {
+    /// A zone, the first or a change's, is not -31 to 31 half hours ahead of UTC.
+    Offset,
+    /// A change is not at the first second of a UTC minute of day 1 to 36523, or not later than the one
+    /// before.
+    Changes,
+    /// There was no memory.
+    Memory,
+}
+
+/// What sends a frame at each edge.
+#[derive(Drop)]
+pub struct Generator {
+    zone: Zone,
+    changes: Vec<Change>,
+    rules: Rules,
+    edge: u64,
+    fault: Option<GenFault>,
+    since: u64,
+}
+
+impl Model for Generator {
+    ghost use Rattle.irig_gen.specs.Frames.{Gen, gen};
+    ghost use Rattle.irig_gen.specs.Refusals.{IsGen};
+
+    ghost Value = { Gen };
+
+    ghost view = { λ g. gen g.zone g.changes.items g.rules g.edge g.fault g.since };
+
+    ghost invariant = { λ g. IsGen (gen g.zone g.changes.items g.rules g.edge g.fault g.since) };
+}
+
+impl Generator {
+    /// The generator with this first zone and these changes, at edge 0 and without fault.
+    ///
+    /// `Offset` of any zone comes before `Changes`, and `Memory` last.
+    pub fn new(
+        alloc: Global,
+        zone: Zone,
+        changes: &[Change],
+        rules: Rules,
+    ) -> Result<Generator, GenRefusal>
+        ensures { MatchResult result
+            (λ g. (gen_refusal zone changes.now ≡ None) × (g ≡ gen zone changes.now rules 0 None 0))
+            (λ e. e ≡ unwrap_or (gen_refusal zone changes.now) GenRefusal.Memory) }
+    {
+        if !all_fit(&zone, changes) {
+            return Err(GenRefusal::Offset);
+        }
+        if !in_order(changes) {
+            return Err(GenRefusal::Changes);
+        }
+        match Vec::from_slice(alloc, changes) {
+            Ok(changes) => Ok(Generator {
+                zone,
+                changes,
+                rules,
+                edge: 0,
+                fault: None,
+                since: 0,
+            }),
+            Err(_) => Err(GenRefusal::Memory),
+        }
+    }
+
+    /// The edge at which it stands.
+    pub fn edge(&self) -> u64
+        ensures { result ≡ self.now.edge }
+    {
+        self.edge
+    }
+
+    /// Goes to the next edge, where there is one below 2^64.
+    pub fn step(&mut self)
+        requires { self.old.edge < u64.MAX }
+        ensures { self.new ≡ record self.old { edge = self.old.edge + 1 } }
+    {
+        self.edge += 1;
+    }
+
+    /// Sets a fault, in place of any earlier one.
+    pub fn fault(&mut self, fault: GenFault)
+        ensures { self.new ≡ record self.old { fault = Some fault; since = self.old.edge } }
+    {
+        self.fault = Some(fault);
+        self.since = self.edge;
+    }
+
+    /// Ends the fault.
+    pub fn repair(&mut self)
+        ensures { self.new ≡ record self.old { fault = None } }
+    {
+        self.fault = None;
+    }
+
+    /// The frame of an edge without fault; none where the timeline has no second for it.
+    pub fn frame_at(&self, timeline: &Timeline, edge: u64) -> Option<[Symbol; 100]>
+        ensures { IsFrameIf None self.now timeline.now edge result }
+    {
+        self.frame_by(timeline, edge, None)
+    }
+
+    /// The frame that is now sent, by the fault if there is one.
+    pub fn frame(&self, timeline: &Timeline) -> Option<[Symbol; 100]>
+        ensures { IsSent self.now timeline.now result }
+    {
+        let edge = edge_sent(self.fault, self.edge, self.since)?;
+        self.frame_by(timeline, edge, self.fault)
+    }
+
+    /// The frame of an edge, with the control bits that a fault makes of the true ones.
+    fn frame_by(
+        &self,
+        timeline: &Timeline,
+        edge: u64,
+        fault: Option<GenFault>,
+    ) -> Option<[Symbol; 100]>
+        ensures { IsFrameIf fault self.now timeline.now edge result }
+    {
+        let utc = timeline.at(edge)?;
+        let zone = zone_at(self.zone, &self.changes, &utc);
+        let leap = timeline.leap(utc.day);
+        let control = control_at(self.rules.sense, zone, &self.changes, leap, &utc);
+        let sent = faulted(fault, control);
+        Some(frame_with(self.rules.parity, &utc, zone.half_hours, &sent))
+    }
+}

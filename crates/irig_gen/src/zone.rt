@@ -1,0 +1,95 @@
+//! The zones of a clock.
+
+ghost use Rattle.std.specs.Prelude.{◌≡◌};
+ghost use Rattle.std.specs.List.{list_all};
+ghost use Rattle.irig_gen.specs.Zones.{fits as fits_in, all_fit as fit_all, has_come as comes, zone_at as zone_of, is_change_time as is_time, in_order as are_ordered};
+
+use irig_time::UtcSecond;
+
+/// How far a clock is ahead of UTC, and whether that is daylight saving.
+#[derive(Clone, Copy, Debug, PartialEq, Eq)]
+pub struct Zone {
+    /// Half hours ahead of UTC, daylight saving included; -31 to 31 in a generator.
+    pub half_hours: i8,
+    /// Whether daylight saving is in force.
+    pub dst: bool,
+}
+
+/// A new zone from a second on.
+#[derive(Clone, Copy, Debug, PartialEq, Eq)]
+pub struct Change {
+    /// The first second of the new zone, which in a generator begins a UTC minute.
+    pub at: UtcSecond,
+    /// The zone from then on.
+    pub zone: Zone,
+}
+
+/// Whether the control bits have room for the offsets of all zones.
+pub(crate) fn all_fit(zone: &Zone, changes: &[Change]) -> bool
+    ensures { result ≡ fit_all zone.now changes.now }
+{
+    fits(zone) && changes_fit(changes)
+}
+
+fn changes_fit(changes: &[Change]) -> bool
+    ensures { result ≡ list_all (λ x. fits_in x.zone) changes.now }
+{
+    changes.iter().all(|change| change_fits(change))
+}
+
+fn change_fits(change: &Change) -> bool
+    ensures { result ≡ fits_in change.now.zone }
+{
+    fits(&change.zone)
+}
+
+fn fits(zone: &Zone) -> bool
+    ensures { result ≡ fits_in zone.now }
+{
+    zone.half_hours.unsigned_abs() <= 31
+}
+
+/// Whether each change is at the first second of a minute, of a day that is served, and later than the
+/// one before.
+pub(crate) fn in_order(changes: &[Change]) -> bool
+    ensures { result ≡ are_ordered 0 changes.now }
+{
+    let mut before = 0;
+    for change in changes {
+        if !is_change_time(&change.at) {
+            return false;
+        }
+        let minute = change.at.day * 1440 + change.at.sod / 60;
+        if minute <= before {
+            return false;
+        }
+        before = minute;
+    }
+    true
+}
+
+fn is_change_time(at: &UtcSecond) -> bool
+    ensures { result ≡ is_time at.now }
+{
+    (at.day >= 1 && at.day <= 36523) && (at.sod < 86400 && at.sod % 60 == 0)
+}
+
+/// The zone of the last change at or before the second, else the first zone.
+pub(crate) fn zone_at(first: Zone, changes: &[Change], utc: &UtcSecond) -> Zone
+    ensures { result ≡ zone_of first changes.now utc.now }
+{
+    let mut zone = first;
+    for change in changes {
+        if has_come(&change.at, utc) {
+            zone = change.zone;
+        }
+    }
+    zone
+}
+
+/// Whether the second is at or before the other.
+fn has_come(at: &UtcSecond, utc: &UtcSecond) -> bool
+    ensures { result ≡ comes at.now utc.now }
+{
+    at.day < utc.day || (at.day == utc.day && at.sod <= utc.sod)
+}

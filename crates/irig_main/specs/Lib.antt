@@ -1,0 +1,4 @@
+pub mod Status
+pub mod Written
+pub mod Letters
+pub mod Frame

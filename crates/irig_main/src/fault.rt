@@ -1,0 +1,68 @@
+//! Why the program ends with another status than 0.
+
+ghost use Rattle.std.specs.Prelude.{◌≡◌};
+ghost use Rattle.irig_main.specs.declared.fault.Fault.TheVariants.{Memory};
+ghost use Rattle.irig_main.specs.Status.{status_of};
+
+use std::alloc::AllocError;
+use std::fmt;
+
+/// What ends the program. Its text is what the standard error is told.
+#[derive(Debug, Drop)]
+pub enum Fault {
+    /// The command line, with the text that says what is wrong and what would be right.
+    CommandLine(String),
+    /// A word of the command line that is no UTF-8.
+    NotText,
+    /// A TIME that is no second of the years served.
+    BadTime,
+    /// A FRAME with a character that is no symbol.
+    BadFrameText,
+    /// The output took no more.
+    Write,
+    /// The system gave no memory.
+    Memory,
+}
+
+impl Fault {
+    /// The exit status.
+    pub fn status(&self) -> u8
+        ensures { result ≡ status_of self.now }
+    {
+        match self {
+            Fault::CommandLine(_) | Fault::NotText | Fault::BadTime | Fault::BadFrameText => 2,
+            Fault::Write => 5,
+            Fault::Memory => 6,
+        }
+    }
+}
+
+impl fmt::Display for Fault {
+    fn fmt<W: fmt::Write>(&self, f: &mut fmt::Formatter<W>) -> fmt::Result {
+        f.write_str(match self {
+            Fault::CommandLine(text) => text.as_str().trim_end(),
+            Fault::NotText => "the command line is no UTF-8",
+            Fault::BadTime => "bad time",
+            Fault::BadFrameText => "bad frame text",
+            Fault::Write => "write failed",
+            Fault::Memory => "out of memory",
+        })
+    }
+}
+
+impl From<AllocError> for Fault {
+    ghost from_gives = { λ _ fault. fault ≡ Memory };
+
+    fn from(_: AllocError) -> Fault {
+        Fault::Memory
+    }
+}
+
+/// Tells the standard error of a fault, and answers the status.
+pub fn tell(rt: &impl Eprint, fault: &Fault) -> u8
+    ensures { result ≡ status_of fault.now }
+{
+    // A standard error that takes nothing changes no status.
+    let _ = rt.eprintln(fault);
+    fault.status()
+}

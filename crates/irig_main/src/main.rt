@@ -1,0 +1,37 @@
+//! The program: its commands, their texts and its exit statuses.
+#![tactic(auto)]
+
+mod command;
+mod drive;
+mod fault;
+mod frame;
+mod output;
+mod read;
+#[cfg(test)]
+mod tests;
+
+use drive::drive;
+use fault::{Fault, tell};
+use irig_device::Watched;
+use std::io::{BufReader, ErrorKind};
+use std::process::ExitCode;
+use std::{env, io};
+
+// The status of the words that the system gives.
+fn run(rt: &HostRuntime) -> io::Result<u8> {
+    let alloc = rt.alloc();
+    let arguments: Vec<String> = env::args(rt)?.collect(alloc)?;
+    let words: Vec<&str> = arguments.iter().map(|word| word.as_str()).collect(alloc)?;
+    let mut input = Watched::new(BufReader::new(alloc, rt.reader())?);
+    let mut output = Watched::new(io::writer(rt));
+    Ok(drive(rt, words.as_slice(), &mut input, &mut output))
+}
+
+fn main(rt: HostRuntime) -> ExitCode {
+    let status = match run(&rt) {
+        Ok(status) => status,
+        Err(error) if error.kind() == ErrorKind::OutOfMemory => tell(&rt, &Fault::Memory),
+        Err(_) => tell(&rt, &Fault::NotText),
+    };
+    ExitCode::from(status)
+}

@@ -1,0 +1,245 @@
+use crate::drive::drive;
+use crate::fault::Fault;
+use arrayvec::ArrayVec;
+use irig_device::{Break, Fuse, Watched};
+use std::io;
+use std::io::Write;
+use std::test::Fail;
+
+const PLAIN_LINE: &str =
+    "P00000000P 000000000P 000000000P 110000000P 000000000P 000000000P 000000000P 000000000P 000000000P 000000000P\n";
+
+// The words, the status that they end with, and what they write.
+type Row = (&'static [&'static str], u8, &'static str);
+
+const ANSWERS: [Row; 13] = [
+    (&[], 0, PLAIN_LINE),
+    (&["irig"], 0, PLAIN_LINE),
+    (&["irig", "frame", "2000-01-03T00:00:00Z"], 0, PLAIN_LINE),
+    (
+        &["irig", "frame", "2016-12-31T23:59:59Z"],
+        0,
+        "P10010101P 100101010P 110000100P 011000110P 110000000P 011001000P 000000000P 000000000P 111111101P 000101010P\n",
+    ),
+    (
+        &[
+            "irig",
+            "read",
+            "P00000000P 000000000P 000000000P 110000000P 000000000P 000000000P 000000000P 000000000P 000000000P 000000000P",
+        ],
+        0,
+        "coded 2000-003 00:00:00 control 0 sbs 0\n",
+    ),
+    (
+        &[
+            "irig",
+            "read",
+            "P00000011P 100101010P 110000100P 101000110P 110000000P 011001000P 000000000P 000000000P 000000011P 000101010P",
+        ],
+        0,
+        "coded 2016-365 23:59:60 control 0 sbs 86400\n",
+    ),
+    (
+        &[
+            "irig",
+            "read",
+            "P10010101P100100100P101000000P100000000P000000000P111001000P100011010P100001000P111010101P011001000P",
+        ],
+        0,
+        "coded 2017-001 05:29:59 control 17073 sbs 19799\n",
+    ),
+    (&["irig", "read", ""], 0, "silence\n"),
+    (&["irig", "read", "P"], 0, "fault 1 Short 1\n"),
+    (
+        &[
+            "irig",
+            "read",
+            "P00000000P 000000000P 000000000P 110000000P 000000000P 000000000P 000000000P 000000000P 000000000P 0000000?0P0",
+        ],
+        0,
+        "fault 2 Long\n",
+    ),
+    (
+        &[
+            "irig",
+            "read",
+            "P00000000P 00?000000P 0?0000000P 110000000P 000000000P 000000000P 000000000P 000000000P 000000000P 000000000P",
+        ],
+        0,
+        "fault 3 Pulse 12\n",
+    ),
+    (
+        &[
+            "irig",
+            "read",
+            "P01010000P 000000000P 000000000P 110000000P 000000000P 000000000P 000000000P 000000000P 000000000P 000000000P",
+        ],
+        0,
+        "fault 5 Digit second\n",
+    ),
+    (
+        &[
+            "irig",
+            "read",
+            "P11000011P 000000000P 000000000P 110000000P 000000000P 000000000P 000000000P 000000000P 000000000P 000000000P",
+        ],
+        0,
+        "fault 6 Range second\n",
+    ),
+];
+
+const REFUSALS: [Row; 15] = [
+    (&["irig", "walk"], 2, ""),
+    (&["irig", "--"], 2, ""),
+    (&["irig", "frame"], 2, ""),
+    (&["irig", "frame", "2099-12-31T00:00:00Z"], 2, ""),
+    (&["irig", "frame", "2000-01-01T00:00:00Z"], 2, ""),
+    (&["irig", "frame", "2016-06-00T12:00:00Z"], 2, ""),
+    (&["irig", "frame", "2017-02-29T12:00:00Z"], 2, ""),
+    (&["irig", "frame", "2016-12-31T22:59:60Z"], 2, ""),
+    (&["irig", "frame", "2016-12-30T23:59:60Z"], 2, ""),
+    (&["irig", "frame", "2016-06-15T12:00:00"], 2, ""),
+    (&["irig", "frame", "2000-01-03T00:00:00Z", "more"], 2, ""),
+    (&["irig", "read", "P", "P"], 2, ""),
+    (&["irig", "read", "P0000x"], 2, ""),
+    (&["irig", "read", "P\t"], 2, ""),
+    (
+        &[
+            "irig",
+            "read",
+            "PPPPPPPPPPPPPPPPPPPPPPPPPPPPPPPPPPPPPPPPPPPPPPPPPPPPPPPPPPPPPPPPPPPPPPPPPPPPPPPPPPPPPPPPPPPPPPPPPPPPPPPPPPp",
+        ],
+        2,
+        "",
+    ),
+];
+
+// What asks for help, and a line of the help.
+const HELPS: [(&[&str], &str); 5] = [
+    (&["irig", "--help"], "\nUsage: irig <COMMAND>\n"),
+    (&["irig", "help"], "\nUsage: irig <COMMAND>\n"),
+    (&["irig", "frame", "--help"], "\nUsage: irig frame <TIME>\n"),
+    (&["irig", "help", "frame"], "\nUsage: irig frame <TIME>\n"),
+    (&["irig", "read", "-h"], "\nUsage: irig read <FRAME>\n"),
+];
+
+// Room for the longest text, outside the memory that may be refused.
+type Room = ArrayVec<u8, 4000>;
+
+// A writer that takes one byte a call.
+#[derive(Drop)]
+struct Drip {
+    taken: Room,
+}
+
+impl Write for Drip {
+    fn write(&mut self, buf: &[u8]) -> io::Result<usize> {
+        match buf.first() {
+            Some(byte) if self.taken.try_push(*byte).is_ok() => Ok(1),
+            _ => Ok(0),
+        }
+    }
+
+    fn flush(&mut self) -> io::Result<()> {
+        Ok(())
+    }
+}
+
+// What a run over an output that breaks after so many bytes ends with.
+#[derive(Drop)]
+struct Ended {
+    status: u8,
+    written: Room,
+}
+
+impl Ended {
+    fn run(rt: &HostRuntime, words: &[&str], bytes: usize, how: Break) -> Ended {
+        let mut drip = Drip {
+            taken: ArrayVec::new(),
+        };
+        let mut input = Watched::new(b"".as_slice());
+        let mut output = Watched::new(Fuse::new(&mut drip, bytes as u64, how));
+        let status = drive(rt, words, &mut input, &mut output);
+        Ended {
+            status,
+            written: drip.taken,
+        }
+    }
+
+    // A run that found no memory is right too, where it wrote a front of the text.
+    fn is(&self, status: u8, text: &[u8]) -> bool {
+        match self.status {
+            6 => text.starts_with(self.written.as_slice()),
+            _ => self.status == status && self.written.as_slice() == text,
+        }
+    }
+}
+
+// More bytes than any text has.
+const AMPLE: usize = 4000;
+
+#[test]
+fn each_command_ends_with_its_status_and_text(rt: HostRuntime) {
+    for (words, status, text) in ANSWERS.into_iter().chain(REFUSALS) {
+        let ended = Ended::run(&rt, words, AMPLE, Break::Fail);
+        assert!(rt; ended.is(status, text.as_bytes()), "at {words:?}");
+    }
+}
+
+// The one test that fails where an allocation is refused.
+#[test]
+fn no_command_runs_out_of_memory(rt: HostRuntime) {
+    for (words, status, _) in ANSWERS.into_iter().chain(REFUSALS) {
+        let ended = Ended::run(&rt, words, AMPLE, Break::Fail);
+        assert_eq!(rt; ended.status, status, "at {words:?}");
+    }
+}
+
+#[test]
+fn an_output_that_breaks_has_a_front_of_the_text(rt: HostRuntime) {
+    for (words, _, text) in ANSWERS {
+        for how in [Break::Fail, Break::Interrupt, Break::Nothing] {
+            for bytes in 0..text.len() {
+                let ended = Ended::run(&rt, words, bytes, how);
+                assert!(rt;
+                    ended.is(5, &text.as_bytes()[..bytes]),
+                    "after {bytes} at {words:?}"
+                );
+            }
+        }
+    }
+}
+
+// Of two runs one at least finds memory, and shows whether the other is right.
+#[test]
+fn help_is_written_to_the_output(rt: HostRuntime) -> Result<(), Fail> {
+    for (words, usage) in HELPS {
+        let first = Ended::run(&rt, words, AMPLE, Break::Fail);
+        let second = Ended::run(&rt, words, AMPLE, Break::Fail);
+        let (whole, other) = match first.status {
+            0 => (first, second),
+            _ => (second, first),
+        };
+        assert_eq!(rt; whole.status, 0, "at {words:?}");
+        assert!(rt;
+            str::from_utf8(whole.written.as_slice())?.contains(usage),
+            "at {words:?}"
+        );
+        assert!(rt; other.is(0, whole.written.as_slice()), "at {words:?}");
+    }
+    Ok(())
+}
+
+#[test]
+fn each_fault_has_its_text(rt: HostRuntime) -> Result<(), Fail> {
+    let texts = [
+        (Fault::BadTime, "bad time"),
+        (Fault::BadFrameText, "bad frame text"),
+        (Fault::Write, "write failed"),
+        (Fault::Memory, "out of memory"),
+    ];
+    for (fault, text) in texts {
+        assert_eq!(rt; format!(in rt.alloc(); "{fault}")?.as_str(), text);
+    }
+    Ok(())
+}

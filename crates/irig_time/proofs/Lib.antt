@@ -1,0 +1,9 @@
+pub mod Dates
+pub mod MonthEnds
+pub mod TextLaws
+pub mod StandardFacts
+pub mod TimeLaws
+pub mod StretchLaws
+pub mod NextLaws
+pub mod ClaimLaws
+pub mod CodedLaws

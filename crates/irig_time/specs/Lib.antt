@@ -1,0 +1,11 @@
+pub mod Days
+pub mod Seconds
+pub mod Coding
+pub mod Texts
+pub mod Claims
+pub mod Next
+pub mod Times
+pub mod TimelineFaults
+pub mod Stretches
+pub mod Tables
+pub mod Carries

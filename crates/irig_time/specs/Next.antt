@@ -1,0 +1,28 @@
+-- The second after a second, as far as what was heard of a leap decides it.
+use Rattle.std.specs.Prelude.{ℕ, ◌+◌, ◌==◌, nat_lt, if◌then◌else◌, Option, Some, None}
+use Rattle.irig_time.specs.declared.second.UtcSecond.{UtcSecond}
+use Rattle.irig_time.specs.declared.mark.Mark.{Mark}
+use Rattle.irig_time.specs.declared.mark.Mark.TheVariants.{Unspoken, NoLeap, Insert, Delete}
+use Rattle.irig_time.specs.Days.{is_month_end}
+
+abbrev pub plain : UtcSecond → UtcSecond
+plain u = record { day = u.day; sod = u.sod + 1 }
+
+-- the first second of the next day, which the last day served has not
+abbrev pub turn : UtcSecond → Option UtcSecond
+turn u = if u.day == 36523 then None else Some (record { day = u.day + 1; sod = 0 })
+
+-- plain steps up to this second of the day, and then the next day
+abbrev pub turn_after : ℕ → UtcSecond → Option UtcSecond
+turn_after last u = if nat_lt u.sod last then Some (plain u) else turn u
+
+-- on a month's last day
+abbrev pub next_at_month_end : UtcSecond → Mark → Option UtcSecond
+next_at_month_end u Unspoken =
+    if nat_lt u.sod 86398 then Some (plain u) else (if nat_lt u.sod 86400 then None else turn u)
+next_at_month_end u NoLeap = turn_after 86399 u
+next_at_month_end u Insert = turn_after 86400 u
+next_at_month_end u Delete = turn_after 86398 u
+
+abbrev pub next_of : UtcSecond → Mark → Option UtcSecond
+next_of u mark = if is_month_end u.day then next_at_month_end u mark else turn_after 86399 u

@@ -1,0 +1,34 @@
+-- What is wrong with the leaps and the start that a timeline is to have.
+use Rattle.std.specs.Prelude.{◌≡◌, ℕ, nat_lt, is_some, if◌then◌else◌, List, [], ◌∷◌, ◌++◌, Option, Some, None}
+use Rattle.std.specs.Option.{option_or}
+use Rattle.irig_time.specs.declared.second.UtcSecond.{UtcSecond}
+use Rattle.irig_time.specs.declared.leap.Leap.{Leap}
+use Rattle.irig_time.specs.declared.timeline.TimelineFault.{TimelineFault}
+use Rattle.irig_time.specs.declared.timeline.TimelineFault.TheVariants.{OutOfYears, LeapNotMonthEnd, LeapTwice, BadStart}
+use Rattle.irig_time.specs.Days.{is_month_end}
+use Rattle.irig_time.specs.Times.{Times, leap_of, day_length}
+
+-- what is wrong with a leap's day, after these leaps
+abbrev pub leap_fault : List (ℕ × Leap) → ℕ → Option TimelineFault
+leap_fault before day =
+    if nat_lt day 1 then Some OutOfYears
+    else (if nat_lt 36523 day then Some OutOfYears
+    else (if is_month_end day then (if is_some (leap_of before day) then Some LeapTwice else None)
+    else Some LeapNotMonthEnd))
+
+abbrev pub first_leap_fault : List (ℕ × Leap) → List (ℕ × Leap) → Option TimelineFault
+first_leap_fault before [] = None
+first_leap_fault before (x ∷ xs) = option_or (leap_fault before x.0) (first_leap_fault (before ++ x ∷ []) xs)
+
+abbrev pub start_fault : List (ℕ × Leap) → UtcSecond → Option TimelineFault
+start_fault leaps u =
+    if nat_lt u.day 1 then Some BadStart
+    else (if nat_lt 36523 u.day then Some BadStart
+    else (if nat_lt u.sod (day_length leaps u.day) then None else Some BadStart))
+
+abbrev pub timeline_fault : UtcSecond → List (ℕ × Leap) → Option TimelineFault
+timeline_fault start leaps = option_or (first_leap_fault [] leaps) (start_fault leaps start)
+
+-- nothing is wrong with it
+pub record IsTimeline (t : Times) : Type 0 where
+  pub sound : timeline_fault t.start t.leaps ≡ None

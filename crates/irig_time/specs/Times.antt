@@ -1,0 +1,62 @@
+-- A timeline: a start, and the days that end with a leap. Its seconds are counted by sums of day lengths.
+use Rattle.std.specs.Prelude.{◌≡◌, ℕ, zero, suc, ◌+◌, ◌-◌, ◌≤◌, ◌<◌, ◌==◌, nat_lt, if◌then◌else◌, List, [], ◌∷◌, Option, Some, None}
+use Rattle.irig_time.specs.declared.second.UtcSecond.{UtcSecond}
+use Rattle.irig_time.specs.declared.mark.Mark.{Mark}
+use Rattle.irig_time.specs.declared.mark.Mark.TheVariants as mark
+use Rattle.irig_time.specs.declared.claim.Claim.{Claim}
+use Rattle.irig_time.specs.declared.leap.Leap.{Leap}
+use Rattle.irig_time.specs.declared.leap.Leap.TheVariants.{Insert, Delete}
+use Rattle.irig_time.specs.Days.{is_month_end}
+
+-- the leap that a list of days and leaps has for a day
+abbrev pub leap_of : List (ℕ × Leap) → ℕ → Option Leap
+leap_of [] day = None
+leap_of (x ∷ xs) day = if x.0 == day then Some x.1 else leap_of xs day
+
+abbrev pub length_by : Option Leap → ℕ
+length_by None = 86400
+length_by (Some Insert) = 86401
+length_by (Some Delete) = 86399
+
+abbrev pub mark_by : Option Leap → Mark
+mark_by None = mark.NoLeap
+mark_by (Some Insert) = mark.Insert
+mark_by (Some Delete) = mark.Delete
+
+abbrev pub day_length : List (ℕ × Leap) → ℕ → ℕ
+day_length leaps day = length_by (leap_of leaps day)
+
+-- where a timeline begins, and its leaps by day
+pub record Times : Type 0 where
+  pub start : UtcSecond
+  pub leaps : List (ℕ × Leap)
+
+abbrev pub times : UtcSecond → List (ℕ × Leap) → Times
+times start leaps = record { start = start; leaps = leaps }
+
+-- f 0 + .. + f (n - 1)
+abbrev pub sum_below : (ℕ → ℕ) → ℕ → ℕ
+sum_below f zero = 0
+sum_below f (suc n) = sum_below f n + f n
+
+-- the lengths of this many days from a day on
+abbrev pub seconds_in : List (ℕ × Leap) → ℕ → ℕ → ℕ
+seconds_in leaps day days = sum_below (λ k. day_length leaps (day + k)) days
+
+-- u is T(n): the n-th second after the start, by the lengths of the days from the start's day to the one before u's
+pub record IsSecond (t : Times) (n : ℕ) (u : UtcSecond) : Type 0 where
+  pub from : t.start.day ≤ u.day
+  pub to : u.day ≤ 36523
+  pub sod : u.sod < day_length t.leaps u.day
+  pub sum : seconds_in t.leaps t.start.day (u.day - t.start.day) + u.sod ≡ t.start.sod + n
+
+-- what a true frame of a second says of a leap
+abbrev pub true_mark : List (ℕ × Leap) → UtcSecond → Mark
+true_mark leaps u =
+    if is_month_end u.day then (if nat_lt u.sod 86341 then mark.Unspoken else (if nat_lt u.sod 86400 then mark_by (leap_of leaps u.day) else mark.Unspoken))
+    else mark.Unspoken
+
+-- the claim is of T(n - 1), with the mark that a true frame of it says
+pub record IsTrueClaim (t : Times) (n : ℕ) (c : Claim) : Type 0 where
+  pub second : (m : ℕ) × (n ≡ m + 1) × IsSecond t m c.at
+  pub mark : c.mark ≡ true_mark t.leaps c.at

@@ -1,0 +1,50 @@
+//! Laws of time over its definitions, for the crates above. They have no code.
+
+ghost use Rattle.std.specs.Prelude.{◌≡◌, ◌≤◌, ◌+◌, ◌⊎◌, true, ℕ, ℤ, neg_ℤ, unsigned_abs, Some, None};
+ghost use Rattle.irig_time.specs.Days.{is_month_end};
+ghost use Rattle.irig_time.specs.Seconds.{IsValid};
+ghost use Rattle.irig_time.specs.Coding.{IsCodedOf};
+ghost use Rattle.irig_time.specs.Claims.{claim_by, claim_of_second};
+ghost use Rattle.irig_time.specs.Next.{next_of};
+ghost use Rattle.irig_time.specs.Times.{Times, leap_of, mark_by, IsSecond, IsTrueClaim};
+ghost use Rattle.irig_time.specs.TimelineFaults.{IsTimeline};
+
+use crate::claim::Claim;
+use crate::mark::Mark;
+use crate::rules::Sense;
+use crate::second::UtcSecond;
+use irig_control::Control;
+use irig_frame::Coded;
+
+/// The time that is coded of a second claims that second: with the offset `-h` where it is added, and
+/// `h` where it is subtracted, `h` being the half hours by which the clock is ahead of UTC.
+pub fn claim_of_coded()
+    ensures added { (u : UtcSecond) (h : ℤ) (c : Coded) (k : Control) → IsValid u → unsigned_abs h ≤ 31 → IsCodedOf u h c
+        → k.offset_half_hours ≡ neg_ℤ h → claim_by Sense.Add c k ≡ claim_of_second u k }
+    ensures subtracted { (u : UtcSecond) (h : ℤ) (c : Coded) (k : Control) → IsValid u → unsigned_abs h ≤ 31 → IsCodedOf u h c
+        → k.offset_half_hours ≡ h → claim_by Sense.Subtract c k ≡ claim_of_second u k }
+{}
+
+/// A second is coded in one way by a clock.
+pub fn one_coded()
+    ensures { (u : UtcSecond) (h : ℤ) (c d : Coded) → IsCodedOf u h c → IsCodedOf u h d → c ≡ d }
+{}
+
+/// A timeline has at most one second for each number, which is a valid one, and at most one true claim.
+pub fn one_second()
+    ensures seconds { (t : Times) (n : ℕ) (u v : UtcSecond) → IsSecond t n u → IsSecond t n v → u ≡ v }
+    ensures claims { (t : Times) (n : ℕ) (c d : Claim) → IsTrueClaim t n c → IsTrueClaim t n d → c ≡ d }
+    ensures valid { (t : Times) (n : ℕ) (u : UtcSecond) → IsTimeline t → IsSecond t n u → IsValid u }
+{}
+
+/// The law of next: where the mark is what the timeline says of the day, the step after a second is the
+/// step of the timeline; so it is where nothing is said, but at 23:59:58 and 23:59:59 of a month's last
+/// day; and past the timeline's end there is no step, whatever is said.
+pub fn law_of_next()
+    ensures heard { (t : Times) (n : ℕ) (u v : UtcSecond) → IsTimeline t → IsSecond t n u → IsSecond t (n + 1) v
+        → next_of u (mark_by (leap_of t.leaps u.day)) ≡ Some v }
+    ensures unspoken { (t : Times) (n : ℕ) (u v : UtcSecond) → IsTimeline t → IsSecond t n u → IsSecond t (n + 1) v
+        → ¬ ((is_month_end u.day ≡ true) × ((u.sod ≡ 86398) ⊎ (u.sod ≡ 86399))) → next_of u Mark.Unspoken ≡ Some v }
+    ensures end { (t : Times) (n : ℕ) (u : UtcSecond) (mark : Mark) → IsTimeline t → IsSecond t n u
+        → ((v : UtcSecond) → ¬ IsSecond t (n + 1) v) → next_of u mark ≡ None }
+{}

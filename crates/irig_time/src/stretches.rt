@@ -1,0 +1,95 @@
+//! The days of a timeline in stretches, each of which ends with the day of a leap, so that a second is
+//! found by a binary search.
+
+ghost use Rattle.std.specs.Prelude.{◌≡◌, ◌≤◌, ◌<◌, ◌-◌, [], None, IfOk, MatchOption, length, slice_index_or};
+ghost use Rattle.irig_time.specs.TimelineFaults.{first_leap_fault as first_fault};
+ghost use Rattle.irig_time.specs.Stretches.{IsIndex, IsNextLeap, HasNoLeapFrom, IsRising, Holds, comes_before};
+ghost use Rattle.irig_time.specs.Times.{Times};
+
+use crate::leap::{Leap, length_with};
+use std::alloc::{AllocError, Global};
+
+/// Where a stretch of days begins, of which none but the last has a leap.
+#[derive(Clone, Copy)]
+pub struct Stretch {
+    /// Its first day.
+    pub day: u32,
+    /// The seconds from the beginning of the timeline's first day to the beginning of this one.
+    pub seconds: u64,
+}
+
+/// The stretches from a day on, in order.
+pub(crate) fn stretches_from(
+    alloc: Global,
+    first: u32,
+    leaps: &[(u32, Leap)],
+) -> Result<Vec<Stretch>, AllocError>
+    requires sound { first_fault [] leaps.now ≡ None }
+    requires served { first ≤ 36523 }
+    ensures { IfOk result (λ stretches. IsIndex leaps.now first stretches.items) }
+{
+    let mut stretches = Vec::new(alloc);
+    let mut here = Stretch {
+        day: first,
+        seconds: 0,
+    };
+    while let Some((day, leap)) = next_leap(leaps, here.day) {
+        stretches.push(here)?;
+        let whole_days = u64::from(day - here.day) * 86400;
+        here = Stretch {
+            day: day + 1,
+            seconds: here.seconds + whole_days + u64::from(length_with(Some(leap))),
+        };
+    }
+    stretches.push(here)?;
+    Ok(stretches)
+}
+
+/// The first leap from a day on.
+fn next_leap(leaps: &[(u32, Leap)], from: u32) -> Option<(u32, Leap)>
+    requires { first_fault [] leaps.now ≡ None }
+    ensures { MatchOption result (HasNoLeapFrom leaps.now from) (IsNextLeap leaps.now from) }
+{
+    let mut next: Option<(u32, Leap)> = None;
+    for leap in leaps {
+        if leap.0 >= from && is_earlier(leap.0, next) {
+            next = Some(*leap);
+        }
+    }
+    next
+}
+
+/// Whether the day comes before this leap, if there is one.
+fn is_earlier(day: u32, leap: Option<(u32, Leap)>) -> bool
+    ensures { result ≡ comes_before day leap }
+{
+    match leap {
+        Some((at, _)) => day < at,
+        None => true,
+    }
+}
+
+/// The stretch in which so many seconds have passed since the beginning of the first day, and its last
+/// day: 36524, past the years served, where no leap ends it.
+pub(crate) fn stretch_at(stretches: &[Stretch], total: u64) -> (Stretch, u32)
+    requires { IsRising stretches.now }
+    ensures { (t : Times) → IsIndex t.leaps t.start.day stretches.now → Holds t total result.0 result.1 }
+{
+    let begun = begun(stretches, total);
+    let last = match stretches.get(begun) {
+        Some(next) => next.day - 1,
+        None => 36524,
+    };
+    (stretches[begun - 1], last)
+}
+
+/// How many stretches have begun where so many seconds have passed since the beginning of the first.
+fn begun(stretches: &[Stretch], total: u64) -> usize
+    requires { IsRising stretches.now }
+    ensures some { 0 < result }
+    ensures within { result ≤ length stretches.now }
+    ensures last { (d : Stretch) → (slice_index_or stretches.now (result - 1) d).seconds ≤ total }
+    ensures next { (d : Stretch) → result < length stretches.now → total < (slice_index_or stretches.now result d).seconds }
+{
+    stretches.partition_point(|stretch| stretch.seconds <= total)
+}

@@ -1,0 +1,147 @@
+//! The leaps that a reader was told of beforehand.
+
+ghost use Rattle.std.specs.Prelude.{◌≡◌, ◌≤◌, [], Some, None, length, MatchResult};
+ghost use Rattle.irig_time.specs.Tables.{table, table_mark, entry_fault as fault_of_entry, first_entry_fault as first_fault, table_fault};
+
+use crate::calendar::month_end;
+use crate::leap::{Leap, leap_on, mark_with};
+use crate::mark::Mark;
+use arrayvec::ArrayVec;
+use std::marker::Model;
+
+/// Why there is no such table, in the order in which faults are told.
+#[derive(Clone, Copy, Debug, PartialEq, Eq)]
+pub enum TableFault {
+    /// The table ends after day 36523.
+    TableEnd,
+    /// There are more than 64 leaps.
+    TableLong,
+    /// A leap's day is not a month's last day from 1 to the table's end.
+    TableDay,
+    /// A leap's day stands earlier in the list.
+    TableTwice,
+}
+
+/// The leaps at all month ends up to a day, at most 64. It takes no memory.
+#[derive(Drop)]
+pub struct LeapTable {
+    until: u32,
+    leaps: ArrayVec<(u32, Leap), 64>,
+}
+
+impl Model for LeapTable {
+    ghost use Rattle.irig_time.specs.Tables.{Table, table};
+    ghost use Rattle.std.specs.Prelude.{◌≤◌, length};
+
+    ghost Value = { Table };
+
+    ghost view = { λ t. table t.until t.leaps.items };
+
+    ghost invariant = { λ t. length t.leaps.items ≤ 64 };
+}
+
+impl LeapTable {
+    /// The table that ends with the day `until` and has these leaps, each with its day.
+    ///
+    /// `TableEnd`, then `TableLong`; then for each leap in the list's order `TableDay` and `TableTwice`.
+    pub fn new(until: u32, leaps: &[(u32, Leap)]) -> Result<LeapTable, TableFault>
+        ensures { MatchResult result
+            (λ t. (table_fault until leaps.now ≡ None) × (t ≡ table until leaps.now))
+            (λ e. table_fault until leaps.now ≡ Some e) }
+    {
+        if until > 36523 {
+            return Err(TableFault::TableEnd);
+        }
+        if leaps.len() > 64 {
+            return Err(TableFault::TableLong);
+        }
+        if let Some(fault) = first_entry_fault(until, leaps) {
+            return Err(fault);
+        }
+        Ok(LeapTable {
+            until,
+            leaps: copied(leaps),
+        })
+    }
+
+    /// The table that speaks of no day: it ends with day 0.
+    pub fn empty() -> LeapTable
+        ensures { result ≡ table 0 [] }
+    {
+        LeapTable {
+            until: 0,
+            leaps: ArrayVec::new(),
+        }
+    }
+
+    /// An equal table.
+    pub fn copy(&self) -> LeapTable
+        ensures { result ≡ self.now }
+    {
+        LeapTable {
+            until: self.until,
+            leaps: copied(&self.leaps),
+        }
+    }
+
+    /// What the table says of the end of the day, at most 36523: unspoken where it is not a month's last or
+    /// lies past the table's end.
+    pub fn mark(&self, day: u32) -> Mark
+        requires { day ≤ 36523 }
+        ensures { result ≡ table_mark self.now day }
+    {
+        if !month_end(day) {
+            return Mark::Unspoken;
+        }
+        if day > self.until {
+            return Mark::Unspoken;
+        }
+        mark_with(leap_on(&self.leaps, day))
+    }
+}
+
+/// The first fault of the leaps, in the list's order.
+fn first_entry_fault(until: u32, leaps: &[(u32, Leap)]) -> Option<TableFault>
+    requires { until ≤ 36523 }
+    ensures { result ≡ first_fault until [] leaps.now }
+{
+    for i in 0..leaps.len() {
+        if let Some(fault) = entry_fault(until, &leaps[..i], leaps[i].0) {
+            return Some(fault);
+        }
+    }
+    None
+}
+
+/// What is wrong with a leap's day, after these leaps.
+fn entry_fault(until: u32, before: &[(u32, Leap)], day: u32) -> Option<TableFault>
+    requires { until ≤ 36523 }
+    ensures { result ≡ fault_of_entry until before.now day }
+{
+    if day < 1 {
+        return Some(TableFault::TableDay);
+    }
+    if day > until {
+        return Some(TableFault::TableDay);
+    }
+    if !month_end(day) {
+        return Some(TableFault::TableDay);
+    }
+    if leap_on(before, day).is_some() {
+        Some(TableFault::TableTwice)
+    } else {
+        None
+    }
+}
+
+/// A copy of the leaps.
+fn copied(leaps: &[(u32, Leap)]) -> ArrayVec<(u32, Leap), 64>
+    requires { length leaps.now ≤ 64 }
+    ensures { result.items ≡ leaps.now }
+{
+    let mut copy = ArrayVec::new();
+    for leap in leaps {
+        copy.push(*leap);
+    }
+    copy
+}

@@ -1,0 +1,4 @@
+mod claims;
+mod tables;
+mod texts;
+mod timelines;
