@@ -2,18 +2,24 @@
 //! often it runs. Without words it names the loops.
 #![tactic(auto)]
 
+mod frames;
+mod pulses;
 mod timelines;
 
+use irig_port::{FlowPort, WholePort};
 use std::time::Instant;
 use std::{env, io, str};
 
 /// The loops, by name.
-const NAMES: [&str; 1] = ["timeline"];
+const NAMES: [&str; 4] = ["timeline", "frame", "flow-pulse", "whole-pulse"];
 
 /// Runs a loop so often, and gives the sum of what it answered, so that no call can be left out.
 fn run(rt: &HostRuntime, name: &str, count: u32) -> io::Result<u64> {
     match name {
         "timeline" => timelines::run(rt, count),
+        "frame" => frames::run(rt, count),
+        "flow-pulse" => Ok(pulses::run::<FlowPort>(count)),
+        "whole-pulse" => Ok(pulses::run::<WholePort>(count)),
         _ => Ok(0),
     }
 }

@@ -1,6 +1,7 @@
 -- What the table of the control bits comes to in numbers, and that to write and to read by it are one another's inverse.
-use Rattle.std.proofs.Common.{◌≡◌, ℕ, zero, suc, ◌+◌, ◌-◌, ◌*◌, ◌/◌, ◌%◌, ◌<◌, ◌^◌, Bool, true, false, cond, eqb, ltb, refl, ap, ◌∙◌, arith, inl, inr, ℤ, pos, negsuc, neg_ℤ, unsigned_abs, int_lt, bit_or}
+use Rattle.std.proofs.Common.{◌≡◌, ℕ, zero, suc, ◌+◌, ◌-◌, ◌*◌, ◌/◌, ◌%◌, ◌<◌, ◌≤◌, ◌^◌, Bool, true, false, cond, eqb, ltb, refl, ap, ◌∙◌, arith, inl, inr, ℤ, pos, negsuc, neg_ℤ, unsigned_abs, int_lt, bit_or, to_z, of_z, w8}
 use Rattle.std.proofs.lemmas.Bool.{cases_Bool, eqb-true, le-ltb, ne_eqb}
+use Rattle.std.proofs.lemmas.Int.{ints}
 use Rattle.std.specs.Int.Bits.{or_shifted_r}
 use Rattle.irig_control.specs.declared.control.Control.{Control}
 use Rattle.irig_control.specs.ControlTable.{LeapPending, LeapDelete, DstPending, Dst, OffsetMinus, OffsetHours, Quality}
@@ -222,3 +223,7 @@ same_bits v w a b d e f g h i = rw (control_is v, control_is w, offset_is v, off
 pub control_same : (w : ℕ) (b : Bool) → control_of (w + 2 ^ 14 * flag b) ≡ control_of w
 control_same w b =
     same_bits (w + 2 ^ 14 * flag b) w (omega arith) (omega arith) (omega arith) (omega arith) (omega arith) (omega arith) (omega arith) (omega arith)
+
+-- half hours are the same as an i8
+pub in_byte : (half_hours : ℤ) → unsigned_abs half_hours ≤ 31 → to_z w8 (of_z w8 half_hours) ≡ half_hours
+in_byte half_hours small = omega (arith, ints)

@@ -1,12 +1,11 @@
 -- Zones stay in range, and the frame of a second carries its true claim.
-use Rattle.std.proofs.Common.{◌≡◌, ℕ, ◌+◌, ◌-◌, ◌*◌, ◌/◌, ◌%◌, ◌^◌, ◌<◌, ◌≤◌, min, Bool, true, false, ◌&&◌, cond, eqb, ltb, is_some, All, slice_get, slice_set, List, [], ◌∷◌, Option, Some, None, Result, Ok, refl, sym, ap, subst, ◌∙◌, arith, inl, inr, zero, suc, ℤ, pos, negsuc, ◌+ℤ◌, neg_ℤ, to_z, of_z, w8, int_lt, unsigned_abs}
+use Rattle.std.proofs.Common.{◌≡◌, ℕ, ◌+◌, ◌-◌, ◌*◌, ◌/◌, ◌%◌, ◌^◌, ◌<◌, ◌≤◌, min, Bool, true, false, ◌&&◌, cond, eqb, ltb, is_some, All, slice_get, slice_set, List, [], ◌∷◌, Option, Some, None, Result, Ok, refl, sym, ap, subst, ◌∙◌, arith, inl, inr, zero, suc, ℤ, pos, negsuc, ◌+ℤ◌, neg_ℤ, int_lt, unsigned_abs}
 use Rattle.std.specs.List.{list_all}
 use Rattle.std.specs.Option.{option_map}
 use Rattle.std.proofs.lemmas.Bool.{cases_Bool, cases_lt, and_parts, and_from, and_left, and_right, leb-true, lt-ltb, le-ltb, ltb-false, eq-eqb, ne_eqb}
 use Rattle.irig_frame.specs.declared.symbol.Symbol.{Symbol}
 use Rattle.irig_frame.specs.declared.coded.Coded.{Coded}
 use Rattle.std.proofs.lemmas.Bool.Decides.{nat_tests}
-use Rattle.std.proofs.lemmas.Int.{ints}
 use Rattle.irig_frame.specs.declared.symbol.Symbol.TheVariants.{Zero}
 use Rattle.irig_frame.specs.Reading.{Reads, IsCoded}
 use Rattle.irig_frame.specs.FieldTable.{spare_places}
@@ -236,10 +235,6 @@ coded_fits u h k time valid control coded =
 pub sent_zone_fits : (g : Gen) (changes : List Change) (u : UtcSecond) (z : Zone) → IsGen g → changes ≡ g.changes → z ≡ zone_at g.zone changes u → unsigned_abs z.half_hours ≤ 31
 sent_zone_fits g changes u z sound e is =
     subst (λ (x : Zone). unsigned_abs x.half_hours ≤ 31) (sym (is ∙ ap (λ (cs : List Change). zone_at g.zone cs u) e)) (gen_zone_fits g u sound)
-
--- a small number is itself as an i8
-pub round8 : (h : ℤ) → unsigned_abs h ≤ 31 → to_z w8 (of_z w8 h) ≡ h
-round8 h small = omega (arith, ints)
 
 -- what the calls of `frame_at` gave is the frame of the edge
 pub frame_at_is : (g whole : Gen) (t : Times) (edge : ℕ) (u : UtcSecond) (s : List Symbol) (h : ℤ) (z : Zone) (k : Control) (first second : List Change) (leap : Option Leap)

@@ -1,7 +1,7 @@
 -- Reading the letters of a text one by one.
 use Rattle.std.proofs.Common.{◌≡◌, ℕ, ◌<◌, ◌≤◌, ◌==◌, not, List, [], ◌∷◌, ◌++◌, length, take, map, All, refl, sym, ap, subst, ◌∙◌, arith, length-append}
 use Rattle.std.proofs.lemmas.Bool.{ne_eqb}
-use Rattle.std.proofs.lemmas.List.{append-nil, length-take, map-append, take_all, take-append-le}
+use Rattle.std.proofs.lemmas.List.{length-take, map-append, take_all, take-append-le}
 use Rattle.std.proofs.lemmas.List.Elements.{All-cons, All-head, All-nil, All-tail, filter-append}
 use Rattle.irig_frame.specs.declared.symbol.Symbol.{Symbol}
 use Rattle.irig_frame.specs.declared.symbol.Symbol.TheVariants.{Zero, One, Marker, Bad}
@@ -28,13 +28,7 @@ without_blanks-letter Bad = refl
 without_blanks-other : (letter : ℕ) (rest : List ℕ) → (letter ≡ 32 → ⊥) → without_blanks (letter ∷ rest) ≡ letter ∷ without_blanks rest
 without_blanks-other letter rest other = rw (ne_eqb letter 32 other) refl
 
-pub read-blank : (front : List ℕ) (kept : List Symbol) → HasRead front kept → HasRead (front ++ 32 ∷ []) kept
-read-blank front kept read = record {
-  past = read.past;
-  shown = without_blanks-append front (32 ∷ []) ∙ append-nil (without_blanks front) ∙ read.shown;
-  taken = read.taken;
-}
-
+-- one more letter of a symbol
 pub read-symbol : (front : List ℕ) (kept new : List Symbol) (letter : ℕ) (symbol : Symbol) → (read : HasRead front kept) → letter ≡ letter_of symbol
     → new ≡ take 101 (read.past ++ symbol ∷ []) → HasRead (front ++ letter ∷ []) new
 read-symbol front kept new letter symbol read is taken = record {

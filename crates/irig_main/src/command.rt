@@ -1,8 +1,10 @@
 //! The command line.
 
-ghost use Rattle.std.specs.Prelude.{◌≡◌, ◌≤◌, Ok, length};
+ghost use Rattle.std.specs.Prelude.{◌≡◌, ◌≤◌, IfOk, Ok, length, unsigned_abs};
+ghost use Rattle.irig_main.specs.Requests.{IsRequest};
 
 use clap::{Arg, ArgMatches, Command, Error};
+use irig_time::Leap;
 use std::alloc::{AllocError, Global};
 
 const ABOUT: &str =
@@ -17,36 +19,56 @@ Exit statuses:
   5  the output took no more
   6  out of memory";
 
-const FRAME_AFTER: &str = "A frame has 100 symbols, here in ten groups of ten: P a marker, 0 and 1.
+const FRAME_AFTER: &str =
+    "A frame has 100 symbols, here in ten groups of ten: P a marker, 0 and 1. It has even parity, quality 0
+and the offset that is added to the coded time.
 
 Example:
-  $ irig frame 2000-01-03T00:00:00Z
-  P00000000P 000000000P 000000000P 110000000P 000000000P 000000000P 000000000P 000000000P 000000000P 000000000P";
+  $ irig frame 2016-12-31T23:59:59Z --local=11 --pending=insert
+  P10010101P 100100100P 101000000P 100000000P 000000000P 111001000P 100011010P 100001000P 111010101P 011001000P";
 
-const READ_AFTER: &str = "It prints one of the lines
+const READ_AFTER: &str =
+    "It prints the time that the frame codes, if it codes one, and what a port tells of it under even parity, where
+the offset is added and the straight binary seconds are checked:
   coded YYYY-DDD HH:MM:SS control W sbs S   the time, the control word, the binary seconds
+  claim TIME MARK                           the UTC second, and what is said of a leap second:
+                                            unspoken, no-leap, insert or delete
+  poor Q                                    the time quality 10 to 15, which has no vote
   fault K NAME ..                           the number and the name of the first fault
   silence                                   no symbols
 
 Example:
-  $ irig read 'P00000000P 000000000P 000000000P 110000000P 000000000P 000000000P 000000000P 000000000P 000000000P 000000000P'
-  coded 2000-003 00:00:00 control 0 sbs 0";
+  $ irig read 'P10010101P 100100100P 101000000P 100000000P 000000000P 111001000P 100011010P 100001000P 111010101P 011001000P'
+  coded 2017-001 05:29:59 control 17073 sbs 19799
+  claim 2016-12-31T23:59:59Z insert";
+
+/// The kinds of leap second.
+static PENDING: [&str; 2] = ["insert", "delete"];
 
 /// What a command line asks for.
-#[derive(Clone, Copy, Debug, PartialEq, Eq)]
+#[derive(Clone, Copy, Debug)]
 pub enum Request<'a> {
     /// The run without a command.
     Plain,
     /// The frame of a UTC second.
-    Frame { time: &'a str },
+    Frame {
+        time: &'a str,
+        /// The half hours that the clock is ahead of UTC, -31 to 31.
+        local: i8,
+        /// The leap second that is pending.
+        pending: Option<Leap>,
+    },
     /// What a frame says.
-    Read { frame: &'a str },
+    Read {
+        frame: &'a str,
+    },
 }
 
 /// What the words ask for, of which the first is the program's name. The error is also that of a
 /// request for help.
 pub fn parse<'a>(alloc: Global, words: &'a [&'a str]) -> Result<Request<'a>, Error>
-    ensures { length words.entry.now ≤ 1 → result ≡ Ok Request.Plain }
+    ensures plain { length words.entry.now ≤ 1 → result ≡ Ok Request.Plain }
+    ensures in_range { IfOk result IsRequest }
 {
     if words.len() <= 1 {
         return Ok(Request::Plain);
@@ -55,6 +77,8 @@ pub fn parse<'a>(alloc: Global, words: &'a [&'a str]) -> Result<Request<'a>, Err
     Ok(match matches.subcommand() {
         Some(("frame", frame)) => Request::Frame {
             time: value(frame, "TIME"),
+            local: local(frame),
+            pending: pending(frame),
         },
         Some(("read", read)) => Request::Read {
             frame: value(read, "FRAME"),
@@ -66,6 +90,20 @@ pub fn parse<'a>(alloc: Global, words: &'a [&'a str]) -> Result<Request<'a>, Err
 // The value of an argument that the command line was refused without.
 fn value<'a>(matches: &ArgMatches<'a>, name: &str) -> &'a str {
     matches.get_str(name).unwrap_or("")
+}
+
+// The range is the one that the command line was read by.
+fn local(matches: &ArgMatches<'_>) -> i8
+    ensures { unsigned_abs result ≤ 31 }
+{
+    matches.get_one::<i8>("local").unwrap_or(0).max(-31).min(31)
+}
+
+fn pending(matches: &ArgMatches<'_>) -> Option<Leap> {
+    match matches.get_str("pending")? {
+        "insert" => Some(Leap::Insert),
+        _ => Some(Leap::Delete),
+    }
 }
 
 fn program<'a>(alloc: Global) -> Result<Command<'a>, AllocError> {
@@ -84,10 +122,24 @@ fn frame_command<'a>(alloc: Global) -> Result<Command<'a>, AllocError> {
             "The second, from 2000-01-02T00:00:00Z to 2099-12-30T23:59:59Z; 23:59:60 on a month's last day",
         )
         .required(true);
+    let local = Arg::new(alloc, "local")
+        .long("local")
+        .value_name("H")
+        .help("The half hours that the coded time is ahead of UTC, -31 to 31")
+        .allow_negative_numbers(true)
+        .value_parser(clap::value_parser!(i8).range(-31..=31))
+        .default_value("0");
+    let pending = Arg::new(alloc, "pending")
+        .long("pending")
+        .value_name("KIND")
+        .help("The leap second that is pending at the end of the day")
+        .value_parser(PENDING.as_slice());
     Command::new(alloc, "frame")
         .about("Prints the frame of a UTC second")
         .after_help(FRAME_AFTER)
-        .arg(time)
+        .arg(time)?
+        .arg(local)?
+        .arg(pending)
 }
 
 fn read_command<'a>(alloc: Global) -> Result<Command<'a>, AllocError> {

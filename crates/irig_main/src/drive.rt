@@ -53,8 +53,14 @@ fn answer<'a, O: Write>(
         (O.contents (device_of output.old)) (O.contents (device_of output.new))) }
 {
     match parse(alloc, words) {
-        Ok(Request::Plain) => write_all(output, &frame_text(PLAIN_TIME)?),
-        Ok(Request::Frame { time }) => write_all(output, &frame_text(time)?),
+        Ok(Request::Plain) => write_all(output, &frame_text(PLAIN_TIME, 0, None)?),
+        Ok(
+            Request::Frame {
+                time,
+                local,
+                pending,
+            },
+        ) => write_all(output, &frame_text(time, local, pending)?),
         Ok(Request::Read { frame }) => write_all(
             output,
             reading(alloc, frame)?.as_str().as_bytes(),

@@ -1,29 +1,62 @@
 //! The command `frame`: a UTC second as the text of the frame that codes it.
 
-ghost use Rattle.std.specs.Prelude.{◌≡◌, IfErr, IfOk, OnErr};
-ghost use Rattle.irig_time.specs.declared.second.UtcSecond.{UtcSecond};
+ghost use Rattle.std.specs.Prelude.{◌≡◌, ◌≤◌, IfErr, IfOk, OnErr, unsigned_abs};
+ghost use Rattle.irig_control.specs.Control.{IsControl};
 ghost use Rattle.irig_time.specs.Seconds.{IsValid};
 ghost use Rattle.irig_time.specs.Texts.{IsText};
-ghost use Rattle.irig_main.specs.Frame.{IsFrameOf, IsFrameText};
+ghost use Rattle.irig_main.specs.Frame.{CodesSecond, IsFrameOf, IsFrameText, control_with};
 ghost use Rattle.irig_main.specs.Letters.{letter_of};
 
 use crate::fault::Fault;
-use irig_frame::{Symbol, encode};
-use irig_time::{coded_of, read_text};
+use irig_control::{Control, Parity, pack, set_parity};
+use irig_frame::{Coded, Symbol, encode};
+use irig_time::{Leap, UtcSecond, coded_of, read_text};
 
 /// The text of a frame: ten groups of ten symbols with a blank between, and a newline.
 pub type FrameText = [u8; 110];
 
-/// The frame of the UTC second whose text this is.
-pub fn frame_text(time: &str) -> Result<FrameText, Fault>
-    ensures frame { IfOk result (λ text. IsFrameOf time.now text) }
+/// The frame of the UTC second whose text this is, by a clock `local` half hours ahead of UTC, -31 to 31,
+/// with this leap second pending: even parity, quality 0, the offset added to the coded time.
+pub fn frame_text(time: &str, local: i8, pending: Option<Leap>) -> Result<FrameText, Fault>
+    requires { unsigned_abs local ≤ 31 }
+    ensures frame { IfOk result (λ text. IsFrameOf time.now local pending text) }
     ensures bad_time { OnErr result ((utc : UtcSecond) → IsValid utc → ¬ IsText utc time.now) }
     ensures kind { IfErr result (λ fault. fault ≡ Fault.BadTime) }
 {
     let Some(utc) = read_text(time.as_bytes()) else {
         return Err(Fault::BadTime);
     };
-    Ok(text_of(&encode(&coded_of(&utc, 0))))
+    Ok(text_of(&frame_of(&utc, local, pending)))
+}
+
+fn frame_of(utc: &UtcSecond, local: i8, pending: Option<Leap>) -> [Symbol; 100]
+    requires valid { IsValid utc.now }
+    requires local { unsigned_abs local ≤ 31 }
+    ensures { CodesSecond utc.now local pending result }
+{
+    let control = control_of(local, pending);
+    let coded = Coded {
+        control: pack(&control),
+        ..coded_of(utc, local)
+    };
+    let mut frame = encode(&coded);
+    set_parity(&mut frame, Parity::Even);
+    frame
+}
+
+fn control_of(local: i8, pending: Option<Leap>) -> Control
+    requires { unsigned_abs local ≤ 31 }
+    ensures control { result ≡ control_with local pending }
+    ensures in_range { IsControl result }
+{
+    Control {
+        leap_pending: pending.is_some(),
+        leap_delete: matches!(pending, Some(Leap::Delete)),
+        dst_pending: false,
+        dst: false,
+        offset_half_hours: -local,
+        quality: 0,
+    }
 }
 
 fn text_of(frame: &[Symbol; 100]) -> FrameText

@@ -9,6 +9,7 @@ mod output;
 mod read;
 #[cfg(test)]
 mod tests;
+mod told;
 
 use drive::drive;
 use fault::{Fault, tell};

@@ -5,25 +5,24 @@ ghost use Rattle.irig_frame.specs.declared.symbol.Symbol.{Symbol};
 ghost use Rattle.irig_main.specs.Letters.{Shows, letter_of};
 
 use crate::fault::Fault;
+use crate::told::{told_by, told_line};
 use arrayvec::ArrayVec;
-use irig_frame::{Coded, Field, FrameFault, Symbol, decode};
+use irig_frame::{Coded, Symbol, decode};
 use std::alloc::{AllocError, Global};
 
-/// What is said of the frame that the text shows: a line.
+/// What the frame says: the line of the time that it codes, if it codes one, and the line of what a port
+/// tells of it; `BadFrameText` where the text has a letter of no symbol.
 pub fn reading(alloc: Global, text: &str) -> Result<String, Fault>
     ensures bad_text { (result ≡ Err Fault.BadFrameText)
         ↔ ((symbols : List Symbol) → ¬ Shows text.now symbols) }
     ensures kind { IfErr result (λ fault. (fault ≡ Fault.BadFrameText) ⊎ (fault ≡ Fault.Memory)) }
 {
     let symbols = symbols_of(text)?;
-    if symbols.is_empty() {
-        return Ok(String::from_str(alloc, "silence\n")?);
+    let told = told_line(alloc, &told_by(symbols.as_slice()))?;
+    match decode(symbols.as_slice()) {
+        Ok(coded) => Ok(coded_lines(alloc, &coded, told.as_str())?),
+        Err(_) => Ok(told),
     }
-    let line = match decode(symbols.as_slice()) {
-        Ok(coded) => coded_line(alloc, &coded),
-        Err(fault) => fault_line(alloc, fault),
-    };
-    Ok(line?)
 }
 
 // The symbols, or the first 101 of them, which are enough to tell that there are too many.
@@ -62,7 +61,8 @@ fn symbol_of(letter: u8) -> Option<Symbol>
     }
 }
 
-fn coded_line(alloc: Global, coded: &Coded) -> Result<String, AllocError> {
+// The line of the time that the frame codes, and the line after it.
+fn coded_lines(alloc: Global, coded: &Coded, told: &str) -> Result<String, AllocError> {
     let year = 2000 + u16::from(coded.year);
     let Coded {
         second,
@@ -74,28 +74,6 @@ fn coded_line(alloc: Global, coded: &Coded) -> Result<String, AllocError> {
         sbs,
     } = *coded;
     format!(in alloc;
-        "coded {year}-{day:03} {hour:02}:{minute:02}:{second:02} control {control} sbs {sbs}\n"
+        "coded {year}-{day:03} {hour:02}:{minute:02}:{second:02} control {control} sbs {sbs}\n{told}"
     )
-}
-
-// The number, the name and the place of a fault.
-fn fault_line(alloc: Global, fault: FrameFault) -> Result<String, AllocError> {
-    match fault {
-        FrameFault::Short(count) => format!(in alloc; "fault 1 Short {count}\n"),
-        FrameFault::Long => String::from_str(alloc, "fault 2 Long\n"),
-        FrameFault::Pulse(element) => format!(in alloc; "fault 3 Pulse {element}\n"),
-        FrameFault::Marker(element) => format!(in alloc; "fault 4 Marker {element}\n"),
-        FrameFault::Digit(field) => format!(in alloc; "fault 5 Digit {}\n", word(field)),
-        FrameFault::Range(field) => format!(in alloc; "fault 6 Range {}\n", word(field)),
-    }
-}
-
-fn word(field: Field) -> &'static str {
-    match field {
-        Field::Second => "second",
-        Field::Minute => "minute",
-        Field::Hour => "hour",
-        Field::Day => "day",
-        Field::Year => "year",
-    }
 }

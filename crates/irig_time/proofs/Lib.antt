@@ -7,3 +7,4 @@ pub mod StretchLaws
 pub mod NextLaws
 pub mod ClaimLaws
 pub mod CodedLaws
+pub mod ClaimedSeconds

@@ -1,6 +1,6 @@
 -- What it is for the symbols of a frame to carry a claim: the frame reads as a time, has the parity, its straight
 -- binary seconds agree where they are compared, its quality has a vote, and its time and leap bits claim this.
-use Rattle.std.specs.Prelude.{◌≡◌, ℕ, ◌+◌, ◌*◌, ◌<◌, ◌≤◌, List, Ok}
+use Rattle.std.specs.Prelude.{◌≡◌, ◌+◌, ◌*◌, ◌<◌, ◌≤◌, List, Ok}
 use Rattle.irig_frame.specs.declared.symbol.Symbol.{Symbol}
 use Rattle.irig_frame.specs.declared.coded.Coded.{Coded}
 use Rattle.irig_frame.specs.Reading.{Reads}

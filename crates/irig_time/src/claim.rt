@@ -1,8 +1,9 @@
 //! What a frame claims about UTC.
 
-ghost use Rattle.std.specs.Prelude.{◌≡◌, ◌≤◌, ◌<◌};
+ghost use Rattle.std.specs.Prelude.{◌≡◌, ◌≤◌, ◌<◌, IfOk};
 ghost use Rattle.irig_frame.specs.Reading.{IsCoded};
 ghost use Rattle.irig_control.specs.Control.{IsControl};
+ghost use Rattle.irig_time.specs.Seconds.{IsValid};
 ghost use Rattle.irig_time.specs.Days.{year_length as length_of_year};
 ghost use Rattle.irig_time.specs.Claims.{utc_minute, frame_mark, claim_at, claim_by};
 
@@ -42,6 +43,16 @@ pub enum TimeFault {
 /// the coded minute plus or minus 30 for each half hour of offset, and the second is unchanged. That
 /// the leap bits speak in the last minute alone is this project's profile of IEEE 1344-1995.
 pub fn claim_of(coded: &Coded, control: &Control, sense: Sense) -> Result<Claim, TimeFault>
+    requires coded { IsCoded coded.now }
+    requires control { IsControl control.now }
+    ensures exact { result ≡ claim_by sense coded.now control.now }
+    ensures valid { IfOk result (λ claim. IsValid claim.at) }
+{
+    claim_or_fault(coded, control, sense)
+}
+
+/// The claim, or the first fault.
+fn claim_or_fault(coded: &Coded, control: &Control, sense: Sense) -> Result<Claim, TimeFault>
     requires coded { IsCoded coded.now }
     requires control { IsControl control.now }
     ensures { result ≡ claim_by sense coded.now control.now }

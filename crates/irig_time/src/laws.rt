@@ -1,6 +1,6 @@
 //! Laws of time over its definitions, for the crates above. They have no code.
 
-ghost use Rattle.std.specs.Prelude.{◌≡◌, ◌≤◌, ◌+◌, ◌⊎◌, true, ℕ, ℤ, neg_ℤ, unsigned_abs, Some, None};
+ghost use Rattle.std.specs.Prelude.{◌≡◌, ◌≤◌, ◌+◌, ◌⊎◌, true, ℕ, ℤ, neg_ℤ, unsigned_abs, Some, None, Ok};
 ghost use Rattle.irig_time.specs.Days.{is_month_end};
 ghost use Rattle.irig_time.specs.Seconds.{IsValid};
 ghost use Rattle.irig_time.specs.Coding.{IsCodedOf};
@@ -23,6 +23,12 @@ pub fn claim_of_coded()
         → k.offset_half_hours ≡ neg_ℤ h → claim_by Sense.Add c k ≡ claim_of_second u k }
     ensures subtracted { (u : UtcSecond) (h : ℤ) (c : Coded) (k : Control) → IsValid u → unsigned_abs h ≤ 31 → IsCodedOf u h c
         → k.offset_half_hours ≡ h → claim_by Sense.Subtract c k ≡ claim_of_second u k }
+{}
+
+/// What a frame claims is a valid second.
+pub fn claims_are_valid()
+    ensures { (sense : Sense) (c : Coded) (k : Control) (claim : Claim) → c.second ≤ 60
+        → claim_by sense c k ≡ Ok claim → IsValid claim.at }
 {}
 
 /// A second is coded in one way by a clock.

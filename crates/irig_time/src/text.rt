@@ -1,6 +1,7 @@
 //! The texts of days and seconds: `YYYY-MM-DD` and `YYYY-MM-DDTHH:MM:SSZ`.
 
 ghost use Rattle.std.specs.Prelude.{◌≡◌, ◌↔◌, ◌≤◌, ◌<◌, ◌+◌, ◌/◌, ◌%◌, ℕ, length, slice_index, Some};
+ghost use Rattle.std.specs.Str.{IsAscii};
 ghost use Rattle.irig_time.specs.Seconds.{IsValid};
 ghost use Rattle.irig_time.specs.Texts.{IsDayText, IsText, two};
 
@@ -10,7 +11,8 @@ use crate::second::{UtcSecond, valid};
 /// The text of a [`valid`] second, as `YYYY-MM-DDTHH:MM:SSZ`; that of sod 86400 ends with `T23:59:60Z`.
 pub fn write_text(utc: &UtcSecond) -> [u8; 20]
     requires { IsValid utc.now }
-    ensures { IsText utc.now result }
+    ensures text { IsText utc.now result }
+    ensures ascii { IsAscii result }
 {
     let minutes = (utc.sod / 60).min(1439);
     let [y1, y2, y3, y4, _, m1, m2, _, d1, d2] = write_day(utc.day);
@@ -55,7 +57,8 @@ pub fn read_day(text: &[u8]) -> Option<u32>
 /// The date of a day, as `YYYY-MM-DD`.
 fn write_day(day: u32) -> [u8; 10]
     requires { day ≤ 36524 }
-    ensures { IsDayText day result }
+    ensures text { IsDayText day result }
+    ensures ascii { IsAscii result }
 {
     let (year, month, day) = date_parts(day);
     let [y1, y2] = digits(year / 100);
@@ -68,7 +71,8 @@ fn write_day(day: u32) -> [u8; 10]
 /// A number below 100 in two decimal digits.
 fn digits(number: u32) -> [u8; 2]
     requires { number < 100 }
-    ensures { result ≡ two number }
+    ensures digits { result ≡ two number }
+    ensures ascii { IsAscii result }
 {
     [b'0' + (number / 10) as u8, b'0' + (number % 10) as u8]
 }

@@ -1,11 +1,7 @@
-use Rattle.std.proofs.Common.{arith, ◌/◌, ◌%◌, ◌≡◌, ◌≤◌, ◌<◌, ◌∙◌, sym, subst, ℕ, ℤ, unsigned_abs, w8, to_z, of_z, pos, int_lt}
-use Rattle.std.proofs.lemmas.Int.{ints}
+use Rattle.std.proofs.Common.{arith, ◌/◌, ◌%◌, ◌≡◌, ◌<◌, ◌∙◌, sym, subst, ℕ, unsigned_abs, w8, to_z, of_z, pos, int_lt}
 use Rattle.irig_control.specs.Control.{flag}
-use Rattle.irig_control.proofs.ControlLaws.{word_of-sum, word_of-below, all_joined, flag_below}
+use Rattle.irig_control.proofs.ControlLaws.{word_of-sum, word_of-below, all_joined, flag_below, in_byte}
 use Rattle.irig_control.proofs.control.pack.Goals as goal
-
-in_byte : (z : ℤ) → unsigned_abs z ≤ 31 → to_z w8 (of_z w8 z) ≡ z
-in_byte z h = omega (arith, ints)
 
 pub returns-clause-word : goal.returns-clause-word
 returns-clause-word c =

@@ -24,7 +24,7 @@ returns-then-same c d =
     let bytes = c.args.text.now in
     let day = c.in_ok-day.day in
     let is : c.as_slice.result.now ≡ bytes = (slice_eq-Decides Decides-eqb c.as_slice.result.now bytes c.eq-same.result c.eq-same.ensures).0 c.if-same.true in
-    let text : IsDayText day bytes = subst (IsDayText day) (sym c.as_slice.ensures ∙ is) c.write_day.ensures in (
+    let text : IsDayText day bytes = subst (IsDayText day) (sym c.as_slice.ensures ∙ is) c.write_day.ensures.text in (
       λ e. let same : day ≡ d = cc in (subst (λ (x : ℕ). x ≤ 36524) same c.in_ok-day.ensures.bounded, subst (λ (x : ℕ). IsDayText x bytes) same text),
       λ h. let date = date_read d c.args.text.now c.two_at.result c.two_at-2.result c.two_at-3.result c.two_at-4.result h.1 c.two_at.ensures.value c.two_at-2.ensures.value c.two_at-3.ensures.value c.two_at-4.ensures.value in
           sym c.in_ok-day.was ∙ c.day_of.ensures.found d h.0 date,
@@ -36,7 +36,7 @@ returns-else-same c d =
       λ e. absurd cc,
       λ h. let date = date_read d c.args.text.now c.two_at.result c.two_at-2.result c.two_at-3.result c.two_at-4.result h.1 c.two_at.ensures.value c.two_at-2.ensures.value c.two_at-3.ensures.value c.two_at-4.ensures.value in
           let same : c.in_ok-day.day ≡ d = same_day c.day_of.result c.in_ok-day.day d c.in_ok-day.was (c.day_of.ensures.found d h.0 date) in
-          let text : IsDayText d c.write_day.result = subst (λ (x : ℕ). IsDayText x c.write_day.result) same c.write_day.ensures in
+          let text : IsDayText d c.write_day.result = subst (λ (x : ℕ). IsDayText x c.write_day.result) same c.write_day.ensures.text in
           let is : c.as_slice.result.now ≡ bytes = c.as_slice.ensures ∙ day_text_unique d c.write_day.result bytes text h.1 in
           absurd (both_ways c.eq-same.result c.if-same.false ((slice_eq-Decides Decides-eqb c.as_slice.result.now bytes c.eq-same.result c.eq-same.ensures).1 is)),
     )

@@ -36,7 +36,7 @@ returns-then-same c u =
     let bytes = c.args.text.now in
     let utc = second c.in_ok-day.day (c.two_at.result * 3600 + c.two_at-2.result * 60 + c.two_at-3.result) in
     let is : c.as_slice.result.now ≡ bytes = (slice_eq-Decides Decides-eqb c.as_slice.result.now bytes c.eq-same.result c.eq-same.ensures).0 c.if-same.true in
-    let text : IsText utc bytes = subst (IsText utc) (sym c.as_slice.ensures ∙ is) c.write_text.ensures in
+    let text : IsText utc bytes = subst (IsText utc) (sym c.as_slice.ensures ∙ is) c.write_text.ensures.text in
     let valid : IsValid utc = c.valid.ensures.0 c.if-not-valid.false in (
       λ e. let same : utc ≡ u = cc e in (subst IsValid same valid, subst (λ (x : UtcSecond). IsText x bytes) same text),
       λ h. let day : c.in_ok-day.day ≡ u.day = same_day c.read_day.result c.in_ok-day.day u.day c.in_ok-day.was ((c.read_day.ensures u.day).1 (omega (arith, h.0.day), day_first u bytes h.1)) in
@@ -49,7 +49,7 @@ returns-else-same c u =
       λ e. absurd cc,
       λ h. let day : c.in_ok-day.day ≡ u.day = same_day c.read_day.result c.in_ok-day.day u.day c.in_ok-day.was ((c.read_day.ensures u.day).1 (omega (arith, h.0.day), day_first u bytes h.1)) in
           let same = second_read u bytes c.in_ok-day.day c.two_at.result c.two_at-2.result c.two_at-3.result h.0 h.1 day c.two_at.ensures.value c.two_at-2.ensures.value c.two_at-3.ensures.value in
-          let text : IsText u c.write_text.result = subst (λ (x : UtcSecond). IsText x c.write_text.result) same c.write_text.ensures in
+          let text : IsText u c.write_text.result = subst (λ (x : UtcSecond). IsText x c.write_text.result) same c.write_text.ensures.text in
           let is : c.as_slice.result.now ≡ bytes = c.as_slice.ensures ∙ text_unique u c.write_text.result bytes text h.1 in
           absurd (both_ways c.eq-same.result c.if-same.false ((slice_eq-Decides Decides-eqb c.as_slice.result.now bytes c.eq-same.result c.eq-same.ensures).1 is)),
     )

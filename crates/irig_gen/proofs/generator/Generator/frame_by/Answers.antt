@@ -4,7 +4,8 @@ use Rattle.irig_frame.specs.declared.symbol.Symbol.{Symbol}
 use Rattle.irig_time.specs.declared.second.UtcSecond.{UtcSecond}
 use Rattle.irig_time.specs.Times.{IsSecond}
 use Rattle.irig_gen.specs.Frames.{gen, IsFrameBy}
-use Rattle.irig_gen.proofs.GenLaws.{sent_zone_fits, control_fits, round8, frame_at_is, faulted_fits}
+use Rattle.irig_control.proofs.ControlLaws.{in_byte}
+use Rattle.irig_gen.proofs.GenLaws.{sent_zone_fits, control_fits, frame_at_is, faulted_fits}
 use Rattle.irig_gen.proofs.generator.Generator.frame_by.Goals as goal
 
 pub control_at-control-requires : goal.control_at-control-requires
@@ -16,7 +17,7 @@ pub frame_with-requires-clause-local : goal.frame_with-requires-clause-local
 frame_with-requires-clause-local c =
     let i = c.self.inside in
     let small = sent_zone_fits (gen i.zone i.changes.items i.rules i.edge i.fault i.since) _ c.in_ok-utc.utc c.zone_at-zone.result c.self.invariant c.deref.ensures.value c.zone_at-zone.ensures in
-    subst (λ (h : ℤ). unsigned_abs h ≤ 31) (sym (round8 c.zone_at-zone.result.half_hours small)) small
+    subst (λ (h : ℤ). unsigned_abs h ≤ 31) (sym (in_byte c.zone_at-zone.result.half_hours small)) small
 
 pub frame_with-requires-clause-control : goal.frame_with-requires-clause-control
 frame_with-requires-clause-control c =
@@ -33,7 +34,7 @@ returns c =
     let g = gen i.zone i.changes.items i.rules i.edge i.fault i.since in
     let small = sent_zone_fits g _ u z c.self.invariant c.deref.ensures.value c.zone_at-zone.ensures in
     frame_at_is g c.args.self.now c.args.timeline.now c.args.edge u c.frame_with.result _ z c.control_at-control.result c.deref.result.now c.deref-2.result.now c.leap-leap.result
-    c.self.view_is ((c.at.ensures.second u).0 c.in_ok-utc.was) c.deref.ensures.value c.deref-2.ensures.value c.zone_at-zone.ensures (round8 z.half_hours small)
+    c.self.view_is ((c.at.ensures.second u).0 c.in_ok-utc.was) c.deref.ensures.value c.deref-2.ensures.value c.zone_at-zone.ensures (in_byte z.half_hours small)
     c.leap-leap.ensures c.control_at-control.ensures c.args.fault c.faulted-sent.result c.faulted-sent.ensures c.frame_with.ensures
 
 pub returns-in_err-utc : goal.returns-in_err-utc

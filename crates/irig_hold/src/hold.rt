@@ -1,0 +1,139 @@
+//! The hold and its steps.
+
+ghost use Rattle.std.specs.Prelude.{◌≡◌, ◌≤◌};
+ghost use Rattle.irig_time.specs.Seconds.{IsValid};
+ghost use Rattle.irig_time.specs.Tables.{spoken_mark};
+ghost use Rattle.irig_hold.specs.Turns.{IfNow, OnStop};
+ghost use Rattle.irig_hold.specs.Steps.{stepped, started, outcome_of, voted_by, alone_by};
+
+use crate::turn::Turn;
+use irig_time::{Claim, LeapTable, Mark, UtcSecond, next};
+use std::marker::Model;
+
+/// A second that was reached by votes and by counting, how many seconds were counted alone since the last
+/// vote, and what was heard of the leap at the end of that day.
+///
+/// The second is always a [`valid`](irig_time::valid) one.
+#[derive(Debug, Drop, PartialEq, Eq)]
+pub struct Hold {
+    last: UtcSecond,
+    age: u32,
+    heard: Mark,
+}
+
+impl Model for Hold {
+    ghost use Rattle.irig_time.specs.Seconds.{IsValid};
+    ghost use Rattle.irig_hold.specs.Steps.{Counter, counter};
+
+    ghost Value = { Counter };
+
+    ghost view = { λ h. counter h.last h.age h.heard };
+
+    ghost invariant = { λ h. IsValid h.last };
+
+    ghost inverse = { λ c. record { last = c.last; age = c.age; heard = c.heard } };
+}
+
+impl Hold {
+    /// The hold that begins with a claim of a [`valid`](irig_time::valid) second: it stands at the next
+    /// one, by what the claim says of a leap or else the table.
+    ///
+    /// `LeapGuard` or `RangeEnd` where there is no next one.
+    pub fn start(claim: Claim, table: &LeapTable) -> Result<Hold, Turn>
+        requires { IsValid claim.at }
+        ensures { result ≡ started table.now claim }
+    {
+        step(claim.at, 0, claim.mark, table)
+    }
+
+    /// One second on, with a vote for the second that it stands at.
+    ///
+    /// It keeps what the vote says of a leap, if it says something. `Jump` where the vote is for another
+    /// second, then `LeapGuard` or `RangeEnd`; these leave it as it was.
+    pub fn voted(&mut self, claim: Claim, table: &LeapTable) -> Turn
+        ensures answer { result ≡ (voted_by table.now self.old claim).answer }
+        ensures new { self.new ≡ (voted_by table.now self.old claim).new }
+        ensures valid { IfNow result IsValid }
+        ensures stays { OnStop result (self.new ≡ self.old) }
+    {
+        if claim.at != self.last {
+            return Turn::Jump;
+        }
+        let heard = match claim.mark {
+            Mark::Unspoken => self.heard,
+            told => told,
+        };
+        self.take(step(self.last, 0, heard, table))
+    }
+
+    /// One second on without a vote, where it has gone fewer than `limit` seconds alone.
+    ///
+    /// `Expired` where it has not, then `LeapGuard` or `RangeEnd`; these leave it as it was.
+    pub fn alone(&mut self, limit: u32, table: &LeapTable) -> Turn
+        ensures answer { result ≡ (alone_by table.now self.old limit).answer }
+        ensures new { self.new ≡ (alone_by table.now self.old limit).new }
+        ensures valid { IfNow result IsValid }
+        ensures stays { OnStop result (self.new ≡ self.old) }
+    {
+        if self.age >= limit {
+            return Turn::Expired;
+        }
+        self.take(step(self.last, self.age + 1, self.heard, table))
+    }
+
+    /// The second that it stands at.
+    pub fn now(&self) -> UtcSecond
+        ensures second { result ≡ self.now.last }
+        ensures valid { IsValid result }
+    {
+        self.last
+    }
+
+    /// Goes where the step leads, if it leads anywhere.
+    fn take(&mut self, step: Result<Hold, Turn>) -> Turn
+        ensures answer { result ≡ (outcome_of self.old step).answer }
+        ensures new { self.new ≡ (outcome_of self.old step).new }
+    {
+        match step {
+            Ok(next) => {
+                let now = next.last;
+                *self = next;
+                Turn::Now(now)
+            }
+            Err(stop) => stop,
+        }
+    }
+}
+
+/// The hold one second after this second, by what was heard or else the table; or why there is none.
+fn step(from: UtcSecond, age: u32, heard: Mark, table: &LeapTable) -> Result<Hold, Turn>
+    requires { IsValid from }
+    ensures { result ≡ stepped table.now from age heard }
+{
+    match next(from, spoken(heard, table, from.day)) {
+        Some(last) => Ok(Hold {
+            last,
+            age,
+            // What was heard speaks of the end of its own day.
+            heard: if from.day == last.day {
+                heard
+            } else {
+                Mark::Unspoken
+            },
+        }),
+        // 2099-12-30 is the last day served.
+        None if from.day == 36523 => Err(Turn::RangeEnd),
+        None => Err(Turn::LeapGuard),
+    }
+}
+
+/// What is said of the leap at the end of the day: what was heard, else what the table says.
+fn spoken(heard: Mark, table: &LeapTable, day: u32) -> Mark
+    requires { day ≤ 36523 }
+    ensures { result ≡ spoken_mark table.now heard day }
+{
+    match heard {
+        Mark::Unspoken => table.mark(day),
+        _ => heard,
+    }
+}

@@ -1,0 +1,10 @@
+-- What a command line asks for.
+use Rattle.std.specs.Prelude.{◌≤◌, ⊤, unsigned_abs}
+use Rattle.irig_main.specs.declared.command.Request.{Request}
+use Rattle.irig_main.specs.declared.command.Request.TheVariants.{Plain, Frame, Read}
+
+-- an offset fits in its five bits
+abbrev pub IsRequest : Request → Type 0
+IsRequest Plain = ⊤
+IsRequest (Frame time local pending) = unsigned_abs local ≤ 31
+IsRequest (Read frame) = ⊤

@@ -1,0 +1,35 @@
+-- What is past the 101st symbol changes nothing.
+use Rattle.std.proofs.Common.{◌≡◌, ℕ, List, [], ◌∷◌, ◌++◌, length, take, sym, ◌∙◌, inl, inr, arith, ap, nat_lt, length-append}
+use Rattle.std.specs.Prelude.{if◌then◌else◌}
+use Rattle.std.proofs.lemmas.List.{take_all, take-append-le, length-take-le, map-append}
+use Rattle.std.proofs.lemmas.Bool.{cases_lt, cond_below, cond_above}
+use Rattle.irig_frame.specs.declared.symbol.Symbol.{Symbol}
+use Rattle.irig_frame.specs.Symbols.{symbol_of}
+use Rattle.irig_time.specs.declared.rules.Rules.{Rules}
+use Rattle.irig_port.specs.Heard.{added, symbols_of, heard}
+use Rattle.irig_port.proofs.ToldLaws.{long_told}
+use Rattle.irig_port.specs.Told.{told_of, told}
+
+pub told_of-heard : (rules : Rules) (ws : List ℕ) → told_of rules (heard ws) ≡ told rules ws
+told_of-heard rules ws =
+    elim (cases_lt (length (symbols_of ws)) 101) [
+      | inl h ↦ rw (take_all 101 (symbols_of ws) (omega arith))
+      | inr h ↦
+          let l : length (heard ws) ≡ 101 = length-take-le 101 (symbols_of ws) h in
+          long_told rules (heard ws) (omega arith) ∙ sym (long_told rules (symbols_of ws) (omega arith))
+    ]
+
+-- one more, where n are kept
+take-push : (n : ℕ) (s : List Symbol) (x : Symbol) → take n (s ++ x ∷ []) ≡ (if nat_lt (length (take n s)) n then take n s ++ x ∷ [] else take n s)
+take-push n s x =
+    elim (cases_lt (length s) n) [
+      | inl h ↦
+          rw (take_all n s (omega arith), take_all n (s ++ x ∷ []) (omega (arith, length-append s (x ∷ []))))
+          (cond_below (length s) n _ _ h)
+      | inr h ↦
+          let l : length (take n s) ≡ n = length-take-le n s h in
+          cond_above (length (take n s)) n _ _ _ (omega arith) (take-append-le n s (x ∷ []) h)
+    ]
+
+pub heard-push : (ws : List ℕ) (w : ℕ) → heard (ws ++ w ∷ []) ≡ added (heard ws) (symbol_of w)
+heard-push ws w = ap (take 101) (map-append symbol_of ws (w ∷ [])) ∙ take-push 101 (symbols_of ws) (symbol_of w)

@@ -1,0 +1,5 @@
+pub mod Heard
+pub mod Told
+pub mod Early
+pub mod Sums
+pub mod Numbers

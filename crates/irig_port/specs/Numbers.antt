@@ -1,0 +1,10 @@
+-- What a port stands for that keeps numbers: each list of symbols that has its numbers.
+use Rattle.std.specs.Prelude.{◌≡◌, List}
+use Rattle.irig_frame.specs.declared.symbol.Symbol.{Symbol}
+use Rattle.irig_time.specs.declared.rules.Rules.{Rules}
+use Rattle.irig_port.specs.declared.flow.FlowPort.{FlowPort}
+use Rattle.irig_port.specs.Sums.{IsOf}
+
+pub record Numbers (p : FlowPort) (rules : Rules) (s : List Symbol) : Type 0 where
+  pub ruled : p.rules ≡ rules
+  pub numbers : IsOf p.count p.ones p.wrong p.sums s

@@ -1,0 +1,243 @@
+//! A port that keeps running sums and no symbol.
+
+ghost use Rattle.std.specs.Prelude.{◌≡◌, ◌≤◌, ◌+◌, ℕ, min, List, Some, None, true, IfOk, if◌then◌else◌};
+ghost use Rattle.std.specs.Option.{option_or};
+ghost use Rattle.irig_frame.specs.declared.symbol.Symbol.{Symbol};
+ghost use Rattle.irig_frame.specs.FieldTable.{is_marker_place};
+ghost use Rattle.irig_frame.specs.Values.{is_one as is_one_symbol};
+ghost use Rattle.irig_frame.specs.Symbols.{symbol_of};
+ghost use Rattle.irig_frame.specs.Reading.{least, most, IsCoded};
+ghost use Rattle.irig_frame.specs.Faults.{element_fault};
+ghost use Rattle.irig_control.specs.Parity.{remainder_of};
+ghost use Rattle.irig_time.specs.Seconds.{IsValid};
+ghost use Rattle.irig_time.specs.declared.rules.Rules.{Rules};
+ghost use Rattle.irig_port.specs.Told.{told_of, IfClaim};
+ghost use Rattle.irig_port.specs.Sums.{field_from, values_from, frame_from};
+
+use crate::port::Port;
+use crate::table::{
+    CONTROL, DAY_HUNDREDS, DAY_TENS, DAY_UNITS, HOUR_TENS, HOUR_UNITS, MINUTE_TENS, MINUTE_UNITS,
+    SECOND_TENS, SECOND_UNITS, STRAIGHT_BINARY, SUMS, YEAR_TENS, YEAR_UNITS, row_of,
+};
+use crate::telling::tell_values;
+use crate::told::{PortFault, Told};
+use irig_control::Parity;
+use irig_frame::{Coded, Field, FrameFault, Symbol, classify};
+use irig_time::Rules;
+
+/// A port that keeps what its symbols come to: their number, the sums of the decimal digits, of the
+/// control bits and of the straight binary seconds, the ones that the parity counts, and the fault of
+/// the lowest wrong element.
+#[derive(Drop)]
+pub struct FlowPort {
+    rules: Rules,
+    count: usize,
+    ones: u32,
+    wrong: Option<FrameFault>,
+    sums: [u32; SUMS],
+    ghost few: { count ≤ 101 },
+}
+
+impl Port for FlowPort {
+    ghost use Rattle.irig_port.specs.Numbers.{Numbers};
+
+    ghost stands_for = { Numbers };
+
+    fn fresh(rules: Rules) -> Self {
+        FlowPort {
+            rules,
+            count: 0,
+            ones: 0,
+            wrong: None,
+            sums: [0; SUMS],
+        }
+    }
+
+    // The innermost loop of a plant: nothing branches on the data but the note of a first fault. No sum
+    // wraps while the port stands for symbols.
+    #[inline]
+    fn pulse(&mut self, width_us: u32) {
+        let row = row_of(self.count);
+        let is_one = is_one_width(width_us);
+        let sum = row.sum as usize;
+        self.sums[sum] = self.sums[sum].wrapping_add(weight_if(is_one, row.weight));
+        self.ones = self.ones.wrapping_add(weight_if(is_one, row.parity as u32));
+        let element = self.count as u8;
+        note(&mut self.wrong, element, row.is_marker_place, width_us);
+        self.count = one_more(self.count);
+    }
+
+    fn edge(&mut self) -> Told {
+        let told = self.tell();
+        self.clear();
+        told
+    }
+
+    fn clear(&mut self) {
+        self.count = 0;
+        self.ones = 0;
+        self.wrong = None;
+        self.sums = [0; SUMS];
+    }
+}
+
+impl FlowPort {
+    ghost use Rattle.irig_port.specs.Numbers.{Numbers};
+
+    /// What the numbers tell.
+    fn tell(&self) -> Told
+        ensures told { (rules : Rules) (s : List Symbol) → Numbers self.now rules s → result ≡ told_of rules s }
+        ensures valid { IfClaim result (λ claim. IsValid claim.at) }
+    {
+        if self.count == 0 {
+            return Told::Silence;
+        }
+        if self.count < 100 {
+            return Told::Fault(PortFault::Frame(FrameFault::Short(self.count as u8)));
+        }
+        if self.count > 100 {
+            return Told::Fault(PortFault::Frame(FrameFault::Long));
+        }
+        tell_frame(&self.rules, self.wrong, self.ones, &self.sums)
+    }
+}
+
+/// Whether the width is that of a one.
+#[inline]
+fn is_one_width(width_us: u32) -> bool
+    ensures { result ≡ is_one_symbol (Some (symbol_of width_us)) }
+{
+    (3500..6500).contains(&width_us)
+}
+
+/// The weight, where the pulse is a one.
+#[inline]
+fn weight_if(is_one: bool, weight: u32) -> u32
+    ensures { result ≡ (if is_one then weight else 0) }
+{
+    if is_one { weight } else { 0 }
+}
+
+/// Keeps the fault of the element, unless one was found before.
+#[inline]
+fn note(wrong: &mut Option<FrameFault>, element: u8, at_marker_place: bool, width_us: u32)
+    ensures { is_marker_place element ≡ at_marker_place
+        → wrong.new ≡ option_or wrong.old (element_fault element (symbol_of width_us)) }
+{
+    if !is_right(at_marker_place, width_us) && wrong.is_none() {
+        *wrong = fault_at(element, at_marker_place, classify(width_us));
+    }
+}
+
+/// Whether a pulse of the width may stand at the element.
+#[inline]
+fn is_right(at_marker_place: bool, width_us: u32) -> bool
+    ensures { (i : ℕ) → is_marker_place i ≡ at_marker_place → result ≡ true
+        → element_fault i (symbol_of width_us) ≡ None }
+{
+    (500..9500).contains(&width_us) && (6500 <= width_us) == at_marker_place
+}
+
+/// The fault of an element, if it has one.
+fn fault_at(element: u8, at_marker_place: bool, symbol: Symbol) -> Option<FrameFault>
+    ensures { is_marker_place element ≡ at_marker_place → result ≡ element_fault element symbol }
+{
+    match symbol {
+        Symbol::Bad => Some(FrameFault::Pulse(element)),
+        Symbol::Marker if !at_marker_place => Some(FrameFault::Marker(element)),
+        Symbol::Zero | Symbol::One if at_marker_place => Some(FrameFault::Marker(element)),
+        _ => None,
+    }
+}
+
+/// One more, up to 101.
+#[inline]
+fn one_more(count: usize) -> usize
+    requires { count ≤ 101 }
+    ensures { result ≡ min (count + 1) 101 }
+{
+    count + usize::from(count < 101)
+}
+
+/// What 100 symbols with these numbers tell.
+#[tactic(auto, unfolding(crate::specs::Sums::frame_from))]
+fn tell_frame(rules: &Rules, wrong: Option<FrameFault>, ones: u32, sums: &[u32; SUMS]) -> Told
+    ensures told { result ≡ frame_from rules.now wrong ones sums.now }
+    ensures valid { IfClaim result (λ claim. IsValid claim.at) }
+{
+    if let Some(fault) = wrong {
+        return Told::Fault(PortFault::Frame(fault));
+    }
+    if ones % 2 != parity_remainder(rules.parity) {
+        return Told::Fault(PortFault::Parity);
+    }
+    tell_values(rules, values_of(sums))
+}
+
+/// The remainder by 2 of a number of ones.
+fn parity_remainder(parity: Parity) -> u32
+    ensures { result ≡ remainder_of parity }
+{
+    match parity {
+        Parity::Even => 0,
+        Parity::Odd => 1,
+    }
+}
+
+/// The values with these sums, or the fault of the first wrong field.
+#[tactic(auto, unfolding(crate::specs::Sums::values_from))]
+fn values_of(sums: &[u32; SUMS]) -> Result<Coded, FrameFault>
+    ensures value { result ≡ values_from sums.now }
+    ensures in_range { IfOk result IsCoded }
+{
+    let second = field_of(Field::Second, sums[SECOND_UNITS], sums[SECOND_TENS], 0)? as u8;
+    let minute = field_of(Field::Minute, sums[MINUTE_UNITS], sums[MINUTE_TENS], 0)? as u8;
+    let hour = field_of(Field::Hour, sums[HOUR_UNITS], sums[HOUR_TENS], 0)? as u8;
+    let day = field_of(
+        Field::Day,
+        sums[DAY_UNITS],
+        sums[DAY_TENS],
+        sums[DAY_HUNDREDS],
+    )? as u16;
+    let year = field_of(Field::Year, sums[YEAR_UNITS], sums[YEAR_TENS], 0)? as u8;
+    Ok(Coded {
+        second,
+        minute,
+        hour,
+        day,
+        year,
+        // no sum passes these bounds where the port stands for symbols
+        control: sums[CONTROL] % (1 << 18),
+        sbs: sums[STRAIGHT_BINARY] % (1 << 17),
+    })
+}
+
+/// The value of a field with these digits, or its fault.
+fn field_of(field: Field, units: u32, tens: u32, hundreds: u32) -> Result<u64, FrameFault>
+    ensures value { result ≡ field_from field units tens hundreds }
+    ensures in_range { IfOk result (λ n. (least field ≤ n) × (n ≤ most field)) }
+{
+    if units > 9 || tens > 90 {
+        return Err(FrameFault::Digit(field));
+    }
+    let value = u64::from(units) + u64::from(tens) + u64::from(hundreds);
+    let (least, most) = bounds(field);
+    if value < least || value > most {
+        return Err(FrameFault::Range(field));
+    }
+    Ok(value)
+}
+
+/// The least and the greatest value of a field.
+fn bounds(field: Field) -> (u64, u64)
+    ensures least { result.0 ≡ least field }
+    ensures greatest { result.1 ≡ most field }
+{
+    match field {
+        Field::Second => (0, 60),
+        Field::Minute => (0, 59),
+        Field::Hour => (0, 23),
+        Field::Day => (1, 366),
+        Field::Year => (0, 99),
+    }
+}

@@ -1,0 +1,44 @@
+//! What every port does.
+
+ghost use Rattle.std.specs.Prelude.{◌≡◌, List, []};
+ghost use Rattle.irig_frame.specs.declared.symbol.Symbol.{Symbol};
+ghost use Rattle.irig_frame.specs.Symbols.{symbol_of};
+ghost use Rattle.irig_time.specs.declared.rules.Rules.{Rules};
+ghost use Rattle.irig_time.specs.Seconds.{IsValid};
+ghost use Rattle.irig_port.specs.Heard.{added};
+ghost use Rattle.irig_port.specs.Told.{told_of, IfClaim};
+
+use crate::told::Told;
+use irig_time::Rules;
+
+/// Takes pulses, and tells at an edge what they said.
+///
+/// A port keeps its rules, and stands for the symbols since it was last empty, 101 of them at most.
+pub trait Port: Drop {
+    // The port works by these rules and stands for these symbols, the oldest first. It may stand for
+    // many lists at once: what a port keeps need not tell them apart.
+    ghost stands_for: { Self → Rules → List Symbol → Type 0 };
+
+    /// A port that was fed nothing, for frames that are read by these rules.
+    fn fresh(rules: Rules) -> Self
+        ensures { stands_for result rules [] };
+
+    /// One pulse, `width_us` microseconds wide. From the 102nd on a pulse changes nothing.
+    fn pulse(&mut self, width_us: u32)
+        ensures { (rules : Rules) (s : List Symbol) → stands_for self.old rules s
+            → stands_for self.new rules (added s (symbol_of width_us)) };
+
+    /// What the pulses since the port was last empty tell. The port is then empty. A claim is of a
+    /// [`valid`](irig_time::valid) second, whatever the port was fed.
+    fn edge(&mut self) -> Told
+        ensures told { (rules : Rules) (s : List Symbol) → stands_for self.old rules s
+            → result ≡ told_of rules s }
+        ensures valid { IfClaim result (λ claim. IsValid claim.at) }
+        ensures empty { (rules : Rules) (s : List Symbol) → stands_for self.old rules s
+            → stands_for self.new rules [] };
+
+    /// Forgets the pulses. The port is then empty.
+    fn clear(&mut self)
+        ensures { (rules : Rules) (s : List Symbol) → stands_for self.old rules s
+            → stands_for self.new rules [] };
+}

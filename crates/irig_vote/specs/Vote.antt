@@ -1,0 +1,49 @@
+-- The vote: of 2f + 1 ports, the claim that at least f + 1 tell.
+use Rattle.std.specs.Prelude.{ℕ, Bool, true, false, ◌==◌, ◌&&◌, List, [], ◌∷◌, count_by}
+use Rattle.irig_time.specs.declared.second.UtcSecond.{UtcSecond}
+use Rattle.irig_time.specs.declared.mark.Mark.{Mark}
+use Rattle.irig_time.specs.declared.mark.Mark.TheVariants.{Unspoken, NoLeap, Insert, Delete}
+use Rattle.irig_time.specs.declared.claim.Claim.{Claim}
+use Rattle.irig_port.specs.declared.told.Told.{Told}
+use Rattle.irig_port.specs.declared.told.Told.TheVariants as tells
+use Rattle.irig_vote.specs.declared.redundancy.Redundancy.{Redundancy}
+use Rattle.irig_vote.specs.declared.redundancy.Redundancy.TheVariants.{Three, Five}
+use Rattle.irig_vote.specs.declared.tells.Tells.{Tells}
+
+-- how many ports may be untrue
+abbrev pub f_of : Redundancy → ℕ
+f_of Three = 1
+f_of Five = 2
+
+-- how many ports there are
+abbrev pub ports_in : Redundancy → ℕ
+ports_in Three = 3
+ports_in Five = 5
+
+-- what they tell
+abbrev pub ports_of : Tells → Redundancy → List Told
+ports_of t Three = t.a ∷ t.b ∷ t.c ∷ []
+ports_of t Five = t.a ∷ t.b ∷ t.c ∷ t.d ∷ t.e ∷ []
+
+abbrev pub same_second : UtcSecond → UtcSecond → Bool
+same_second u v = (u.day == v.day) && (u.sod == v.sod)
+
+abbrev pub same_mark : Mark → Mark → Bool
+same_mark Unspoken Unspoken = true
+same_mark NoLeap NoLeap = true
+same_mark Insert Insert = true
+same_mark Delete Delete = true
+same_mark _ _ = false
+
+-- second and mark both
+abbrev pub same_claim : Claim → Claim → Bool
+same_claim c d = same_second c.at d.at && same_mark c.mark d.mark
+
+-- whether a port tells this claim
+abbrev pub is_told : Claim → Told → Bool
+is_told c (tells.Claim d) = same_claim c d
+is_told c _ = false
+
+-- how many of the ports tell this claim
+abbrev pub carriers : Claim → List Told → ℕ
+carriers c ports = count_by (is_told c) ports

@@ -1,0 +1,25 @@
+//! Laws of the vote over its definitions, for the crates above. They have no code.
+
+ghost use Rattle.std.specs.Prelude.{◌≡◌, ◌↔◌, ◌+◌, ◌*◌, ◌≤◌, ℕ, true, List, length};
+ghost use Rattle.irig_vote.specs.Vote.{same_claim, is_told, carriers, f_of, ports_in, ports_of};
+
+use crate::redundancy::Redundancy;
+use crate::tells::Tells;
+use irig_port::Told;
+use irig_time::Claim;
+
+/// The tests by which the vote counts are what they say: two claims are the same where they are
+/// equal, and a port is counted for a claim where it tells that claim.
+pub fn equal_claims()
+    ensures same { (c d : Claim) → (same_claim c d ≡ true) ↔ (c ≡ d) }
+    ensures told { (c : Claim) (told : Told) → (is_told c told ≡ true) ↔ (told ≡ Told.Claim c) }
+{}
+
+/// Of 2f + 1 ports, at most one claim is told by f + 1. A reader has 2f + 1 ports.
+pub fn one_vote()
+    ensures one { (f : ℕ) (ports : List Told) (c d : Claim) → length ports ≤ 2 * f + 1
+        → f + 1 ≤ carriers c ports → f + 1 ≤ carriers d ports → c ≡ d }
+    ensures ports { (tells : Tells) (redundancy : Redundancy)
+        → length (ports_of tells redundancy) ≡ ports_in redundancy }
+    ensures number { (redundancy : Redundancy) → ports_in redundancy ≡ 2 * f_of redundancy + 1 }
+{}

@@ -1,0 +1,35 @@
+//! How many ports a reader has.
+
+ghost use Rattle.std.specs.Prelude.{◌≡◌};
+ghost use Rattle.irig_vote.specs.Vote.{f_of, ports_in};
+
+/// How many generators a plant has, and so each reader ports.
+#[derive(Clone, Copy, Debug, PartialEq, Eq)]
+pub enum Redundancy {
+    /// Three, of which one may be untrue.
+    Three,
+    /// Five, of which two may be untrue.
+    Five,
+}
+
+impl Redundancy {
+    /// The number of ports: 3 or 5.
+    pub fn ports(&self) -> u8
+        ensures { result ≡ ports_in self.now }
+    {
+        match self {
+            Redundancy::Three => 3,
+            Redundancy::Five => 5,
+        }
+    }
+
+    /// How many of them may be untrue: 1 or 2.
+    pub fn f(&self) -> u8
+        ensures { result ≡ f_of self.now }
+    {
+        match self {
+            Redundancy::Three => 1,
+            Redundancy::Five => 2,
+        }
+    }
+}
