@@ -89,6 +89,14 @@ impl Hold {
         self.last
     }
 
+    /// How many seconds it has gone alone since the last vote.
+    pub fn age(&self) -> u32
+        ensures { result ≡ self.now.age }
+    {
+        let Hold { age, .. } = self;
+        *age
+    }
+
     /// Goes where the step leads, if it leads anywhere.
     fn take(&mut self, step: Result<Hold, Turn>) -> Turn
         ensures answer { result ≡ (outcome_of self.old step).answer }

@@ -31,13 +31,15 @@ fn started(rt: &impl Abort, claim: Claim, table: &LeapTable) -> Result<Hold, Tur
 fn a_hold_goes_on_by_votes_and_for_a_while_alone(rt: HostRuntime) -> Result<(), Fail> {
     let table = LeapTable::empty();
     let mut hold = started(&rt, claim(JUNE, 43200, Mark::Unspoken), &table)?;
-    assert!(rt; hold.now() == second(JUNE, 43201));
+    assert!(rt; hold.now() == second(JUNE, 43201) && hold.age() == 0);
     let vote = claim(JUNE, 43201, Mark::Unspoken);
     assert!(rt; hold.voted(vote, &table) == Turn::Now(second(JUNE, 43202)));
     assert!(rt; hold.voted(vote, &table) == Turn::Jump);
     assert!(rt; hold.alone(2, &table) == Turn::Now(second(JUNE, 43203)));
     assert!(rt; hold.alone(2, &table) == Turn::Now(second(JUNE, 43204)));
+    assert!(rt; hold.age() == 2);
     assert!(rt; hold.alone(2, &table) == Turn::Expired);
+    assert!(rt; hold.age() == 2);
     let vote = claim(JUNE, 43204, Mark::Unspoken);
     assert!(rt; hold.voted(vote, &table) == Turn::Now(second(JUNE, 43205)));
     assert!(rt; hold.alone(1, &table) == Turn::Now(second(JUNE, 43206)));

@@ -8,7 +8,7 @@ use Rattle.irig_port.specs.declared.told.Told.{Told}
 use Rattle.irig_port.specs.declared.told.Told.TheVariants as tells
 use Rattle.irig_vote.specs.Vote.{same_claim, is_told, carriers}
 
-carriers-cons : (c : Claim) (t : Told) (ts : List Told) → carriers c (t ∷ ts) ≡ cond (is_told c t) 1 0 + carriers c ts
+pub carriers-cons : (c : Claim) (t : Told) (ts : List Told) → carriers c (t ∷ ts) ≡ cond (is_told c t) 1 0 + carriers c ts
 carriers-cons c t ts = sum_by-cons (λ u. cond (is_told c u) 1 0) t ts
 
 -- ---- the tests
@@ -55,7 +55,7 @@ one_claim enough ports c d short h k =
 abbrev pub IsMinor : ℕ → List Told → Told → Type 0
 IsMinor enough ports t = (c : Claim) → t ≡ tells.Claim c → carriers c ports < enough
 
-none_of : (b : Bool) → b ≡ false → ◌≡◌ {A = ℕ} (cond b 1 0) 0
+pub none_of : (b : Bool) → b ≡ false → ◌≡◌ {A = ℕ} (cond b 1 0) 0
 none_of b e = rw e refl
 
 -- where all are such, each claim is told by too few

@@ -1,0 +1,41 @@
+-- A vote is for a valid second where the ports claim valid seconds alone.
+use Rattle.std.proofs.Common.{◌≡◌, ◌+◌, ◌<◌, ◌≤◌, List, [], ◌∷◌, Option, Some, None, All, refl, subst, arith, inl, inr}
+use Rattle.std.specs.Prelude.{◌↔◌, IfSome}
+use Rattle.std.proofs.lemmas.Bool.{cases_Bool}
+use Rattle.std.proofs.lemmas.List.Elements.{All-cons, All-nil, All-head, All-tail}
+use Rattle.irig_time.specs.declared.claim.Claim.{Claim}
+use Rattle.irig_time.specs.Seconds.{IsValid}
+use Rattle.irig_port.specs.declared.told.Told.{Told}
+use Rattle.irig_port.specs.Told.{IfClaim}
+use Rattle.irig_vote.specs.declared.redundancy.Redundancy.{Redundancy}
+use Rattle.irig_vote.specs.declared.redundancy.Redundancy.TheVariants.{Three, Five}
+use Rattle.irig_vote.specs.declared.tells.Tells.{Tells}
+use Rattle.irig_vote.specs.Vote.{f_of, ports_of, carriers, is_told}
+use Rattle.irig_vote.proofs.CountLaws.{told_is, carriers-cons, none_of}
+
+abbrev pub IsSound : Told → Type 0
+IsSound told = IfClaim told (λ claim. IsValid claim.at)
+
+sound_claim : (ports : List Told) (claim : Claim) → All IsSound ports → 0 < carriers claim ports → IsValid claim.at
+sound_claim [] claim sound some = absurd (omega arith)
+sound_claim (told ∷ ports) claim sound some =
+    elim (cases_Bool (is_told claim told)) [
+      | inl told_it ↦ subst IsSound (told_is claim told told_it) (All-head IsSound told ports sound)
+      | inr other ↦ sound_claim ports claim (All-tail IsSound told ports sound) (omega (arith, carriers-cons claim told ports, none_of (is_told claim told) other))
+    ]
+
+all_sound : (redundancy : Redundancy) (t : Tells) → IsSound t.a → IsSound t.b → IsSound t.c → IsSound t.d → IsSound t.e → All IsSound (ports_of t redundancy)
+all_sound Three t a b c d e =
+    All-cons IsSound t.a (t.b ∷ t.c ∷ []) a (All-cons IsSound t.b (t.c ∷ []) b (All-cons IsSound t.c [] c (All-nil IsSound)))
+all_sound Five t a b c d e =
+    All-cons IsSound t.a (t.b ∷ t.c ∷ t.d ∷ t.e ∷ []) a (All-cons IsSound t.b (t.c ∷ t.d ∷ t.e ∷ []) b (All-cons IsSound t.c (t.d ∷ t.e ∷ []) c (All-cons IsSound t.d (t.e ∷ []) d (All-cons IsSound t.e [] e (All-nil IsSound)))))
+
+-- the vote of what the ports tell
+abbrev pub IsVoteOf : Redundancy → Tells → Option Claim → Type 0
+IsVoteOf redundancy t vote = (claim : Claim) → (vote ≡ Some claim) ↔ (f_of redundancy + 1 ≤ carriers claim (ports_of t redundancy))
+
+pub vote_valid : (redundancy : Redundancy) (t : Tells) (vote : Option Claim) → IsSound t.a → IsSound t.b → IsSound t.c → IsSound t.d → IsSound t.e
+    → IsVoteOf redundancy t vote → IfSome vote (λ claim. IsValid claim.at)
+vote_valid redundancy t None a b c d e h = tt
+vote_valid redundancy t (Some claim) a b c d e h =
+    sound_claim (ports_of t redundancy) claim (all_sound redundancy t a b c d e) (omega (arith, (h claim).0 refl))

@@ -1,0 +1,112 @@
+//! A reader with its ports.
+
+ghost use Rattle.std.specs.Prelude.{◌≡◌, ◌<◌};
+ghost use Rattle.irig_vote.specs.Vote.{ports_in};
+ghost use Rattle.irig_reader.specs.Rule.{count_of};
+ghost use Rattle.irig_reader.specs.Rules.{IsReaderRules};
+
+use crate::report::Report;
+use crate::rule::{State, act};
+use crate::rules::ReaderRules;
+use irig_port::Port;
+use irig_time::{LeapTable, Rules};
+use irig_vote::{Redundancy, Tells, vote};
+use std::mem;
+
+/// What a tick answers.
+#[derive(Clone, Copy, Debug, PartialEq, Eq)]
+pub struct Ticked {
+    /// What the reader says.
+    pub report: Report,
+    /// What its ports told.
+    pub told: Tells,
+}
+
+/// A reader with three or five ports. It knows no timeline.
+///
+/// Of three ports `d` and `e` are fed nothing.
+#[derive(Drop)]
+pub struct Reader<P: Port> {
+    a: P,
+    b: P,
+    c: P,
+    d: P,
+    e: P,
+    own: ReaderRules,
+    table: LeapTable,
+    pub(crate) redundancy: Redundancy,
+    state: State,
+    ghost counting: { count_of state < own.lock_after },
+}
+
+impl<P: Port> Reader<P> {
+    ghost use Rattle.irig_reader.specs.Life.{Life, unfed, fed_at, tells, restarted};
+    ghost use Rattle.irig_reader.specs.Stands.{Stands, IsTick};
+
+    /// A reader that was fed nothing, with rules that are [`in_range`](crate::in_range).
+    pub fn fresh(rules: Rules, own: ReaderRules, table: LeapTable, redundancy: Redundancy) -> Self
+        requires { IsReaderRules own }
+        ensures { Stands result (unfed rules own table redundancy) }
+    {
+        Reader {
+            a: P::fresh(rules),
+            b: P::fresh(rules),
+            c: P::fresh(rules),
+            d: P::fresh(rules),
+            e: P::fresh(rules),
+            own,
+            table,
+            redundancy,
+            state: State::Idle,
+        }
+    }
+
+    /// A pulse at one of the ports, `width_us` microseconds wide.
+    pub fn pulse(&mut self, port: u8, width_us: u32)
+        requires { port < ports_in self.old.redundancy }
+        ensures { (life : Life) → Stands self.old life → Stands self.new (fed_at life port width_us) }
+    {
+        match port {
+            0 => self.a.pulse(width_us),
+            1 => self.b.pulse(width_us),
+            2 => self.c.pulse(width_us),
+            3 => self.d.pulse(width_us),
+            _ => self.e.pulse(width_us),
+        }
+    }
+
+    /// One edge: the vote over what the ports tell, and what the rule makes of it. The ports are then
+    /// empty.
+    pub fn tick(&mut self) -> Ticked
+        ensures told { (life : Life) → Stands self.old life → result.told ≡ tells life }
+        ensures rule { (life : Life) → Stands self.old life → IsTick life self.new result.report }
+    {
+        let told = Tells {
+            a: self.a.edge(),
+            b: self.b.edge(),
+            c: self.c.edge(),
+            d: self.d.edge(),
+            e: self.e.edge(),
+        };
+        let vote = vote(&told, self.redundancy);
+        let state = mem::replace(&mut self.state, State::Idle);
+        let step = act(self.own, &self.table, state, vote);
+        self.state = step.state;
+        Ticked {
+            report: step.report,
+            told,
+        }
+    }
+
+    /// Clears the ports, and forgets what was voted.
+    pub fn restart(&mut self)
+        ensures { (life : Life) → Stands self.old life → Stands self.new (restarted life) }
+    {
+        self.a.clear();
+        self.b.clear();
+        self.c.clear();
+        self.d.clear();
+        self.e.clear();
+        self.state = State::Idle;
+    }
+}

@@ -1,0 +1,159 @@
+//! The reader's rule: what becomes of a reader by the vote of an edge, and what it says there.
+
+ghost use Rattle.std.specs.Prelude.{◌≡◌, ◌<◌, ◌≤◌, ◌+◌, IfSome};
+ghost use Rattle.irig_time.specs.Seconds.{IsValid};
+ghost use Rattle.irig_hold.specs.Steps.{started, voted_by, alone_by};
+ghost use Rattle.irig_reader.specs.Rule as rule;
+
+use crate::report::{Cause, Lock, Report};
+use crate::rules::ReaderRules;
+use irig_hold::{Hold, Turn};
+use irig_time::{Claim, LeapTable, UtcSecond};
+
+/// Where a reader stands between two edges.
+#[derive(Debug, Drop)]
+pub enum State {
+    /// It has nothing to go on.
+    Idle,
+    /// It had so many votes that follow one another, and needs more.
+    Acquiring(Hold, u8),
+    /// It announces.
+    Locked(Hold),
+}
+
+/// Where a reader stands after an edge, and what it says there.
+#[derive(Debug, Drop)]
+pub struct Step {
+    pub state: State,
+    pub report: Report,
+}
+
+/// What becomes of a reader by the vote of an edge.
+#[tactic(auto, unfolding(crate::specs::Rule::stepped))]
+pub(crate) fn act(own: ReaderRules, table: &LeapTable, state: State, vote: Option<Claim>) -> Step
+    requires valid { IfSome vote (λ claim. IsValid claim.at) }
+    requires counting { rule.count_of state < own.lock_after }
+    ensures step { result ≡ rule.stepped own table.now state vote }
+    ensures counting { rule.count_of result.state < own.lock_after }
+{
+    match (state, vote) {
+        (State::Idle | State::Acquiring(_, _), None) => stopped(Cause::NoVote),
+        (State::Idle, Some(claim)) => begin(own, table, claim),
+        (State::Acquiring(hold, count), Some(claim)) => join(own, table, hold, count, claim),
+        (State::Locked(hold), Some(claim)) => follow(table, hold, claim),
+        (State::Locked(hold), None) => hold_over(own, table, hold),
+    }
+}
+
+/// The first of the votes that are to follow one another.
+fn begin(own: ReaderRules, table: &LeapTable, claim: Claim) -> Step
+    requires valid { IsValid claim.at }
+    requires some { 0 < own.lock_after }
+    ensures step { result ≡ rule.begun own (started table.now claim) }
+    ensures counting { rule.count_of result.state < own.lock_after }
+{
+    match Hold::start(claim, table) {
+        Ok(hold) => counted(own, hold, 1),
+        Err(stop) => stopped(cause_of(stop)),
+    }
+}
+
+/// A further vote before it is locked. One for another second begins anew.
+fn join(own: ReaderRules, table: &LeapTable, mut hold: Hold, count: u8, claim: Claim) -> Step
+    requires valid { IsValid claim.at }
+    requires counting { count < own.lock_after }
+    ensures step { result ≡ rule.joined own table.now hold count claim }
+    ensures counting { rule.count_of result.state < own.lock_after }
+{
+    match hold.voted(claim, table) {
+        Turn::Now(_) => counted(own, hold, count + 1),
+        Turn::Jump => begin(own, table, claim),
+        stop => stopped(cause_of(stop)),
+    }
+}
+
+/// A vote of a locked reader.
+fn follow(table: &LeapTable, mut hold: Hold, claim: Claim) -> Step
+    ensures step { result ≡ rule.followed (voted_by table.now hold claim) }
+    ensures counting { rule.count_of result.state ≡ 0 }
+{
+    match hold.voted(claim, table) {
+        Turn::Now(utc) => announced(hold, utc, Lock::Locked, Cause::Voted),
+        stop => stopped(cause_of(stop)),
+    }
+}
+
+/// An edge without a vote, of a locked reader.
+fn hold_over(own: ReaderRules, table: &LeapTable, mut hold: Hold) -> Step
+    ensures step { result ≡ rule.held_over (alone_by table.now hold own.holdover) }
+    ensures counting { rule.count_of result.state ≡ 0 }
+{
+    match hold.alone(own.holdover, table) {
+        Turn::Now(utc) => {
+            let age = hold.age();
+            announced(hold, utc, Lock::Holdover(age), Cause::Held)
+        }
+        stop => stopped(cause_of(stop)),
+    }
+}
+
+/// So many votes that followed one another, the last of which led here.
+fn counted(own: ReaderRules, hold: Hold, count: u8) -> Step
+    requires some { 0 < own.lock_after }
+    requires counting { count ≤ own.lock_after }
+    ensures step { result ≡ rule.counted own hold count }
+    ensures counting { rule.count_of result.state < own.lock_after }
+{
+    if count == own.lock_after {
+        let utc = hold.now();
+        return announced(hold, utc, Lock::Locked, Cause::Voted);
+    }
+    Step {
+        state: State::Acquiring(hold, count),
+        report: Report {
+            announce: None,
+            lock: Lock::Acquiring(count),
+            cause: Cause::Acquiring,
+        },
+    }
+}
+
+fn announced(hold: Hold, utc: UtcSecond, lock: Lock, cause: Cause) -> Step
+    ensures { result ≡ rule.announced hold utc lock cause }
+{
+    Step {
+        state: State::Locked(hold),
+        report: Report {
+            announce: Some(utc),
+            lock,
+            cause,
+        },
+    }
+}
+
+/// It says nothing, and has nothing to go on.
+fn stopped(cause: Cause) -> Step
+    ensures { result ≡ rule.stopped cause }
+{
+    Step {
+        state: State::Idle,
+        report: Report {
+            announce: None,
+            lock: Lock::Unlocked,
+            cause,
+        },
+    }
+}
+
+/// The cause that is named like a hold's stop.
+fn cause_of(stop: Turn) -> Cause
+    ensures { result ≡ rule.cause_of stop }
+{
+    match stop {
+        Turn::Now(_) => Cause::Held,
+        Turn::LeapGuard => Cause::LeapGuard,
+        Turn::Expired => Cause::Expired,
+        Turn::RangeEnd => Cause::RangeEnd,
+        Turn::Jump => Cause::Jump,
+    }
+}
