@@ -61,7 +61,8 @@ impl<P: Port> Reader<P> {
         }
     }
 
-    /// A pulse at one of the ports, `width_us` microseconds wide.
+    /// A pulse at one of the ports, `width_us` microseconds wide. The port is 0 to 2 of three, 0 to 4 of
+    /// five.
     pub fn pulse(&mut self, port: u8, width_us: u32)
         requires { port < ports_in self.old.redundancy }
         ensures { (life : Life) → Stands self.old life → Stands self.new (fed_at life port width_us) }

@@ -118,6 +118,7 @@ fn counted(own: ReaderRules, hold: Hold, count: u8) -> Step
     }
 }
 
+/// It announces this second, and stays locked.
 fn announced(hold: Hold, utc: UtcSecond, lock: Lock, cause: Cause) -> Step
     ensures { result ≡ rule.announced hold utc lock cause }
 {
@@ -145,7 +146,7 @@ fn stopped(cause: Cause) -> Step
     }
 }
 
-/// The cause that is named like a hold's stop.
+/// The cause that is named like a hold's stop. It is not asked for `Now`, which is none.
 fn cause_of(stop: Turn) -> Cause
     ensures { result ≡ rule.cause_of stop }
 {
