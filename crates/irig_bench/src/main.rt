@@ -2,6 +2,7 @@
 //! often it runs. Without words it names the loops.
 #![tactic(auto)]
 
+mod carries;
 mod frames;
 mod pulses;
 mod timelines;
@@ -11,7 +12,7 @@ use std::time::Instant;
 use std::{env, io, str};
 
 /// The loops, by name.
-const NAMES: [&str; 4] = ["timeline", "frame", "flow-pulse", "whole-pulse"];
+const NAMES: [&str; 5] = ["timeline", "frame", "flow-pulse", "whole-pulse", "carry"];
 
 /// Runs a loop so often, and gives the sum of what it answered, so that no call can be left out.
 fn run(rt: &HostRuntime, name: &str, count: u32) -> io::Result<u64> {
@@ -20,6 +21,7 @@ fn run(rt: &HostRuntime, name: &str, count: u32) -> io::Result<u64> {
         "frame" => frames::run(rt, count),
         "flow-pulse" => Ok(pulses::run::<FlowPort>(count)),
         "whole-pulse" => Ok(pulses::run::<WholePort>(count)),
+        "carry" => carries::run(rt, count),
         _ => Ok(0),
     }
 }

@@ -10,7 +10,7 @@ use Rattle.irig_frame.specs.Values.{is_one}
 use Rattle.irig_control.specs.declared.parity.Parity.{Parity}
 use Rattle.irig_control.specs.declared.parity.Parity.TheVariants.{Even, Odd}
 use Rattle.irig_control.specs.Control.{flag}
-use Rattle.irig_control.specs.Parity.{is_counted, ones, remainder_of, has_parity, HasParity, data_symbol}
+use Rattle.irig_control.specs.Parity.{is_counted, ones, remainder_of, has_parity, HasParity, data_symbol, with_parity}
 
 -- ---- a frame after a write
 
@@ -73,6 +73,17 @@ other_parity p s h wrong =
     let below = remainder_below p in
     let apart = eqb-false (ones (slice_set s 75 Zero) % 2) (remainder_of p) wrong in
     eq-eqb (ones (slice_set s 75 One) % 2) (remainder_of p) (omega arith)
+
+-- the frame with a parity has it
+pub parity_given : (p : Parity) (s : List Symbol) → 75 < length s → HasParity p (with_parity p s)
+parity_given p s h = by_test (has_parity p (slice_set s 75 Zero)) refl
+  where
+    by_test : (b : Bool) → has_parity p (slice_set s 75 Zero) ≡ b → HasParity p (slice_set s 75 (data_symbol (not b)))
+    by_test true e = e
+    by_test false e = other_parity p s h e
+
+pub with_parity_other : (p : Parity) (s : List Symbol) → (b : Bool) × (with_parity p s ≡ slice_set s 75 (data_symbol b))
+with_parity_other p s = (not (has_parity p (slice_set s 75 Zero)), refl)
 
 -- of two frames that differ in element 75 alone one has the parity
 pub parity_decides : (p : Parity) (s : List Symbol) (x y : Bool) → 75 < length s → HasParity p (slice_set s 75 (data_symbol x)) → HasParity p (slice_set s 75 (data_symbol y)) → x ≡ y

@@ -1,6 +1,6 @@
 -- The parity of a frame. What it counts is this project's profile: the ones at the data places 1 to 75, element 75, which
 -- carries the parity bit, included. Marker places never count.
-use Rattle.std.specs.Prelude.{ℕ, ◌%◌, Bool, ◌==◌, not, ◌&&◌, if◌then◌else◌, IsTrue, List, count_by, slice_get}
+use Rattle.std.specs.Prelude.{ℕ, ◌%◌, Bool, ◌==◌, not, ◌&&◌, if◌then◌else◌, IsTrue, List, count_by, slice_get, slice_set}
 use Rattle.std.specs.List.{range_with_len}
 use Rattle.irig_frame.specs.declared.symbol.Symbol.{Symbol}
 use Rattle.irig_frame.specs.declared.symbol.Symbol.TheVariants.{Zero, One}
@@ -31,3 +31,7 @@ HasParity p s = IsTrue (has_parity p s)
 -- the symbol of a data place
 abbrev pub data_symbol : Bool → Symbol
 data_symbol b = if b then One else Zero
+
+-- the frame with a 0 at element 75, or a 1 where the 0 doesn't give the parity
+abbrev pub with_parity : Parity → List Symbol → List Symbol
+with_parity p s = slice_set s 75 (data_symbol (not (has_parity p (slice_set s 75 Zero))))

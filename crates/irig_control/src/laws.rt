@@ -1,11 +1,11 @@
 //! Laws of the control bits and the parity over their definitions, for the crates above. They have
 //! no code.
 
-ghost use Rattle.std.specs.Prelude.{◌≡◌, ◌+◌, ◌*◌, ◌%◌, ◌^◌, ◌<◌, ℕ, Bool, List, All, Some, slice_get, slice_set};
+ghost use Rattle.std.specs.Prelude.{◌≡◌, ◌+◌, ◌*◌, ◌%◌, ◌^◌, ◌<◌, ℕ, Bool, List, All, Some, length, slice_get, slice_set};
 ghost use Rattle.irig_frame.specs.FieldTable.{spare_places};
 ghost use Rattle.irig_frame.specs.Reading.{Reads};
 ghost use Rattle.irig_control.specs.Control.{IsControl, flag, word_of, control_of, cleared};
-ghost use Rattle.irig_control.specs.Parity.{HasParity, data_symbol};
+ghost use Rattle.irig_control.specs.Parity.{HasParity, data_symbol, with_parity};
 
 use crate::control::Control;
 use crate::parity::Parity;
@@ -35,4 +35,10 @@ pub fn parity_keeps()
         → All (λ i. slice_get s i ≡ Some Symbol.Zero) spare_places
         → All (λ i. slice_get t i ≡ Some Symbol.Zero) spare_places
         → HasParity p s → HasParity p t → s ≡ t }
+{}
+
+/// The frame with a parity has it, and differs from the frame in element 75 alone.
+pub fn with_parity_is()
+    ensures parity { (p : Parity) (s : List Symbol) → 75 < length s → HasParity p (with_parity p s) }
+    ensures others { (p : Parity) (s : List Symbol) → (b : Bool) × (with_parity p s ≡ slice_set s 75 (data_symbol b)) }
 {}

@@ -1,6 +1,9 @@
 -- The frame that is written for some values reads as these values.
-use Rattle.std.proofs.Common.{◌≡◌, ℕ, ◌+◌, ◌-◌, ◌%◌, ◌≤◌, ◌<◌, List, [], ◌∷◌, ◌++◌, length, slice_get, refl, sym, zero-add, ◌∙◌, arith, All, Some}
+use Rattle.std.proofs.Common.{◌≡◌, ℕ, ◌+◌, ◌-◌, ◌%◌, ◌≤◌, ◌<◌, List, [], ◌∷◌, ◌++◌, length, map, slice_get, refl, sym, ap, zero-add, ◌∙◌, arith, All, Some}
+use Rattle.std.specs.List.{range_with_len}
 use Rattle.std.proofs.lemmas.List.Elements.{All-from_recursion}
+use Rattle.std.proofs.lemmas.List.FromFn.{length-map-range_with_len, get_or-map-range_with_len}
+use Rattle.std.proofs.lemmas.Option.{slice_get-get_or}
 use Rattle.irig_frame.specs.declared.symbol.Symbol.{Symbol}
 use Rattle.irig_frame.specs.declared.symbol.Symbol.TheVariants.{Zero}
 use Rattle.irig_frame.specs.declared.field.Field.{Field}
@@ -10,7 +13,7 @@ use Rattle.irig_frame.specs.declared.coded.Coded.{Coded}
 use Rattle.irig_frame.specs.FieldTable.{units_of, tens_of, hundreds_of, places_of, control_places, straight_binary_places}
 use Rattle.irig_frame.specs.Values.{value}
 use Rattle.irig_frame.specs.Reading.{most, IsRight, HasDigits, Reads, IsCoded}
-use Rattle.irig_frame.specs.Writing.{with_parts, parts_of, IsBlank}
+use Rattle.irig_frame.specs.Writing.{with_parts, parts_of, blank_at, IsBlank, blank, written}
 use Rattle.irig_frame.specs.FieldTable.{spare_places}
 use Rattle.irig_frame.proofs.ReadingLaws.{each}
 use Rattle.irig_frame.proofs.WritingLaws.{ones, by_sum, bits, bits_sum, HoldParts, hold_parts, length-with_parts, right_parts, right_blank, spare_zero}
@@ -91,3 +94,22 @@ frame_reads c s fits blank =
 
 pub frame_spare : (c : Coded) (s : List Symbol) → IsBlank s → All (λ i. slice_get (with_parts s (parts_of c)) i ≡ Some Zero) spare_places
 frame_spare c s blank = All-from_recursion (λ i. slice_get (with_parts s (parts_of c)) i ≡ Some Zero) spare_places (spare_zero spare_places (parts_of c) s blank refl)
+
+-- ---- the frame as a function
+
+blank_there : (n i : ℕ) → i < n → slice_get (map blank_at (range_with_len 0 n)) i ≡ Some (blank_at i)
+blank_there n i low =
+    let markers = map blank_at (range_with_len 0 n) in
+    slice_get-get_or markers i Zero (omega (arith, length-map-range_with_len blank_at 0 n))
+    ∙ ap (λ (x : Symbol). Some x) (get_or-map-range_with_len blank_at 0 n i i Zero low (zero-add i))
+
+blank_is : IsBlank blank
+blank_is = (length-map-range_with_len blank_at 0 100, blank_there 100)
+
+pub written_reads : (c : Coded) → IsCoded c → Reads (written c) c
+unfolding written
+written_reads c fits = frame_reads c blank fits blank_is
+
+pub written_spare : (c : Coded) → All (λ i. slice_get (written c) i ≡ Some Zero) spare_places
+unfolding written
+written_spare c = frame_spare c blank blank_is

@@ -1,5 +1,6 @@
 -- What is written of a value, place by place.
-use Rattle.std.specs.Prelude.{◌≡◌, ℕ, ◌-◌, ◌/◌, ◌%◌, ◌==◌, List, [], ◌∷◌, ◌++◌, ◌<◌, if◌then◌else◌, length, Some, slice_get, slice_set}
+use Rattle.std.specs.Prelude.{◌≡◌, ℕ, ◌-◌, ◌/◌, ◌%◌, ◌==◌, List, [], ◌∷◌, ◌++◌, ◌<◌, if◌then◌else◌, length, map, Some, slice_get, slice_set}
+use Rattle.std.specs.List.{range_with_len}
 use Rattle.irig_frame.specs.declared.symbol.Symbol.{Symbol}
 use Rattle.irig_frame.specs.declared.symbol.Symbol.TheVariants.{Zero, One, Marker}
 use Rattle.irig_frame.specs.declared.field.Field.{Field}
@@ -43,3 +44,10 @@ blank_at i = if is_marker_place i then Marker else Zero
 
 abbrev pub IsBlank : List Symbol → Type 0
 IsBlank s = (length s ≡ 100) × ((i : ℕ) → i < 100 → slice_get s i ≡ Some (blank_at i))
+
+abbrev pub blank : List Symbol
+blank = map blank_at (range_with_len 0 100)
+
+-- the frame that reads as the value, with zeros at the data elements without a field
+unfoldable pub written : Coded → List Symbol
+written c = with_parts blank (parts_of c)

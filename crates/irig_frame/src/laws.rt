@@ -2,8 +2,9 @@
 
 ghost use Rattle.std.specs.Prelude.{◌≡◌, ◌↔◌, List, All, Some, None, Ok, slice_get};
 ghost use Rattle.irig_frame.specs.FieldTable.{spare_places};
-ghost use Rattle.irig_frame.specs.Reading.{Reads};
+ghost use Rattle.irig_frame.specs.Reading.{Reads, IsCoded};
 ghost use Rattle.irig_frame.specs.Faults.{decoded, first_wrong, values_of};
+ghost use Rattle.irig_frame.specs.Writing.{written};
 
 use crate::coded::Coded;
 use crate::symbol::Symbol;
@@ -27,4 +28,10 @@ pub fn one_frame()
     ensures { (s t : List Symbol) (c : Coded) → Reads s c → Reads t c
         → All (λ i. slice_get s i ≡ Some Symbol.Zero) spare_places
         → All (λ i. slice_get t i ≡ Some Symbol.Zero) spare_places → s ≡ t }
+{}
+
+/// The frame that is written of a value in range reads as it, with zeros where no field lies.
+pub fn written_reads()
+    ensures reads { (c : Coded) → IsCoded c → Reads (written c) c }
+    ensures spare { (c : Coded) → All (λ i. slice_get (written c) i ≡ Some Symbol.Zero) spare_places }
 {}

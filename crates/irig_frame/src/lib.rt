@@ -21,7 +21,7 @@ mod writing;
 pub use coded::{Coded, in_range};
 pub use fault::FrameFault;
 pub use field::Field;
-pub use laws::{one_frame, one_reading, round_trip};
+pub use laws::{one_frame, one_reading, round_trip, written_reads};
 pub use reading::decode;
 pub use symbol::{Symbol, classify};
 pub use writing::encode;

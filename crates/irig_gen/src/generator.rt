@@ -2,6 +2,8 @@
 
 ghost use Rattle.std.specs.Prelude.{◌≡◌, ◌+◌, ◌<◌, Some, None, unwrap_or, MatchResult};
 ghost use Rattle.irig_gen.specs.Frames.{gen, IsFrameIf, IsSent};
+ghost use Rattle.irig_gen.specs.Sent.{frame_of, sent_of};
+ghost use Rattle.irig_time.specs.TimelineFaults.{IsTimeline};
 ghost use Rattle.irig_gen.specs.Refusals.{gen_refusal};
 
 use crate::control::control_at;
@@ -112,14 +114,16 @@ impl Generator {
 
     /// The frame of an edge without fault; none where the timeline has no second for it.
     pub fn frame_at(&self, timeline: &Timeline, edge: u64) -> Option<[Symbol; 100]>
-        ensures { IsFrameIf None self.now timeline.now edge result }
+        ensures frame { IsFrameIf None self.now timeline.now edge result }
+        ensures value { result ≡ frame_of None self.now timeline.now edge }
     {
         self.frame_by(timeline, edge, None)
     }
 
     /// The frame that is now sent, by the fault if there is one.
     pub fn frame(&self, timeline: &Timeline) -> Option<[Symbol; 100]>
-        ensures { IsSent self.now timeline.now result }
+        ensures frame { IsSent self.now timeline.now result }
+        ensures value { result ≡ sent_of self.now timeline.now }
     {
         let edge = edge_sent(self.fault, self.edge, self.since)?;
         self.frame_by(timeline, edge, self.fault)
@@ -132,7 +136,9 @@ impl Generator {
         edge: u64,
         fault: Option<GenFault>,
     ) -> Option<[Symbol; 100]>
-        ensures { IsFrameIf fault self.now timeline.now edge result }
+        ensures sound { IsTimeline timeline.now }
+        ensures frame { IsFrameIf fault self.now timeline.now edge result }
+        ensures value { result ≡ frame_of fault self.now timeline.now edge }
     {
         let utc = timeline.at(edge)?;
         let zone = zone_at(self.zone, &self.changes, &utc);

@@ -4,7 +4,8 @@ ghost use Rattle.std.specs.Prelude.{◌≡◌, ◌+◌, ℕ, List, Option};
 ghost use Rattle.irig_time.specs.Times.{Times, IsTrueClaim};
 ghost use Rattle.irig_time.specs.TimelineFaults.{IsTimeline};
 ghost use Rattle.irig_time.specs.Carries.{Carries};
-ghost use Rattle.irig_gen.specs.Frames.{Gen, IsFrameAt, IsFrameBy};
+ghost use Rattle.irig_gen.specs.Frames.{Gen, IsFrameAt, IsFrameBy, IsFrameIf, IsSent};
+ghost use Rattle.irig_gen.specs.Sent.{frame_of, sent_of};
 ghost use Rattle.irig_gen.specs.Refusals.{IsGen};
 
 use crate::fault::GenFault;
@@ -20,4 +21,10 @@ pub fn law_of_true_frames()
 /// An edge has one frame at most, with each fault.
 pub fn one_frame()
     ensures { (fault : Option GenFault) (g : Gen) (t : Times) (edge : ℕ) (s r : List Symbol) → IsFrameBy fault g t edge s → IsFrameBy fault g t edge r → s ≡ r }
+{}
+
+/// The functions `frame_of` and `sent_of` give the frame of an edge, with each fault, and what is now sent.
+pub fn frames_are()
+    ensures frame { (fault : Option GenFault) (g : Gen) (t : Times) (edge : ℕ) → IsGen g → IsTimeline t → IsFrameIf fault g t edge (frame_of fault g t edge) }
+    ensures sent { (g : Gen) (t : Times) → IsGen g → IsTimeline t → IsSent g t (sent_of g t) }
 {}

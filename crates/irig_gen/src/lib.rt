@@ -15,7 +15,7 @@ mod zone;
 
 pub use fault::GenFault;
 pub use generator::{GenRefusal, Generator};
-pub use laws::{law_of_true_frames, one_frame};
+pub use laws::{frames_are, law_of_true_frames, one_frame};
 pub use zone::{Change, Zone};
 
 #[cfg(test)]

@@ -96,7 +96,7 @@ fn value<'a>(matches: &ArgMatches<'a>, name: &str) -> &'a str {
 fn local(matches: &ArgMatches<'_>) -> i8
     ensures { unsigned_abs result ≤ 31 }
 {
-    matches.get_one::<i8>("local").unwrap_or(0).max(-31).min(31)
+    matches.get_one::<i8>("local").unwrap_or(0).clamp(-31, 31)
 }
 
 fn pending(matches: &ArgMatches<'_>) -> Option<Leap> {
@@ -125,8 +125,9 @@ fn frame_command<'a>(alloc: Global) -> Result<Command<'a>, AllocError> {
     let local = Arg::new(alloc, "local")
         .long("local")
         .value_name("H")
-        .help("The half hours that the coded time is ahead of UTC, -31 to 31")
-        .allow_negative_numbers(true)
+        .help(
+            "The half hours that the coded time is ahead of UTC, -31 to 31; less than 0 as --local=-5",
+        )
         .value_parser(clap::value_parser!(i8).range(-31..=31))
         .default_value("0");
     let pending = Arg::new(alloc, "pending")

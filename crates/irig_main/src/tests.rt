@@ -157,13 +157,21 @@ const ANSWERS: [Row; 22] = [
         "fault 2 Long\n",
     ),
     (
-        &["irig", "frame", "2016-12-31T23:59:59Z", "--local", "-11"],
+        &[
+            "irig",
+            "frame",
+            "2016-12-31T23:59:59Z",
+            "--local",
+            "11",
+            "--pending",
+            "insert",
+        ],
         0,
-        "P10010101P 100100100P 000101000P 011000110P 110000000P 011001000P 000001010P 100001000P 111001000P 010000010P\n",
+        "P10010101P 100100100P 101000000P 100000000P 000000000P 111001000P 100011010P 100001000P 111010101P 011001000P\n",
     ),
 ];
 
-const REFUSALS: [Row; 21] = [
+const REFUSALS: [Row; 22] = [
     (&["irig", "walk"], 2, ""),
     (&["irig", "--"], 2, ""),
     (&["irig", "frame"], 2, ""),
@@ -187,6 +195,11 @@ const REFUSALS: [Row; 21] = [
     ),
     (
         &["irig", "frame", "2016-12-31T23:59:59Z", "--local=1.5"],
+        2,
+        "",
+    ),
+    (
+        &["irig", "frame", "2016-12-31T23:59:59Z", "--local", "-5"],
         2,
         "",
     ),
@@ -299,7 +312,7 @@ fn each_command_ends_with_its_status_and_text(rt: HostRuntime) {
     }
 }
 
-// The one test that fails where an allocation is refused.
+// Where an allocation is refused, this test fails, and so may each_fault_has_its_text.
 #[test]
 fn no_command_runs_out_of_memory(rt: HostRuntime) {
     for (words, status, _) in ANSWERS.into_iter().chain(REFUSALS) {

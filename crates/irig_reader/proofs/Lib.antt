@@ -1,1 +1,2 @@
 pub mod VoteLaws
+pub mod HeardRules

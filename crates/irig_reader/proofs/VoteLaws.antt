@@ -1,6 +1,6 @@
 -- A vote is for a valid second where the ports claim valid seconds alone.
-use Rattle.std.proofs.Common.{◌≡◌, ◌+◌, ◌<◌, ◌≤◌, List, [], ◌∷◌, Option, Some, None, All, refl, subst, arith, inl, inr}
-use Rattle.std.specs.Prelude.{◌↔◌, IfSome}
+use Rattle.std.proofs.Common.{◌≡◌, ◌<◌, List, [], ◌∷◌, Option, Some, None, All, subst, sym, arith, inl, inr}
+use Rattle.std.specs.Prelude.{IfSome}
 use Rattle.std.proofs.lemmas.Bool.{cases_Bool}
 use Rattle.std.proofs.lemmas.List.Elements.{All-cons, All-nil, All-head, All-tail}
 use Rattle.irig_time.specs.declared.claim.Claim.{Claim}
@@ -10,8 +10,8 @@ use Rattle.irig_port.specs.Told.{IfClaim}
 use Rattle.irig_vote.specs.declared.redundancy.Redundancy.{Redundancy}
 use Rattle.irig_vote.specs.declared.redundancy.Redundancy.TheVariants.{Three, Five}
 use Rattle.irig_vote.specs.declared.tells.Tells.{Tells}
-use Rattle.irig_vote.specs.Vote.{f_of, ports_of, carriers, is_told}
-use Rattle.irig_vote.proofs.CountLaws.{told_is, carriers-cons, none_of}
+use Rattle.irig_vote.specs.Vote.{ports_of, carriers, is_told, vote_of}
+use Rattle.irig_vote.proofs.CountLaws.{told_is, carriers-cons, none_of, vote_counts}
 
 abbrev pub IsSound : Told → Type 0
 IsSound told = IfClaim told (λ claim. IsValid claim.at)
@@ -25,17 +25,11 @@ sound_claim (told ∷ ports) claim sound some =
     ]
 
 all_sound : (redundancy : Redundancy) (t : Tells) → IsSound t.a → IsSound t.b → IsSound t.c → IsSound t.d → IsSound t.e → All IsSound (ports_of t redundancy)
-all_sound Three t a b c d e =
-    All-cons IsSound t.a (t.b ∷ t.c ∷ []) a (All-cons IsSound t.b (t.c ∷ []) b (All-cons IsSound t.c [] c (All-nil IsSound)))
-all_sound Five t a b c d e =
-    All-cons IsSound t.a (t.b ∷ t.c ∷ t.d ∷ t.e ∷ []) a (All-cons IsSound t.b (t.c ∷ t.d ∷ t.e ∷ []) b (All-cons IsSound t.c (t.d ∷ t.e ∷ []) c (All-cons IsSound t.d (t.e ∷ []) d (All-cons IsSound t.e [] e (All-nil IsSound)))))
-
--- the vote of what the ports tell
-abbrev pub IsVoteOf : Redundancy → Tells → Option Claim → Type 0
-IsVoteOf redundancy t vote = (claim : Claim) → (vote ≡ Some claim) ↔ (f_of redundancy + 1 ≤ carriers claim (ports_of t redundancy))
+all_sound Three t a b c d e = search (All-cons IsSound, All-nil IsSound)
+all_sound Five t a b c d e = search (All-cons IsSound, All-nil IsSound)
 
 pub vote_valid : (redundancy : Redundancy) (t : Tells) (vote : Option Claim) → IsSound t.a → IsSound t.b → IsSound t.c → IsSound t.d → IsSound t.e
-    → IsVoteOf redundancy t vote → IfSome vote (λ claim. IsValid claim.at)
-vote_valid redundancy t None a b c d e h = tt
-vote_valid redundancy t (Some claim) a b c d e h =
-    sound_claim (ports_of t redundancy) claim (all_sound redundancy t a b c d e) (omega (arith, (h claim).0 refl))
+    → vote ≡ vote_of t redundancy → IfSome vote (λ claim. IsValid claim.at)
+vote_valid redundancy t None a b c d e is = tt
+vote_valid redundancy t (Some claim) a b c d e is =
+    sound_claim (ports_of t redundancy) claim (all_sound redundancy t a b c d e) (omega (arith, (vote_counts t redundancy claim).0 (sym is)))

@@ -1,15 +1,15 @@
 -- What a reader was given, fed and voted: all that its answers depend on.
-use Rattle.std.specs.Prelude.{◌≡◌, ℕ, ◌+◌, ◌≤◌, ◌==◌, ◌↔◌, if◌then◌else◌, List, [], ◌∷◌, ◌++◌, Option, Some}
+use Rattle.std.specs.Prelude.{ℕ, ◌==◌, if◌then◌else◌, List, [], ◌∷◌, ◌++◌, Option}
 use Rattle.irig_time.specs.declared.rules.Rules.{Rules}
 use Rattle.irig_time.specs.declared.claim.Claim.{Claim}
 use Rattle.irig_time.specs.Tables.{Table}
 use Rattle.irig_port.specs.Told.{told}
 use Rattle.irig_vote.specs.declared.redundancy.Redundancy.{Redundancy}
 use Rattle.irig_vote.specs.declared.tells.Tells.{Tells}
-use Rattle.irig_vote.specs.Vote.{f_of, ports_of, carriers}
+use Rattle.irig_vote.specs.Vote.{vote_of}
 use Rattle.irig_reader.specs.declared.rules.ReaderRules.{ReaderRules}
 use Rattle.irig_reader.specs.declared.report.Report.{Report}
-use Rattle.irig_reader.specs.Rule.{report_of as report_of_votes}
+use Rattle.irig_reader.specs.Rule.{report_of}
 
 -- the widths fed to each port, the oldest first
 pub record Fed : Type 0 where
@@ -56,17 +56,17 @@ tells life = record {
   e = told life.rules life.fed.e;
 }
 
--- the vote is the claim that f + 1 of them tell, if there is one
-abbrev pub IsVote : Life → Option Claim → Type 0
-IsVote life vote = (claim : Claim) → (vote ≡ Some claim) ↔ (f_of life.redundancy + 1 ≤ carriers claim (ports_of (tells life) life.redundancy))
+-- the vote over it
+abbrev pub vote_at_tick : Life → Option Claim
+vote_at_tick life = vote_of (tells life) life.redundancy
 
--- what is said at a tick with this vote
-abbrev pub report_of : Life → Option Claim → Report
-report_of life vote = report_of_votes life.own life.table vote life.votes
+-- what is said at a tick
+abbrev pub report_at_tick : Life → Report
+report_at_tick life = report_of life.own life.table (vote_at_tick life) life.votes
 
 -- after it
-abbrev pub ticked : Life → Option Claim → Life
-ticked life vote = record life { fed = nothing; votes = vote ∷ life.votes }
+abbrev pub ticked : Life → Life
+ticked life = record life { fed = nothing; votes = vote_at_tick life ∷ life.votes }
 
 abbrev pub restarted : Life → Life
 restarted life = record life { fed = nothing; votes = [] }

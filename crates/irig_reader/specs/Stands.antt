@@ -1,12 +1,10 @@
 -- What it is for a reader to have had a life.
-use Rattle.std.specs.Prelude.{◌≡◌, Option}
-use Rattle.irig_time.specs.declared.claim.Claim.{Claim}
+use Rattle.std.specs.Prelude.{◌≡◌}
 use Rattle.irig_port.specs.declared.port.Port.{Ghosts}
 use Rattle.irig_port.specs.Heard.{heard}
-use Rattle.irig_reader.specs.declared.report.Report.{Report}
 use Rattle.irig_reader.specs.declared.reader.Reader.{Reader}
 use Rattle.irig_reader.specs.Rule.{state_of}
-use Rattle.irig_reader.specs.Life.{Life, IsVote, report_of, ticked}
+use Rattle.irig_reader.specs.Life.{Life}
 
 pub record Stands {P : Type 0} {g : Ghosts P} (reader : Reader P g) (life : Life) : Type 0 where
   pub a : g.stands_for reader.a life.rules (heard life.fed.a)
@@ -18,10 +16,3 @@ pub record Stands {P : Type 0} {g : Ghosts P} (reader : Reader P g) (life : Life
   pub table : reader.table ≡ life.table
   pub redundancy : reader.redundancy ≡ life.redundancy
   pub state : reader.state ≡ state_of life.own life.table life.votes
-
--- the tick's report is that of the vote, and the reader has then had this tick
-pub record IsTick {P : Type 0} {g : Ghosts P} (life : Life) (reader : Reader P g) (report : Report) : Type 0 where
-  pub vote : Option Claim
-  pub counted : IsVote life vote
-  pub says : report ≡ report_of life vote
-  pub after : Stands reader (ticked life vote)

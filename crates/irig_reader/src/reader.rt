@@ -40,13 +40,14 @@ pub struct Reader<P: Port> {
 }
 
 impl<P: Port> Reader<P> {
-    ghost use Rattle.irig_reader.specs.Life.{Life, unfed, fed_at, tells, restarted};
-    ghost use Rattle.irig_reader.specs.Stands.{Stands, IsTick};
+    ghost use Rattle.irig_reader.specs.Life.{Life, unfed, fed_at, tells, report_at_tick, ticked, restarted};
+    ghost use Rattle.irig_reader.specs.Stands.{Stands};
 
     /// A reader that was fed nothing, with rules that are [`in_range`](crate::in_range).
     pub fn fresh(rules: Rules, own: ReaderRules, table: LeapTable, redundancy: Redundancy) -> Self
         requires { IsReaderRules own }
-        ensures { Stands result (unfed rules own table redundancy) }
+        ensures unfed { Stands result (unfed rules own table redundancy) }
+        ensures ports { result.redundancy ≡ redundancy }
     {
         Reader {
             a: P::fresh(rules),
@@ -63,9 +64,11 @@ impl<P: Port> Reader<P> {
 
     /// A pulse at one of the ports, `width_us` microseconds wide. The port is 0 to 2 of three, 0 to 4 of
     /// five.
+    #[tactic(auto, using(crate::proofs::HeardRules::one_more_heard))]
     pub fn pulse(&mut self, port: u8, width_us: u32)
         requires { port < ports_in self.old.redundancy }
-        ensures { (life : Life) → Stands self.old life → Stands self.new (fed_at life port width_us) }
+        ensures fed { (life : Life) → Stands self.old life → Stands self.new (fed_at life port width_us) }
+        ensures ports { self.new.redundancy ≡ self.old.redundancy }
     {
         match port {
             0 => self.a.pulse(width_us),
@@ -80,7 +83,9 @@ impl<P: Port> Reader<P> {
     /// empty.
     pub fn tick(&mut self) -> Ticked
         ensures told { (life : Life) → Stands self.old life → result.told ≡ tells life }
-        ensures rule { (life : Life) → Stands self.old life → IsTick life self.new result.report }
+        ensures report { (life : Life) → Stands self.old life → result.report ≡ report_at_tick life }
+        ensures after { (life : Life) → Stands self.old life → Stands self.new (ticked life) }
+        ensures ports { self.new.redundancy ≡ self.old.redundancy }
     {
         let told = Tells {
             a: self.a.edge(),
@@ -101,7 +106,8 @@ impl<P: Port> Reader<P> {
 
     /// Clears the ports, and forgets what was voted.
     pub fn restart(&mut self)
-        ensures { (life : Life) → Stands self.old life → Stands self.new (restarted life) }
+        ensures forgotten { (life : Life) → Stands self.old life → Stands self.new (restarted life) }
+        ensures ports { self.new.redundancy ≡ self.old.redundancy }
     {
         self.a.clear();
         self.b.clear();

@@ -54,7 +54,9 @@ fn begin(own: ReaderRules, table: &LeapTable, claim: Claim) -> Step
 {
     match Hold::start(claim, table) {
         Ok(hold) => counted(own, hold, 1),
-        Err(stop) => stopped(cause_of(stop)),
+        Err(Turn::RangeEnd) => stopped(Cause::RangeEnd),
+        // Else only the guard stops a start.
+        Err(_) => stopped(Cause::LeapGuard),
     }
 }
 
@@ -68,7 +70,9 @@ fn join(own: ReaderRules, table: &LeapTable, mut hold: Hold, count: u8, claim: C
     match hold.voted(claim, table) {
         Turn::Now(_) => counted(own, hold, count + 1),
         Turn::Jump => begin(own, table, claim),
-        stop => stopped(cause_of(stop)),
+        Turn::LeapGuard => stopped(Cause::LeapGuard),
+        Turn::Expired => stopped(Cause::Expired),
+        Turn::RangeEnd => stopped(Cause::RangeEnd),
     }
 }
 
@@ -77,10 +81,8 @@ fn follow(table: &LeapTable, mut hold: Hold, claim: Claim) -> Step
     ensures step { result ≡ rule.followed (voted_by table.now hold claim) }
     ensures counting { rule.count_of result.state ≡ 0 }
 {
-    match hold.voted(claim, table) {
-        Turn::Now(utc) => announced(hold, utc, Lock::Locked, Cause::Voted),
-        stop => stopped(cause_of(stop)),
-    }
+    let turn = hold.voted(claim, table);
+    goes_on(turn, hold, Lock::Locked, Cause::Voted)
 }
 
 /// An edge without a vote, of a locked reader.
@@ -88,12 +90,22 @@ fn hold_over(own: ReaderRules, table: &LeapTable, mut hold: Hold) -> Step
     ensures step { result ≡ rule.held_over (alone_by table.now hold own.holdover) }
     ensures counting { rule.count_of result.state ≡ 0 }
 {
-    match hold.alone(own.holdover, table) {
-        Turn::Now(utc) => {
-            let age = hold.age();
-            announced(hold, utc, Lock::Holdover(age), Cause::Held)
-        }
-        stop => stopped(cause_of(stop)),
+    let turn = hold.alone(own.holdover, table);
+    let age = hold.age();
+    goes_on(turn, hold, Lock::Holdover(age), Cause::Held)
+}
+
+/// A locked reader whose hold answers this: it announces, or stops.
+fn goes_on(turn: Turn, hold: Hold, lock: Lock, cause: Cause) -> Step
+    ensures step { result ≡ rule.locked_by lock cause turn hold }
+    ensures counting { rule.count_of result.state ≡ 0 }
+{
+    match turn {
+        Turn::Now(utc) => announced(hold, utc, lock, cause),
+        Turn::LeapGuard => stopped(Cause::LeapGuard),
+        Turn::Expired => stopped(Cause::Expired),
+        Turn::RangeEnd => stopped(Cause::RangeEnd),
+        Turn::Jump => stopped(Cause::Jump),
     }
 }
 
@@ -143,18 +155,5 @@ fn stopped(cause: Cause) -> Step
             lock: Lock::Unlocked,
             cause,
         },
-    }
-}
-
-/// The cause that is named like a hold's stop. It is not asked for `Now`, which is none.
-fn cause_of(stop: Turn) -> Cause
-    ensures { result ≡ rule.cause_of stop }
-{
-    match stop {
-        Turn::Now(_) => Cause::Held,
-        Turn::LeapGuard => Cause::LeapGuard,
-        Turn::Expired => Cause::Expired,
-        Turn::RangeEnd => Cause::RangeEnd,
-        Turn::Jump => Cause::Jump,
     }
 }

@@ -2,7 +2,7 @@ use crate::*;
 use irig_control::{Control, Parity, pack, set_parity};
 use irig_frame::{Coded, FrameFault, Symbol, encode};
 use irig_port::{FlowPort, Port, PortFault, Told, WholePort};
-use irig_time::{LeapTable, Rules, SbsUse, Sense, UtcSecond, coded_of, valid};
+use irig_time::{Claim, LeapTable, Mark, Rules, SbsUse, Sense, UtcSecond, coded_of, valid};
 use irig_vote::{Redundancy, Tells};
 use std::process::Abort;
 use std::test::*;
@@ -295,6 +295,51 @@ fn a_restart_clears_the_ports_of_its_own_reader(rt: HostRuntime) {
         restarts_amid_a_frame::<WholePort>(&rt, redundancy);
         restarts_amid_a_frame::<FlowPort>(&rt, redundancy);
     }
+}
+
+/// What ports tell of which these alone were fed a frame of noon.
+fn noon_at(ports: &[u8]) -> Tells {
+    let noon = Told::Claim(Claim {
+        at: second(JUNE, 43200),
+        mark: Mark::Unspoken,
+    });
+    let told = |port: u8| if ports.contains(&port) {
+        noon
+    } else {
+        Told::Silence
+    };
+    Tells {
+        a: told(0),
+        b: told(1),
+        c: told(2),
+        d: told(3),
+        e: told(4),
+    }
+}
+
+/// Too few ports carry a frame at one edge, and enough of them at the next.
+fn needs_ports<P: Port>(rt: &impl Abort, redundancy: Redundancy, few: &[u8], enough: &[u8]) {
+    let symbols = frame(rt, second(JUNE, 43200), false);
+    let mut reader = reader::<P>(rt, 1, 3600, redundancy);
+    for (ports, report) in [
+        (few, stopped(Cause::NoVote)),
+        (enough, voted(second(JUNE, 43201))),
+    ] {
+        for port in ports {
+            feed(rt, &mut reader, *port, &symbols);
+        }
+        let ticked = reader.tick();
+        assert!(rt; ticked.told == noon_at(ports), "at {ports:?}");
+        assert!(rt; ticked.report == report, "at {ports:?}");
+    }
+}
+
+#[test]
+fn three_ports_need_two_frames_and_five_need_three(rt: HostRuntime) {
+    needs_ports::<WholePort>(&rt, Redundancy::Three, &[2], &[0, 1]);
+    needs_ports::<FlowPort>(&rt, Redundancy::Three, &[2], &[0, 1]);
+    needs_ports::<WholePort>(&rt, Redundancy::Five, &[0, 1], &[2, 3, 4]);
+    needs_ports::<FlowPort>(&rt, Redundancy::Five, &[0, 1], &[2, 3, 4]);
 }
 
 fn each_part_is_told<P: Port>(rt: &impl Abort) {

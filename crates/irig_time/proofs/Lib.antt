@@ -3,8 +3,10 @@ pub mod MonthEnds
 pub mod TextLaws
 pub mod StandardFacts
 pub mod TimeLaws
+pub mod SecondAt
 pub mod StretchLaws
 pub mod NextLaws
 pub mod ClaimLaws
 pub mod CodedLaws
+pub mod TimeShown
 pub mod ClaimedSeconds

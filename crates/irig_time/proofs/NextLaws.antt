@@ -16,7 +16,7 @@ use Rattle.irig_time.specs.Seconds.{IsValid}
 use Rattle.irig_time.specs.Next.{plain, turn_after, next_at_month_end, next_of}
 use Rattle.irig_time.specs.Times.{Times, leap_of, length_by, mark_by, day_length, seconds_in, IsSecond}
 use Rattle.irig_time.specs.TimelineFaults.{first_leap_fault, start_fault, IsTimeline}
-use Rattle.irig_time.proofs.TimeLaws.{length_bounds, neither, unless, no_leap, one_second, in_order, same_day, new_day}
+use Rattle.irig_time.proofs.TimeLaws.{length_bounds, neither, unless, no_leap, one_second, in_order, some_same, same_day, new_day}
 
 abbrev after_last : Times → UtcSecond → Option UtcSecond
 after_last t u = turn_after (day_length t.leaps u.day - 1) u
@@ -63,9 +63,6 @@ not_last t n u v a b late =
           let lengths : day_length t.leaps v.day ≡ day_length t.leaps u.day = ap (λ (d : ℕ). day_length t.leaps d) day in
           absurd (omega (arith, sums, lengths, a.sum, b.sum, b.sod, late))
     ]
-
-some_same : (u v : UtcSecond) → u ≡ v → ◌≡◌ {A = Option UtcSecond} (Some u) (Some v)
-some_same u v e = ap (λ (x : UtcSecond). let o : Option UtcSecond = Some x in o) e
 
 step_is : (t : Times) (n : ℕ) (u v : UtcSecond) → IsSecond t n u → IsSecond t (n + 1) v → after_last t u ≡ Some v
 step_is t n u v a b =

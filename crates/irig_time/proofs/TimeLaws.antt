@@ -55,6 +55,9 @@ in_order t n m u v a b lt =
 pub same_second : (u v : UtcSecond) → u.day ≡ v.day → u.sod ≡ v.sod → u ≡ v
 same_second u v d s = let e : ◌≡◌ {A = UtcSecond} (record { day = u.day; sod = u.sod }) (record { day = v.day; sod = v.sod }) = rw (d, s) refl in e
 
+pub some_same : (u v : UtcSecond) → u ≡ v → ◌≡◌ {A = Option UtcSecond} (Some u) (Some v)
+some_same u v e = ap (λ (x : UtcSecond). let o : Option UtcSecond = Some x in o) e
+
 pub one_second : (t : Times) (n : ℕ) (u v : UtcSecond) → IsSecond t n u → IsSecond t n v → u ≡ v
 one_second t n u v a b =
     let low : ¬ (u.day < v.day) = λ lt. omega (arith, in_order t n n u v a b lt) in
@@ -151,7 +154,7 @@ once_only before (x ∷ xs) day sound h =
 
 pub found_is : (t : Times) (n : ℕ) (found u : UtcSecond) → IsSecond t n found → (◌≡◌ {A = Option UtcSecond} (Some found) (Some u) → IsSecond t n u) × (IsSecond t n u → ◌≡◌ {A = Option UtcSecond} (Some found) (Some u))
 found_is t n found u own =
-    (λ e. let same : found ≡ u = cc e in subst (IsSecond t n) same own, λ h. ap (λ (x : UtcSecond). let o : Option UtcSecond = Some x in o) (one_second t n found u own h))
+    (λ e. let same : found ≡ u = cc e in subst (IsSecond t n) same own, λ h. some_same found u (one_second t n found u own h))
 
 pub one_claim : (t : Times) (n : ℕ) (c d : Claim) → IsTrueClaim t n c → IsTrueClaim t n d → c ≡ d
 one_claim t n c d a b =

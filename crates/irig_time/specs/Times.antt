@@ -1,5 +1,6 @@
 -- A timeline: a start, and the days that end with a leap. Its seconds are counted by sums of day lengths.
 use Rattle.std.specs.Prelude.{◌≡◌, ℕ, zero, suc, ◌+◌, ◌-◌, ◌≤◌, ◌<◌, ◌==◌, nat_lt, if◌then◌else◌, List, [], ◌∷◌, Option, Some, None}
+use Rattle.std.specs.Option.{option_map}
 use Rattle.irig_time.specs.declared.second.UtcSecond.{UtcSecond}
 use Rattle.irig_time.specs.declared.mark.Mark.{Mark}
 use Rattle.irig_time.specs.declared.mark.Mark.TheVariants as mark
@@ -60,3 +61,24 @@ true_mark leaps u =
 pub record IsTrueClaim (t : Times) (n : ℕ) (c : Claim) : Type 0 where
   pub second : (m : ℕ) × (n ≡ m + 1) × IsSecond t m c.at
   pub mark : c.mark ≡ true_mark t.leaps c.at
+
+-- ---- the same as functions
+
+-- the second that comes so many seconds after a day begins, if it lies in one of this many days
+abbrev pub second_within : List (ℕ × Leap) → ℕ → ℕ → ℕ → Option UtcSecond
+second_within leaps day zero seconds = None
+second_within leaps day (suc days) seconds =
+    if nat_lt seconds (day_length leaps day) then Some (record { day = day; sod = seconds })
+    else second_within leaps (day + 1) days (seconds - day_length leaps day)
+
+-- T(n), if there is one: the u of IsSecond
+unfoldable pub second_at : Times → ℕ → Option UtcSecond
+second_at t n = second_within t.leaps t.start.day (36524 - t.start.day) (t.start.sod + n)
+
+-- the true claim of a second
+abbrev pub true_claim : List (ℕ × Leap) → UtcSecond → Claim
+true_claim leaps u = record { at = u; mark = true_mark leaps u }
+
+-- the true claim of T(n), if there is one: the c of IsTrueClaim at n + 1
+abbrev pub truth_at : Times → ℕ → Option Claim
+truth_at t n = option_map (true_claim t.leaps) (second_at t n)

@@ -1,12 +1,12 @@
 //! Laws of time over its definitions, for the crates above. They have no code.
 
-ghost use Rattle.std.specs.Prelude.{◌≡◌, ◌≤◌, ◌+◌, ◌⊎◌, true, ℕ, ℤ, neg_ℤ, unsigned_abs, Some, None, Ok};
+ghost use Rattle.std.specs.Prelude.{◌≡◌, ◌↔◌, ◌≤◌, ◌+◌, ◌⊎◌, true, ℕ, ℤ, neg_ℤ, unsigned_abs, Some, None, Ok};
 ghost use Rattle.irig_time.specs.Days.{is_month_end};
 ghost use Rattle.irig_time.specs.Seconds.{IsValid};
-ghost use Rattle.irig_time.specs.Coding.{IsCodedOf};
+ghost use Rattle.irig_time.specs.Coding.{IsCodedOf, time_shown};
 ghost use Rattle.irig_time.specs.Claims.{claim_by, claim_of_second};
 ghost use Rattle.irig_time.specs.Next.{next_of};
-ghost use Rattle.irig_time.specs.Times.{Times, leap_of, mark_by, IsSecond, IsTrueClaim};
+ghost use Rattle.irig_time.specs.Times.{Times, leap_of, mark_by, IsSecond, IsTrueClaim, second_at, truth_at};
 ghost use Rattle.irig_time.specs.TimelineFaults.{IsTimeline};
 
 use crate::claim::Claim;
@@ -36,11 +36,24 @@ pub fn one_coded()
     ensures { (u : UtcSecond) (h : ℤ) (c d : Coded) → IsCodedOf u h c → IsCodedOf u h d → c ≡ d }
 {}
 
+/// What a clock shows of a second is its coded time.
+pub fn time_is_shown()
+    ensures { (u : UtcSecond) (half_hours : ℤ) → IsValid u → unsigned_abs half_hours ≤ 31
+        → IsCodedOf u half_hours (time_shown u half_hours) }
+{}
+
 /// A timeline has at most one second for each number, which is a valid one, and at most one true claim.
 pub fn one_second()
     ensures seconds { (t : Times) (n : ℕ) (u v : UtcSecond) → IsSecond t n u → IsSecond t n v → u ≡ v }
     ensures claims { (t : Times) (n : ℕ) (c d : Claim) → IsTrueClaim t n c → IsTrueClaim t n d → c ≡ d }
     ensures valid { (t : Times) (n : ℕ) (u : UtcSecond) → IsTimeline t → IsSecond t n u → IsValid u }
+{}
+
+/// The functions `second_at` and `truth_at` give the second of each number and its true claim, where there
+/// is one.
+pub fn second_is()
+    ensures second { (t : Times) (n : ℕ) (u : UtcSecond) → (second_at t n ≡ Some u) ↔ IsSecond t n u }
+    ensures claim { (t : Times) (n : ℕ) (c : Claim) → (truth_at t n ≡ Some c) ↔ IsTrueClaim t (n + 1) c }
 {}
 
 /// The law of next: where the mark is what the timeline says of the day, the step after a second is the

@@ -23,7 +23,9 @@ pub use calendar::month_end;
 pub use claim::{Claim, TimeFault, claim_of};
 pub use coding::coded_of;
 pub use following::next;
-pub use laws::{claim_of_coded, claims_are_valid, law_of_next, one_coded, one_second};
+pub use laws::{
+    claim_of_coded, claims_are_valid, law_of_next, one_coded, one_second, second_is, time_is_shown,
+};
 pub use leap::Leap;
 pub use mark::Mark;
 pub use rules::{Rules, SbsUse, Sense};

@@ -90,10 +90,10 @@ impl LeapTable {
         requires { day ≤ 36523 }
         ensures { result ≡ table_mark self.now day }
     {
-        if !month_end(day) {
+        if day > self.until {
             return Mark::Unspoken;
         }
-        if day > self.until {
+        if !month_end(day) {
             return Mark::Unspoken;
         }
         mark_with(leap_on(&self.leaps, day))

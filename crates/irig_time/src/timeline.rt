@@ -1,8 +1,8 @@
 //! The seconds that follow a start.
 
-ghost use Rattle.std.specs.Prelude.{◌≡◌, ◌↔◌, ◌≤◌, ◌<◌, ◌+◌, [], ℕ, IfSome, Some, None, unwrap_or, MatchResult};
+ghost use Rattle.std.specs.Prelude.{◌≡◌, ◌↔◌, ◌≤◌, ◌<◌, ◌+◌, ◌^◌, [], ℕ, IfSome, Some, None, unwrap_or, MatchResult};
 ghost use Rattle.irig_time.specs.Seconds.{IsValid};
-ghost use Rattle.irig_time.specs.Times.{Times, leap_of, times, IsSecond, IsTrueClaim, true_mark as mark_of_second};
+ghost use Rattle.irig_time.specs.Times.{Times, leap_of, times, IsSecond, IsTrueClaim, second_at, truth_at, true_mark as mark_of_second};
 ghost use Rattle.irig_time.specs.TimelineFaults.{first_leap_fault as first_fault, leap_fault as fault_of_leap, start_fault as fault_of_start, timeline_fault, IsTimeline};
 
 use crate::calendar::month_end;
@@ -93,6 +93,8 @@ impl Timeline {
         ensures sound { IsTimeline self.now }
         ensures second { (u : UtcSecond) → (result ≡ Some u) ↔ IsSecond self.now number u }
         ensures valid { IfSome result IsValid }
+        ensures value { result ≡ second_at self.now number }
+        ensures early { IfSome result (λ u. number < 2 ^ 32) }
     {
         let total = u64::from(self.start.sod).checked_add(number)?;
         let (stretch, last) = stretch_at(&self.stretches, total);
@@ -110,7 +112,9 @@ impl Timeline {
 
     /// What a true frame of the `number`-th second claims.
     pub fn truth(&self, number: u64) -> Option<Claim>
-        ensures { (c : Claim) → (result ≡ Some c) ↔ IsTrueClaim self.now (number + 1) c }
+        ensures claim { (c : Claim) → (result ≡ Some c) ↔ IsTrueClaim self.now (number + 1) c }
+        ensures value { result ≡ truth_at self.now number }
+        ensures early { IfSome result (λ c. number < 2 ^ 32) }
     {
         let at = self.at(number)?;
         let mark = true_mark(&self.leaps, at);

@@ -1,15 +1,20 @@
 -- How many ports tell a claim.
-use Rattle.std.proofs.Common.{rules, ◌≡◌, ℕ, ◌+◌, ◌*◌, ◌<◌, ◌≤◌, Bool, true, false, cond, List, [], ◌∷◌, length, All, refl, subst, arith, inl, inr}
-use Rattle.std.proofs.lemmas.Bool.{cases_Bool, both_ways}
-use Rattle.std.proofs.lemmas.List.Elements.{All-head, All-tail}
+use Rattle.std.proofs.Common.{rules, ◌≡◌, ◌↔◌, ℕ, ◌+◌, ◌-◌, ◌*◌, ◌<◌, ◌≤◌, nat_lt, Bool, true, false, cond, List, [], ◌∷◌, length, Option, Some, refl, ap, subst, sym, ◌∙◌, arith, inl, inr}
+use Rattle.std.proofs.lemmas.Bool.{cases_Bool, both_ways, ltb-true, ltb-false}
 use Rattle.std.proofs.lemmas.List.Sums.{sum_by-cons}
 use Rattle.irig_time.specs.declared.claim.Claim.{Claim}
 use Rattle.irig_port.specs.declared.told.Told.{Told}
 use Rattle.irig_port.specs.declared.told.Told.TheVariants as tells
-use Rattle.irig_vote.specs.Vote.{same_claim, is_told, carriers}
+use Rattle.irig_vote.specs.Vote.{f_of, ports_of, same_claim, is_told, carriers, first_told, vote_of, is_other, others}
+use Rattle.irig_vote.specs.declared.redundancy.Redundancy.{Redundancy}
+use Rattle.irig_vote.specs.declared.redundancy.Redundancy.TheVariants.{Three, Five}
+use Rattle.irig_vote.specs.declared.tells.Tells.{Tells}
 
 pub carriers-cons : (c : Claim) (t : Told) (ts : List Told) → carriers c (t ∷ ts) ≡ cond (is_told c t) 1 0 + carriers c ts
 carriers-cons c t ts = sum_by-cons (λ u. cond (is_told c u) 1 0) t ts
+
+others-cons : (c : Claim) (t : Told) (ts : List Told) → others c (t ∷ ts) ≡ cond (is_other c t) 1 0 + others c ts
+others-cons c t ts = sum_by-cons (λ u. cond (is_other c u) 1 0) t ts
 
 -- ---- the tests
 
@@ -50,19 +55,65 @@ one_claim enough ports c d short h k =
       | inr other ↦ absurd (omega (arith, two_claims c d ports (λ e. both_ways (same_claim c d) other (subst (λ (x : Claim). same_claim c x ≡ true) e (same_itself c)))))
     ]
 
--- ---- a port that tells a claim which too few tell
-
-abbrev pub IsMinor : ℕ → List Told → Told → Type 0
-IsMinor enough ports t = (c : Claim) → t ≡ tells.Claim c → carriers c ports < enough
-
 pub none_of : (b : Bool) → b ≡ false → ◌≡◌ {A = ℕ} (cond b 1 0) 0
 none_of b e = rw e refl
 
--- where all are such, each claim is told by too few
-pub minor_claim : (enough : ℕ) (ports : List Told) (ts : List Told) (c : Claim) → All (IsMinor enough ports) ts → 0 < carriers c ts → carriers c ports < enough
-minor_claim enough ports [] c h some = absurd (omega arith)
-minor_claim enough ports (t ∷ ts) c h some =
-    elim (cases_Bool (is_told c t)) [
-      | inl a ↦ All-head (IsMinor enough ports) t ts h c (told_is c t a)
-      | inr b ↦ minor_claim enough ports ts c (All-tail (IsMinor enough ports) t ts h) (omega (arith, carriers-cons c t ts, none_of (is_told c t) b))
+one_of : (b : Bool) → b ≡ true → ◌≡◌ {A = ℕ} (cond b 1 0) 1
+one_of b e = rw e refl
+
+-- ---- the first claim that more than f tell
+
+first_many : (f : ℕ) (ports ts : List Told) (c : Claim) → first_told f ports ts ≡ Some c → f < carriers c ports
+first_many f ports [] c e = absurd cc
+first_many f ports (tells.Claim d ∷ ts) c e =
+    elim (cases_Bool (nat_lt f (carriers d ports))) [
+      | inl many ↦
+          let is : Some d ≡ Some c = rw many at e in
+          let same : d ≡ c = cc in
+          subst (λ (x : Claim). f < carriers x ports) same (ltb-true f (carriers d ports) many)
+      | inr few ↦ first_many f ports ts c (rw few at e)
+    ]
+first_many f ports (_ ∷ ts) c e = first_many f ports ts c e
+
+many_first : (f : ℕ) (ports ts : List Told) (c : Claim) → length ports ≤ 2 * f + 1 → f < carriers c ports → 0 < carriers c ts → first_told f ports ts ≡ Some c
+many_first f ports [] c short many some = absurd (omega arith)
+many_first f ports (tells.Claim d ∷ ts) c short many some =
+    elim (cases_Bool (nat_lt f (carriers d ports))) [
+      | inl enough ↦ rw enough (ap (λ (x : Claim). Some x) (one_claim (f + 1) ports d c (omega arith) (omega (arith, ltb-true f (carriers d ports) enough)) (omega arith)))
+      | inr few ↦ rw few (many_first f ports ts c short many
+          (elim (cases_Bool (same_claim c d)) [
+            | inl same ↦ absurd (let is = same_is c d same in omega (arith, ltb-false f (carriers d ports) few, subst (λ (x : Claim). f < carriers x ports) is many))
+            | inr other ↦ omega (arith, carriers-cons c (tells.Claim d) ts, none_of (same_claim c d) other)
+          ]))
+    ]
+many_first f ports (t ∷ ts) c short many some = many_first f ports ts c short many (omega (arith, carriers-cons c t ts))
+
+-- where they are more than half of the ports, it is the one claim that so many tell
+pub enough_told : (enough : ℕ) (ports : List Told) (vote : Option Claim) (c : Claim) → length ports < 2 * enough → vote ≡ first_told (enough - 1) ports ports → (vote ≡ Some c) ↔ (enough ≤ carriers c ports)
+enough_told enough ports vote c short is =
+    (λ e. omega (arith, first_many (enough - 1) ports ports c (sym is ∙ e)), λ h. is ∙ many_first (enough - 1) ports ports c (omega arith) (omega arith) (omega arith))
+
+-- ---- the vote
+
+pub vote_counts : (t : Tells) (r : Redundancy) (c : Claim) → (vote_of t r ≡ Some c) ↔ (f_of r + 1 ≤ carriers c (ports_of t r))
+unfolding vote_of
+vote_counts t Three c = enough_told 2 (ports_of t Three) (vote_of t Three) c (omega arith) refl
+vote_counts t Five c = enough_told 3 (ports_of t Five) (vote_of t Five) c (omega arith) refl
+
+-- ports that tell this claim tell another than any other
+carriers-others : (c d : Claim) (ports : List Told) → same_claim c d ≡ false → carriers d ports ≤ others c ports
+carriers-others c d [] differ = omega arith
+carriers-others c d (t ∷ ts) differ =
+    elim (cases_Bool (is_told d t)) [
+      | inl told ↦
+          let other : is_other c t ≡ true = subst (λ (u : Told). is_other c u ≡ true) (sym (told_is d t told)) (rw differ refl) in
+          omega (arith, carriers-cons d t ts, others-cons c t ts, one_of (is_told d t) told, one_of (is_other c t) other, carriers-others c d ts differ)
+      | inr silent ↦ omega (arith, carriers-cons d t ts, others-cons c t ts, none_of (is_told d t) silent, carriers-others c d ts differ)
+    ]
+
+pub few_tell_others : (t : Tells) (r : Redundancy) (c d : Claim) → others c (ports_of t r) ≤ f_of r → vote_of t r ≡ Some d → d ≡ c
+few_tell_others t r c d few e =
+    elim (cases_Bool (same_claim c d)) [
+      | inl same ↦ sym (same_is c d same)
+      | inr differ ↦ absurd (omega (arith, (vote_counts t r d).0 e, carriers-others c d (ports_of t r) differ))
     ]

@@ -1,5 +1,5 @@
 -- The vote: of 2f + 1 ports, the claim that at least f + 1 tell.
-use Rattle.std.specs.Prelude.{ℕ, Bool, true, false, ◌==◌, ◌&&◌, List, [], ◌∷◌, count_by}
+use Rattle.std.specs.Prelude.{ℕ, Bool, true, false, ◌==◌, not, ◌&&◌, nat_lt, if◌then◌else◌, List, [], ◌∷◌, count_by, Option, Some, None}
 use Rattle.irig_time.specs.declared.second.UtcSecond.{UtcSecond}
 use Rattle.irig_time.specs.declared.mark.Mark.{Mark}
 use Rattle.irig_time.specs.declared.mark.Mark.TheVariants.{Unspoken, NoLeap, Insert, Delete}
@@ -47,3 +47,22 @@ is_told c _ = false
 -- how many of the ports tell this claim
 abbrev pub carriers : Claim → List Told → ℕ
 carriers c ports = count_by (is_told c) ports
+
+-- whether a port tells another claim
+abbrev pub is_other : Claim → Told → Bool
+is_other c (tells.Claim d) = not (same_claim c d)
+is_other c _ = false
+
+-- how many of the ports tell another claim
+abbrev pub others : Claim → List Told → ℕ
+others c ports = count_by (is_other c) ports
+
+-- the first of these claims that more than f of all ports tell
+abbrev pub first_told : ℕ → List Told → List Told → Option Claim
+first_told f ports [] = None
+first_told f ports (tells.Claim c ∷ ts) = if nat_lt f (carriers c ports) then Some c else first_told f ports ts
+first_told f ports (_ ∷ ts) = first_told f ports ts
+
+-- the vote: the claim that at least f + 1 ports tell, if there is one
+unfoldable pub vote_of : Tells → Redundancy → Option Claim
+vote_of t redundancy = first_told (f_of redundancy) (ports_of t redundancy) (ports_of t redundancy)

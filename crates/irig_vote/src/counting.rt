@@ -1,8 +1,8 @@
 //! The vote by counting.
 
-ghost use Rattle.std.specs.Prelude.{◌≡◌, ◌↔◌, ◌+◌, ◌*◌, ◌<◌, ◌≤◌, Some, length};
+ghost use Rattle.std.specs.Prelude.{◌≡◌, ◌↔◌, ◌+◌, ◌-◌, ◌*◌, ◌<◌, ◌≤◌, Some, length};
 ghost use Rattle.irig_time.specs.declared.claim.Claim.{Claim};
-ghost use Rattle.irig_vote.specs.Vote.{is_told, carriers as carriers_of, f_of, ports_of};
+ghost use Rattle.irig_vote.specs.Vote.{is_told, carriers as carriers_of, f_of, first_told, ports_of, vote_of};
 
 use crate::redundancy::Redundancy;
 use crate::tells::Tells;
@@ -11,8 +11,10 @@ use irig_time::Claim;
 
 /// The claim that f + 1 ports tell, second and mark both: two of `a`, `b`, `c` under `Three`, three
 /// of all five under `Five`. None where there is no such claim.
+#[tactic(auto, unfolding(crate::specs::Vote::vote_of))]
 pub fn vote(tells: &Tells, redundancy: Redundancy) -> Option<Claim>
-    ensures { (claim : Claim) → (result ≡ Some claim)
+    ensures value { result ≡ vote_of tells.now redundancy }
+    ensures counts { (claim : Claim) → (result ≡ Some claim)
         ↔ (f_of redundancy + 1 ≤ carriers_of claim (ports_of tells.now redundancy)) }
 {
     match redundancy {
@@ -24,7 +26,8 @@ pub fn vote(tells: &Tells, redundancy: Redundancy) -> Option<Claim>
 /// The claim that at least `enough` of the ports tell, where that is more than half of them.
 fn claim_told_by(enough: usize, ports: &[Told]) -> Option<Claim>
     requires { length ports.now < 2 * enough }
-    ensures { (claim : Claim) → (result ≡ Some claim) ↔ (enough ≤ carriers_of claim ports.now) }
+    ensures value { result ≡ first_told (enough - 1) ports.now ports.now }
+    ensures counts { (claim : Claim) → (result ≡ Some claim) ↔ (enough ≤ carriers_of claim ports.now) }
 {
     for told in ports {
         let Told::Claim(claim) = told else {

@@ -1,7 +1,7 @@
 //! Laws of the vote over its definitions, for the crates above. They have no code.
 
-ghost use Rattle.std.specs.Prelude.{◌≡◌, ◌↔◌, ◌+◌, ◌*◌, ◌≤◌, ℕ, true, List, length};
-ghost use Rattle.irig_vote.specs.Vote.{same_claim, is_told, carriers, f_of, ports_in, ports_of};
+ghost use Rattle.std.specs.Prelude.{◌≡◌, ◌↔◌, ◌+◌, ◌*◌, ◌≤◌, ℕ, true, Some, List, length};
+ghost use Rattle.irig_vote.specs.Vote.{same_claim, is_told, carriers, others, f_of, ports_in, ports_of, vote_of};
 
 use crate::redundancy::Redundancy;
 use crate::tells::Tells;
@@ -22,4 +22,16 @@ pub fn one_vote()
     ensures ports { (tells : Tells) (redundancy : Redundancy)
         → length (ports_of tells redundancy) ≡ ports_in redundancy }
     ensures number { (redundancy : Redundancy) → ports_in redundancy ≡ 2 * f_of redundancy + 1 }
+{}
+
+/// The vote is the claim that f + 1 ports tell.
+pub fn vote_is()
+    ensures { (t : Tells) (r : Redundancy) (claim : Claim)
+        → (vote_of t r ≡ Some claim) ↔ (f_of r + 1 ≤ carriers claim (ports_of t r)) }
+{}
+
+/// Where at most f ports tell another claim than this one, no other is voted.
+pub fn few_others()
+    ensures { (t : Tells) (r : Redundancy) (c d : Claim) → others c (ports_of t r) ≤ f_of r
+        → vote_of t r ≡ Some d → d ≡ c }
 {}

@@ -11,7 +11,7 @@ mod redundancy;
 mod tells;
 
 pub use counting::vote;
-pub use laws::{equal_claims, one_vote};
+pub use laws::{equal_claims, few_others, one_vote, vote_is};
 pub use redundancy::Redundancy;
 pub use tells::Tells;
 

@@ -1,4 +1,4 @@
-use Rattle.std.proofs.Common.{◌≡◌, ◌≤◌, ℤ, List, Option, Some, None, MatchOption, sym, subst, unsigned_abs}
+use Rattle.std.proofs.Common.{◌≡◌, ◌≤◌, ℤ, List, Option, Some, None, MatchOption, sym, subst, ◌∙◌, unsigned_abs}
 use Rattle.irig_control.specs.Control.{IsControl}
 use Rattle.irig_frame.specs.declared.symbol.Symbol.{Symbol}
 use Rattle.irig_time.specs.declared.second.UtcSecond.{UtcSecond}
@@ -6,6 +6,8 @@ use Rattle.irig_time.specs.Times.{IsSecond}
 use Rattle.irig_gen.specs.Frames.{gen, IsFrameBy}
 use Rattle.irig_control.proofs.ControlLaws.{in_byte}
 use Rattle.irig_gen.proofs.GenLaws.{sent_zone_fits, control_fits, frame_at_is, faulted_fits}
+use Rattle.irig_gen.proofs.SentLaws.{frame_of_by, no_frame}
+use Rattle.irig_gen.specs.Refusals.{IsGen}
 use Rattle.irig_gen.proofs.generator.Generator.frame_by.Goals as goal
 
 pub control_at-control-requires : goal.control_at-control-requires
@@ -26,8 +28,8 @@ frame_with-requires-clause-control c =
     let k = subst IsControl (sym c.control_at-control.ensures) (control_fits i.rules.sense c.zone_at-zone.result c.deref-2.result.now c.leap-leap.result c.in_ok-utc.utc small) in
     subst IsControl (sym c.faulted-sent.ensures) (faulted_fits c.args.fault c.control_at-control.result k)
 
-pub returns : goal.returns
-returns c =
+pub returns-clause-frame : goal.returns-clause-frame
+returns-clause-frame c =
     let i = c.self.inside in
     let u = c.in_ok-utc.utc in
     let z = c.zone_at-zone.result in
@@ -37,11 +39,20 @@ returns c =
     c.self.view_is ((c.at.ensures.second u).0 c.in_ok-utc.was) c.deref.ensures.value c.deref-2.ensures.value c.zone_at-zone.ensures (in_byte z.half_hours small)
     c.leap-leap.ensures c.control_at-control.ensures c.args.fault c.faulted-sent.result c.faulted-sent.ensures c.frame_with.ensures
 
-pub returns-in_err-utc : goal.returns-in_err-utc
-returns-in_err-utc c =
+pub returns-in_err-utc-clause-frame : goal.returns-in_err-utc-clause-frame
+returns-in_err-utc-clause-frame c =
     subst (λ (o : Option (List Symbol)). MatchOption o ((u : UtcSecond) → ¬ IsSecond c.args.timeline.now c.args.edge u) (IsFrameBy c.args.fault c.args.self.now c.args.timeline.now c.args.edge))
     (sym c.from_residual.ensures)
     (λ u h.
     let some : c.at.result ≡ Some u = (c.at.ensures.second u).1 h in
     let none : c.at.result ≡ None = c.in_err-utc.was in
     cc)
+
+pub returns-clause-value : goal.returns-clause-value
+returns-clause-value c =
+    frame_of_by c.args.fault c.args.self.now c.args.timeline.now c.args.edge _ (subst IsGen c.self.view_is c.self.invariant) c.at.ensures.sound (returns-clause-frame c)
+
+pub returns-in_err-utc-clause-value : goal.returns-in_err-utc-clause-value
+returns-in_err-utc-clause-value c =
+    let none : c.at.result ≡ None = c.in_err-utc.was in
+    c.from_residual.ensures ∙ sym (no_frame c.args.fault c.args.self.now c.args.timeline.now c.args.edge (sym c.at.ensures.value ∙ none))

@@ -1,7 +1,8 @@
-use Rattle.std.proofs.Common.{◌≡◌, ◌+◌, ◌-◌, ◌/◌, min, ap, sym, ◌∙◌, arith}
+use Rattle.std.proofs.Common.{◌≡◌, ◌+◌, ◌-◌, ◌/◌, min, None, refl, ap, sym, ◌∙◌, arith}
 use Rattle.irig_time.specs.Times.{Times, leap_of}
 use Rattle.irig_time.proofs.TimeLaws.{few, found_is, length_bounds}
 use Rattle.irig_time.proofs.NextLaws.{valid_second}
+use Rattle.irig_time.proofs.SecondAt.{value_is}
 use Rattle.irig_time.proofs.StretchLaws.{indexed_by, found_in, late_in, rising}
 use Rattle.irig_time.proofs.timeline.Timeline.at.Goals as goal
 
@@ -82,3 +83,15 @@ returns-clause-valid c =
     let sum : total ≡ t.start.sod + c.args.number = omega (arith, c.in_ok-total.ensures.1, c.from.ensures, start) in
     let a = found_in t c.args.number total s.0 s.1 c.min-days.result holds sum is c.if-day-gt36523.false in
     valid_second t c.args.number _ indexed.timeline a
+
+pub returns-in_err-total-clause-value : goal.returns-in_err-total-clause-value
+returns-in_err-total-clause-value c = value_is c.args.self.now c.args.number c.from_residual.result (λ u. returns-in_err-total-clause-second c u)
+
+pub returns-then-day-gt36523-clause-value : goal.returns-then-day-gt36523-clause-value
+returns-then-day-gt36523-clause-value c = value_is c.args.self.now c.args.number None (λ u. returns-then-day-gt36523-clause-second c u)
+
+pub returns-clause-value : goal.returns-clause-value
+returns-clause-value c = value_is c.args.self.now c.args.number _ (λ u. returns-clause-second c u)
+
+pub returns-clause-early : goal.returns-clause-early
+returns-clause-early c = omega (arith, few c.args.self.now c.args.number _ ((returns-clause-second c _).0 refl))

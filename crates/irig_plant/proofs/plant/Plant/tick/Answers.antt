@@ -1,0 +1,42 @@
+use Rattle.std.proofs.Common.{◌≡◌, ◌+◌, ◌<◌, ◌∷◌, [], length, Some, sym, ◌∙◌, ap, arith}
+use Rattle.std.proofs.lemmas.List.{length-append}
+use Rattle.irig_time.specs.Times.{Times, truth_at}
+use Rattle.irig_reader.specs.Life.{tells, report_at_tick}
+use Rattle.irig_plant.specs.declared.event.Event.TheVariants.{Tick}
+use Rattle.irig_plant.specs.Schedule.{ticks_of, life_of, entry_of, log_of}
+use Rattle.irig_plant.specs.Audits.{place, is_broken_now, first_false, first_broken}
+use Rattle.irig_plant.specs.StandsFor.{IsStationAt}
+use Rattle.irig_plant.proofs.ListLaws.{drop-push}
+use Rattle.irig_plant.proofs.StepLaws.{set_station, tick_other, tick_here, audit_tick}
+use Rattle.irig_plant.proofs.plant.Plant.tick.Goals as goal
+
+pub overflow_add-edge : goal.overflow_add-edge
+overflow_add-edge g c = omega (arith, c.in-Some.ensures.early)
+
+pub returns-clause-stands : goal.returns-clause-stands
+returns-clause-stands g c = λ h p.
+    let s = h.setup in
+    let ev = h.events in
+    let r = c.args.r in
+    let xs = c.args.self.now.stations in
+    let low : r < length s.readers = omega (arith, c.in_ok-has_reader.ensures.ok, p.station_count) in
+    let x = c.index_mut-station.result.now in
+    let old : IsStationAt s ev r x = rw c.index_mut-station.ensures.value (p.stations r x low) in
+    let first : IsStationAt s ev r c.index.result.now = rw c.index.ensures (p.stations r c.index.result.now low) in
+    let report : c.tick-ticked.result.report ≡ report_at_tick (life_of s r ev) = c.tick-ticked.ensures.report (life_of s r ev) old.reader in
+    let told : c.tick-ticked.result.told ≡ tells (life_of s r ev) = c.tick-ticked.ensures.told (life_of s r ev) old.reader in
+    let truth : Some c.in-Some.truth ≡ truth_at s.times (ticks_of r ev) =
+    sym c.in-Some.is ∙ c.truth.ensures.value ∙ ap (λ (t : Times). truth_at t c.index.result.now.ticks) p.timeline ∙ ap (truth_at s.times) first.ticked in
+    record {
+      timeline = p.timeline;
+      redundancy = p.redundancy;
+      generator_count = p.generator_count;
+      generators = p.generators;
+      station_count = p.station_count;
+      stations = set_station s ev (Tick r ∷ ev) xs.items r x _ (sym xs.ok.0 ∙ p.station_count) low p.stations c.index_mut-station.ensures.value
+          (tick_other s ev r)
+          (λ o. tick_here s ev r x _ (c.tick-ticked.ensures.after (life_of s r ev) o.reader) (ap (λ n. n + 1) (first.ticked ∙ sym old.ticked)) o);
+      log = c.append.ensures ∙ rw (c.reserve.ensures.items, p.log, report, first.ticked) (sym (drop-push h.shown (log_of s ev) (entry_of s r ev) p.few));
+      few = omega (arith, p.few, length-append (log_of s ev) (entry_of s r ev ∷ []));
+      audit = c.audited-self.ensures ∙ rw (p.audit, truth, told, p.redundancy, first.ticked) (audit_tick (first_false s.times 0 s.readers) (first_broken s ev) (place r (ticks_of r ev + 1)) (is_broken_now s r ev));
+    }
