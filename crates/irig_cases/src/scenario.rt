@@ -103,7 +103,7 @@ pub const UTC: Clock = Clock {
 };
 
 /// A reader that locks after two votes, holds over for an hour at most, and has no table.
-pub const R1: Seat = Seat {
+pub const FIRST_READER: Seat = Seat {
     name: "r1",
     lock_after: 2,
     holdover: 3600,
@@ -111,7 +111,10 @@ pub const R1: Seat = Seat {
 };
 
 /// A second reader like that.
-pub const R2: Seat = Seat { name: "r2", ..R1 };
+pub const SECOND_READER: Seat = Seat {
+    name: "r2",
+    ..FIRST_READER
+};
 
 /// How all plants read.
 pub const RULES: Rules = Rules {
@@ -126,7 +129,7 @@ pub const NOON: Plan = Plan {
     leaps: &[],
     rules: RULES,
     generators: &[UTC; 3],
-    readers: &[R1],
+    readers: &[FIRST_READER],
 };
 
 /// The same with five generators.
@@ -135,5 +138,5 @@ pub const NOON_OF_FIVE: Plan = Plan {
     leaps: &[],
     rules: RULES,
     generators: &[UTC; 5],
-    readers: &[R1],
+    readers: &[FIRST_READER],
 };

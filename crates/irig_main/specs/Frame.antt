@@ -1,6 +1,5 @@
 -- What `frame` prints.
-use Rattle.std.specs.Prelude.{◌≡◌, ℕ, ◌+◌, ◌*◌, ◌/◌, ◌%◌, ◌^◌, ◌<◌, Bool, true, false, ℤ, pos, neg_ℤ, is_some, List, Option, Some, None, length, slice_get, option_map}
-use Rattle.std.specs.Io.KnownBytes.{Appends}
+use Rattle.std.specs.Prelude.{◌≡◌, ℕ, ◌+◌, ◌*◌, ◌/◌, ◌%◌, ◌^◌, ◌<◌, Bool, true, false, ℤ, neg_ℤ, is_some, List, Option, Some, None, length, slice_get, option_map}
 use Rattle.irig_frame.specs.declared.symbol.Symbol.{Symbol}
 use Rattle.irig_frame.specs.declared.coded.Coded.{Coded}
 use Rattle.irig_frame.specs.Reading.{Reads}
@@ -56,9 +55,3 @@ pub record IsFrameOf (time : List ℕ) (local : ℤ) (pending : Option Leap) (te
   pub named : IsText utc time
   pub codes : CodesSecond utc local pending frame
   pub shown : IsFrameText frame text
-
--- known bytes grow by the frame of the UTC second that the time names
-pub record WritesFrameOf (time : List ℕ) (old new : Option (List ℕ)) : Type 0 where
-  pub text : List ℕ
-  pub frame : IsFrameOf time (pos 0) None text
-  pub wrote : Appends old new text

@@ -1,16 +1,38 @@
 -- The exit statuses.
-use Rattle.std.specs.Prelude.{◌≡◌, ℕ, ◌≤◌, ◌⊎◌}
+use Rattle.std.specs.Prelude.{◌≡◌, ℕ, ◌≤◌, ◌⊎◌, Result, Ok, Err}
+use Rattle.irig_scene.specs.declared.outcome.Outcome.{Outcome}
+use Rattle.irig_scene.specs.declared.fault.SceneFault.{SceneFault}
+use Rattle.irig_scene.specs.declared.fault.SceneFault.TheVariants as scene
 use Rattle.irig_main.specs.declared.fault.Fault.{Fault}
-use Rattle.irig_main.specs.declared.fault.Fault.TheVariants.{CommandLine, NotText, BadTime, BadFrameText, Write, Memory}
+use Rattle.irig_main.specs.declared.fault.Fault.TheVariants.{CommandLine, NotText, BadTime, BadFrameText, Refused, Read, Write, Memory}
 
--- a fault of the words is 2, of the output 5, of the memory 6
+-- a fault of the words is 2, a refused scenario 3, a fault of the input 4, of the output 5, of the memory 6
 abbrev pub status_of : Fault → ℕ
 status_of (CommandLine text) = 2
 status_of NotText = 2
 status_of BadTime = 2
 status_of BadFrameText = 2
+status_of Refused = 3
+status_of Read = 4
 status_of Write = 5
 status_of Memory = 6
+
+-- the fault of the program by which the run of a scenario ended
+abbrev pub fault_of : SceneFault → Fault
+fault_of (scene.Refused line number) = Refused
+fault_of scene.Read = Read
+fault_of scene.Write = Write
+fault_of scene.Memory = Memory
+
+-- what the run of a scenario leaves for the program
+abbrev pub ended_by : Result Outcome SceneFault → Result (Unit {0}) Fault
+ended_by (Ok outcome) = Ok _
+ended_by (Err fault) = Err (fault_of fault)
+
+-- a run of a scenario that was done is 0
+abbrev pub status_of_answer : Result Outcome SceneFault → ℕ
+status_of_answer (Ok outcome) = 0
+status_of_answer (Err fault) = status_of (fault_of fault)
 
 -- 0 says that all was done; 1 is no status of the program
 abbrev pub IsStatus : ℕ → Type 0

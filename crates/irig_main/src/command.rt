@@ -3,21 +3,43 @@
 ghost use Rattle.std.specs.Prelude.{◌≡◌, ◌≤◌, IfOk, Ok, length, unsigned_abs};
 ghost use Rattle.irig_main.specs.Requests.{IsRequest};
 
-use clap::{Arg, ArgMatches, Command, Error};
+use clap::{Arg, ArgAction, ArgMatches, Command, Error};
 use irig_time::Leap;
 use std::alloc::{AllocError, Global};
 
 const ABOUT: &str =
-    "Writes and reads frames of IRIG-B time code (code B004: pulse width, with the year, control
-functions and straight binary seconds).";
+    "Runs scenarios of a plant in which three or five generators of IRIG-B time code feed readers that vote, and
+writes and reads frames of that code (B004: pulse width, with the year, control functions and straight
+binary seconds).";
 
-const AFTER: &str = "Without a command it does what `irig frame 2000-01-03T00:00:00Z` does.
+const AFTER: &str =
+    "Without a command it runs the scenario on standard input, as `irig run` runs one in a file.
+
+Examples:
+  $ irig < examples/leap_inserted.jsonl
+  $ irig run examples/two_liars.jsonl --all
+  $ irig frame 2016-12-31T23:59:59Z --pending=insert
+  $ irig read \"$(irig frame 2016-12-31T23:59:59Z)\"
 
 Exit statuses:
-  0  done; that a frame is faulty is an answer too
+  0  done; that a frame is faulty, or a premise broken, is an answer too
   2  the command line, TIME or FRAME is not understood
+  3  a line of the scenario is refused; the last line of the log says which, and why
+  4  FILE or standard input can't be read
   5  the output took no more
   6  out of memory";
+
+const RUN_AFTER: &str =
+    "FILE has one JSON value a line: the plant, then what happens in it, event by event. The log has a line for each
+second that a reader announces, and with --all for each tick of a reader:
+  EDGE READER TIME LOCK CAUSE
+TIME is - where the reader announces nothing. The last line says whether the premises held under which each
+announced second is the true one, or which line is refused.
+
+Example:
+  $ irig run examples/plain_minute.jsonl | tail -n 2
+  60 relay 2016-06-15T12:01:00Z locked voted
+  premises kept";
 
 const FRAME_AFTER: &str =
     "A frame has 100 symbols, here in ten groups of ten: P a marker, 0 and 1. It has even parity, quality 0
@@ -48,8 +70,14 @@ static PENDING: [&str; 2] = ["insert", "delete"];
 /// What a command line asks for.
 #[derive(Clone, Copy, Debug)]
 pub enum Request<'a> {
-    /// The run without a command.
+    /// The scenario on the input.
     Plain,
+    /// The scenario in a file.
+    Run {
+        file: &'a str,
+        /// Whether the log shows silent ticks too.
+        all: bool,
+    },
     /// The frame of a UTC second.
     Frame {
         time: &'a str,
@@ -75,6 +103,10 @@ pub fn parse<'a>(alloc: Global, words: &'a [&'a str]) -> Result<Request<'a>, Err
     }
     let matches = program(alloc)?.try_get_matches_from(words)?;
     Ok(match matches.subcommand() {
+        Some(("run", run)) => Request::Run {
+            file: value(run, "FILE"),
+            all: run.get_flag("all"),
+        },
         Some(("frame", frame)) => Request::Frame {
             time: value(frame, "TIME"),
             local: local(frame),
@@ -112,8 +144,25 @@ fn program<'a>(alloc: Global) -> Result<Command<'a>, AllocError> {
         .about(ABOUT)
         .after_help(AFTER)
         .subcommand_required(true)
+        .subcommand(run_command(alloc)?)?
         .subcommand(frame_command(alloc)?)?
         .subcommand(read_command(alloc)?)
+}
+
+// The command of a scenario in a file.
+fn run_command<'a>(alloc: Global) -> Result<Command<'a>, AllocError> {
+    let file = Arg::new(alloc, "FILE")
+        .help("The scenario: JSON Lines, as docs/SCENARIOS.md says")
+        .required(true);
+    let all = Arg::new(alloc, "all")
+        .long("all")
+        .help("Shows the ticks at which a reader announces nothing too")
+        .action(ArgAction::SetTrue);
+    Command::new(alloc, "run")
+        .about("Runs a scenario and prints its log")
+        .after_help(RUN_AFTER)
+        .arg(file)?
+        .arg(all)
 }
 
 fn frame_command<'a>(alloc: Global) -> Result<Command<'a>, AllocError> {

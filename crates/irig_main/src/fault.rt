@@ -2,8 +2,9 @@
 
 ghost use Rattle.std.specs.Prelude.{◌≡◌};
 ghost use Rattle.irig_main.specs.declared.fault.Fault.TheVariants.{Memory};
-ghost use Rattle.irig_main.specs.Status.{status_of};
+ghost use Rattle.irig_main.specs.Status.{fault_of, status_of};
 
+use irig_scene::SceneFault;
 use std::alloc::AllocError;
 use std::fmt;
 
@@ -18,6 +19,10 @@ pub enum Fault {
     BadTime,
     /// A FRAME with a character that is no symbol.
     BadFrameText,
+    /// A line of the scenario, which the log names.
+    Refused,
+    /// FILE or the input can't be read.
+    Read,
     /// The output took no more.
     Write,
     /// The system gave no memory.
@@ -31,6 +36,8 @@ impl Fault {
     {
         match self {
             Fault::CommandLine(_) | Fault::NotText | Fault::BadTime | Fault::BadFrameText => 2,
+            Fault::Refused => 3,
+            Fault::Read => 4,
             Fault::Write => 5,
             Fault::Memory => 6,
         }
@@ -44,6 +51,8 @@ impl fmt::Display for Fault {
             Fault::NotText => "the command line is no UTF-8",
             Fault::BadTime => "bad time",
             Fault::BadFrameText => "bad frame text",
+            Fault::Refused => "scenario refused",
+            Fault::Read => "read failed",
             Fault::Write => "write failed",
             Fault::Memory => "out of memory",
         })
@@ -58,11 +67,26 @@ impl From<AllocError> for Fault {
     }
 }
 
-/// Tells the standard error of a fault, and answers the status.
+impl From<SceneFault> for Fault {
+    ghost from_gives = { λ scene fault. fault ≡ fault_of scene };
+
+    fn from(fault: SceneFault) -> Fault {
+        match fault {
+            SceneFault::Refused { .. } => Fault::Refused,
+            SceneFault::Read => Fault::Read,
+            SceneFault::Write => Fault::Write,
+            SceneFault::Memory => Fault::Memory,
+        }
+    }
+}
+
+/// Tells the standard error of a fault, except of a refusal, which the log tells; answers the status.
 pub fn tell(rt: &impl Eprint, fault: &Fault) -> u8
     ensures { result ≡ status_of fault.now }
 {
-    // A standard error that takes nothing changes no status.
-    let _ = rt.eprintln(fault);
+    if !matches!(fault, Fault::Refused) {
+        // A standard error that takes nothing changes no status.
+        let _ = rt.eprintln(fault);
+    }
     fault.status()
 }

@@ -3,18 +3,34 @@ use crate::fault::Fault;
 use arrayvec::ArrayVec;
 use irig_device::{Break, Fuse, Watched};
 use std::io;
-use std::io::Write;
+use std::io::{BufRead, Write};
 use std::test::Fail;
 
 const PLAIN_LINE: &str =
     "P00000000P 000000000P 000000000P 110000000P 000000000P 000000000P 000000000P 000000000P 000000000P 000000000P\n";
 
+// A plain plant with one reader, and three seconds of it.
+const SCENARIO: &str = concat!(
+    r#"{"version":1,"start":"2016-06-15T12:00:00Z","leaps":[],"parity":"even","sense":"add","sbs":"check","#,
+    r#""generators":[{"local":0},{"local":0},{"local":0}],"readers":[{"name":"r1","lock_after":2,"holdover":3600}]}"#,
+    "\n",
+    r#"{"do":"seconds","n":3}"#,
+    "\n",
+);
+
+// What its reader announces, and the last line.
+const ENTRIES: &str =
+    "2 r1 2016-06-15T12:00:02Z locked voted\n3 r1 2016-06-15T12:00:03Z locked voted\n";
+
+const LOG: &str =
+    "2 r1 2016-06-15T12:00:02Z locked voted\n3 r1 2016-06-15T12:00:03Z locked voted\npremises kept\n";
+
 // The words, the status that they end with, and what they write.
 type Row = (&'static [&'static str], u8, &'static str);
 
 const ANSWERS: [Row; 22] = [
-    (&[], 0, PLAIN_LINE),
-    (&["irig"], 0, PLAIN_LINE),
+    (&[], 0, LOG),
+    (&["irig"], 0, LOG),
     (&["irig", "frame", "2000-01-03T00:00:00Z"], 0, PLAIN_LINE),
     (
         &["irig", "frame", "2016-12-31T23:59:59Z"],
@@ -171,7 +187,7 @@ const ANSWERS: [Row; 22] = [
     ),
 ];
 
-const REFUSALS: [Row; 22] = [
+const REFUSALS: [Row; 28] = [
     (&["irig", "walk"], 2, ""),
     (&["irig", "--"], 2, ""),
     (&["irig", "frame"], 2, ""),
@@ -220,6 +236,16 @@ const REFUSALS: [Row; 22] = [
         "",
     ),
     (&["irig", "frame", "2016-12-31", "--local=-31"], 2, ""),
+    (&["irig", "run"], 2, ""),
+    (&["irig", "run", "--all"], 2, ""),
+    (&["irig", "run", "one", "two"], 2, ""),
+    (&["irig", "run", "one", "--all", "--all"], 2, ""),
+    (&["irig", "run", "no_such_directory/no_such_file"], 4, ""),
+    (
+        &["irig", "run", "no_such_directory/no_such_file", "--all"],
+        4,
+        "",
+    ),
     (&["irig", "read", "P", "P"], 2, ""),
     (&["irig", "read", "P0000x"], 2, ""),
     (&["irig", "read", "P\t"], 2, ""),
@@ -235,7 +261,7 @@ const REFUSALS: [Row; 22] = [
 ];
 
 // What asks for help, and a line of the help.
-const HELPS: [(&[&str], &str); 5] = [
+const HELPS: [(&[&str], &str); 6] = [
     (&["irig", "--help"], "\nUsage: irig <COMMAND>\n"),
     (&["irig", "help"], "\nUsage: irig <COMMAND>\n"),
     (
@@ -247,6 +273,10 @@ const HELPS: [(&[&str], &str); 5] = [
         "\nUsage: irig frame [OPTIONS] <TIME>\n",
     ),
     (&["irig", "read", "-h"], "\nUsage: irig read <FRAME>\n"),
+    (
+        &["irig", "run", "--help"],
+        "\nUsage: irig run [OPTIONS] <FILE>\n",
+    ),
 ];
 
 // Room for the longest text, outside the memory that may be refused.
@@ -280,10 +310,20 @@ struct Ended {
 
 impl Ended {
     fn run(rt: &HostRuntime, words: &[&str], bytes: usize, how: Break) -> Ended {
+        Ended::reading(rt, words, SCENARIO.as_bytes(), bytes, how)
+    }
+
+    fn reading<I: BufRead + Drop>(
+        rt: &HostRuntime,
+        words: &[&str],
+        input: I,
+        bytes: usize,
+        how: Break,
+    ) -> Ended {
         let mut drip = Drip {
             taken: ArrayVec::new(),
         };
-        let mut input = Watched::new(b"".as_slice());
+        let mut input = Watched::new(input);
         let mut output = Watched::new(Fuse::new(&mut drip, bytes as u64, how));
         let status = drive(rt, words, &mut input, &mut output);
         Ended {
@@ -336,6 +376,32 @@ fn an_output_that_breaks_has_a_front_of_the_text(rt: HostRuntime) {
     }
 }
 
+// Each byte is read by one call, and a line's log is written before the next line is read.
+#[test]
+fn an_input_that_breaks_has_the_log_of_its_whole_lines(rt: HostRuntime) {
+    for how in [Break::Fail, Break::Interrupt, Break::Nothing] {
+        for bytes in 0..=SCENARIO.len() {
+            let input = Fuse::new(SCENARIO.as_bytes(), bytes as u64, how);
+            let ended = Ended::reading(&rt, &["irig"], input, AMPLE, Break::Fail);
+            let log = if bytes < SCENARIO.len() { "" } else { ENTRIES };
+            assert!(rt; ended.is(4, log.as_bytes()), "after {bytes}");
+        }
+    }
+}
+
+#[test]
+fn a_refused_scenario_is_told_by_its_log(rt: HostRuntime) {
+    let scenarios = [
+        ("", "refused: line 1: 29 NoPlant\n"),
+        ("[]", "refused: line 1: 25 Shape\n"),
+        ("\n{", "refused: line 2: 24 Json\n"),
+    ];
+    for (text, log) in scenarios {
+        let ended = Ended::reading(&rt, &["irig"], text.as_bytes(), AMPLE, Break::Fail);
+        assert!(rt; ended.is(3, log.as_bytes()), "at {text}");
+    }
+}
+
 // Of two runs one at least finds memory, and shows whether the other is right.
 #[test]
 fn help_is_written_to_the_output(rt: HostRuntime) -> Result<(), Fail> {
@@ -361,6 +427,7 @@ fn each_fault_has_its_text(rt: HostRuntime) -> Result<(), Fail> {
     let texts = [
         (Fault::BadTime, "bad time"),
         (Fault::BadFrameText, "bad frame text"),
+        (Fault::Read, "read failed"),
         (Fault::Write, "write failed"),
         (Fault::Memory, "out of memory"),
     ];

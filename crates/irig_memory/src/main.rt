@@ -8,9 +8,11 @@
 
 mod plant;
 
+ghost use Rattle.irig_plant.specs.Sound.{IsSound};
+
 use irig_plant::{Entry, Event, Plant, PlantFault, Refused};
 use irig_port::FlowPort;
-use irig_time::{valid, write_text};
+use irig_time::write_text;
 use std::{io, str};
 
 /// A second of the plant: each generator's frame to each reader, a tick of each, an edge of each
@@ -52,13 +54,12 @@ fn run_all(plant: &mut Plant<FlowPort>, events: &[Event]) -> Result<(), Refused>
 }
 
 /// What a reader announced, with its edge.
-fn print(rt: &HostRuntime, entry: &Entry) -> io::Result<()> {
+fn print(rt: &HostRuntime, entry: &Entry) -> io::Result<()>
+    requires { IsSound entry.now }
+{
     let Some(utc) = entry.report.announce else {
         return Ok(());
     };
-    if !valid(&utc) {
-        return Ok(());
-    }
     let text = write_text(&utc);
     let time = str::from_utf8(&text).unwrap_or("no text");
     println!(rt; "{} r{} {time}", entry.edge, u16::from(entry.reader) + 1)

@@ -1,5 +1,12 @@
 -- What some short lists of events say, to pin the definitions to examples worked by hand. Newest events come first.
-use Rattle.std.proofs.Common.{◌≡◌, ℕ, ◌+◌, List, [], ◌∷◌, Option, Some, None, refl, arith}
+use Rattle.std.specs.Prelude.{◌==◌, ◌||◌}
+use Rattle.std.proofs.Common.{◌≡◌, ℕ, ◌+◌, ◌≤◌, true, false, [], ◌∷◌, Some, None, inl, inr, refl, sym, ap, ◌∙◌, arith}
+use Rattle.std.proofs.lemmas.Bool.{false≢true, cases_eq}
+use Rattle.irig_time.specs.declared.claim.Claim.{Claim}
+use Rattle.irig_time.specs.declared.mark.Mark.TheVariants.{Unspoken, NoLeap}
+use Rattle.irig_time.specs.Times.{Times}
+use Rattle.irig_time.specs.Tables.{Table}
+use Rattle.irig_port.specs.declared.told.Told.TheVariants as tells
 use Rattle.irig_frame.specs.declared.symbol.Symbol.TheVariants.{Zero, One, Marker}
 use Rattle.irig_gen.specs.declared.fault.GenFault.TheVariants.{Silent, Stuck}
 use Rattle.irig_plant.specs.declared.event.Event.TheVariants.{GenEdge, Tick, Raw, Fault, Repair, Restart}
@@ -8,6 +15,7 @@ use Rattle.irig_plant.specs.Widths.{widths_of, damaged}
 use Rattle.irig_plant.specs.Schedule.{Setup, generator_at, heard_at, ticks_of}
 use Rattle.irig_plant.specs.Runs.{played}
 use Rattle.irig_plant.specs.Audits.{place, verdict}
+use Rattle.irig_plant.specs.Edges.{is_carried, is_voted_now, is_voted, is_restarted, Course, IsHeld, HasVote}
 
 -- of any plant
 module _ (s : Setup) where
@@ -71,3 +79,83 @@ broken_next = refl
 
 kept_last : verdict None None ≡ Kept
 kept_last = refl
+
+-- ---- edges
+
+-- a restart falls after the tick before it
+restarted_after_1 : is_restarted 0 (Tick 0 ∷ Restart 0 ∷ Tick 1 ∷ Tick 0 ∷ []) 1 ≡ true
+restarted_after_1 = refl
+
+not_restarted_after_2 : is_restarted 0 (Tick 0 ∷ Restart 0 ∷ Tick 1 ∷ Tick 0 ∷ []) 2 ≡ false
+not_restarted_after_2 = refl
+
+other_not_restarted : is_restarted 1 (Tick 0 ∷ Restart 0 ∷ Tick 1 ∷ Tick 0 ∷ []) 1 ≡ false
+other_not_restarted = refl
+
+-- an edge is voted by what was heard before its own tick; there is no edge 0
+module _ (s : Setup) where
+  voted_at_2 : is_voted s 0 (Tick 0 ∷ Tick 1 ∷ Tick 0 ∷ []) 2 ≡ is_voted_now s 0 (Tick 1 ∷ Tick 0 ∷ [])
+  voted_at_2 = refl
+
+  voted_at_1 : is_voted s 0 (Tick 0 ∷ Tick 1 ∷ Tick 0 ∷ []) 1 ≡ is_voted_now s 0 []
+  voted_at_1 = refl
+
+  not_voted_at_0 : is_voted s 0 (Tick 0 ∷ []) 0 ≡ false
+  not_voted_at_0 = refl
+
+  not_voted_at_3 : is_voted s 0 (Tick 0 ∷ Tick 0 ∷ []) 3 ≡ false
+  not_voted_at_3 = refl
+
+abbrev noon : Claim
+noon = record { at = record { day = 100; sod = 43200 }; mark = Unspoken }
+
+-- two of three ports carry it; second and mark both count
+carried_by_two : is_carried 1 (tells.Claim noon ∷ tells.Silence ∷ tells.Claim noon ∷ []) (Some noon) ≡ true
+carried_by_two = refl
+
+not_carried_by_one : is_carried 1 (tells.Claim noon ∷ tells.Silence ∷ tells.Claim (record noon { mark = NoLeap }) ∷ []) (Some noon) ≡ false
+not_carried_by_one = refl
+
+-- a reader that locks after 2 votes and holds over for 1 edge, of which edges 1 and 2 are voted, is held at 2 and 3 alone
+module _ (t : Times) (table : Table) where
+  abbrev two_votes : Course
+  two_votes = record { times = t; own = record { lock_after = 2; holdover = 1 }; table = table; voted = λ i. (i == 1) || (i == 2); restarted = λ i. false }
+
+  vote_at_2 : (j : ℕ) → 2 ≤ j → j ≤ 3 → HasVote two_votes 2 j 1
+  vote_at_2 j from to = record { edge = 2; from = omega arith; to = from; near = to; is = refl }
+
+  both_voted : (i : ℕ) → 3 ≤ i + 2 → i ≤ 2 → two_votes.voted i ≡ true
+  both_voted i from to = elim (cases_eq i 1) [ inl e ↦ ap two_votes.voted e | inr other ↦ ap two_votes.voted (let e : i ≡ 2 = omega (arith, other) in e) ]
+
+  held_at_2 : IsHeld two_votes 2
+  held_at_2 = record {
+    lock = 2;
+    enough = omega arith;
+    before = omega arith;
+    votes = both_voted;
+    unbroken = λ i a b. refl;
+    fresh = λ j a b. vote_at_2 j a (omega arith);
+    unguarded = λ j a b. absurd (omega arith);
+  }
+
+  held_at_3 : IsHeld two_votes 3
+  held_at_3 = record {
+    lock = 2;
+    enough = omega arith;
+    before = omega arith;
+    votes = both_voted;
+    unbroken = λ i a b. refl;
+    fresh = λ j a b. vote_at_2 j a b;
+    unguarded = λ j a b g. false≢true (sym (g.unheard 2 (omega arith) a));
+  }
+
+  not_held_at_1 : ¬ IsHeld two_votes 1
+  not_held_at_1 h = omega (arith, h.enough, h.before)
+
+  not_held_at_4 : ¬ IsHeld two_votes 4
+  not_held_at_4 h =
+      let last : HasVote two_votes h.lock 4 1 = h.fresh 4 h.before (omega arith) in
+      elim (cases_eq last.edge 3) [
+        | inl e ↦ false≢true (ap two_votes.voted (sym e) ∙ last.is)
+        | inr other ↦ false≢true (ap two_votes.voted (let e : 4 ≡ last.edge = omega (arith, other, last.near, last.to) in e) ∙ last.is)
+      ]

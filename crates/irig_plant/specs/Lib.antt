@@ -1,7 +1,11 @@
 pub mod Widths
 pub mod Feeds
+pub mod Sound
 pub mod Schedule
 pub mod Refusals
 pub mod Runs
 pub mod Audits
+pub mod Edges
+pub mod Headline
+pub mod Exactly
 pub mod StandsFor

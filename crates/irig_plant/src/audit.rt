@@ -4,6 +4,7 @@ ghost use Rattle.std.specs.Prelude.{◌≡◌, ◌≤◌, ◌+◌, ◌-◌, None
 ghost use Rattle.std.specs.List.{list_all, range_with_len};
 ghost use Rattle.irig_time.specs.declared.mark.Mark.{Mark};
 ghost use Rattle.irig_time.specs.Times.{mark_by};
+ghost use Rattle.irig_time.specs.TimelineFaults.{IsTimeline};
 ghost use Rattle.irig_vote.specs.Vote.{f_of, ports_of};
 ghost use Rattle.irig_plant.specs.Audits as audits;
 
@@ -25,8 +26,9 @@ pub enum Audit {
 
 /// The audit of a plant to which nothing has happened.
 pub(crate) fn first_audit(timeline: &Timeline, readers: &[ReaderSetup]) -> Audit
-    requires { length readers.now ≤ 16 }
-    ensures { result ≡ audits.verdict (audits.first_false timeline.now 0 readers.now) None }
+    requires { (1 ≤ length readers.now) × (length readers.now ≤ 16) }
+    ensures value { result ≡ audits.verdict (audits.first_false timeline.now 0 readers.now) None }
+    ensures sound { IsTimeline timeline.now }
 {
     for (reader, setup) in readers.iter().enumerate() {
         if !is_true_table(timeline, &setup.table) {
@@ -41,7 +43,8 @@ pub(crate) fn first_audit(timeline: &Timeline, readers: &[ReaderSetup]) -> Audit
 /// Whether the table says what the timeline has wherever it speaks, from the timeline's first day on.
 #[tactic(auto, unfolding(crate::specs::Audits::is_true_table))]
 fn is_true_table(timeline: &Timeline, table: &LeapTable) -> bool
-    ensures { result ≡ audits.is_true_table timeline.now table.now }
+    ensures value { result ≡ audits.is_true_table timeline.now table.now }
+    ensures sound { IsTimeline timeline.now }
 {
     match timeline.at(0) {
         Some(start) => agrees_from(timeline, table, start.day),

@@ -21,7 +21,12 @@ pub use audit::Audit;
 pub use entry::Entry;
 pub use event::{Event, Widths};
 pub use fault::{PlantFault, Refused};
-pub use laws::{equal_logs, true_tables};
+pub use laws::{
+    announcements_agree, announcements_are_true, announcements_tell_their_lock,
+    announces_exactly_when_held, audit_is_kept, edges_are_voted, equal_logs, kept_logs_are_true,
+    no_false_alarms, readers_keep_to_the_truth, silences_tell_their_cause, true_tables,
+    votes_are_at_voted_edges, votes_are_true,
+};
 pub use plant::Plant;
 pub use setup::ReaderSetup;
 

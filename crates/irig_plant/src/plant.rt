@@ -1,8 +1,10 @@
 //! A plant and its events.
 
 ghost use Rattle.std.specs.Prelude.{◌≡◌, ◌<◌, ◌≤◌, ◌+◌, ◌⊎◌, ◌++◌, ◌∷◌, [], All, IfSome, IfOk, IfErr, OnOk, OnErr, length, take, drop, slice_get, unwrap_or, vec_len, vec_capacity, Some, None};
+ghost use Rattle.irig_time.specs.TimelineFaults.{timeline_fault};
 ghost use Rattle.irig_vote.specs.Vote.{ports_in};
 ghost use Rattle.irig_plant.specs.Schedule.{redundancy_of};
+ghost use Rattle.irig_plant.specs.Sound.{IsSound};
 
 use crate::audit::{Audit, audited, first_audit};
 use crate::entry::Entry;
@@ -29,6 +31,9 @@ pub struct Plant<P: Port> {
     audit: Audit,
     ghost fed: { vec_len generators ≡ ports_in redundancy },
     ghost wired: { All (λ x. x.reader.redundancy ≡ redundancy) stations.items },
+    ghost timed: { timeline_fault timeline.start timeline.leaps ≡ None },
+    ghost sound: { ∥ All IsSound log.items ∥₁ },
+    ghost known: { All (λ e. e.reader < vec_len stations) log.items },
 }
 
 /// Appends an entry where there is room for it.
@@ -56,6 +61,8 @@ impl<P: Port> Plant<P> {
     ghost use Rattle.irig_plant.specs.Refusals.{unless_reader, unless_generator};
     ghost use Rattle.irig_plant.specs.Runs.{played, AreAccepted, IsRefused};
     ghost use Rattle.irig_plant.specs.Audits.{audit_of};
+    ghost use Rattle.irig_plant.specs.Headline.{AnnouncesTruth, GivesNoFalseAlarm};
+    ghost use Rattle.irig_plant.specs.Exactly.{AnnouncesWhenHeld, TellsItsLock, TellsItsCause};
     ghost use Rattle.irig_plant.specs.StandsFor.{AreGenerators, AreReaders, AreNew, Past, beginning, with_event, with_events, cleared, StandsFor, Accepts, Follows, Refuses, RefusesAtLast, Keeps};
 
     /// A plant over this timeline, with these generators, all of whose readers read by the same rules.
@@ -147,9 +154,19 @@ impl<P: Port> Plant<P> {
         Ok(())
     }
 
-    /// What the readers said, in order, since the log was last cleared.
+    /// What the readers said, in order, since the log was last cleared. What they announced are
+    /// [`valid`](irig_time::valid) seconds, and those of their edges where the premises held. Then none
+    /// gives a false alarm, each announces exactly where its edge is held, and its lock and its cause are
+    /// those that the events give.
     pub fn log(&self) -> &[Entry]
-        ensures { (h : Past) → StandsFor self.now h → result.now ≡ drop h.shown (log_of h.setup h.events) }
+        ensures entries { (h : Past) → StandsFor self.now h → result.now ≡ drop h.shown (log_of h.setup h.events) }
+        ensures truth { (h : Past) → StandsFor self.now h → All (AnnouncesTruth h.setup h.events) result.now }
+        ensures calm { (h : Past) → StandsFor self.now h → All (GivesNoFalseAlarm h.setup h.events) result.now }
+        ensures exactly { (h : Past) → StandsFor self.now h → All (AnnouncesWhenHeld h.setup h.events) result.now }
+        ensures lock { (h : Past) → StandsFor self.now h → All (TellsItsLock h.setup h.events) result.now }
+        ensures cause { (h : Past) → StandsFor self.now h → All (TellsItsCause h.setup h.events) result.now }
+        ensures valid { All IsSound result.now }
+        ensures readers { (h : Past) → StandsFor self.now h → All (λ e. e.reader < length h.setup.readers) result.now }
     {
         self.log.as_slice()
     }

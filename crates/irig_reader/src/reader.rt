@@ -1,6 +1,7 @@
 //! A reader with its ports.
 
-ghost use Rattle.std.specs.Prelude.{◌≡◌, ◌<◌};
+ghost use Rattle.std.specs.Prelude.{◌≡◌, ◌<◌, IfSome};
+ghost use Rattle.irig_time.specs.Seconds.{IsValid};
 ghost use Rattle.irig_vote.specs.Vote.{ports_in};
 ghost use Rattle.irig_reader.specs.Rule.{count_of};
 ghost use Rattle.irig_reader.specs.Rules.{IsReaderRules};
@@ -80,12 +81,13 @@ impl<P: Port> Reader<P> {
     }
 
     /// One edge: the vote over what the ports tell, and what the rule makes of it. The ports are then
-    /// empty.
+    /// empty. What is announced is a [`valid`](irig_time::valid) second.
     pub fn tick(&mut self) -> Ticked
         ensures told { (life : Life) → Stands self.old life → result.told ≡ tells life }
         ensures report { (life : Life) → Stands self.old life → result.report ≡ report_at_tick life }
         ensures after { (life : Life) → Stands self.old life → Stands self.new (ticked life) }
         ensures ports { self.new.redundancy ≡ self.old.redundancy }
+        ensures valid { IfSome result.report.announce IsValid }
     {
         let told = Tells {
             a: self.a.edge(),

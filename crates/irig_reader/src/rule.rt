@@ -3,6 +3,7 @@
 ghost use Rattle.std.specs.Prelude.{◌≡◌, ◌<◌, ◌≤◌, ◌+◌, IfSome};
 ghost use Rattle.irig_time.specs.Seconds.{IsValid};
 ghost use Rattle.irig_hold.specs.Steps.{started, voted_by, alone_by};
+ghost use Rattle.irig_hold.specs.Turns.{IfNow};
 ghost use Rattle.irig_reader.specs.Rule as rule;
 
 use crate::report::{Cause, Lock, Report};
@@ -35,6 +36,7 @@ pub(crate) fn act(own: ReaderRules, table: &LeapTable, state: State, vote: Optio
     requires counting { rule.count_of state < own.lock_after }
     ensures step { result ≡ rule.stepped own table.now state vote }
     ensures counting { rule.count_of result.state < own.lock_after }
+    ensures valid { IfSome result.report.announce IsValid }
 {
     match (state, vote) {
         (State::Idle | State::Acquiring(_, _), None) => stopped(Cause::NoVote),
@@ -51,6 +53,7 @@ fn begin(own: ReaderRules, table: &LeapTable, claim: Claim) -> Step
     requires some { 0 < own.lock_after }
     ensures step { result ≡ rule.begun own (started table.now claim) }
     ensures counting { rule.count_of result.state < own.lock_after }
+    ensures valid { IfSome result.report.announce IsValid }
 {
     match Hold::start(claim, table) {
         Ok(hold) => counted(own, hold, 1),
@@ -66,6 +69,7 @@ fn join(own: ReaderRules, table: &LeapTable, mut hold: Hold, count: u8, claim: C
     requires counting { count < own.lock_after }
     ensures step { result ≡ rule.joined own table.now hold count claim }
     ensures counting { rule.count_of result.state < own.lock_after }
+    ensures valid { IfSome result.report.announce IsValid }
 {
     match hold.voted(claim, table) {
         Turn::Now(_) => counted(own, hold, count + 1),
@@ -80,6 +84,7 @@ fn join(own: ReaderRules, table: &LeapTable, mut hold: Hold, count: u8, claim: C
 fn follow(table: &LeapTable, mut hold: Hold, claim: Claim) -> Step
     ensures step { result ≡ rule.followed (voted_by table.now hold claim) }
     ensures counting { rule.count_of result.state ≡ 0 }
+    ensures valid { IfSome result.report.announce IsValid }
 {
     let turn = hold.voted(claim, table);
     goes_on(turn, hold, Lock::Locked, Cause::Voted)
@@ -89,6 +94,7 @@ fn follow(table: &LeapTable, mut hold: Hold, claim: Claim) -> Step
 fn hold_over(own: ReaderRules, table: &LeapTable, mut hold: Hold) -> Step
     ensures step { result ≡ rule.held_over (alone_by table.now hold own.holdover) }
     ensures counting { rule.count_of result.state ≡ 0 }
+    ensures valid { IfSome result.report.announce IsValid }
 {
     let turn = hold.alone(own.holdover, table);
     let age = hold.age();
@@ -97,8 +103,10 @@ fn hold_over(own: ReaderRules, table: &LeapTable, mut hold: Hold) -> Step
 
 /// A locked reader whose hold answers this: it announces, or stops.
 fn goes_on(turn: Turn, hold: Hold, lock: Lock, cause: Cause) -> Step
+    requires valid { IfNow turn IsValid }
     ensures step { result ≡ rule.locked_by lock cause turn hold }
     ensures counting { rule.count_of result.state ≡ 0 }
+    ensures valid { IfSome result.report.announce IsValid }
 {
     match turn {
         Turn::Now(utc) => announced(hold, utc, lock, cause),
@@ -115,6 +123,7 @@ fn counted(own: ReaderRules, hold: Hold, count: u8) -> Step
     requires counting { count ≤ own.lock_after }
     ensures step { result ≡ rule.counted own hold count }
     ensures counting { rule.count_of result.state < own.lock_after }
+    ensures valid { IfSome result.report.announce IsValid }
 {
     if count == own.lock_after {
         let utc = hold.now();

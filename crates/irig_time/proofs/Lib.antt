@@ -1,6 +1,8 @@
 pub mod Dates
 pub mod MonthEnds
 pub mod TextLaws
+pub mod FirstFound
+pub mod TextValueLaws
 pub mod StandardFacts
 pub mod TimeLaws
 pub mod SecondAt

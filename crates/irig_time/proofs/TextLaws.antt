@@ -49,7 +49,7 @@ day_first u bytes h = record {
 }
 
 -- a day has one date
-one_date : (day : ℕ) (y m d y' m' d' : ℕ) → IsDateOf day (pos y) m d → IsDateOf day (pos y') m' d' → (y ≡ y') × (m ≡ m') × (d ≡ d')
+pub one_date : (day : ℕ) (y m d y' m' d' : ℕ) → IsDateOf day (pos y) m d → IsDateOf day (pos y') m' d' → (y ≡ y') × (m ≡ m') × (d ≡ d')
 unfolding date_of_parts
 one_date day y m d y' m' d' a b =
     let same = parts_are (date_of_parts (pos y) m d a.0) (pos y') m' d' b.0 (a.1 ∙ sym b.1) in

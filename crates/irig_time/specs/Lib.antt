@@ -2,6 +2,7 @@ pub mod Days
 pub mod Seconds
 pub mod Coding
 pub mod Texts
+pub mod TextValues
 pub mod Claims
 pub mod Next
 pub mod Times

@@ -4,6 +4,7 @@ ghost use Rattle.std.specs.Prelude.{◌≡◌, ◌↔◌, ◌≤◌, ◌<◌, �
 ghost use Rattle.std.specs.Str.{IsAscii};
 ghost use Rattle.irig_time.specs.Seconds.{IsValid};
 ghost use Rattle.irig_time.specs.Texts.{IsDayText, IsText, two};
+ghost use Rattle.irig_time.specs.TextValues.{second_text, second_read, day_read};
 
 use crate::calendar::{date_parts, day_of};
 use crate::second::{UtcSecond, valid};
@@ -12,6 +13,7 @@ use crate::second::{UtcSecond, valid};
 pub fn write_text(utc: &UtcSecond) -> [u8; 20]
     requires { IsValid utc.now }
     ensures text { IsText utc.now result }
+    ensures value { result ≡ second_text utc.now }
     ensures ascii { IsAscii result }
 {
     let minutes = (utc.sod / 60).min(1439);
@@ -26,7 +28,8 @@ pub fn write_text(utc: &UtcSecond) -> [u8; 20]
 
 /// The second whose text this is: exactly what [`write_text`] gives for a [`valid`] second.
 pub fn read_text(text: &[u8]) -> Option<UtcSecond>
-    ensures { (u : UtcSecond) → (result ≡ Some u) ↔ (IsValid u × IsText u text.now) }
+    ensures exact { (u : UtcSecond) → (result ≡ Some u) ↔ (IsValid u × IsText u text.now) }
+    ensures value { result ≡ second_read text.now }
 {
     if text.len() != 20 {
         return None;
@@ -43,7 +46,8 @@ pub fn read_text(text: &[u8]) -> Option<UtcSecond>
 
 /// The day, counted from 2000-01-01, whose date this is as `YYYY-MM-DD`, from 2000-01-01 to 2099-12-31.
 pub fn read_day(text: &[u8]) -> Option<u32>
-    ensures { (d : ℕ) → (result ≡ Some d) ↔ ((d ≤ 36524) × IsDayText d text.now) }
+    ensures exact { (d : ℕ) → (result ≡ Some d) ↔ ((d ≤ 36524) × IsDayText d text.now) }
+    ensures value { result ≡ day_read text.now }
 {
     if text.len() != 10 {
         return None;

@@ -1,6 +1,6 @@
 //! Leap seconds and month ends, with a vote and without.
 
-use crate::scenario::{Plan, R1, R2, RULES, Scenario, Seat, Shown, Step, UTC};
+use crate::scenario::{FIRST_READER, Plan, RULES, SECOND_READER, Scenario, Seat, Shown, Step, UTC};
 use irig_gen::GenFault;
 use irig_time::Leap;
 
@@ -12,7 +12,7 @@ pub const CASES: [Scenario; 8] = [
             leaps: &[("2016-12-31", Leap::Insert)],
             rules: RULES,
             generators: &[UTC; 3],
-            readers: &[R1, R2],
+            readers: &[FIRST_READER, SECOND_READER],
         },
         steps: &[Step::Seconds(12)],
         shown: Shown::Announced,
@@ -49,7 +49,7 @@ premises kept
             leaps: &[("2016-12-31", Leap::Insert)],
             rules: RULES,
             generators: &[UTC; 3],
-            readers: &[R1, R2],
+            readers: &[FIRST_READER, SECOND_READER],
         },
         steps: &[Step::Seconds(12)],
         shown: Shown::All,
@@ -88,7 +88,7 @@ premises kept
             leaps: &[("2030-06-30", Leap::Delete)],
             rules: RULES,
             generators: &[UTC; 3],
-            readers: &[R1],
+            readers: &[FIRST_READER],
         },
         steps: &[Step::Seconds(9)],
         shown: Shown::All,
@@ -112,7 +112,7 @@ premises kept
             leaps: &[],
             rules: RULES,
             generators: &[UTC; 3],
-            readers: &[R1],
+            readers: &[FIRST_READER],
         },
         steps: &[
             Step::Fault(0, GenFault::FalsePending(Leap::Insert)),
@@ -161,7 +161,7 @@ premises kept
             leaps: &[("2016-12-31", Leap::Insert)],
             rules: RULES,
             generators: &[UTC; 3],
-            readers: &[R1],
+            readers: &[FIRST_READER],
         },
         steps: &[
             Step::Seconds(4),
@@ -246,7 +246,7 @@ premises kept
             leaps: &[("2016-12-31", Leap::Insert)],
             rules: RULES,
             generators: &[UTC; 3],
-            readers: &[R1],
+            readers: &[FIRST_READER],
         },
         steps: &[
             Step::Seconds(3),
@@ -330,7 +330,7 @@ premises kept
             leaps: &[],
             rules: RULES,
             generators: &[UTC; 3],
-            readers: &[R1],
+            readers: &[FIRST_READER],
         },
         steps: &[
             Step::Seconds(3),
@@ -414,7 +414,10 @@ premises kept
             leaps: &[("2016-12-31", Leap::Insert)],
             rules: RULES,
             generators: &[UTC; 3],
-            readers: &[Seat { holdover: 57, ..R1 }],
+            readers: &[Seat {
+                holdover: 57,
+                ..FIRST_READER
+            }],
         },
         steps: &[
             Step::Seconds(3),

@@ -1,6 +1,6 @@
 //! When a reader locks, and when it lets go.
 
-use crate::scenario::{Clock, NOON, Plan, R1, RULES, Scenario, Seat, Shown, Step, UTC};
+use crate::scenario::{Clock, FIRST_READER, NOON, Plan, RULES, Scenario, Seat, Shown, Step, UTC};
 use irig_gen::{GenFault, Zone};
 
 pub const CASES: [Scenario; 9] = [
@@ -63,7 +63,7 @@ premises kept
                     )],
                 },
             ],
-            readers: &[R1],
+            readers: &[FIRST_READER],
         },
         steps: &[Step::Seconds(4)],
         shown: Shown::All,
@@ -84,7 +84,7 @@ premises kept
             generators: &[UTC; 3],
             readers: &[Seat {
                 lock_after: 3,
-                ..R1
+                ..FIRST_READER
             }],
         },
         steps: &[
@@ -130,7 +130,10 @@ premises kept
             leaps: &[],
             rules: RULES,
             generators: &[UTC; 3],
-            readers: &[Seat { holdover: 3, ..R1 }],
+            readers: &[Seat {
+                holdover: 3,
+                ..FIRST_READER
+            }],
         },
         steps: &[
             Step::Seconds(2),
@@ -163,7 +166,10 @@ premises kept
             leaps: &[],
             rules: RULES,
             generators: &[UTC; 3],
-            readers: &[Seat { holdover: 0, ..R1 }],
+            readers: &[Seat {
+                holdover: 0,
+                ..FIRST_READER
+            }],
         },
         steps: &[
             Step::Seconds(2),

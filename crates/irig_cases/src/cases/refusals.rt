@@ -1,6 +1,8 @@
 //! Events that a plant refuses.
 
-use crate::scenario::{NOON, NOON_OF_FIVE, Plan, R1, RULES, Scenario, Seat, Shown, Step, UTC};
+use crate::scenario::{
+    FIRST_READER, NOON, NOON_OF_FIVE, Plan, RULES, Scenario, Seat, Shown, Step, UTC,
+};
 
 pub const CASES: [Scenario; 8] = [
     Scenario {
@@ -84,7 +86,7 @@ refused: line 2: 21 FutureReplay
             generators: &[UTC; 3],
             readers: &[Seat {
                 lock_after: 1,
-                ..R1
+                ..FIRST_READER
             }],
         },
         steps: &[Step::Seconds(3)],

@@ -1,6 +1,8 @@
 //! Readers with a table of leaps.
 
-use crate::scenario::{Plan, R1, R2, RULES, Scenario, Seat, Shown, Step, Table, UTC};
+use crate::scenario::{
+    FIRST_READER, Plan, RULES, SECOND_READER, Scenario, Seat, Shown, Step, Table, UTC,
+};
 use irig_gen::GenFault;
 use irig_time::Leap;
 
@@ -17,7 +19,7 @@ pub const CASES: [Scenario; 8] = [
                     until: "2016-12-31",
                     leaps: &[("2016-12-31", Leap::Insert)],
                 }),
-                ..R1
+                ..FIRST_READER
             }],
         },
         steps: &[
@@ -107,7 +109,7 @@ premises kept
                     until: "2030-06-30",
                     leaps: &[("2030-06-30", Leap::Delete)],
                 }),
-                ..R1
+                ..FIRST_READER
             }],
         },
         steps: &[
@@ -196,9 +198,9 @@ premises kept
                         until: "2016-12-31",
                         leaps: &[("2016-12-31", Leap::Insert)],
                     }),
-                    ..R1
+                    ..FIRST_READER
                 },
-                R2,
+                SECOND_READER,
             ],
         },
         steps: &[
@@ -352,7 +354,7 @@ premises kept
                     until: "2016-12-31",
                     leaps: &[("2016-12-31", Leap::Insert)],
                 }),
-                ..R1
+                ..FIRST_READER
             }],
         },
         steps: &[
@@ -444,7 +446,7 @@ premises kept
                     until: "2017-01-30",
                     leaps: &[],
                 }),
-                ..R1
+                ..FIRST_READER
             }],
         },
         steps: &[
@@ -534,7 +536,7 @@ premises kept
                     until: "2017-01-31",
                     leaps: &[],
                 }),
-                ..R1
+                ..FIRST_READER
             }],
         },
         steps: &[
@@ -624,7 +626,7 @@ premises kept
                     until: "2016-12-31",
                     leaps: &[],
                 }),
-                ..R1
+                ..FIRST_READER
             }],
         },
         steps: &[
@@ -715,9 +717,9 @@ premises broken: table of reader r1
                         until: "2016-12-31",
                         leaps: &[],
                     }),
-                    ..R1
+                    ..FIRST_READER
                 },
-                R2,
+                SECOND_READER,
             ],
         },
         steps: &[Step::Seconds(12)],

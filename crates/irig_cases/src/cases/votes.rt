@@ -1,6 +1,8 @@
 //! True and untrue ports: what is a vote, and what is none.
 
-use crate::scenario::{NOON, NOON_OF_FIVE, Plan, R1, R2, RULES, Scenario, Seat, Shown, Step, UTC};
+use crate::scenario::{
+    FIRST_READER, NOON, NOON_OF_FIVE, Plan, RULES, SECOND_READER, Scenario, Seat, Shown, Step, UTC,
+};
 use irig_gen::GenFault;
 
 pub const CASES: [Scenario; 10] = [
@@ -121,7 +123,7 @@ premises kept
             generators: &[UTC; 3],
             readers: &[Seat {
                 lock_after: 1,
-                ..R1
+                ..FIRST_READER
             }],
         },
         steps: &[
@@ -161,7 +163,7 @@ premises kept
             generators: &[UTC; 3],
             readers: &[Seat {
                 lock_after: 1,
-                ..R1
+                ..FIRST_READER
             }],
         },
         steps: &[
@@ -194,7 +196,7 @@ premises kept
             generators: &[UTC; 3],
             readers: &[Seat {
                 lock_after: 1,
-                ..R1
+                ..FIRST_READER
             }],
         },
         steps: &[
@@ -225,7 +227,7 @@ premises kept
             leaps: &[],
             rules: RULES,
             generators: &[UTC; 3],
-            readers: &[R1, R2],
+            readers: &[FIRST_READER, SECOND_READER],
         },
         steps: &[
             Step::Seconds(2),

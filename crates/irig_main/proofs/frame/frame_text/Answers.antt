@@ -6,14 +6,14 @@ use Rattle.irig_main.proofs.frame.frame_text.Goals as goal
 
 pub returns-in_default-clause-bad_time : goal.returns-in_default-clause-bad_time
 returns-in_default-clause-bad_time c utc valid named =
-    c.in_default.not-Some utc ((c.read_text.ensures utc).1 (valid, subst (IsText utc) (sym c.as_bytes.ensures.value) named))
+    c.in_default.not-Some utc ((c.read_text.ensures.exact utc).1 (valid, subst (IsText utc) (sym c.as_bytes.ensures.value) named))
 
 pub frame_of-requires-clause-valid : goal.frame_of-requires-clause-valid
-frame_of-requires-clause-valid c = ((c.read_text.ensures c.in-Some.utc).0 c.in-Some.is).0
+frame_of-requires-clause-valid c = ((c.read_text.ensures.exact c.in-Some.utc).0 c.in-Some.is).0
 
 pub returns-clause-frame : goal.returns-clause-frame
 returns-clause-frame c =
-    let read = (c.read_text.ensures c.in-Some.utc).0 c.in-Some.is in record {
+    let read = (c.read_text.ensures.exact c.in-Some.utc).0 c.in-Some.is in record {
       utc = c.in-Some.utc;
       frame = c.frame_of.result;
       valid = read.0;

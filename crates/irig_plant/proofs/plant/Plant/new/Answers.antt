@@ -17,5 +17,5 @@ returns-clause-stands g c =
       stations = λ r d lt. rw (← redundancy) (c.in_ok-stations.ensures.new r d lt);
       log = c.new.ensures.items;
       few = omega arith;
-      audit = c.first_audit-audit.ensures;
+      audit = c.first_audit-audit.ensures.value;
     }

@@ -1,8 +1,12 @@
-use Rattle.std.proofs.Common.{◌≡◌, ◌+◌, ◌<◌, ◌∷◌, [], length, Some, sym, ◌∙◌, ap, arith}
+use Rattle.std.proofs.Common.{vec_len, ◌≡◌, ◌+◌, ◌<◌, ◌∷◌, [], length, Some, sym, ◌∙◌, ap, arith}
+use Rattle.std.proofs.Math.Logic.{∥∥₁_map}
 use Rattle.std.proofs.lemmas.List.{length-append}
+use Rattle.std.proofs.lemmas.List.Elements.{All-push, All-set}
 use Rattle.irig_time.specs.Times.{Times, truth_at}
 use Rattle.irig_reader.specs.Life.{tells, report_at_tick}
 use Rattle.irig_plant.specs.declared.event.Event.TheVariants.{Tick}
+use Rattle.irig_plant.specs.declared.entry.Entry.{Entry}
+use Rattle.irig_plant.specs.Sound.{IsSound}
 use Rattle.irig_plant.specs.Schedule.{ticks_of, life_of, entry_of, log_of}
 use Rattle.irig_plant.specs.Audits.{place, is_broken_now, first_false, first_broken}
 use Rattle.irig_plant.specs.StandsFor.{IsStationAt}
@@ -12,6 +16,32 @@ use Rattle.irig_plant.proofs.plant.Plant.tick.Goals as goal
 
 pub overflow_add-edge : goal.overflow_add-edge
 overflow_add-edge g c = omega (arith, c.in-Some.ensures.early)
+
+pub invariant_of-self : goal.invariant_of-self
+invariant_of-self g c = record {
+  fed = c.args.self.now.fed;
+  wired = c.args.self.now.wired;
+  timed = c.args.self.now.timed;
+  sound = rw c.reserve.ensures.items c.args.self.now.sound;
+  known = rw c.reserve.ensures.items c.args.self.now.known;
+}
+
+pub invariant_of-self-2-clause-wired : goal.invariant_of-self-2-clause-wired
+invariant_of-self-2-clause-wired g c =
+    let self = c.args.self.now in
+    let at = c.index_mut-station in
+    let low : c.args.r < length self.stations.items = omega (arith, c.in_ok-has_reader.ensures.ok, self.stations.ok.0) in
+    let old : at.result.now.reader.redundancy ≡ self.redundancy = rw at.ensures.value (self.wired c.args.r at.result.now low) in
+    All-set (λ x. x.reader.redundancy ≡ self.redundancy) self.stations.items c.args.r _ (c.tick-ticked.ensures.ports ∙ old) self.wired
+
+pub invariant_of-self-2-clause-sound : goal.invariant_of-self-2-clause-sound
+invariant_of-self-2-clause-sound g c =
+    ∥∥₁_map c.args.self.now.sound (λ sound. rw (c.append.ensures, c.reserve.ensures.items) (All-push IsSound c.args.self.now.log.items _ sound c.tick-ticked.ensures.valid))
+
+pub invariant_of-self-2-clause-known : goal.invariant_of-self-2-clause-known
+invariant_of-self-2-clause-known g c =
+    let self = c.args.self.now in
+    rw (c.append.ensures, c.reserve.ensures.items) (All-push (λ (e : Entry). e.reader < vec_len self.stations) self.log.items _ self.known c.in_ok-has_reader.ensures.ok)
 
 pub returns-clause-stands : goal.returns-clause-stands
 returns-clause-stands g c = λ h p.

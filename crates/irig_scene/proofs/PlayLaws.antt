@@ -1,0 +1,128 @@
+-- Events that are played, by what a plant says of them.
+use Rattle.std.proofs.Common.{◌≡◌, ℕ, zero, suc, ◌<◌, List, [], ◌∷◌, ◌++◌, take, length, Option, Some, None, refl, ap, sym, ◌∙◌, arith, inl, inr, slice_get, drop, append-nil, append_assoc, Bool, subst}
+use Rattle.std.specs.Prelude.{IfSome, option_and_then}
+use Rattle.std.proofs.Math.Seq.{drop-append_seam}
+use Rattle.irig_plant.specs.declared.event.Event.{Event}
+use Rattle.irig_plant.specs.declared.event.Event.TheVariants.{GenEdge, Tick, Carry, Damage, Replay, Raw, Fault, Repair, Restart}
+use Rattle.irig_plant.specs.declared.entry.Entry.{Entry}
+use Rattle.irig_plant.specs.declared.fault.PlantFault.{PlantFault}
+use Rattle.irig_plant.specs.Schedule.{Setup, log_of, entry_of}
+use Rattle.irig_plant.specs.Refusals.{refusal}
+use Rattle.irig_plant.specs.Runs.{played, AreAccepted, IsRefused}
+use Rattle.irig_scene.specs.declared.refusal.Refusal.{Refusal}
+use Rattle.irig_scene.specs.Refusals.{refusal_as}
+use Rattle.irig_scene.specs.Scene.{Play, play, play_by, unless_refused, Scene, log_text}
+use Rattle.std.specs.Io.KnownBytes.{Appends}
+use Rattle.std.proofs.KnownBytes.{Appends-nil}
+use Rattle.irig_scene.specs.declared.fault.SceneFault.{SceneFault}
+use Rattle.irig_scene.specs.declared.fault.SceneFault.TheVariants.{Refused, Read, Write, Memory}
+use Rattle.irig_scene.specs.Faults.{AppendsPart, IsFaultOfWriting}
+use Rattle.irig_scene.specs.Playing.{after_events, Grew, GrewPart}
+use Rattle.irig_scene.specs.Text.{entries_text}
+use Rattle.irig_scene.proofs.TextLaws.{entries_join}
+
+one_accepted : (s : Setup) (e : Event) (es ev : List Event) → refusal s e ev ≡ None → play s (e ∷ es) ev ≡ play s es (e ∷ ev)
+one_accepted s e es ev h = ap (λ k. unless_refused (option_and_then refusal_as k) ev (play s es (e ∷ ev))) h
+
+pub play_all : (s : Setup) (es ev : List Event) → AreAccepted s es ev → play s es ev ≡ play_by (played es ev) None
+play_all s [] ev h = refl
+play_all s (e ∷ es) ev h = one_accepted s e es ev h.0 ∙ play_all s es (e ∷ ev) h.1
+
+refused_now : (s : Setup) (e : Event) (es ev : List Event) (fault : PlantFault) (k : Refusal) → IsRefused s e ev fault → refusal_as fault ≡ Some k
+    → play s (e ∷ es) ev ≡ play_by ev (Some k)
+refused_now s e es ev fault k (inl h) named =
+    ap (λ r. unless_refused (option_and_then refusal_as r) ev (play s es (e ∷ ev))) h ∙ ap (λ r. unless_refused r ev (play s es (e ∷ ev))) named
+refused_now s e es ev fault k (inr h) named = absurd (cc)
+
+pub play_until : (s : Setup) (i : ℕ) (es ev : List Event) (fault : PlantFault) (k : Refusal) → i < length es → AreAccepted s (take i es) ev
+    → IfSome (slice_get es i) (λ e. IsRefused s e (played (take i es) ev) fault) → refusal_as fault ≡ Some k
+    → play s es ev ≡ play_by (played (take i es) ev) (Some k)
+play_until s i [] ev fault k lt h stop named = absurd (omega arith)
+play_until s zero (e ∷ es) ev fault k lt h stop named = refused_now s e es ev fault k stop named
+play_until s (suc i) (e ∷ es) ev fault k lt h stop named = one_accepted s e (es) ev h.0 ∙ play_until s i es (e ∷ ev) fault k (omega arith) h.1 stop named
+
+-- ---- the log grows
+
+-- the log of what has come is in front of the log of what has come later
+pub record LogGrows (s : Setup) (ev later : List Event) : Type 0 where
+  pub more : List Entry
+  pub is : log_of s later ≡ log_of s ev ++ more
+
+pub log_keeps : (s : Setup) (ev : List Event) → LogGrows s ev ev
+log_keeps s ev = record { more = []; is = sym (append-nil (log_of s ev)) }
+
+grows_by : (s : Setup) (e : Event) (ev : List Event) → LogGrows s ev (e ∷ ev)
+grows_by s (Tick r) ev = record { more = entry_of s r ev ∷ []; is = refl }
+grows_by s (GenEdge g) ev = record { more = []; is = sym (append-nil (log_of s ev)) }
+grows_by s (Carry g r) ev = record { more = []; is = sym (append-nil (log_of s ev)) }
+grows_by s (Damage g r at width) ev = record { more = []; is = sym (append-nil (log_of s ev)) }
+grows_by s (Replay g r edge) ev = record { more = []; is = sym (append-nil (log_of s ev)) }
+grows_by s (Raw g r widths) ev = record { more = []; is = sym (append-nil (log_of s ev)) }
+grows_by s (Fault g kind) ev = record { more = []; is = sym (append-nil (log_of s ev)) }
+grows_by s (Repair g) ev = record { more = []; is = sym (append-nil (log_of s ev)) }
+grows_by s (Restart r) ev = record { more = []; is = sym (append-nil (log_of s ev)) }
+
+grows_on : (s : Setup) (a b c : List Event) → LogGrows s a b → LogGrows s b c → LogGrows s a c
+grows_on s a b c h k = record { more = h.more ++ k.more; is = k.is ∙ ap (λ l. l ++ k.more) h.is ∙ append_assoc (log_of s a) h.more k.more }
+
+grows_unless : (s : Setup) (k : Option Refusal) (ev : List Event) (rest : Play) → LogGrows s ev rest.events → LogGrows s ev (unless_refused k ev rest).events
+grows_unless s None ev rest h = h
+grows_unless s (Some k) ev rest h = log_keeps s ev
+
+pub grows_by_play : (s : Setup) (es ev : List Event) → LogGrows s ev (play s es ev).events
+grows_by_play s [] ev = log_keeps s ev
+grows_by_play s (e ∷ es) ev =
+    grows_unless s (option_and_then refusal_as (refusal s e ev)) ev (play s es (e ∷ ev))
+    (grows_on s ev (e ∷ ev) (play s es (e ∷ ev)).events (grows_by s e ev) (grows_by_play s es (e ∷ ev)))
+
+-- what a log has more is what is left of it past the other
+more_is : (a b more : List Entry) → b ≡ a ++ more → drop (length a) b ≡ more
+more_is a b more e = ap (drop (length a)) e ∙ drop-append_seam a more
+
+-- the text grows by that of the entries that have yet to be shown
+pub text_grows : (x : Scene) (events : List Event) (all : Bool) (entries : List Entry)
+    → entries ≡ drop (length (log_of x.plan.setup x.events)) (log_of x.plan.setup (play x.plan.setup events x.events).events)
+    → log_text all (Some (after_events x events)) ≡ log_text all (Some x) ++ entries_text x.plan.names all entries
+text_grows x events all entries e =
+    let s = x.plan.setup in
+    let grown = grows_by_play s events x.events in
+    let same : entries ≡ grown.more = e ∙ more_is (log_of s x.events) (log_of s (play s events x.events).events) grown.more grown.is in
+    ap (entries_text x.plan.names all) (grown.is ∙ ap (λ more. log_of s x.events ++ more) (sym same)) ∙ entries_join x.plan.names all (log_of s x.events) entries
+
+-- ---- what was written
+
+-- entries that a plant had yet to show, and their text
+pub shown : (x : Scene) (events : List Event) (all : Bool) (names : List (List ℕ)) (entries : List Entry) (old new : Option (List ℕ))
+    → names ≡ x.plan.names → entries ≡ drop (length (log_of x.plan.setup x.events)) (log_of x.plan.setup (after_events x events).events)
+    → Appends old new (entries_text names all entries) → Grew all (Some x) (Some (after_events x events)) old new
+shown x events all names entries old new same are wrote =
+    record {
+      text = entries_text x.plan.names all entries;
+      more = text_grows x events all entries are;
+      wrote = subst (λ (n : List (List ℕ)). Appends old new (entries_text n all entries)) same wrote;
+    }
+
+pub shown_in_part : (x : Scene) (events : List Event) (all : Bool) (names : List (List ℕ)) (entries : List Entry) (old new : Option (List ℕ))
+    → names ≡ x.plan.names → entries ≡ drop (length (log_of x.plan.setup x.events)) (log_of x.plan.setup (after_events x events).events)
+    → AppendsPart old new (entries_text names all entries) → GrewPart all (Some x) (Some (after_events x events)) old new
+shown_in_part x events all names entries old new same are wrote =
+    record {
+      text = entries_text x.plan.names all entries;
+      more = text_grows x events all entries are;
+      wrote = subst (λ (n : List (List ℕ)). AppendsPart old new (entries_text n all entries)) same wrote;
+    }
+
+pub nothing_shown : (x : Scene) (events : List Event) (all : Bool) (out : Option (List ℕ)) → GrewPart all (Some x) (Some (after_events x events)) out out
+nothing_shown x events all out =
+    let entries = drop (length (log_of x.plan.setup x.events)) (log_of x.plan.setup (after_events x events).events) in
+    record {
+      text = entries_text x.plan.names all entries;
+      more = text_grows x events all entries refl;
+      wrote = record { front = []; rest = entries_text x.plan.names all entries; whole = refl; wrote = Appends-nil out };
+    }
+
+pub wants_memory : (fault : SceneFault) → fault ≡ Memory → IsFaultOfWriting fault
+wants_memory (Refused line number) e = absurd cc
+wants_memory Read e = absurd cc
+wants_memory Write e = tt
+wants_memory Memory e = tt

@@ -1,0 +1,14 @@
+use Rattle.std.proofs.Common.{◌≡◌, None, map, string_bytes}
+use Rattle.irig_device.specs.Watched.{device_of, has_failed}
+use Rattle.irig_plant.specs.StandsFor.{StandsFor}
+use Rattle.irig_scene.specs.Seconds.{times}
+use Rattle.irig_scene.specs.Scene.{Scene}
+use Rattle.irig_scene.specs.Playing.{past, PlaysFor}
+use Rattle.irig_scene.proofs.playing.play_seconds.Given as goal
+
+abbrev pub invariant-loop : goal.invariant-loop
+invariant-loop g l =
+    (l.page.all ≡ l.initial.page.all)
+    × (has_failed l.output ≡ has_failed l.initial.output)
+    × ((x : Scene) → StandsFor l.initial.plant (past x) → map string_bytes l.names.keys ≡ x.plan.names
+    → PlaysFor x (times l.counter l.second) l.initial.page.all l.plant None (g.W.Write.contents (device_of l.initial.output)) (g.W.Write.contents (device_of l.output)))

@@ -1,0 +1,68 @@
+-- The text of a log, and the last line of a run.
+use Rattle.std.specs.Prelude.{ℕ, Bool, ◌||◌, List, [], ◌++◌, filter, codes, slice_get, unwrap_or, Option, Some, None, is_some}
+use Rattle.std.specs.List.{flat_map}
+use Rattle.std.specs.Fmt.{decimal}
+use Rattle.irig_time.specs.declared.second.UtcSecond.{UtcSecond}
+use Rattle.irig_time.specs.TextValues.{second_text}
+use Rattle.irig_reader.specs.declared.report.Lock.{Lock}
+use Rattle.irig_reader.specs.declared.report.Lock.TheVariants.{Unlocked, Acquiring, Locked, Holdover}
+use Rattle.irig_reader.specs.declared.report.Cause.{Cause}
+use Rattle.irig_reader.specs.declared.report.Cause.TheVariants as cause
+use Rattle.irig_plant.specs.declared.entry.Entry.{Entry}
+use Rattle.irig_plant.specs.declared.audit.Audit.{Audit}
+use Rattle.irig_plant.specs.declared.audit.Audit.TheVariants.{Kept, Broken, FalseTable}
+use Rattle.irig_scene.specs.declared.refusal.Refusal.{Refusal}
+use Rattle.irig_scene.specs.Refusals.{number_of, name_of}
+
+-- ---- the words of an entry
+
+-- whether the reader is locked, with the votes so far or the edges since the last
+abbrev pub lock_text : Lock → List ℕ
+lock_text Unlocked = codes "unlocked"
+lock_text (Acquiring votes) = codes "acquiring:" ++ decimal votes
+lock_text Locked = codes "locked"
+lock_text (Holdover age) = codes "holdover:" ++ decimal age
+
+-- why it announces, or does not
+abbrev pub cause_text : Cause → List ℕ
+cause_text cause.Voted = codes "voted"
+cause_text cause.Held = codes "held"
+cause_text cause.Acquiring = codes "acquiring"
+cause_text cause.NoVote = codes "no-vote"
+cause_text cause.Expired = codes "expired"
+cause_text cause.LeapGuard = codes "leap-guard"
+cause_text cause.Jump = codes "jump"
+cause_text cause.RangeEnd = codes "range-end"
+
+-- the second that is announced, or a dash
+abbrev pub time_shown_text : Option UtcSecond → List ℕ
+time_shown_text None = codes "-"
+time_shown_text (Some second) = second_text second
+
+-- the name of a reader by its number, and nothing past the last
+abbrev pub name_at : List (List ℕ) → ℕ → List ℕ
+name_at names reader = unwrap_or (slice_get names reader) []
+
+-- ---- the log
+
+-- EDGE READER TIME LOCK CAUSE
+unfoldable pub entry_text : List (List ℕ) → Entry → List ℕ
+entry_text names entry =
+    decimal entry.edge ++ (codes " " ++ (name_at names entry.reader ++ (codes " " ++ (time_shown_text entry.report.announce
+    ++ (codes " " ++ (lock_text entry.report.lock ++ (codes " " ++ (cause_text entry.report.cause ++ codes "\n"))))))))
+
+-- a line for each entry with an announcement, or for each entry where all are wanted
+unfoldable pub entries_text : List (List ℕ) → Bool → List Entry → List ℕ
+entries_text names all entries = flat_map (entry_text names) (filter (λ entry. all || is_some entry.report.announce) entries)
+
+-- ---- the last line
+
+-- whether the premises were kept, else the first broken place or the least reader whose table is false
+unfoldable pub audit_text : List (List ℕ) → Audit → List ℕ
+audit_text names Kept = codes "premises kept\n"
+audit_text names (Broken reader edge) = codes "premises broken: edge " ++ (decimal edge ++ (codes " reader " ++ (name_at names reader ++ codes "\n")))
+audit_text names (FalseTable reader) = codes "premises broken: table of reader " ++ (name_at names reader ++ codes "\n")
+
+-- the line's number, and the number and name of its refusal
+unfoldable pub refusal_text : ℕ → Refusal → List ℕ
+refusal_text line refusal = codes "refused: line " ++ (decimal line ++ (codes ": " ++ (decimal (number_of refusal) ++ (codes " " ++ (name_of refusal ++ codes "\n")))))

@@ -1,0 +1,12 @@
+//! What a run without a refusal gave.
+
+use irig_plant::Audit;
+
+/// What a run without a refusal gave.
+#[derive(Clone, Copy, Debug, PartialEq, Eq)]
+pub struct Outcome {
+    /// The lines of the input, skipped ones too.
+    pub lines: u64,
+    /// Whether the premises held under which each announced second is the true one.
+    pub audit: Audit,
+}

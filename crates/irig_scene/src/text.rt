@@ -1,0 +1,142 @@
+//! The text of a log, and the last line of a run.
+
+ghost use Rattle.std.specs.Prelude.{◌≡◌, ◌++◌, ◌||◌, map, is_some, string_bytes, All, IfSome, OnOk, IsAscii};
+ghost use Rattle.irig_time.specs.Seconds.{IsValid};
+ghost use Rattle.irig_scene.specs.Text.{lock_text, cause_text, time_shown_text, name_at, entry_text, entries_text, audit_text, refusal_text};
+
+use crate::refusal::Refusal;
+use indexmap::IndexSet;
+use irig_plant::{Audit, Entry};
+use irig_reader::{Cause, Lock};
+use irig_time::{UtcSecond, write_text};
+use std::alloc::AllocError;
+
+/// Adds a line for each entry with an announcement, or for each entry where all are wanted.
+pub(crate) fn push_entries(
+    text: &mut String,
+    names: &IndexSet<String>,
+    entries: &[Entry],
+    all: bool,
+) -> Result<(), AllocError>
+    requires { All (λ entry. IfSome entry.report.announce IsValid) entries.now }
+    ensures { OnOk result (string_bytes text.new ≡ string_bytes text.old ++ entries_text (map string_bytes names.now.keys) all entries.now) }
+{
+    for entry in entries {
+        if is_written(entry, all) {
+            push_entry(text, names, entry)?;
+        }
+    }
+    Ok(())
+}
+
+/// Whether an entry has a line.
+fn is_written(entry: &Entry, all: bool) -> bool
+    ensures { result ≡ (all || is_some entry.now.report.announce) }
+{
+    all || entry.report.announce.is_some()
+}
+
+/// Adds the line of one entry.
+#[tactic(auto, unfolding(crate::specs::Text::entry_text))]
+fn push_entry(text: &mut String, names: &IndexSet<String>, entry: &Entry) -> Result<(), AllocError>
+    requires { IfSome entry.now.report.announce IsValid }
+    ensures { OnOk result (string_bytes text.new ≡ string_bytes text.old ++ entry_text (map string_bytes names.now.keys) entry.now) }
+{
+    let name = name_at(names, entry.reader);
+    let edge = entry.edge;
+    write!(text, "{edge} {name} ")?;
+    push_time(text, entry.report.announce)?;
+    text.push_str(" ")?;
+    push_lock(text, entry.report.lock)?;
+    let cause = cause_word(entry.report.cause);
+    write!(text, " {cause}\n")
+}
+
+/// The name of a reader.
+#[tactic(auto, using(crate::proofs::TextLaws::name_in_texts))]
+fn name_at(names: &IndexSet<String>, reader: u8) -> &str
+    ensures { result.now ≡ name_at (map string_bytes names.now.keys) reader }
+{
+    names
+        .get_index(usize::from(reader))
+        .map_or("", String::as_str)
+}
+
+/// Adds the second that is announced, or a dash.
+fn push_time(text: &mut String, announce: Option<UtcSecond>) -> Result<(), AllocError>
+    requires { IfSome announce IsValid }
+    ensures { OnOk result (string_bytes text.new ≡ string_bytes text.old ++ time_shown_text announce) }
+{
+    match announce {
+        Some(second) => text.push_str(shown(&write_text(&second))),
+        None => text.push_str("-"),
+    }
+}
+
+/// ASCII as text.
+fn shown(text: &[u8; 20]) -> &str
+    requires { IsAscii text.now }
+    ensures { result.now ≡ text.now }
+{
+    str::from_utf8(text).unwrap()
+}
+
+/// Adds whether a reader is locked.
+fn push_lock(text: &mut String, lock: Lock) -> Result<(), AllocError>
+    ensures { OnOk result (string_bytes text.new ≡ string_bytes text.old ++ lock_text lock) }
+{
+    match lock {
+        Lock::Unlocked => text.push_str("unlocked"),
+        Lock::Acquiring(votes) => write!(text, "acquiring:{votes}"),
+        Lock::Locked => text.push_str("locked"),
+        Lock::Holdover(age) => write!(text, "holdover:{age}"),
+    }
+}
+
+/// The word for a cause.
+fn cause_word(cause: Cause) -> &'static str
+    ensures { result.now ≡ cause_text cause }
+{
+    match cause {
+        Cause::Voted => "voted",
+        Cause::Held => "held",
+        Cause::Acquiring => "acquiring",
+        Cause::NoVote => "no-vote",
+        Cause::Expired => "expired",
+        Cause::LeapGuard => "leap-guard",
+        Cause::Jump => "jump",
+        Cause::RangeEnd => "range-end",
+    }
+}
+
+/// Adds the last line of a run that went to the end of its input.
+#[tactic(auto, unfolding(crate::specs::Text::audit_text))]
+pub(crate) fn push_audit(
+    text: &mut String,
+    names: &IndexSet<String>,
+    audit: Audit,
+) -> Result<(), AllocError>
+    ensures { OnOk result (string_bytes text.new ≡ string_bytes text.old ++ audit_text (map string_bytes names.now.keys) audit) }
+{
+    match audit {
+        Audit::Kept => text.push_str("premises kept\n"),
+        Audit::Broken { reader, edge } => {
+            let name = name_at(names, reader);
+            write!(text, "premises broken: edge {edge} reader {name}\n")
+        }
+        Audit::FalseTable { reader } => {
+            let name = name_at(names, reader);
+            write!(text, "premises broken: table of reader {name}\n")
+        }
+    }
+}
+
+/// Adds the last line of a run that a line's refusal ended.
+#[tactic(auto, unfolding(crate::specs::Text::refusal_text))]
+pub(crate) fn push_refusal(text: &mut String, line: u64, refusal: Refusal) -> Result<(), AllocError>
+    ensures { OnOk result (string_bytes text.new ≡ string_bytes text.old ++ refusal_text line refusal) }
+{
+    let number = refusal.number();
+    let name = refusal.name();
+    write!(text, "refused: line {line}: {number} {name}\n")
+}
