@@ -5,7 +5,7 @@ use Rattle.std.proofs.lemmas.Int.{ints}
 use Rattle.std.specs.Int.Bits.{or_shifted_r}
 use Rattle.irig_control.specs.declared.control.Control.{Control}
 use Rattle.irig_control.specs.ControlTable.{LeapPending, LeapDelete, DstPending, Dst, OffsetMinus, OffsetHours, Quality}
-use Rattle.irig_control.specs.Control.{IsControl, has_one, flag, word_with, word_of, number_in, half_hours_in, offset_in, control_of, cleared}
+use Rattle.irig_control.specs.Control.{IsControl, has_one, flag, word_with, word_of, number_in, half_hours_in, offset_in, control_of, normal_word}
 
 -- ---- bits
 
@@ -194,14 +194,14 @@ sign_of false (suc n) =
     let some : eqb (suc n) 0 ≡ false = ne_eqb (suc n) 0 (λ e. omega (arith, e)) in
     rw (plus, some) refl
 
-cleared-cond : (w : ℕ) → cleared w ≡ cond (eqb (half_hours w) 0) (w % 2 ^ 14 - 16 * (w / 16 % 2)) (w % 2 ^ 14)
-unfolding cleared
+cleared-cond : (w : ℕ) → normal_word w ≡ cond (eqb (half_hours w) 0) (w % 2 ^ 14 - 16 * (w / 16 % 2)) (w % 2 ^ 14)
+unfolding normal_word
 cleared-cond w =
     let minus = bit_adds w 16 1 in
     let sign : word_with OffsetMinus (number_in w OffsetMinus) ≡ 16 * (w / 16 % 2) = omega (arith, only_bit_adds (number_in w OffsetMinus) 16 (omega arith)) in
     rw (half_hours_in-div w, sign) refl
 
-pub packed : (w : ℕ) → word_of (control_of w) ≡ cleared w
+pub packed : (w : ℕ) → word_of (control_of w) ≡ normal_word w
 packed w =
     let n = half_hours w in
     let minus = has_one w 16 in

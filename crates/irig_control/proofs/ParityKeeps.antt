@@ -14,7 +14,7 @@ use Rattle.irig_frame.specs.declared.field.Field.TheVariants.{Second, Minute, Ho
 use Rattle.irig_frame.specs.declared.coded.Coded.{Coded}
 use Rattle.irig_frame.specs.FieldTable.{TableEntry, at, units_of, tens_of, places_of, control_places, straight_binary_places, spare_places}
 use Rattle.irig_frame.specs.Values.{is_one, is_one_at, value, weights}
-use Rattle.irig_frame.specs.Reading.{Reads, IsRight}
+use Rattle.irig_frame.specs.Decoder.{Reads, IsRight}
 use Rattle.irig_frame.proofs.OneFrame.{one_frame}
 use Rattle.irig_control.specs.declared.parity.Parity.{Parity}
 use Rattle.irig_control.specs.Control.{flag}

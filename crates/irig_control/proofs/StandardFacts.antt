@@ -1,14 +1,15 @@
 -- Known values of the control bits and the parity, so that a wrong definition does not check.
-use Rattle.std.proofs.Common.{◌≡◌, ℕ, ◌^◌, true, false, cond, eqb, List, [], ◌∷◌, map, slice_set, refl, pos, negsuc, neg_ℤ}
+use Rattle.std.proofs.Common.{◌≡◌, ◌^◌, true, false, List, [], ◌∷◌, map, slice_set, refl, pos, negsuc, neg_ℤ}
 use Rattle.std.specs.Prelude.{codes}
 use Rattle.std.specs.List.{flat_map, range_with_len}
+use Rattle.irig_frame.proofs.StandardFacts.{symbols}
 use Rattle.irig_frame.specs.declared.symbol.Symbol.{Symbol}
-use Rattle.irig_frame.specs.declared.symbol.Symbol.TheVariants.{Zero, One, Marker, Bad}
+use Rattle.irig_frame.specs.declared.symbol.Symbol.TheVariants.{Zero, One}
 use Rattle.irig_frame.specs.FieldTable.{at, control_places}
 use Rattle.irig_control.specs.declared.control.Control.{Control}
 use Rattle.irig_control.specs.declared.parity.Parity.TheVariants.{Even, Odd}
 use Rattle.irig_control.specs.ControlTable.{ControlBit, ParityBit, bits_of, meanings}
-use Rattle.irig_control.specs.Control.{word_of, offset_in, control_of, cleared}
+use Rattle.irig_control.specs.Control.{word_of, offset_in, control_of, normal_word}
 use Rattle.irig_control.specs.Parity.{ones, has_parity}
 
 -- ---- the table
@@ -64,18 +65,11 @@ pub known_bits : map (λ n. control_of (2 ^ n)) (range_with_len 0 18)
 unfolding control_of offset_in
 known_bits = refl
 
-pub known_cleared : map cleared (16 ∷ 17073 ∷ 262143 ∷ []) ≡ 0 ∷ 689 ∷ 16383 ∷ []
-unfolding cleared
+pub known_cleared : map normal_word (16 ∷ 17073 ∷ 262143 ∷ []) ≡ 0 ∷ 689 ∷ 16383 ∷ []
+unfolding normal_word
 known_cleared = refl
 
 -- ---- frames
-
--- the symbols of a text, in which P is a marker
-abbrev symbol_of_letter : ℕ → Symbol
-symbol_of_letter letter = cond (eqb letter 80) Marker (cond (eqb letter 49) One (cond (eqb letter 48) Zero Bad))
-
-abbrev symbols : List ℕ → List Symbol
-symbols text = map symbol_of_letter text
 
 -- 2016-12-31T23:59:59Z with a leap second to be inserted, under even parity
 abbrev leap_day : List Symbol

@@ -13,6 +13,7 @@ pub record IsControl (c : Control) : Type 0 where
 abbrev pub has_one : ℕ → ℕ → Bool
 has_one number weight = number / weight % 2 == 1
 
+-- the bit of a truth value
 abbrev pub flag : Bool → ℕ
 flag b = if b then 1 else 0
 
@@ -41,9 +42,11 @@ word_of c = sum_by (λ m. word_with m (number_of c m)) meanings
 abbrev pub number_in : ℕ → Meaning → ℕ
 number_in word m = sum_by (λ b. if has_one word (2 ^ b.number) then b.weight else 0) (bits_of m)
 
+-- the half hours of the offset, without its sign
 abbrev pub half_hours_in : ℕ → ℕ
 half_hours_in word = 2 * number_in word OffsetHours + number_in word OffsetHalfHour
 
+-- the offset in half hours, with its sign
 unfoldable pub offset_in : ℕ → ℤ
 offset_in word =
     if number_in word OffsetMinus == 1 then neg_ℤ (pos (half_hours_in word)) else pos (half_hours_in word)
@@ -60,6 +63,8 @@ control_of word = record {
 }
 
 -- the word without the parity, the last three bits and the sign of a zero offset
-unfoldable pub cleared : ℕ → ℕ
-cleared word =
-    if half_hours_in word == 0 then word % 2 ^ 14 - word_with OffsetMinus (number_in word OffsetMinus) else word % 2 ^ 14
+unfoldable pub normal_word : ℕ → ℕ
+normal_word word =
+    if half_hours_in word == 0
+    then word % 2 ^ 14 - word_with OffsetMinus (number_in word OffsetMinus)
+    else word % 2 ^ 14

@@ -1,6 +1,6 @@
--- The control bits of IEEE 1344-1995, annex on IRIG-B: each bit with its number, the element that carries it in the frame of
--- IRIG Standard 200-16, format B, and the weight of a one there. It is written in the order of the standard's table, to be
--- laid beside it.
+-- The control bits of IEEE 1344-1995, annex on IRIG-B: each bit with its number, the element that carries it in the
+-- frame of IRIG Standard 200-16, format B, and the weight of a one there. It is written in the order of the standard's
+-- table, to be laid beside it.
 use Rattle.std.specs.Prelude.{ℕ, List, [], ◌∷◌}
 
 -- what the control bits say
@@ -26,14 +26,17 @@ pub data Meaning : Type 0 where
   -- this project's profile: sent as 0 and ignored
   Unused : Meaning
 
+-- one bit
 pub record ControlBit : Type 0 where
   pub number : ℕ
   pub element : ℕ
   pub weight : ℕ
 
+-- the bit of this number, at this element and with this weight
 abbrev pub bit : ℕ → ℕ → ℕ → ControlBit
 bit number element weight = record { number = number; element = element; weight = weight }
 
+-- the bits of a meaning
 abbrev pub bits_of : Meaning → List ControlBit
 bits_of LeapPending = bit 0 60 1 ∷ []
 bits_of LeapDelete = bit 1 61 1 ∷ []
@@ -49,4 +52,5 @@ bits_of Unused = bit 15 76 1 ∷ bit 16 77 2 ∷ bit 17 78 4 ∷ []
 -- all of them, in the order of the table
 abbrev pub meanings : List Meaning
 meanings =
-    LeapPending ∷ LeapDelete ∷ DstPending ∷ Dst ∷ OffsetMinus ∷ OffsetHours ∷ OffsetHalfHour ∷ Quality ∷ ParityBit ∷ Unused ∷ []
+    LeapPending ∷ LeapDelete ∷ DstPending ∷ Dst ∷ OffsetMinus ∷ OffsetHours ∷ OffsetHalfHour
+    ∷ Quality ∷ ParityBit ∷ Unused ∷ []

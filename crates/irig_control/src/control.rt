@@ -73,7 +73,6 @@ pub fn unpack(word: u32) -> Control
     }
 }
 
-/// The number that has this bit alone if it is set, and else 0.
 fn bit(is_set: bool, number: u32) -> u32
     requires { number < 32 }
     ensures { result ≡ flag is_set * 2 ^ number }
@@ -81,7 +80,6 @@ fn bit(is_set: bool, number: u32) -> u32
     u32::from(is_set) << number
 }
 
-/// The offset that the control bits say, in half hours.
 fn offset_half_hours(word: u32) -> i8
     ensures offset { result ≡ offset_in word }
     ensures in_range { unsigned_abs result ≤ 31 }
@@ -94,7 +92,6 @@ fn offset_half_hours(word: u32) -> i8
     }
 }
 
-/// Whether the bit is a one.
 fn has_bit(word: u32, number: u32) -> bool
     requires { number < 32 }
     ensures { result ≡ has_one word (2 ^ number) }

@@ -3,7 +3,7 @@
 ghost use Rattle.std.specs.Prelude.{◌≡◌, ◌<◌, Bool, slice_set};
 ghost use Rattle.irig_control.specs.Parity.{is_counted, ones, remainder_of, has_parity, HasParity, data_symbol};
 
-use irig_frame::Symbol;
+use irig_frame::{Symbol, is_marker_place};
 
 /// Whether the ones that the parity counts are even or odd in number.
 ///
@@ -17,6 +17,18 @@ pub enum Parity {
     Odd,
 }
 
+impl Parity {
+    /// What remains by 2 of a number of ones that has the parity: 0 or 1.
+    pub fn remainder(self) -> u8
+        ensures { result ≡ remainder_of self }
+    {
+        match self {
+            Parity::Even => 0,
+            Parity::Odd => 1,
+        }
+    }
+}
+
 /// Whether the frame has the parity: of its data places 1 to 75, element 75 included, an even or
 /// an odd number hold a one. Marker places never count.
 ///
@@ -24,7 +36,7 @@ pub enum Parity {
 pub fn parity_ok(frame: &[Symbol; 100], parity: Parity) -> bool
     ensures { result ≡ has_parity parity frame.now }
 {
-    ones_in(frame) % 2 == remainder(parity)
+    ones_in(frame) % 2 == usize::from(parity.remainder())
 }
 
 /// Gives the frame the parity, by a 0 or a 1 at element 75; no other element changes.
@@ -38,7 +50,6 @@ pub fn set_parity(frame: &mut [Symbol; 100], parity: Parity)
     }
 }
 
-/// How many of the data places 1 to 75 hold a one.
 #[tactic(auto, unfolding(crate::specs::Parity::ones))]
 fn ones_in(frame: &[Symbol; 100]) -> usize
     ensures { result ≡ ones frame.now }
@@ -46,21 +57,9 @@ fn ones_in(frame: &[Symbol; 100]) -> usize
     (1..76).filter(|element| counts(frame, *element)).count()
 }
 
-/// Whether the element is a data place that holds a one.
 fn counts(frame: &[Symbol; 100], element: usize) -> bool
     requires { element < 100 }
     ensures { result ≡ is_counted frame.now element }
 {
-    let is_marker_place = element == 0 || element % 10 == 9;
-    !is_marker_place && frame[element] == Symbol::One
-}
-
-/// The remainder by 2 of a number of ones.
-fn remainder(parity: Parity) -> usize
-    ensures { result ≡ remainder_of parity }
-{
-    match parity {
-        Parity::Even => 0,
-        Parity::Odd => 1,
-    }
+    !is_marker_place(element) && frame[element] == Symbol::One
 }

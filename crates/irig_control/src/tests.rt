@@ -2,22 +2,13 @@ use super::*;
 use irig_frame::Symbol;
 use std::test::*;
 
-fn symbol_of(letter: u8) -> Option<Symbol> {
-    match letter {
-        b'0' => Some(Symbol::Zero),
-        b'1' => Some(Symbol::One),
-        b'P' => Some(Symbol::Marker),
-        _ => None,
-    }
-}
-
 /// The symbols of a text, without its blanks.
 fn frame(text: &str) -> [Symbol; 100] {
     let mut symbols = [Symbol::Zero; 100];
     for (place, symbol) in symbols.iter_mut().zip(
         text.as_bytes()
             .iter()
-            .filter_map(|letter| symbol_of(*letter)),
+            .filter_map(|letter| Symbol::from_letter(*letter)),
     ) {
         *place = symbol;
     }
@@ -86,6 +77,7 @@ fn sixteen_hours_and_quality_sixteen_are_out_of_range(rt: HostRuntime) {
 
 #[test]
 fn each_frame_has_even_parity_and_not_odd(rt: HostRuntime) {
+    assert!(rt; Parity::Even.remainder() == 0 && Parity::Odd.remainder() == 1);
     for text in [LEAP_DAY, LOCAL_LEAP_DAY, PLAIN_SECOND, SECOND_60] {
         assert!(rt; parity_ok(&frame(text), Parity::Even));
         assert!(rt; !parity_ok(&frame(text), Parity::Odd));

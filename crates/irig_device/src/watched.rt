@@ -1,8 +1,8 @@
 //! A device with a note.
 
-ghost use Rattle.std.specs.Prelude.{◌≡◌, ◌<◌, ◌≤◌, ◌||◌, false, length, take, option_to_list, None, IfOk, OnErr, is_err};
+ghost use Rattle.std.specs.Prelude.{◌≡◌, ◌<◌, ◌≤◌, ◌||◌, false, length, take, option_to_list, None, IfOk, OnErr, OnOk, is_err};
 ghost use Rattle.std.specs.Io.KnownBytes.{Appends, Consumes, IsAtEnd, Keeps};
-ghost use Rattle.irig_device.specs.Watched.{device_of, has_failed};
+ghost use Rattle.irig_device.specs.Watched.{AppendsPart, device_of, has_failed};
 
 use std::io::{BufRead, Write};
 
@@ -52,7 +52,8 @@ impl<R: BufRead> Watched<R> {
     pub fn read_byte(&mut self) -> Result<Option<u8>, DeviceFault>
         ensures byte { IfOk result (λ byte. Consumes (R.remaining (device_of self.old))
             (R.remaining (device_of self.new)) (option_to_list byte)) }
-        ensures end { IfOk result (λ byte. byte ≡ None → IsAtEnd (R.remaining (device_of self.old))) }
+        ensures end { IfOk result (λ byte. byte ≡ None
+            → IsAtEnd (R.remaining (device_of self.old))) }
         ensures err { OnErr result
             (Keeps (R.remaining (device_of self.old)) (R.remaining (device_of self.new))) }
         ensures note { has_failed self.new ≡ (has_failed self.old || is_err result) }
@@ -93,5 +94,22 @@ impl<W: Write> Watched<W> {
                 Err(DeviceFault)
             }
         }
+    }
+
+    /// Writes all of the bytes by one `write` after another. At a fault a front of them was taken,
+    /// and the note is set.
+    pub fn write_all(&mut self, bytes: &[u8]) -> Result<(), DeviceFault>
+        ensures ok { OnOk result (Appends (W.contents (device_of self.old))
+            (W.contents (device_of self.new)) bytes.now) }
+        ensures err { OnErr result (AppendsPart (W.contents (device_of self.old))
+            (W.contents (device_of self.new)) bytes.now) }
+        ensures note { has_failed self.new ≡ (has_failed self.old || is_err result) }
+    {
+        let mut done = 0;
+        while done < bytes.len() {
+            let count = self.write_some(&bytes[done..])?;
+            done += count;
+        }
+        Ok(())
     }
 }

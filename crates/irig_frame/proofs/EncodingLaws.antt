@@ -12,8 +12,8 @@ use Rattle.irig_frame.specs.declared.layout.Place.{Place}
 use Rattle.irig_frame.specs.declared.coded.Coded.{Coded}
 use Rattle.irig_frame.specs.FieldTable.{units_of, tens_of, hundreds_of, places_of, control_places, straight_binary_places}
 use Rattle.irig_frame.specs.Values.{value}
-use Rattle.irig_frame.specs.Reading.{most, IsRight, HasDigits, Reads, IsCoded}
-use Rattle.irig_frame.specs.Writing.{with_parts, parts_of, blank_at, IsBlank, blank, written}
+use Rattle.irig_frame.specs.Decoder.{most, IsRight, HasDigits, Reads, IsCoded}
+use Rattle.irig_frame.specs.Encoder.{with_parts, parts_of, blank_at, IsBlank, blank_frame, frame_of_coded}
 use Rattle.irig_frame.specs.FieldTable.{spare_places}
 use Rattle.irig_frame.proofs.ReadingLaws.{each}
 use Rattle.irig_frame.proofs.WritingLaws.{ones, by_sum, bits, bits_sum, HoldParts, hold_parts, length-with_parts, right_parts, right_blank, spare_zero}
@@ -103,13 +103,13 @@ blank_there n i low =
     slice_get-get_or markers i Zero (omega (arith, length-map-range_with_len blank_at 0 n))
     ∙ ap (λ (x : Symbol). Some x) (get_or-map-range_with_len blank_at 0 n i i Zero low (zero-add i))
 
-blank_is : IsBlank blank
+blank_is : IsBlank blank_frame
 blank_is = (length-map-range_with_len blank_at 0 100, blank_there 100)
 
-pub written_reads : (c : Coded) → IsCoded c → Reads (written c) c
-unfolding written
-written_reads c fits = frame_reads c blank fits blank_is
+pub written_reads : (c : Coded) → IsCoded c → Reads (frame_of_coded c) c
+unfolding frame_of_coded
+written_reads c fits = frame_reads c blank_frame fits blank_is
 
-pub written_spare : (c : Coded) → All (λ i. slice_get (written c) i ≡ Some Zero) spare_places
-unfolding written
-written_spare c = frame_spare c blank blank_is
+pub written_spare : (c : Coded) → All (λ i. slice_get (frame_of_coded c) i ≡ Some Zero) spare_places
+unfolding frame_of_coded
+written_spare c = frame_spare c blank_frame blank_is

@@ -12,7 +12,7 @@ use Rattle.irig_frame.specs.declared.layout.Place.{Place}
 use Rattle.irig_frame.specs.declared.coded.Coded.{Coded}
 use Rattle.irig_frame.specs.Values.{is_one, is_one_at, value}
 use Rattle.irig_frame.specs.FieldTable.{units_of, tens_of, hundreds_of, places_of, control_places, straight_binary_places, is_marker_place}
-use Rattle.irig_frame.specs.Reading.{Reads, IsRight, HasDigits}
+use Rattle.irig_frame.specs.Decoder.{Reads, IsRight, HasDigits}
 use Rattle.irig_frame.specs.FieldTable.{spare_places}
 use Rattle.irig_frame.proofs.WritingLaws.{ones, by_sum, has, doubles}
 use Rattle.irig_frame.proofs.ReadingLaws.{each}

@@ -15,8 +15,8 @@ use Rattle.irig_frame.specs.declared.fault.FrameFault.{FrameFault}
 use Rattle.irig_frame.specs.declared.fault.FrameFault.TheVariants as fault
 use Rattle.irig_frame.specs.FieldTable.{places_of, control_places, straight_binary_places, is_marker_place}
 use Rattle.irig_frame.specs.Values.{value, weights, is_one_at}
-use Rattle.irig_frame.specs.Reading.{IsRight, HasDigits, IsInRange, Reads, IsCoded}
-use Rattle.irig_frame.specs.Faults.{◌>>=◌, element_fault, first_wrong, unless, field_at, values_of, decoded}
+use Rattle.irig_frame.specs.Decoder.{IsRight, HasDigits, IsInRange, Reads, IsCoded}
+use Rattle.irig_frame.specs.Faults.{◌>>=◌, element_fault, first_wrong, unless, field_at, values_of, decode_result}
 
 -- a test that did not fail
 guard_ok : {A : Type 0} (b : Bool) (d : FrameFault) (r : Result A FrameFault) (y : A) → cond b (Err d) r ≡ Ok y → (b ≡ false) × (r ≡ Ok y)
@@ -139,8 +139,8 @@ values_again s c r =
 pub none_of : (s : List Symbol) (c : Coded) → Reads s c → first_wrong 0 s ≡ None
 none_of s c r = none_wrong 0 s (λ k lt. subst (λ (j : ℕ). IsRight j (slice_get s k)) (sym (zero-add k)) (r.elements k (omega (arith, r.len))))
 
-reads_from : (s : List Symbol) (c : Coded) → decoded s ≡ Ok c → Reads s c
-unfolding decoded
+reads_from : (s : List Symbol) (c : Coded) → decode_result s ≡ Ok c → Reads s c
+unfolding decode_result
 reads_from s c e =
     let rest : Result Coded FrameFault = unless (first_wrong 0 s) (values_of s) in
     let long : Result Coded FrameFault = cond (nat_lt 100 (length s)) (Err fault.Long) rest in
@@ -151,13 +151,13 @@ reads_from s c e =
     let high = ltb-false _ _ b.0 in
     reads_of s c (omega (arith, low, high)) u.0 u.1
 
-decoded_from : (s : List Symbol) (c : Coded) → Reads s c → decoded s ≡ Ok c
-unfolding decoded
+decoded_from : (s : List Symbol) (c : Coded) → Reads s c → decode_result s ≡ Ok c
+unfolding decode_result
 decoded_from s c r =
     let len = r.len in
     rw (le-ltb (length s) 100 (omega (arith, len)), le-ltb 100 (length s) (omega (arith, len)), none_of s c r) (values_again s c r)
 
-pub decoded-reads : (s : List Symbol) (c : Coded) → (decoded s ≡ Ok c) ↔ Reads s c
+pub decoded-reads : (s : List Symbol) (c : Coded) → (decode_result s ≡ Ok c) ↔ Reads s c
 decoded-reads s c = (reads_from s c, decoded_from s c)
 
 -- a field holds no more than its weights
@@ -178,12 +178,12 @@ Reads-in_range s c r = record {
   sbs = omega (arith, r.sbs, value_le straight_binary_places s);
 }
 
-pub decoded-in_range : (s : List Symbol) (r : Result Coded FrameFault) → r ≡ decoded s → IfOk r IsCoded
+pub decoded-in_range : (s : List Symbol) (r : Result Coded FrameFault) → r ≡ decode_result s → IfOk r IsCoded
 decoded-in_range s (Ok c) e = Reads-in_range s c (reads_from s c (sym e))
 decoded-in_range s (Err f) e = tt
 
 pub one_reading : (s : List Symbol) (c d : Coded) → Reads s c → Reads s d → c ≡ d
 one_reading s c d h k =
-    let a : decoded s ≡ Ok c = decoded_from s c h in
-    let b : decoded s ≡ Ok d = decoded_from s d k in
+    let a : decode_result s ≡ Ok c = decoded_from s c h in
+    let b : decode_result s ≡ Ok d = decoded_from s d k in
     cc

@@ -5,7 +5,7 @@ use Rattle.std.specs.List.{list_all, range_with_len}
 use Rattle.irig_frame.specs.declared.symbol.Symbol.{Symbol}
 use Rattle.irig_frame.specs.declared.symbol.Symbol.TheVariants.{Zero, One, Marker, Bad}
 use Rattle.irig_frame.specs.declared.field.Field.TheVariants.{Second, Minute, Hour, Day, Year}
-use Rattle.irig_frame.specs.Symbols.{symbol_of}
+use Rattle.irig_frame.specs.Symbols.{letter_of, symbol_of, width_of}
 use Rattle.irig_frame.specs.FieldTable.{places_of, control_places, straight_binary_places, is_marker_place, spare_places}
 use Rattle.irig_frame.specs.Values.{value, weights}
 
@@ -22,8 +22,13 @@ pub known_widths : map symbol_of (0 ∷ 499 ∷ 500 ∷ 3499 ∷ 3500 ∷ 6499 �
 known_widths = refl
 
 -- the nominal widths
-pub nominal_widths : map symbol_of (2000 ∷ 5000 ∷ 8000 ∷ []) ≡ Zero ∷ One ∷ Marker ∷ []
-nominal_widths = refl
+pub nominal_widths : (map width_of (Zero ∷ One ∷ Marker ∷ []) ≡ 2000 ∷ 5000 ∷ 8000 ∷ [])
+    × (map symbol_of (2000 ∷ 5000 ∷ 8000 ∷ []) ≡ Zero ∷ One ∷ Marker ∷ [])
+nominal_widths = (refl, refl)
+
+-- the letters of a frame's text
+pub known_letters : map letter_of (Zero ∷ One ∷ Marker ∷ Bad ∷ []) ≡ codes "01P?"
+known_letters = refl
 
 -- the eleven markers
 pub known_markers : map is_marker_place (0 ∷ 9 ∷ 19 ∷ 29 ∷ 39 ∷ 49 ∷ 59 ∷ 69 ∷ 79 ∷ 89 ∷ 99 ∷ []) ≡ map (λ _. true) (range_with_len 0 11)

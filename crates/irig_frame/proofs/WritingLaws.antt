@@ -10,8 +10,8 @@ use Rattle.irig_frame.specs.declared.symbol.Symbol.TheVariants.{Zero, One, Marke
 use Rattle.irig_frame.specs.declared.layout.Place.{Place}
 use Rattle.irig_frame.specs.Values.{is_one, is_one_at, value}
 use Rattle.irig_frame.specs.FieldTable.{is_marker_place}
-use Rattle.irig_frame.specs.Reading.{IsRight}
-use Rattle.irig_frame.specs.Writing.{bit_symbol, with_bits, Part, with_parts, blank_at, IsBlank}
+use Rattle.irig_frame.specs.Decoder.{IsRight}
+use Rattle.irig_frame.specs.Encoder.{bit_symbol, with_bits, Part, with_parts, blank_at, IsBlank}
 
 pub get-set_same : (s : List Symbol) (i : ℕ) (x : Symbol) → i < length s → slice_get (slice_set s i x) i ≡ Some x
 get-set_same [] i x h = absurd (omega arith)

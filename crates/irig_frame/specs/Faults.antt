@@ -1,4 +1,5 @@
 -- The faults of a frame, in their order: the length; the lowest wrong element; the first wrong field.
+-- Source: the order is this project's profile (docs/FAULTS.md).
 use Rattle.std.specs.Prelude.{ℕ, ◌+◌, List, [], ◌∷◌, if◌then◌else◌, nat_lt, Option, Some, None, Result, Ok, Err, length}
 use Rattle.std.specs.Option.{option_or}
 use Rattle.irig_frame.specs.declared.symbol.Symbol.{Symbol}
@@ -10,7 +11,7 @@ use Rattle.irig_frame.specs.declared.fault.FrameFault.{FrameFault}
 use Rattle.irig_frame.specs.declared.fault.FrameFault.TheVariants as fault
 use Rattle.irig_frame.specs.FieldTable.{units_of, tens_of, places_of, control_places, straight_binary_places, is_marker_place}
 use Rattle.irig_frame.specs.Values.{value}
-use Rattle.irig_frame.specs.Reading.{least, most}
+use Rattle.irig_frame.specs.Decoder.{least, most}
 
 -- the step after a step that gave a value
 infixl 10 ◌>>=◌
@@ -51,11 +52,19 @@ values_of s = do
   hour ← field_at s Hour
   day ← field_at s Day
   year ← field_at s Year
-  Ok (record { second = second; minute = minute; hour = hour; day = day; year = year; control = value control_places s; sbs = value straight_binary_places s })
+  Ok (record {
+    second = second;
+    minute = minute;
+    hour = hour;
+    day = day;
+    year = year;
+    control = value control_places s;
+    sbs = value straight_binary_places s;
+  })
 
 -- what a frame is decoded to, or its first fault
-unfoldable pub decoded : List Symbol → Result Coded FrameFault
-decoded s =
+unfoldable pub decode_result : List Symbol → Result Coded FrameFault
+decode_result s =
     if nat_lt (length s) 100 then Err (fault.Short (length s))
     else (if nat_lt 100 (length s) then Err fault.Long
     else unless (first_wrong 0 s) (values_of s))

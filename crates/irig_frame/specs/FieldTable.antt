@@ -9,6 +9,7 @@ use Rattle.irig_frame.specs.declared.layout.Place.{Place}
 abbrev pub TableEntry : Type 0
 TableEntry = Place
 
+-- an element with the weight of a one there
 abbrev pub at : ℕ → ℕ → TableEntry
 at element weight = record { element = element; weight = weight }
 
@@ -41,7 +42,8 @@ places_of f = units_of f ++ tens_of f ++ hundreds_of f
 abbrev pub control_places : List TableEntry
 control_places =
     at 60 1 ∷ at 61 2 ∷ at 62 4 ∷ at 63 8 ∷ at 64 16 ∷ at 65 32 ∷ at 66 64 ∷ at 67 128 ∷ at 68 256
-    ∷ at 70 512 ∷ at 71 1024 ∷ at 72 2048 ∷ at 73 4096 ∷ at 74 8192 ∷ at 75 16384 ∷ at 76 32768 ∷ at 77 65536 ∷ at 78 131072 ∷ []
+    ∷ at 70 512 ∷ at 71 1024 ∷ at 72 2048 ∷ at 73 4096 ∷ at 74 8192 ∷ at 75 16384
+    ∷ at 76 32768 ∷ at 77 65536 ∷ at 78 131072 ∷ []
 
 -- the straight binary seconds, 2^0 to 2^8 and 2^9 to 2^16
 abbrev pub straight_binary_places : List TableEntry

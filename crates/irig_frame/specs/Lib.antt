@@ -1,6 +1,6 @@
 pub mod Symbols
 pub mod FieldTable
 pub mod Values
-pub mod Reading
+pub mod Decoder
 pub mod Faults
-pub mod Writing
+pub mod Encoder

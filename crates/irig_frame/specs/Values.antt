@@ -1,9 +1,11 @@
 -- The value of some places of a frame.
+-- Source: IRIG Standard 200-16, format B: the sum of the weights where a one stands.
 use Rattle.std.specs.Prelude.{ℕ, ◌<◌, Bool, true, false, List, Option, Some, slice_get, sum, sum_by, map, filter, All}
 use Rattle.irig_frame.specs.declared.symbol.Symbol.{Symbol}
 use Rattle.irig_frame.specs.declared.symbol.Symbol.TheVariants.{One}
 use Rattle.irig_frame.specs.FieldTable.{TableEntry}
 
+-- whether there is a symbol and it is a 1
 abbrev pub is_one : Option Symbol → Bool
 is_one (Some One) = true
 is_one _ = false

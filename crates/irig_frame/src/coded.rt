@@ -1,7 +1,7 @@
 //! The time that a frame codes.
 
 ghost use Rattle.std.specs.Prelude.{◌↔◌, IsTrue};
-ghost use Rattle.irig_frame.specs.Reading.{IsCoded};
+ghost use Rattle.irig_frame.specs.Decoder.{IsCoded};
 
 /// The time and the further bits that a frame codes.
 ///

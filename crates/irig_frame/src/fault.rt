@@ -1,8 +1,8 @@
-//! What can be wrong with a frame.
+//! The faults of a frame.
 
 use crate::field::Field;
 
-/// What is wrong with a frame, in the order in which faults are told.
+/// What is wrong with a frame, in the order in which faults are answered.
 #[derive(Clone, Copy, Debug, PartialEq, Eq)]
 pub enum FrameFault {
     /// Fewer than 100 symbols: so many, 0 to 99.

@@ -1,9 +1,9 @@
 //! The fields of decimal digits.
 
 ghost use Rattle.std.specs.Prelude.{◌≡◌};
-ghost use Rattle.irig_frame.specs.Reading.{least, most};
+ghost use Rattle.irig_frame.specs.Decoder.{least, most};
 
-/// A field of decimal digits, in the order in which faults are told.
+/// A field of decimal digits, in the order in which faults are answered.
 ///
 /// Source: IRIG Standard 200-16, format B, the time-of-year subword and the year.
 #[derive(Clone, Copy, Debug, PartialEq, Eq)]
@@ -20,16 +20,18 @@ pub enum Field {
     Year,
 }
 
-/// The least and the greatest value that a frame may code in the field.
-pub(crate) fn bounds(field: Field) -> (u32, u32)
-    ensures least { result.0 ≡ least field }
-    ensures greatest { result.1 ≡ most field }
-{
-    match field {
-        Field::Second => (0, 60),
-        Field::Minute => (0, 59),
-        Field::Hour => (0, 23),
-        Field::Day => (1, 366),
-        Field::Year => (0, 99),
+impl Field {
+    /// The least and the greatest value that a frame may code in the field.
+    pub fn bounds(self) -> (u32, u32)
+        ensures least { result.0 ≡ least self }
+        ensures greatest { result.1 ≡ most self }
+    {
+        match self {
+            Field::Second => (0, 60),
+            Field::Minute => (0, 59),
+            Field::Hour => (0, 23),
+            Field::Day => (1, 366),
+            Field::Year => (0, 99),
+        }
     }
 }

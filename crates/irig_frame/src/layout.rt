@@ -1,7 +1,7 @@
 //! Where the fields of a frame lie: the tables of `specs/FieldTable.antt`, for the code.
 
 ghost use Rattle.std.specs.Prelude.{◌≡◌};
-ghost use Rattle.irig_frame.specs.FieldTable.{units_of, tens_of, hundreds_of, control_places, straight_binary_places, is_marker_place as marks};
+ghost use Rattle.irig_frame.specs.FieldTable.{units_of, tens_of, hundreds_of, control_places, straight_binary_places, is_marker_place};
 
 use crate::field::Field;
 
@@ -51,7 +51,6 @@ static STRAIGHT_BINARY: [Place; 17] = places![
     90: 512, 91: 1024, 92: 2048, 93: 4096, 94: 8192, 95: 16384, 96: 32768, 97: 65536,
 ];
 
-/// The units digit of a field.
 pub(crate) fn units(field: Field) -> &'static [Place]
     ensures { result.now ≡ units_of field }
 {
@@ -64,7 +63,6 @@ pub(crate) fn units(field: Field) -> &'static [Place]
     }
 }
 
-/// The tens digit of a field.
 pub(crate) fn tens(field: Field) -> &'static [Place]
     ensures { result.now ≡ tens_of field }
 {
@@ -77,7 +75,6 @@ pub(crate) fn tens(field: Field) -> &'static [Place]
     }
 }
 
-/// The hundreds digit of a field, which the day alone has.
 pub(crate) fn hundreds(field: Field) -> &'static [Place]
     ensures { result.now ≡ hundreds_of field }
 {
@@ -87,23 +84,22 @@ pub(crate) fn hundreds(field: Field) -> &'static [Place]
     }
 }
 
-/// The control bits.
 pub(crate) fn control() -> &'static [Place]
     ensures { result.now ≡ control_places }
 {
     &CONTROL
 }
 
-/// The straight binary seconds.
 pub(crate) fn straight_binary() -> &'static [Place]
     ensures { result.now ≡ straight_binary_places }
 {
     &STRAIGHT_BINARY
 }
 
-/// Whether the element is a marker's.
-pub(crate) fn is_marker_place(element: usize) -> bool
-    ensures { result ≡ marks element }
+/// Whether the element, from 0, holds a marker: the reference marker at 0 or a position identifier at 9,
+/// 19, .. and 99.
+pub fn is_marker_place(element: usize) -> bool
+    ensures { result ≡ is_marker_place element }
 {
     element == 0 || element % 10 == 9
 }

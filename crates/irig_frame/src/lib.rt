@@ -5,26 +5,27 @@
 //! elements, 0 to 99, one every 10 ms; it codes the second that begins at the leading edge of
 //! element 0. Years are those from 2000 to 2099.
 //!
-//! [`encode`] writes a [`Coded`] time as 100 [`Symbol`]s, and [`decode`] reads one or tells the first
+//! [`encode`] writes a [`Coded`] time as 100 [`Symbol`]s, and [`decode`] reads one or answers the first
 //! [`FrameFault`]. The field table stands once as data in `specs/FieldTable.antt`.
 #![tactic(auto)]
 
 mod coded;
+mod decoder;
+mod encoder;
 mod fault;
 mod field;
 mod laws;
 mod layout;
-mod reading;
 mod symbol;
-mod writing;
 
 pub use coded::{Coded, in_range};
+pub use decoder::{decode, fault_at};
+pub use encoder::encode;
 pub use fault::FrameFault;
 pub use field::Field;
 pub use laws::{one_frame, one_reading, round_trip, written_reads};
-pub use reading::decode;
-pub use symbol::{Symbol, classify};
-pub use writing::encode;
+pub use layout::is_marker_place;
+pub use symbol::{Symbol, classify, is_one_width, is_right_width};
 
 #[cfg(test)]
 mod tests;

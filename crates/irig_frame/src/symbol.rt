@@ -1,7 +1,10 @@
-//! The symbols of a frame, and the pulse widths that send them.
+//! The symbols of a frame, the pulse widths that send them, and their letters.
 
-ghost use Rattle.std.specs.Prelude.{◌≡◌};
-ghost use Rattle.irig_frame.specs.Symbols.{symbol_of};
+ghost use Rattle.std.specs.Prelude.{◌≡◌, ◌↔◌, ℕ, IsTrue, Some, None};
+ghost use Rattle.irig_frame.specs.Symbols.{letter_of, symbol_of, width_of};
+ghost use Rattle.irig_frame.specs.FieldTable.{is_marker_place};
+ghost use Rattle.irig_frame.specs.Faults.{element_fault};
+ghost use Rattle.irig_frame.specs.Values.{is_one};
 
 /// What one element of a frame says.
 ///
@@ -19,6 +22,47 @@ pub enum Symbol {
     Bad,
 }
 
+impl Symbol {
+    /// The nominal width of its pulse in microseconds: 2000, 5000 or 8000, and 0 for a bad pulse, which
+    /// is never sent.
+    pub fn width_us(self) -> u32
+        ensures width { result ≡ width_of self }
+        ensures classified { symbol_of result ≡ self }
+    {
+        match self {
+            Symbol::Zero => 2000,
+            Symbol::One => 5000,
+            Symbol::Marker => 8000,
+            Symbol::Bad => 0,
+        }
+    }
+
+    /// Its letter in a text: `0`, `1`, `P`, and `?` for a bad pulse.
+    pub fn letter(self) -> u8
+        ensures { result ≡ letter_of self }
+    {
+        match self {
+            Symbol::Zero => b'0',
+            Symbol::One => b'1',
+            Symbol::Marker => b'P',
+            Symbol::Bad => b'?',
+        }
+    }
+
+    /// The symbol with this letter, where there is one.
+    pub fn from_letter(letter: u8) -> Option<Symbol>
+        ensures { (s : Symbol) → (result ≡ Some s) ↔ (letter ≡ letter_of s) }
+    {
+        match letter {
+            b'0' => Some(Symbol::Zero),
+            b'1' => Some(Symbol::One),
+            b'P' => Some(Symbol::Marker),
+            b'?' => Some(Symbol::Bad),
+            _ => None,
+        }
+    }
+}
+
 /// The symbol of a pulse `width_us` microseconds wide: 500 to 3499 is a 0, 3500 to 6499 a 1, 6500 to
 /// 9499 a marker, and any other width a bad pulse.
 ///
@@ -32,4 +76,22 @@ pub fn classify(width_us: u32) -> Symbol
         6500..=9499 => Symbol::Marker,
         _ => Symbol::Bad,
     }
+}
+
+/// Whether a pulse of this width is a 1.
+#[inline]
+pub fn is_one_width(width_us: u32) -> bool
+    ensures { result ≡ is_one (Some (symbol_of width_us)) }
+{
+    (3500..6500).contains(&width_us)
+}
+
+/// Whether a pulse of this width is right at an element: a marker at a marker place, and a 0 or a 1 at
+/// any other.
+#[inline]
+pub fn is_right_width(width_us: u32, at_marker_place: bool) -> bool
+    ensures { (i : ℕ) → is_marker_place i ≡ at_marker_place
+        → IsTrue result ↔ (element_fault i (symbol_of width_us) ≡ None) }
+{
+    (500..9500).contains(&width_us) && (width_us >= 6500) == at_marker_place
 }

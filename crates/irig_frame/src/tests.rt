@@ -9,23 +9,13 @@ const LEAP_DAY: &str =
 const PLAIN: &str =
     "P00000000P 000000000P 000000000P 110000000P 000000000P 000000000P 000000000P 000000000P 000000000P 000000000P";
 
-fn symbol_of(letter: u8) -> Option<Symbol> {
-    match letter {
-        b'0' => Some(Symbol::Zero),
-        b'1' => Some(Symbol::One),
-        b'P' => Some(Symbol::Marker),
-        b'?' => Some(Symbol::Bad),
-        _ => None,
-    }
-}
-
 /// The first hundred symbols of a text, without its blanks.
 fn frame(text: &str) -> [Symbol; 100] {
     let letters = text.as_bytes().iter();
     let mut symbols = [Symbol::Zero; 100];
     for (place, symbol) in symbols
         .iter_mut()
-        .zip(letters.filter_map(|letter| symbol_of(*letter)))
+        .zip(letters.filter_map(|letter| Symbol::from_letter(*letter)))
     {
         *place = symbol;
     }
@@ -63,6 +53,41 @@ fn widths_are_classified_at_their_bounds(rt: HostRuntime) {
 }
 
 #[test]
+fn symbols_have_widths_and_letters(rt: HostRuntime) {
+    let rows = [
+        (Symbol::Zero, 2000, b'0'),
+        (Symbol::One, 5000, b'1'),
+        (Symbol::Marker, 8000, b'P'),
+        (Symbol::Bad, 0, b'?'),
+    ];
+    for (symbol, width_us, letter) in rows {
+        assert!(rt; symbol.width_us() == width_us, "of {symbol:?}");
+        assert!(rt; symbol.letter() == letter, "of {symbol:?}");
+        assert!(rt;
+            Symbol::from_letter(letter) == Some(symbol),
+            "of {symbol:?}"
+        );
+        assert!(rt;
+            is_one_width(width_us) == (symbol == Symbol::One),
+            "of {symbol:?}"
+        );
+    }
+    assert!(rt; Symbol::from_letter(b'p') == None);
+}
+
+#[test]
+fn a_marker_is_right_at_marker_places_alone(rt: HostRuntime) {
+    assert!(rt; is_marker_place(0) && is_marker_place(99) && !is_marker_place(75));
+    assert!(rt; is_right_width(8000, true) && !is_right_width(8000, false));
+    assert!(rt; is_right_width(2000, false) && !is_right_width(2000, true));
+    assert!(rt; !is_right_width(499, true) && !is_right_width(9500, false));
+    assert!(rt; fault_at(75, Symbol::Marker) == Some(FrameFault::Marker(75)));
+    assert!(rt; fault_at(99, Symbol::Marker) == None);
+    assert!(rt; fault_at(99, Symbol::Bad) == Some(FrameFault::Pulse(99)));
+    assert!(rt; Field::Day.bounds() == (1, 366));
+}
+
+#[test]
 fn a_leap_day_is_written_and_read(rt: HostRuntime) {
     let coded = Coded {
         second: 59,
@@ -85,7 +110,7 @@ fn a_leap_day_is_written_and_read(rt: HostRuntime) {
 }
 
 #[test]
-fn the_first_fault_is_told(rt: HostRuntime) {
+fn the_first_fault_is_answered(rt: HostRuntime) {
     let rows = [
         (
             changed(&[(2, Symbol::One), (4, Symbol::One)]),

@@ -1,18 +1,11 @@
 -- Zones stay in range, and the frame of a second carries its true claim.
-use Rattle.std.proofs.Common.{◌≡◌, ℕ, ◌+◌, ◌-◌, ◌*◌, ◌/◌, ◌%◌, ◌^◌, ◌<◌, ◌≤◌, min, Bool, true, false, ◌&&◌, cond, eqb, ltb, is_some, All, slice_get, slice_set, List, [], ◌∷◌, Option, Some, None, Result, Ok, refl, sym, ap, subst, ◌∙◌, arith, inl, inr, zero, suc, ℤ, pos, negsuc, ◌+ℤ◌, neg_ℤ, int_lt, unsigned_abs}
+use Rattle.std.proofs.Common.{◌≡◌, ℕ, ◌+◌, ◌-◌, ◌*◌, ◌/◌, ◌%◌, ◌^◌, ◌<◌, ◌≤◌, min, Bool, true, false, ◌&&◌, cond, eqb, ltb, is_some, List, [], ◌∷◌, Option, Some, None, Result, Ok, refl, sym, ap, subst, ◌∙◌, arith, inl, inr, zero, suc, ℤ, pos, negsuc, ◌+ℤ◌, neg_ℤ, int_lt, unsigned_abs}
 use Rattle.std.specs.List.{list_all}
 use Rattle.std.specs.Option.{option_map}
 use Rattle.std.proofs.lemmas.Bool.{cases_Bool, cases_lt, and_parts, and_from, and_left, and_right, leb-true, lt-ltb, le-ltb, ltb-false, eq-eqb, ne_eqb}
 use Rattle.irig_frame.specs.declared.symbol.Symbol.{Symbol}
 use Rattle.irig_frame.specs.declared.coded.Coded.{Coded}
-use Rattle.std.proofs.lemmas.Bool.Decides.{nat_tests}
-use Rattle.irig_frame.specs.declared.symbol.Symbol.TheVariants.{Zero}
-use Rattle.irig_frame.specs.Reading.{Reads, IsCoded}
-use Rattle.irig_frame.specs.FieldTable.{spare_places}
-use Rattle.irig_control.specs.declared.parity.Parity.{Parity}
-use Rattle.irig_control.specs.Parity.{HasParity, data_symbol}
-use Rattle.irig_control.proofs.ParityKeeps.{reads_kept, spare_kept, one_with_parity}
-use Rattle.irig_control.proofs.ControlLaws.{unpacked, control_same, word_of-below, flag_below}
+use Rattle.irig_control.proofs.ControlLaws.{unpacked, control_same}
 use Rattle.irig_control.specs.declared.control.Control.{Control}
 use Rattle.irig_control.specs.Control.{IsControl, flag, word_of, control_of}
 use Rattle.irig_time.specs.declared.second.UtcSecond.{UtcSecond}
@@ -26,26 +19,29 @@ use Rattle.irig_time.specs.declared.rules.SbsUse.{SbsUse}
 use Rattle.irig_time.specs.declared.rules.SbsUse.TheVariants.{Check, Ignore}
 use Rattle.irig_time.specs.declared.leap.Leap.{Leap}
 use Rattle.irig_time.specs.declared.leap.Leap.TheVariants as leap
-use Rattle.irig_time.specs.Days.{is_month_end, year_length}
+use Rattle.irig_time.specs.Days.{is_month_end}
 use Rattle.irig_time.specs.Seconds.{IsValid, minute_of, second_of}
-use Rattle.irig_time.specs.Coding.{IsCodedOf}
+use Rattle.irig_time.specs.CodedTime.{IsCodedOf}
 use Rattle.irig_time.specs.Claims.{utc_minute, is_last_minute, claim_by, claim_of_second}
-use Rattle.irig_time.specs.Times.{Times, IsSecond, IsTrueClaim, leap_of, length_by, mark_by, true_mark}
+use Rattle.irig_time.specs.Timelines.{TimelineValue, IsSecond, IsTrueClaim, leap_of, length_by, mark_by, true_mark}
 use Rattle.irig_time.specs.TimelineFaults.{IsTimeline}
 use Rattle.irig_time.proofs.ClaimLaws.{added, subtracted}
 use Rattle.irig_time.proofs.NextLaws.{valid_second}
 use Rattle.irig_time.proofs.TimeLaws.{few, one_second}
-use Rattle.irig_time.proofs.CodedLaws.{one_coded}
 use Rattle.irig_gen.specs.declared.zone.Zone.{Zone}
 use Rattle.irig_gen.specs.declared.zone.Change.{Change}
-use Rattle.irig_gen.specs.Zones.{fits, all_fit, has_come, zone_at}
-use Rattle.irig_gen.specs.ControlBits.{is_deletion, offset_sent, control_in}
-use Rattle.irig_gen.specs.Faults.{limited, faulted}
-use Rattle.irig_gen.specs.Frames.{Gen, control_at, IsFrameOf, IsFrameAt, IsFrameBy, IsFrameIf, IsSentFrom}
+use Rattle.irig_time.specs.Seconds.{has_come}
+use Rattle.irig_gen.specs.Zones.{fits, all_fit, zone_at}
+use Rattle.irig_time.specs.Timelines.{is_deletion}
+use Rattle.irig_gen.specs.ControlBits.{offset_sent, control_in}
+use Rattle.irig_gen.specs.Faults.{limited_offset, control_with_fault}
+use Rattle.irig_gen.specs.Frames.{GeneratorValue, control_at, IsTrueFrame, IsFrameWithFault, IsFrameOrNone, IsSentFrom}
+use Rattle.irig_time.specs.Frames.{IsFrameOfSecond}
+use Rattle.irig_time.proofs.FrameLaws.{one_frame_of_second}
 use Rattle.irig_time.specs.Carries.{SbsAgrees, Carries}
 use Rattle.irig_gen.specs.declared.fault.GenFault.{GenFault}
 use Rattle.irig_gen.specs.declared.fault.GenFault.TheVariants.{Silent, Stuck, Skew, NoPending, FalsePending, Quality, WrongOffset}
-use Rattle.irig_gen.specs.Refusals.{IsGen}
+use Rattle.irig_gen.specs.Refusals.{IsGenerator}
 
 -- ---- zones
 
@@ -59,14 +55,14 @@ zone_fits zone (x ∷ xs) u h =
       | inr e ↦ subst (λ (c : Bool). unsigned_abs (zone_at (cond c x.zone zone) xs u).half_hours ≤ 31) (sym e) (zone_fits zone xs u (and_from _ _ a.0 b.1))
     ]
 
-sound_zones : (g : Gen) → IsGen g → all_fit g.zone g.changes ≡ true
+sound_zones : (g : GeneratorValue) → IsGenerator g → all_fit g.zone g.changes ≡ true
 sound_zones g h =
     elim (cases_Bool (all_fit g.zone g.changes)) [
       | inl e ↦ e
       | inr e ↦ absurd (let k = rw e at h.sound in cc)
     ]
 
-pub gen_zone_fits : (g : Gen) (u : UtcSecond) → IsGen g → unsigned_abs (zone_at g.zone g.changes u).half_hours ≤ 31
+pub gen_zone_fits : (g : GeneratorValue) (u : UtcSecond) → IsGenerator g → unsigned_abs (zone_at g.zone g.changes u).half_hours ≤ 31
 gen_zone_fits g u h = zone_fits g.zone g.changes u (sound_zones g h)
 
 abs_neg : (h : ℤ) → unsigned_abs (neg_ℤ h) ≡ unsigned_abs h
@@ -173,7 +169,7 @@ control_back w k fits low e =
       | inr ge ↦ let same : w ≡ word_of k + 2 ^ 14 * flag true = omega (arith, e) in ap control_of same ∙ control_same (word_of k) true ∙ unpacked k fits
     ]
 
-pub true_frames : (g : Gen) (t : Times) (edge : ℕ) (s : List Symbol) → IsGen g → IsTimeline t → IsFrameAt g t edge s → (c : Claim) × IsTrueClaim t (edge + 1) c × Carries g.rules s c
+pub true_frames : (g : GeneratorValue) (t : TimelineValue) (edge : ℕ) (s : List Symbol) → IsGenerator g → IsTimeline t → IsTrueFrame g t edge s → (c : Claim) × IsTrueClaim t (edge + 1) c × Carries g.rules s c
 true_frames g t edge s sound line f =
     let u = f.second in
     let k = control_at g t u in
@@ -198,48 +194,14 @@ true_frames g t edge s sound line f =
       },
     )
 
--- ---- what is written
-
-pub frame_is : (parity : Parity) (u : UtcSecond) (h : ℤ) (k : Control) (time : Coded) (s : List Symbol) (b : Bool) → IsControl k → IsCodedOf u h time
-    → Reads s (record time { control = word_of k }) → All (λ i. slice_get s i ≡ Some Zero) spare_places → HasParity parity (slice_set s 75 (data_symbol b))
-    → IsFrameOf parity u h k (slice_set s 75 (data_symbol b))
-frame_is parity u h k time s b control coded reads spare right =
-    let small = word_of-below k control in
-    record {
-      coded = record time { control = word_of k + 2 ^ 14 * flag b };
-      reads = reads_kept s b (record time { control = word_of k }) reads small;
-      time = record { time = coded.time; second = coded.second; day = coded.day; year = coded.year; hour = coded.hour; minute = coded.minute; sbs = coded.sbs; control = refl };
-      control = omega (arith, small, flag_below b);
-      unused = omega (arith, small, flag_below b);
-      spare = spare_kept s b spare;
-      has_parity = right;
-    }
-
-pub coded_fits : (u : UtcSecond) (h : ℤ) (k : Control) (time : Coded) → IsValid u → IsControl k → IsCodedOf u h time → IsCoded (record time { control = word_of k })
-coded_fits u h k time valid control coded =
-    let low : u.sod ≤ 86400 = elim valid.sod [ inl a ↦ omega (arith, a) | inr b ↦ omega (arith, b.0) ] in
-    let second : second_of u ≤ 60 = omega (arith, low) in
-    record {
-      second = omega (arith, coded.second, second);
-      minute = coded.minute;
-      hour = coded.hour;
-      day = (coded.day.0, year_long time.year time.day coded.day.1);
-      year = coded.year;
-      control = omega (arith, word_of-below k control);
-      sbs = omega (arith, coded.sbs, coded.hour, coded.minute, coded.second, second);
-    }
-  where
-    year_long : (y d : ℕ) → d ≤ year_length y → d ≤ 366
-    year_long y d h = grind (arith, nat_tests)
-
-pub sent_zone_fits : (g : Gen) (changes : List Change) (u : UtcSecond) (z : Zone) → IsGen g → changes ≡ g.changes → z ≡ zone_at g.zone changes u → unsigned_abs z.half_hours ≤ 31
+pub sent_zone_fits : (g : GeneratorValue) (changes : List Change) (u : UtcSecond) (z : Zone) → IsGenerator g → changes ≡ g.changes → z ≡ zone_at g.zone changes u → unsigned_abs z.half_hours ≤ 31
 sent_zone_fits g changes u z sound e is =
     subst (λ (x : Zone). unsigned_abs x.half_hours ≤ 31) (sym (is ∙ ap (λ (cs : List Change). zone_at g.zone cs u) e)) (gen_zone_fits g u sound)
 
 -- what the calls of `frame_at` gave is the frame of the edge
-pub frame_at_is : (g whole : Gen) (t : Times) (edge : ℕ) (u : UtcSecond) (s : List Symbol) (h : ℤ) (z : Zone) (k : Control) (first second : List Change) (leap : Option Leap)
+pub frame_at_is : (g whole : GeneratorValue) (t : TimelineValue) (edge : ℕ) (u : UtcSecond) (s : List Symbol) (h : ℤ) (z : Zone) (k : Control) (first second : List Change) (leap : Option Leap)
     → g ≡ whole → IsSecond t edge u → first ≡ g.changes → second ≡ g.changes → z ≡ zone_at g.zone first u → h ≡ z.half_hours
-    → leap ≡ leap_of t.leaps u.day → k ≡ control_in g.rules.sense z second leap u → (fault : Option GenFault) (sent : Control) → sent ≡ faulted fault k → IsFrameOf g.rules.parity u h sent s → IsFrameBy fault whole t edge s
+    → leap ≡ leap_of t.leaps u.day → k ≡ control_in g.rules.sense z second leap u → (fault : Option GenFault) (sent : Control) → sent ≡ control_with_fault fault k → IsFrameOfSecond g.rules.parity u h sent s → IsFrameWithFault fault whole t edge s
 frame_at_is g whole t edge u s h z k first second leap same is a b zone half leaps control fault sent sent_is frame =
     let zone_is : z ≡ zone_at g.zone g.changes u = zone ∙ ap (λ (cs : List Change). zone_at g.zone cs u) a in
     let half_is : h ≡ (zone_at g.zone g.changes u).half_hours = half ∙ ap (λ (x : Zone). x.half_hours) zone_is in
@@ -247,15 +209,15 @@ frame_at_is g whole t edge u s h z k first second leap same is a b zone half lea
     control ∙ ap (λ (x : Zone). control_in g.rules.sense x second leap u) zone_is
     ∙ ap (λ (cs : List Change). control_in g.rules.sense (zone_at g.zone g.changes u) cs leap u) b
     ∙ ap (λ (o : Option Leap). control_in g.rules.sense (zone_at g.zone g.changes u) g.changes o u) leaps in
-    let right : IsFrameOf g.rules.parity u (zone_at g.zone g.changes u).half_hours (faulted fault (control_at g t u)) s =
-    subst (λ (x : Control). IsFrameOf g.rules.parity u (zone_at g.zone g.changes u).half_hours x s) (sent_is ∙ ap (faulted fault) control_is) (subst (λ (x : ℤ). IsFrameOf g.rules.parity u x sent s) half_is frame) in
-    subst (λ (x : Gen). IsFrameBy fault x t edge s) same (record { second = u; is = is; frame = right })
+    let right : IsFrameOfSecond g.rules.parity u (zone_at g.zone g.changes u).half_hours (control_with_fault fault (control_at g t u)) s =
+    subst (λ (x : Control). IsFrameOfSecond g.rules.parity u (zone_at g.zone g.changes u).half_hours x s) (sent_is ∙ ap (control_with_fault fault) control_is) (subst (λ (x : ℤ). IsFrameOfSecond g.rules.parity u x sent s) half_is frame) in
+    subst (λ (x : GeneratorValue). IsFrameWithFault fault x t edge s) same (record { second = u; is = is; frame = right })
 
 within : (z : ℤ) → int_lt z (neg_ℤ (pos 31)) ≡ false → int_lt (pos 31) z ≡ false → unsigned_abs z ≤ 31
 within (pos n) low high = omega (arith, ltb-false 31 n high)
 within (negsuc n) low high = omega (arith, ltb-false 30 n low)
 
-limited_fits : (z : ℤ) → unsigned_abs (limited z) ≤ 31
+limited_fits : (z : ℤ) → unsigned_abs (limited_offset z) ≤ 31
 limited_fits z =
     elim (cases_Bool (int_lt z (neg_ℤ (pos 31)))) [
       | inl e ↦ rw e (omega arith)
@@ -265,7 +227,7 @@ limited_fits z =
       ]
     ]
 
-pub faulted_fits : (fault : Option GenFault) (k : Control) → IsControl k → IsControl (faulted fault k)
+pub faulted_fits : (fault : Option GenFault) (k : Control) → IsControl k → IsControl (control_with_fault fault k)
 faulted_fits None k h = h
 faulted_fits (Some Silent) k h = h
 faulted_fits (Some Stuck) k h = h
@@ -278,14 +240,14 @@ faulted_fits (Some (WrongOffset by)) k h = record { offset = limited_fits (k.off
 -- ---- skewed edges
 
 -- past 2^64 there is no second, and so the last edge below serves for all of them
-pub as_far : (fault : Option GenFault) (g : Gen) (t : Times) (edge : ℕ) (o : Option (List Symbol)) → IsFrameIf fault g t (min edge (2 ^ 64 - 1)) o → IsFrameIf fault g t edge o
+pub as_far : (fault : Option GenFault) (g : GeneratorValue) (t : TimelineValue) (edge : ℕ) (o : Option (List Symbol)) → IsFrameOrNone fault g t (min edge (2 ^ 64 - 1)) o → IsFrameOrNone fault g t edge o
 as_far fault g t edge o h =
     elim (cases_lt edge (2 ^ 64)) [
-      | inl lt ↦ let same : min edge (2 ^ 64 - 1) ≡ edge = omega arith in subst (λ (e : ℕ). IsFrameIf fault g t e o) same h
-      | inr ge ↦ let last : min edge (2 ^ 64 - 1) ≡ 2 ^ 64 - 1 = omega arith in beyond ge o (subst (λ (e : ℕ). IsFrameIf fault g t e o) last h)
+      | inl lt ↦ let same : min edge (2 ^ 64 - 1) ≡ edge = omega arith in subst (λ (e : ℕ). IsFrameOrNone fault g t e o) same h
+      | inr ge ↦ let last : min edge (2 ^ 64 - 1) ≡ 2 ^ 64 - 1 = omega arith in beyond ge o (subst (λ (e : ℕ). IsFrameOrNone fault g t e o) last h)
     ]
   where
-    beyond : 2 ^ 64 ≤ edge → (o : Option (List Symbol)) → IsFrameIf fault g t (2 ^ 64 - 1) o → IsFrameIf fault g t edge o
+    beyond : 2 ^ 64 ≤ edge → (o : Option (List Symbol)) → IsFrameOrNone fault g t (2 ^ 64 - 1) o → IsFrameOrNone fault g t edge o
     beyond ge None h = λ u a. omega (arith, few t edge u a, ge)
     beyond ge (Some s) h = absurd (omega (arith, few t (2 ^ 64 - 1) h.second h.is))
 
@@ -294,23 +256,16 @@ abbrev pub last_edge : ℕ → ℕ
 last_edge e = min e (2 ^ 64 - 1)
 
 -- what is sent at the edge that the fault gives
-pub sent_from : (g : Gen) (t : Times) (o : Option (List Symbol)) (sent : Option ℕ) (edge : ℕ) → ◌≡◌ {A = Option ℕ} (option_map last_edge sent) (Some edge) → IsFrameIf g.fault g t edge o → IsSentFrom sent g t o
+pub sent_from : (g : GeneratorValue) (t : TimelineValue) (o : Option (List Symbol)) (sent : Option ℕ) (edge : ℕ) → ◌≡◌ {A = Option ℕ} (option_map last_edge sent) (Some edge) → IsFrameOrNone g.fault g t edge o → IsSentFrom sent g t o
 sent_from g t o None edge e h = absurd cc
 sent_from g t o (Some far) edge e h =
     let same : min far (2 ^ 64 - 1) ≡ edge = cc in
-    as_far g.fault g t far o (subst (λ (x : ℕ). IsFrameIf g.fault g t x o) (sym same) h)
+    as_far g.fault g t far o (subst (λ (x : ℕ). IsFrameOrNone g.fault g t x o) (sym same) h)
 
 -- ---- one frame for each edge
 
-one_frame_of : (p : Parity) (u : UtcSecond) (h : ℤ) (k : Control) (s t : List Symbol) → IsFrameOf p u h k s → IsFrameOf p u h k t → s ≡ t
-one_frame_of p u h k s t a b =
-    let w = word_of k in
-    let times = one_coded u h (record a.coded { control = 0 }) (record b.coded { control = 0 }) a.time b.time in
-    let same = ap (λ (n : ℕ). record a.coded { control = n }) a.control ∙ ap (λ (c : Coded). record c { control = w }) times ∙ sym (ap (λ (n : ℕ). record b.coded { control = n }) b.control) in
-    one_with_parity p s t a.coded b.coded a.reads b.reads a.unused b.unused same a.spare b.spare a.has_parity b.has_parity
-
-pub one_frame_by : (fault : Option GenFault) (g : Gen) (t : Times) (edge : ℕ) (s r : List Symbol) → IsFrameBy fault g t edge s → IsFrameBy fault g t edge r → s ≡ r
+pub one_frame_by : (fault : Option GenFault) (g : GeneratorValue) (t : TimelineValue) (edge : ℕ) (s r : List Symbol) → IsFrameWithFault fault g t edge s → IsFrameWithFault fault g t edge r → s ≡ r
 one_frame_by fault g t edge s r a b =
     let same = one_second t edge b.second a.second b.is a.is in
-    let other = subst (λ (u : UtcSecond). IsFrameOf g.rules.parity u (zone_at g.zone g.changes u).half_hours (faulted fault (control_at g t u)) r) same b.frame in
-    one_frame_of g.rules.parity a.second (zone_at g.zone g.changes a.second).half_hours (faulted fault (control_at g t a.second)) s r a.frame other
+    let other = subst (λ (u : UtcSecond). IsFrameOfSecond g.rules.parity u (zone_at g.zone g.changes u).half_hours (control_with_fault fault (control_at g t u)) r) same b.frame in
+    one_frame_of_second g.rules.parity a.second (zone_at g.zone g.changes a.second).half_hours (control_with_fault fault (control_at g t a.second)) s r a.frame other

@@ -1,9 +1,9 @@
 -- Known values of zones, control bits, faults and frames, so that a wrong definition does not check.
-use Rattle.std.proofs.Common.{◌≡◌, ℕ, ◌+◌, true, false, Bool, cond, eqb, List, [], ◌∷◌, map, Option, Some, None, ℤ, pos, negsuc, refl}
+use Rattle.std.proofs.Common.{◌≡◌, ℕ, ◌+◌, true, false, Bool, List, [], ◌∷◌, map, Option, Some, None, ℤ, pos, negsuc, refl}
 use Rattle.std.specs.Prelude.{codes}
+use Rattle.irig_frame.proofs.StandardFacts.{symbols}
 use Rattle.irig_frame.specs.declared.symbol.Symbol.{Symbol}
-use Rattle.irig_frame.specs.declared.symbol.Symbol.TheVariants.{Zero, One, Marker, Bad}
-use Rattle.irig_frame.specs.Writing.{written}
+use Rattle.irig_frame.specs.Encoder.{frame_of_coded}
 use Rattle.irig_control.specs.declared.control.Control.{Control}
 use Rattle.irig_control.specs.declared.parity.Parity.TheVariants.{Even, Odd}
 use Rattle.irig_control.specs.Control.{word_of}
@@ -13,8 +13,8 @@ use Rattle.irig_time.specs.declared.leap.Leap.{Leap}
 use Rattle.irig_time.specs.declared.leap.Leap.TheVariants.{Insert, Delete}
 use Rattle.irig_time.specs.declared.rules.Sense.TheVariants.{Add, Subtract}
 use Rattle.irig_time.specs.declared.rules.SbsUse.TheVariants.{Check}
-use Rattle.irig_time.specs.Coding.{time_shown}
-use Rattle.irig_time.specs.Times.{Times, times, second_at}
+use Rattle.irig_time.specs.CodedTime.{time_shown}
+use Rattle.irig_time.specs.Timelines.{TimelineValue, times, second_at}
 use Rattle.irig_gen.specs.declared.zone.Zone.{Zone}
 use Rattle.irig_gen.specs.declared.zone.Change.{Change}
 use Rattle.irig_gen.specs.declared.fault.GenFault.{GenFault}
@@ -23,10 +23,11 @@ use Rattle.irig_gen.specs.declared.generator.GenRefusal.{GenRefusal}
 use Rattle.irig_gen.specs.declared.generator.GenRefusal.TheVariants.{Offset, Changes}
 use Rattle.irig_gen.specs.Zones.{zone_at}
 use Rattle.irig_gen.specs.ControlBits.{offset_sent, true_control}
-use Rattle.irig_gen.specs.Faults.{faulted, sent_edge}
-use Rattle.irig_gen.specs.Frames.{Gen, gen}
+use Rattle.irig_gen.specs.Faults.{control_with_fault, sent_edge}
+use Rattle.irig_gen.specs.Frames.{GeneratorValue, gen}
 use Rattle.irig_gen.specs.Refusals.{gen_refusal}
-use Rattle.irig_gen.specs.Sent.{frame_for, frame_of, sent_of}
+use Rattle.irig_time.specs.Frames.{frame_of_second}
+use Rattle.irig_gen.specs.Sent.{frame_of, sent_of}
 
 abbrev at : ℕ → ℕ → UtcSecond
 at day sod = record { day = day; sod = sod }
@@ -62,23 +63,23 @@ abbrev true_bits : Control
 true_bits = record { leap_pending = true; leap_delete = true; dst_pending = true; dst = true; offset_half_hours = negsuc 10; quality = 0 }
 
 -- quality 200 is sent as 15, which is a clock failure
-pub known_qualities : map (λ q. faulted (Some (Quality q)) true_bits) (0 ∷ 9 ∷ 15 ∷ 16 ∷ 200 ∷ [])
+pub known_qualities : map (λ q. control_with_fault (Some (Quality q)) true_bits) (0 ∷ 9 ∷ 15 ∷ 16 ∷ 200 ∷ [])
     ≡ true_bits ∷ record true_bits { quality = 9 } ∷ record true_bits { quality = 15 } ∷ record true_bits { quality = 15 } ∷ record true_bits { quality = 15 } ∷ []
 known_qualities = refl
 
 -- -11 and so many more, limited to -31 to 31
-pub known_offsets : map (λ by. (faulted (Some (WrongOffset by)) true_bits).offset_half_hours) (pos 2 ∷ pos 42 ∷ pos 43 ∷ pos 62 ∷ negsuc 19 ∷ negsuc 20 ∷ negsuc 61 ∷ [])
+pub known_offsets : map (λ by. (control_with_fault (Some (WrongOffset by)) true_bits).offset_half_hours) (pos 2 ∷ pos 42 ∷ pos 43 ∷ pos 62 ∷ negsuc 19 ∷ negsuc 20 ∷ negsuc 61 ∷ [])
     ≡ negsuc 8 ∷ pos 31 ∷ pos 31 ∷ pos 31 ∷ negsuc 30 ∷ negsuc 30 ∷ negsuc 30 ∷ []
 known_offsets = refl
 
 -- the leap bits alone
-pub known_pending : (faulted (Some NoPending) true_bits ≡ record true_bits { leap_pending = false; leap_delete = false })
-    × (faulted (Some (FalsePending Insert)) true_bits ≡ record true_bits { leap_delete = false })
-    × (faulted (Some (FalsePending Delete)) (record true_bits { leap_pending = false; leap_delete = false }) ≡ true_bits)
+pub known_pending : (control_with_fault (Some NoPending) true_bits ≡ record true_bits { leap_pending = false; leap_delete = false })
+    × (control_with_fault (Some (FalsePending Insert)) true_bits ≡ record true_bits { leap_delete = false })
+    × (control_with_fault (Some (FalsePending Delete)) (record true_bits { leap_pending = false; leap_delete = false }) ≡ true_bits)
 known_pending = (refl, refl, refl)
 
 -- no other fault changes them
-pub known_unchanged : map (λ fault. faulted fault true_bits) (None ∷ Some Silent ∷ Some Stuck ∷ Some (Skew (pos 1)) ∷ []) ≡ true_bits ∷ true_bits ∷ true_bits ∷ true_bits ∷ []
+pub known_unchanged : map (λ fault. control_with_fault fault true_bits) (None ∷ Some Silent ∷ Some Stuck ∷ Some (Skew (pos 1)) ∷ []) ≡ true_bits ∷ true_bits ∷ true_bits ∷ true_bits ∷ []
 known_unchanged = refl
 
 -- ---- zones and control bits
@@ -128,41 +129,34 @@ known_leaps = (refl, refl, refl)
 
 -- ---- frames
 
--- the symbols of a text, in which P is a marker
-abbrev symbol_of_letter : ℕ → Symbol
-symbol_of_letter letter = cond (eqb letter 80) Marker (cond (eqb letter 49) One (cond (eqb letter 48) Zero Bad))
-
-abbrev symbols : List ℕ → List Symbol
-symbols text = map symbol_of_letter text
-
 -- 2016-12-31T23:59:59Z with an insertion pending, at UTC and eleven half hours ahead of it
 abbrev last_second : ℤ → Control
 last_second offset = record (plain offset) { leap_pending = true }
 
-pub known_frames : (frame_for Even (at 6209 86399) (pos 0) (last_second (pos 0)) ≡ symbols (codes "P10010101P100101010P110000100P011000110P110000000P011001000P100000000P000001000P111111101P000101010P"))
-    × (frame_for Even (at 6209 86399) (pos 11) (last_second (negsuc 10)) ≡ symbols (codes "P10010101P100100100P101000000P100000000P000000000P111001000P100011010P100001000P111010101P011001000P"))
-unfolding frame_for written time_shown word_of ones
+pub known_frames : (frame_of_second Even (at 6209 86399) (pos 0) (last_second (pos 0)) ≡ symbols (codes "P10010101P100101010P110000100P011000110P110000000P011001000P100000000P000001000P111111101P000101010P"))
+    × (frame_of_second Even (at 6209 86399) (pos 11) (last_second (negsuc 10)) ≡ symbols (codes "P10010101P100100100P101000000P100000000P000000000P111001000P100011010P100001000P111010101P011001000P"))
+unfolding frame_of_second frame_of_coded time_shown word_of ones
 known_frames = (refl, refl)
 
 -- under odd parity element 75 is 0; the frame of 2000-01-03T00:00:00Z has an even number of ones without it
-pub known_parities : (frame_for Odd (at 6209 86399) (pos 0) (last_second (pos 0)) ≡ symbols (codes "P10010101P100101010P110000100P011000110P110000000P011001000P100000000P000000000P111111101P000101010P"))
-    × (frame_for Even (at 2 0) (pos 0) (plain (pos 0)) ≡ symbols (codes "P00000000P000000000P000000000P110000000P000000000P000000000P000000000P000000000P000000000P000000000P"))
-unfolding frame_for written time_shown word_of ones
+pub known_parities : (frame_of_second Odd (at 6209 86399) (pos 0) (last_second (pos 0)) ≡ symbols (codes "P10010101P100101010P110000100P011000110P110000000P011001000P100000000P000000000P111111101P000101010P"))
+    × (frame_of_second Even (at 2 0) (pos 0) (plain (pos 0)) ≡ symbols (codes "P00000000P000000000P000000000P110000000P000000000P000000000P000000000P000000000P000000000P000000000P"))
+unfolding frame_of_second frame_of_coded time_shown word_of ones
 known_parities = (refl, refl)
 
 -- ---- what a generator sends
 
 -- the plain plant, from 2016-06-15T12:00:00Z
-abbrev noon : Times
+abbrev noon : TimelineValue
 noon = times (at 6010 43200) []
 
 -- a generator at UTC with this fault
-abbrev faulty : Option GenFault → ℕ → ℕ → Gen
+abbrev faulty : Option GenFault → ℕ → ℕ → GeneratorValue
 faulty fault edge since = gen utc [] (record { parity = Even; sense = Add; sbs = Check }) edge fault since
 
 -- the frame of so many seconds past noon
 abbrev past_noon : ℕ → Option (List Symbol)
-past_noon seconds = Some (frame_for Even (at 6010 (seconds + 43200)) (pos 0) (plain (pos 0)))
+past_noon seconds = Some (frame_of_second Even (at 6010 (seconds + 43200)) (pos 0) (plain (pos 0)))
 
 -- at edge 5 without fault, skewed back by six and on by one, and silent; stuck at edge 5, at edge 6
 pub known_sent : (sent_of (faulty None 5 0) noon ≡ past_noon 5)
@@ -174,13 +168,13 @@ unfolding sent_of frame_of second_at
 known_sent = (refl, refl, refl, refl, refl)
 
 -- another offset is sent with the same coded time
-pub known_false_offset : sent_of (faulty (Some (WrongOffset (pos 1))) 5 5) noon ≡ Some (frame_for Even (at 6010 43205) (pos 0) (plain (pos 1)))
+pub known_false_offset : sent_of (faulty (Some (WrongOffset (pos 1))) 5 5) noon ≡ Some (frame_of_second Even (at 6010 43205) (pos 0) (plain (pos 1)))
 unfolding sent_of frame_of second_at
 known_false_offset = refl
 
 -- no frame follows that of the last second of 2099-12-30
 pub known_end : map (frame_of None (faulty None 0 0) (times (at 36523 86399) [])) (0 ∷ 1 ∷ [])
-    ≡ Some (frame_for Even (at 36523 86399) (pos 0) (plain (pos 0))) ∷ None ∷ []
+    ≡ Some (frame_of_second Even (at 36523 86399) (pos 0) (plain (pos 0))) ∷ None ∷ []
 unfolding frame_of second_at
 known_end = refl
 

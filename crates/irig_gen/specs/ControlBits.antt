@@ -1,17 +1,17 @@
 -- What the control bits of a second truly say (IEEE 1344-1995, the IRIG-B annex; when they are set is this project's
 -- profile).
-use Rattle.std.specs.Prelude.{◌+◌, ◌*◌, Bool, true, false, ◌&&◌, ◌==◌, is_some, List, Option, Some, None, ℤ, neg_ℤ}
+use Rattle.std.specs.Prelude.{◌+◌, ◌*◌, Bool, ◌&&◌, ◌==◌, is_some, List, Option, ℤ, neg_ℤ}
 use Rattle.std.specs.List.{list_any}
 use Rattle.irig_control.specs.declared.control.Control.{Control}
 use Rattle.irig_time.specs.declared.second.UtcSecond.{UtcSecond}
 use Rattle.irig_time.specs.declared.leap.Leap.{Leap}
-use Rattle.irig_time.specs.declared.leap.Leap.TheVariants.{Insert, Delete}
 use Rattle.irig_time.specs.declared.rules.Sense.{Sense}
 use Rattle.irig_time.specs.declared.rules.Sense.TheVariants.{Add, Subtract}
-use Rattle.irig_time.specs.Seconds.{minute_of}
+use Rattle.irig_time.specs.Seconds.{minute_number, minute_of}
+use Rattle.irig_time.specs.Timelines.{is_deletion}
 use Rattle.irig_gen.specs.declared.zone.Zone.{Zone}
 use Rattle.irig_gen.specs.declared.zone.Change.{Change}
-use Rattle.irig_gen.specs.Zones.{minute_number, zone_at}
+use Rattle.irig_gen.specs.Zones.{zone_at}
 
 -- the minute of u ends at this second
 abbrev pub ends_minute : UtcSecond → UtcSecond → Bool
@@ -21,11 +21,6 @@ ends_minute u at = minute_number at == u.day * 1440 + minute_of u + 1
 abbrev pub offset_sent : Sense → ℤ → ℤ
 offset_sent Add h = neg_ℤ h
 offset_sent Subtract h = h
-
-abbrev pub is_deletion : Option Leap → Bool
-is_deletion None = false
-is_deletion (Some Insert) = false
-is_deletion (Some Delete) = true
 
 -- a leap is pending in the last minute of its day, a change of zone in the minute that ends with it
 abbrev pub control_in : Sense → Zone → List Change → Option Leap → UtcSecond → Control
@@ -38,5 +33,6 @@ control_in sense zone changes leap u = record {
   quality = 0;
 }
 
+-- the same, in the zone that holds at the second
 abbrev pub true_control : Sense → Zone → List Change → Option Leap → UtcSecond → Control
 true_control sense zone changes leap u = control_in sense (zone_at zone changes u) changes leap u

@@ -1,7 +1,10 @@
 -- Which zone holds at a second.
-use Rattle.std.specs.Prelude.{ℕ, ◌+◌, ◌*◌, ◌/◌, ◌%◌, Bool, true, ◌&&◌, ◌||◌, ◌==◌, nat_lt, nat_le, if◌then◌else◌, List, [], ◌∷◌, unsigned_abs}
+-- Source: this project's profile: the last change at or before it.
+use Rattle.std.specs.Prelude.{ℕ, ◌%◌, Bool, true, ◌&&◌, ◌==◌, nat_lt, nat_le, if◌then◌else◌, List, [], ◌∷◌, unsigned_abs}
 use Rattle.std.specs.List.{list_all}
 use Rattle.irig_time.specs.declared.second.UtcSecond.{UtcSecond}
+use Rattle.irig_time.specs.declared.second.TheConstants.{FIRST_DAY, LAST_DAY}
+use Rattle.irig_time.specs.Seconds.{has_come, minute_number}
 use Rattle.irig_gen.specs.declared.zone.Zone.{Zone}
 use Rattle.irig_gen.specs.declared.zone.Change.{Change}
 
@@ -9,24 +12,19 @@ use Rattle.irig_gen.specs.declared.zone.Change.{Change}
 abbrev pub fits : Zone → Bool
 fits z = nat_le (unsigned_abs z.half_hours) 31
 
+-- they have room for the offsets of all zones
 abbrev pub all_fit : Zone → List Change → Bool
 all_fit zone changes = fits zone && list_all (λ x. fits x.zone) changes
 
 -- the first second of a minute, of a day that is served
 abbrev pub is_change_time : UtcSecond → Bool
-is_change_time u = (nat_le 1 u.day && nat_le u.day 36523) && (nat_lt u.sod 86400 && (u.sod % 60 == 0))
-
-abbrev pub minute_number : UtcSecond → ℕ
-minute_number u = u.day * 1440 + u.sod / 60
+is_change_time u = (nat_le FIRST_DAY u.day && nat_le u.day LAST_DAY) && (nat_lt u.sod 86400 && (u.sod % 60 == 0))
 
 -- each change is at such a second, and later than this minute and the changes before
 abbrev pub in_order : ℕ → List Change → Bool
 in_order before [] = true
-in_order before (x ∷ xs) = is_change_time x.at && (nat_lt before (minute_number x.at) && in_order (minute_number x.at) xs)
-
--- a second is at or before another
-abbrev pub has_come : UtcSecond → UtcSecond → Bool
-has_come at u = nat_lt at.day u.day || ((at.day == u.day) && nat_le at.sod u.sod)
+in_order before (x ∷ xs) =
+    is_change_time x.at && (nat_lt before (minute_number x.at) && in_order (minute_number x.at) xs)
 
 -- the zone of the last change at or before u, else the first zone
 abbrev pub zone_at : Zone → List Change → UtcSecond → Zone

@@ -3,7 +3,7 @@
 ghost use Rattle.std.specs.Prelude.{◌≡◌, ◌≤◌, ◌==◌, unsigned_abs};
 ghost use Rattle.std.specs.List.{list_any};
 ghost use Rattle.irig_time.specs.Seconds.{minute_of};
-ghost use Rattle.irig_gen.specs.ControlBits.{ends_minute as is_end, control_in, offset_sent};
+ghost use Rattle.irig_gen.specs.ControlBits.{ends_minute, control_in, offset_sent};
 
 use crate::zone::{Change, Zone};
 use irig_control::Control;
@@ -31,28 +31,25 @@ pub(crate) fn control_at(
     }
 }
 
-/// Whether the second lies in the last minute of its day.
 fn is_last_minute(utc: &UtcSecond) -> bool
     ensures { result ≡ (minute_of utc.now == 1439) }
 {
     (utc.sod / 60).min(1439) == 1439
 }
 
-/// Whether the minute of the second ends with one of the changes.
 fn any_ends(utc: &UtcSecond, changes: &[Change]) -> bool
-    ensures { result ≡ list_any (λ x. is_end utc.now x.at) changes.now }
+    ensures { result ≡ list_any (λ x. ends_minute utc.now x.at) changes.now }
 {
     changes.iter().any(|change| ends_minute(utc, change.at))
 }
 
 fn ends_minute(utc: &UtcSecond, at: UtcSecond) -> bool
-    ensures { result ≡ is_end utc.now at }
+    ensures { result ≡ ends_minute utc.now at }
 {
     let next = u64::from(utc.day) * 1440 + u64::from((utc.sod / 60).min(1439)) + 1;
     u64::from(at.day) * 1440 + u64::from(at.sod / 60) == next
 }
 
-/// The offset that turns local time into UTC.
 fn offset(sense: Sense, half_hours: i8) -> i8
     requires { unsigned_abs half_hours ≤ 31 }
     ensures { result ≡ offset_sent sense half_hours }

@@ -2,7 +2,7 @@
 
 ghost use Rattle.std.specs.Prelude.{◌≡◌, ◌+ℤ◌, Some, min};
 ghost use Rattle.std.specs.Option.{option_map};
-ghost use Rattle.irig_gen.specs.Faults.{faulted as faulted_by, limited as limit, sent_edge, skewed as skew};
+ghost use Rattle.irig_gen.specs.Faults.{control_with_fault, limited_offset, sent_edge, skewed_edge};
 
 use irig_control::Control;
 use irig_time::Leap;
@@ -34,7 +34,7 @@ pub(crate) fn edge_sent(fault: Option<GenFault>, edge: u64, since: u64) -> Optio
     match fault {
         Some(GenFault::Silent) => None,
         Some(GenFault::Stuck) => Some(since),
-        Some(GenFault::Skew(by)) => skewed(edge, by),
+        Some(GenFault::Skew(by)) => skewed_edge(edge, by),
         Some(
             GenFault::NoPending
             | GenFault::FalsePending(_)
@@ -45,9 +45,8 @@ pub(crate) fn edge_sent(fault: Option<GenFault>, edge: u64, since: u64) -> Optio
     }
 }
 
-/// The edge so many later, or earlier.
-fn skewed(edge: u64, by: i32) -> Option<u64>
-    ensures { result ≡ option_map (λ e. min e u64.MAX) (skew edge by) }
+fn skewed_edge(edge: u64, by: i32) -> Option<u64>
+    ensures { result ≡ option_map (λ e. min e u64.MAX) (skewed_edge edge by) }
 {
     let distance = u64::from(by.unsigned_abs());
     if by < 0 {
@@ -57,9 +56,8 @@ fn skewed(edge: u64, by: i32) -> Option<u64>
     }
 }
 
-/// What a fault makes of the control bits.
-pub(crate) fn faulted(fault: Option<GenFault>, control: Control) -> Control
-    ensures { result ≡ faulted_by fault control }
+pub(crate) fn control_with_fault(fault: Option<GenFault>, control: Control) -> Control
+    ensures { result ≡ control_with_fault fault control }
 {
     match fault {
         Some(GenFault::NoPending) => Control {
@@ -77,16 +75,15 @@ pub(crate) fn faulted(fault: Option<GenFault>, control: Control) -> Control
             ..control
         },
         Some(GenFault::WrongOffset(by)) => Control {
-            offset_half_hours: limited(control.offset_half_hours, by),
+            offset_half_hours: limited_offset(control.offset_half_hours, by),
             ..control
         },
         Some(GenFault::Silent | GenFault::Stuck | GenFault::Skew(_)) | None => control,
     }
 }
 
-/// The sum, limited to what the control bits have room for.
-fn limited(offset: i8, by: i8) -> i8
-    ensures { result ≡ limit (offset +ℤ by) }
+fn limited_offset(offset: i8, by: i8) -> i8
+    ensures { result ≡ limited_offset (offset +ℤ by) }
 {
     let sum = i16::from(offset) + i16::from(by);
     if sum < -31 {

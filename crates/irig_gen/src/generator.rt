@@ -1,26 +1,25 @@
 //! A generator.
 
 ghost use Rattle.std.specs.Prelude.{◌≡◌, ◌+◌, ◌<◌, Some, None, unwrap_or, MatchResult};
-ghost use Rattle.irig_gen.specs.Frames.{gen, IsFrameIf, IsSent};
+ghost use Rattle.irig_gen.specs.Frames.{gen, IsFrameOrNone, IsSent};
 ghost use Rattle.irig_gen.specs.Sent.{frame_of, sent_of};
 ghost use Rattle.irig_time.specs.TimelineFaults.{IsTimeline};
 ghost use Rattle.irig_gen.specs.Refusals.{gen_refusal};
 
 use crate::control::control_at;
-use crate::fault::{GenFault, edge_sent, faulted};
-use crate::frame::frame_with;
+use crate::fault::{GenFault, control_with_fault, edge_sent};
 use crate::zone::{Change, Zone, all_fit, in_order, zone_at};
 use irig_frame::Symbol;
-use irig_time::{Rules, Timeline};
+use irig_time::{Rules, Timeline, frame_of_second};
 use std::alloc::Global;
 use std::marker::Model;
 
-/// Why there is no such generator, in the order in which refusals are told.
+/// Why there is no such generator, in the order in which refusals are answered.
 #[derive(Clone, Copy, Debug, PartialEq, Eq)]
 pub enum GenRefusal {
     /// A zone, the first or a change's, is not -31 to 31 half hours ahead of UTC.
     Offset,
-    /// A change is not at the first second of a UTC minute of day 1 to 36523, or not later than the one
+    /// A change is not at the first second of a UTC minute of a day served, or not later than the one
     /// before.
     Changes,
     /// There was no memory.
@@ -39,14 +38,15 @@ pub struct Generator {
 }
 
 impl Model for Generator {
-    ghost use Rattle.irig_gen.specs.Frames.{Gen, gen};
-    ghost use Rattle.irig_gen.specs.Refusals.{IsGen};
+    ghost use Rattle.irig_gen.specs.Frames.{GeneratorValue, gen};
+    ghost use Rattle.irig_gen.specs.Refusals.{IsGenerator};
 
-    ghost Value = { Gen };
+    ghost Value = { GeneratorValue };
 
     ghost view = { λ g. gen g.zone g.changes.items g.rules g.edge g.fault g.since };
 
-    ghost invariant = { λ g. IsGen (gen g.zone g.changes.items g.rules g.edge g.fault g.since) };
+    ghost invariant = { λ g.
+        IsGenerator (gen g.zone g.changes.items g.rules g.edge g.fault g.since) };
 }
 
 impl Generator {
@@ -114,7 +114,7 @@ impl Generator {
 
     /// The frame of an edge without fault; none where the timeline has no second for it.
     pub fn frame_at(&self, timeline: &Timeline, edge: u64) -> Option<[Symbol; 100]>
-        ensures frame { IsFrameIf None self.now timeline.now edge result }
+        ensures frame { IsFrameOrNone None self.now timeline.now edge result }
         ensures value { result ≡ frame_of None self.now timeline.now edge }
     {
         self.frame_by(timeline, edge, None)
@@ -137,14 +137,14 @@ impl Generator {
         fault: Option<GenFault>,
     ) -> Option<[Symbol; 100]>
         ensures sound { IsTimeline timeline.now }
-        ensures frame { IsFrameIf fault self.now timeline.now edge result }
+        ensures frame { IsFrameOrNone fault self.now timeline.now edge result }
         ensures value { result ≡ frame_of fault self.now timeline.now edge }
     {
         let utc = timeline.at(edge)?;
         let zone = zone_at(self.zone, &self.changes, &utc);
         let leap = timeline.leap(utc.day);
         let control = control_at(self.rules.sense, zone, &self.changes, leap, &utc);
-        let sent = faulted(fault, control);
-        Some(frame_with(self.rules.parity, &utc, zone.half_hours, &sent))
+        let sent = control_with_fault(fault, control);
+        Some(frame_of_second(self.rules.parity, &utc, zone.half_hours, &sent))
     }
 }

@@ -8,7 +8,6 @@
 
 mod control;
 mod fault;
-mod frame;
 mod generator;
 mod laws;
 mod zone;

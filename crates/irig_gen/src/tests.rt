@@ -1,7 +1,7 @@
 use crate::*;
 use irig_control::{Control, Parity, parity_ok, unpack};
 use irig_frame::{Coded, Symbol, decode};
-use irig_time::{Leap, Rules, SbsUse, Sense, Timeline, UtcSecond};
+use irig_time::{Leap, Rules, Timeline, UtcSecond};
 use std::process::Abort;
 use std::test::*;
 
@@ -10,11 +10,7 @@ const JUNE: u32 = 6010;
 
 const DECEMBER: u32 = 6209;
 
-const RULES: Rules = Rules {
-    parity: Parity::Even,
-    sense: Sense::Add,
-    sbs: SbsUse::Check,
-};
+const RULES: Rules = Rules::PLAIN;
 
 const UTC: Zone = Zone {
     half_hours: 0,

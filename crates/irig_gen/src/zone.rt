@@ -2,9 +2,10 @@
 
 ghost use Rattle.std.specs.Prelude.{◌≡◌};
 ghost use Rattle.std.specs.List.{list_all};
-ghost use Rattle.irig_gen.specs.Zones.{fits as fits_in, all_fit as fit_all, has_come as comes, zone_at as zone_of, is_change_time as is_time, in_order as are_ordered};
+ghost use Rattle.irig_time.specs.Seconds.{has_come};
+ghost use Rattle.irig_gen.specs.Zones.{all_fit, fits, in_order, is_change_time, zone_at};
 
-use irig_time::UtcSecond;
+use irig_time::{FIRST_DAY, LAST_DAY, UtcSecond};
 
 /// How far a clock is ahead of UTC, and whether that is daylight saving.
 #[derive(Clone, Copy, Debug, PartialEq, Eq)]
@@ -24,27 +25,26 @@ pub struct Change {
     pub zone: Zone,
 }
 
-/// Whether the control bits have room for the offsets of all zones.
 pub(crate) fn all_fit(zone: &Zone, changes: &[Change]) -> bool
-    ensures { result ≡ fit_all zone.now changes.now }
+    ensures { result ≡ all_fit zone.now changes.now }
 {
     fits(zone) && changes_fit(changes)
 }
 
 fn changes_fit(changes: &[Change]) -> bool
-    ensures { result ≡ list_all (λ x. fits_in x.zone) changes.now }
+    ensures { result ≡ list_all (λ x. fits x.zone) changes.now }
 {
     changes.iter().all(|change| change_fits(change))
 }
 
 fn change_fits(change: &Change) -> bool
-    ensures { result ≡ fits_in change.now.zone }
+    ensures { result ≡ fits change.now.zone }
 {
     fits(&change.zone)
 }
 
 fn fits(zone: &Zone) -> bool
-    ensures { result ≡ fits_in zone.now }
+    ensures { result ≡ fits zone.now }
 {
     zone.half_hours.unsigned_abs() <= 31
 }
@@ -52,7 +52,7 @@ fn fits(zone: &Zone) -> bool
 /// Whether each change is at the first second of a minute, of a day that is served, and later than the
 /// one before.
 pub(crate) fn in_order(changes: &[Change]) -> bool
-    ensures { result ≡ are_ordered 0 changes.now }
+    ensures { result ≡ in_order 0 changes.now }
 {
     let mut before = 0;
     for change in changes {
@@ -69,14 +69,13 @@ pub(crate) fn in_order(changes: &[Change]) -> bool
 }
 
 fn is_change_time(at: &UtcSecond) -> bool
-    ensures { result ≡ is_time at.now }
+    ensures { result ≡ is_change_time at.now }
 {
-    (at.day >= 1 && at.day <= 36523) && (at.sod < 86400 && at.sod % 60 == 0)
+    (at.day >= FIRST_DAY && at.day <= LAST_DAY) && (at.sod < 86400 && at.sod % 60 == 0)
 }
 
-/// The zone of the last change at or before the second, else the first zone.
 pub(crate) fn zone_at(first: Zone, changes: &[Change], utc: &UtcSecond) -> Zone
-    ensures { result ≡ zone_of first changes.now utc.now }
+    ensures { result ≡ zone_at first changes.now utc.now }
 {
     let mut zone = first;
     for change in changes {
@@ -87,9 +86,8 @@ pub(crate) fn zone_at(first: Zone, changes: &[Change], utc: &UtcSecond) -> Zone
     zone
 }
 
-/// Whether the second is at or before the other.
 fn has_come(at: &UtcSecond, utc: &UtcSecond) -> bool
-    ensures { result ≡ comes at.now utc.now }
+    ensures { result ≡ has_come at.now utc.now }
 {
     at.day < utc.day || (at.day == utc.day && at.sod <= utc.sod)
 }

@@ -12,17 +12,17 @@ use Rattle.irig_time.specs.declared.leap.Leap.TheVariants as leap
 use Rattle.irig_time.specs.declared.claim.Claim.{Claim}
 use Rattle.irig_time.specs.Days.{is_month_end}
 use Rattle.irig_time.specs.Next.{next_of}
-use Rattle.irig_time.specs.Times.{Times, leap_of, mark_by, day_length, seconds_in, IsSecond, true_mark, IsTrueClaim}
+use Rattle.irig_time.specs.Timelines.{TimelineValue, leap_of, mark_by, day_length, seconds_in, EndsAt, IsSecond, true_mark, IsTrueClaim}
 use Rattle.irig_time.specs.TimelineFaults.{IsTimeline}
-use Rattle.irig_time.specs.Tables.{Table, table_mark, spoken_mark}
+use Rattle.irig_time.specs.Tables.{TableValue, table_mark, spoken_mark}
 use Rattle.irig_hold.specs.declared.turn.Turn.{Turn}
 use Rattle.irig_hold.specs.declared.turn.Turn.TheVariants.{Now, LeapGuard, Expired, RangeEnd, Jump}
-use Rattle.irig_hold.specs.Steps.{Counter, stop_on, mark_kept, moved, moved_if, stepped, started, Outcome, outcome_of, mark_or, voted_by, alone_by}
+use Rattle.irig_hold.specs.Steps.{HoldValue, stop_on, mark_kept, hold_after, hold_or_stop, hold_step, hold_start, Outcome, outcome_of, mark_or, voted_by, alone_by}
 use Rattle.irig_hold.specs.Truth.{IsTrueTable, IsOnTime, IsGuarded, HasComeTo}
 use Rattle.irig_hold.proofs.Stepping.{IsLast, free_or_last, next_none, last_waits}
 
 -- what the timeline says of the day of a second
-abbrev truth : Times → UtcSecond → Mark
+abbrev truth : TimelineValue → UtcSecond → Mark
 truth t u = mark_by (leap_of t.leaps u.day)
 
 abbrev some : UtcSecond → Option UtcSecond
@@ -40,13 +40,13 @@ mark_or-truth None mark = refl
 mark_or-truth (Some leap.Insert) mark = refl
 mark_or-truth (Some leap.Delete) mark = refl
 
-spoken-truth : (table : Table) (l : Option Leap) (day : ℕ) → spoken_mark table (mark_by l) day ≡ mark_by l
+spoken-truth : (table : TableValue) (l : Option Leap) (day : ℕ) → spoken_mark table (mark_by l) day ≡ mark_by l
 spoken-truth table None day = refl
 spoken-truth table (Some leap.Insert) day = refl
 spoken-truth table (Some leap.Delete) day = refl
 
 -- a true claim speaks at 23:59:58 and 23:59:59 of a month's last day
-claim_speaks : (t : Times) (u : UtcSecond) → IsLast u → true_mark t.leaps u ≡ truth t u
+claim_speaks : (t : TimelineValue) (u : UtcSecond) → IsLast u → true_mark t.leaps u ≡ truth t u
 claim_speaks t u h =
     elim h.late [
       | inl a ↦ rw (h.end, le-ltb u.sod 86341 (omega (arith, a)), lt-ltb u.sod 86400 (omega (arith, a))) refl
@@ -54,10 +54,10 @@ claim_speaks t u h =
     ]
 
 -- nothing, or the truth
-abbrev IsHonest : Times → UtcSecond → Mark → Type 0
+abbrev IsHonest : TimelineValue → UtcSecond → Mark → Type 0
 IsHonest t u mark = (mark ≡ Unspoken) ⊎ (mark ≡ truth t u)
 
-claim_honest : (t : Times) (u : UtcSecond) → IsHonest t u (true_mark t.leaps u)
+claim_honest : (t : TimelineValue) (u : UtcSecond) → IsHonest t u (true_mark t.leaps u)
 claim_honest t u = by_tests (is_month_end u.day) (nat_lt u.sod 86341) (nat_lt u.sod 86400) (truth t u)
   where
     by_tests : (a b c : Bool) (mark : Mark) → let said : Mark = cond a (cond b Unspoken (cond c mark Unspoken)) Unspoken in (said ≡ Unspoken) ⊎ (said ≡ mark)
@@ -66,13 +66,13 @@ claim_honest t u = by_tests (is_month_end u.day) (nat_lt u.sod 86341) (nat_lt u.
     by_tests true false true mark = inr refl
     by_tests true false false mark = inl refl
 
-vote_honest : (t : Times) (u : UtcSecond) (mark before : Mark) → IsHonest t u mark → IsHonest t u before → IsHonest t u (mark_or mark before)
+vote_honest : (t : TimelineValue) (u : UtcSecond) (mark before : Mark) → IsHonest t u mark → IsHonest t u before → IsHonest t u (mark_or mark before)
 vote_honest t u Unspoken before a b = b
 vote_honest t u NoLeap before a b = a
 vote_honest t u Insert before a b = a
 vote_honest t u Delete before a b = a
 
-kept_honest : (t : Times) (u v : UtcSecond) (mark : Mark) → IsHonest t u mark → IsHonest t v (mark_kept u.day v.day mark)
+kept_honest : (t : TimelineValue) (u v : UtcSecond) (mark : Mark) → IsHonest t u mark → IsHonest t v (mark_kept u.day v.day mark)
 kept_honest t u v mark h =
     elim (cases_eq u.day v.day) [
       | inl same ↦
@@ -84,28 +84,28 @@ kept_honest t u v mark h =
 -- ---- the step by what is spoken
 
 -- what is spoken leads where the truth does
-abbrev Leads : Times → Table → UtcSecond → Mark → Type 0
+abbrev Leads : TimelineValue → TableValue → UtcSecond → Mark → Type 0
 Leads t table u mark = next_of u (spoken_mark table mark u.day) ≡ next_of u (truth t u)
 
-truth_leads : (t : Times) (table : Table) (u : UtcSecond) (mark : Mark) → (IsLast u → mark ≡ truth t u) → Leads t table u mark
+truth_leads : (t : TimelineValue) (table : TableValue) (u : UtcSecond) (mark : Mark) → (IsLast u → mark ≡ truth t u) → Leads t table u mark
 truth_leads t table u mark h =
     elim (free_or_last u) [
       | inl free ↦ free (spoken_mark table mark u.day) (truth t u)
       | inr last ↦ ap (λ (m : Mark). next_of u (spoken_mark table m u.day)) (h last) ∙ ap (next_of u) (spoken-truth table (leap_of t.leaps u.day) u.day)
     ]
 
-claim_leads : (t : Times) (table : Table) (c : Claim) → c.mark ≡ true_mark t.leaps c.at → Leads t table c.at c.mark
+claim_leads : (t : TimelineValue) (table : TableValue) (c : Claim) → c.mark ≡ true_mark t.leaps c.at → Leads t table c.at c.mark
 claim_leads t table c told = truth_leads t table c.at c.mark (λ last. told ∙ claim_speaks t c.at last)
 
-vote_leads : (t : Times) (table : Table) (u : UtcSecond) (mark before : Mark) → mark ≡ true_mark t.leaps u → Leads t table u (mark_or mark before)
+vote_leads : (t : TimelineValue) (table : TableValue) (u : UtcSecond) (mark before : Mark) → mark ≡ true_mark t.leaps u → Leads t table u (mark_or mark before)
 vote_leads t table u mark before told =
     truth_leads t table u (mark_or mark before) (λ last. ap (λ (m : Mark). mark_or m before) (told ∙ claim_speaks t u last) ∙ mark_or-truth (leap_of t.leaps u.day) before)
 
-abbrev IsSilent : Table → UtcSecond → Mark → Type 0
+abbrev IsSilent : TableValue → UtcSecond → Mark → Type 0
 IsSilent table u mark = IsLast u × (mark ≡ Unspoken) × (table.until < u.day)
 
 -- a table that ends before a month's last day, and no other, is silent there
-table_speaks : (table : Table) (day : ℕ) → is_month_end day ≡ true → ((table.until < day) × (table_mark table day ≡ Unspoken)) ⊎ ((day ≤ table.until) × (table_mark table day ≡ mark_by (leap_of table.leaps day)))
+table_speaks : (table : TableValue) (day : ℕ) → is_month_end day ≡ true → ((table.until < day) × (table_mark table day ≡ Unspoken)) ⊎ ((day ≤ table.until) × (table_mark table day ≡ mark_by (leap_of table.leaps day)))
 table_speaks table day end =
     elim (cases_lt table.until day) [
       | inl lt ↦ inl (lt, rw (end, lt-ltb table.until day lt) refl)
@@ -113,7 +113,7 @@ table_speaks table day end =
     ]
 
 -- what a hold on time speaks leads where the truth does, or it is silent
-honest_leads : (t : Times) (table : Table) (u : UtcSecond) (mark : Mark) → IsTrueTable t table → t.start.day ≤ u.day → IsHonest t u mark → Leads t table u mark ⊎ IsSilent table u mark
+honest_leads : (t : TimelineValue) (table : TableValue) (u : UtcSecond) (mark : Mark) → IsTrueTable t table → t.start.day ≤ u.day → IsHonest t u mark → Leads t table u mark ⊎ IsSilent table u mark
 honest_leads t table u mark true_table from (inr told) = inl (truth_leads t table u mark (λ _. told))
 honest_leads t table u mark true_table from (inl none) =
     elim (free_or_last u) [
@@ -127,15 +127,15 @@ honest_leads t table u mark true_table from (inl none) =
       ]
     ]
 
-silent_is : (table : Table) (u : UtcSecond) (mark : Mark) → IsSilent table u mark → spoken_mark table mark u.day ≡ Unspoken
+silent_is : (table : TableValue) (u : UtcSecond) (mark : Mark) → IsSilent table u mark → spoken_mark table mark u.day ≡ Unspoken
 silent_is table u mark h =
     let asked : spoken_mark table mark u.day ≡ table_mark table u.day = ap (λ (m : Mark). spoken_mark table m u.day) h.1 in
     asked ∙ rw (h.0.end, lt-ltb table.until u.day h.2) refl
 
-silent_waits : (table : Table) (u : UtcSecond) (mark : Mark) → IsSilent table u mark → next_of u (spoken_mark table mark u.day) ≡ None
+silent_waits : (table : TableValue) (u : UtcSecond) (mark : Mark) → IsSilent table u mark → next_of u (spoken_mark table mark u.day) ≡ None
 silent_waits table u mark h = ap (next_of u) (silent_is table u mark h) ∙ last_waits u h.0
 
-silent_from : (table : Table) (u : UtcSecond) (mark : Mark) → IsLast u → spoken_mark table mark u.day ≡ Unspoken → IsSilent table u mark
+silent_from : (table : TableValue) (u : UtcSecond) (mark : Mark) → IsLast u → spoken_mark table mark u.day ≡ Unspoken → IsSilent table u mark
 silent_from table u Unspoken last e =
     elim (table_speaks table u.day last.end) [
       | inl silent ↦ (last, refl, silent.0)
@@ -148,7 +148,7 @@ silent_from table u Delete last e = absurd cc
 -- ---- the step of the timeline
 
 -- a fact that cannot be false, of numbers, is true
-surely : (t : Times) (n : ℕ) (u : UtcSecond) → ¬ ¬ IsSecond t n u → IsSecond t n u
+surely : (t : TimelineValue) (n : ℕ) (u : UtcSecond) → ¬ ¬ IsSecond t n u → IsSecond t n u
 surely t n u h = record {
   from = elim (cases_lt u.day t.start.day) [ inl lt ↦ absurd (h (λ s. omega (arith, s.from, lt))) | inr ge ↦ ge ];
   to = elim (cases_lt 36523 u.day) [ inl lt ↦ absurd (h (λ s. omega (arith, s.to, lt))) | inr ge ↦ ge ];
@@ -157,7 +157,7 @@ surely t n u h = record {
 }
 
 -- where the truth leads is T(n + 1)
-truth_is_next : (t : Times) (n : ℕ) (u v : UtcSecond) → IsTimeline t → IsSecond t n u → next_of u (truth t u) ≡ Some v → IsSecond t (n + 1) v
+truth_is_next : (t : TimelineValue) (n : ℕ) (u v : UtcSecond) → IsTimeline t → IsSecond t n u → next_of u (truth t u) ≡ Some v → IsSecond t (n + 1) v
 truth_is_next t n u v sound at e =
     surely t (n + 1) v (λ no.
     let none : next_of u (truth t u) ≡ None = end t n u (truth t u) sound at (λ w there.
@@ -167,12 +167,8 @@ truth_is_next t n u v sound at e =
     let both : None ≡ some v = sym none ∙ e in
     absurd cc)
 
--- T(n) is the last
-abbrev NoMore : Times → ℕ → Type 0
-NoMore t n = (v : UtcSecond) → ¬ IsSecond t (n + 1) v
-
 -- where T ends, each mark leads nowhere, and the day is the last
-ends : (t : Times) (n : ℕ) (u : UtcSecond) → IsTimeline t → IsSecond t n u → NoMore t n → u.day ≡ 36523
+ends : (t : TimelineValue) (n : ℕ) (u : UtcSecond) → IsTimeline t → IsSecond t n u → EndsAt t n → u.day ≡ 36523
 ends t n u sound at none =
     elim (next_none u NoLeap (end t n u NoLeap sound at none)) [
       | inl last ↦ last
@@ -180,14 +176,14 @@ ends t n u sound at none =
     ]
 
 -- where a step leads nowhere on the last day, T ends
-ended : (t : Times) (n : ℕ) (u : UtcSecond) (mark : Mark) → IsTimeline t → IsSecond t n u → u.day ≡ 36523 → next_of u mark ≡ None → NoMore t n
+ended : (t : TimelineValue) (n : ℕ) (u : UtcSecond) (mark : Mark) → IsTimeline t → IsSecond t n u → u.day ≡ 36523 → next_of u mark ≡ None → EndsAt t n
 ended t n u mark sound at last none v there =
     elim (free_or_last u) [
       | inl free ↦ let both : None ≡ some v = sym none ∙ free mark (truth t u) ∙ heard t n u v sound at there in cc
       | inr month ↦ both_ways (is_month_end u.day) (ap is_month_end last ∙ last_day) month.end
     ]
 
-claimed : (t : Times) (n : ℕ) (c : Claim) → IsTrueClaim t (n + 1) c → IsSecond t n c.at
+claimed : (t : TimelineValue) (n : ℕ) (c : Claim) → IsTrueClaim t (n + 1) c → IsSecond t n c.at
 claimed t n c h = let same : h.second.0 ≡ n = omega (arith, h.second.1) in subst (λ (m : ℕ). IsSecond t m c.at) same h.second.2
 
 -- ---- where a step leads
@@ -202,34 +198,34 @@ stop_before day ne = rw (ne_eqb day 36523 ne) refl
 stop_is : (day : ℕ) → (stop_on day ≡ RangeEnd) ⊎ (stop_on day ≡ LeapGuard)
 stop_is day = elim (cases_eq day 36523) [ inl e ↦ inl (stop_at_end day e) | inr ne ↦ inr (stop_before day ne) ]
 
-moved_on_time : (t : Times) (n : ℕ) (u v : UtcSecond) (age : ℕ) (mark : Mark) → IsHonest t u mark → IsSecond t (n + 1) v → IsOnTime t (n + 1) (moved u age mark v)
+moved_on_time : (t : TimelineValue) (n : ℕ) (u v : UtcSecond) (age : ℕ) (mark : Mark) → IsHonest t u mark → IsSecond t (n + 1) v → IsOnTime t (n + 1) (hold_after u age mark v)
 moved_on_time t n u v age mark honest there = record { last = there; heard = kept_honest t u v mark honest }
 
 -- where each second that a step leads to is T(n + 1)
-abbrev LeadsOn : Times → ℕ → Option UtcSecond → Type 0
+abbrev LeadsOn : TimelineValue → ℕ → Option UtcSecond → Type 0
 LeadsOn t n o = (v : UtcSecond) → o ≡ Some v → IsSecond t (n + 1) v
 
-moved_if_true : (t : Times) (n : ℕ) (u : UtcSecond) (age : ℕ) (mark : Mark) (o : Option UtcSecond) (new : Counter) → IsHonest t u mark → LeadsOn t n o
-    → moved_if u age mark o ≡ Ok new → IsOnTime t (n + 1) new
+moved_if_true : (t : TimelineValue) (n : ℕ) (u : UtcSecond) (age : ℕ) (mark : Mark) (o : Option UtcSecond) (new : HoldValue) → IsHonest t u mark → LeadsOn t n o
+    → hold_or_stop u age mark o ≡ Ok new → IsOnTime t (n + 1) new
 moved_if_true t n u age mark None new honest on e = absurd cc
 moved_if_true t n u age mark (Some v) new honest on e =
-    let same : moved u age mark v ≡ new = cc in
+    let same : hold_after u age mark v ≡ new = cc in
     subst (IsOnTime t (n + 1)) same (moved_on_time t n u v age mark honest (on v refl))
 
 stop_is_no_now : (day : ℕ) (u : UtcSecond) → stop_on day ≡ Now u → ⊥
 stop_is_no_now day u e = elim (stop_is day) [ inl a ↦ let both : RangeEnd ≡ Now u = sym a ∙ e in cc | inr b ↦ let both : LeapGuard ≡ Now u = sym b ∙ e in cc ]
 
-outcome_true : (t : Times) (n : ℕ) (h : Counter) (u : UtcSecond) (age : ℕ) (mark : Mark) (o : Option UtcSecond) (w : UtcSecond) → IsHonest t u mark → LeadsOn t n o
-    → (outcome_of h (moved_if u age mark o)).answer ≡ Now w → HasComeTo t (n + 1) w (outcome_of h (moved_if u age mark o)).new
+outcome_true : (t : TimelineValue) (n : ℕ) (h : HoldValue) (u : UtcSecond) (age : ℕ) (mark : Mark) (o : Option UtcSecond) (w : UtcSecond) → IsHonest t u mark → LeadsOn t n o
+    → (outcome_of h (hold_or_stop u age mark o)).answer ≡ Now w → HasComeTo t (n + 1) w (outcome_of h (hold_or_stop u age mark o)).new
 outcome_true t n h u age mark None w honest on e = absurd (stop_is_no_now u.day w e)
 outcome_true t n h u age mark (Some v) w honest on e =
     let same : v ≡ w = cc in
     record { second = subst (IsSecond t (n + 1)) same (on v refl); last = same; on_time = moved_on_time t n u v age mark honest (on v refl) }
 
-leads_on : (t : Times) (table : Table) (n : ℕ) (u : UtcSecond) (mark : Mark) → IsTimeline t → IsSecond t n u → Leads t table u mark → LeadsOn t n (next_of u (spoken_mark table mark u.day))
+leads_on : (t : TimelineValue) (table : TableValue) (n : ℕ) (u : UtcSecond) (mark : Mark) → IsTimeline t → IsSecond t n u → Leads t table u mark → LeadsOn t n (next_of u (spoken_mark table mark u.day))
 leads_on t table n u mark sound at leads v e = truth_is_next t n u v sound at (sym leads ∙ e)
 
-honest_leads_on : (t : Times) (table : Table) (n : ℕ) (u : UtcSecond) (mark : Mark) → IsTimeline t → IsTrueTable t table → IsSecond t n u → IsHonest t u mark
+honest_leads_on : (t : TimelineValue) (table : TableValue) (n : ℕ) (u : UtcSecond) (mark : Mark) → IsTimeline t → IsTrueTable t table → IsSecond t n u → IsHonest t u mark
     → LeadsOn t n (next_of u (spoken_mark table mark u.day))
 honest_leads_on t table n u mark sound true_table at honest v e =
     elim (honest_leads t table u mark true_table at.from honest) [
@@ -239,22 +235,22 @@ honest_leads_on t table n u mark sound true_table at honest v e =
 
 -- ---- the tests of a vote and of a limit
 
-is_for : (c : Claim) (h : Counter) → c.at ≡ h.last → ((c.at.day == h.last.day) && (c.at.sod == h.last.sod)) ≡ true
+is_for : (c : Claim) (h : HoldValue) → c.at ≡ h.last → ((c.at.day == h.last.day) && (c.at.sod == h.last.sod)) ≡ true
 is_for c h e = and_from _ _ (eq-eqb c.at.day h.last.day (ap (λ (u : UtcSecond). u.day) e)) (eq-eqb c.at.sod h.last.sod (ap (λ (u : UtcSecond). u.sod) e))
 
 -- a true vote for the second of the hold
-pub record IsTrueVote (t : Times) (n : ℕ) (h : Counter) (c : Claim) : Type 0 where
+pub record IsTrueVote (t : TimelineValue) (n : ℕ) (h : HoldValue) (c : Claim) : Type 0 where
   pub for : ((c.at.day == h.last.day) && (c.at.sod == h.last.sod)) ≡ true
   pub told : c.mark ≡ true_mark t.leaps h.last
 
-true_vote : (t : Times) (n : ℕ) (h : Counter) (c : Claim) → IsSecond t n h.last → IsTrueClaim t (n + 1) c → IsTrueVote t n h c
+true_vote : (t : TimelineValue) (n : ℕ) (h : HoldValue) (c : Claim) → IsSecond t n h.last → IsTrueClaim t (n + 1) c → IsTrueVote t n h c
 true_vote t n h c at claim =
     let same : c.at ≡ h.last = one_second t n c.at h.last (claimed t n c claim) at in
     record { for = is_for c h same; told = claim.mark ∙ ap (true_mark t.leaps) same }
 
 -- ---- the law of the hold
 
-pub voted_true : (t : Times) (table : Table) (n : ℕ) (h : Counter) (c : Claim) (u : UtcSecond) → IsTimeline t → IsOnTime t n h → IsTrueClaim t (n + 1) c
+pub voted_true : (t : TimelineValue) (table : TableValue) (n : ℕ) (h : HoldValue) (c : Claim) (u : UtcSecond) → IsTimeline t → IsOnTime t n h → IsTrueClaim t (n + 1) c
     → (voted_by table h c).answer ≡ Now u → HasComeTo t (n + 1) u (voted_by table h c).new
 voted_true t table n h c u sound on_time claim e =
     let vote = true_vote t n h c on_time.last claim in
@@ -262,21 +258,21 @@ voted_true t table n h c u sound on_time claim e =
     let said : IsHonest t h.last c.mark = subst (IsHonest t h.last) (sym vote.told) (claim_honest t h.last) in
     let honest : IsHonest t h.last mark = vote_honest t h.last c.mark h.heard said on_time.heard in
     let leads = vote_leads t table h.last c.mark h.heard vote.told in
-    let answered : (outcome_of h (stepped table h.last 0 mark)).answer ≡ Now u = rw vote.for at e in
+    let answered : (outcome_of h (hold_step table h.last 0 mark)).answer ≡ Now u = rw vote.for at e in
     rw vote.for (outcome_true t n h h.last 0 mark (next_of h.last (spoken_mark table mark h.last.day)) u honest (leads_on t table n h.last mark sound on_time.last leads) answered)
 
-pub alone_true : (t : Times) (table : Table) (n limit : ℕ) (h : Counter) (u : UtcSecond) → IsTimeline t → IsTrueTable t table → IsOnTime t n h
+pub alone_true : (t : TimelineValue) (table : TableValue) (n limit : ℕ) (h : HoldValue) (u : UtcSecond) → IsTimeline t → IsTrueTable t table → IsOnTime t n h
     → (alone_by table h limit).answer ≡ Now u → HasComeTo t (n + 1) u (alone_by table h limit).new
 alone_true t table n limit h u sound true_table on_time e =
     elim (cases_lt h.age limit) [
       | inr ge ↦ let both : Expired ≡ Now u = rw (le-leb limit h.age ge) at e in absurd cc
       | inl lt ↦
-          let answered : (outcome_of h (stepped table h.last (h.age + 1) h.heard)).answer ≡ Now u = rw (lt-leb limit h.age lt) at e in
+          let answered : (outcome_of h (hold_step table h.last (h.age + 1) h.heard)).answer ≡ Now u = rw (lt-leb limit h.age lt) at e in
           let on = honest_leads_on t table n h.last h.heard sound true_table on_time.last on_time.heard in
           rw (lt-leb limit h.age lt) (outcome_true t n h h.last (h.age + 1) h.heard (next_of h.last (spoken_mark table h.heard h.last.day)) u on_time.heard on answered)
     ]
 
-pub started_true : (t : Times) (table : Table) (n : ℕ) (c : Claim) (h : Counter) → IsTimeline t → IsTrueClaim t (n + 1) c → started table c ≡ Ok h → IsOnTime t (n + 1) h
+pub started_true : (t : TimelineValue) (table : TableValue) (n : ℕ) (c : Claim) (h : HoldValue) → IsTimeline t → IsTrueClaim t (n + 1) c → hold_start table c ≡ Ok h → IsOnTime t (n + 1) h
 started_true t table n c h sound claim e =
     let honest : IsHonest t c.at c.mark = subst (IsHonest t c.at) (sym claim.mark) (claim_honest t c.at) in
     let on = leads_on t table n c.at c.mark sound (claimed t n c claim) (claim_leads t table c claim.mark) in
@@ -284,30 +280,30 @@ started_true t table n c h sound claim e =
 
 -- ---- where T(n + 1) exists
 
-goes : (t : Times) (table : Table) (n : ℕ) (u v : UtcSecond) (age : ℕ) (mark : Mark) → IsTimeline t → IsSecond t n u → IsSecond t (n + 1) v → Leads t table u mark
-    → stepped table u age mark ≡ Ok (moved u age mark v)
-goes t table n u v age mark sound at there leads = ap (moved_if u age mark) (leads ∙ heard t n u v sound at there)
+goes : (t : TimelineValue) (table : TableValue) (n : ℕ) (u v : UtcSecond) (age : ℕ) (mark : Mark) → IsTimeline t → IsSecond t n u → IsSecond t (n + 1) v → Leads t table u mark
+    → hold_step table u age mark ≡ Ok (hold_after u age mark v)
+goes t table n u v age mark sound at there leads = ap (hold_or_stop u age mark) (leads ∙ heard t n u v sound at there)
 
-pub voted_goes : (t : Times) (table : Table) (n : ℕ) (h : Counter) (c : Claim) (v : UtcSecond) → IsTimeline t → IsSecond t n h.last → IsTrueClaim t (n + 1) c → IsSecond t (n + 1) v
-    → voted_by table h c ≡ outcome_of h (Ok (moved h.last 0 (mark_or c.mark h.heard) v))
+pub voted_goes : (t : TimelineValue) (table : TableValue) (n : ℕ) (h : HoldValue) (c : Claim) (v : UtcSecond) → IsTimeline t → IsSecond t n h.last → IsTrueClaim t (n + 1) c → IsSecond t (n + 1) v
+    → voted_by table h c ≡ outcome_of h (Ok (hold_after h.last 0 (mark_or c.mark h.heard) v))
 voted_goes t table n h c v sound at claim there =
     let vote = true_vote t n h c at claim in
     let leads = vote_leads t table h.last c.mark h.heard vote.told in
     rw vote.for (ap (outcome_of h) (goes t table n h.last v 0 (mark_or c.mark h.heard) sound at there leads))
 
-abbrev guarded : (table : Table) (h : Counter) → IsSilent table h.last h.heard → IsGuarded table h
+abbrev guarded : (table : TableValue) (h : HoldValue) → IsSilent table h.last h.heard → IsGuarded table h
 guarded table h s = record { end = s.0.end; late = s.0.late; unheard = s.1; above = s.2 }
 
-pub alone_goes : (t : Times) (table : Table) (n limit : ℕ) (h : Counter) (v : UtcSecond) → IsTimeline t → IsTrueTable t table → IsOnTime t n h → IsSecond t (n + 1) v → h.age < limit
-    → ¬ IsGuarded table h → alone_by table h limit ≡ outcome_of h (Ok (moved h.last (h.age + 1) h.heard v))
+pub alone_goes : (t : TimelineValue) (table : TableValue) (n limit : ℕ) (h : HoldValue) (v : UtcSecond) → IsTimeline t → IsTrueTable t table → IsOnTime t n h → IsSecond t (n + 1) v → h.age < limit
+    → ¬ IsGuarded table h → alone_by table h limit ≡ outcome_of h (Ok (hold_after h.last (h.age + 1) h.heard v))
 alone_goes t table n limit h v sound true_table on_time there young unguarded =
     elim (honest_leads t table h.last h.heard true_table on_time.last.from on_time.heard) [
       | inl leads ↦ rw (lt-leb limit h.age young) (ap (outcome_of h) (goes t table n h.last v (h.age + 1) h.heard sound on_time.last there leads))
       | inr silent ↦ absurd (unguarded (guarded table h silent))
     ]
 
-pub started_goes : (t : Times) (table : Table) (n : ℕ) (c : Claim) (v : UtcSecond) → IsTimeline t → IsTrueClaim t (n + 1) c → IsSecond t (n + 1) v
-    → started table c ≡ Ok (moved c.at 0 c.mark v)
+pub started_goes : (t : TimelineValue) (table : TableValue) (n : ℕ) (c : Claim) (v : UtcSecond) → IsTimeline t → IsTrueClaim t (n + 1) c → IsSecond t (n + 1) v
+    → hold_start table c ≡ Ok (hold_after c.at 0 c.mark v)
 started_goes t table n c v sound claim there = goes t table n c.at v 0 c.mark sound (claimed t n c claim) there (claim_leads t table c claim.mark)
 
 -- ---- what stops a hold
@@ -315,81 +311,81 @@ started_goes t table n c v sound claim there = goes t table n c.at v 0 c.mark so
 stop_is_no_jump : (day : ℕ) → stop_on day ≡ Jump → ⊥
 stop_is_no_jump day e = elim (stop_is day) [ inl a ↦ let both : RangeEnd ≡ Jump = sym a ∙ e in cc | inr b ↦ let both : LeapGuard ≡ Jump = sym b ∙ e in cc ]
 
-outcome_no_jump : (h : Counter) (u : UtcSecond) (age : ℕ) (mark : Mark) (o : Option UtcSecond) → (outcome_of h (moved_if u age mark o)).answer ≡ Jump → ⊥
+outcome_no_jump : (h : HoldValue) (u : UtcSecond) (age : ℕ) (mark : Mark) (o : Option UtcSecond) → (outcome_of h (hold_or_stop u age mark o)).answer ≡ Jump → ⊥
 outcome_no_jump h u age mark None e = stop_is_no_jump u.day e
 outcome_no_jump h u age mark (Some v) e = cc
 
-pub voted_no_jump : (t : Times) (table : Table) (n : ℕ) (h : Counter) (c : Claim) → IsSecond t n h.last → IsTrueClaim t (n + 1) c → ¬ ((voted_by table h c).answer ≡ Jump)
+pub voted_no_jump : (t : TimelineValue) (table : TableValue) (n : ℕ) (h : HoldValue) (c : Claim) → IsSecond t n h.last → IsTrueClaim t (n + 1) c → ¬ ((voted_by table h c).answer ≡ Jump)
 voted_no_jump t table n h c at claim e =
     let vote = true_vote t n h c at claim in
     let mark : Mark = mark_or c.mark h.heard in
-    let answered : (outcome_of h (stepped table h.last 0 mark)).answer ≡ Jump = rw vote.for at e in
+    let answered : (outcome_of h (hold_step table h.last 0 mark)).answer ≡ Jump = rw vote.for at e in
     outcome_no_jump h h.last 0 mark (next_of h.last (spoken_mark table mark h.last.day)) answered
 
 -- where T ends, a step does
-stops : (t : Times) (table : Table) (n : ℕ) (u : UtcSecond) (age : ℕ) (mark : Mark) → IsTimeline t → IsSecond t n u → NoMore t n
-    → stepped table u age mark ≡ Err RangeEnd
+stops : (t : TimelineValue) (table : TableValue) (n : ℕ) (u : UtcSecond) (age : ℕ) (mark : Mark) → IsTimeline t → IsSecond t n u → EndsAt t n
+    → hold_step table u age mark ≡ Err RangeEnd
 stops t table n u age mark sound at none =
     let nowhere : next_of u (spoken_mark table mark u.day) ≡ None = end t n u (spoken_mark table mark u.day) sound at none in
-    ap (moved_if u age mark) nowhere ∙ ap (λ (stop : Turn). let r : Result Counter Turn = Err stop in r) (stop_at_end u.day (ends t n u sound at none))
+    ap (hold_or_stop u age mark) nowhere ∙ ap (λ (stop : Turn). let r : Result HoldValue Turn = Err stop in r) (stop_at_end u.day (ends t n u sound at none))
 
-vote_answer : (t : Times) (table : Table) (n : ℕ) (h : Counter) (c : Claim) (v : UtcSecond) → IsTimeline t → IsSecond t n h.last → IsTrueClaim t (n + 1) c → IsSecond t (n + 1) v
+vote_answer : (t : TimelineValue) (table : TableValue) (n : ℕ) (h : HoldValue) (c : Claim) (v : UtcSecond) → IsTimeline t → IsSecond t n h.last → IsTrueClaim t (n + 1) c → IsSecond t (n + 1) v
     → (voted_by table h c).answer ≡ Now v
 vote_answer t table n h c v sound at claim there = ap (λ (o : Outcome). o.answer) (voted_goes t table n h c v sound at claim there)
 
-vote_end : (t : Times) (table : Table) (n : ℕ) (h : Counter) (c : Claim) → IsTimeline t → IsSecond t n h.last → IsTrueClaim t (n + 1) c → NoMore t n → (voted_by table h c).answer ≡ RangeEnd
+vote_end : (t : TimelineValue) (table : TableValue) (n : ℕ) (h : HoldValue) (c : Claim) → IsTimeline t → IsSecond t n h.last → IsTrueClaim t (n + 1) c → EndsAt t n → (voted_by table h c).answer ≡ RangeEnd
 vote_end t table n h c sound at claim none =
     let vote = true_vote t n h c at claim in
-    rw vote.for (ap (λ (r : Result Counter Turn). (outcome_of h r).answer) (stops t table n h.last 0 (mark_or c.mark h.heard) sound at none))
+    rw vote.for (ap (λ (r : Result HoldValue Turn). (outcome_of h r).answer) (stops t table n h.last 0 (mark_or c.mark h.heard) sound at none))
 
-pub voted_stops : (t : Times) (table : Table) (n : ℕ) (h : Counter) (c : Claim) → IsTimeline t → IsSecond t n h.last → IsTrueClaim t (n + 1) c
-    → ¬ ((voted_by table h c).answer ≡ LeapGuard) × (((voted_by table h c).answer ≡ RangeEnd) ↔ NoMore t n)
+pub voted_stops : (t : TimelineValue) (table : TableValue) (n : ℕ) (h : HoldValue) (c : Claim) → IsTimeline t → IsSecond t n h.last → IsTrueClaim t (n + 1) c
+    → ¬ ((voted_by table h c).answer ≡ LeapGuard) × (((voted_by table h c).answer ≡ RangeEnd) ↔ EndsAt t n)
 voted_stops t table n h c sound at claim = (unguarded, (ends_there, vote_end t table n h c sound at claim))
   where
-    ends_there : (voted_by table h c).answer ≡ RangeEnd → NoMore t n
+    ends_there : (voted_by table h c).answer ≡ RangeEnd → EndsAt t n
     ends_there e v there = let both : Now v ≡ RangeEnd = sym (vote_answer t table n h c v sound at claim there) ∙ e in cc
 
     unguarded : ¬ ((voted_by table h c).answer ≡ LeapGuard)
     unguarded e =
-        let none : NoMore t n = λ v there. let both : Now v ≡ LeapGuard = sym (vote_answer t table n h c v sound at claim there) ∙ e in cc in
+        let none : EndsAt t n = λ v there. let both : Now v ≡ LeapGuard = sym (vote_answer t table n h c v sound at claim there) ∙ e in cc in
         let both : RangeEnd ≡ LeapGuard = sym (vote_end t table n h c sound at claim none) ∙ e in
         cc
 
-abbrev refused : Turn → Result Counter Turn
+abbrev refused : Turn → Result HoldValue Turn
 refused stop = Err stop
 
-start_end : (t : Times) (table : Table) (n : ℕ) (c : Claim) → IsTimeline t → IsTrueClaim t (n + 1) c → NoMore t n → started table c ≡ Err RangeEnd
+start_end : (t : TimelineValue) (table : TableValue) (n : ℕ) (c : Claim) → IsTimeline t → IsTrueClaim t (n + 1) c → EndsAt t n → hold_start table c ≡ Err RangeEnd
 start_end t table n c sound claim none = stops t table n c.at 0 c.mark sound (claimed t n c claim) none
 
-pub started_stops : (t : Times) (table : Table) (n : ℕ) (c : Claim) → IsTimeline t → IsTrueClaim t (n + 1) c
-    → ¬ (started table c ≡ Err LeapGuard) × ((started table c ≡ Err RangeEnd) ↔ NoMore t n)
+pub started_stops : (t : TimelineValue) (table : TableValue) (n : ℕ) (c : Claim) → IsTimeline t → IsTrueClaim t (n + 1) c
+    → ¬ (hold_start table c ≡ Err LeapGuard) × ((hold_start table c ≡ Err RangeEnd) ↔ EndsAt t n)
 started_stops t table n c sound claim = (unguarded, (ends_there, start_end t table n c sound claim))
   where
-    ends_there : started table c ≡ Err RangeEnd → NoMore t n
-    ends_there e v there = let both : Ok (moved c.at 0 c.mark v) ≡ refused RangeEnd = sym (started_goes t table n c v sound claim there) ∙ e in cc
+    ends_there : hold_start table c ≡ Err RangeEnd → EndsAt t n
+    ends_there e v there = let both : Ok (hold_after c.at 0 c.mark v) ≡ refused RangeEnd = sym (started_goes t table n c v sound claim there) ∙ e in cc
 
-    unguarded : ¬ (started table c ≡ Err LeapGuard)
+    unguarded : ¬ (hold_start table c ≡ Err LeapGuard)
     unguarded e =
-        let none : NoMore t n = λ v there. let both : Ok (moved c.at 0 c.mark v) ≡ refused LeapGuard = sym (started_goes t table n c v sound claim there) ∙ e in cc in
+        let none : EndsAt t n = λ v there. let both : Ok (hold_after c.at 0 c.mark v) ≡ refused LeapGuard = sym (started_goes t table n c v sound claim there) ∙ e in cc in
         let both : refused RangeEnd ≡ Err LeapGuard = sym (start_end t table n c sound claim none) ∙ e in
         cc
 
 -- what a stopped step tells
-outcome_guard : (h : Counter) (u : UtcSecond) (age : ℕ) (mark : Mark) (o : Option UtcSecond) → (outcome_of h (moved_if u age mark o)).answer ≡ LeapGuard → (o ≡ None) × ¬ (u.day ≡ 36523)
+outcome_guard : (h : HoldValue) (u : UtcSecond) (age : ℕ) (mark : Mark) (o : Option UtcSecond) → (outcome_of h (hold_or_stop u age mark o)).answer ≡ LeapGuard → (o ≡ None) × ¬ (u.day ≡ 36523)
 outcome_guard h u age mark None e = (refl, λ last. let both : RangeEnd ≡ LeapGuard = sym (stop_at_end u.day last) ∙ e in cc)
 outcome_guard h u age mark (Some v) e = absurd cc
 
-outcome_end : (h : Counter) (u : UtcSecond) (age : ℕ) (mark : Mark) (o : Option UtcSecond) → (outcome_of h (moved_if u age mark o)).answer ≡ RangeEnd → (o ≡ None) × (u.day ≡ 36523)
+outcome_end : (h : HoldValue) (u : UtcSecond) (age : ℕ) (mark : Mark) (o : Option UtcSecond) → (outcome_of h (hold_or_stop u age mark o)).answer ≡ RangeEnd → (o ≡ None) × (u.day ≡ 36523)
 outcome_end h u age mark None e =
     (refl, elim (cases_eq u.day 36523) [ inl last ↦ last | inr ne ↦ let both : LeapGuard ≡ RangeEnd = sym (stop_before u.day ne) ∙ e in absurd cc ])
 outcome_end h u age mark (Some v) e = absurd cc
 
-guard_tells : (table : Table) (h : Counter) (limit : ℕ) → (alone_by table h limit).answer ≡ LeapGuard → (h.age < limit) × IsGuarded table h
+guard_tells : (table : TableValue) (h : HoldValue) (limit : ℕ) → (alone_by table h limit).answer ≡ LeapGuard → (h.age < limit) × IsGuarded table h
 guard_tells table h limit e =
     elim (cases_lt h.age limit) [
       | inr ge ↦ let both : Expired ≡ LeapGuard = rw (le-leb limit h.age ge) at e in absurd cc
       | inl lt ↦
-          let answered : (outcome_of h (stepped table h.last (h.age + 1) h.heard)).answer ≡ LeapGuard = rw (lt-leb limit h.age lt) at e in
+          let answered : (outcome_of h (hold_step table h.last (h.age + 1) h.heard)).answer ≡ LeapGuard = rw (lt-leb limit h.age lt) at e in
           let why = outcome_guard h h.last (h.age + 1) h.heard (next_of h.last (spoken_mark table h.heard h.last.day)) answered in
           elim (next_none h.last (spoken_mark table h.heard h.last.day) why.0) [
             | inl last ↦ absurd (why.1 last)
@@ -397,32 +393,32 @@ guard_tells table h limit e =
           ]
     ]
 
-guard_stops : (table : Table) (h : Counter) (limit : ℕ) → (h.age < limit) × IsGuarded table h → (alone_by table h limit).answer ≡ LeapGuard
+guard_stops : (table : TableValue) (h : HoldValue) (limit : ℕ) → (h.age < limit) × IsGuarded table h → (alone_by table h limit).answer ≡ LeapGuard
 guard_stops table h limit g =
     let last : IsLast h.last = record { end = g.1.end; late = g.1.late } in
     let nowhere : next_of h.last (spoken_mark table h.heard h.last.day) ≡ None = silent_waits table h.last h.heard (last, g.1.unheard, g.1.above) in
     let mid : ¬ (h.last.day ≡ 36523) = λ e. both_ways (is_month_end h.last.day) (ap is_month_end e ∙ last_day) g.1.end in
-    rw (lt-leb limit h.age g.0) (ap (λ (o : Option UtcSecond). (outcome_of h (moved_if h.last (h.age + 1) h.heard o)).answer) nowhere ∙ stop_before h.last.day mid)
+    rw (lt-leb limit h.age g.0) (ap (λ (o : Option UtcSecond). (outcome_of h (hold_or_stop h.last (h.age + 1) h.heard o)).answer) nowhere ∙ stop_before h.last.day mid)
 
-pub alone_guard : (table : Table) (h : Counter) (limit : ℕ) → ((alone_by table h limit).answer ≡ LeapGuard) ↔ ((h.age < limit) × IsGuarded table h)
+pub alone_guard : (table : TableValue) (h : HoldValue) (limit : ℕ) → ((alone_by table h limit).answer ≡ LeapGuard) ↔ ((h.age < limit) × IsGuarded table h)
 alone_guard table h limit = (guard_tells table h limit, guard_stops table h limit)
 
-end_tells : (t : Times) (table : Table) (n limit : ℕ) (h : Counter) → IsTimeline t → IsSecond t n h.last → (alone_by table h limit).answer ≡ RangeEnd
-    → (h.age < limit) × NoMore t n
+end_tells : (t : TimelineValue) (table : TableValue) (n limit : ℕ) (h : HoldValue) → IsTimeline t → IsSecond t n h.last → (alone_by table h limit).answer ≡ RangeEnd
+    → (h.age < limit) × EndsAt t n
 end_tells t table n limit h sound at e =
     elim (cases_lt h.age limit) [
       | inr ge ↦ let both : Expired ≡ RangeEnd = rw (le-leb limit h.age ge) at e in absurd cc
       | inl lt ↦
-          let answered : (outcome_of h (stepped table h.last (h.age + 1) h.heard)).answer ≡ RangeEnd = rw (lt-leb limit h.age lt) at e in
+          let answered : (outcome_of h (hold_step table h.last (h.age + 1) h.heard)).answer ≡ RangeEnd = rw (lt-leb limit h.age lt) at e in
           let why = outcome_end h h.last (h.age + 1) h.heard (next_of h.last (spoken_mark table h.heard h.last.day)) answered in
           (lt, ended t n h.last (spoken_mark table h.heard h.last.day) sound at why.1 why.0)
     ]
 
-end_stops : (t : Times) (table : Table) (n limit : ℕ) (h : Counter) → IsTimeline t → IsSecond t n h.last → (h.age < limit) × NoMore t n
+end_stops : (t : TimelineValue) (table : TableValue) (n limit : ℕ) (h : HoldValue) → IsTimeline t → IsSecond t n h.last → (h.age < limit) × EndsAt t n
     → (alone_by table h limit).answer ≡ RangeEnd
 end_stops t table n limit h sound at g =
-    rw (lt-leb limit h.age g.0) (ap (λ (r : Result Counter Turn). (outcome_of h r).answer) (stops t table n h.last (h.age + 1) h.heard sound at g.1))
+    rw (lt-leb limit h.age g.0) (ap (λ (r : Result HoldValue Turn). (outcome_of h r).answer) (stops t table n h.last (h.age + 1) h.heard sound at g.1))
 
-pub alone_end : (t : Times) (table : Table) (n limit : ℕ) (h : Counter) → IsTimeline t → IsSecond t n h.last
-    → ((alone_by table h limit).answer ≡ RangeEnd) ↔ ((h.age < limit) × NoMore t n)
+pub alone_end : (t : TimelineValue) (table : TableValue) (n limit : ℕ) (h : HoldValue) → IsTimeline t → IsSecond t n h.last
+    → ((alone_by table h limit).answer ≡ RangeEnd) ↔ ((h.age < limit) × EndsAt t n)
 alone_end t table n limit h sound at = (end_tells t table n limit h sound at, end_stops t table n limit h sound at)

@@ -2,12 +2,13 @@
 
 ghost use Rattle.std.specs.Prelude.{◌≡◌, ◌≤◌};
 ghost use Rattle.irig_time.specs.Seconds.{IsValid};
+ghost use Rattle.irig_time.specs.declared.second.TheConstants.{LAST_DAY};
 ghost use Rattle.irig_time.specs.Tables.{spoken_mark};
 ghost use Rattle.irig_hold.specs.Turns.{IfNow, OnStop};
-ghost use Rattle.irig_hold.specs.Steps.{stepped, started, outcome_of, voted_by, alone_by};
+ghost use Rattle.irig_hold.specs.Steps.{hold_step, hold_start, outcome_of, voted_by, alone_by};
 
 use crate::turn::Turn;
-use irig_time::{Claim, LeapTable, Mark, UtcSecond, next};
+use irig_time::{Claim, LAST_DAY, LeapTable, Mark, UtcSecond, next};
 use std::marker::Model;
 
 /// A second that was reached by votes and by counting, how many seconds were counted alone since the last
@@ -23,11 +24,11 @@ pub struct Hold {
 
 impl Model for Hold {
     ghost use Rattle.irig_time.specs.Seconds.{IsValid};
-    ghost use Rattle.irig_hold.specs.Steps.{Counter, counter};
+    ghost use Rattle.irig_hold.specs.Steps.{HoldValue, hold_value};
 
-    ghost Value = { Counter };
+    ghost Value = { HoldValue };
 
-    ghost view = { λ h. counter h.last h.age h.heard };
+    ghost view = { λ h. hold_value h.last h.age h.heard };
 
     ghost invariant = { λ h. IsValid h.last };
 
@@ -41,7 +42,7 @@ impl Hold {
     /// `LeapGuard` or `RangeEnd` where there is no next one.
     pub fn start(claim: Claim, table: &LeapTable) -> Result<Hold, Turn>
         requires { IsValid claim.at }
-        ensures { result ≡ started table.now claim }
+        ensures { result ≡ hold_start table.now claim }
     {
         step(claim.at, 0, claim.mark, table)
     }
@@ -61,7 +62,7 @@ impl Hold {
         }
         let heard = match claim.mark {
             Mark::Unspoken => self.heard,
-            told => told,
+            mark => mark,
         };
         self.take(step(self.last, 0, heard, table))
     }
@@ -93,11 +94,9 @@ impl Hold {
     pub fn age(&self) -> u32
         ensures { result ≡ self.now.age }
     {
-        let Hold { age, .. } = self;
-        *age
+        self.age
     }
 
-    /// Goes where the step leads, if it leads anywhere.
     fn take(&mut self, step: Result<Hold, Turn>) -> Turn
         ensures answer { result ≡ (outcome_of self.old step).answer }
         ensures new { self.new ≡ (outcome_of self.old step).new }
@@ -113,10 +112,9 @@ impl Hold {
     }
 }
 
-/// The hold one second after this second, by what was heard or else the table; or why there is none.
 fn step(from: UtcSecond, age: u32, heard: Mark, table: &LeapTable) -> Result<Hold, Turn>
     requires { IsValid from }
-    ensures { result ≡ stepped table.now from age heard }
+    ensures { result ≡ hold_step table.now from age heard }
 {
     match next(from, spoken(heard, table, from.day)) {
         Some(last) => Ok(Hold {
@@ -129,15 +127,13 @@ fn step(from: UtcSecond, age: u32, heard: Mark, table: &LeapTable) -> Result<Hol
                 Mark::Unspoken
             },
         }),
-        // 2099-12-30 is the last day served.
-        None if from.day == 36523 => Err(Turn::RangeEnd),
+        None if from.day == LAST_DAY => Err(Turn::RangeEnd),
         None => Err(Turn::LeapGuard),
     }
 }
 
-/// What is said of the leap at the end of the day: what was heard, else what the table says.
 fn spoken(heard: Mark, table: &LeapTable, day: u32) -> Mark
-    requires { day ≤ 36523 }
+    requires { day ≤ LAST_DAY }
     ensures { result ≡ spoken_mark table.now heard day }
 {
     match heard {

@@ -1,14 +1,12 @@
 use crate::*;
-use irig_time::{Claim, Leap, LeapTable, Mark, UtcSecond, valid};
+use irig_time::{Claim, LAST_DAY, Leap, LeapTable, Mark, UtcSecond, valid};
 use std::process::Abort;
 use std::test::*;
 
-/// 2016-06-15, the end of 2016, and the last day served.
+/// 2016-06-15, and the end of 2016.
 const JUNE: u32 = 6010;
 
 const DECEMBER: u32 = 6209;
-
-const LAST: u32 = 36523;
 
 const fn second(day: u32, sod: u32) -> UtcSecond {
     UtcSecond { day, sod }
@@ -123,10 +121,10 @@ fn the_limit_goes_before_the_guard_and_the_end(rt: HostRuntime) -> Result<(), Fa
     assert!(rt; hold.alone(1, &table) == Turn::Now(second(DECEMBER, 86398)));
     assert!(rt; hold.alone(1, &table) == Turn::Expired);
     assert!(rt; hold.alone(2, &table) == Turn::LeapGuard);
-    let mut hold = started(&rt, claim(LAST, 86398, Mark::Unspoken), &table)?;
+    let mut hold = started(&rt, claim(LAST_DAY, 86398, Mark::Unspoken), &table)?;
     assert!(rt; hold.alone(0, &table) == Turn::Expired);
     assert!(rt; hold.alone(1, &table) == Turn::RangeEnd);
-    let last = claim(LAST, 86399, Mark::Unspoken);
+    let last = claim(LAST_DAY, 86399, Mark::Unspoken);
     assert!(rt; hold.voted(last, &table) == Turn::RangeEnd);
     assert!(rt; started(&rt, last, &table) == Err(Turn::RangeEnd));
     Ok(())

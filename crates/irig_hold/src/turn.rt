@@ -1,4 +1,4 @@
-//! What a hold answers.
+//! The answers of a hold.
 
 use irig_time::UtcSecond;
 

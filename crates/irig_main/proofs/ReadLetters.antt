@@ -5,7 +5,8 @@ use Rattle.std.proofs.lemmas.List.{length-take, map-append, take_all, take-appen
 use Rattle.std.proofs.lemmas.List.Elements.{All-cons, All-head, All-nil, All-tail, filter-append}
 use Rattle.irig_frame.specs.declared.symbol.Symbol.{Symbol}
 use Rattle.irig_frame.specs.declared.symbol.Symbol.TheVariants.{Zero, One, Marker, Bad}
-use Rattle.irig_main.specs.Letters.{letter_of, without_blanks, Shows}
+use Rattle.irig_frame.specs.Symbols.{letter_of}
+use Rattle.irig_main.specs.Letters.{without_blanks, Shows}
 
 -- the symbols that the front of a text shows, and what is kept of them
 pub record HasRead (front : List ℕ) (kept : List Symbol) : Type 0 where

@@ -1,14 +1,8 @@
 -- Symbols as text.
+-- Source: docs/FRAME.md, as text.
 use Rattle.std.specs.Prelude.{◌≡◌, ℕ, ◌==◌, not, List, filter, map}
 use Rattle.irig_frame.specs.declared.symbol.Symbol.{Symbol}
-use Rattle.irig_frame.specs.declared.symbol.Symbol.TheVariants.{Zero, One, Marker, Bad}
-
--- '0', '1', 'P' and '?'
-abbrev pub letter_of : Symbol → ℕ
-letter_of Zero = 48
-letter_of One = 49
-letter_of Marker = 80
-letter_of Bad = 63
+use Rattle.irig_frame.specs.Symbols.{letter_of}
 
 -- 32 is the blank
 abbrev pub without_blanks : List ℕ → List ℕ

@@ -1,4 +1,5 @@
 -- The exit statuses.
+-- Source: README.md, the table of statuses.
 use Rattle.std.specs.Prelude.{◌≡◌, ℕ, ◌≤◌, ◌⊎◌, Result, Ok, Err}
 use Rattle.irig_scene.specs.declared.outcome.Outcome.{Outcome}
 use Rattle.irig_scene.specs.declared.fault.SceneFault.{SceneFault}
@@ -25,9 +26,9 @@ fault_of scene.Write = Write
 fault_of scene.Memory = Memory
 
 -- what the run of a scenario leaves for the program
-abbrev pub ended_by : Result Outcome SceneFault → Result (Unit {0}) Fault
-ended_by (Ok outcome) = Ok _
-ended_by (Err fault) = Err (fault_of fault)
+abbrev pub result_of : Result Outcome SceneFault → Result (Unit {0}) Fault
+result_of (Ok outcome) = Ok _
+result_of (Err fault) = Err (fault_of fault)
 
 -- a run of a scenario that was done is 0
 abbrev pub status_of_answer : Result Outcome SceneFault → ℕ

@@ -4,18 +4,16 @@ ghost use Rattle.std.specs.Prelude.{◌≡◌, ◌↔◌, ◌≤◌, Err, IfOk, 
 ghost use Rattle.irig_device.specs.Watched.{device_of, has_failed};
 ghost use Rattle.irig_scene.specs.declared.outcome.Outcome.{Outcome};
 ghost use Rattle.irig_scene.specs.declared.fault.SceneFault.{SceneFault};
-ghost use Rattle.irig_scene.specs.Told.{Tells};
-ghost use Rattle.irig_main.specs.Status.{IsStatus, ended_by, status_of_answer};
+ghost use Rattle.irig_scene.specs.Run.{Ran};
+ghost use Rattle.irig_main.specs.Status.{IsStatus, result_of, status_of_answer};
 
-use crate::command::{Request, parse};
-use crate::fault::{Fault, tell};
+use crate::fault::{Fault, report};
 use crate::frame::frame_text;
-use crate::output::write_all;
-use crate::read::reading;
-use clap::Error;
-use clap::error::ErrorKind;
+use crate::read::frame_lines;
+use irig_command_line::{NoRequest, Pending, Request, parse};
 use irig_device::Watched;
 use irig_scene::run_scene;
+use irig_time::Leap;
 use std::alloc::Global;
 use std::io::{BufRead, BufReader, Write};
 use std::rt::Files;
@@ -36,12 +34,12 @@ pub fn drive<'a, R: Files + Eprint + AllocGlobal, I: BufRead, O: Write>(
     ensures read { length words.entry.now ≤ 1 → result ≡ 4 → has_failed input.new ≡ true }
     ensures plain { length words.entry.now ≤ 1 → (answer : Result Outcome SceneFault)
         × (result ≡ status_of_answer answer)
-        × Tells answer false (I.remaining (device_of input.old)) (I.remaining (device_of input.new))
+        × Ran answer false (I.remaining (device_of input.old)) (I.remaining (device_of input.new))
         (O.contents (device_of output.old)) (O.contents (device_of output.new)) }
 {
     match answer(rt, words, input, output) {
         Ok(()) => 0,
-        Err(fault) => tell(rt, &fault),
+        Err(fault) => report(rt, &fault),
     }
 }
 
@@ -55,33 +53,42 @@ fn answer<'a, R: Files + AllocGlobal, I: BufRead, O: Write>(
     requires input_whole { has_failed input.old ≡ false }
     requires output_whole { has_failed output.old ≡ false }
     ensures write { (result ≡ Err Fault.Write) ↔ (has_failed output.new ≡ true) }
-    ensures read { length words.entry.now ≤ 1 → result ≡ Err Fault.Read → has_failed input.new ≡ true }
+    ensures read { length words.entry.now ≤ 1
+        → result ≡ Err Fault.Read → has_failed input.new ≡ true }
     ensures plain { length words.entry.now ≤ 1 → (answer : Result Outcome SceneFault)
-        × (result ≡ ended_by answer)
-        × Tells answer false (I.remaining (device_of input.old)) (I.remaining (device_of input.new))
+        × (result ≡ result_of answer)
+        × Ran answer false (I.remaining (device_of input.old)) (I.remaining (device_of input.new))
         (O.contents (device_of output.old)) (O.contents (device_of output.new)) }
 {
     let alloc = rt.alloc();
     match parse(alloc, words) {
-        Ok(Request::Plain) => play(alloc, input, output, false),
-        Ok(Request::Run { file, all }) => play_file(rt, file, all, output),
+        Ok(Request::Plain) => run_input(alloc, input, output, false),
+        Ok(Request::Run { file, all }) => run_file(rt, file, all, output),
         Ok(
             Request::Frame {
                 time,
                 local,
                 pending,
             },
-        ) => write_all(output, &frame_text(time, local, pending)?),
-        Ok(Request::Read { frame }) => write_all(
+        ) => write(output, &frame_text(time, local, pending.map(leap_of))?),
+        Ok(Request::Read { frame }) => write(
             output,
-            reading(alloc, frame)?.as_str().as_bytes(),
+            frame_lines(alloc, frame)?.as_str().as_bytes(),
         ),
-        Err(error) => explain(alloc, &error, output),
+        Err(NoRequest::Help(text)) => write(output, text.as_str().as_bytes()),
+        Err(NoRequest::Fault(text)) => Err(Fault::CommandLine(text)),
+        Err(NoRequest::Memory) => Err(Fault::Memory),
     }
 }
 
-// Runs the scenario on the input.
-fn play<I: BufRead, O: Write>(
+fn leap_of(pending: Pending) -> Leap {
+    match pending {
+        Pending::Insert => Leap::Insert,
+        Pending::Delete => Leap::Delete,
+    }
+}
+
+fn run_input<I: BufRead, O: Write>(
     alloc: Global,
     input: &mut Watched<I>,
     output: &mut Watched<O>,
@@ -91,8 +98,8 @@ fn play<I: BufRead, O: Write>(
     requires output_whole { has_failed output.old ≡ false }
     ensures write { (result ≡ Err Fault.Write) ↔ (has_failed output.new ≡ true) }
     ensures read { result ≡ Err Fault.Read → has_failed input.new ≡ true }
-    ensures tells { (answer : Result Outcome SceneFault) × (result ≡ ended_by answer)
-        × Tells answer all (I.remaining (device_of input.old)) (I.remaining (device_of input.new))
+    ensures wrote { (answer : Result Outcome SceneFault) × (result ≡ result_of answer)
+        × Ran answer all (I.remaining (device_of input.old)) (I.remaining (device_of input.new))
         (O.contents (device_of output.old)) (O.contents (device_of output.new)) }
 {
     match run_scene(alloc, input, output, all) {
@@ -101,8 +108,7 @@ fn play<I: BufRead, O: Write>(
     }
 }
 
-// Runs the scenario in a file.
-fn play_file<R: Files + AllocGlobal, O: Write>(
+fn run_file<R: Files + AllocGlobal, O: Write>(
     rt: &R,
     path: &str,
     all: bool,
@@ -111,32 +117,23 @@ fn play_file<R: Files + AllocGlobal, O: Write>(
     requires { has_failed output.old ≡ false }
     ensures { (result ≡ Err Fault.Write) ↔ (has_failed output.new ≡ true) }
 {
-    match opened(rt, path) {
-        Ok(mut input) => play(rt.alloc(), &mut input, output, all),
+    match open(rt, path) {
+        Ok(mut input) => run_input(rt.alloc(), &mut input, output, all),
         Err(error) if error.kind() == io::ErrorKind::OutOfMemory => Err(Fault::Memory),
         Err(_) => Err(Fault::Read),
     }
 }
 
-// The file, from its first byte on.
-fn opened<R: Files + AllocGlobal>(rt: &R, path: &str) -> io::Result<Watched<BufReader<R::File>>>
+fn open<R: Files + AllocGlobal>(rt: &R, path: &str) -> io::Result<Watched<BufReader<R::File>>>
     ensures { IfOk result (λ input. has_failed input ≡ false) }
 {
     let file = fs::open(rt, path)?;
     Ok(Watched::new(BufReader::new(rt.alloc(), file)?))
 }
 
-// Writes the help that was asked for, or says what is wrong with the command line.
-fn explain<O: Write>(alloc: Global, error: &Error, output: &mut Watched<O>) -> Result<(), Fault>
+fn write<O: Write>(output: &mut Watched<O>, text: &[u8]) -> Result<(), Fault>
     requires { has_failed output.old ≡ false }
     ensures { (result ≡ Err Fault.Write) ↔ (has_failed output.new ≡ true) }
 {
-    if error.kind() == ErrorKind::OutOfMemory {
-        return Err(Fault::Memory);
-    }
-    let text = format!(in alloc; "{error}")?;
-    if error.use_stderr() {
-        return Err(Fault::CommandLine(text));
-    }
-    write_all(output, text.as_str().as_bytes())
+    output.write_all(text).map_err(|_| Fault::Write)
 }

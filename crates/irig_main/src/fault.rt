@@ -8,7 +8,7 @@ use irig_scene::SceneFault;
 use std::alloc::AllocError;
 use std::fmt;
 
-/// What ends the program. Its text is what the standard error is told.
+/// What ends the program. Its text is the line on the standard error.
 #[derive(Debug, Drop)]
 pub enum Fault {
     /// The command line, with the text that says what is wrong and what would be right.
@@ -80,8 +80,8 @@ impl From<SceneFault> for Fault {
     }
 }
 
-/// Tells the standard error of a fault, except of a refusal, which the log tells; answers the status.
-pub fn tell(rt: &impl Eprint, fault: &Fault) -> u8
+/// Writes the fault to the standard error, except a refusal, which the log has; answers its status.
+pub fn report(rt: &impl Eprint, fault: &Fault) -> u8
     ensures { result ≡ status_of fault.now }
 {
     if !matches!(fault, Fault::Refused) {

@@ -2,15 +2,15 @@
 
 ghost use Rattle.std.specs.Prelude.{◌≡◌, ◌≤◌, IfErr, IfOk, OnErr, unsigned_abs};
 ghost use Rattle.irig_control.specs.Control.{IsControl};
+ghost use Rattle.irig_time.specs.declared.second.UtcSecond.{UtcSecond};
 ghost use Rattle.irig_time.specs.Seconds.{IsValid};
 ghost use Rattle.irig_time.specs.Texts.{IsText};
-ghost use Rattle.irig_main.specs.Frame.{CodesSecond, IsFrameOf, IsFrameText, control_with};
-ghost use Rattle.irig_main.specs.Letters.{letter_of};
+ghost use Rattle.irig_main.specs.Frame.{ShowsFrameOf, IsFrameText, control_with};
 
 use crate::fault::Fault;
-use irig_control::{Control, Parity, pack, set_parity};
-use irig_frame::{Coded, Symbol, encode};
-use irig_time::{Leap, UtcSecond, coded_of, read_text};
+use irig_control::{Control, Parity};
+use irig_frame::Symbol;
+use irig_time::{Leap, frame_of_second, read_text};
 
 /// The text of a frame: ten groups of ten symbols with a blank between, and a newline.
 pub type FrameText = [u8; 110];
@@ -19,29 +19,15 @@ pub type FrameText = [u8; 110];
 /// with this leap second pending: even parity, quality 0, the offset added to the coded time.
 pub fn frame_text(time: &str, local: i8, pending: Option<Leap>) -> Result<FrameText, Fault>
     requires { unsigned_abs local ≤ 31 }
-    ensures frame { IfOk result (λ text. IsFrameOf time.now local pending text) }
+    ensures frame { IfOk result (λ text. ShowsFrameOf time.now local pending text) }
     ensures bad_time { OnErr result ((utc : UtcSecond) → IsValid utc → ¬ IsText utc time.now) }
     ensures kind { IfErr result (λ fault. fault ≡ Fault.BadTime) }
 {
     let Some(utc) = read_text(time.as_bytes()) else {
         return Err(Fault::BadTime);
     };
-    Ok(text_of(&frame_of(&utc, local, pending)))
-}
-
-fn frame_of(utc: &UtcSecond, local: i8, pending: Option<Leap>) -> [Symbol; 100]
-    requires valid { IsValid utc.now }
-    requires local { unsigned_abs local ≤ 31 }
-    ensures { CodesSecond utc.now local pending result }
-{
     let control = control_of(local, pending);
-    let coded = Coded {
-        control: pack(&control),
-        ..coded_of(utc, local)
-    };
-    let mut frame = encode(&coded);
-    set_parity(&mut frame, Parity::Even);
-    frame
+    Ok(text_of(&frame_of_second(Parity::Even, &utc, local, &control)))
 }
 
 fn control_of(local: i8, pending: Option<Leap>) -> Control
@@ -64,19 +50,8 @@ fn text_of(frame: &[Symbol; 100]) -> FrameText
 {
     let mut text = [b' '; 110];
     for (place, symbol) in frame.iter().enumerate() {
-        text[place + place / 10] = letter(*symbol);
+        text[place + place / 10] = symbol.letter();
     }
     text[109] = b'\n';
     text
-}
-
-fn letter(symbol: Symbol) -> u8
-    ensures { result ≡ letter_of symbol }
-{
-    match symbol {
-        Symbol::Zero => b'0',
-        Symbol::One => b'1',
-        Symbol::Marker => b'P',
-        Symbol::Bad => b'?',
-    }
 }

@@ -1,18 +1,16 @@
 //! The program: its commands, their texts and its exit statuses.
 #![tactic(auto)]
 
-mod command;
 mod drive;
 mod fault;
 mod frame;
-mod output;
 mod read;
 #[cfg(test)]
 mod tests;
 mod told;
 
 use drive::drive;
-use fault::{Fault, tell};
+use fault::{Fault, report};
 use irig_device::Watched;
 use std::io::{BufReader, ErrorKind};
 use std::process::ExitCode;
@@ -31,8 +29,8 @@ fn run(rt: &HostRuntime) -> io::Result<u8> {
 fn main(rt: HostRuntime) -> ExitCode {
     let status = match run(&rt) {
         Ok(status) => status,
-        Err(error) if error.kind() == ErrorKind::OutOfMemory => tell(&rt, &Fault::Memory),
-        Err(_) => tell(&rt, &Fault::NotText),
+        Err(error) if error.kind() == ErrorKind::OutOfMemory => report(&rt, &Fault::Memory),
+        Err(_) => report(&rt, &Fault::NotText),
     };
     ExitCode::from(status)
 }

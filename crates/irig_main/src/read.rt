@@ -1,8 +1,8 @@
 //! The command `read`: a frame as text, and what it says.
 
-ghost use Rattle.std.specs.Prelude.{◌≡◌, ◌≢◌, ◌↔◌, ◌⊎◌, Err, IfErr, IfNone, IfOk, IfSome, List, OnErr, take};
+ghost use Rattle.std.specs.Prelude.{◌≡◌, ◌↔◌, ◌⊎◌, Err, IfErr, IfOk, List, OnErr, take};
 ghost use Rattle.irig_frame.specs.declared.symbol.Symbol.{Symbol};
-ghost use Rattle.irig_main.specs.Letters.{Shows, letter_of};
+ghost use Rattle.irig_main.specs.Letters.{Shows};
 
 use crate::fault::Fault;
 use crate::told::{told_by, told_line};
@@ -12,7 +12,7 @@ use std::alloc::{AllocError, Global};
 
 /// What the frame says: the line of the time that it codes, if it codes one, and the line of what a port
 /// tells of it; `BadFrameText` where the text has a letter of no symbol.
-pub fn reading(alloc: Global, text: &str) -> Result<String, Fault>
+pub fn frame_lines(alloc: Global, text: &str) -> Result<String, Fault>
     ensures bad_text { (result ≡ Err Fault.BadFrameText)
         ↔ ((symbols : List Symbol) → ¬ Shows text.now symbols) }
     ensures kind { IfErr result (λ fault. (fault ≡ Fault.BadFrameText) ⊎ (fault ≡ Fault.Memory)) }
@@ -25,7 +25,7 @@ pub fn reading(alloc: Global, text: &str) -> Result<String, Fault>
     }
 }
 
-// The symbols, or the first 101 of them, which are enough to tell that there are too many.
+// The symbols, or the first 101 of them, which are enough to see that there are too many.
 fn symbols_of(text: &str) -> Result<ArrayVec<Symbol, 101>, Fault>
     ensures ok { IfOk result (λ kept. (symbols : List Symbol) × Shows text.now symbols
         × (kept.items ≡ take 101 symbols)) }
@@ -38,7 +38,7 @@ fn symbols_of(text: &str) -> Result<ArrayVec<Symbol, 101>, Fault>
         if *letter == b' ' {
             continue;
         }
-        let Some(symbol) = symbol_of(*letter) else {
+        let Some(symbol) = Symbol::from_letter(*letter) else {
             return Err(Fault::BadFrameText);
         };
         if !symbols.is_full() {
@@ -46,19 +46,6 @@ fn symbols_of(text: &str) -> Result<ArrayVec<Symbol, 101>, Fault>
         }
     }
     Ok(symbols)
-}
-
-fn symbol_of(letter: u8) -> Option<Symbol>
-    ensures some { IfSome result (λ symbol. letter ≡ letter_of symbol) }
-    ensures none { IfNone result ((symbol : Symbol) → letter ≢ letter_of symbol) }
-{
-    match letter {
-        b'0' => Some(Symbol::Zero),
-        b'1' => Some(Symbol::One),
-        b'P' => Some(Symbol::Marker),
-        b'?' => Some(Symbol::Bad),
-        _ => None,
-    }
 }
 
 // The line of the time that the frame codes, and the line after it.

@@ -1,45 +1,27 @@
 //! What a port tells of symbols, and its line.
 
 ghost use Rattle.std.specs.Prelude.{◌≡◌, ◌≤◌, length};
-ghost use Rattle.irig_frame.specs.Symbols.{symbol_of};
+ghost use Rattle.irig_time.specs.declared.rules.TheConstants.Rules.{PLAIN};
 ghost use Rattle.irig_time.specs.Seconds.{IsValid};
 ghost use Rattle.irig_port.specs.Told.{IfClaim, told_of};
-ghost use Rattle.irig_main.specs.Rules.{plain_rules};
 
-use irig_control::Parity;
 use irig_frame::{Field, FrameFault, Symbol};
 use irig_port::{FlowPort, Port, PortFault, Told};
-use irig_time::{Claim, Mark, Rules, SbsUse, Sense, TimeFault, write_text};
+use irig_time::{Claim, Mark, Rules, TimeFault, write_text};
 use std::alloc::{AllocError, Global};
 
 /// What a port tells of these symbols, 101 of them at most, under even parity, where the offset is
 /// added and the straight binary seconds are checked.
 pub fn told_by(symbols: &[Symbol]) -> Told
     requires few { length symbols.now ≤ 101 }
-    ensures told { result ≡ told_of plain_rules symbols.now }
+    ensures told { result ≡ told_of PLAIN symbols.now }
     ensures valid { IfClaim result (λ claim. IsValid claim.at) }
 {
-    let mut port = FlowPort::fresh(Rules {
-        parity: Parity::Even,
-        sense: Sense::Add,
-        sbs: SbsUse::Check,
-    });
+    let mut port = FlowPort::fresh(Rules::PLAIN);
     for symbol in symbols {
-        port.pulse(width_of(*symbol));
+        port.pulse(symbol.width_us());
     }
     port.edge()
-}
-
-// A pulse width of the symbol, in microseconds.
-fn width_of(symbol: Symbol) -> u32
-    ensures { symbol_of result ≡ symbol }
-{
-    match symbol {
-        Symbol::Zero => 2000,
-        Symbol::One => 5000,
-        Symbol::Marker => 8000,
-        Symbol::Bad => 0,
-    }
 }
 
 /// The line of what a port tells.

@@ -3,7 +3,7 @@ use Rattle.std.proofs.Common.{◌≡◌, ◌↔◌, ℕ, ◌+◌, Bool, true, fa
 use Rattle.std.specs.Prelude.{All}
 use Rattle.std.proofs.lemmas.Bool.{cases_Bool}
 use Rattle.std.proofs.lemmas.List.Elements.{All-cons, All-nil, All-head, All-tail}
-use Rattle.irig_time.specs.Times.{Times}
+use Rattle.irig_time.specs.Timelines.{TimelineValue}
 use Rattle.irig_time.proofs.TimeLaws.{neither}
 use Rattle.irig_plant.specs.declared.event.Event.{Event}
 use Rattle.irig_plant.specs.declared.event.Event.TheVariants.{Tick}
@@ -16,7 +16,7 @@ use Rattle.irig_plant.proofs.Headline.{kept_before, kept_now}
 
 -- ---- tables
 
-true_tables : (t : Times) (r : ℕ) (xs : List ReaderSetup) → first_false t r xs ≡ None → All (HasTrueTable t) xs
+true_tables : (t : TimelineValue) (r : ℕ) (xs : List ReaderSetup) → first_false t r xs ≡ None → All (HasTrueTable t) xs
 true_tables t r [] e = All-nil (HasTrueTable t)
 true_tables t r (x ∷ xs) e =
     elim (cases_Bool (is_true_table t x.table)) [
@@ -24,7 +24,7 @@ true_tables t r (x ∷ xs) e =
       | inr bad ↦ absurd (let found : Some r ≡ None = rw bad at e in cc)
     ]
 
-none_false : (t : Times) (r : ℕ) (xs : List ReaderSetup) → All (HasTrueTable t) xs → first_false t r xs ≡ None
+none_false : (t : TimelineValue) (r : ℕ) (xs : List ReaderSetup) → All (HasTrueTable t) xs → first_false t r xs ≡ None
 none_false t r [] h = refl
 none_false t r (x ∷ xs) h = rw (All-head (HasTrueTable t) x xs h) (none_false t (r + 1) xs (All-tail (HasTrueTable t) x xs h))
 

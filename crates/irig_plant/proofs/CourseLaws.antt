@@ -3,16 +3,17 @@ use Rattle.std.specs.Prelude.{◌==◌, ◌&&◌, is_some}
 use Rattle.std.proofs.Common.{◌≡◌, ℕ, ◌+◌, ◌<◌, ◌≤◌, Bool, true, false, List, [], ◌∷◌, ◌++◌, length, Option, Some, None, inl, inr, refl, sym, ap, subst, ◌∙◌, arith, eqb-true}
 use Rattle.std.proofs.lemmas.Bool.{false≢true, cases_Bool, cases_lt, eq-eqb, ne_eqb, and_right, ltb-false, ltb-true, lt-ltb, le-ltb}
 use Rattle.irig_time.specs.declared.claim.Claim.{Claim}
-use Rattle.irig_time.specs.Times.{truth_at, IsTrueClaim}
+use Rattle.irig_time.specs.Timelines.{truth_at, IsTrueClaim}
 use Rattle.irig_time.proofs.SecondAt.{claim_is}
 use Rattle.irig_vote.specs.declared.redundancy.Redundancy.{Redundancy}
 use Rattle.irig_vote.specs.declared.tells.Tells.{Tells}
 use Rattle.irig_vote.specs.Vote.{f_of, ports_of, carriers, vote_of}
 use Rattle.irig_vote.proofs.CountLaws.{vote_counts}
-use Rattle.irig_reader.specs.Life.{tells as told_at, vote_at_tick}
+use Rattle.irig_reader.specs.History.{told_at_tick, vote_at_tick}
 use Rattle.irig_plant.specs.declared.event.Event.{Event}
 use Rattle.irig_plant.specs.declared.event.Event.TheVariants.{Tick, Restart}
-use Rattle.irig_plant.specs.Schedule.{Setup, redundancy_of, ticks_of, life_of}
+use Rattle.irig_vote.specs.Vote.{redundancy_of}
+use Rattle.irig_plant.specs.Schedule.{Setup, ticks_of, history_of}
 use Rattle.irig_plant.specs.Audits.{untrue_ports, is_broken_now}
 use Rattle.irig_plant.specs.Edges.{is_carried, ports_now, is_voted_now, is_voted, is_restarted, IsVoted, IsRestarted}
 use Rattle.irig_plant.proofs.HeadlineVotes.{true_vote, vote_is_true}
@@ -131,14 +132,14 @@ vote_there t r truth (Some d) few e =
     let is : truth ≡ Some d = elim (true_vote t r truth (Some d) few e) [ inl none ↦ absurd cc | inr same ↦ sym same ] in
     rw is (sym (lt-ltb (f_of r) (carriers d (ports_of t r)) (omega (arith, many))))
 
-pub vote_is_there : (s : Setup) (r : ℕ) (ev : List Event) → is_broken_now s r ev ≡ false → is_some (vote_at_tick (life_of s r ev)) ≡ is_voted_now s r ev
+pub vote_is_there : (s : Setup) (r : ℕ) (ev : List Event) → is_broken_now s r ev ≡ false → is_some (vote_at_tick (history_of s r ev)) ≡ is_voted_now s r ev
 vote_is_there s r ev kept =
     let redundancy = redundancy_of (length s.generators) in
-    let told = told_at (life_of s r ev) in
+    let told = told_at_tick (history_of s r ev) in
     let truth = truth_at s.times (ticks_of r ev) in
-    vote_there told redundancy truth (vote_at_tick (life_of s r ev)) (ltb-false (f_of redundancy) (untrue_ports truth (ports_of told redundancy)) kept) refl
+    vote_there told redundancy truth (vote_at_tick (history_of s r ev)) (ltb-false (f_of redundancy) (untrue_ports truth (ports_of told redundancy)) kept) refl
 
-pub vote_is_right : (s : Setup) (r : ℕ) (ev : List Event) (c : Claim) → is_broken_now s r ev ≡ false → vote_at_tick (life_of s r ev) ≡ Some c → IsTrueClaim s.times (ticks_of r ev + 1) c
+pub vote_is_right : (s : Setup) (r : ℕ) (ev : List Event) (c : Claim) → is_broken_now s r ev ≡ false → vote_at_tick (history_of s r ev) ≡ Some c → IsTrueClaim s.times (ticks_of r ev + 1) c
 vote_is_right s r ev c kept e =
     elim (vote_is_true s r ev kept) [
       | inl none ↦ let clash : None ≡ Some c = sym none ∙ e in absurd cc

@@ -1,13 +1,13 @@
 -- Held edges and runs of voted edges, one edge on.
 use Rattle.std.proofs.Common.{◌≡◌, ℕ, ◌+◌, ◌-◌, ◌<◌, ◌≤◌, true, false, ◌⊎◌, inl, inr, sym, ◌∙◌, ap, subst, arith}
 use Rattle.std.proofs.lemmas.Bool.{false≢true, cases_lt, cases_eq}
-use Rattle.irig_plant.specs.Edges.{Course, IsGuard, HasVote, IsHeld, IsRun, IsLongestRun, IsLastVote}
+use Rattle.irig_plant.specs.Edges.{VotedEdges, IsGuard, HasVote, IsHeld, IsRun, IsLongestRun, IsLastVote}
 
 -- an edge up to the next one is one up to this one, or the next one
 up_to : (j n : ℕ) → j ≤ n + 1 → (j ≤ n) ⊎ (j ≡ n + 1)
 up_to j n h = elim (cases_lt n j) [ inl a ↦ inr (omega arith) | inr a ↦ inl a ]
 
-module _ (x : Course) where
+module _ (x : VotedEdges) where
   -- a lock that was reached before the edge was one at the edge before
   pub held_back : (n : ℕ) → 1 ≤ x.own.lock_after → (h : IsHeld x (n + 1)) → h.lock ≤ n → IsHeld x n × (x.restarted n ≡ false)
   held_back n some h early = (

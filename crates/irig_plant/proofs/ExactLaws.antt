@@ -6,7 +6,7 @@ use Rattle.std.proofs.lemmas.Bool.{false≢true}
 use Rattle.std.proofs.lemmas.List.{append_assoc}
 use Rattle.std.proofs.lemmas.List.Elements.{All-nil, All-push, All-contains, Contains-append_left, Contains-push}
 use Rattle.irig_time.specs.declared.second.UtcSecond.{UtcSecond}
-use Rattle.irig_time.specs.Times.{second_at, IsSecond}
+use Rattle.irig_time.specs.Timelines.{second_at, IsSecond}
 use Rattle.irig_time.specs.TimelineFaults.{IsTimeline}
 use Rattle.irig_time.proofs.SecondAt.{second_is}
 use Rattle.irig_hold.specs.Truth.{IsTrueTable}
@@ -15,14 +15,14 @@ use Rattle.irig_reader.specs.declared.report.Cause.{Cause}
 use Rattle.irig_reader.specs.declared.report.Cause.TheVariants as cause
 use Rattle.irig_reader.specs.declared.report.Report.{Report}
 use Rattle.irig_reader.specs.declared.rule.Step.{Step}
-use Rattle.irig_reader.specs.Rule.{stopped}
+use Rattle.irig_reader.specs.Rule.{stop_step}
 use Rattle.irig_plant.specs.declared.event.Event.{Event}
 use Rattle.irig_plant.specs.declared.event.Event.TheVariants.{Tick}
 use Rattle.irig_plant.specs.declared.entry.Entry.{Entry}
 use Rattle.irig_plant.specs.Schedule.{Setup, setup_at, ticks_of, entry_of, log_of}
-use Rattle.irig_plant.specs.Headline.{IsKeptUpTo, GivesNoFalseAlarm}
-use Rattle.irig_plant.specs.Edges.{Course, course_of, CanLock, IsGuard, IsHeld, IsLastVote}
-use Rattle.irig_plant.specs.Exactly.{announced, silent, IsServed, AnnouncesWhenHeld, IsAnnouncement, TellsItsLock, WasHeld, NoneWithin, IsSilence, TellsItsCause}
+use Rattle.irig_plant.specs.Headline.{IsKeptUpTo, HasPremises, GivesNoFalseAlarm}
+use Rattle.irig_plant.specs.Edges.{VotedEdges, voted_edges_of, CanLock, IsGuard, IsHeld, IsLastVote}
+use Rattle.irig_plant.specs.Exactly.{announcement, silence, IsServed, AnnouncesWhenHeld, IsAnnouncement, HasItsLock, WasHeld, NoneWithin, IsSilence, HasItsCause}
 use Rattle.irig_plant.proofs.Headline.{IsCalm, log_keeps_calm}
 use Rattle.irig_plant.proofs.HeldMarks.{second_before}
 use Rattle.irig_plant.proofs.CourseLaws.{HasTick, has_tick}
@@ -31,10 +31,10 @@ use Rattle.irig_plant.proofs.Standing.{can_lock, ticked_at}
 
 -- ---- from what is said
 
-said_some : (r : Report) (v : UtcSecond) (l : Lock) (c : Cause) → r ≡ announced v l c → is_some r.announce ≡ true
+said_some : (r : Report) (v : UtcSecond) (l : Lock) (c : Cause) → r ≡ announcement v l c → is_some r.announce ≡ true
 said_some r v l c e = ap (λ (z : Report). is_some z.announce) e
 
-said_none : (r : Report) (l : Lock) (c : Cause) → r ≡ silent l c → is_some r.announce ≡ false
+said_none : (r : Report) (l : Lock) (c : Cause) → r ≡ silence l c → is_some r.announce ≡ false
 said_none r l c e = ap (λ (z : Report). is_some z.announce) e
 
 clash : {A : Type 0} (b : Bool) → b ≡ true → b ≡ false → A
@@ -43,7 +43,7 @@ clash b e f = absurd (false≢true (sym f ∙ e))
 cause_is : (r : Report) (u : Option UtcSecond) (l : Lock) (c d : Cause) → r ≡ record { announce = u; lock = l; cause = c } → r.cause ≡ d → c ≡ d
 cause_is r u l c d e f = sym (ap (λ (z : Report). z.cause) e) ∙ f
 
-module _ (x : Course) (n : ℕ) (v : UtcSecond) (r : Report) where
+module _ (x : VotedEdges) (n : ℕ) (v : UtcSecond) (r : Report) where
   when_held : Said x n v r → (is_some r.announce ≡ true) ↔ IsHeld x (n + 1)
   when_held (by_vote held voted is) = (λ _. held, λ _. said_some _ _ _ _ is)
   when_held (by_hold age held unvoted last is) = (λ _. held, λ _. said_some _ _ _ _ is)
@@ -68,15 +68,15 @@ module _ (x : Course) (n : ℕ) (v : UtcSecond) (r : Report) where
   guard_of h (by_guard age unheld unvoted before unbroken last young guard is) = guard
   guard_of h (by_silence unheld unvoted before is) = let q : cause.NoVote ≡ cause.LeapGuard = cause_is r _ _ _ _ is h in absurd cc
 
-over_cause : (step : Step) (c d : Cause) → step ≡ stopped c → is_over c ≡ true → step.report.cause ≡ d → is_over d ≡ true
+over_cause : (step : Step) (c d : Cause) → step ≡ stop_step c → is_over c ≡ true → step.report.cause ≡ d → is_over d ≡ true
 over_cause step c d e f h = let q : c ≡ d = sym (ap (λ (z : Step). z.report.cause) e) ∙ h in sym (ap is_over q) ∙ f
 
-guard_at : (x : Course) (n : ℕ) (step : Step) → step.report.cause ≡ cause.LeapGuard → Ticked x n step → IsGuard x (n + 1)
+guard_at : (x : VotedEdges) (n : ℕ) (step : Step) → step.report.cause ≡ cause.LeapGuard → Ticked x n step → IsGuard x (n + 1)
 guard_at x n step h (live v e standing said) = guard_of x n v step.report h said
 guard_at x n step h (over c e is k) = absurd (false≢true (over_cause step c cause.LeapGuard is k h))
 
 -- where T(n + 1) is v
-said_at : (x : Course) (n : ℕ) (v : UtcSecond) (step : Step) → second_at x.times (n + 1) ≡ Some v → Ticked x n step → Said x n v step.report
+said_at : (x : VotedEdges) (n : ℕ) (v : UtcSecond) (step : Step) → second_at x.times (n + 1) ≡ Some v → Ticked x n step → Said x n v step.report
 said_at x n v step at (live w e standing said) =
     let q : ◌≡◌ {A = Option UtcSecond} (Some w) (Some v) = sym e ∙ at in
     let same : w ≡ v = cc in
@@ -85,10 +85,10 @@ said_at x n v step at (over c e is k) = let q : ◌≡◌ {A = Option UtcSecond}
 
 -- ---- the last voted edge, and the edges within the holdover
 
-none_within : (x : Course) (n age : ℕ) → IsLastVote x n age → x.own.holdover ≤ age → NoneWithin x (n + 1) x.own.holdover
+none_within : (x : VotedEdges) (n age : ℕ) → IsLastVote x n age → x.own.holdover ≤ age → NoneWithin x (n + 1) x.own.holdover
 none_within x n age l old j a b = l.none_since j (omega (arith, l.is_at)) (omega arith)
 
-some_within : (x : Course) (n age : ℕ) → IsLastVote x n age → age < x.own.holdover → ¬ NoneWithin x (n + 1) x.own.holdover
+some_within : (x : VotedEdges) (n age : ℕ) → IsLastVote x n age → age < x.own.holdover → ¬ NoneWithin x (n + 1) x.own.holdover
 some_within x n age l young f = false≢true (sym (f l.edge (omega (arith, l.is_at)) (omega (arith, l.is_at))) ∙ l.is)
 
 -- ---- entries
@@ -106,7 +106,7 @@ log_at s all R each later (e ∷ ev) is = log_at s all R each (later ++ (e ∷ [
 
 -- the guard's cause is told at guard edges alone
 record TellsGuard (s : Setup) (all : List Event) (e : Entry) : Type 0 where
-  leap_guard : IsTrueTable s.times (setup_at s.readers e.reader).table → IsKeptUpTo s e.reader e.edge all → e.report.cause ≡ cause.LeapGuard → IsGuard (course_of s e.reader all) e.edge
+  leap_guard : HasPremises s all e → e.report.cause ≡ cause.LeapGuard → IsGuard (voted_edges_of s e.reader all) e.edge
 
 -- a logged entry stays in the log
 stays_logged : (s : Setup) (e : Entry) (later ev : List Event) → Contains (log_of s ev) e → Contains (log_of s (later ++ ev)) e
@@ -120,16 +120,16 @@ logged_at s r all later ev is =
 
 module _ (s : Setup) (all : List Event) (sound : IsTimeline s.times) (ruled : All CanLock s.readers) where
   said : (r : ℕ) (later ev : List Event) → all ≡ later ++ (Tick r ∷ ev) → (v : UtcSecond) → IsServed s all (entry_of s r ev) v
-      → Said (course_of s r all) (ticks_of r ev) v (entry_of s r ev).report
+      → Said (voted_edges_of s r all) (ticks_of r ev) v (entry_of s r ev).report
   said r later ev is v served =
-      said_at (course_of s r all) (ticks_of r ev) v _ served.second
-      (ticked_at s r all (record { sound = sound; true_table = served.true_table }) (can_lock s r ruled) later ev is served.kept)
+      said_at (voted_edges_of s r all) (ticks_of r ev) v _ served.second
+      (ticked_at s r all (record { sound = sound; true_table = served.premises.true_table }) (can_lock s r ruled) later ev is served.premises.kept)
 
   pub log_when_held : All (AnnouncesWhenHeld s all) (log_of s all)
   log_when_held = log_at s all (AnnouncesWhenHeld s all) (λ r later ev is. record { exactly = λ v served. when_held _ _ v _ (said r later ev is v served) }) [] all refl
 
-  pub log_tells_lock : All (TellsItsLock s all) (log_of s all)
-  log_tells_lock = log_at s all (TellsItsLock s all) (λ r later ev is. record { lock = λ v served says. lock_of _ _ v _ says (said r later ev is v served) }) [] all refl
+  pub log_tells_lock : All (HasItsLock s all) (log_of s all)
+  log_tells_lock = log_at s all (HasItsLock s all) (λ r later ev is. record { lock = λ v served says. lock_of _ _ v _ says (said r later ev is v served) }) [] all refl
 
   -- ---- the tick before
 
@@ -141,21 +141,23 @@ module _ (s : Setup) (all : List Event) (sound : IsTimeline s.times) (ruled : Al
         before.0,
         record {
           second = ap (second_at s.times) edge ∙ (second_is s.times (ticks_of r ev) before.0).1 before.1;
-          true_table = subst (λ k. IsTrueTable s.times (setup_at s.readers k).table) (sym reader) served.true_table;
-          kept = subst (λ k. IsKeptUpTo s k e.edge all) (sym reader) (kept_less s r (ticks_of r ev + 1) e.edge all served.kept (omega (arith, edge)));
+          premises = record {
+            true_table = subst (λ k. IsTrueTable s.times (setup_at s.readers k).table) (sym reader) served.premises.true_table;
+            kept = subst (λ k. IsKeptUpTo s k e.edge all) (sym reader) (kept_less s r (ticks_of r ev + 1) e.edge all served.premises.kept (omega (arith, edge)));
+          };
         },
       )
 
   held_then : (r : ℕ) (ev : List Event) (v : UtcSecond) (e : Entry) → Contains (log_of s all) e → IsServed s all (entry_of s r ev) v → e.reader ≡ r → e.edge ≡ ticks_of r ev
-      → (is_some e.report.announce ≡ true) ↔ IsHeld (course_of s r all) (ticks_of r ev)
+      → (is_some e.report.announce ≡ true) ↔ IsHeld (voted_edges_of s r all) (ticks_of r ev)
   held_then r ev v e logged served reader edge =
       let before = served_before r ev v e served reader edge in
       let exact : AnnouncesWhenHeld s all e = All-contains (AnnouncesWhenHeld s all) (log_of s all) e log_when_held logged in
-      subst (λ k. (is_some e.report.announce ≡ true) ↔ IsHeld (course_of s k all) (ticks_of r ev)) reader
-      (subst (λ n. (is_some e.report.announce ≡ true) ↔ IsHeld (course_of s e.reader all) n) edge (exact.exactly before.0 before.1))
+      subst (λ k. (is_some e.report.announce ≡ true) ↔ IsHeld (voted_edges_of s k all) (ticks_of r ev)) reader
+      (subst (λ n. (is_some e.report.announce ≡ true) ↔ IsHeld (voted_edges_of s e.reader all) n) edge (exact.exactly before.0 before.1))
 
   was_held : (r : ℕ) (later ev : List Event) (v : UtcSecond) → all ≡ later ++ (Tick r ∷ ev) → IsServed s all (entry_of s r ev) v
-      → IsHeld (course_of s r all) (ticks_of r ev) → (course_of s r all).restarted (ticks_of r ev) ≡ false → WasHeld s all r (ticks_of r ev + 1)
+      → IsHeld (voted_edges_of s r all) (ticks_of r ev) → (voted_edges_of s r all).restarted (ticks_of r ev) ≡ false → WasHeld s all r (ticks_of r ev + 1)
   was_held r later ev v is served held unbroken =
       let lock : 1 ≤ (setup_at s.readers r).rules.lock_after = can_lock s r ruled in
       let some : 1 ≤ ticks_of r ev = omega (arith, lock, held.enough, held.before) in
@@ -178,14 +180,14 @@ module _ (s : Setup) (all : List Event) (sound : IsTimeline s.times) (ruled : Al
       }
 
   was_not_held : (r : ℕ) (ev : List Event) (v : UtcSecond) → IsServed s all (entry_of s r ev) v
-      → (IsHeld (course_of s r all) (ticks_of r ev) → (course_of s r all).restarted (ticks_of r ev) ≡ false → ⊥) → ¬ WasHeld s all r (ticks_of r ev + 1)
+      → (IsHeld (voted_edges_of s r all) (ticks_of r ev) → (voted_edges_of s r all).restarted (ticks_of r ev) ≡ false → ⊥) → ¬ WasHeld s all r (ticks_of r ev + 1)
   was_not_held r ev v served f h =
       let here : h.before ≡ ticks_of r ev = omega (arith, h.is_before) in
       let a = h.announced in
-      f ((held_then r ev v a.entry a.logged served a.reader (a.edge ∙ here)).0 a.announces) (ap (course_of s r all).restarted (sym here) ∙ h.unbroken)
+      f ((held_then r ev v a.entry a.logged served a.reader (a.edge ∙ here)).0 a.announces) (ap (voted_edges_of s r all).restarted (sym here) ∙ h.unbroken)
 
   cause_of : (r : ℕ) (later ev : List Event) (v : UtcSecond) → all ≡ later ++ (Tick r ∷ ev) → IsServed s all (entry_of s r ev) v → is_some (entry_of s r ev).report.announce ≡ false
-      → Said (course_of s r all) (ticks_of r ev) v (entry_of s r ev).report → IsSilence (course_of s r all) (WasHeld s all r (ticks_of r ev + 1)) (ticks_of r ev + 1) (entry_of s r ev).report
+      → Said (voted_edges_of s r all) (ticks_of r ev) v (entry_of s r ev).report → IsSilence (voted_edges_of s r all) (WasHeld s all r (ticks_of r ev + 1)) (ticks_of r ev + 1) (entry_of s r ev).report
   cause_of r later ev v is served h (by_vote held voted said) = clash _ (said_some _ _ _ _ said) h
   cause_of r later ev v is served h (by_hold age held unvoted last said) = clash _ (said_some _ _ _ _ said) h
   cause_of r later ev v is served h (by_count count unheld voted run said) = record {
@@ -197,12 +199,12 @@ module _ (s : Setup) (all : List Event) (sound : IsTimeline s.times) (ruled : Al
   cause_of r later ev v is served h (by_age age unheld unvoted before unbroken last old said) = record {
     voted = λ q. clash _ q unvoted;
     expired = λ _ _ _. said;
-    guarded = λ _ _ g. absurd (g (none_within (course_of s r all) (ticks_of r ev) age last old));
+    guarded = λ _ _ g. absurd (g (none_within (voted_edges_of s r all) (ticks_of r ev) age last old));
     other = λ _ f. absurd (f (was_held r later ev v is served before unbroken));
   }
   cause_of r later ev v is served h (by_guard age unheld unvoted before unbroken last young guard said) = record {
     voted = λ q. clash _ q unvoted;
-    expired = λ _ _ f. absurd (some_within (course_of s r all) (ticks_of r ev) age last young f);
+    expired = λ _ _ f. absurd (some_within (voted_edges_of s r all) (ticks_of r ev) age last young f);
     guarded = λ _ _ _. record { report = said; guard = guard };
     other = λ _ f. absurd (f (was_held r later ev v is served before unbroken));
   }
@@ -213,8 +215,8 @@ module _ (s : Setup) (all : List Event) (sound : IsTimeline s.times) (ruled : Al
     other = λ _ _. said;
   }
 
-  pub log_tells_cause : All (TellsItsCause s all) (log_of s all)
-  log_tells_cause = log_at s all (TellsItsCause s all) (λ r later ev is. record { cause = λ v served silent. cause_of r later ev v is served silent (said r later ev is v served) }) [] all refl
+  pub log_tells_cause : All (HasItsCause s all) (log_of s all)
+  log_tells_cause = log_at s all (HasItsCause s all) (λ r later ev is. record { cause = λ v served silence. cause_of r later ev v is served silence (said r later ev is v served) }) [] all refl
 
   -- ---- no false alarm
 
@@ -230,6 +232,6 @@ module _ (s : Setup) (all : List Event) (sound : IsTimeline s.times) (ruled : Al
 
       guards : All (TellsGuard s all) (log_of s all)
       guards = log_at s all (TellsGuard s all) (λ r later ev is. record {
-        leap_guard = λ true_table kept e.
-            guard_at (course_of s r all) (ticks_of r ev) _ e (ticked_at s r all (record { sound = sound; true_table = true_table }) (can_lock s r ruled) later ev is kept);
+        leap_guard = λ p e.
+            guard_at (voted_edges_of s r all) (ticks_of r ev) _ e (ticked_at s r all (record { sound = sound; true_table = p.true_table }) (can_lock s r ruled) later ev is p.kept);
       }) [] all refl

@@ -2,10 +2,10 @@
 use Rattle.std.proofs.Common.{zero, suc, ◌≡◌, ℕ, ◌<◌, List, [], ◌∷◌, ◌++◌, refl, arith, inl, inr, append_assoc, append-nil}
 use Rattle.std.specs.Prelude.{◌==◌, if◌then◌else◌}
 use Rattle.std.proofs.lemmas.Bool.{cases_Bool}
-use Rattle.irig_reader.specs.Life.{Fed, feed}
-use Rattle.irig_plant.specs.Feeds.{feed_all}
+use Rattle.irig_reader.specs.History.{Fed, with_width}
+use Rattle.irig_plant.specs.Pulses.{with_widths}
 
-pub feed_all-nil : (fed : Fed) (port : ℕ) → feed_all fed port [] ≡ fed
+pub feed_all-nil : (fed : Fed) (port : ℕ) → with_widths fed port [] ≡ fed
 feed_all-nil fed port =
     elim (cases_Bool (port == 0)) [
       | inl t0 ↦ rw t0 (rw (append-nil fed.a) refl)
@@ -21,7 +21,7 @@ feed_all-nil fed port =
       ]
     ]
 
-pub feed_all-push : (fed : Fed) (port : ℕ) (ws : List ℕ) (w : ℕ) → feed_all fed port (ws ++ w ∷ []) ≡ feed (feed_all fed port ws) port w
+pub feed_all-push : (fed : Fed) (port : ℕ) (ws : List ℕ) (w : ℕ) → with_widths fed port (ws ++ w ∷ []) ≡ with_width (with_widths fed port ws) port w
 feed_all-push fed port ws w =
     elim (cases_Bool (port == 0)) [
       | inl t0 ↦ rw t0 (rw (← append_assoc fed.a ws (w ∷ [])) refl)
@@ -42,7 +42,7 @@ abbrev pub fed_if : ℕ → ℕ → List ℕ → List ℕ → List ℕ
 fed_if g p ws widths = if g == p then widths ++ ws else widths
 
 pub fed_ports : (fed : Fed) (g : ℕ) (ws : List ℕ) → g < 5
-    → ◌≡◌ {A = Fed} (record { a = fed_if g 0 ws fed.a; b = fed_if g 1 ws fed.b; c = fed_if g 2 ws fed.c; d = fed_if g 3 ws fed.d; e = fed_if g 4 ws fed.e }) (feed_all fed g ws)
+    → ◌≡◌ {A = Fed} (record { a = fed_if g 0 ws fed.a; b = fed_if g 1 ws fed.b; c = fed_if g 2 ws fed.c; d = fed_if g 3 ws fed.d; e = fed_if g 4 ws fed.e }) (with_widths fed g ws)
 fed_ports fed zero ws h = refl
 fed_ports fed (suc zero) ws h = refl
 fed_ports fed (suc (suc zero)) ws h = refl

@@ -5,28 +5,28 @@ use Rattle.std.proofs.lemmas.Bool.{cases_Bool}
 use Rattle.std.proofs.lemmas.List.Elements.{All-nil, All-push}
 use Rattle.irig_time.specs.declared.second.UtcSecond.{UtcSecond}
 use Rattle.irig_time.specs.declared.claim.Claim.{Claim}
-use Rattle.irig_time.specs.Times.{Times, IsSecond, second_at, truth_at}
+use Rattle.irig_time.specs.Timelines.{TimelineValue, IsSecond, second_at, truth_at}
 use Rattle.irig_time.specs.TimelineFaults.{IsTimeline}
-use Rattle.irig_time.specs.Tables.{Table}
+use Rattle.irig_time.specs.Tables.{TableValue}
 use Rattle.irig_time.proofs.SecondAt.{second_is, claim_is}
 use Rattle.irig_hold.specs.Truth.{IsTrueTable}
 use Rattle.irig_reader.specs.declared.rules.ReaderRules.{ReaderRules}
 use Rattle.irig_reader.specs.declared.report.Cause.TheVariants.{Jump, RangeEnd}
 use Rattle.irig_reader.specs.declared.rule.State.{State}
-use Rattle.irig_reader.specs.Rule.{stepped, state_of}
-use Rattle.irig_reader.specs.Life.{vote_at_tick}
+use Rattle.irig_reader.specs.Rule.{step_of, state_of}
+use Rattle.irig_reader.specs.History.{vote_at_tick}
 use Rattle.irig_plant.specs.declared.event.Event.{Event}
 use Rattle.irig_plant.specs.declared.event.Event.TheVariants.{Tick, Restart}
 use Rattle.irig_plant.specs.declared.entry.Entry.{Entry}
-use Rattle.irig_plant.specs.Schedule.{Setup, setup_at, ticks_of, votes_of, life_of, entry_of, log_of}
+use Rattle.irig_plant.specs.Schedule.{Setup, setup_at, ticks_of, votes_of, history_of, entry_of, log_of}
 use Rattle.irig_plant.specs.Audits.{is_broken_now}
-use Rattle.irig_plant.specs.Headline.{IsKeptUpTo, StandsAtTruth, AnnouncesTruth}
+use Rattle.irig_plant.specs.Headline.{IsKeptUpTo, HasPremises, StandsAtTruth, AnnouncesTruth}
 use Rattle.irig_plant.proofs.HeadlineVotes.{vote_is_true}
 use Rattle.irig_plant.proofs.HeadlineRule.{IsTrueStep, alone_step, voted_step}
 
 -- one tick, by a vote that is true or none
-step_true : (t : Times) (n : ℕ) (own : ReaderRules) (table : Table) (state : State) (vote : Option Claim) → IsTimeline t → IsTrueTable t table → StandsAtTruth t n state
-    → (vote ≡ None) ⊎ (vote ≡ truth_at t n) → IsTrueStep t (n + 1) (stepped own table state vote)
+step_true : (t : TimelineValue) (n : ℕ) (own : ReaderRules) (table : TableValue) (state : State) (vote : Option Claim) → IsTimeline t → IsTrueTable t table → StandsAtTruth t n state
+    → (vote ≡ None) ⊎ (vote ≡ truth_at t n) → IsTrueStep t (n + 1) (step_of own table state vote)
 step_true t n own table state None sound true_table at vote = alone_step t n own table state sound true_table at
 step_true t n own table state (Some c) sound true_table at (inl none) = absurd cc
 step_true t n own table state (Some c) sound true_table at (inr truth) = voted_step t n own table state c sound ((claim_is t n c).0 (sym truth)) at
@@ -51,11 +51,11 @@ pub record IsFit (s : Setup) (r : ℕ) : Type 0 where
 
 abbrev now_step : Setup → ℕ → List Event → Type 0
 now_step s r ev =
-    IsTrueStep s.times (ticks_of r ev + 1) (stepped (setup_at s.readers r).rules (setup_at s.readers r).table (state_at s r ev) (vote_at_tick (life_of s r ev)))
+    IsTrueStep s.times (ticks_of r ev + 1) (step_of (setup_at s.readers r).rules (setup_at s.readers r).table (state_at s r ev) (vote_at_tick (history_of s r ev)))
 
 tick_true : (s : Setup) (r n : ℕ) (ev : List Event) → IsFit s r → IsKeptUpTo s r n (Tick r ∷ ev) → ticks_of r ev < n → StandsAtTruth s.times (ticks_of r ev) (state_at s r ev) → now_step s r ev
 tick_true s r n ev fit kept low at =
-    step_true s.times (ticks_of r ev) (setup_at s.readers r).rules (setup_at s.readers r).table (state_at s r ev) (vote_at_tick (life_of s r ev)) fit.sound fit.true_table at
+    step_true s.times (ticks_of r ev) (setup_at s.readers r).rules (setup_at s.readers r).table (state_at s r ev) (vote_at_tick (history_of s r ev)) fit.sound fit.true_table at
     (vote_is_true s r ev (kept_now s r n ev kept low))
 
 pub stands_at_truth : (s : Setup) (r n : ℕ) (ev : List Event) → IsFit s r → IsKeptUpTo s r n ev → ticks_of r ev ≤ n → StandsAtTruth s.times (ticks_of r ev) (state_at s r ev)
@@ -95,50 +95,54 @@ log_has s R keeps new (e ∷ ev) = λ i d low. keeps e ev (get_or (log_of s ev) 
 pub log_is_true : (s : Setup) (ev : List Event) → IsTimeline s.times → All (AnnouncesTruth s ev) (log_of s ev)
 log_is_true s ev sound = log_has s (AnnouncesTruth s) keeps new ev
   where
+    before : (x : Event) (ev : List Event) (e : Entry) → HasPremises s (x ∷ ev) e → HasPremises s ev e
+    before x ev e p = record { true_table = p.true_table; kept = kept_before s e.reader e.edge x ev p.kept }
+
     keeps : (x : Event) (ev : List Event) (e : Entry) → AnnouncesTruth s ev e → AnnouncesTruth s (x ∷ ev) e
-    keeps x ev e h = record { second = λ true_table kept u is. h.second true_table (kept_before s e.reader e.edge x ev kept) u is }
+    keeps x ev e h = record { second = λ p u is. h.second (before x ev e p) u is }
 
     new : (r : ℕ) (ev : List Event) → AnnouncesTruth s (Tick r ∷ ev) (entry_of s r ev)
     new r ev = record {
-      second = λ true_table kept u e.
-          (second_is s.times (ticks_of r ev + 1) u).1 ((last_step s r ev (record { sound = sound; true_table = true_table }) kept).says u e);
+      second = λ p u e.
+          (second_is s.times (ticks_of r ev + 1) u).1 ((last_step s r ev (record { sound = sound; true_table = p.true_table }) p.kept).says u e);
     }
 
-none_at : (t : Times) (n : ℕ) (o : Option UtcSecond) → o ≡ second_at t n → ((u : UtcSecond) → ¬ IsSecond t n u) → o ≡ None
+none_at : (t : TimelineValue) (n : ℕ) (o : Option UtcSecond) → o ≡ second_at t n → ((u : UtcSecond) → ¬ IsSecond t n u) → o ≡ None
 none_at t n None e ends = refl
 none_at t n (Some u) e ends = absurd (ends u ((second_is t n u).0 (sym e)))
 
 -- an entry tells no jump, and the end of the range only where there is no T of its edge
 pub record IsCalm (s : Setup) (ev : List Event) (e : Entry) : Type 0 where
-  pub jump : IsTrueTable s.times (setup_at s.readers e.reader).table → IsKeptUpTo s e.reader e.edge ev → ¬ (e.report.cause ≡ Jump)
-  pub range_end : IsTrueTable s.times (setup_at s.readers e.reader).table → IsKeptUpTo s e.reader e.edge ev
-      → e.report.cause ≡ RangeEnd → second_at s.times e.edge ≡ None
+  pub jump : HasPremises s ev e → ¬ (e.report.cause ≡ Jump)
+  pub range_end : HasPremises s ev e → e.report.cause ≡ RangeEnd → second_at s.times e.edge ≡ None
 
 pub log_keeps_calm : (s : Setup) (ev : List Event) → IsTimeline s.times → All (IsCalm s ev) (log_of s ev)
 log_keeps_calm s ev sound = log_has s (IsCalm s) keeps new ev
   where
+    before : (x : Event) (ev : List Event) (e : Entry) → HasPremises s (x ∷ ev) e → HasPremises s ev e
+    before x ev e p = record { true_table = p.true_table; kept = kept_before s e.reader e.edge x ev p.kept }
+
     keeps : (x : Event) (ev : List Event) (e : Entry) → IsCalm s ev e → IsCalm s (x ∷ ev) e
     keeps x ev e h = record {
-      jump = λ true_table kept. h.jump true_table (kept_before s e.reader e.edge x ev kept);
-      range_end = λ true_table kept is. h.range_end true_table (kept_before s e.reader e.edge x ev kept) is;
+      jump = λ p. h.jump (before x ev e p);
+      range_end = λ p is. h.range_end (before x ev e p) is;
     }
 
     new : (r : ℕ) (ev : List Event) → IsCalm s (Tick r ∷ ev) (entry_of s r ev)
     new r ev = record {
-      jump = λ true_table kept. (last_step s r ev (record { sound = sound; true_table = true_table }) kept).calm.jump;
-      range_end = λ true_table kept is.
+      jump = λ p. (last_step s r ev (record { sound = sound; true_table = p.true_table }) p.kept).calm.jump;
+      range_end = λ p is.
           none_at s.times (ticks_of r ev + 1) (second_at s.times (ticks_of r ev + 1)) refl
-          ((last_step s r ev (record { sound = sound; true_table = true_table }) kept).calm.range_end is);
+          ((last_step s r ev (record { sound = sound; true_table = p.true_table }) p.kept).calm.range_end is);
     }
 
 -- ---- two entries
 
 pub entries_agree : (s : Setup) (ev : List Event) (one other : Entry) (u v : UtcSecond) → AnnouncesTruth s ev one → AnnouncesTruth s ev other → one.edge ≡ other.edge
-    → IsTrueTable s.times (setup_at s.readers one.reader).table → IsTrueTable s.times (setup_at s.readers other.reader).table
-    → IsKeptUpTo s one.reader one.edge ev → IsKeptUpTo s other.reader other.edge ev
+    → HasPremises s ev one → HasPremises s ev other
     → one.report.announce ≡ Some u → other.report.announce ≡ Some v → u ≡ v
-entries_agree s ev one other u v truth truth' same table table' kept kept' said said' =
-    let first = truth.second table kept u said in
-    let then : second_at s.times one.edge ≡ Some v = rw same (truth'.second table' kept' v said') in
+entries_agree s ev one other u v truth truth' same premises premises' said said' =
+    let first = truth.second premises u said in
+    let then : second_at s.times one.edge ≡ Some v = rw same (truth'.second premises' v said') in
     let both : ◌≡◌ {A = Option UtcSecond} (Some u) (Some v) = sym first ∙ then in
     cc

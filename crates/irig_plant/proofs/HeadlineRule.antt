@@ -6,12 +6,12 @@ use Rattle.irig_time.specs.declared.second.UtcSecond.{UtcSecond}
 use Rattle.irig_time.specs.declared.mark.Mark.{Mark}
 use Rattle.irig_time.specs.declared.claim.Claim.{Claim}
 use Rattle.irig_time.specs.Next.{next_of}
-use Rattle.irig_time.specs.Times.{Times, IsSecond, IsTrueClaim}
+use Rattle.irig_time.specs.Timelines.{TimelineValue, IsSecond, IsTrueClaim}
 use Rattle.irig_time.specs.TimelineFaults.{IsTimeline}
-use Rattle.irig_time.specs.Tables.{Table, spoken_mark}
+use Rattle.irig_time.specs.Tables.{TableValue, spoken_mark}
 use Rattle.irig_hold.specs.declared.turn.Turn.{Turn}
 use Rattle.irig_hold.specs.declared.turn.Turn.TheVariants as turn
-use Rattle.irig_hold.specs.Steps.{Counter, stop_on, moved_if, outcome_of, started, voted_by, alone_by}
+use Rattle.irig_hold.specs.Steps.{HoldValue, stop_on, hold_or_stop, outcome_of, hold_start, voted_by, alone_by}
 use Rattle.irig_hold.specs.Truth.{IsTrueTable, IsOnTime, HasComeTo}
 use Rattle.irig_hold.proofs.HoldLaws.{voted_true, alone_true, started_true, voted_no_jump, voted_stops, started_stops, alone_end}
 use Rattle.irig_reader.specs.declared.rules.ReaderRules.{ReaderRules}
@@ -22,37 +22,37 @@ use Rattle.irig_reader.specs.declared.report.Cause.TheVariants as cause
 use Rattle.irig_reader.specs.declared.rule.State.{State}
 use Rattle.irig_reader.specs.declared.rule.State.TheVariants.{Idle, Acquiring, Locked}
 use Rattle.irig_reader.specs.declared.rule.Step.{Step}
-use Rattle.irig_reader.specs.Rule.{stopped, announced, counted, begun, joined_by, locked_by, stepped}
+use Rattle.irig_reader.specs.Rule.{stop_step, announcement, count_step, first_vote_step, later_vote_step_by, locked_step, step_of}
 use Rattle.irig_plant.specs.Headline.{StandsAtTruth}
 
 -- there is no T(n)
-abbrev Ends : Times → ℕ → Type 0
+abbrev Ends : TimelineValue → ℕ → Type 0
 Ends t n = (v : UtcSecond) → ¬ IsSecond t n v
 
 -- a cause that is no false alarm at edge n
-pub record IsTrueCause (t : Times) (n : ℕ) (c : Cause) : Type 0 where
+pub record IsTrueCause (t : TimelineValue) (n : ℕ) (c : Cause) : Type 0 where
   pub jump : ¬ (c ≡ cause.Jump)
   pub range_end : c ≡ cause.RangeEnd → Ends t n
 
 -- a step that leads to T(n), or nowhere, announces no other second, and tells a true cause
-pub record IsTrueStep (t : Times) (n : ℕ) (step : Step) : Type 0 where
+pub record IsTrueStep (t : TimelineValue) (n : ℕ) (step : Step) : Type 0 where
   pub state : StandsAtTruth t n step.state
   pub says : (u : UtcSecond) → step.report.announce ≡ Some u → IsSecond t n u
   pub calm : IsTrueCause t n step.report.cause
 
-stopped_true : (t : Times) (n : ℕ) (c : Cause) → IsTrueCause t n c → IsTrueStep t n (stopped c)
+stopped_true : (t : TimelineValue) (n : ℕ) (c : Cause) → IsTrueCause t n c → IsTrueStep t n (stop_step c)
 stopped_true t n c calm = record { state = tt; says = λ u e. absurd cc; calm = calm }
 
-announced_true : (t : Times) (n : ℕ) (h : Counter) (u : UtcSecond) (l : Lock) (c : Cause) → IsOnTime t n h → h.last ≡ u → IsTrueCause t n c → IsTrueStep t n (announced h u l c)
+announced_true : (t : TimelineValue) (n : ℕ) (h : HoldValue) (u : UtcSecond) (l : Lock) (c : Cause) → IsOnTime t n h → h.last ≡ u → IsTrueCause t n c → IsTrueStep t n (announcement h u l c)
 announced_true t n h u l c on_time last calm = record {
   state = on_time;
   says = λ v e. let same : h.last ≡ v = cc in subst (IsSecond t n) same on_time.last;
   calm = calm;
 }
 
-counted_true : (t : Times) (n : ℕ) (own : ReaderRules) (h : Counter) (count : ℕ) → IsOnTime t n h → IsTrueStep t n (counted own h count)
+counted_true : (t : TimelineValue) (n : ℕ) (own : ReaderRules) (h : HoldValue) (count : ℕ) → IsOnTime t n h → IsTrueStep t n (count_step own h count)
 counted_true t n own h count on_time =
-    either (count == own.lock_after) (announced h h.last lock.Locked cause.Voted) (record { state = Acquiring h count; report = record { announce = None; lock = lock.Acquiring count; cause = cause.Acquiring } })
+    either (count == own.lock_after) (announcement h h.last lock.Locked cause.Voted) (record { state = Acquiring h count; report = record { announce = None; lock = lock.Acquiring count; cause = cause.Acquiring } })
     (announced_true t n h h.last lock.Locked cause.Voted on_time refl (record { jump = λ e. cc; range_end = λ e. absurd cc }))
     (record { state = on_time; says = λ u e. absurd cc; calm = record { jump = λ e. cc; range_end = λ e. absurd cc } })
   where
@@ -62,16 +62,16 @@ counted_true t n own h count on_time =
 
 -- ---- a hold's stops
 
-guard_true : (t : Times) (n : ℕ) → IsTrueStep t n (stopped cause.LeapGuard)
+guard_true : (t : TimelineValue) (n : ℕ) → IsTrueStep t n (stop_step cause.LeapGuard)
 guard_true t n = stopped_true t n cause.LeapGuard (record { jump = λ e. cc; range_end = λ e. absurd cc })
 
-expired_true : (t : Times) (n : ℕ) → IsTrueStep t n (stopped cause.Expired)
+expired_true : (t : TimelineValue) (n : ℕ) → IsTrueStep t n (stop_step cause.Expired)
 expired_true t n = stopped_true t n cause.Expired (record { jump = λ e. cc; range_end = λ e. absurd cc })
 
-no_vote_true : (t : Times) (n : ℕ) → IsTrueStep t n (stopped cause.NoVote)
+no_vote_true : (t : TimelineValue) (n : ℕ) → IsTrueStep t n (stop_step cause.NoVote)
 no_vote_true t n = stopped_true t n cause.NoVote (record { jump = λ e. cc; range_end = λ e. absurd cc })
 
-end_true : (t : Times) (n : ℕ) → Ends t n → IsTrueStep t n (stopped cause.RangeEnd)
+end_true : (t : TimelineValue) (n : ℕ) → Ends t n → IsTrueStep t n (stop_step cause.RangeEnd)
 end_true t n ends = stopped_true t n cause.RangeEnd (record { jump = λ e. cc; range_end = λ e. ends })
 
 stop_no_jump : (day : ℕ) → ¬ (stop_on day ≡ turn.Jump)
@@ -81,15 +81,15 @@ stop_no_jump day e =
       | inr before ↦ let both : turn.LeapGuard ≡ turn.Jump = rw before at e in cc
     ]
 
-step_no_jump : (h : Counter) (u : UtcSecond) (age : ℕ) (mark : Mark) (o : Option UtcSecond) → ¬ ((outcome_of h (moved_if u age mark o)).answer ≡ turn.Jump)
+step_no_jump : (h : HoldValue) (u : UtcSecond) (age : ℕ) (mark : Mark) (o : Option UtcSecond) → ¬ ((outcome_of h (hold_or_stop u age mark o)).answer ≡ turn.Jump)
 step_no_jump h u age mark None e = stop_no_jump u.day e
 step_no_jump h u age mark (Some v) e = cc
 
-start_no_jump : (u : UtcSecond) (age : ℕ) (mark : Mark) (o : Option UtcSecond) → ¬ (moved_if u age mark o ≡ Err turn.Jump)
+start_no_jump : (u : UtcSecond) (age : ℕ) (mark : Mark) (o : Option UtcSecond) → ¬ (hold_or_stop u age mark o ≡ Err turn.Jump)
 start_no_jump u age mark None e = let stop : stop_on u.day ≡ turn.Jump = cc in stop_no_jump u.day stop
 start_no_jump u age mark (Some v) e = cc
 
-alone_no_jump : (table : Table) (h : Counter) (limit : ℕ) → ¬ ((alone_by table h limit).answer ≡ turn.Jump)
+alone_no_jump : (table : TableValue) (h : HoldValue) (limit : ℕ) → ¬ ((alone_by table h limit).answer ≡ turn.Jump)
 alone_no_jump table h limit e =
     elim (cases_Bool (nat_le limit h.age)) [
       | inl long ↦ let both : turn.Expired ≡ turn.Jump = rw long at e in cc
@@ -99,18 +99,18 @@ alone_no_jump table h limit e =
 -- ---- what a hold answers
 
 -- the hold begins at T(n), or there is none
-pub record BeginsTrue (t : Times) (n : ℕ) (first : Result Counter Turn) : Type 0 where
-  pub begins : (h : Counter) → first ≡ Ok h → IsOnTime t n h
+pub record BeginsTrue (t : TimelineValue) (n : ℕ) (first : Result HoldValue Turn) : Type 0 where
+  pub begins : (h : HoldValue) → first ≡ Ok h → IsOnTime t n h
   pub no_jump : ¬ (first ≡ Err turn.Jump)
   pub ends : first ≡ Err turn.RangeEnd → Ends t n
 
 -- the hold comes to T(n), or stops
-pub record AnswersTrue (t : Times) (n : ℕ) (answer : Turn) (h : Counter) : Type 0 where
+pub record AnswersTrue (t : TimelineValue) (n : ℕ) (answer : Turn) (h : HoldValue) : Type 0 where
   pub comes : (u : UtcSecond) → answer ≡ turn.Now u → HasComeTo t n u h
   pub no_jump : ¬ (answer ≡ turn.Jump)
   pub ends : answer ≡ turn.RangeEnd → Ends t n
 
-begun_true : (t : Times) (n : ℕ) (own : ReaderRules) (first : Result Counter Turn) → BeginsTrue t n first → IsTrueStep t n (begun own first)
+begun_true : (t : TimelineValue) (n : ℕ) (own : ReaderRules) (first : Result HoldValue Turn) → BeginsTrue t n first → IsTrueStep t n (first_vote_step own first)
 begun_true t n own (Ok h) first = counted_true t n own h 1 (first.begins h refl)
 begun_true t n own (Err (turn.Now u)) first = stopped_true t n cause.Held (record { jump = λ e. cc; range_end = λ e. absurd cc })
 begun_true t n own (Err turn.Jump) first = absurd (first.no_jump refl)
@@ -118,29 +118,29 @@ begun_true t n own (Err turn.LeapGuard) first = guard_true t n
 begun_true t n own (Err turn.Expired) first = expired_true t n
 begun_true t n own (Err turn.RangeEnd) first = end_true t n (first.ends refl)
 
-joined_true : (t : Times) (n : ℕ) (own : ReaderRules) (count : ℕ) (anew : Step) (answer : Turn) (h : Counter) → IsTrueStep t n anew → AnswersTrue t n answer h
-    → IsTrueStep t n (joined_by own count anew answer h)
+joined_true : (t : TimelineValue) (n : ℕ) (own : ReaderRules) (count : ℕ) (anew : Step) (answer : Turn) (h : HoldValue) → IsTrueStep t n anew → AnswersTrue t n answer h
+    → IsTrueStep t n (later_vote_step_by own count anew answer h)
 joined_true t n own count anew (turn.Now u) h first answered = counted_true t n own h (count + 1) (answered.comes u refl).on_time
 joined_true t n own count anew turn.Jump h first answered = first
 joined_true t n own count anew turn.LeapGuard h first answered = guard_true t n
 joined_true t n own count anew turn.Expired h first answered = expired_true t n
 joined_true t n own count anew turn.RangeEnd h first answered = end_true t n (answered.ends refl)
 
-locked_true : (t : Times) (n : ℕ) (l : Lock) (c : Cause) (answer : Turn) (h : Counter) → IsTrueCause t n c → AnswersTrue t n answer h → IsTrueStep t n (locked_by l c answer h)
+locked_true : (t : TimelineValue) (n : ℕ) (l : Lock) (c : Cause) (answer : Turn) (h : HoldValue) → IsTrueCause t n c → AnswersTrue t n answer h → IsTrueStep t n (locked_step l c answer h)
 locked_true t n l c (turn.Now u) h calm answered = announced_true t n h u l c (answered.comes u refl).on_time (answered.comes u refl).last calm
 locked_true t n l c turn.Jump h calm answered = absurd (answered.no_jump refl)
 locked_true t n l c turn.LeapGuard h calm answered = guard_true t n
 locked_true t n l c turn.Expired h calm answered = expired_true t n
 locked_true t n l c turn.RangeEnd h calm answered = end_true t n (answered.ends refl)
 
-starts : (t : Times) (n : ℕ) (table : Table) (c : Claim) → IsTimeline t → IsTrueClaim t (n + 1) c → BeginsTrue t (n + 1) (started table c)
+starts : (t : TimelineValue) (n : ℕ) (table : TableValue) (c : Claim) → IsTimeline t → IsTrueClaim t (n + 1) c → BeginsTrue t (n + 1) (hold_start table c)
 starts t n table c sound claim = record {
   begins = λ h e. started_true t table n c h sound claim e;
   no_jump = start_no_jump c.at 0 c.mark (next_of c.at (spoken_mark table c.mark c.at.day));
   ends = (started_stops t table n c sound claim).1.0;
 }
 
-follows : (t : Times) (n : ℕ) (table : Table) (h : Counter) (c : Claim) → IsTimeline t → IsTrueClaim t (n + 1) c → IsOnTime t n h
+follows : (t : TimelineValue) (n : ℕ) (table : TableValue) (h : HoldValue) (c : Claim) → IsTimeline t → IsTrueClaim t (n + 1) c → IsOnTime t n h
     → AnswersTrue t (n + 1) (voted_by table h c).answer (voted_by table h c).new
 follows t n table h c sound claim on_time = record {
   comes = λ u e. voted_true t table n h c u sound on_time claim e;
@@ -148,7 +148,7 @@ follows t n table h c sound claim on_time = record {
   ends = (voted_stops t table n h c sound on_time.last claim).1.0;
 }
 
-goes_alone : (t : Times) (n limit : ℕ) (table : Table) (h : Counter) → IsTimeline t → IsTrueTable t table → IsOnTime t n h
+goes_alone : (t : TimelineValue) (n limit : ℕ) (table : TableValue) (h : HoldValue) → IsTimeline t → IsTrueTable t table → IsOnTime t n h
     → AnswersTrue t (n + 1) (alone_by table h limit).answer (alone_by table h limit).new
 goes_alone t n limit table h sound true_table on_time = record {
   comes = λ u e. alone_true t table n limit h u sound true_table on_time e;
@@ -159,9 +159,9 @@ goes_alone t n limit table h sound true_table on_time = record {
 -- ---- one edge
 
 -- by no vote
-pub alone_step : (t : Times) (n : ℕ) (own : ReaderRules) (table : Table) (state : State) → IsTimeline t → IsTrueTable t table → StandsAtTruth t n state
-    → IsTrueStep t (n + 1) (stepped own table state None)
-unfolding stepped
+pub alone_step : (t : TimelineValue) (n : ℕ) (own : ReaderRules) (table : TableValue) (state : State) → IsTimeline t → IsTrueTable t table → StandsAtTruth t n state
+    → IsTrueStep t (n + 1) (step_of own table state None)
+unfolding step_of
 alone_step t n own table Idle sound true_table on_time = no_vote_true t (n + 1)
 alone_step t n own table (Acquiring h count) sound true_table on_time = no_vote_true t (n + 1)
 alone_step t n own table (Locked h) sound true_table on_time =
@@ -169,12 +169,12 @@ alone_step t n own table (Locked h) sound true_table on_time =
     (goes_alone t n own.holdover table h sound true_table on_time)
 
 -- by a true vote
-pub voted_step : (t : Times) (n : ℕ) (own : ReaderRules) (table : Table) (state : State) (c : Claim) → IsTimeline t → IsTrueClaim t (n + 1) c → StandsAtTruth t n state
-    → IsTrueStep t (n + 1) (stepped own table state (Some c))
-unfolding stepped
-voted_step t n own table Idle c sound claim on_time = begun_true t (n + 1) own (started table c) (starts t n table c sound claim)
+pub voted_step : (t : TimelineValue) (n : ℕ) (own : ReaderRules) (table : TableValue) (state : State) (c : Claim) → IsTimeline t → IsTrueClaim t (n + 1) c → StandsAtTruth t n state
+    → IsTrueStep t (n + 1) (step_of own table state (Some c))
+unfolding step_of
+voted_step t n own table Idle c sound claim on_time = begun_true t (n + 1) own (hold_start table c) (starts t n table c sound claim)
 voted_step t n own table (Acquiring h count) c sound claim on_time =
-    joined_true t (n + 1) own count _ (voted_by table h c).answer (voted_by table h c).new (begun_true t (n + 1) own (started table c) (starts t n table c sound claim))
+    joined_true t (n + 1) own count _ (voted_by table h c).answer (voted_by table h c).new (begun_true t (n + 1) own (hold_start table c) (starts t n table c sound claim))
     (follows t n table h c sound claim on_time)
 voted_step t n own table (Locked h) c sound claim on_time =
     locked_true t (n + 1) _ cause.Voted (voted_by table h c).answer (voted_by table h c).new (record { jump = λ e. cc; range_end = λ e. absurd cc }) (follows t n table h c sound claim on_time)

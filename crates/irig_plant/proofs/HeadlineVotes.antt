@@ -3,15 +3,17 @@ use Rattle.std.proofs.Common.{◌≡◌, ℕ, ◌+◌, ◌≤◌, Bool, true, fa
 use Rattle.std.proofs.lemmas.Bool.{cases_Bool, ltb-false}
 use Rattle.std.proofs.lemmas.List.Sums.{sum_by-cons}
 use Rattle.irig_time.specs.declared.claim.Claim.{Claim}
-use Rattle.irig_time.specs.Times.{truth_at}
+use Rattle.irig_time.specs.Timelines.{truth_at}
 use Rattle.irig_port.specs.declared.told.Told.{Told}
 use Rattle.irig_vote.specs.declared.redundancy.Redundancy.{Redundancy}
 use Rattle.irig_vote.specs.declared.tells.Tells.{Tells}
-use Rattle.irig_vote.specs.Vote.{f_of, ports_of, same_claim, is_told, carriers, vote_of}
+use Rattle.irig_time.specs.Claims.{same_claim}
+use Rattle.irig_vote.specs.Vote.{f_of, ports_of, is_told, carriers, vote_of}
 use Rattle.irig_vote.proofs.CountLaws.{told_is, same_is, carriers-cons, none_of, vote_counts}
-use Rattle.irig_reader.specs.Life.{tells as told_at, vote_at_tick}
+use Rattle.irig_reader.specs.History.{told_at_tick, vote_at_tick}
 use Rattle.irig_plant.specs.declared.event.Event.{Event}
-use Rattle.irig_plant.specs.Schedule.{Setup, redundancy_of, ticks_of, life_of}
+use Rattle.irig_vote.specs.Vote.{redundancy_of}
+use Rattle.irig_plant.specs.Schedule.{Setup, ticks_of, history_of}
 use Rattle.irig_plant.specs.Audits.{differs, is_untrue, untrue_ports, is_broken_now}
 
 untrue-cons : (truth : Option Claim) (t : Told) (ts : List Told) → untrue_ports truth (t ∷ ts) ≡ cond (is_untrue truth t) 1 0 + untrue_ports truth ts
@@ -52,9 +54,9 @@ true_vote t r truth None few e = inl refl
 true_vote t r truth (Some c) few e = inr (sym (voted_is_true t r truth c few (sym e)))
 
 pub vote_is_true : (s : Setup) (r : ℕ) (ev : List Event) → is_broken_now s r ev ≡ false
-    → (vote_at_tick (life_of s r ev) ≡ None) ⊎ (vote_at_tick (life_of s r ev) ≡ truth_at s.times (ticks_of r ev))
+    → (vote_at_tick (history_of s r ev) ≡ None) ⊎ (vote_at_tick (history_of s r ev) ≡ truth_at s.times (ticks_of r ev))
 vote_is_true s r ev kept =
     let redundancy = redundancy_of (length s.generators) in
-    let told = told_at (life_of s r ev) in
+    let told = told_at_tick (history_of s r ev) in
     let truth = truth_at s.times (ticks_of r ev) in
-    true_vote told redundancy truth (vote_at_tick (life_of s r ev)) (ltb-false (f_of redundancy) (untrue_ports truth (ports_of told redundancy)) kept) refl
+    true_vote told redundancy truth (vote_at_tick (history_of s r ev)) (ltb-false (f_of redundancy) (untrue_ports truth (ports_of told redundancy)) kept) refl

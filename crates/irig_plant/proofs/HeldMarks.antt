@@ -8,18 +8,18 @@ use Rattle.irig_time.specs.declared.leap.Leap.TheVariants as leap
 use Rattle.irig_time.specs.declared.mark.Mark.{Mark}
 use Rattle.irig_time.specs.declared.mark.Mark.TheVariants.{Unspoken}
 use Rattle.irig_time.specs.Days.{is_month_end}
-use Rattle.irig_time.specs.Times.{Times, leap_of, day_length, mark_by, seconds_in, IsSecond, true_mark}
-use Rattle.irig_time.specs.Tables.{Table}
+use Rattle.irig_time.specs.Timelines.{TimelineValue, leap_of, day_length, mark_by, seconds_in, IsSecond, true_mark}
+use Rattle.irig_time.specs.Tables.{TableValue}
 use Rattle.irig_time.proofs.TimeLaws.{length_bounds, seconds_to_next, seconds_before_later, in_order, same_second, one_second, new_day}
-use Rattle.irig_hold.specs.Steps.{Counter, mark_or, mark_kept, moved}
+use Rattle.irig_hold.specs.Steps.{HoldValue, mark_or, mark_kept, hold_after}
 use Rattle.irig_hold.specs.Truth.{IsOnTime, IsGuarded}
 
 -- what a hold has heard whose last vote told the second that lies so many seconds before u: the mark of that vote, on the same day
-abbrev pub heard_at : Times → UtcSecond → ℕ → Mark
+abbrev pub heard_at : TimelineValue → UtcSecond → ℕ → Mark
 heard_at t u since = if is_month_end u.day && nat_le (86341 + since) u.sod then mark_by (leap_of t.leaps u.day) else Unspoken
 
 -- a hold that has come to T(n) from its last vote, and has not passed the guard without a mark
-pub record IsTrueHold (t : Times) (table : Table) (n : ℕ) (h : Counter) : Type 0 where
+pub record IsTrueHold (t : TimelineValue) (table : TableValue) (n : ℕ) (h : HoldValue) : Type 0 where
   pub at : IsSecond t n h.last
   pub heard : h.heard ≡ heard_at t h.last (h.age + 1)
   pub past_58 : h.last.sod ≡ 86399 → ¬ IsGuarded table h
@@ -28,7 +28,7 @@ by_test : (b : Bool) (m : Mark) → (cond b m Unspoken ≡ Unspoken) ⊎ (cond b
 by_test true m = inr refl
 by_test false m = inl refl
 
-pub on_time : (t : Times) (table : Table) (n : ℕ) (h : Counter) → IsTrueHold t table n h → IsOnTime t n h
+pub on_time : (t : TimelineValue) (table : TableValue) (n : ℕ) (h : HoldValue) → IsTrueHold t table n h → IsOnTime t n h
 on_time t table n h a = record {
   last = a.at;
   heard = elim (by_test (is_month_end h.last.day && nat_le (86341 + (h.age + 1)) h.last.sod) (mark_by (leap_of t.leaps h.last.day))) [
@@ -45,7 +45,7 @@ plain u = record { day = u.day; sod = u.sod + 1 }
 abbrev turned : UtcSecond → UtcSecond
 turned u = record { day = u.day + 1; sod = 0 }
 
-after : (t : Times) (n : ℕ) (u v : UtcSecond) → IsSecond t n u → IsSecond t (n + 1) v → (v ≡ plain u) ⊎ (v ≡ turned u)
+after : (t : TimelineValue) (n : ℕ) (u v : UtcSecond) → IsSecond t n u → IsSecond t (n + 1) v → (v ≡ plain u) ⊎ (v ≡ turned u)
 after t n u v a b =
     elim (cases_order u.day v.day) [
       | inl same ↦
@@ -66,7 +66,7 @@ leb_same a b c d f g =
       | inr e ↦ e ∙ sym (lt-leb c d (elim (cases_Bool (nat_le c d)) [ inl q ↦ absurd (false≢true (sym e ∙ le-leb a b (g (leb-true c d q)))) | inr q ↦ leb-false c d q ]))
     ]
 
-heard_plain : (t : Times) (u : UtcSecond) (since : ℕ) (m : Mark) → m ≡ heard_at t u since → mark_kept u.day u.day m ≡ heard_at t (plain u) (since + 1)
+heard_plain : (t : TimelineValue) (u : UtcSecond) (since : ℕ) (m : Mark) → m ≡ heard_at t u since → mark_kept u.day u.day m ≡ heard_at t (plain u) (since + 1)
 heard_plain t u since m e =
     let same : nat_le (86341 + since) u.sod ≡ nat_le (86341 + (since + 1)) (u.sod + 1) = leb_same (86341 + since) u.sod (86341 + (since + 1)) (u.sod + 1) (λ h. omega arith) (λ h. omega arith) in
     let kept : m ≡ heard_at t (plain u) (since + 1) = e ∙ ap (λ (b : Bool). cond (is_month_end u.day && b) (mark_by (leap_of t.leaps u.day)) Unspoken) same in
@@ -76,7 +76,7 @@ and_none : (b c : Bool) (m : Mark) → c ≡ false → cond (b && c) m Unspoken 
 and_none true c m e = rw e refl
 and_none false c m e = refl
 
-heard_turned : (t : Times) (u : UtcSecond) (since : ℕ) (m : Mark) → mark_kept u.day (u.day + 1) m ≡ heard_at t (turned u) (since + 1)
+heard_turned : (t : TimelineValue) (u : UtcSecond) (since : ℕ) (m : Mark) → mark_kept u.day (u.day + 1) m ≡ heard_at t (turned u) (since + 1)
 heard_turned t u since m =
     let other : (u.day == (u.day + 1)) ≡ false = ne_eqb u.day (u.day + 1) (λ e. omega (arith, e)) in
     let early : nat_le (86341 + (since + 1)) 0 ≡ false = lt-leb (86341 + (since + 1)) 0 (omega arith) in
@@ -84,18 +84,18 @@ heard_turned t u since m =
     rw other (sym none)
 
 -- the mark m doesn't leave the guard closed at u
-abbrev pub IsOpen : Table → UtcSecond → Mark → Type 0
+abbrev pub IsOpen : TableValue → UtcSecond → Mark → Type 0
 IsOpen table u m = u.sod ≡ 86398 → is_month_end u.day ≡ true → m ≡ Unspoken → ¬ (table.until < u.day)
 
-pub moved_true : (t : Times) (table : Table) (n : ℕ) (u v : UtcSecond) (since : ℕ) (m : Mark) → IsSecond t n u → IsSecond t (n + 1) v → (u.sod ≤ 86399 → m ≡ heard_at t u since)
-    → IsOpen table u m → IsTrueHold t table (n + 1) (moved u since m v)
+pub moved_true : (t : TimelineValue) (table : TableValue) (n : ℕ) (u v : UtcSecond) (since : ℕ) (m : Mark) → IsSecond t n u → IsSecond t (n + 1) v → (u.sod ≤ 86399 → m ≡ heard_at t u since)
+    → IsOpen table u m → IsTrueHold t table (n + 1) (hold_after u since m v)
 moved_true t table n u v since m a b heard free =
     elim (after t n u v a b) [
-      | inl e ↦ subst (λ (w : UtcSecond). IsTrueHold t table (n + 1) (moved u since m w)) (sym e) (goes (subst (λ (w : UtcSecond). IsSecond t (n + 1) w) e b))
-      | inr e ↦ subst (λ (w : UtcSecond). IsTrueHold t table (n + 1) (moved u since m w)) (sym e) (turns (subst (λ (w : UtcSecond). IsSecond t (n + 1) w) e b))
+      | inl e ↦ subst (λ (w : UtcSecond). IsTrueHold t table (n + 1) (hold_after u since m w)) (sym e) (goes (subst (λ (w : UtcSecond). IsSecond t (n + 1) w) e b))
+      | inr e ↦ subst (λ (w : UtcSecond). IsTrueHold t table (n + 1) (hold_after u since m w)) (sym e) (turns (subst (λ (w : UtcSecond). IsSecond t (n + 1) w) e b))
     ]
   where
-    goes : IsSecond t (n + 1) (plain u) → IsTrueHold t table (n + 1) (moved u since m (plain u))
+    goes : IsSecond t (n + 1) (plain u) → IsTrueHold t table (n + 1) (hold_after u since m (plain u))
     goes c = record {
       at = c;
       heard = heard_plain t u since m (heard (omega (arith, c.sod, length_bounds (leap_of t.leaps u.day))));
@@ -104,7 +104,7 @@ moved_true t table n u v since m a b heard free =
           free (omega (arith, late)) g.end kept g.above;
     }
 
-    turns : IsSecond t (n + 1) (turned u) → IsTrueHold t table (n + 1) (moved u since m (turned u))
+    turns : IsSecond t (n + 1) (turned u) → IsTrueHold t table (n + 1) (hold_after u since m (turned u))
     turns c = record { at = c; heard = heard_turned t u since m; past_58 = λ late g. omega (arith, late) }
 
 -- ---- marks of true claims
@@ -119,7 +119,7 @@ mark_or_it None m = refl
 mark_or_it (Some leap.Insert) m = refl
 mark_or_it (Some leap.Delete) m = refl
 
-pub true_mark_low : (t : Times) (u : UtcSecond) → u.sod ≤ 86399 → true_mark t.leaps u ≡ heard_at t u 0
+pub true_mark_low : (t : TimelineValue) (u : UtcSecond) → u.sod ≤ 86399 → true_mark t.leaps u ≡ heard_at t u 0
 true_mark_low t u low =
     elim (cases_Bool (is_month_end u.day)) [
       | inr mid ↦ rw mid refl
@@ -136,33 +136,33 @@ heard_by l true true c f = mark_or_it l (cond c (mark_by l) Unspoken)
 heard_by l true false true f = absurd (false≢true (f refl))
 heard_by l true false false f = refl
 
-pub voted_mark : (t : Times) (u : UtcSecond) (since : ℕ) → mark_or (heard_at t u 0) (heard_at t u since) ≡ heard_at t u 0
+pub voted_mark : (t : TimelineValue) (u : UtcSecond) (since : ℕ) → mark_or (heard_at t u 0) (heard_at t u since) ≡ heard_at t u 0
 voted_mark t u since =
     heard_by (leap_of t.leaps u.day) (is_month_end u.day) (nat_le (86341 + 0) u.sod) (nat_le (86341 + since) u.sod)
     (λ e. let far : 86341 + since ≤ u.sod = leb-true (86341 + since) u.sod e in le-leb (86341 + 0) u.sod (omega arith))
 
 -- a mark of that second opens the guard
-pub vote_opens : (t : Times) (table : Table) (u : UtcSecond) (m : Mark) → (u.sod ≤ 86399 → m ≡ heard_at t u 0) → IsOpen table u m
+pub vote_opens : (t : TimelineValue) (table : TableValue) (u : UtcSecond) (m : Mark) → (u.sod ≤ 86399 → m ≡ heard_at t u 0) → IsOpen table u m
 vote_opens t table u m heard at end none above =
     let late : nat_le (86341 + 0) u.sod ≡ true = le-leb (86341 + 0) u.sod (omega (arith, at)) in
     let spoken : heard_at t u 0 ≡ mark_by (leap_of t.leaps u.day) = rw (end, late) refl in
     mark_speaks (leap_of t.leaps u.day) (sym spoken ∙ sym (heard (omega (arith, at))) ∙ none)
 
 -- the guard stops a hold after 57 seconds of the last minute without a vote, and not before
-pub unheard_since : (t : Times) (u : UtcSecond) (since : ℕ) → is_month_end u.day ≡ true → heard_at t u since ≡ Unspoken → u.sod < 86341 + since
+pub unheard_since : (t : TimelineValue) (u : UtcSecond) (since : ℕ) → is_month_end u.day ≡ true → heard_at t u since ≡ Unspoken → u.sod < 86341 + since
 unheard_since t u since end none =
     elim (cases_Bool (nat_le (86341 + since) u.sod)) [
       | inl far ↦ let spoken : heard_at t u since ≡ mark_by (leap_of t.leaps u.day) = rw (end, far) refl in absurd (mark_speaks (leap_of t.leaps u.day) (sym spoken ∙ none))
       | inr near ↦ leb-false (86341 + since) u.sod near
     ]
 
-pub unheard_by : (t : Times) (u : UtcSecond) (since : ℕ) → u.sod < 86341 + since → heard_at t u since ≡ Unspoken
+pub unheard_by : (t : TimelineValue) (u : UtcSecond) (since : ℕ) → u.sod < 86341 + since → heard_at t u since ≡ Unspoken
 unheard_by t u since near =
     and_none (is_month_end u.day) (nat_le (86341 + since) u.sod) (mark_by (leap_of t.leaps u.day)) (lt-leb (86341 + since) u.sod near)
 
 -- ---- the second before: T has no gap
 
-pub second_before : (t : Times) (n : ℕ) (v : UtcSecond) → IsSecond t (n + 1) v → (u : UtcSecond) × IsSecond t n u
+pub second_before : (t : TimelineValue) (n : ℕ) (v : UtcSecond) → IsSecond t (n + 1) v → (u : UtcSecond) × IsSecond t n u
 second_before t n v b =
     elim (cases_lt 0 v.sod) [
       | inl later ↦ (record { day = v.day; sod = v.sod - 1 }, record { from = b.from; to = b.to; sod = omega (arith, b.sod); sum = omega (arith, later, b.sum) })

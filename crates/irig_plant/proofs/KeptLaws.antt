@@ -1,7 +1,7 @@
 -- A log tells the truth where all premises hold.
-use Rattle.std.proofs.Common.{◌≡◌, ℕ, zero, suc, ◌<◌, ◌≤◌, All, Bool, true, false, cond, List, [], ◌∷◌, Some, None, refl, nat_lt, arith, rules}
+use Rattle.std.proofs.Common.{◌≡◌, ℕ, zero, suc, ◌≤◌, All, Bool, true, false, cond, List, [], ◌∷◌, Some, None, refl, nat_lt, arith, rules}
 use Rattle.std.proofs.lemmas.List.Elements.{All-head, All-tail}
-use Rattle.irig_time.specs.Times.{Times, day_length}
+use Rattle.irig_time.specs.Timelines.{TimelineValue, day_length}
 use Rattle.irig_time.specs.declared.timeline.TimelineFault.TheVariants.{BadStart}
 use Rattle.irig_time.specs.Tables.{table}
 use Rattle.irig_time.specs.TimelineFaults.{first_leap_fault, start_fault, IsTimeline}
@@ -19,17 +19,17 @@ served_start true c d h = absurd cc
 served_start false c d h = refl
 
 -- a timeline begins with day 1 at the earliest
-starts_late : (t : Times) → IsTimeline t → 1 ≤ t.start.day
+starts_late : (t : TimelineValue) → IsTimeline t → 1 ≤ t.start.day
 starts_late t h =
     let start = (neither (first_leap_fault [] t.leaps) (start_fault t.leaps t.start) h.sound).1 in
     let test : nat_lt t.start.day 1 ≡ false = served_start (nat_lt t.start.day 1) (nat_lt 36523 t.start.day) (nat_lt t.start.sod (day_length t.leaps t.start.day)) start in
     search rules
 
 -- a table that speaks of no day is true
-empty_true : (t : Times) → 1 ≤ t.start.day → IsTrueTable t (table 0 [])
+empty_true : (t : TimelineValue) → 1 ≤ t.start.day → IsTrueTable t (table 0 [])
 empty_true t late = record { leaps = λ day end from to. absurd (omega (arith, late, from, to)) }
 
-table_true : (t : Times) (readers : List ReaderSetup) (r : ℕ) → 1 ≤ t.start.day → All EndsServed readers → All (HasTrueTable t) readers → IsTrueTable t (setup_at readers r).table
+table_true : (t : TimelineValue) (readers : List ReaderSetup) (r : ℕ) → 1 ≤ t.start.day → All EndsServed readers → All (HasTrueTable t) readers → IsTrueTable t (setup_at readers r).table
 table_true t [] r late ends tables = empty_true t late
 table_true t (x ∷ xs) zero late ends tables = true_by_test t x.table (All-head EndsServed x xs ends) (All-head (HasTrueTable t) x xs tables)
 table_true t (x ∷ xs) (suc r) late ends tables = table_true t xs r late (All-tail EndsServed x xs ends) (All-tail (HasTrueTable t) x xs tables)
@@ -37,5 +37,6 @@ table_true t (x ∷ xs) (suc r) late ends tables = table_true t xs r late (All-t
 pub kept_log_is_true : (s : Setup) (ev : List Event) → IsTimeline s.times → All EndsServed s.readers → IsKept s ev → All (IsTruthful s.times) (log_of s ev)
 kept_log_is_true s ev sound ends kept = λ k d lt.
     record {
-      second = λ u announces. (log_is_true s ev sound k d lt).second (table_true s.times s.readers _ (starts_late s.times sound) ends kept.tables) (kept.ticks _ _) u announces;
+      second = λ u announces. (log_is_true s ev sound k d lt).second
+          (record { true_table = table_true s.times s.readers _ (starts_late s.times sound) ends kept.tables; kept = kept.ticks _ _ }) u announces;
     }

@@ -4,18 +4,18 @@ use Rattle.std.proofs.Common.{◌≡◌, ℕ, ◌+◌, ◌≤◌, true, false, [
 use Rattle.std.proofs.lemmas.Bool.{false≢true, cases_eq}
 use Rattle.irig_time.specs.declared.claim.Claim.{Claim}
 use Rattle.irig_time.specs.declared.mark.Mark.TheVariants.{Unspoken, NoLeap}
-use Rattle.irig_time.specs.Times.{Times}
-use Rattle.irig_time.specs.Tables.{Table}
+use Rattle.irig_time.specs.Timelines.{TimelineValue}
+use Rattle.irig_time.specs.Tables.{TableValue}
 use Rattle.irig_port.specs.declared.told.Told.TheVariants as tells
 use Rattle.irig_frame.specs.declared.symbol.Symbol.TheVariants.{Zero, One, Marker}
 use Rattle.irig_gen.specs.declared.fault.GenFault.TheVariants.{Silent, Stuck}
 use Rattle.irig_plant.specs.declared.event.Event.TheVariants.{GenEdge, Tick, Raw, Fault, Repair, Restart}
 use Rattle.irig_plant.specs.declared.audit.Audit.TheVariants.{Kept, Broken, FalseTable}
-use Rattle.irig_plant.specs.Widths.{widths_of, damaged}
+use Rattle.irig_plant.specs.Widths.{widths_of, with_damage}
 use Rattle.irig_plant.specs.Schedule.{Setup, generator_at, heard_at, ticks_of}
-use Rattle.irig_plant.specs.Runs.{played}
+use Rattle.irig_plant.specs.Runs.{events_after}
 use Rattle.irig_plant.specs.Audits.{place, verdict}
-use Rattle.irig_plant.specs.Edges.{is_carried, is_voted_now, is_voted, is_restarted, Course, IsHeld, HasVote}
+use Rattle.irig_plant.specs.Edges.{is_carried, is_voted_now, is_voted, is_restarted, VotedEdges, IsHeld, HasVote}
 
 -- of any plant
 module _ (s : Setup) where
@@ -60,14 +60,14 @@ no_widths : widths_of None ≡ []
 no_widths = refl
 
 -- one element is damaged, and none past the last
-one_damaged : damaged 1 100 (8000 ∷ 5000 ∷ 2000 ∷ []) ≡ 8000 ∷ 100 ∷ 2000 ∷ []
+one_damaged : with_damage 1 100 (8000 ∷ 5000 ∷ 2000 ∷ []) ≡ 8000 ∷ 100 ∷ 2000 ∷ []
 one_damaged = refl
 
-none_damaged : damaged 3 100 (8000 ∷ 5000 ∷ 2000 ∷ []) ≡ 8000 ∷ 5000 ∷ 2000 ∷ []
+none_damaged : with_damage 3 100 (8000 ∷ 5000 ∷ 2000 ∷ []) ≡ 8000 ∷ 5000 ∷ 2000 ∷ []
 none_damaged = refl
 
 -- a run adds its events, the last one newest
-run_adds : played (Tick 0 ∷ Restart 0 ∷ []) (Tick 1 ∷ []) ≡ Restart 0 ∷ Tick 0 ∷ Tick 1 ∷ []
+run_adds : events_after (Tick 0 ∷ Restart 0 ∷ []) (Tick 1 ∷ []) ≡ Restart 0 ∷ Tick 0 ∷ Tick 1 ∷ []
 run_adds = refl
 
 -- a false table goes before a broken tick
@@ -117,8 +117,8 @@ not_carried_by_one : is_carried 1 (tells.Claim noon ∷ tells.Silence ∷ tells.
 not_carried_by_one = refl
 
 -- a reader that locks after 2 votes and holds over for 1 edge, of which edges 1 and 2 are voted, is held at 2 and 3 alone
-module _ (t : Times) (table : Table) where
-  abbrev two_votes : Course
+module _ (t : TimelineValue) (table : TableValue) where
+  abbrev two_votes : VotedEdges
   two_votes = record { times = t; own = record { lock_after = 2; holdover = 1 }; table = table; voted = λ i. (i == 1) || (i == 2); restarted = λ i. false }
 
   vote_at_2 : (j : ℕ) → 2 ≤ j → j ≤ 3 → HasVote two_votes 2 j 1

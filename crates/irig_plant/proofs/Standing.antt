@@ -5,23 +5,23 @@ use Rattle.std.proofs.lemmas.Bool.{false≢true, cases_Bool, cases_lt}
 use Rattle.std.proofs.lemmas.List.{append_assoc, get_or_past}
 use Rattle.irig_time.specs.declared.second.UtcSecond.{UtcSecond}
 use Rattle.irig_time.specs.declared.claim.Claim.{Claim}
-use Rattle.irig_time.specs.Times.{Times, second_at, IsTrueClaim}
-use Rattle.irig_time.specs.Tables.{Table}
+use Rattle.irig_time.specs.Timelines.{TimelineValue, second_at, IsTrueClaim}
+use Rattle.irig_time.specs.Tables.{TableValue}
 use Rattle.irig_time.proofs.SecondAt.{second_is}
 use Rattle.irig_reader.specs.declared.rules.ReaderRules.{ReaderRules}
 use Rattle.irig_reader.specs.declared.report.Cause.TheVariants as cause
 use Rattle.irig_reader.specs.declared.rule.State.{State}
 use Rattle.irig_reader.specs.declared.rule.State.TheVariants.{Idle, Acquiring, Locked}
 use Rattle.irig_reader.specs.declared.rule.Step.{Step}
-use Rattle.irig_reader.specs.Rule.{stopped, stepped}
-use Rattle.irig_reader.specs.Life.{vote_at_tick}
+use Rattle.irig_reader.specs.Rule.{stop_step, step_of}
+use Rattle.irig_reader.specs.History.{vote_at_tick}
 use Rattle.irig_plant.specs.declared.event.Event.{Event}
 use Rattle.irig_plant.specs.declared.event.Event.TheVariants.{Tick, Restart}
 use Rattle.irig_plant.specs.declared.setup.ReaderSetup.{ReaderSetup}
-use Rattle.irig_plant.specs.Schedule.{Setup, no_reader, setup_at, ticks_of, life_of}
+use Rattle.irig_plant.specs.Schedule.{Setup, no_reader, setup_at, ticks_of, history_of}
 use Rattle.irig_plant.specs.Audits.{is_broken_now}
 use Rattle.irig_plant.specs.Headline.{IsKeptUpTo}
-use Rattle.irig_plant.specs.Edges.{Course, course_of, is_voted, is_restarted, CanLock}
+use Rattle.irig_plant.specs.Edges.{VotedEdges, voted_edges_of, is_voted, is_restarted, CanLock}
 use Rattle.irig_plant.proofs.Headline.{IsFit, state_at}
 use Rattle.irig_plant.proofs.HeldMarks.{second_before}
 use Rattle.irig_plant.proofs.CourseLaws.{voted_at, restarted_before, restarted_at, none_restarted, none_voted, vote_is_there, vote_is_right}
@@ -29,7 +29,7 @@ use Rattle.irig_plant.proofs.TickLaws.{Standing, Ready, Ticked, live, over, tick
 
 -- ---- where T(n) is there, and where the years have ended
 
-pub data Stood (x : Course) (n : ℕ) (state : State) : Type 0 where
+pub data Stood (x : VotedEdges) (n : ℕ) (state : State) : Type 0 where
   alive : Standing x n state → Stood x n state
   ended : second_at x.times n ≡ None → state ≡ Idle → Stood x n state
 
@@ -39,16 +39,16 @@ Unbroken restarted Idle = ⊤
 Unbroken restarted (Acquiring h count) = restarted ≡ false
 Unbroken restarted (Locked h) = restarted ≡ false
 
-pub record IsStanding (x : Course) (n : ℕ) (state : State) (restarted : Bool) : Type 0 where
+pub record IsStanding (x : VotedEdges) (n : ℕ) (state : State) (restarted : Bool) : Type 0 where
   pub stood : Stood x n state
   pub unbroken : Unbroken restarted state
 
-ready : (x : Course) (n : ℕ) (state : State) → Standing x n state → Unbroken (x.restarted n) state → Ready x n state
+ready : (x : VotedEdges) (n : ℕ) (state : State) → Standing x n state → Unbroken (x.restarted n) state → Ready x n state
 ready x n Idle h u = h
 ready x n (Acquiring g count) h u = (u, h)
 ready x n (Locked g) h u = (u, h)
 
-after : (x : Course) (n : ℕ) (step : Step) → Ticked x n step → Stood x (n + 1) step.state
+after : (x : VotedEdges) (n : ℕ) (step : Step) → Ticked x n step → Stood x (n + 1) step.state
 after x n step (live v e standing said) = alive standing
 after x n step (over c none is k) = ended none (ap (λ (z : Step). z.state) is)
 
@@ -59,14 +59,14 @@ unbroken_after (Locked h) restarted e = e
 
 -- ---- past the end
 
-pub none_after : (t : Times) (n : ℕ) (o : Option UtcSecond) → second_at t n ≡ None → second_at t (n + 1) ≡ o → o ≡ None
+pub none_after : (t : TimelineValue) (n : ℕ) (o : Option UtcSecond) → second_at t n ≡ None → second_at t (n + 1) ≡ o → o ≡ None
 none_after t n None none e = refl
 none_after t n (Some v) none e =
     let before = second_before t n v ((second_is t (n + 1) v).0 e) in
     let clash : None ≡ Some before.0 = sym none ∙ (second_is t n before.0).1 before.1 in
     absurd cc
 
-no_claim : (t : Times) (n : ℕ) (vote : Option Claim) → second_at t n ≡ None → ((c : Claim) → vote ≡ Some c → IsTrueClaim t (n + 1) c) → vote ≡ None
+no_claim : (t : TimelineValue) (n : ℕ) (vote : Option Claim) → second_at t n ≡ None → ((c : Claim) → vote ≡ Some c → IsTrueClaim t (n + 1) c) → vote ≡ None
 no_claim t n None none truth = refl
 no_claim t n (Some c) none truth =
     let claim : IsTrueClaim t (n + 1) c = truth c refl in
@@ -75,11 +75,11 @@ no_claim t n (Some c) none truth =
     let clash : None ≡ Some c.at = sym none ∙ at in
     absurd cc
 
-idle_step : (own : ReaderRules) (table : Table) → stepped own table Idle None ≡ stopped cause.NoVote
-unfolding stepped
+idle_step : (own : ReaderRules) (table : TableValue) → step_of own table Idle None ≡ stop_step cause.NoVote
+unfolding step_of
 idle_step own table = refl
 
-past_end : (x : Course) (n : ℕ) (state : State) (vote : Option Claim) → second_at x.times n ≡ None → state ≡ Idle → vote ≡ None → Ticked x n (stepped x.own x.table state vote)
+past_end : (x : VotedEdges) (n : ℕ) (state : State) (vote : Option Claim) → second_at x.times n ≡ None → state ≡ Idle → vote ≡ None → Ticked x n (step_of x.own x.table state vote)
 past_end x n state vote none idle silent =
     rw (idle, silent) (over cause.NoVote (none_after x.times n (second_at x.times (n + 1)) none refl) (idle_step x.own x.table) refl)
 
@@ -96,21 +96,21 @@ can_lock s r all =
 
 module _ (s : Setup) (r : ℕ) (all : List Event) (fit : IsFit s r) (some : 1 ≤ (setup_at s.readers r).rules.lock_after) where
   abbrev pub NowTicked : List Event → Type 0
-  NowTicked ev = Ticked (course_of s r all) (ticks_of r ev) (stepped (setup_at s.readers r).rules (setup_at s.readers r).table (state_at s r ev) (vote_at_tick (life_of s r ev)))
+  NowTicked ev = Ticked (voted_edges_of s r all) (ticks_of r ev) (step_of (setup_at s.readers r).rules (setup_at s.readers r).table (state_at s r ev) (vote_at_tick (history_of s r ev)))
 
   abbrev Stands : List Event → Type 0
-  Stands ev = IsStanding (course_of s r all) (ticks_of r ev) (state_at s r ev) (is_restarted r ev (ticks_of r ev))
+  Stands ev = IsStanding (voted_edges_of s r all) (ticks_of r ev) (state_at s r ev) (is_restarted r ev (ticks_of r ev))
 
   tick_from : (later ev : List Event) → all ≡ later ++ (Tick r ∷ ev) → is_broken_now s r ev ≡ false → Stands ev → NowTicked ev
   tick_from later ev e kept h =
-      let x : Course = course_of s r all in
+      let x : VotedEdges = voted_edges_of s r all in
       let n : ℕ = ticks_of r ev in
-      let there : is_some (vote_at_tick (life_of s r ev)) ≡ is_voted s r all (ticks_of r ev + 1) = vote_is_there s r ev kept ∙ sym (voted_at s r all later ev e) in
+      let there : is_some (vote_at_tick (history_of s r ev)) ≡ is_voted s r all (ticks_of r ev + 1) = vote_is_there s r ev kept ∙ sym (voted_at s r all later ev e) in
       elim h.stood [
         | alive standing ↦
-            ticks x fit.sound fit.true_table some n (state_at s r ev) (vote_at_tick (life_of s r ev)) there (λ c. vote_is_right s r ev c kept)
+            ticks x fit.sound fit.true_table some n (state_at s r ev) (vote_at_tick (history_of s r ev)) there (λ c. vote_is_right s r ev c kept)
             (ready x n (state_at s r ev) standing (subst (λ b. Unbroken b (state_at s r ev)) (sym (restarted_before r all later ev e)) h.unbroken))
-        | ended none idle ↦ past_end x n (state_at s r ev) (vote_at_tick (life_of s r ev)) none idle (no_claim s.times n (vote_at_tick (life_of s r ev)) none (λ c. vote_is_right s r ev c kept))
+        | ended none idle ↦ past_end x n (state_at s r ev) (vote_at_tick (history_of s r ev)) none idle (no_claim s.times n (vote_at_tick (history_of s r ev)) none (λ c. vote_is_right s r ev c kept))
       ]
 
   begins : Stands []
@@ -135,7 +135,7 @@ module _ (s : Setup) (r : ℕ) (all : List Event) (fit : IsFit s r) (some : 1 �
             let room : ticks_of r ev < n = omega (arith, rw here at low) in
             let before : Stands ev = stands n kept (later ++ (Tick x ∷ [])) ev (one_later later (Tick x) ev e) (omega (arith, room)) in
             let ticked : NowTicked ev = tick_from later ev now (kept.ticks later ev now room) before in
-            rw here (record { stood = after (course_of s r all) (ticks_of r ev) _ ticked; unbroken = unbroken_after _ _ (none_restarted r ev (ticks_of r ev + 1) (omega arith)) })
+            rw here (record { stood = after (voted_edges_of s r all) (ticks_of r ev) _ ticked; unbroken = unbroken_after _ _ (none_restarted r ev (ticks_of r ev + 1) (omega arith)) })
         | inr other ↦ rw other (stands n kept (later ++ (Tick x ∷ [])) ev (one_later later (Tick x) ev e) (rw other at low))
       ]
   stands n kept later (Restart x ∷ ev) e low =

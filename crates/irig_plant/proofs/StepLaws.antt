@@ -4,24 +4,24 @@ use Rattle.std.specs.Prelude.{is_some, if◌then◌else◌}
 use Rattle.std.specs.Option.{option_or}
 use Rattle.std.proofs.lemmas.Bool.{cases_lt, eq-eqb, lt-ltb, le-ltb}
 use Rattle.irig_time.specs.declared.second.UtcSecond.{UtcSecond}
-use Rattle.irig_time.specs.Times.{Times, second_at}
+use Rattle.irig_time.specs.Timelines.{TimelineValue, second_at}
 use Rattle.irig_time.proofs.SecondAt.{second_is}
 use Rattle.irig_time.proofs.TimeLaws.{few}
 use Rattle.irig_gen.specs.declared.fault.GenFault.{GenFault}
-use Rattle.irig_gen.specs.Frames.{Gen}
+use Rattle.irig_gen.specs.Frames.{GeneratorValue}
 use Rattle.irig_port.specs.declared.port.Port.{Ghosts}
-use Rattle.irig_reader.specs.Life.{ticked, restarted}
-use Rattle.irig_reader.specs.Stands.{Stands}
+use Rattle.irig_reader.specs.History.{after_tick, after_restart}
+use Rattle.irig_reader.specs.Readers.{HasReaderHistory}
 use Rattle.irig_plant.specs.declared.event.Event.{Event}
 use Rattle.irig_plant.specs.declared.event.Event.TheVariants.{GenEdge, Tick, Carry, Damage, Replay, Raw, Fault, Repair, Restart}
 use Rattle.irig_plant.specs.declared.fault.PlantFault.{PlantFault}
 use Rattle.irig_plant.specs.declared.fault.PlantFault.TheVariants.{NoSuchReader, NoSuchGenerator, EndOfYears}
-use Rattle.irig_plant.specs.declared.station.Station.{Station}
-use Rattle.irig_plant.specs.Feeds.{feed_all, fed_all}
-use Rattle.irig_plant.specs.Schedule.{Setup, stepped, faulty, repaired, generator_at, Delivery, delivery, delivered, empties, with_delivery, heard_at, fed_at, ticks_of, votes_of, life_of, log_of}
+use Rattle.irig_plant.specs.declared.ticked_reader.TickedReader.{TickedReader}
+use Rattle.irig_plant.specs.Pulses.{with_widths, after_pulses}
+use Rattle.irig_plant.specs.Schedule.{Setup, generator_at_next_edge, generator_with_fault, generator_without_fault, generator_at, Delivery, delivery, delivery_of, empties, with_delivery, heard_at, fed_at, ticks_of, votes_of, history_of, log_of}
 use Rattle.irig_plant.specs.Refusals.{unless_reader, unless_generator, unless_second}
-use Rattle.irig_plant.specs.Audits.{Place, first_broken, verdict, audited}
-use Rattle.irig_plant.specs.StandsFor.{IsStationAt}
+use Rattle.irig_plant.specs.Audits.{Place, first_broken, verdict, audit_after}
+use Rattle.irig_plant.specs.History.{IsTickedReaderAt}
 use Rattle.irig_plant.proofs.ListLaws.{apart, each_set}
 use Rattle.irig_plant.proofs.FeedLaws.{fed_if, fed_ports}
 
@@ -41,7 +41,7 @@ no_generator s g rest h = rw (le-ltb g (length s.generators) h) refl
 
 -- ---- the end of the timeline
 
-late : (t : Times) (n : ℕ) (o : Option UtcSecond) → o ≡ second_at t n → 2 ^ 32 ≤ n → is_some o ≡ false
+late : (t : TimelineValue) (n : ℕ) (o : Option UtcSecond) → o ≡ second_at t n → 2 ^ 32 ≤ n → is_some o ≡ false
 late t n None e far = refl
 late t n (Some u) e far = absurd (omega (arith, far, few t n u ((second_is t n u).0 (sym e))))
 
@@ -62,7 +62,7 @@ pub record IsPlain (s : Setup) (e : Event) (ev : List Event) : Type 0 where
   pub log : log_of s (e ∷ ev) ≡ log_of s ev
   pub broken : first_broken s (e ∷ ev) ≡ first_broken s ev
 
-pub delivers : (s : Setup) (e : Event) (ev : List Event) (d : Delivery) → delivered s e ev ≡ Some d → IsPlain s e ev
+pub delivers : (s : Setup) (e : Event) (ev : List Event) (d : Delivery) → delivery_of s e ev ≡ Some d → IsPlain s e ev
 delivers s (Carry g r) ev d h = record { keeps = λ _. refl; ticks = λ _. refl; votes = λ _. refl; generators = λ _. refl; log = refl; broken = refl }
 delivers s (Damage g r at width) ev d h = record { keeps = λ _. refl; ticks = λ _. refl; votes = λ _. refl; generators = λ _. refl; log = refl; broken = refl }
 delivers s (Replay g r edge) ev d h = record { keeps = λ _. refl; ticks = λ _. refl; votes = λ _. refl; generators = λ _. refl; log = refl; broken = refl }
@@ -74,19 +74,19 @@ delivers s (Repair g) ev d h = absurd cc
 delivers s (Restart r) ev d h = absurd cc
 
 -- what a port has heard after a delivery
-heard_is : (s : Setup) (e : Event) (ev : List Event) (d : Delivery) (r p : ℕ) → delivered s e ev ≡ Some d → heard_at s r p (e ∷ ev) ≡ with_delivery r p (Some d) (heard_at s r p ev)
+heard_is : (s : Setup) (e : Event) (ev : List Event) (d : Delivery) (r p : ℕ) → delivery_of s e ev ≡ Some d → heard_at s r p (e ∷ ev) ≡ with_delivery r p (Some d) (heard_at s r p ev)
 heard_is s e ev d r p h = rw ((delivers s e ev d h).keeps r, h) refl
 
 -- the reader to which it comes
-pub fed_here : (s : Setup) (e : Event) (ev : List Event) (g r : ℕ) (ws : List ℕ) → g < 5 → delivered s e ev ≡ Some (delivery g r ws) → life_of s r (e ∷ ev) ≡ fed_all (life_of s r ev) g ws
+pub fed_here : (s : Setup) (e : Event) (ev : List Event) (g r : ℕ) (ws : List ℕ) → g < 5 → delivery_of s e ev ≡ Some (delivery g r ws) → history_of s r (e ∷ ev) ≡ after_pulses (history_of s r ev) g ws
 fed_here s e ev g r ws low h =
     let votes = (delivers s e ev (delivery g r ws) h).votes r in
     let heard : (p : ℕ) → heard_at s r p (e ∷ ev) ≡ fed_if g p ws (heard_at s r p ev) = λ p. heard_is s e ev (delivery g r ws) r p h ∙ rw (eq-eqb r r refl) refl in
-    let fed : fed_at s r (e ∷ ev) ≡ feed_all (fed_at s r ev) g ws = rw (heard 0, heard 1, heard 2, heard 3, heard 4) (fed_ports (fed_at s r ev) g ws low) in
+    let fed : fed_at s r (e ∷ ev) ≡ with_widths (fed_at s r ev) g ws = rw (heard 0, heard 1, heard 2, heard 3, heard 4) (fed_ports (fed_at s r ev) g ws low) in
     rw (votes, fed) refl
 
 -- and all others
-pub fed_elsewhere : (s : Setup) (e : Event) (ev : List Event) (d : Delivery) (r : ℕ) → r ≢ d.reader → delivered s e ev ≡ Some d → life_of s r (e ∷ ev) ≡ life_of s r ev
+pub fed_elsewhere : (s : Setup) (e : Event) (ev : List Event) (d : Delivery) (r : ℕ) → r ≢ d.reader → delivery_of s e ev ≡ Some d → history_of s r (e ∷ ev) ≡ history_of s r ev
 fed_elsewhere s e ev d r other h =
     let votes = (delivers s e ev d h).votes r in
     let heard : (p : ℕ) → heard_at s r p (e ∷ ev) ≡ heard_at s r p ev = λ p. heard_is s e ev d r p h ∙ rw (apart d.reader r (λ e. other (sym e))) refl in
@@ -96,47 +96,47 @@ fed_elsewhere s e ev d r other h =
 
 module _ {P : Type 0} {g : Ghosts P} where
   -- what stands at reader i after the event does so for all, where the event leaves the others
-  pub set_station : (s : Setup) (ev ev' : List Event) (xs : List (Station P g)) (i : ℕ) (x y : Station P g)
+  pub set_reader : (s : Setup) (ev ev' : List Event) (xs : List (TickedReader P g)) (i : ℕ) (x y : TickedReader P g)
       → length xs ≡ length s.readers → i < length s.readers
-      → ((r : ℕ) (d : Station P g) → r < length s.readers → IsStationAt s ev r (get_or xs r d))
+      → ((r : ℕ) (d : TickedReader P g) → r < length s.readers → IsTickedReaderAt s ev r (get_or xs r d))
       → x ≡ get_or xs i x
-      → ((r : ℕ) (z : Station P g) → r ≢ i → IsStationAt s ev r z → IsStationAt s ev' r z)
-      → (IsStationAt s ev i x → IsStationAt s ev' i y)
-      → (r : ℕ) (d : Station P g) → r < length s.readers → IsStationAt s ev' r (get_or (set xs i y) r d)
-  set_station s ev ev' xs i x y n l h v other here =
-      each_set (IsStationAt s ev) (IsStationAt s ev') (length s.readers) xs i y (omega arith) h other
-      (here (subst (λ z. IsStationAt s ev i z) (sym v) (h i x l)))
+      → ((r : ℕ) (z : TickedReader P g) → r ≢ i → IsTickedReaderAt s ev r z → IsTickedReaderAt s ev' r z)
+      → (IsTickedReaderAt s ev i x → IsTickedReaderAt s ev' i y)
+      → (r : ℕ) (d : TickedReader P g) → r < length s.readers → IsTickedReaderAt s ev' r (get_or (set xs i y) r d)
+  set_reader s ev ev' xs i x y n l h v other here =
+      each_set (IsTickedReaderAt s ev) (IsTickedReaderAt s ev') (length s.readers) xs i y (omega arith) h other
+      (here (subst (λ z. IsTickedReaderAt s ev i z) (sym v) (h i x l)))
 
-  pub tick_other : (s : Setup) (ev : List Event) (i r : ℕ) (z : Station P g) → r ≢ i → IsStationAt s ev r z → IsStationAt s (Tick i ∷ ev) r z
+  pub tick_other : (s : Setup) (ev : List Event) (i r : ℕ) (z : TickedReader P g) → r ≢ i → IsTickedReaderAt s ev r z → IsTickedReaderAt s (Tick i ∷ ev) r z
   tick_other s ev i r z q h = rw (apart i r (λ e. q (sym e))) h
 
-  pub tick_here : (s : Setup) (ev : List Event) (i : ℕ) (x y : Station P g) → Stands y.reader (ticked (life_of s i ev)) → y.ticks ≡ x.ticks + 1 → IsStationAt s ev i x → IsStationAt s (Tick i ∷ ev) i y
+  pub tick_here : (s : Setup) (ev : List Event) (i : ℕ) (x y : TickedReader P g) → HasReaderHistory y.reader (after_tick (history_of s i ev)) → y.ticks ≡ x.ticks + 1 → IsTickedReaderAt s ev i x → IsTickedReaderAt s (Tick i ∷ ev) i y
   tick_here s ev i x y r e h = rw (eq-eqb i i refl) (record { reader = r; ticked = e ∙ ap (λ n. n + 1) h.ticked })
 
-  pub restart_other : (s : Setup) (ev : List Event) (i r : ℕ) (z : Station P g) → r ≢ i → IsStationAt s ev r z → IsStationAt s (Restart i ∷ ev) r z
+  pub restart_other : (s : Setup) (ev : List Event) (i r : ℕ) (z : TickedReader P g) → r ≢ i → IsTickedReaderAt s ev r z → IsTickedReaderAt s (Restart i ∷ ev) r z
   restart_other s ev i r z q h = rw (apart i r (λ e. q (sym e))) h
 
-  pub restart_here : (s : Setup) (ev : List Event) (i : ℕ) (x y : Station P g) → Stands y.reader (restarted (life_of s i ev)) → y.ticks ≡ x.ticks → IsStationAt s ev i x → IsStationAt s (Restart i ∷ ev) i y
+  pub restart_here : (s : Setup) (ev : List Event) (i : ℕ) (x y : TickedReader P g) → HasReaderHistory y.reader (after_restart (history_of s i ev)) → y.ticks ≡ x.ticks → IsTickedReaderAt s ev i x → IsTickedReaderAt s (Restart i ∷ ev) i y
   restart_here s ev i x y r e h = rw (eq-eqb i i refl) (record { reader = r; ticked = e ∙ h.ticked })
 
-  pub feed_other : (s : Setup) (e : Event) (ev : List Event) (d : Delivery) → delivered s e ev ≡ Some d → (r : ℕ) (z : Station P g) → r ≢ d.reader → IsStationAt s ev r z → IsStationAt s (e ∷ ev) r z
+  pub feed_other : (s : Setup) (e : Event) (ev : List Event) (d : Delivery) → delivery_of s e ev ≡ Some d → (r : ℕ) (z : TickedReader P g) → r ≢ d.reader → IsTickedReaderAt s ev r z → IsTickedReaderAt s (e ∷ ev) r z
   feed_other s e ev d h r z q old = rw (fed_elsewhere s e ev d r q h, (delivers s e ev d h).ticks r) old
 
-  pub feed_here : (s : Setup) (e : Event) (ev : List Event) (k i : ℕ) (ws : List ℕ) (x y : Station P g) → k < 5 → delivered s e ev ≡ Some (delivery k i ws)
-      → Stands y.reader (fed_all (life_of s i ev) k ws) → y.ticks ≡ x.ticks → IsStationAt s ev i x → IsStationAt s (e ∷ ev) i y
+  pub feed_here : (s : Setup) (e : Event) (ev : List Event) (k i : ℕ) (ws : List ℕ) (x y : TickedReader P g) → k < 5 → delivery_of s e ev ≡ Some (delivery k i ws)
+      → HasReaderHistory y.reader (after_pulses (history_of s i ev) k ws) → y.ticks ≡ x.ticks → IsTickedReaderAt s ev i x → IsTickedReaderAt s (e ∷ ev) i y
   feed_here s e ev k i ws x y low h r same old =
       rw (fed_here s e ev k i ws low h, (delivers s e ev (delivery k i ws) h).ticks i) (record { reader = r; ticked = same ∙ old.ticked })
 
 -- ---- generators
 
 -- what stands at generator i after the event does so for all, where the event leaves the others
-pub set_generator : (s : Setup) (ev ev' : List Event) (xs : List Gen) (i : ℕ) (x y : Gen)
+pub set_generator : (s : Setup) (ev ev' : List Event) (xs : List GeneratorValue) (i : ℕ) (x y : GeneratorValue)
     → length xs ≡ length s.generators → i < length s.generators
-    → ((k : ℕ) (d : Gen) → k < length s.generators → get_or xs k d ≡ generator_at s k ev)
+    → ((k : ℕ) (d : GeneratorValue) → k < length s.generators → get_or xs k d ≡ generator_at s k ev)
     → x ≡ get_or xs i x
     → ((k : ℕ) → k ≢ i → generator_at s k ev' ≡ generator_at s k ev)
     → (x ≡ generator_at s i ev → y ≡ generator_at s i ev')
-    → (k : ℕ) (d : Gen) → k < length s.generators → get_or (set xs i y) k d ≡ generator_at s k ev'
+    → (k : ℕ) (d : GeneratorValue) → k < length s.generators → get_or (set xs i y) k d ≡ generator_at s k ev'
 set_generator s ev ev' xs i x y n l h v other here =
     each_set (λ k z. z ≡ generator_at s k ev) (λ k z. z ≡ generator_at s k ev') (length s.generators) xs i y (omega arith) h
     (λ k z q e. e ∙ sym (other k q)) (here (v ∙ h i x l))
@@ -144,24 +144,24 @@ set_generator s ev ev' xs i x y n l h v other here =
 pub step_other : (s : Setup) (ev : List Event) (i k : ℕ) → k ≢ i → generator_at s k (GenEdge i ∷ ev) ≡ generator_at s k ev
 step_other s ev i k q = rw (apart i k (λ e. q (sym e))) refl
 
-pub step_here : (s : Setup) (ev : List Event) (i : ℕ) (x : Gen) → x ≡ generator_at s i ev → stepped x ≡ generator_at s i (GenEdge i ∷ ev)
-step_here s ev i x h = rw (eq-eqb i i refl) (ap stepped h)
+pub step_here : (s : Setup) (ev : List Event) (i : ℕ) (x : GeneratorValue) → x ≡ generator_at s i ev → generator_at_next_edge x ≡ generator_at s i (GenEdge i ∷ ev)
+step_here s ev i x h = rw (eq-eqb i i refl) (ap generator_at_next_edge h)
 
 pub fault_other : (s : Setup) (ev : List Event) (i k : ℕ) (kind : GenFault) → k ≢ i → generator_at s k (Fault i kind ∷ ev) ≡ generator_at s k ev
 fault_other s ev i k kind q = rw (apart i k (λ e. q (sym e))) refl
 
-pub fault_here : (s : Setup) (ev : List Event) (i : ℕ) (kind : GenFault) (x : Gen) → x ≡ generator_at s i ev → faulty kind x ≡ generator_at s i (Fault i kind ∷ ev)
-fault_here s ev i kind x h = rw (eq-eqb i i refl) (ap (faulty kind) h)
+pub fault_here : (s : Setup) (ev : List Event) (i : ℕ) (kind : GenFault) (x : GeneratorValue) → x ≡ generator_at s i ev → generator_with_fault kind x ≡ generator_at s i (Fault i kind ∷ ev)
+fault_here s ev i kind x h = rw (eq-eqb i i refl) (ap (generator_with_fault kind) h)
 
 pub repair_other : (s : Setup) (ev : List Event) (i k : ℕ) → k ≢ i → generator_at s k (Repair i ∷ ev) ≡ generator_at s k ev
 repair_other s ev i k q = rw (apart i k (λ e. q (sym e))) refl
 
-pub repair_here : (s : Setup) (ev : List Event) (i : ℕ) (x : Gen) → x ≡ generator_at s i ev → repaired x ≡ generator_at s i (Repair i ∷ ev)
-repair_here s ev i x h = rw (eq-eqb i i refl) (ap repaired h)
+pub repair_here : (s : Setup) (ev : List Event) (i : ℕ) (x : GeneratorValue) → x ≡ generator_at s i ev → generator_without_fault x ≡ generator_at s i (Repair i ∷ ev)
+repair_here s ev i x h = rw (eq-eqb i i refl) (ap generator_without_fault h)
 
 -- ---- the audit
 
-pub audit_tick : (false_table : Option ℕ) (broken : Option Place) (at : Place) (now : Bool) → audited (verdict false_table broken) at now ≡ verdict false_table (option_or broken (if now then Some at else None))
+pub audit_tick : (false_table : Option ℕ) (broken : Option Place) (at : Place) (now : Bool) → audit_after (verdict false_table broken) at now ≡ verdict false_table (option_or broken (if now then Some at else None))
 audit_tick (Some r) broken at now = refl
 audit_tick None (Some p) at now = refl
 audit_tick None None at true = refl

@@ -7,8 +7,8 @@ use Rattle.std.proofs.lemmas.List.Sums.{AllPass-from_list_all, list_all-from_All
 use Rattle.irig_time.specs.declared.leap.Leap.{Leap}
 use Rattle.irig_time.specs.declared.leap.Leap.TheVariants.{Insert, Delete}
 use Rattle.irig_time.specs.Days.{is_month_end}
-use Rattle.irig_time.specs.Times.{Times, leap_of, mark_by}
-use Rattle.irig_time.specs.Tables.{Table}
+use Rattle.irig_time.specs.Timelines.{TimelineValue, leap_of, mark_by}
+use Rattle.irig_time.specs.Tables.{TableValue}
 use Rattle.irig_hold.specs.Truth.{IsTrueTable}
 use Rattle.irig_plant.specs.Audits.{agrees, agrees_on, is_true_table}
 
@@ -28,7 +28,7 @@ agrees_itself None = refl
 agrees_itself (Some Insert) = refl
 agrees_itself (Some Delete) = refl
 
-day_agrees : (t : Times) (table : Table) (day : ℕ) → IsTrueTable t table → t.start.day ≤ day → agrees_on t table day ≡ true
+day_agrees : (t : TimelineValue) (table : TableValue) (day : ℕ) → IsTrueTable t table → t.start.day ≤ day → agrees_on t table day ≡ true
 day_agrees t table day h from =
     elim (cases_Bool (is_month_end day)) [
       | inr e ↦ rw e refl
@@ -38,7 +38,7 @@ day_agrees t table day h from =
       ]
     ]
 
-pub true_by_test : (t : Times) (table : Table) → table.until ≤ 36523 → is_true_table t table ≡ true → IsTrueTable t table
+pub true_by_test : (t : TimelineValue) (table : TableValue) → table.until ≤ 36523 → is_true_table t table ≡ true → IsTrueTable t table
 unfolding is_true_table
 true_by_test t table served h = record {
   leaps = λ day e from to.
@@ -50,7 +50,7 @@ true_by_test t table served h = record {
       same_leap (leap_of table.leaps day) (leap_of t.leaps day) (rw (e, le-ltb table.until day to) at here);
 }
 
-pub test_by_true : (t : Times) (table : Table) → IsTrueTable t table → is_true_table t table ≡ true
+pub test_by_true : (t : TimelineValue) (table : TableValue) → IsTrueTable t table → is_true_table t table ≡ true
 unfolding is_true_table
 test_by_true t table h =
     let days = range_with_len t.start.day (36524 - t.start.day) in

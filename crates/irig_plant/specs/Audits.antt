@@ -1,22 +1,26 @@
 -- The audit: whether the premises hold under which readers announce the truth, and where they first break.
+-- Source: docs/PLANT.md, the audit.
 use Rattle.std.specs.Prelude.{ℕ, ◌+◌, ◌-◌, Bool, true, false, not, ◌||◌, nat_lt, if◌then◌else◌, List, [], ◌∷◌, length, count_by, Option, Some, None}
 use Rattle.std.specs.Option.{option_or}
 use Rattle.std.specs.List.{list_all, range_with_len}
 use Rattle.irig_time.specs.declared.mark.Mark.{Mark}
 use Rattle.irig_time.specs.declared.mark.Mark.TheVariants.{Unspoken}
+use Rattle.irig_time.specs.declared.second.TheConstants.{LAST_DAY}
 use Rattle.irig_time.specs.declared.claim.Claim.{Claim}
-use Rattle.irig_time.specs.Times.{Times, leap_of, mark_by, truth_at}
-use Rattle.irig_time.specs.Tables.{Table, table_mark}
+use Rattle.irig_time.specs.Timelines.{TimelineValue, leap_of, mark_by, truth_at}
+use Rattle.irig_time.specs.Tables.{TableValue, table_mark}
 use Rattle.irig_port.specs.declared.told.Told.{Told}
 use Rattle.irig_port.specs.declared.told.Told.TheVariants as tells
-use Rattle.irig_vote.specs.Vote.{f_of, ports_of, same_mark, same_claim}
-use Rattle.irig_reader.specs.Life.{tells as told_at}
+use Rattle.irig_time.specs.Claims.{same_mark, same_claim}
+use Rattle.irig_vote.specs.Vote.{f_of, ports_of}
+use Rattle.irig_reader.specs.History.{told_at_tick}
 use Rattle.irig_plant.specs.declared.event.Event.{Event}
 use Rattle.irig_plant.specs.declared.event.Event.TheVariants.{Tick}
 use Rattle.irig_plant.specs.declared.audit.Audit.{Audit}
 use Rattle.irig_plant.specs.declared.audit.Audit.TheVariants.{Kept, Broken, FalseTable}
 use Rattle.irig_plant.specs.declared.setup.ReaderSetup.{ReaderSetup}
-use Rattle.irig_plant.specs.Schedule.{Setup, redundancy_of, ticks_of, life_of}
+use Rattle.irig_vote.specs.Vote.{redundancy_of}
+use Rattle.irig_plant.specs.Schedule.{Setup, ticks_of, history_of}
 
 -- ---- tables
 
@@ -24,15 +28,16 @@ use Rattle.irig_plant.specs.Schedule.{Setup, redundancy_of, ticks_of, life_of}
 abbrev pub agrees : Mark → Mark → Bool
 agrees said truth = same_mark said Unspoken || same_mark said truth
 
-abbrev pub agrees_on : Times → Table → ℕ → Bool
+-- so at the end of one day
+abbrev pub agrees_on : TimelineValue → TableValue → ℕ → Bool
 agrees_on t table day = agrees (table_mark table day) (mark_by (leap_of t.leaps day))
 
 -- so for each day from the start's to the last one served
-unfoldable pub is_true_table : Times → Table → Bool
-is_true_table t table = list_all (agrees_on t table) (range_with_len t.start.day (36524 - t.start.day))
+unfoldable pub is_true_table : TimelineValue → TableValue → Bool
+is_true_table t table = list_all (agrees_on t table) (range_with_len t.start.day (LAST_DAY + 1 - t.start.day))
 
 -- the least reader, from this number on, whose table isn't true
-abbrev pub first_false : Times → ℕ → List ReaderSetup → Option ℕ
+abbrev pub first_false : TimelineValue → ℕ → List ReaderSetup → Option ℕ
 first_false t r [] = None
 first_false t r (x ∷ xs) = if is_true_table t x.table then first_false t (r + 1) xs else Some r
 
@@ -56,13 +61,15 @@ untrue_ports truth ports = count_by (is_untrue truth) ports
 abbrev pub is_broken_now : Setup → ℕ → List Event → Bool
 is_broken_now s r ev =
     nat_lt (f_of (redundancy_of (length s.generators)))
-    (untrue_ports (truth_at s.times (ticks_of r ev)) (ports_of (told_at (life_of s r ev)) (redundancy_of (length s.generators))))
+    (untrue_ports (truth_at s.times (ticks_of r ev))
+    (ports_of (told_at_tick (history_of s r ev)) (redundancy_of (length s.generators))))
 
 -- a tick of a reader
 pub record Place : Type 0 where
   pub reader : ℕ
   pub edge : ℕ
 
+-- tick number edge of the reader
 abbrev pub place : ℕ → ℕ → Place
 place reader edge = record { reader = reader; edge = edge }
 
@@ -82,10 +89,11 @@ verdict None (Some at) = Broken at.reader at.edge
 verdict None None = Kept
 
 -- the audit once a tick at this place is broken or isn't
-abbrev pub audited : Audit → Place → Bool → Audit
-audited Kept at broken = if broken then Broken at.reader at.edge else Kept
-audited (Broken r n) at broken = Broken r n
-audited (FalseTable r) at broken = FalseTable r
+abbrev pub audit_after : Audit → Place → Bool → Audit
+audit_after Kept at broken = if broken then Broken at.reader at.edge else Kept
+audit_after (Broken r n) at broken = Broken r n
+audit_after (FalseTable r) at broken = FalseTable r
 
+-- the audit after some events
 abbrev pub audit_of : Setup → List Event → Audit
 audit_of s ev = verdict (first_false s.times 0 s.readers) (first_broken s ev)

@@ -1,24 +1,27 @@
 -- Voted, guard and held edges of a reader. They are statements about events, and speak of no state of a reader.
+-- Source: docs/EXACTLY_WHEN.md.
 use Rattle.std.specs.Prelude.{◌≡◌, ℕ, ◌+◌, ◌<◌, ◌≤◌, Bool, true, false, ◌==◌, ◌&&◌, nat_lt, if◌then◌else◌, List, [], ◌∷◌, ◌++◌, length, Option, Some, None}
 use Rattle.irig_time.specs.declared.second.UtcSecond.{UtcSecond}
 use Rattle.irig_time.specs.declared.claim.Claim.{Claim}
 use Rattle.irig_time.specs.Days.{is_month_end}
-use Rattle.irig_time.specs.Times.{Times, second_at, truth_at, IsTrueClaim}
-use Rattle.irig_time.specs.Tables.{Table}
+use Rattle.irig_time.specs.Timelines.{TimelineValue, second_at, truth_at, IsTrueClaim}
+use Rattle.irig_time.specs.Tables.{TableValue}
 use Rattle.irig_port.specs.declared.told.Told.{Told}
 use Rattle.irig_vote.specs.Vote.{f_of, ports_of, carriers}
 use Rattle.irig_reader.specs.declared.rules.ReaderRules.{ReaderRules}
-use Rattle.irig_reader.specs.Life.{tells as told_at}
+use Rattle.irig_reader.specs.History.{told_at_tick}
 use Rattle.irig_plant.specs.declared.event.Event.{Event}
 use Rattle.irig_plant.specs.declared.event.Event.TheVariants.{Tick, Restart}
 use Rattle.irig_plant.specs.declared.setup.ReaderSetup.{ReaderSetup}
-use Rattle.irig_plant.specs.Schedule.{Setup, redundancy_of, fed_at, setup_at, life_with, ticks_of}
+use Rattle.irig_vote.specs.Vote.{redundancy_of}
+use Rattle.irig_plant.specs.Schedule.{Setup, fed_at, setup_at, history_with, ticks_of}
 
 -- ---- voted edges and restarts
 
 -- what the ports of r tell of what they heard, at a tick of r that comes now; its votes do not matter
 abbrev pub ports_now : Setup → ℕ → List Event → List Told
-ports_now s r ev = ports_of (told_at (life_with s r (fed_at s r ev) [])) (redundancy_of (length s.generators))
+ports_now s r ev =
+    ports_of (told_at_tick (history_with s r (fed_at s r ev) [])) (redundancy_of (length s.generators))
 
 -- whether more than f of the ports carry the claim, if there is one
 abbrev pub is_carried : ℕ → List Told → Option Claim → Bool
@@ -27,7 +30,8 @@ is_carried f ports (Some c) = nat_lt f (carriers c ports)
 
 -- whether f + 1 or more ports of r carry the true claim at a tick of r that comes now
 abbrev pub is_voted_now : Setup → ℕ → List Event → Bool
-is_voted_now s r ev = is_carried (f_of (redundancy_of (length s.generators))) (ports_now s r ev) (truth_at s.times (ticks_of r ev))
+is_voted_now s r ev =
+    is_carried (f_of (redundancy_of (length s.generators))) (ports_now s r ev) (truth_at s.times (ticks_of r ev))
 
 -- whether so many ports do at the i-th tick of r
 abbrev pub is_voted : Setup → ℕ → List Event → ℕ → Bool
@@ -60,16 +64,18 @@ pub record IsRestarted (r : ℕ) (ev : List Event) (i : ℕ) : Type 0 where
 
 -- ---- one reader's edges
 
--- what decides when a reader announces: its timeline, rules and table, which edges are voted, and after which it is restarted
-pub record Course : Type 0 where
-  pub times : Times
+-- what decides when a reader announces: its timeline, rules and table, which edges are voted, and after which it is
+-- restarted
+pub record VotedEdges : Type 0 where
+  pub times : TimelineValue
   pub own : ReaderRules
-  pub table : Table
+  pub table : TableValue
   pub voted : ℕ → Bool
   pub restarted : ℕ → Bool
 
-abbrev pub course_of : Setup → ℕ → List Event → Course
-course_of s r ev = record {
+-- those of reader r after some events
+abbrev pub voted_edges_of : Setup → ℕ → List Event → VotedEdges
+voted_edges_of s r ev = record {
   times = s.times;
   own = (setup_at s.readers r).rules;
   table = (setup_at s.readers r).table;
@@ -81,8 +87,9 @@ course_of s r ev = record {
 abbrev pub CanLock : ReaderSetup → Type 0
 CanLock x = 1 ≤ x.rules.lock_after
 
--- a guard edge: not voted, after 23:59:58 of a month's last day above the table, and none of the 57 edges before it is voted
-pub record IsGuard (x : Course) (j : ℕ) : Type 0 where
+-- a guard edge: not voted, after 23:59:58 of a month's last day above the table, and none of the 57 edges before it is
+-- voted
+pub record IsGuard (x : VotedEdges) (j : ℕ) : Type 0 where
   pub before : ℕ
   pub is_before : j ≡ before + 1
   pub second : UtcSecond
@@ -94,7 +101,7 @@ pub record IsGuard (x : Course) (j : ℕ) : Type 0 where
   pub unheard : (i : ℕ) → j ≤ i + 57 → i < j → x.voted i ≡ false
 
 -- a voted edge from m to j, at most limit edges below j
-pub record HasVote (x : Course) (m j limit : ℕ) : Type 0 where
+pub record HasVote (x : VotedEdges) (m j limit : ℕ) : Type 0 where
   pub edge : ℕ
   pub from : m ≤ edge
   pub to : edge ≤ j
@@ -102,7 +109,7 @@ pub record HasVote (x : Course) (m j limit : ℕ) : Type 0 where
   pub is : x.voted edge ≡ true
 
 -- a held edge: the lock was reached at an edge up to it, and never lost since
-pub record IsHeld (x : Course) (n : ℕ) : Type 0 where
+pub record IsHeld (x : VotedEdges) (n : ℕ) : Type 0 where
   pub lock : ℕ
   pub enough : x.own.lock_after ≤ lock
   pub before : lock ≤ n
@@ -112,19 +119,19 @@ pub record IsHeld (x : Course) (n : ℕ) : Type 0 where
   pub unguarded : (j : ℕ) → lock < j → j ≤ n → ¬ IsGuard x j
 
 -- the count edges up to n are all voted, and no restart falls between them
-pub record IsRun (x : Course) (n count : ℕ) : Type 0 where
+pub record IsRun (x : VotedEdges) (n count : ℕ) : Type 0 where
   pub some : 1 ≤ count
   pub fits : count ≤ n
   pub votes : (i : ℕ) → n + 1 ≤ i + count → i ≤ n → x.voted i ≡ true
   pub unbroken : (i : ℕ) → n + 1 ≤ i + count → i < n → x.restarted i ≡ false
 
 -- count is the length of the longest such run
-pub record IsLongestRun (x : Course) (n count : ℕ) : Type 0 where
+pub record IsLongestRun (x : VotedEdges) (n count : ℕ) : Type 0 where
   pub run : IsRun x n count
   pub longest : (other : ℕ) → IsRun x n other → other ≤ count
 
 -- the greatest voted edge up to n lies age edges below it
-pub record IsLastVote (x : Course) (n age : ℕ) : Type 0 where
+pub record IsLastVote (x : VotedEdges) (n age : ℕ) : Type 0 where
   pub edge : ℕ
   pub is_at : edge + age ≡ n
   pub is : x.voted edge ≡ true

@@ -1,9 +1,9 @@
 -- When a reader announces, with what lock, and why it is silent where it is.
+-- Source: docs/EXACTLY_WHEN.md.
 use Rattle.std.specs.Prelude.{◌≡◌, ◌↔◌, ℕ, ◌+◌, ◌<◌, ◌≤◌, true, false, List, Some, None, is_some}
 use Rattle.std.specs.List.{Contains}
 use Rattle.irig_time.specs.declared.second.UtcSecond.{UtcSecond}
-use Rattle.irig_time.specs.Times.{second_at}
-use Rattle.irig_hold.specs.Truth.{IsTrueTable}
+use Rattle.irig_time.specs.Timelines.{second_at}
 use Rattle.irig_reader.specs.declared.report.Lock.{Lock}
 use Rattle.irig_reader.specs.declared.report.Lock.TheVariants as lock
 use Rattle.irig_reader.specs.declared.report.Cause.{Cause}
@@ -11,45 +11,47 @@ use Rattle.irig_reader.specs.declared.report.Cause.TheVariants as cause
 use Rattle.irig_reader.specs.declared.report.Report.{Report}
 use Rattle.irig_plant.specs.declared.event.Event.{Event}
 use Rattle.irig_plant.specs.declared.entry.Entry.{Entry}
-use Rattle.irig_plant.specs.Schedule.{Setup, setup_at, log_of}
-use Rattle.irig_plant.specs.Headline.{IsKeptUpTo}
-use Rattle.irig_plant.specs.Edges.{Course, course_of, is_restarted, IsGuard, IsHeld, IsLongestRun, IsLastVote}
+use Rattle.irig_plant.specs.Schedule.{Setup, log_of}
+use Rattle.irig_plant.specs.Headline.{HasPremises}
+use Rattle.irig_plant.specs.Edges.{VotedEdges, voted_edges_of, is_restarted, IsGuard, IsHeld, IsLongestRun, IsLastVote}
 
-abbrev pub announced : UtcSecond → Lock → Cause → Report
-announced u l c = record { announce = Some u; lock = l; cause = c }
+-- a second with a lock and a cause
+abbrev pub announcement : UtcSecond → Lock → Cause → Report
+announcement u l c = record { announce = Some u; lock = l; cause = c }
 
-abbrev pub silent : Lock → Cause → Report
-silent l c = record { announce = None; lock = l; cause = c }
+-- no second, with a lock and a cause
+abbrev pub silence : Lock → Cause → Report
+silence l c = record { announce = None; lock = l; cause = c }
 
--- the premises at an entry whose edge has the second v: its reader's table is true, and its ports were kept so far
+-- the edge of an entry has the second v, and the entry its premises
 pub record IsServed (s : Setup) (ev : List Event) (e : Entry) (v : UtcSecond) : Type 0 where
   pub second : second_at s.times e.edge ≡ Some v
-  pub true_table : IsTrueTable s.times (setup_at s.readers e.reader).table
-  pub kept : IsKeptUpTo s e.reader e.edge ev
+  pub premises : HasPremises s ev e
 
 -- ---- announces exactly when held
 
 -- where T of its edge exists, an entry announces if and only if the edge is held
 pub record AnnouncesWhenHeld (s : Setup) (ev : List Event) (e : Entry) : Type 0 where
-  pub exactly : (v : UtcSecond) → IsServed s ev e v → (is_some e.report.announce ≡ true) ↔ IsHeld (course_of s e.reader ev) e.edge
+  pub exactly : (v : UtcSecond) → IsServed s ev e v
+      → (is_some e.report.announce ≡ true) ↔ IsHeld (voted_edges_of s e.reader ev) e.edge
 
 -- ---- lock and cause of an announcement
 
 -- by a hold whose last vote is age edges old
-pub record IsHeldOver (x : Course) (n : ℕ) (v : UtcSecond) (said : Report) : Type 0 where
+pub record IsHeldOver (x : VotedEdges) (n : ℕ) (v : UtcSecond) (said : Report) : Type 0 where
   pub age : ℕ
   pub last : IsLastVote x n age
-  pub report : said ≡ announced v (lock.Holdover age) cause.Held
+  pub report : said ≡ announcement v (lock.Holdover age) cause.Held
 
 -- by the vote of its edge, and where there is none by a hold
-pub record IsAnnouncement (x : Course) (n : ℕ) (v : UtcSecond) (said : Report) : Type 0 where
-  pub voted : x.voted n ≡ true → said ≡ announced v lock.Locked cause.Voted
+pub record IsAnnouncement (x : VotedEdges) (n : ℕ) (v : UtcSecond) (said : Report) : Type 0 where
+  pub voted : x.voted n ≡ true → said ≡ announcement v lock.Locked cause.Voted
   pub held : x.voted n ≡ false → IsHeldOver x n v said
 
--- where it announces
-pub record TellsItsLock (s : Setup) (ev : List Event) (e : Entry) : Type 0 where
+-- if it announces, its lock is the one that the events give
+pub record HasItsLock (s : Setup) (ev : List Event) (e : Entry) : Type 0 where
   pub lock : (v : UtcSecond) → IsServed s ev e v → is_some e.report.announce ≡ true
-      → IsAnnouncement (course_of s e.reader ev) e.edge v e.report
+      → IsAnnouncement (voted_edges_of s e.reader ev) e.edge v e.report
 
 -- ---- cause of a silence
 
@@ -69,28 +71,28 @@ pub record WasHeld (s : Setup) (ev : List Event) (r n : ℕ) : Type 0 where
   pub unbroken : is_restarted r ev before ≡ false
 
 -- none of the limit edges below n is voted
-abbrev pub NoneWithin : Course → ℕ → ℕ → Type 0
+abbrev pub NoneWithin : VotedEdges → ℕ → ℕ → Type 0
 NoneWithin x n limit = (j : ℕ) → n ≤ j + limit → j < n → x.voted j ≡ false
 
 -- it counts the voted edges of a run
-pub record IsCounting (x : Course) (n : ℕ) (said : Report) : Type 0 where
+pub record IsCounting (x : VotedEdges) (n : ℕ) (said : Report) : Type 0 where
   pub count : ℕ
   pub run : IsLongestRun x n count
-  pub report : said ≡ silent (lock.Acquiring count) cause.Acquiring
+  pub report : said ≡ silence (lock.Acquiring count) cause.Acquiring
 
 -- the guard stopped it, at a guard edge
-pub record IsStopped (x : Course) (n : ℕ) (said : Report) : Type 0 where
-  pub report : said ≡ silent lock.Unlocked cause.LeapGuard
+pub record IsStopped (x : VotedEdges) (n : ℕ) (said : Report) : Type 0 where
+  pub report : said ≡ silence lock.Unlocked cause.LeapGuard
   pub guard : IsGuard x n
 
 -- why it says nothing; held is whether it announced at the tick before, and no restart fell between
-pub record IsSilence (x : Course) (held : Type 0) (n : ℕ) (said : Report) : Type 0 where
+pub record IsSilence (x : VotedEdges) (held : Type 0) (n : ℕ) (said : Report) : Type 0 where
   pub voted : x.voted n ≡ true → IsCounting x n said
-  pub expired : x.voted n ≡ false → held → NoneWithin x n x.own.holdover → said ≡ silent lock.Unlocked cause.Expired
+  pub expired : x.voted n ≡ false → held → NoneWithin x n x.own.holdover → said ≡ silence lock.Unlocked cause.Expired
   pub guarded : x.voted n ≡ false → held → ¬ NoneWithin x n x.own.holdover → IsStopped x n said
-  pub other : x.voted n ≡ false → ¬ held → said ≡ silent lock.Unlocked cause.NoVote
+  pub other : x.voted n ≡ false → ¬ held → said ≡ silence lock.Unlocked cause.NoVote
 
--- where it is silent
-pub record TellsItsCause (s : Setup) (ev : List Event) (e : Entry) : Type 0 where
+-- if it is silent, its cause is the one that the events give
+pub record HasItsCause (s : Setup) (ev : List Event) (e : Entry) : Type 0 where
   pub cause : (v : UtcSecond) → IsServed s ev e v → is_some e.report.announce ≡ false
-      → IsSilence (course_of s e.reader ev) (WasHeld s ev e.reader e.edge) e.edge e.report
+      → IsSilence (voted_edges_of s e.reader ev) (WasHeld s ev e.reader e.edge) e.edge e.report

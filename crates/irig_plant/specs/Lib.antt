@@ -1,5 +1,5 @@
 pub mod Widths
-pub mod Feeds
+pub mod Pulses
 pub mod Sound
 pub mod Schedule
 pub mod Refusals
@@ -8,4 +8,4 @@ pub mod Audits
 pub mod Edges
 pub mod Headline
 pub mod Exactly
-pub mod StandsFor
+pub mod History

@@ -1,6 +1,7 @@
 -- Why an event is refused: the first reason of its line, from the left.
+-- Source: docs/FAULTS.md, 19 to 22.
 use Rattle.std.specs.Prelude.{ℕ, ◌+◌, nat_lt, is_some, if◌then◌else◌, List, length, Option, Some, None}
-use Rattle.irig_time.specs.Times.{second_at}
+use Rattle.irig_time.specs.Timelines.{second_at}
 use Rattle.irig_plant.specs.declared.event.Event.{Event}
 use Rattle.irig_plant.specs.declared.event.Event.TheVariants.{GenEdge, Tick, Carry, Damage, Replay, Raw, Fault, Repair, Restart}
 use Rattle.irig_plant.specs.declared.fault.PlantFault.{PlantFault}

@@ -8,9 +8,9 @@ use Rattle.irig_plant.specs.Schedule.{Setup}
 use Rattle.irig_plant.specs.Refusals.{refusal}
 
 -- what has come, the newest first, once these events came too, the oldest of them first
-abbrev pub played : List Event → List Event → List Event
-played [] ev = ev
-played (e ∷ es) ev = played es (e ∷ ev)
+abbrev pub events_after : List Event → List Event → List Event
+events_after [] ev = ev
+events_after (e ∷ es) ev = events_after es (e ∷ ev)
 
 -- none of them is refused
 abbrev pub AreAccepted : Setup → List Event → List Event → Type 0

@@ -1,73 +1,76 @@
 -- What a schedule says: what each generator, port and reader comes to by a list of events, and what is then logged.
 -- Lists of events and of votes are written newest first, so that what was "since the last .." comes first in them.
+-- Source: docs/PLANT.md, events and what a list of them says.
 use Rattle.std.specs.Prelude.{ℕ, ◌+◌, Bool, false, ◌==◌, ◌&&◌, if◌then◌else◌, pos, List, [], ◌∷◌, ◌++◌, length, Option, Some, None, slice_index_or}
 use Rattle.irig_control.specs.declared.parity.Parity.TheVariants.{Even}
 use Rattle.irig_time.specs.declared.rules.Rules.{Rules}
 use Rattle.irig_time.specs.declared.rules.Sense.TheVariants.{Add}
 use Rattle.irig_time.specs.declared.rules.SbsUse.TheVariants.{Ignore}
 use Rattle.irig_time.specs.declared.claim.Claim.{Claim}
-use Rattle.irig_time.specs.Times.{Times}
+use Rattle.irig_time.specs.Timelines.{TimelineValue}
 use Rattle.irig_time.specs.Tables.{table}
 use Rattle.irig_gen.specs.declared.fault.GenFault.{GenFault}
-use Rattle.irig_gen.specs.Frames.{Gen, gen}
+use Rattle.irig_gen.specs.Frames.{GeneratorValue, gen}
 use Rattle.irig_gen.specs.Sent.{frame_of, sent_of}
-use Rattle.irig_vote.specs.declared.redundancy.Redundancy.{Redundancy}
-use Rattle.irig_vote.specs.declared.redundancy.Redundancy.TheVariants.{Three, Five}
-use Rattle.irig_reader.specs.Life.{Fed, Life, vote_at_tick, report_at_tick}
+use Rattle.irig_vote.specs.Vote.{redundancy_of}
+use Rattle.irig_reader.specs.History.{Fed, ReaderHistory, vote_at_tick, report_at_tick}
 use Rattle.irig_plant.specs.declared.event.Event.{Event}
 use Rattle.irig_plant.specs.declared.event.Event.TheVariants.{GenEdge, Tick, Carry, Damage, Replay, Raw, Fault, Repair, Restart}
 use Rattle.irig_plant.specs.declared.entry.Entry.{Entry}
 use Rattle.irig_plant.specs.declared.setup.ReaderSetup.{ReaderSetup}
-use Rattle.irig_plant.specs.Widths.{widths_of, damaged}
+use Rattle.irig_plant.specs.Widths.{widths_of, with_damage}
 
 -- what a plant is made of
 pub record Setup : Type 0 where
-  pub times : Times
-  pub generators : List Gen
+  pub times : TimelineValue
+  pub generators : List GeneratorValue
   pub rules : Rules
   pub readers : List ReaderSetup
 
-abbrev pub setup : Times → List Gen → Rules → List ReaderSetup → Setup
-setup times generators rules readers = record { times = times; generators = generators; rules = rules; readers = readers }
+-- the plant of this timeline, these generators, rules and readers
+abbrev pub setup : TimelineValue → List GeneratorValue → Rules → List ReaderSetup → Setup
+setup times generators rules readers =
+    record { times = times; generators = generators; rules = rules; readers = readers }
 
--- three generators or five
-abbrev pub redundancy_of : ℕ → Redundancy
-redundancy_of generators = if generators == 3 then Three else Five
-
--- what stands for a reader and a generator past the last one; no event that is accepted names it
+-- what stands for a reader past the last one; no event that is accepted names it
 abbrev pub no_reader : ReaderSetup
 no_reader = record { rules = record { lock_after = 1; holdover = 0 }; table = table 0 [] }
 
-abbrev pub no_generator : Gen
-no_generator = gen (record { half_hours = pos 0; dst = false }) [] (record { parity = Even; sense = Add; sbs = Ignore }) 0 None 0
+-- what stands for a generator past the last one
+abbrev pub no_generator : GeneratorValue
+no_generator =
+    gen (record { half_hours = pos 0; dst = false }) [] (record { parity = Even; sense = Add; sbs = Ignore }) 0 None 0
 
 -- ---- generators
 
-abbrev pub stepped : Gen → Gen
-stepped x = record x { edge = x.edge + 1 }
+-- the generator an edge further
+abbrev pub generator_at_next_edge : GeneratorValue → GeneratorValue
+generator_at_next_edge x = record x { edge = x.edge + 1 }
 
 -- the fault is set at the edge at which the generator stands
-abbrev pub faulty : GenFault → Gen → Gen
-faulty kind x = record x { fault = Some kind; since = x.edge }
+abbrev pub generator_with_fault : GenFault → GeneratorValue → GeneratorValue
+generator_with_fault kind x = record x { fault = Some kind; since = x.edge }
 
-abbrev pub repaired : Gen → Gen
-repaired x = record x { fault = None }
+-- the generator repaired
+abbrev pub generator_without_fault : GeneratorValue → GeneratorValue
+generator_without_fault x = record x { fault = None }
 
 -- generator g: an edge further with each of its steps, and with its last fault unless it was repaired since
-abbrev pub generator_at : Setup → ℕ → List Event → Gen
+abbrev pub generator_at : Setup → ℕ → List Event → GeneratorValue
 generator_at s g [] = slice_index_or s.generators g no_generator
-generator_at s g (GenEdge x ∷ ev) = if x == g then stepped (generator_at s g ev) else generator_at s g ev
-generator_at s g (Fault x kind ∷ ev) = if x == g then faulty kind (generator_at s g ev) else generator_at s g ev
-generator_at s g (Repair x ∷ ev) = if x == g then repaired (generator_at s g ev) else generator_at s g ev
+generator_at s g (GenEdge x ∷ ev) = if x == g then generator_at_next_edge (generator_at s g ev) else generator_at s g ev
+generator_at s g (Fault x kind ∷ ev) =
+    if x == g then generator_with_fault kind (generator_at s g ev) else generator_at s g ev
+generator_at s g (Repair x ∷ ev) = if x == g then generator_without_fault (generator_at s g ev) else generator_at s g ev
 generator_at s g (_ ∷ ev) = generator_at s g ev
 
 -- the pulses that it now sends
-abbrev pub sent : Setup → ℕ → List Event → List ℕ
-sent s g ev = widths_of (sent_of (generator_at s g ev) s.times)
+abbrev pub pulses_sent : Setup → ℕ → List Event → List ℕ
+pulses_sent s g ev = widths_of (sent_of (generator_at s g ev) s.times)
 
 -- the pulses that it sends at an edge where it has no fault
-abbrev pub sent_at : Setup → ℕ → ℕ → List Event → List ℕ
-sent_at s g edge ev = widths_of (frame_of None (generator_at s g ev) s.times edge)
+abbrev pub pulses_sent_at : Setup → ℕ → ℕ → List Event → List ℕ
+pulses_sent_at s g edge ev = widths_of (frame_of None (generator_at s g ev) s.times edge)
 
 -- ---- ports
 
@@ -77,20 +80,21 @@ pub record Delivery : Type 0 where
   pub reader : ℕ
   pub widths : List ℕ
 
+-- these pulses, from this generator to this reader
 abbrev pub delivery : ℕ → ℕ → List ℕ → Delivery
 delivery g r widths = record { generator = g; reader = r; widths = widths }
 
 -- what an event delivers that comes after ev
-abbrev pub delivered : Setup → Event → List Event → Option Delivery
-delivered s (Carry g r) ev = Some (delivery g r (sent s g ev))
-delivered s (Damage g r at width) ev = Some (delivery g r (damaged at width (sent s g ev)))
-delivered s (Replay g r edge) ev = Some (delivery g r (sent_at s g edge ev))
-delivered s (Raw g r widths) ev = Some (delivery g r widths)
-delivered s (GenEdge g) ev = None
-delivered s (Tick r) ev = None
-delivered s (Fault g kind) ev = None
-delivered s (Repair g) ev = None
-delivered s (Restart r) ev = None
+abbrev pub delivery_of : Setup → Event → List Event → Option Delivery
+delivery_of s (Carry g r) ev = Some (delivery g r (pulses_sent s g ev))
+delivery_of s (Damage g r at width) ev = Some (delivery g r (with_damage at width (pulses_sent s g ev)))
+delivery_of s (Replay g r edge) ev = Some (delivery g r (pulses_sent_at s g edge ev))
+delivery_of s (Raw g r widths) ev = Some (delivery g r widths)
+delivery_of s (GenEdge g) ev = None
+delivery_of s (Tick r) ev = None
+delivery_of s (Fault g kind) ev = None
+delivery_of s (Repair g) ev = None
+delivery_of s (Restart r) ev = None
 
 -- whether the event leaves the ports of reader r empty
 abbrev pub empties : ℕ → Event → Bool
@@ -106,8 +110,9 @@ with_delivery r p (Some d) widths = if (d.reader == r) && (d.generator == p) the
 -- heard(r, p): the pulses that port p of reader r was fed since its last tick or restart
 abbrev pub heard_at : Setup → ℕ → ℕ → List Event → List ℕ
 heard_at s r p [] = []
-heard_at s r p (e ∷ ev) = if empties r e then [] else with_delivery r p (delivered s e ev) (heard_at s r p ev)
+heard_at s r p (e ∷ ev) = if empties r e then [] else with_delivery r p (delivery_of s e ev) (heard_at s r p ev)
 
+-- what all ports of reader r were fed since
 abbrev pub fed_at : Setup → ℕ → List Event → Fed
 fed_at s r ev = record {
   a = heard_at s r 0 ev;
@@ -125,12 +130,13 @@ ticks_of r [] = 0
 ticks_of r (Tick x ∷ ev) = if x == r then ticks_of r ev + 1 else ticks_of r ev
 ticks_of r (_ ∷ ev) = ticks_of r ev
 
+-- what reader r is made of
 abbrev pub setup_at : List ReaderSetup → ℕ → ReaderSetup
 setup_at readers r = slice_index_or readers r no_reader
 
 -- a reader that was fed this and had these votes
-abbrev pub life_with : Setup → ℕ → Fed → List (Option Claim) → Life
-life_with s r fed votes = record {
+abbrev pub history_with : Setup → ℕ → Fed → List (Option Claim) → ReaderHistory
+history_with s r fed votes = record {
   rules = s.rules;
   own = (setup_at s.readers r).rules;
   table = (setup_at s.readers r).table;
@@ -143,18 +149,20 @@ life_with s r fed votes = record {
 abbrev pub votes_of : Setup → ℕ → List Event → List (Option Claim)
 votes_of s r [] = []
 votes_of s r (Tick x ∷ ev) =
-    if x == r then vote_at_tick (life_with s r (fed_at s r ev) (votes_of s r ev)) ∷ votes_of s r ev else votes_of s r ev
+    if x == r then vote_at_tick (history_with s r (fed_at s r ev) (votes_of s r ev)) ∷ votes_of s r ev
+    else votes_of s r ev
 votes_of s r (Restart x ∷ ev) = if x == r then [] else votes_of s r ev
 votes_of s r (_ ∷ ev) = votes_of s r ev
 
-abbrev pub life_of : Setup → ℕ → List Event → Life
-life_of s r ev = life_with s r (fed_at s r ev) (votes_of s r ev)
+-- the history of reader r
+abbrev pub history_of : Setup → ℕ → List Event → ReaderHistory
+history_of s r ev = history_with s r (fed_at s r ev) (votes_of s r ev)
 
 -- ---- the log
 
 -- what is logged of a tick of r that comes now: its edge, and what the reader's rule says of its votes
 abbrev pub entry_of : Setup → ℕ → List Event → Entry
-entry_of s r ev = record { reader = r; edge = ticks_of r ev + 1; report = report_at_tick (life_of s r ev) }
+entry_of s r ev = record { reader = r; edge = ticks_of r ev + 1; report = report_at_tick (history_of s r ev) }
 
 -- one entry for each tick, the oldest first
 abbrev pub log_of : Setup → List Event → List Entry

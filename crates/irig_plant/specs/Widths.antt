@@ -1,14 +1,8 @@
--- The pulses of a sent frame, in microseconds (IRIG Standard 200-16, format B: 2 ms, 5 ms and 8 ms).
+-- The pulses of a frame that is sent, by their widths in microseconds.
+-- Source: IRIG Standard 200-16, format B: the nominal widths.
 use Rattle.std.specs.Prelude.{ℕ, List, [], Option, Some, None, map, slice_set}
 use Rattle.irig_frame.specs.declared.symbol.Symbol.{Symbol}
-use Rattle.irig_frame.specs.declared.symbol.Symbol.TheVariants.{Zero, One, Marker, Bad}
-
--- the nominal width of a symbol; no frame that is sent has a bad pulse
-abbrev pub width_of : Symbol → ℕ
-width_of Zero = 2000
-width_of One = 5000
-width_of Marker = 8000
-width_of Bad = 0
+use Rattle.irig_frame.specs.Symbols.{width_of}
 
 -- the pulses of a frame, if there is one
 abbrev pub widths_of : Option (List Symbol) → List ℕ
@@ -16,5 +10,5 @@ widths_of None = []
 widths_of (Some frame) = map width_of frame
 
 -- with the pulse of one element of another width; an element that isn't there changes nothing
-abbrev pub damaged : ℕ → ℕ → List ℕ → List ℕ
-damaged at width widths = slice_set widths at width
+abbrev pub with_damage : ℕ → ℕ → List ℕ → List ℕ
+with_damage at width widths = slice_set widths at width

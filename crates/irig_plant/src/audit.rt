@@ -3,14 +3,15 @@
 ghost use Rattle.std.specs.Prelude.{◌≡◌, ◌≤◌, ◌+◌, ◌-◌, None, Some, length, nat_lt};
 ghost use Rattle.std.specs.List.{list_all, range_with_len};
 ghost use Rattle.irig_time.specs.declared.mark.Mark.{Mark};
-ghost use Rattle.irig_time.specs.Times.{mark_by};
+ghost use Rattle.irig_time.specs.declared.second.TheConstants.{LAST_DAY};
+ghost use Rattle.irig_time.specs.Timelines.{mark_by};
 ghost use Rattle.irig_time.specs.TimelineFaults.{IsTimeline};
 ghost use Rattle.irig_vote.specs.Vote.{f_of, ports_of};
 ghost use Rattle.irig_plant.specs.Audits as audits;
 
 use crate::setup::ReaderSetup;
 use irig_port::Told;
-use irig_time::{Claim, Leap, LeapTable, Mark, Timeline};
+use irig_time::{Claim, LAST_DAY, Leap, LeapTable, Mark, Timeline};
 use irig_vote::{Redundancy, Tells};
 
 /// Whether the premises of a run hold under which each reader that announces announces the true second.
@@ -24,7 +25,6 @@ pub enum Audit {
     FalseTable { reader: u8 },
 }
 
-/// The audit of a plant to which nothing has happened.
 pub(crate) fn first_audit(timeline: &Timeline, readers: &[ReaderSetup]) -> Audit
     requires { (1 ≤ length readers.now) × (length readers.now ≤ 16) }
     ensures value { result ≡ audits.verdict (audits.first_false timeline.now 0 readers.now) None }
@@ -40,7 +40,6 @@ pub(crate) fn first_audit(timeline: &Timeline, readers: &[ReaderSetup]) -> Audit
     Audit::Kept
 }
 
-/// Whether the table says what the timeline has wherever it speaks, from the timeline's first day on.
 #[tactic(auto, unfolding(crate::specs::Audits::is_true_table))]
 fn is_true_table(timeline: &Timeline, table: &LeapTable) -> bool
     ensures value { result ≡ audits.is_true_table timeline.now table.now }
@@ -52,14 +51,13 @@ fn is_true_table(timeline: &Timeline, table: &LeapTable) -> bool
     }
 }
 
-/// Whether it does so from this day on.
 fn agrees_from(timeline: &Timeline, table: &LeapTable, first: u32) -> bool
-    ensures { result ≡ list_all (audits.agrees_on timeline.now table.now) (range_with_len first (36524 - first)) }
+    ensures { result ≡ list_all (audits.agrees_on timeline.now table.now)
+        (range_with_len first (LAST_DAY + 1 - first)) }
 {
-    (first..36524).all(|day| agrees(table.mark(day), timeline.leap(day)))
+    (first..LAST_DAY + 1).all(|day| agrees(table.mark(day), timeline.leap(day)))
 }
 
-/// Whether a table says nothing of a day's end, or what the timeline has.
 fn agrees(said: Mark, leap: Option<Leap>) -> bool
     ensures { result ≡ audits.agrees said (mark_by leap) }
 {
@@ -71,16 +69,16 @@ fn agrees(said: Mark, leap: Option<Leap>) -> bool
     }
 }
 
-/// The audit once the ports of a reader told this at a tick, where the truth is this claim.
-pub(crate) fn audited(
+pub(crate) fn audit_after(
     audit: Audit,
     place: (u8, u64),
     truth: Claim,
     told: &Tells,
     redundancy: Redundancy,
 ) -> Audit
-    ensures { result ≡ audits.audited audit (audits.place place.0 place.1)
-        (nat_lt (f_of redundancy) (audits.untrue_ports (Some truth) (ports_of told.now redundancy))) }
+    ensures { result ≡ audits.audit_after audit (audits.place place.0 place.1)
+        (nat_lt (f_of redundancy)
+        (audits.untrue_ports (Some truth) (ports_of told.now redundancy))) }
 {
     let is_broken = untrue_ports(truth, told, redundancy) > redundancy.f();
     match audit {
@@ -92,7 +90,6 @@ pub(crate) fn audited(
     }
 }
 
-/// How many of the ports tell an untrue claim.
 fn untrue_ports(truth: Claim, told: &Tells, redundancy: Redundancy) -> u8
     ensures { result ≡ audits.untrue_ports (Some truth) (ports_of told.now redundancy) }
 {
@@ -102,7 +99,6 @@ fn untrue_ports(truth: Claim, told: &Tells, redundancy: Redundancy) -> u8
     }
 }
 
-/// How many of these, five at most, are an untrue claim.
 fn untrue_in(truth: Claim, ports: &[Told]) -> u8
     requires { length ports.now ≤ 5 }
     ensures { result ≡ audits.untrue_ports (Some truth) ports.now }
@@ -110,7 +106,6 @@ fn untrue_in(truth: Claim, ports: &[Told]) -> u8
     ports.iter().filter(|told| is_untrue(truth, told)).count() as u8
 }
 
-/// Whether a port tells a claim that isn't the true one.
 fn is_untrue(truth: Claim, told: &Told) -> bool
     ensures { result ≡ audits.is_untrue (Some truth) told.now }
 {

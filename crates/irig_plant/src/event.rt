@@ -56,7 +56,6 @@ impl Widths {
         Ok(Widths { items })
     }
 
-    /// The widths as a slice.
     pub(crate) fn as_slice(&self) -> &[u32]
         ensures { result.now ≡ self.now }
     {

@@ -1,8 +1,8 @@
-//! Why an event is refused.
+//! The refusals of a plant.
 
 use std::alloc::AllocError;
 
-/// Why an event is refused, in the order in which reasons are told.
+/// Why an event is refused, in the order in which reasons are answered.
 #[derive(Clone, Copy, Debug, PartialEq, Eq)]
 pub enum PlantFault {
     /// There is no reader of this number.

@@ -3,19 +3,20 @@
 //! A [`Plant`] has three or five [`Generator`](irig_gen::Generator)s and 1 to 16
 //! [`Reader`](irig_reader::Reader)s, and takes one [`Event`] after another: a generator's edge, a reader's
 //! tick, a frame that is carried, damaged or replayed, raw pulses, a fault, its repair, a restart. Any order
-//! of events is legal. What a list of events comes to is told in `specs/Schedule.antt`; a plant's log is
+//! of events is legal. What a list of events comes to stands in `specs/Schedule.antt`; a plant's log is
 //! that of its events, whatever [`Port`](irig_port::Port) its readers have.
 #![tactic(auto)]
 
 mod audit;
+mod effects;
 mod entry;
 mod event;
 mod fault;
-mod feeding;
 mod laws;
 mod plant;
+mod pulses;
 mod setup;
-mod station;
+mod ticked_reader;
 
 pub use audit::Audit;
 pub use entry::Entry;

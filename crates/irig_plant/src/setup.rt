@@ -1,4 +1,4 @@
-//! What a reader of a plant is made of.
+//! The setup of a reader.
 
 use irig_reader::ReaderRules;
 use irig_time::LeapTable;

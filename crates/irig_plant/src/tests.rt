@@ -1,27 +1,20 @@
 ghost use Rattle.std.specs.Prelude.{IfOk};
-ghost use Rattle.irig_plant.specs.StandsFor.{AreGenerators};
+ghost use Rattle.irig_plant.specs.History.{AreGenerators};
 
 use crate::*;
-use irig_control::Parity;
 use irig_frame::Symbol;
 use irig_gen::{GenFault, Generator, Zone};
 use irig_port::{FlowPort, Port, WholePort};
 use irig_reader::{Cause, Lock, ReaderRules, Report};
-use irig_time::{LeapTable, Rules, SbsUse, Sense, Timeline, UtcSecond};
+use irig_time::{LAST_DAY, LeapTable, Rules, Timeline, UtcSecond};
 use std::alloc::Global;
 use std::process::Abort;
 use std::test::*;
 
-/// 2016-06-15, and the last day that is served.
+/// 2016-06-15.
 const JUNE: u32 = 6010;
 
-const LAST: u32 = 36523;
-
-const RULES: Rules = Rules {
-    parity: Parity::Even,
-    sense: Sense::Add,
-    sbs: SbsUse::Check,
-};
+const RULES: Rules = Rules::PLAIN;
 
 const UTC: Zone = Zone {
     half_hours: 0,
@@ -130,7 +123,7 @@ fn an_event_is_refused_for_its_first_fault(rt: HostRuntime) -> Result<(), Fail> 
 /// The timeline has the one second 23:59:59 of the last day: edge 0 is there and edge 1 isn't.
 #[test]
 fn the_years_end_after_the_last_second(rt: HostRuntime) -> Result<(), Fail> {
-    let mut plant = plant::<FlowPort>(rt.alloc(), second(LAST, 86399))?;
+    let mut plant = plant::<FlowPort>(rt.alloc(), second(LAST_DAY, 86399))?;
     assert!(rt; plant.apply(&Event::GenEdge(0)) == Err(PlantFault::EndOfYears));
     assert!(rt; plant.apply(&Event::Tick(0)) == Ok(()));
     assert!(rt; plant.apply(&Event::Tick(0)) == Err(PlantFault::EndOfYears));

@@ -4,8 +4,8 @@ use Rattle.std.proofs.lemmas.Bool.{ltb-false, lt-ltb, leb-false, lt-leb, le-ltb,
 use Rattle.irig_frame.specs.declared.symbol.Symbol.{Symbol}
 use Rattle.irig_frame.specs.declared.coded.Coded.{Coded}
 use Rattle.irig_frame.specs.declared.fault.FrameFault.{FrameFault}
-use Rattle.irig_frame.specs.Reading.{Reads}
-use Rattle.irig_frame.specs.Faults.{first_wrong, values_of, decoded}
+use Rattle.irig_frame.specs.Decoder.{Reads}
+use Rattle.irig_frame.specs.Faults.{first_wrong, values_of, decode_result}
 use Rattle.irig_frame.proofs.ReadingLaws.{decoded-reads, none_of, values_again}
 use Rattle.irig_control.specs.Control.{control_of}
 use Rattle.irig_control.specs.Parity.{has_parity, HasParity}
@@ -90,8 +90,8 @@ frame_claim rules s claim e =
     (omega (arith, low, high), b.1)
 
 -- where the elements are right, what decode answers is the values
-values_decoded : (s : List Symbol) (c : Coded) → length s ≡ 100 → first_wrong 0 s ≡ None → values_of s ≡ Ok c → decoded s ≡ Ok c
-unfolding decoded
+values_decoded : (s : List Symbol) (c : Coded) → length s ≡ 100 → first_wrong 0 s ≡ None → values_of s ≡ Ok c → decode_result s ≡ Ok c
+unfolding decode_result
 values_decoded s c len right e = rw (le-ltb (length s) 100 (omega arith), le-ltb 100 (length s) (omega arith), right) e
 
 carries : (rules : Rules) (s : List Symbol) (claim : Claim) → told_of rules s ≡ tells.Claim claim → Carries rules s claim

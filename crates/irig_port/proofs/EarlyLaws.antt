@@ -11,8 +11,8 @@ use Rattle.irig_frame.specs.declared.fault.FrameFault.{FrameFault}
 use Rattle.irig_frame.specs.declared.fault.FrameFault.TheVariants as fault
 use Rattle.irig_frame.specs.FieldTable.{is_marker_place, units_of, tens_of, places_of}
 use Rattle.irig_frame.specs.Values.{value}
-use Rattle.irig_frame.specs.Reading.{least, most}
-use Rattle.irig_frame.specs.Faults.{◌>>=◌, first_wrong, unless, field_at, values_of, decoded}
+use Rattle.irig_frame.specs.Decoder.{least, most}
+use Rattle.irig_frame.specs.Faults.{◌>>=◌, first_wrong, unless, field_at, values_of, decode_result}
 use Rattle.irig_time.specs.declared.rules.Rules.{Rules}
 use Rattle.irig_port.specs.declared.told.PortFault.TheVariants as port_fault
 use Rattle.irig_port.specs.declared.told.Told.{Told}
@@ -77,9 +77,9 @@ none-values s =
 
 -- ---- the two parts of what is decoded
 
-early_part-decoded : (s : List Symbol) → early_part (decoded s)
+early_part-decoded : (s : List Symbol) → early_part (decode_result s)
     ≡ cond (nat_lt (length s) 100) (Some (fault.Short (length s))) (cond (nat_lt 100 (length s)) (Some fault.Long) (first_wrong 0 s))
-unfolding decoded
+unfolding decode_result
 early_part-decoded s =
     rw (
       early_part-cond (nat_lt (length s) 100) (Err (fault.Short (length s))) (cond (nat_lt 100 (length s)) (Err fault.Long) (unless (first_wrong 0 s) (values_of s))),
@@ -99,7 +99,7 @@ wrong_told : (rules : Rules) (s : List Symbol) (f : FrameFault) → first_wrong 
 unfolding frame_told
 wrong_told rules s f e = rw e refl
 
-pub early_told : (rules : Rules) (s : List Symbol) (f : FrameFault) → (length s ≡ 0 → ⊥) → early_part (decoded s) ≡ Some f → told_of rules s ≡ tells.Fault (port_fault.Frame f)
+pub early_told : (rules : Rules) (s : List Symbol) (f : FrameFault) → (length s ≡ 0 → ⊥) → early_part (decode_result s) ≡ Some f → told_of rules s ≡ tells.Fault (port_fault.Frame f)
 unfolding told_of
 early_told rules s f some e =
     rw (ne_eqb (length s) 0 some)
@@ -114,10 +114,10 @@ no_fault false false x y o e = (refl, refl, e)
 pub record IsRightFrame (s : List Symbol) : Type 0 where
   pub len : length s ≡ 100
   pub right : first_wrong 0 s ≡ None
-  pub values : decoded s ≡ values_of s
+  pub values : decode_result s ≡ values_of s
 
-pub right_frame : (s : List Symbol) → early_part (decoded s) ≡ None → IsRightFrame s
-unfolding decoded
+pub right_frame : (s : List Symbol) → early_part (decode_result s) ≡ None → IsRightFrame s
+unfolding decode_result
 right_frame s e =
     let parts = no_fault (nat_lt (length s) 100) (nat_lt 100 (length s)) (fault.Short (length s)) fault.Long (first_wrong 0 s) (sym (early_part-decoded s) ∙ e) in
     let low = ltb-false _ _ parts.0 in

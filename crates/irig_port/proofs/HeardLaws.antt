@@ -6,17 +6,17 @@ use Rattle.std.proofs.lemmas.Bool.{cases_lt, cond_below, cond_above}
 use Rattle.irig_frame.specs.declared.symbol.Symbol.{Symbol}
 use Rattle.irig_frame.specs.Symbols.{symbol_of}
 use Rattle.irig_time.specs.declared.rules.Rules.{Rules}
-use Rattle.irig_port.specs.Heard.{added, symbols_of, heard}
+use Rattle.irig_port.specs.Heard.{with_symbol, symbols_of, symbols_heard}
 use Rattle.irig_port.proofs.ToldLaws.{long_told}
-use Rattle.irig_port.specs.Told.{told_of, told}
+use Rattle.irig_port.specs.Told.{told_of, told_of_widths}
 
-pub told_of-heard : (rules : Rules) (ws : List ℕ) → told_of rules (heard ws) ≡ told rules ws
+pub told_of-heard : (rules : Rules) (ws : List ℕ) → told_of rules (symbols_heard ws) ≡ told_of_widths rules ws
 told_of-heard rules ws =
     elim (cases_lt (length (symbols_of ws)) 101) [
       | inl h ↦ rw (take_all 101 (symbols_of ws) (omega arith))
       | inr h ↦
-          let l : length (heard ws) ≡ 101 = length-take-le 101 (symbols_of ws) h in
-          long_told rules (heard ws) (omega arith) ∙ sym (long_told rules (symbols_of ws) (omega arith))
+          let l : length (symbols_heard ws) ≡ 101 = length-take-le 101 (symbols_of ws) h in
+          long_told rules (symbols_heard ws) (omega arith) ∙ sym (long_told rules (symbols_of ws) (omega arith))
     ]
 
 -- one more, where n are kept
@@ -31,5 +31,5 @@ take-push n s x =
           cond_above (length (take n s)) n _ _ _ (omega arith) (take-append-le n s (x ∷ []) h)
     ]
 
-pub heard-push : (ws : List ℕ) (w : ℕ) → heard (ws ++ w ∷ []) ≡ added (heard ws) (symbol_of w)
+pub heard-push : (ws : List ℕ) (w : ℕ) → symbols_heard (ws ++ w ∷ []) ≡ with_symbol (symbols_heard ws) (symbol_of w)
 heard-push ws w = ap (take 101) (map-append symbol_of ws (w ∷ [])) ∙ take-push 101 (symbols_of ws) (symbol_of w)

@@ -13,7 +13,7 @@ use Rattle.irig_frame.specs.Values.{is_one, is_one_at, value, weights}
 use Rattle.irig_frame.specs.Faults.{element_fault, first_wrong, field_at, values_of}
 use Rattle.irig_control.specs.Parity.{ones, is_counted}
 use Rattle.irig_time.specs.declared.rules.Rules.{Rules}
-use Rattle.irig_port.specs.Heard.{added}
+use Rattle.irig_port.specs.Heard.{with_symbol}
 use Rattle.irig_port.specs.Told.{told_of, frame_told}
 use Rattle.irig_port.specs.Sums.{tables, sums_over, sums_of, parity_places, weight_at, adds_none, adds_to, is_row, field_from, values_from, frame_from, IsOf}
 use Rattle.irig_port.proofs.ToldLaws.{whole_told}
@@ -72,10 +72,10 @@ ones_of-push s x = omega (arith, ones-push s x, ones_le (s ++ x ∷ []))
 
 -- ---- one more symbol
 
-added-room : (s : List Symbol) (x : Symbol) → length s < 101 → added s x ≡ s ++ x ∷ []
+added-room : (s : List Symbol) (x : Symbol) → length s < 101 → with_symbol s x ≡ s ++ x ∷ []
 added-room s x h = grind arith
 
-added-full : (s : List Symbol) (x : Symbol) → 101 ≤ length s → added s x ≡ s
+added-full : (s : List Symbol) (x : Symbol) → 101 ≤ length s → with_symbol s x ≡ s
 added-full s x h = grind arith
 
 length-push : (s : List Symbol) (x : Symbol) → length (s ++ x ∷ []) ≡ length s + 1
@@ -87,7 +87,7 @@ pub numbers-push : (count parity : ℕ) (wrong after : Option FrameFault) (sums 
     → (count < 100 → weight_at parity_places count ≡ counts)
     → (count < 100 → after ≡ option_or wrong (element_fault count x))
     → IsOf (min (count + 1) 101) ((parity + cond (is_one (Some x)) counts 0) % 4294967296) after
-    (slice_set sums j ((slice_index sums j + cond (is_one (Some x)) w 0) % 4294967296)) (added s x)
+    (slice_set sums j ((slice_index sums j + cond (is_one (Some x)) w 0) % 4294967296)) (with_symbol s x)
 numbers-push count parity wrong after sums s x j w counts h row counted found =
     elim (cases_lt (length s) 101) [
       | inl low ↦ rw (added-room s x low) (grown low)

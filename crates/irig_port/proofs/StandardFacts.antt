@@ -1,8 +1,9 @@
 -- Known values of what a port tells, so that a wrong definition does not check.
-use Rattle.std.proofs.Common.{◌≡◌, ℕ, true, false, cond, eqb, List, [], ◌∷◌, ◌++◌, map, length, take, slice_set, Ok, Err, refl}
+use Rattle.std.proofs.Common.{◌≡◌, ℕ, true, false, List, [], ◌∷◌, ◌++◌, map, length, take, slice_set, Ok, Err, refl}
 use Rattle.std.specs.Prelude.{codes, replicate}
+use Rattle.irig_frame.proofs.StandardFacts.{symbols}
 use Rattle.irig_frame.specs.declared.symbol.Symbol.{Symbol}
-use Rattle.irig_frame.specs.declared.symbol.Symbol.TheVariants.{Zero, One, Marker, Bad}
+use Rattle.irig_frame.specs.declared.symbol.Symbol.TheVariants.{Zero, One, Bad}
 use Rattle.irig_frame.specs.declared.field.Field.TheVariants.{Second}
 use Rattle.irig_frame.specs.declared.coded.Coded.{Coded}
 use Rattle.irig_frame.specs.declared.fault.FrameFault.TheVariants as frame_fault
@@ -17,16 +18,12 @@ use Rattle.irig_time.specs.declared.claim.Claim.{Claim}
 use Rattle.irig_time.specs.declared.claim.TimeFault.TheVariants as time_fault
 use Rattle.irig_port.specs.declared.told.PortFault.TheVariants as fault
 use Rattle.irig_port.specs.declared.told.Told.TheVariants as tells
-use Rattle.irig_port.specs.Heard.{heard}
+use Rattle.irig_port.specs.Heard.{symbols_heard}
 use Rattle.irig_port.specs.Told.{is_sbs_wrong, claim_told, coded_told, frame_told, told_of}
-
--- the symbols of a text, in which P is a marker
-abbrev symbol_of_letter : ℕ → Symbol
-symbol_of_letter letter = cond (eqb letter 80) Marker (cond (eqb letter 49) One (cond (eqb letter 48) Zero Bad))
 
 -- 2000-01-03T00:00:00Z
 abbrev plain : List Symbol
-plain = map symbol_of_letter (codes "P00000000P000000000P000000000P110000000P000000000P000000000P000000000P000000000P000000000P000000000P")
+plain = symbols (codes "P00000000P000000000P000000000P110000000P000000000P000000000P000000000P000000000P000000000P000000000P")
 
 abbrev rules : Rules
 rules = record { parity = Even; sense = Add; sbs = Check }
@@ -72,5 +69,5 @@ unfolding told_of frame_told ones values_of field_at
 known_values = (refl, refl)
 
 -- 101 symbols are kept
-pub known_limit : map (λ n. length (heard (replicate n 2000))) (0 ∷ 100 ∷ 101 ∷ 102 ∷ 200 ∷ []) ≡ 0 ∷ 100 ∷ 101 ∷ 101 ∷ 101 ∷ []
+pub known_limit : map (λ n. length (symbols_heard (replicate n 2000))) (0 ∷ 100 ∷ 101 ∷ 102 ∷ 200 ∷ []) ≡ 0 ∷ 100 ∷ 101 ∷ 101 ∷ 101 ∷ []
 known_limit = refl

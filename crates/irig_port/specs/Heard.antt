@@ -4,13 +4,13 @@ use Rattle.irig_frame.specs.declared.symbol.Symbol.{Symbol}
 use Rattle.irig_frame.specs.Symbols.{symbol_of}
 
 -- one more symbol, while there is room
-abbrev pub added : List Symbol → Symbol → List Symbol
-added s x = if nat_lt (length s) 101 then s ++ x ∷ [] else s
+abbrev pub with_symbol : List Symbol → Symbol → List Symbol
+with_symbol s x = if nat_lt (length s) 101 then s ++ x ∷ [] else s
 
 -- the symbols of some widths
 abbrev pub symbols_of : List ℕ → List Symbol
 symbols_of widths = map symbol_of widths
 
 -- what a port stands for that was fed these widths
-abbrev pub heard : List ℕ → List Symbol
-heard widths = take 101 (symbols_of widths)
+abbrev pub symbols_heard : List ℕ → List Symbol
+symbols_heard widths = take 101 (symbols_of widths)

@@ -5,6 +5,7 @@ use Rattle.irig_time.specs.declared.rules.Rules.{Rules}
 use Rattle.irig_port.specs.declared.flow.FlowPort.{FlowPort}
 use Rattle.irig_port.specs.Sums.{IsOf}
 
+-- the port works by these rules, and its numbers are those of these symbols
 pub record Numbers (p : FlowPort) (rules : Rules) (s : List Symbol) : Type 0 where
   pub ruled : p.rules ≡ rules
   pub numbers : IsOf p.count p.ones p.wrong p.sums s

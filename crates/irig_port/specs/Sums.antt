@@ -9,7 +9,7 @@ use Rattle.irig_frame.specs.declared.fault.FrameFault.{FrameFault}
 use Rattle.irig_frame.specs.declared.fault.FrameFault.TheVariants as frame_fault
 use Rattle.irig_frame.specs.FieldTable.{TableEntry, at, units_of, tens_of, hundreds_of, control_places, straight_binary_places, is_marker_place}
 use Rattle.irig_frame.specs.Values.{value}
-use Rattle.irig_frame.specs.Reading.{least, most}
+use Rattle.irig_frame.specs.Decoder.{least, most}
 use Rattle.irig_frame.specs.Faults.{◌>>=◌, first_wrong}
 use Rattle.irig_control.specs.Parity
 use Rattle.irig_time.specs.declared.rules.Rules.{Rules}
@@ -29,13 +29,15 @@ tables =
 abbrev pub sums_over : List (List TableEntry) → List Symbol → List ℕ
 sums_over ts s = map (λ t. value t s) ts
 
+-- the sums that a port keeps of some symbols
 unfoldable pub sums_of : List Symbol → List ℕ
 sums_of s = sums_over tables s
 
--- the elements that the parity counts, each with what a one there adds
+-- an element with what a one there adds to the ones that the parity counts
 abbrev pub parity_place : ℕ → TableEntry
 parity_place i = at i (if not (is_marker_place i) then 1 else 0)
 
+-- the elements 1 to 75
 unfoldable pub parity_places : List TableEntry
 parity_places = map parity_place (range_with_len 1 75)
 
@@ -77,13 +79,22 @@ values_from n = do
   hour ← field_from Hour (slice_index n 4) (slice_index n 5) 0
   day ← field_from Day (slice_index n 6) (slice_index n 7) (slice_index n 8)
   year ← field_from Year (slice_index n 9) (slice_index n 10) 0
-  Ok (record { second = second; minute = minute; hour = hour; day = day; year = year; control = slice_index n 11 % 262144; sbs = slice_index n 12 % 131072 })
+  Ok (record {
+    second = second;
+    minute = minute;
+    hour = hour;
+    day = day;
+    year = year;
+    control = slice_index n 11 % 262144;
+    sbs = slice_index n 12 % 131072;
+  })
 
 -- what 100 symbols with these numbers tell
 unfoldable pub frame_from : Rules → Option FrameFault → ℕ → List ℕ → Told
 frame_from rules wrong ones n =
     told_unless wrong
-    (if ones % 2 == Parity.remainder_of rules.parity then values_told rules (values_from n) else tells.Fault fault.Parity)
+    (if ones % 2 == Parity.remainder_of rules.parity then values_told rules (values_from n)
+    else tells.Fault fault.Parity)
 
 -- the numbers of some symbols; past 100 nothing counts but how many there are
 pub record IsOf (count ones : ℕ) (wrong : Option FrameFault) (sums : List ℕ) (s : List Symbol) : Type 0 where

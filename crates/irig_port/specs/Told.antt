@@ -68,8 +68,8 @@ told_of rules s =
     else frame_told rules s))
 
 -- what some widths tell
-abbrev pub told : Rules → List ℕ → Told
-told rules widths = told_of rules (symbols_of widths)
+abbrev pub told_of_widths : Rules → List ℕ → Told
+told_of_widths rules widths = told_of rules (symbols_of widths)
 
 -- a fact of the claim, if one is told
 abbrev pub IfClaim : Told → (Claim → Type 0) → Type 0

@@ -4,11 +4,9 @@ ghost use Rattle.std.specs.Prelude.{◌≡◌, ◌≤◌, ◌+◌, ℕ, min, Lis
 ghost use Rattle.std.specs.Option.{option_or};
 ghost use Rattle.irig_frame.specs.declared.symbol.Symbol.{Symbol};
 ghost use Rattle.irig_frame.specs.FieldTable.{is_marker_place};
-ghost use Rattle.irig_frame.specs.Values.{is_one as is_one_symbol};
 ghost use Rattle.irig_frame.specs.Symbols.{symbol_of};
-ghost use Rattle.irig_frame.specs.Reading.{least, most, IsCoded};
+ghost use Rattle.irig_frame.specs.Decoder.{least, most, IsCoded};
 ghost use Rattle.irig_frame.specs.Faults.{element_fault};
-ghost use Rattle.irig_control.specs.Parity.{remainder_of};
 ghost use Rattle.irig_time.specs.Seconds.{IsValid};
 ghost use Rattle.irig_time.specs.declared.rules.Rules.{Rules};
 ghost use Rattle.irig_port.specs.Told.{told_of, IfClaim};
@@ -19,10 +17,9 @@ use crate::table::{
     CONTROL, DAY_HUNDREDS, DAY_TENS, DAY_UNITS, HOUR_TENS, HOUR_UNITS, MINUTE_TENS, MINUTE_UNITS,
     SECOND_TENS, SECOND_UNITS, STRAIGHT_BINARY, SUMS, YEAR_TENS, YEAR_UNITS, row_of,
 };
-use crate::telling::tell_values;
 use crate::told::{PortFault, Told};
-use irig_control::Parity;
-use irig_frame::{Coded, Field, FrameFault, Symbol, classify};
+use crate::verdict::tell_values;
+use irig_frame::{Coded, Field, FrameFault, classify, fault_at, is_one_width, is_right_width};
 use irig_time::Rules;
 
 /// A port that keeps what its symbols come to: their number, the sums of the decimal digits, of the
@@ -84,9 +81,9 @@ impl Port for FlowPort {
 impl FlowPort {
     ghost use Rattle.irig_port.specs.Numbers.{Numbers};
 
-    /// What the numbers tell.
     fn tell(&self) -> Told
-        ensures told { (rules : Rules) (s : List Symbol) → Numbers self.now rules s → result ≡ told_of rules s }
+        ensures told { (rules : Rules) (s : List Symbol) → Numbers self.now rules s
+            → result ≡ told_of rules s }
         ensures valid { IfClaim result (λ claim. IsValid claim.at) }
     {
         if self.count == 0 {
@@ -102,15 +99,6 @@ impl FlowPort {
     }
 }
 
-/// Whether the width is that of a one.
-#[inline]
-fn is_one_width(width_us: u32) -> bool
-    ensures { result ≡ is_one_symbol (Some (symbol_of width_us)) }
-{
-    (3500..6500).contains(&width_us)
-}
-
-/// The weight, where the pulse is a one.
 #[inline]
 fn weight_if(is_one: bool, weight: u32) -> u32
     ensures { result ≡ (if is_one then weight else 0) }
@@ -118,39 +106,16 @@ fn weight_if(is_one: bool, weight: u32) -> u32
     if is_one { weight } else { 0 }
 }
 
-/// Keeps the fault of the element, unless one was found before.
 #[inline]
 fn note(wrong: &mut Option<FrameFault>, element: u8, at_marker_place: bool, width_us: u32)
     ensures { is_marker_place element ≡ at_marker_place
         → wrong.new ≡ option_or wrong.old (element_fault element (symbol_of width_us)) }
 {
-    if !is_right(at_marker_place, width_us) && wrong.is_none() {
-        *wrong = fault_at(element, at_marker_place, classify(width_us));
+    if !is_right_width(width_us, at_marker_place) && wrong.is_none() {
+        *wrong = fault_at(element, classify(width_us));
     }
 }
 
-/// Whether a pulse of the width may stand at the element.
-#[inline]
-fn is_right(at_marker_place: bool, width_us: u32) -> bool
-    ensures { (i : ℕ) → is_marker_place i ≡ at_marker_place → result ≡ true
-        → element_fault i (symbol_of width_us) ≡ None }
-{
-    (500..9500).contains(&width_us) && (6500 <= width_us) == at_marker_place
-}
-
-/// The fault of an element, if it has one.
-fn fault_at(element: u8, at_marker_place: bool, symbol: Symbol) -> Option<FrameFault>
-    ensures { is_marker_place element ≡ at_marker_place → result ≡ element_fault element symbol }
-{
-    match symbol {
-        Symbol::Bad => Some(FrameFault::Pulse(element)),
-        Symbol::Marker if !at_marker_place => Some(FrameFault::Marker(element)),
-        Symbol::Zero | Symbol::One if at_marker_place => Some(FrameFault::Marker(element)),
-        _ => None,
-    }
-}
-
-/// One more, up to 101.
 #[inline]
 fn one_more(count: usize) -> usize
     requires { count ≤ 101 }
@@ -159,7 +124,6 @@ fn one_more(count: usize) -> usize
     count + usize::from(count < 101)
 }
 
-/// What 100 symbols with these numbers tell.
 #[tactic(auto, unfolding(crate::specs::Sums::frame_from))]
 fn tell_frame(rules: &Rules, wrong: Option<FrameFault>, ones: u32, sums: &[u32; SUMS]) -> Told
     ensures told { result ≡ frame_from rules.now wrong ones sums.now }
@@ -168,23 +132,12 @@ fn tell_frame(rules: &Rules, wrong: Option<FrameFault>, ones: u32, sums: &[u32; 
     if let Some(fault) = wrong {
         return Told::Fault(PortFault::Frame(fault));
     }
-    if ones % 2 != parity_remainder(rules.parity) {
+    if ones % 2 != u32::from(rules.parity.remainder()) {
         return Told::Fault(PortFault::Parity);
     }
     tell_values(rules, values_of(sums))
 }
 
-/// The remainder by 2 of a number of ones.
-fn parity_remainder(parity: Parity) -> u32
-    ensures { result ≡ remainder_of parity }
-{
-    match parity {
-        Parity::Even => 0,
-        Parity::Odd => 1,
-    }
-}
-
-/// The values with these sums, or the fault of the first wrong field.
 #[tactic(auto, unfolding(crate::specs::Sums::values_from))]
 fn values_of(sums: &[u32; SUMS]) -> Result<Coded, FrameFault>
     ensures value { result ≡ values_from sums.now }
@@ -212,7 +165,6 @@ fn values_of(sums: &[u32; SUMS]) -> Result<Coded, FrameFault>
     })
 }
 
-/// The value of a field with these digits, or its fault.
 fn field_of(field: Field, units: u32, tens: u32, hundreds: u32) -> Result<u64, FrameFault>
     ensures value { result ≡ field_from field units tens hundreds }
     ensures in_range { IfOk result (λ n. (least field ≤ n) × (n ≤ most field)) }
@@ -221,23 +173,9 @@ fn field_of(field: Field, units: u32, tens: u32, hundreds: u32) -> Result<u64, F
         return Err(FrameFault::Digit(field));
     }
     let value = u64::from(units) + u64::from(tens) + u64::from(hundreds);
-    let (least, most) = bounds(field);
-    if value < least || value > most {
+    let (least, most) = field.bounds();
+    if value < u64::from(least) || value > u64::from(most) {
         return Err(FrameFault::Range(field));
     }
     Ok(value)
-}
-
-/// The least and the greatest value of a field.
-fn bounds(field: Field) -> (u64, u64)
-    ensures least { result.0 ≡ least field }
-    ensures greatest { result.1 ≡ most field }
-{
-    match field {
-        Field::Second => (0, 60),
-        Field::Minute => (0, 59),
-        Field::Hour => (0, 23),
-        Field::Day => (1, 366),
-        Field::Year => (0, 99),
-    }
 }

@@ -10,8 +10,8 @@ mod flow;
 mod laws;
 mod port;
 mod table;
-mod telling;
 mod told;
+mod verdict;
 mod whole;
 
 pub use flow::FlowPort;

@@ -5,7 +5,7 @@ ghost use Rattle.irig_frame.specs.declared.symbol.Symbol.{Symbol};
 ghost use Rattle.irig_frame.specs.Symbols.{symbol_of};
 ghost use Rattle.irig_time.specs.declared.rules.Rules.{Rules};
 ghost use Rattle.irig_time.specs.Seconds.{IsValid};
-ghost use Rattle.irig_port.specs.Heard.{added};
+ghost use Rattle.irig_port.specs.Heard.{with_symbol};
 ghost use Rattle.irig_port.specs.Told.{told_of, IfClaim};
 
 use crate::told::Told;
@@ -26,7 +26,7 @@ pub trait Port: Drop {
     /// One pulse, `width_us` microseconds wide. From the 102nd on a pulse changes nothing.
     fn pulse(&mut self, width_us: u32)
         ensures { (rules : Rules) (s : List Symbol) → stands_for self.old rules s
-            → stands_for self.new rules (added s (symbol_of width_us)) };
+            → stands_for self.new rules (with_symbol s (symbol_of width_us)) };
 
     /// What the pulses since the port was last empty tell. The port is then empty. A claim is of a
     /// [`valid`](irig_time::valid) second, whatever the port was fed.

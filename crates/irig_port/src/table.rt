@@ -1,7 +1,7 @@
 //! What a one at each element adds to the numbers of a port, laid out as the standard's table.
 //!
-//! Source: IRIG Standard 200-16, format B, code B004. The crate's proof compares this table with the
-//! field table of `irig_frame`, element by element.
+//! Source: IRIG Standard 200-16, format B, code B004. It is the field table of `irig_frame` once more, by
+//! element, since a pulse looks up its element; the crate's proof compares the two, element by element.
 
 ghost use Rattle.std.specs.Prelude.{◌≡◌, ◌<◌, true, slice_index_or};
 ghost use Rattle.irig_frame.specs.FieldTable.{is_marker_place};
@@ -87,7 +87,6 @@ static ROWS: [Row; 102] = rows![
     P 0: SPARE 0 0;
 ];
 
-/// The row of an element.
 #[inline]
 pub(crate) fn row_of(element: usize) -> Row
     requires { element < 102 }
@@ -99,6 +98,7 @@ pub(crate) fn row_of(element: usize) -> Row
     table_row(element)
 }
 
+// Apart from `row_of`, whose clauses follow from this one.
 #[inline]
 fn table_row(element: usize) -> Row
     requires { element < 102 }

@@ -7,11 +7,7 @@ use irig_control::Parity;
 use irig_frame::Symbol;
 use irig_time::{Claim, Mark, Rules, SbsUse, Sense, UtcSecond};
 
-const RULES: Rules = Rules {
-    parity: Parity::Even,
-    sense: Sense::Add,
-    sbs: SbsUse::Check,
-};
+const RULES: Rules = Rules::PLAIN;
 
 /// 2016-12-31T23:59:59Z with a leap second to be inserted.
 const LEAP_DAY: &str =
@@ -36,22 +32,13 @@ const PLAIN_TOLD: Told = Told::Claim(Claim {
     mark: Mark::Unspoken,
 });
 
-fn symbol_of(letter: u8) -> Option<Symbol> {
-    match letter {
-        b'0' => Some(Symbol::Zero),
-        b'1' => Some(Symbol::One),
-        b'P' => Some(Symbol::Marker),
-        _ => None,
-    }
-}
-
 /// The symbols of a text, without its blanks.
 fn frame(text: &str) -> [Symbol; 100] {
     let letters = text.as_bytes().iter();
     let mut symbols = [Symbol::Zero; 100];
     for (place, symbol) in symbols
         .iter_mut()
-        .zip(letters.filter_map(|letter| symbol_of(*letter)))
+        .zip(letters.filter_map(|letter| Symbol::from_letter(*letter)))
     {
         *place = symbol;
     }
@@ -69,18 +56,9 @@ fn changed(text: &str, changes: &[(usize, Symbol)]) -> [Symbol; 100] {
     symbols
 }
 
-fn nominal_width(symbol: Symbol) -> u32 {
-    match symbol {
-        Symbol::Zero => 2000,
-        Symbol::One => 5000,
-        Symbol::Marker => 8000,
-        Symbol::Bad => 499,
-    }
-}
-
 fn feed<P: Port>(port: &mut P, symbols: &[Symbol]) {
     for symbol in symbols {
-        port.pulse(nominal_width(*symbol));
+        port.pulse(symbol.width_us());
     }
 }
 

@@ -7,8 +7,8 @@ ghost use Rattle.irig_port.specs.Told.{told_of, IfClaim};
 ghost use Rattle.irig_port.specs.Early.{early_part};
 
 use crate::port::Port;
-use crate::telling::tell_values;
 use crate::told::{PortFault, Told};
+use crate::verdict::tell_values;
 use arrayvec::ArrayVec;
 use irig_control::{Parity, parity_ok};
 use irig_frame::{Coded, FrameFault, Symbol, classify, decode};
@@ -22,7 +22,8 @@ pub struct WholePort {
 }
 
 impl Port for WholePort {
-    ghost stands_for = { λ p rules s. (p.rules ≡ rules) × (p.symbols.items ≡ s) × (length s ≤ 101) };
+    ghost stands_for = { λ p rules s.
+        (p.rules ≡ rules) × (p.symbols.items ≡ s) × (length s ≤ 101) };
 
     fn fresh(rules: Rules) -> Self {
         WholePort {
@@ -48,7 +49,6 @@ impl Port for WholePort {
     }
 }
 
-/// What some symbols tell.
 fn tell(rules: &Rules, symbols: &[Symbol]) -> Told
     ensures told { result ≡ told_of rules.now symbols.now }
     ensures valid { IfClaim result (λ claim. IsValid claim.at) }
@@ -76,7 +76,6 @@ fn early_fault(values: &Result<Coded, FrameFault>) -> Option<FrameFault>
     }
 }
 
-/// Whether 100 symbols have the parity.
 fn has_right_parity(symbols: &[Symbol], parity: Parity) -> bool
     requires { length symbols.now ≡ 100 }
     ensures { result ≡ has_parity parity symbols.now }

@@ -9,12 +9,12 @@ use Rattle.irig_time.specs.declared.mark.Mark.TheVariants.{Unspoken, Insert}
 use Rattle.irig_time.specs.declared.claim.Claim.{Claim}
 use Rattle.irig_time.specs.declared.leap.Leap.TheVariants as leap
 use Rattle.irig_time.specs.Days.{is_month_end}
-use Rattle.irig_time.specs.Tables.{Table, table}
+use Rattle.irig_time.specs.Tables.{TableValue, table}
 use Rattle.irig_time.proofs.Dates.{date_of_parts}
 use Rattle.irig_time.proofs.MonthEnds.{month_end_test}
 use Rattle.irig_time.proofs.NextLaws.{last_day}
 use Rattle.irig_time.proofs.StandardFacts.{month_end_6209}
-use Rattle.irig_hold.specs.Steps.{Counter, counter}
+use Rattle.irig_hold.specs.Steps.{HoldValue, hold_value}
 use Rattle.irig_port.specs.declared.told.PortFault.TheVariants as fault
 use Rattle.irig_port.specs.declared.told.Told.TheVariants as told
 use Rattle.irig_port.specs.Told.{told_of}
@@ -28,8 +28,8 @@ use Rattle.irig_reader.specs.declared.report.Cause.TheVariants as cause
 use Rattle.irig_reader.specs.declared.report.Report.{Report}
 use Rattle.irig_reader.specs.declared.rule.State.TheVariants.{Idle, Acquiring, Locked}
 use Rattle.irig_reader.specs.Rules.{IsReaderRules}
-use Rattle.irig_reader.specs.Rule.{stopped, announced, counted, stepped, state_of, report_of}
-use Rattle.irig_reader.specs.Life.{Life, fed_at, tells, vote_at_tick, ticked, restarted}
+use Rattle.irig_reader.specs.Rule.{stop_step, announcement, count_step, step_of, state_of, report_of}
+use Rattle.irig_reader.specs.History.{ReaderHistory, after_pulse, told_at_tick, vote_at_tick, after_tick, after_restart}
 
 -- ---- votes and reports
 
@@ -55,15 +55,15 @@ december = let m = month_end_6209 in (month_end_test 6209 (omega arith) (date_of
 abbrev rules : ℕ → ℕ → ReaderRules
 rules lock_after holdover = record { lock_after = lock_after; holdover = holdover }
 
-abbrev nothing : Table
+abbrev nothing : TableValue
 nothing = table 0 []
 
 -- what is said at each of these votes, the oldest first, after those before, the newest first
-abbrev reports_after : ReaderRules → Table → List (Option Claim) → List (Option Claim) → List Report
+abbrev reports_after : ReaderRules → TableValue → List (Option Claim) → List (Option Claim) → List Report
 reports_after own table before [] = []
 reports_after own table before (vote ∷ votes) = report_of own table vote before ∷ reports_after own table (vote ∷ before) votes
 
-abbrev reports : ReaderRules → Table → List (Option Claim) → List Report
+abbrev reports : ReaderRules → TableValue → List (Option Claim) → List Report
 reports own table votes = reports_after own table [] votes
 
 abbrev says : Option UtcSecond → Lock → Cause → Report
@@ -84,56 +84,56 @@ held sod age = says (Some (at 36523 sod)) (lock.Holdover age) cause.Held
 -- ---- one step
 
 -- a hold at a second of 2099-12-30
-abbrev hold : ℕ → ℕ → Counter
-hold sod age = counter (at 36523 sod) age Unspoken
+abbrev hold : ℕ → ℕ → HoldValue
+hold sod age = hold_value (at 36523 sod) age Unspoken
 
 -- where a second of that day follows
 module _ (own : ReaderRules) (sod : ℕ) (room : nat_lt sod 86399 ≡ true) where
   -- the first vote
-  first : stepped own nothing Idle (vote sod) ≡ counted own (hold (sod + 1) 0) 1
-  unfolding stepped
+  first : step_of own nothing Idle (vote sod) ≡ count_step own (hold (sod + 1) 0) 1
+  unfolding step_of
   first = rw (last_day, room) refl
 
   -- one that follows
-  further : (age count : ℕ) → stepped own nothing (Acquiring (hold sod age) count) (vote sod) ≡ counted own (hold (sod + 1) 0) (count + 1)
-  unfolding stepped
+  further : (age count : ℕ) → step_of own nothing (Acquiring (hold sod age) count) (vote sod) ≡ count_step own (hold (sod + 1) 0) (count + 1)
+  unfolding step_of
   further age count = rw (eq-eqb sod sod refl, last_day, room) refl
 
   -- one for another second begins anew
-  anew : (from age count : ℕ) → sod == from ≡ false → stepped own nothing (Acquiring (hold from age) count) (vote sod) ≡ counted own (hold (sod + 1) 0) 1
-  unfolding stepped
+  anew : (from age count : ℕ) → sod == from ≡ false → step_of own nothing (Acquiring (hold from age) count) (vote sod) ≡ count_step own (hold (sod + 1) 0) 1
+  unfolding step_of
   anew from age count other = rw (other, last_day, room) refl
 
   -- one that follows, of a locked reader
-  next : (age : ℕ) → stepped own nothing (Locked (hold sod age)) (vote sod) ≡ announced (hold (sod + 1) 0) (at 36523 (sod + 1)) lock.Locked cause.Voted
-  unfolding stepped
+  next : (age : ℕ) → step_of own nothing (Locked (hold sod age)) (vote sod) ≡ announcement (hold (sod + 1) 0) (at 36523 (sod + 1)) lock.Locked cause.Voted
+  unfolding step_of
   next age = rw (eq-eqb sod sod refl, last_day, room) refl
 
   -- none, of a locked reader within its limit
   over : (age : ℕ) → nat_le own.holdover age ≡ false
-      → stepped own nothing (Locked (hold sod age)) lost ≡ announced (hold (sod + 1) (age + 1)) (at 36523 (sod + 1)) (lock.Holdover (age + 1)) cause.Held
-  unfolding stepped
+      → step_of own nothing (Locked (hold sod age)) lost ≡ announcement (hold (sod + 1) (age + 1)) (at 36523 (sod + 1)) (lock.Holdover (age + 1)) cause.Held
+  unfolding step_of
   over age low = rw (low, last_day, room) refl
 
 -- whatever follows
 module _ (own : ReaderRules) where
   -- no vote, of a reader that has nothing, and of one that acquires
-  idle : stepped own nothing Idle lost ≡ stopped cause.NoVote
-  unfolding stepped
+  idle : step_of own nothing Idle lost ≡ stop_step cause.NoVote
+  unfolding step_of
   idle = refl
 
-  unlocked : (h : Counter) (count : ℕ) → stepped own nothing (Acquiring h count) lost ≡ stopped cause.NoVote
-  unfolding stepped
+  unlocked : (h : HoldValue) (count : ℕ) → step_of own nothing (Acquiring h count) lost ≡ stop_step cause.NoVote
+  unfolding step_of
   unlocked h count = refl
 
   -- a vote for another second, of a locked reader
-  jump : (from sod age : ℕ) → sod == from ≡ false → stepped own nothing (Locked (hold from age)) (vote sod) ≡ stopped cause.Jump
-  unfolding stepped
+  jump : (from sod age : ℕ) → sod == from ≡ false → step_of own nothing (Locked (hold from age)) (vote sod) ≡ stop_step cause.Jump
+  unfolding step_of
   jump from sod age other = rw other refl
 
   -- none, of a locked reader at its limit
-  expired : (h : Counter) → nat_le own.holdover h.age ≡ true → stepped own nothing (Locked h) lost ≡ stopped cause.Expired
-  unfolding stepped
+  expired : (h : HoldValue) → nat_le own.holdover h.age ≡ true → step_of own nothing (Locked h) lost ≡ stop_step cause.Expired
+  unfolding step_of
   expired h late = rw late refl
 
 -- ---- locking
@@ -189,63 +189,63 @@ known_no_holdover = rw (first (rules 1 0) 43200 refl, expired (rules 1 0) (hold 
 -- ---- the ends of months and of the years
 
 -- a hold at a second of the end of 2016
-abbrev late_hold : ℕ → ℕ → Mark → Counter
-late_hold sod age heard = counter (at 6209 sod) age heard
+abbrev late_hold : ℕ → ℕ → Mark → HoldValue
+late_hold sod age heard = hold_value (at 6209 sod) age heard
 
 -- the guard is a stop, for a locked reader and for one that acquires or begins
-pub known_guard : (stepped two nothing (Locked (late_hold 86398 0 Unspoken)) lost ≡ stopped cause.LeapGuard)
-    × (stepped two nothing (Locked (late_hold 86398 0 Unspoken)) (late_vote 86398 Unspoken) ≡ stopped cause.LeapGuard)
-    × (stepped two nothing (Acquiring (late_hold 86398 0 Unspoken) 1) (late_vote 86398 Unspoken) ≡ stopped cause.LeapGuard)
-    × (stepped two nothing Idle (late_vote 86398 Unspoken) ≡ stopped cause.LeapGuard)
-unfolding stepped
+pub known_guard : (step_of two nothing (Locked (late_hold 86398 0 Unspoken)) lost ≡ stop_step cause.LeapGuard)
+    × (step_of two nothing (Locked (late_hold 86398 0 Unspoken)) (late_vote 86398 Unspoken) ≡ stop_step cause.LeapGuard)
+    × (step_of two nothing (Acquiring (late_hold 86398 0 Unspoken) 1) (late_vote 86398 Unspoken) ≡ stop_step cause.LeapGuard)
+    × (step_of two nothing Idle (late_vote 86398 Unspoken) ≡ stop_step cause.LeapGuard)
+unfolding step_of
 known_guard = (rw december refl, rw december refl, rw december refl, rw december refl)
 
 -- where the limit and the guard meet it expires
-pub known_limit : stepped (rules 1 4) nothing (Locked (late_hold 86398 4 Unspoken)) lost ≡ stopped cause.Expired
-unfolding stepped
+pub known_limit : step_of (rules 1 4) nothing (Locked (late_hold 86398 4 Unspoken)) lost ≡ stop_step cause.Expired
+unfolding step_of
 known_limit = refl
 
 -- no guard where the mark was heard, or the table speaks: 23:59:60, and the next day at once
-pub known_leaps : (stepped two nothing (Locked (late_hold 86399 6 Insert)) lost ≡ announced (late_hold 86400 7 Insert) (at 6209 86400) (lock.Holdover 7) cause.Held)
-    × (stepped two (table 6209 ((6209, leap.Delete) ∷ [])) (Locked (late_hold 86398 6 Unspoken)) lost
-    ≡ announced (counter (at 6210 0) 7 Unspoken) (at 6210 0) (lock.Holdover 7) cause.Held)
-unfolding stepped
+pub known_leaps : (step_of two nothing (Locked (late_hold 86399 6 Insert)) lost ≡ announcement (late_hold 86400 7 Insert) (at 6209 86400) (lock.Holdover 7) cause.Held)
+    × (step_of two (table 6209 ((6209, leap.Delete) ∷ [])) (Locked (late_hold 86398 6 Unspoken)) lost
+    ≡ announcement (hold_value (at 6210 0) 7 Unspoken) (at 6210 0) (lock.Holdover 7) cause.Held)
+unfolding step_of
 known_leaps = (rw december refl, rw december refl)
 
 -- where the years end
-pub known_end : (stepped two nothing (Locked (hold 86399 0)) lost ≡ stopped cause.RangeEnd)
-    × (stepped two nothing (Acquiring (hold 86399 0) 1) (vote 86399) ≡ stopped cause.RangeEnd)
-    × (stepped two nothing Idle (vote 86399) ≡ stopped cause.RangeEnd)
-unfolding stepped
+pub known_end : (step_of two nothing (Locked (hold 86399 0)) lost ≡ stop_step cause.RangeEnd)
+    × (step_of two nothing (Acquiring (hold 86399 0) 1) (vote 86399) ≡ stop_step cause.RangeEnd)
+    × (step_of two nothing Idle (vote 86399) ≡ stop_step cause.RangeEnd)
+unfolding step_of
 known_end = (rw last_day refl, rw last_day refl, rw last_day refl)
 
 -- ---- what a reader was fed
 
 -- of any reader under three
-module _ (life : Life) where
-  abbrev fresh : Life
-  fresh = record (restarted life) { redundancy = Three }
+module _ (history : ReaderHistory) where
+  abbrev fresh : ReaderHistory
+  fresh = record (after_restart history) { redundancy = Three }
 
   -- a restart forgets the votes and what was fed, and nothing else; a tick what was fed alone
-  pub restart : ((restarted life).votes ≡ []) × (restarted life ≡ record life { fed = fresh.fed; votes = [] }) × ((ticked life).fed ≡ fresh.fed)
-      × ((ticked life).votes ≡ vote_at_tick life ∷ life.votes)
+  pub restart : ((after_restart history).votes ≡ []) × (after_restart history ≡ record history { fed = fresh.fed; votes = [] }) × ((after_tick history).fed ≡ fresh.fed)
+      × ((after_tick history).votes ≡ vote_at_tick history ∷ history.votes)
   restart = (refl, refl, refl, refl)
 
   -- so it is as at first
-  pub restart_state : (own : ReaderRules) → state_of own nothing (restarted life).votes ≡ Idle
+  pub restart_state : (own : ReaderRules) → state_of own nothing (after_restart history).votes ≡ Idle
   restart_state own = refl
 
   -- what comes to a port is heard in its order, and at no other port
-  pub ports : map (λ port. (fed_at (fed_at fresh port 5000) port 2000).fed.b) (0 ∷ 1 ∷ 2 ∷ 3 ∷ 4 ∷ []) ≡ [] ∷ (5000 ∷ 2000 ∷ []) ∷ [] ∷ [] ∷ [] ∷ []
+  pub ports : map (λ port. (after_pulse (after_pulse fresh port 5000) port 2000).fed.b) (0 ∷ 1 ∷ 2 ∷ 3 ∷ 4 ∷ []) ≡ [] ∷ (5000 ∷ 2000 ∷ []) ∷ [] ∷ [] ∷ [] ∷ []
   ports = refl
 
   -- fed nothing, each port tells silence, and there is no vote
-  pub silence : (tells fresh ≡ record { a = told.Silence; b = told.Silence; c = told.Silence; d = told.Silence; e = told.Silence }) × (vote_at_tick fresh ≡ None)
+  pub silence : (told_at_tick fresh ≡ record { a = told.Silence; b = told.Silence; c = told.Silence; d = told.Silence; e = told.Silence }) × (vote_at_tick fresh ≡ None)
   unfolding told_of vote_of
   silence = (refl, refl)
 
   -- 60 pulses on each of three ports after a restart are a short frame, whatever came before
-  pub sixty : tells (record fresh { fed = record fresh.fed { a = replicate 60 2000; b = replicate 60 2000; c = replicate 60 2000 } })
+  pub sixty : told_at_tick (record fresh { fed = record fresh.fed { a = replicate 60 2000; b = replicate 60 2000; c = replicate 60 2000 } })
       ≡ record { a = told.Fault (fault.Frame (frame_fault.Short 60)); b = told.Fault (fault.Frame (frame_fault.Short 60)); c = told.Fault (fault.Frame (frame_fault.Short 60)); d = told.Silence; e = told.Silence }
   unfolding told_of
   sixty = refl

@@ -1,4 +1,4 @@
 pub mod Rules
 pub mod Rule
-pub mod Life
-pub mod Stands
+pub mod History
+pub mod Readers

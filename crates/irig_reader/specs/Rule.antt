@@ -3,10 +3,10 @@
 use Rattle.std.specs.Prelude.{ℕ, ◌+◌, ◌==◌, if◌then◌else◌, Option, Some, None, Result, Ok, Err, List, [], ◌∷◌}
 use Rattle.irig_time.specs.declared.second.UtcSecond.{UtcSecond}
 use Rattle.irig_time.specs.declared.claim.Claim.{Claim}
-use Rattle.irig_time.specs.Tables.{Table}
+use Rattle.irig_time.specs.Tables.{TableValue}
 use Rattle.irig_hold.specs.declared.turn.Turn.{Turn}
 use Rattle.irig_hold.specs.declared.turn.Turn.TheVariants as turn
-use Rattle.irig_hold.specs.Steps.{Counter, Outcome, started, voted_by, alone_by}
+use Rattle.irig_hold.specs.Steps.{HoldValue, Outcome, hold_start, voted_by, alone_by}
 use Rattle.irig_reader.specs.declared.rules.ReaderRules.{ReaderRules}
 use Rattle.irig_reader.specs.declared.report.Lock.{Lock}
 use Rattle.irig_reader.specs.declared.report.Lock.TheVariants as lock
@@ -24,11 +24,12 @@ count_of (Acquiring hold count) = count
 count_of (Locked hold) = 0
 
 -- a stop: it says nothing, and has nothing to go on
-abbrev pub stopped : Cause → Step
-stopped c = record { state = Idle; report = record { announce = None; lock = lock.Unlocked; cause = c } }
+abbrev pub stop_step : Cause → Step
+stop_step c = record { state = Idle; report = record { announce = None; lock = lock.Unlocked; cause = c } }
 
-abbrev pub announced : Counter → UtcSecond → Lock → Cause → Step
-announced h u l c = record { state = Locked h; report = record { announce = Some u; lock = l; cause = c } }
+-- it announces this second, and is locked
+abbrev pub announcement : HoldValue → UtcSecond → Lock → Cause → Step
+announcement h u l c = record { state = Locked h; report = record { announce = Some u; lock = l; cause = c } }
 
 -- the cause that is named like a hold's stop
 abbrev pub cause_of : Turn → Cause
@@ -39,57 +40,63 @@ cause_of turn.RangeEnd = cause.RangeEnd
 cause_of turn.Jump = cause.Jump
 
 -- so many votes that followed one another, the last of which led to this hold
-abbrev pub counted : ReaderRules → Counter → ℕ → Step
-counted own h count =
-    if count == own.lock_after then announced h h.last lock.Locked cause.Voted
-    else record { state = Acquiring h count; report = record { announce = None; lock = lock.Acquiring count; cause = cause.Acquiring } }
+abbrev pub count_step : ReaderRules → HoldValue → ℕ → Step
+count_step own h count =
+    if count == own.lock_after then announcement h h.last lock.Locked cause.Voted
+    else record {
+      state = Acquiring h count;
+      report = record { announce = None; lock = lock.Acquiring count; cause = cause.Acquiring };
+    }
 
 -- the first vote
-abbrev pub begun : ReaderRules → Result Counter Turn → Step
-begun own (Ok h) = counted own h 1
-begun own (Err stop) = stopped (cause_of stop)
+abbrev pub first_vote_step : ReaderRules → Result HoldValue Turn → Step
+first_vote_step own (Ok h) = count_step own h 1
+first_vote_step own (Err stop) = stop_step (cause_of stop)
 
 -- a further vote, by what the hold answers to it; a jump begins anew
-abbrev pub joined_by : ReaderRules → ℕ → Step → Turn → Counter → Step
-joined_by own count anew (turn.Now u) h = counted own h (count + 1)
-joined_by own count anew turn.Jump h = anew
-joined_by own count anew turn.LeapGuard h = stopped cause.LeapGuard
-joined_by own count anew turn.Expired h = stopped cause.Expired
-joined_by own count anew turn.RangeEnd h = stopped cause.RangeEnd
+abbrev pub later_vote_step_by : ReaderRules → ℕ → Step → Turn → HoldValue → Step
+later_vote_step_by own count anew (turn.Now u) h = count_step own h (count + 1)
+later_vote_step_by own count anew turn.Jump h = anew
+later_vote_step_by own count anew turn.LeapGuard h = stop_step cause.LeapGuard
+later_vote_step_by own count anew turn.Expired h = stop_step cause.Expired
+later_vote_step_by own count anew turn.RangeEnd h = stop_step cause.RangeEnd
 
-abbrev pub joined : ReaderRules → Table → Counter → ℕ → Claim → Step
-joined own table h count c = joined_by own count (begun own (started table c)) (voted_by table h c).answer (voted_by table h c).new
+-- a further vote: the hold answers it, or it is the first one again
+abbrev pub later_vote_step : ReaderRules → TableValue → HoldValue → ℕ → Claim → Step
+later_vote_step own table h count c =
+    later_vote_step_by own count (first_vote_step own (hold_start table c))
+    (voted_by table h c).answer (voted_by table h c).new
 
 -- locked, by what the hold answers: it announces that second with this lock and cause, or stops
-abbrev pub locked_by : Lock → Cause → Turn → Counter → Step
-locked_by l c (turn.Now u) h = announced h u l c
-locked_by l c turn.LeapGuard h = stopped cause.LeapGuard
-locked_by l c turn.Expired h = stopped cause.Expired
-locked_by l c turn.RangeEnd h = stopped cause.RangeEnd
-locked_by l c turn.Jump h = stopped cause.Jump
+abbrev pub locked_step : Lock → Cause → Turn → HoldValue → Step
+locked_step l c (turn.Now u) h = announcement h u l c
+locked_step l c turn.LeapGuard h = stop_step cause.LeapGuard
+locked_step l c turn.Expired h = stop_step cause.Expired
+locked_step l c turn.RangeEnd h = stop_step cause.RangeEnd
+locked_step l c turn.Jump h = stop_step cause.Jump
 
 -- locked, with a vote
-abbrev pub followed : Outcome → Step
-followed o = locked_by lock.Locked cause.Voted o.answer o.new
+abbrev pub locked_vote_step : Outcome → Step
+locked_vote_step o = locked_step lock.Locked cause.Voted o.answer o.new
 
 -- locked, without one
-abbrev pub held_over : Outcome → Step
-held_over o = locked_by (lock.Holdover o.new.age) cause.Held o.answer o.new
+abbrev pub holdover_step : Outcome → Step
+holdover_step o = locked_step (lock.Holdover o.new.age) cause.Held o.answer o.new
 
--- one edge
-unfoldable pub stepped : ReaderRules → Table → State → Option Claim → Step
-stepped own table Idle None = stopped cause.NoVote
-stepped own table Idle (Some c) = begun own (started table c)
-stepped own table (Acquiring h count) None = stopped cause.NoVote
-stepped own table (Acquiring h count) (Some c) = joined own table h count c
-stepped own table (Locked h) (Some c) = followed (voted_by table h c)
-stepped own table (Locked h) None = held_over (alone_by table h own.holdover)
+-- one edge: what becomes of the state by the vote, and what is said
+unfoldable pub step_of : ReaderRules → TableValue → State → Option Claim → Step
+step_of own table Idle None = stop_step cause.NoVote
+step_of own table Idle (Some c) = first_vote_step own (hold_start table c)
+step_of own table (Acquiring h count) None = stop_step cause.NoVote
+step_of own table (Acquiring h count) (Some c) = later_vote_step own table h count c
+step_of own table (Locked h) (Some c) = locked_vote_step (voted_by table h c)
+step_of own table (Locked h) None = holdover_step (alone_by table h own.holdover)
 
 -- the state after some votes, the newest first
-abbrev pub state_of : ReaderRules → Table → List (Option Claim) → State
+abbrev pub state_of : ReaderRules → TableValue → List (Option Claim) → State
 state_of own table [] = Idle
-state_of own table (vote ∷ votes) = (stepped own table (state_of own table votes) vote).state
+state_of own table (vote ∷ votes) = (step_of own table (state_of own table votes) vote).state
 
 -- the report of a vote after some votes, the newest first
-abbrev pub report_of : ReaderRules → Table → Option Claim → List (Option Claim) → Report
-report_of own table vote votes = (stepped own table (state_of own table votes) vote).report
+abbrev pub report_of : ReaderRules → TableValue → Option Claim → List (Option Claim) → Report
+report_of own table vote votes = (step_of own table (state_of own table votes) vote).report

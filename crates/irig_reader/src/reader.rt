@@ -41,13 +41,13 @@ pub struct Reader<P: Port> {
 }
 
 impl<P: Port> Reader<P> {
-    ghost use Rattle.irig_reader.specs.Life.{Life, unfed, fed_at, tells, report_at_tick, ticked, restarted};
-    ghost use Rattle.irig_reader.specs.Stands.{Stands};
+    ghost use Rattle.irig_reader.specs.History.{new_history, after_pulse, told_at_tick, report_at_tick, after_tick, after_restart};
+    ghost use Rattle.irig_reader.specs.Readers.{Advances, ForReaderHistory, HasReaderHistory};
 
-    /// A reader that was fed nothing, with rules that are [`in_range`](crate::in_range).
+    /// A reader to which nothing has happened, with rules that are [`in_range`](crate::in_range).
     pub fn fresh(rules: Rules, own: ReaderRules, table: LeapTable, redundancy: Redundancy) -> Self
         requires { IsReaderRules own }
-        ensures unfed { Stands result (unfed rules own table redundancy) }
+        ensures unfed { HasReaderHistory result (new_history rules own table redundancy) }
         ensures ports { result.redundancy ≡ redundancy }
     {
         Reader {
@@ -68,7 +68,7 @@ impl<P: Port> Reader<P> {
     #[tactic(auto, using(crate::proofs::HeardRules::one_more_heard))]
     pub fn pulse(&mut self, port: u8, width_us: u32)
         requires { port < ports_in self.old.redundancy }
-        ensures fed { (life : Life) → Stands self.old life → Stands self.new (fed_at life port width_us) }
+        ensures fed { Advances self.old self.new (λ h. after_pulse h port width_us) }
         ensures ports { self.new.redundancy ≡ self.old.redundancy }
     {
         match port {
@@ -83,9 +83,9 @@ impl<P: Port> Reader<P> {
     /// One edge: the vote over what the ports tell, and what the rule makes of it. The ports are then
     /// empty. What is announced is a [`valid`](irig_time::valid) second.
     pub fn tick(&mut self) -> Ticked
-        ensures told { (life : Life) → Stands self.old life → result.told ≡ tells life }
-        ensures report { (life : Life) → Stands self.old life → result.report ≡ report_at_tick life }
-        ensures after { (life : Life) → Stands self.old life → Stands self.new (ticked life) }
+        ensures told { ForReaderHistory self.old (λ h. result.told ≡ told_at_tick h) }
+        ensures report { ForReaderHistory self.old (λ h. result.report ≡ report_at_tick h) }
+        ensures after { Advances self.old self.new after_tick }
         ensures ports { self.new.redundancy ≡ self.old.redundancy }
         ensures valid { IfSome result.report.announce IsValid }
     {
@@ -108,7 +108,7 @@ impl<P: Port> Reader<P> {
 
     /// Clears the ports, and forgets what was voted.
     pub fn restart(&mut self)
-        ensures forgotten { (life : Life) → Stands self.old life → Stands self.new (restarted life) }
+        ensures forgotten { Advances self.old self.new after_restart }
         ensures ports { self.new.redundancy ≡ self.old.redundancy }
     {
         self.a.clear();

@@ -1,4 +1,4 @@
-//! What a reader says at a tick.
+//! A reader's report: its second, its lock and its cause.
 
 use irig_time::UtcSecond;
 

@@ -2,7 +2,7 @@
 
 ghost use Rattle.std.specs.Prelude.{◌≡◌, ◌<◌, ◌≤◌, ◌+◌, IfSome};
 ghost use Rattle.irig_time.specs.Seconds.{IsValid};
-ghost use Rattle.irig_hold.specs.Steps.{started, voted_by, alone_by};
+ghost use Rattle.irig_hold.specs.Steps.{hold_start, voted_by, alone_by};
 ghost use Rattle.irig_hold.specs.Turns.{IfNow};
 ghost use Rattle.irig_reader.specs.Rule as rule;
 
@@ -29,12 +29,11 @@ pub struct Step {
     pub report: Report,
 }
 
-/// What becomes of a reader by the vote of an edge.
-#[tactic(auto, unfolding(crate::specs::Rule::stepped))]
+#[tactic(auto, unfolding(crate::specs::Rule::step_of))]
 pub(crate) fn act(own: ReaderRules, table: &LeapTable, state: State, vote: Option<Claim>) -> Step
     requires valid { IfSome vote (λ claim. IsValid claim.at) }
     requires counting { rule.count_of state < own.lock_after }
-    ensures step { result ≡ rule.stepped own table.now state vote }
+    ensures step { result ≡ rule.step_of own table.now state vote }
     ensures counting { rule.count_of result.state < own.lock_after }
     ensures valid { IfSome result.report.announce IsValid }
 {
@@ -47,18 +46,17 @@ pub(crate) fn act(own: ReaderRules, table: &LeapTable, state: State, vote: Optio
     }
 }
 
-/// The first of the votes that are to follow one another.
 fn begin(own: ReaderRules, table: &LeapTable, claim: Claim) -> Step
     requires valid { IsValid claim.at }
     requires some { 0 < own.lock_after }
-    ensures step { result ≡ rule.begun own (started table.now claim) }
+    ensures step { result ≡ rule.first_vote_step own (hold_start table.now claim) }
     ensures counting { rule.count_of result.state < own.lock_after }
     ensures valid { IfSome result.report.announce IsValid }
 {
     match Hold::start(claim, table) {
         Ok(hold) => counted(own, hold, 1),
         Err(Turn::RangeEnd) => stopped(Cause::RangeEnd),
-        // Else only the guard stops a start.
+        // Nothing but the guard or the end of the range stops a start.
         Err(_) => stopped(Cause::LeapGuard),
     }
 }
@@ -67,7 +65,7 @@ fn begin(own: ReaderRules, table: &LeapTable, claim: Claim) -> Step
 fn join(own: ReaderRules, table: &LeapTable, mut hold: Hold, count: u8, claim: Claim) -> Step
     requires valid { IsValid claim.at }
     requires counting { count < own.lock_after }
-    ensures step { result ≡ rule.joined own table.now hold count claim }
+    ensures step { result ≡ rule.later_vote_step own table.now hold count claim }
     ensures counting { rule.count_of result.state < own.lock_after }
     ensures valid { IfSome result.report.announce IsValid }
 {
@@ -80,9 +78,8 @@ fn join(own: ReaderRules, table: &LeapTable, mut hold: Hold, count: u8, claim: C
     }
 }
 
-/// A vote of a locked reader.
 fn follow(table: &LeapTable, mut hold: Hold, claim: Claim) -> Step
-    ensures step { result ≡ rule.followed (voted_by table.now hold claim) }
+    ensures step { result ≡ rule.locked_vote_step (voted_by table.now hold claim) }
     ensures counting { rule.count_of result.state ≡ 0 }
     ensures valid { IfSome result.report.announce IsValid }
 {
@@ -90,9 +87,8 @@ fn follow(table: &LeapTable, mut hold: Hold, claim: Claim) -> Step
     goes_on(turn, hold, Lock::Locked, Cause::Voted)
 }
 
-/// An edge without a vote, of a locked reader.
 fn hold_over(own: ReaderRules, table: &LeapTable, mut hold: Hold) -> Step
-    ensures step { result ≡ rule.held_over (alone_by table.now hold own.holdover) }
+    ensures step { result ≡ rule.holdover_step (alone_by table.now hold own.holdover) }
     ensures counting { rule.count_of result.state ≡ 0 }
     ensures valid { IfSome result.report.announce IsValid }
 {
@@ -101,10 +97,9 @@ fn hold_over(own: ReaderRules, table: &LeapTable, mut hold: Hold) -> Step
     goes_on(turn, hold, Lock::Holdover(age), Cause::Held)
 }
 
-/// A locked reader whose hold answers this: it announces, or stops.
 fn goes_on(turn: Turn, hold: Hold, lock: Lock, cause: Cause) -> Step
     requires valid { IfNow turn IsValid }
-    ensures step { result ≡ rule.locked_by lock cause turn hold }
+    ensures step { result ≡ rule.locked_step lock cause turn hold }
     ensures counting { rule.count_of result.state ≡ 0 }
     ensures valid { IfSome result.report.announce IsValid }
 {
@@ -121,7 +116,7 @@ fn goes_on(turn: Turn, hold: Hold, lock: Lock, cause: Cause) -> Step
 fn counted(own: ReaderRules, hold: Hold, count: u8) -> Step
     requires some { 0 < own.lock_after }
     requires counting { count ≤ own.lock_after }
-    ensures step { result ≡ rule.counted own hold count }
+    ensures step { result ≡ rule.count_step own hold count }
     ensures counting { rule.count_of result.state < own.lock_after }
     ensures valid { IfSome result.report.announce IsValid }
 {
@@ -139,9 +134,8 @@ fn counted(own: ReaderRules, hold: Hold, count: u8) -> Step
     }
 }
 
-/// It announces this second, and stays locked.
 fn announced(hold: Hold, utc: UtcSecond, lock: Lock, cause: Cause) -> Step
-    ensures { result ≡ rule.announced hold utc lock cause }
+    ensures { result ≡ rule.announcement hold utc lock cause }
 {
     Step {
         state: State::Locked(hold),
@@ -153,9 +147,8 @@ fn announced(hold: Hold, utc: UtcSecond, lock: Lock, cause: Cause) -> Step
     }
 }
 
-/// It says nothing, and has nothing to go on.
 fn stopped(cause: Cause) -> Step
-    ensures { result ≡ rule.stopped cause }
+    ensures { result ≡ rule.stop_step cause }
 {
     Step {
         state: State::Idle,

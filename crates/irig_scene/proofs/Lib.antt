@@ -1,16 +1,8 @@
-pub mod Keys
-pub mod Lists
-pub mod ListLaws
-pub mod JsonLaws
-pub mod NameLaws
-pub mod NameCounts
-pub mod BuildLaws
 pub mod TextLaws
-pub mod SecondLaws
 pub mod PlayLaws
 pub mod SecondsPlayed
 pub mod StepLaws
-pub mod TakingLaws
+pub mod LineRunLaws
 pub mod LineLaws
 pub mod LastLaws
 pub mod RunLaws

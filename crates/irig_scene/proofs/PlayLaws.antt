@@ -8,23 +8,24 @@ use Rattle.irig_plant.specs.declared.entry.Entry.{Entry}
 use Rattle.irig_plant.specs.declared.fault.PlantFault.{PlantFault}
 use Rattle.irig_plant.specs.Schedule.{Setup, log_of, entry_of}
 use Rattle.irig_plant.specs.Refusals.{refusal}
-use Rattle.irig_plant.specs.Runs.{played, AreAccepted, IsRefused}
-use Rattle.irig_scene.specs.declared.refusal.Refusal.{Refusal}
-use Rattle.irig_scene.specs.Refusals.{refusal_as}
+use Rattle.irig_plant.specs.Runs.{events_after, AreAccepted, IsRefused}
+use Rattle.irig_forms.specs.declared.refusal.Refusal.{Refusal}
+use Rattle.irig_scene.specs.Scene.{refusal_as}
 use Rattle.irig_scene.specs.Scene.{Play, play, play_by, unless_refused, Scene, log_text}
 use Rattle.std.specs.Io.KnownBytes.{Appends}
 use Rattle.std.proofs.KnownBytes.{Appends-nil}
 use Rattle.irig_scene.specs.declared.fault.SceneFault.{SceneFault}
 use Rattle.irig_scene.specs.declared.fault.SceneFault.TheVariants.{Refused, Read, Write, Memory}
-use Rattle.irig_scene.specs.Faults.{AppendsPart, IsFaultOfWriting}
-use Rattle.irig_scene.specs.Playing.{after_events, Grew, GrewPart}
+use Rattle.irig_device.specs.Watched.{AppendsPart}
+use Rattle.irig_scene.specs.Faults.{IsFaultOfWriting}
+use Rattle.irig_scene.specs.PlayerRuns.{after_events, Grew, GrewPart}
 use Rattle.irig_scene.specs.Text.{entries_text}
 use Rattle.irig_scene.proofs.TextLaws.{entries_join}
 
 one_accepted : (s : Setup) (e : Event) (es ev : List Event) → refusal s e ev ≡ None → play s (e ∷ es) ev ≡ play s es (e ∷ ev)
 one_accepted s e es ev h = ap (λ k. unless_refused (option_and_then refusal_as k) ev (play s es (e ∷ ev))) h
 
-pub play_all : (s : Setup) (es ev : List Event) → AreAccepted s es ev → play s es ev ≡ play_by (played es ev) None
+pub play_all : (s : Setup) (es ev : List Event) → AreAccepted s es ev → play s es ev ≡ play_by (events_after es ev) None
 play_all s [] ev h = refl
 play_all s (e ∷ es) ev h = one_accepted s e es ev h.0 ∙ play_all s es (e ∷ ev) h.1
 
@@ -35,8 +36,8 @@ refused_now s e es ev fault k (inl h) named =
 refused_now s e es ev fault k (inr h) named = absurd (cc)
 
 pub play_until : (s : Setup) (i : ℕ) (es ev : List Event) (fault : PlantFault) (k : Refusal) → i < length es → AreAccepted s (take i es) ev
-    → IfSome (slice_get es i) (λ e. IsRefused s e (played (take i es) ev) fault) → refusal_as fault ≡ Some k
-    → play s es ev ≡ play_by (played (take i es) ev) (Some k)
+    → IfSome (slice_get es i) (λ e. IsRefused s e (events_after (take i es) ev) fault) → refusal_as fault ≡ Some k
+    → play s es ev ≡ play_by (events_after (take i es) ev) (Some k)
 play_until s i [] ev fault k lt h stop named = absurd (omega arith)
 play_until s zero (e ∷ es) ev fault k lt h stop named = refused_now s e es ev fault k stop named
 play_until s (suc i) (e ∷ es) ev fault k lt h stop named = one_accepted s e (es) ev h.0 ∙ play_until s i es (e ∷ ev) fault k (omega arith) h.1 stop named

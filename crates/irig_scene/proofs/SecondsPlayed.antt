@@ -7,12 +7,12 @@ use Rattle.irig_plant.specs.Schedule.{Setup, log_of}
 use Rattle.irig_plant.specs.Refusals.{refusal}
 use Rattle.irig_port.specs.declared.port.Port.{Ghosts}
 use Rattle.irig_plant.specs.declared.plant.Plant.{Plant}
-use Rattle.irig_plant.specs.StandsFor.{StandsFor}
-use Rattle.irig_scene.specs.declared.refusal.Refusal.{Refusal}
-use Rattle.irig_scene.specs.Refusals.{refusal_as}
-use Rattle.irig_scene.specs.Seconds.{times}
+use Rattle.irig_plant.specs.History.{HasPlantHistory}
+use Rattle.irig_forms.specs.declared.refusal.Refusal.{Refusal}
+use Rattle.irig_scene.specs.Scene.{refusal_as}
+use Rattle.irig_scenario.specs.WholeSecond.{times}
 use Rattle.irig_scene.specs.Scene.{Scene, scene, Play, play, unless_refused, log_text}
-use Rattle.irig_scene.specs.Playing.{past, after_events, Grew, GrewPart, PlaysFor}
+use Rattle.irig_scene.specs.PlayerRuns.{past, after_events, Grew, GrewPart, PlaysFor}
 use Rattle.irig_scene.specs.Text.{entries_text}
 use Rattle.irig_scene.proofs.TextLaws.{entries_join}
 use Rattle.irig_scene.proofs.PlayLaws.{LogGrows, log_keeps, grows_by_play}
@@ -112,7 +112,7 @@ plays_alike : {P : Type 0} {g : Ghosts P} (x : Scene) (a b : List Event) (all : 
 plays_alike x a b all p k o0 o1 e h =
     record {
       refused = ap (λ (q : Play). q.refusal) (sym e) ∙ h.refused;
-      stands = subst (λ (q : Play). StandsFor p (past (scene x.plan q.events))) e h.stands;
+      stands = subst (λ (q : Play). HasPlantHistory p (past (scene x.plan q.events))) e h.stands;
       grew = subst (λ (q : Play). Grew all (Some x) (Some (scene x.plan q.events)) o0 o1) e h.grew;
     }
 
@@ -124,7 +124,7 @@ then_plays x a b all p q k o0 o1 o2 h l =
     let e = sym (plays_on s a b x.events h.refused) in
     record {
       refused = ap (λ (r : Play). r.refusal) (sym e) ∙ l.refused;
-      stands = subst (λ (r : Play). StandsFor q (past (scene x.plan r.events))) e l.stands;
+      stands = subst (λ (r : Play). HasPlantHistory q (past (scene x.plan r.events))) e l.stands;
       grew = subst (λ (r : Play). Grew all (Some x) (Some (scene x.plan r.events)) o0 o2) e
           (grew_on all (Some x) (Some (after_events x a)) (Some (after_events (after_events x a) b)) o0 o1 o2 h.grew l.grew);
     }
@@ -142,7 +142,7 @@ fails_on x a b rest all p o0 o1 o2 h l =
 
 -- ---- whole seconds
 
-pub no_second : {P : Type 0} {g : Ghosts P} (x : Scene) (es : List Event) (all : Bool) (p : Plant P g) (out : Option (List ℕ)) → StandsFor p (past x) → PlaysFor x (times 0 es) all p None out out
+pub no_second : {P : Type 0} {g : Ghosts P} (x : Scene) (es : List Event) (all : Bool) (p : Plant P g) (out : Option (List ℕ)) → HasPlantHistory p (past x) → PlaysFor x (times 0 es) all p None out out
 no_second x es all p out h = record { refused = refl; stands = h; grew = nothing_grew all (Some x) out }
 
 second_more : {P : Type 0} {g : Ghosts P} (x : Scene) (i : ℕ) (es : List Event) (all : Bool) (p q : Plant P g) (o0 o1 o2 : Option (List ℕ))
@@ -160,31 +160,20 @@ stops_at x i n es all p q r o0 o1 o2 lt h l =
     (sym (ap (λ more. play x.plan.setup more x.events) (times_left i n es lt) ∙ plays_no_further x.plan.setup (times i es ++ es) (times (n - (i + 1)) es) x.events r both.refused))
     both
 
-some_stops : {P : Type 0} {g : Ghosts P} (x : Scene) (i n : ℕ) (es : List Event) (all : Bool) (p q : Plant P g) (k : Option Refusal) (o0 o1 o2 : Option (List ℕ)) → i < n → is_some k ≡ true
+pub second_stops : {P : Type 0} {g : Ghosts P} (x : Scene) (i n : ℕ) (es : List Event) (all : Bool) (p q : Plant P g) (k : Option Refusal) (o0 o1 o2 : Option (List ℕ)) → i < n → is_some k ≡ true
     → PlaysFor x (times i es) all p None o0 o1 → PlaysFor (after_events x (times i es)) es all q k o1 o2 → PlaysFor x (times n es) all q k o0 o2
-some_stops x i n es all p q None o0 o1 o2 lt some h l = absurd cc
-some_stops x i n es all p q (Some r) o0 o1 o2 lt some h l = stops_at x i n es all p q r o0 o1 o2 lt h l
+second_stops x i n es all p q None o0 o1 o2 lt some h l = absurd cc
+second_stops x i n es all p q (Some r) o0 o1 o2 lt some h l = stops_at x i n es all p q r o0 o1 o2 lt h l
 
-pub second_stops : {P : Type 0} {g : Ghosts P} (x : Scene) (i n : ℕ) (es : List Event) (all now : Bool) (p q : Plant P g) (k : Option Refusal) (o0 o1 o2 : Option (List ℕ)) → now ≡ all → i < n → is_some k ≡ true
-    → PlaysFor x (times i es) all p None o0 o1 → PlaysFor (after_events x (times i es)) es now q k o1 o2 → PlaysFor x (times n es) all q k o0 o2
-second_stops x i n es all now p q k o0 o1 o2 same lt some h l =
-    some_stops x i n es all p q k o0 o1 o2 lt some h (subst (λ a. PlaysFor (after_events x (times i es)) es a q k o1 o2) same l)
-
-none_goes : {P : Type 0} {g : Ghosts P} (x : Scene) (i : ℕ) (es : List Event) (all : Bool) (p q : Plant P g) (k : Option Refusal) (o0 o1 o2 : Option (List ℕ)) → is_some k ≡ false
+pub second_goes : {P : Type 0} {g : Ghosts P} (x : Scene) (i : ℕ) (es : List Event) (all : Bool) (p q : Plant P g) (k : Option Refusal) (o0 o1 o2 : Option (List ℕ)) → is_some k ≡ false
     → PlaysFor x (times i es) all p None o0 o1 → PlaysFor (after_events x (times i es)) es all q k o1 o2 → PlaysFor x (times (i + 1) es) all q None o0 o2
-none_goes x i es all p q None o0 o1 o2 none h l = second_more x i es all p q o0 o1 o2 h l
-none_goes x i es all p q (Some r) o0 o1 o2 none h l = absurd cc
+second_goes x i es all p q None o0 o1 o2 none h l = second_more x i es all p q o0 o1 o2 h l
+second_goes x i es all p q (Some r) o0 o1 o2 none h l = absurd cc
 
-pub second_goes : {P : Type 0} {g : Ghosts P} (x : Scene) (i : ℕ) (es : List Event) (all now : Bool) (p q : Plant P g) (k : Option Refusal) (o0 o1 o2 : Option (List ℕ)) → now ≡ all → is_some k ≡ false
-    → PlaysFor x (times i es) all p None o0 o1 → PlaysFor (after_events x (times i es)) es now q k o1 o2 → PlaysFor x (times (i + 1) es) all q None o0 o2
-second_goes x i es all now p q k o0 o1 o2 same none h l =
-    none_goes x i es all p q k o0 o1 o2 none h (subst (λ a. PlaysFor (after_events x (times i es)) es a q k o1 o2) same l)
-
-pub second_fails : {P : Type 0} {g : Ghosts P} (x : Scene) (i n : ℕ) (es : List Event) (all now : Bool) (p : Plant P g) (o0 o1 o2 : Option (List ℕ)) → now ≡ all → i < n
+pub second_fails : {P : Type 0} {g : Ghosts P} (x : Scene) (i n : ℕ) (es : List Event) (all : Bool) (p : Plant P g) (o0 o1 o2 : Option (List ℕ)) → i < n
     → PlaysFor x (times i es) all p None o0 o1
-    → GrewPart now (Some (after_events x (times i es))) (Some (after_events (after_events x (times i es)) es)) o1 o2
+    → GrewPart all (Some (after_events x (times i es))) (Some (after_events (after_events x (times i es)) es)) o1 o2
     → GrewPart all (Some x) (Some (after_events x (times n es))) o0 o2
-second_fails x i n es all now p o0 o1 o2 same lt h l =
-    let part = subst (λ a. GrewPart a (Some (after_events x (times i es))) (Some (after_events (after_events x (times i es)) es)) o1 o2) same l in
+second_fails x i n es all p o0 o1 o2 lt h part =
     subst (λ more. GrewPart all (Some x) (Some (after_events x more)) o0 o2) (sym (times_left i n es lt))
     (fails_on x (times i es) es (times (n - (i + 1)) es) all p o0 o1 o2 h part)

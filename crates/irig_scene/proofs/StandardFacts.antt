@@ -7,10 +7,10 @@ use Rattle.irig_time.specs.declared.second.UtcSecond.{UtcSecond}
 use Rattle.irig_time.specs.declared.rules.Rules.{Rules}
 use Rattle.irig_time.specs.declared.rules.Sense.TheVariants.{Add}
 use Rattle.irig_time.specs.declared.rules.SbsUse.TheVariants.{Check}
-use Rattle.irig_time.specs.Times.{times, second_at}
+use Rattle.irig_time.specs.Timelines.{times, second_at}
 use Rattle.irig_time.specs.Tables.{table}
 use Rattle.irig_time.proofs.TextValueLaws.{known_second_text}
-use Rattle.irig_gen.specs.Frames.{Gen, gen}
+use Rattle.irig_gen.specs.Frames.{GeneratorValue, gen}
 use Rattle.irig_reader.specs.declared.report.Lock.{Lock}
 use Rattle.irig_reader.specs.declared.report.Lock.TheVariants as lock
 use Rattle.irig_reader.specs.declared.report.Cause.{Cause}
@@ -20,16 +20,12 @@ use Rattle.irig_plant.specs.declared.event.Event.TheVariants.{GenEdge, Tick, Car
 use Rattle.irig_plant.specs.declared.audit.Audit.TheVariants.{Kept, Broken, FalseTable}
 use Rattle.irig_plant.specs.declared.setup.ReaderSetup.{ReaderSetup}
 use Rattle.irig_plant.specs.Schedule.{Setup, setup}
-use Rattle.irig_scene.specs.declared.command.Command.TheVariants as command
-use Rattle.irig_scene.specs.declared.refusal.Refusal.{Refusal}
-use Rattle.irig_scene.specs.declared.refusal.Refusal.TheVariants as refusal
-use Rattle.irig_scene.specs.Refusals.{number_of}
+use Rattle.irig_scenario.specs.declared.event_line.Command.TheVariants as command
+use Rattle.irig_forms.specs.declared.refusal.Refusal.TheVariants as refusal
 use Rattle.irig_scene.specs.Lines.{lines, unlines, is_blank, limit_of}
-use Rattle.irig_scene.specs.Names.{is_name, are_names}
-use Rattle.irig_scene.specs.PlantLine.{Plan}
-use Rattle.irig_scene.specs.Seconds.{second_of}
+use Rattle.irig_scenario.specs.PlantLine.{Plan}
 use Rattle.irig_scene.specs.Text.{entry_text, entries_text, audit_text, refusal_text}
-use Rattle.irig_scene.specs.Scene.{Scene, scene, play, play_by, leaves, commanded, step, refused, meaning, meaning_from, meaning_of, output}
+use Rattle.irig_scene.specs.Scene.{Scene, scene, play, play_by, step_to, step_of_command, step, refusal_at, meaning, meaning_from, meaning_of, output}
 
 -- ---- lines
 
@@ -50,25 +46,7 @@ known_blanks = refl
 pub known_limits : map limit_of (1 ∷ 1000000 ∷ 1000001 ∷ []) ≡ 65536 ∷ 65536 ∷ 0 ∷ []
 known_limits = refl
 
--- ---- seconds
-
--- of three generators and two readers: the carries by reader, the ticks, the steps
-pub known_second : second_of 3 2
-    ≡ Carry 0 0 ∷ Carry 1 0 ∷ Carry 2 0 ∷ Carry 0 1 ∷ Carry 1 1 ∷ Carry 2 1 ∷ Tick 0 ∷ Tick 1 ∷ GenEdge 0 ∷ GenEdge 1 ∷ GenEdge 2 ∷ []
-known_second = refl
-
 -- ---- refusals
-
--- all names by their numbers, from 11 to 16 and from 19 to 34
-abbrev refusals : List Refusal
-refusals =
-    refusal.BadStart ∷ refusal.LeapNotMonthEnd ∷ refusal.LeapTwice ∷ refusal.OutOfYears ∷ refusal.Offset ∷ refusal.Changes
-    ∷ refusal.NoSuchReader ∷ refusal.NoSuchGenerator ∷ refusal.FutureReplay ∷ refusal.EndOfYears ∷ refusal.TooLong ∷ refusal.Json ∷ refusal.Shape ∷ refusal.Value
-    ∷ refusal.Version ∷ refusal.Names ∷ refusal.NoPlant ∷ refusal.TooManyLines ∷ refusal.TableEnd ∷ refusal.TableLong ∷ refusal.TableDay ∷ refusal.TableTwice ∷ []
-
-pub known_numbers : map number_of refusals
-    ≡ 11 ∷ 12 ∷ 13 ∷ 14 ∷ 15 ∷ 16 ∷ 19 ∷ 20 ∷ 21 ∷ 22 ∷ 23 ∷ 24 ∷ 25 ∷ 26 ∷ 27 ∷ 28 ∷ 29 ∷ 30 ∷ 31 ∷ 32 ∷ 33 ∷ 34 ∷ []
-known_numbers = refl
 
 -- the line that ends a refused run
 pub known_refusals : (refusal_text 1 refusal.BadStart ≡ codes "refused: line 1: 11 BadStart\n")
@@ -78,20 +56,6 @@ pub known_refusals : (refusal_text 1 refusal.BadStart ≡ codes "refused: line 1
     × (refusal_text 1 refusal.TableTwice ≡ codes "refused: line 1: 34 TableTwice\n")
 unfolding refusal_text digits
 known_refusals = (refl, refl, refl, refl, refl)
-
--- ---- names
-
--- 1 to 16 of the bytes a to z, 0 to 9, _ and -
-pub known_names : map is_name (codes "r1" ∷ codes "west-2_b" ∷ codes "abcdefghijklmnop" ∷ codes "abcdefghijklmnopq" ∷ [] ∷ codes "West" ∷ codes "a b" ∷ codes "a.b" ∷ [])
-    ≡ true ∷ true ∷ true ∷ false ∷ false ∷ false ∷ false ∷ false ∷ []
-unfolding is_name
-known_names = refl
-
--- one reader at least, and no name twice
-pub known_readers : map are_names ((codes "r1" ∷ codes "r2" ∷ []) ∷ [] ∷ (codes "r1" ∷ codes "r2" ∷ codes "r1" ∷ []) ∷ (codes "r1" ∷ codes "West" ∷ []) ∷ [])
-    ≡ true ∷ false ∷ false ∷ false ∷ []
-unfolding are_names is_name
-known_readers = refl
 
 -- ---- the log
 
@@ -142,18 +106,18 @@ known_audits = (refl, refl, refl)
 -- ---- a line by its number, its length and what it says
 
 -- a line that is skipped leaves the scene, whatever it is
-pub known_blank_lines : (at : Option Scene) → (step 1 at [] ≡ leaves at None) × (step 1000000 at (codes " \t\r") ≡ leaves at None)
+pub known_blank_lines : (at : Option Scene) → (step 1 at [] ≡ step_to at None) × (step 1000000 at (codes " \t\r") ≡ step_to at None)
 unfolding step
 known_blank_lines at = (refl, refl)
 
 -- a line above number 1,000,000 is refused, also a blank one
-pub known_many : (at : Option Scene) (line : List ℕ) → step 1000001 at line ≡ leaves at (Some refusal.TooManyLines)
+pub known_many : (at : Option Scene) (line : List ℕ) → step 1000001 at line ≡ step_to at (Some refusal.TooManyLines)
 unfolding step
 known_many at line = refl
 
 -- a line of 65,537 bytes is refused, also a blank one; one byte less is skipped where it is blank
-pub known_long : (at : Option Scene) (line : List ℕ) → (length line ≡ 65537 → step 1000000 at line ≡ leaves at (Some refusal.TooLong))
-    × (length line ≡ 65536 → is_blank line ≡ true → step 1 at line ≡ leaves at None)
+pub known_long : (at : Option Scene) (line : List ℕ) → (length line ≡ 65537 → step 1000000 at line ≡ step_to at (Some refusal.TooLong))
+    × (length line ≡ 65536 → is_blank line ≡ true → step 1 at line ≡ step_to at None)
 unfolding step
 known_long at line = (λ long. rw long refl, λ long blank. rw (long, blank) refl)
 
@@ -163,7 +127,7 @@ known_long at line = (λ long. rw long refl, λ long blank. rw (long, blank) ref
 abbrev rules : Rules
 rules = record { parity = Even; sense = Add; sbs = Check }
 
-abbrev generator : Gen
+abbrev generator : GeneratorValue
 generator = gen (record { half_hours = pos 0; dst = false }) [] rules 0 None 0
 
 abbrev reader : ReaderSetup
@@ -183,19 +147,19 @@ unfolding second_at
 known_play = (refl, refl, refl)
 
 -- two seconds of it are seven events and seven again; none is no event; a refused line leaves the scene as it was
-pub known_commands : (commanded (scene plan []) (Ok (command.Seconds 2))
-    ≡ leaves (Some (scene plan (GenEdge 2 ∷ GenEdge 1 ∷ GenEdge 0 ∷ Tick 0 ∷ Carry 2 0 ∷ Carry 1 0 ∷ Carry 0 0
+pub known_commands : (step_of_command (scene plan []) (Ok (command.Seconds 2))
+    ≡ step_to (Some (scene plan (GenEdge 2 ∷ GenEdge 1 ∷ GenEdge 0 ∷ Tick 0 ∷ Carry 2 0 ∷ Carry 1 0 ∷ Carry 0 0
     ∷ GenEdge 2 ∷ GenEdge 1 ∷ GenEdge 0 ∷ Tick 0 ∷ Carry 2 0 ∷ Carry 1 0 ∷ Carry 0 0 ∷ []))) None)
-    × (commanded (scene plan (Tick 0 ∷ [])) (Ok (command.Seconds 0)) ≡ leaves (Some (scene plan (Tick 0 ∷ []))) None)
-    × (commanded (scene plan (Tick 0 ∷ [])) (Err refusal.Shape) ≡ leaves (Some (scene plan (Tick 0 ∷ []))) (Some refusal.Shape))
+    × (step_of_command (scene plan (Tick 0 ∷ [])) (Ok (command.Seconds 0)) ≡ step_to (Some (scene plan (Tick 0 ∷ []))) None)
+    × (step_of_command (scene plan (Tick 0 ∷ [])) (Err refusal.Shape) ≡ step_to (Some (scene plan (Tick 0 ∷ []))) (Some refusal.Shape))
 unfolding second_at
 known_commands = (refl, refl, refl)
 
 -- ---- whole inputs
 
 -- without a plant line the refusal has the number of lines and one more
-pub known_no_plant : (meaning_of [] ≡ meaning None (Some (refused 1 refusal.NoPlant)))
-    × (meaning_of (codes "\n \n\t") ≡ meaning None (Some (refused 4 refusal.NoPlant)))
+pub known_no_plant : (meaning_of [] ≡ meaning None (Some (refusal_at 1 refusal.NoPlant)))
+    × (meaning_of (codes "\n \n\t") ≡ meaning None (Some (refusal_at 4 refusal.NoPlant)))
     × (output [] true ≡ codes "refused: line 1: 29 NoPlant\n")
 unfolding meaning_from step lines refusal_text digits
 known_no_plant = (refl, refl, refl)

@@ -1,6 +1,8 @@
 -- Which faults a step of a run can have, and what it wrote before them.
-use Rattle.std.specs.Prelude.{◌≡◌, ℕ, List, ◌++◌, Option, Result, Ok, Err, ⊤, Bool, true, false}
+use Rattle.std.specs.Prelude.{ℕ, List, Result, Ok, Err, ⊤, Bool, true, false}
 use Rattle.std.specs.Io.KnownBytes.{Appends}
+use Rattle.irig_device.specs.Watched.{AppendsPart}
+use Rattle.irig_scene.specs.Lines.{Bytes}
 use Rattle.irig_scene.specs.declared.fault.SceneFault.{SceneFault}
 use Rattle.irig_scene.specs.declared.fault.SceneFault.TheVariants.{Refused, Read, Write, Memory}
 
@@ -30,14 +32,7 @@ abbrev pub says_write : {A : Type 0} → Result A SceneFault → Bool
 says_write (Ok x) = false
 says_write (Err fault) = is_write_fault fault
 
--- known bytes grow by a front of the text
-pub record AppendsPart (old new : Option (List ℕ)) (text : List ℕ) : Type 0 where
-  pub front : List ℕ
-  pub rest : List ℕ
-  pub whole : text ≡ front ++ rest
-  pub wrote : Appends old new front
-
 -- the text was written, or a front of it before a fault
-abbrev pub TellsText : Result (Unit {0}) SceneFault → Option (List ℕ) → Option (List ℕ) → List ℕ → Type 0
-TellsText (Ok done) old new text = Appends old new text
-TellsText (Err fault) old new text = IsFaultOfWriting fault × AppendsPart old new text
+abbrev pub WroteText : Result (Unit {0}) SceneFault → Bytes → Bytes → List ℕ → Type 0
+WroteText (Ok done) old new text = Appends old new text
+WroteText (Err fault) old new text = IsFaultOfWriting fault × AppendsPart old new text

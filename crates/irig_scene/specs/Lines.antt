@@ -1,9 +1,14 @@
 -- The lines of some bytes, and what a reader gives of them.
+-- Source: docs/SCENARIOS.md.
 use Rattle.std.specs.Prelude.{◌≡◌, ◌≢◌, ℕ, ◌==◌, ◌||◌, Bool, ◌<◌, ◌≤◌, List, [], ◌∷◌, ◌++◌, length, All, if◌then◌else◌, nat_lt, Option, IfSome}
 use Rattle.std.specs.List.{flat_map, list_all}
 use Rattle.std.specs.Io.KnownBytes.{Consumes}
-use Rattle.irig_scene.specs.declared.input.LineEnd.{LineEnd}
-use Rattle.irig_scene.specs.declared.input.LineEnd.TheVariants.{Newline, EndOfInput, TooLong}
+use Rattle.irig_scene.specs.declared.line.LineEnd.{LineEnd}
+use Rattle.irig_scene.specs.declared.line.LineEnd.TheVariants.{Newline, EndOfInput, TooLong}
+
+-- the bytes of a device, where they are known
+abbrev pub Bytes : Type 0
+Bytes = Option (List ℕ)
 
 -- a byte in front of the first line
 abbrev pub onto_first : ℕ → List (List ℕ) → List (List ℕ)
@@ -48,14 +53,14 @@ HasLength EndOfInput limit line = length line ≤ limit
 HasLength TooLong limit line = limit < length line
 
 -- a reader that had `old` left has `new` left, and gave this line, or what shows that it is longer than the limit
-pub record GivesLine (end : LineEnd) (limit : ℕ) (line : List ℕ) (old new : Option (List ℕ)) : Type 0 where
+pub record GivesLine (end : LineEnd) (limit : ℕ) (line : List ℕ) (old new : Bytes) : Type 0 where
   pub taken : Consumes old new (spelling end line)
   pub has_length : HasLength end limit line
   pub whole : HasNoNewline line
   pub at_end : end ≡ EndOfInput → IfSome old (λ left. left ≡ line)
 
 -- a reader that failed in a line gave this much of it
-pub record GivesPart (old new : Option (List ℕ)) : Type 0 where
+pub record GivesPart (old new : Bytes) : Type 0 where
   pub part : List ℕ
   pub taken : Consumes old new part
   pub whole : HasNoNewline part

@@ -1,19 +1,21 @@
 -- What a scenario means: the plant and the events that its lines give, and the text that is written for them.
+-- Source: docs/SCENARIOS.md and docs/OUTPUT.md.
 use Rattle.std.specs.Prelude.{ℕ, ◌+◌, Bool, List, [], ◌∷◌, ◌++◌, length, if◌then◌else◌, nat_lt, Option, Some, None, Result, Ok, Err, option_and_then}
 use Rattle.irig_plant.specs.declared.audit.Audit.{Audit}
 use Rattle.irig_plant.specs.declared.event.Event.{Event}
+use Rattle.irig_plant.specs.declared.fault.PlantFault.{PlantFault}
+use Rattle.irig_plant.specs.declared.fault.PlantFault.TheVariants as plant
 use Rattle.irig_plant.specs.Schedule.{Setup, log_of}
 use Rattle.irig_plant.specs.Refusals.{refusal}
 use Rattle.irig_plant.specs.Audits.{audit_of}
-use Rattle.irig_scene.specs.declared.command.Command.{Command}
-use Rattle.irig_scene.specs.declared.command.Command.TheVariants as command
-use Rattle.irig_scene.specs.declared.refusal.Refusal.{Refusal}
-use Rattle.irig_scene.specs.declared.refusal.Refusal.TheVariants.{TooLong, NoPlant, TooManyLines}
-use Rattle.irig_scene.specs.Refusals.{refusal_as}
+use Rattle.irig_scenario.specs.declared.event_line.Command.{Command}
+use Rattle.irig_scenario.specs.declared.event_line.Command.TheVariants as command
+use Rattle.irig_forms.specs.declared.refusal.Refusal.{Refusal}
+use Rattle.irig_forms.specs.declared.refusal.Refusal.TheVariants.{NoSuchReader, NoSuchGenerator, FutureReplay, EndOfYears, TooLong, NoPlant, TooManyLines}
 use Rattle.irig_scene.specs.Lines.{lines, is_blank, max_line, max_lines}
-use Rattle.irig_scene.specs.Seconds.{second_of, times}
-use Rattle.irig_scene.specs.EventLine.{said}
-use Rattle.irig_scene.specs.PlantLine.{Plan, planned}
+use Rattle.irig_scenario.specs.WholeSecond.{second_of, times}
+use Rattle.irig_scenario.specs.EventLine.{command_in_line}
+use Rattle.irig_scenario.specs.PlantLine.{Plan, plan_in_line}
 use Rattle.irig_scene.specs.Text.{entries_text, audit_text, refusal_text}
 
 -- a plant with its readers' names, and the events that came, the newest first
@@ -41,15 +43,25 @@ abbrev pub unless_refused : Option Refusal → List Event → Play → Play
 unless_refused None ev rest = rest
 unless_refused (Some k) ev rest = play_by ev (Some k)
 
+-- the refusal of an event; want of memory is no refusal of a line
+abbrev pub refusal_as : PlantFault → Option Refusal
+refusal_as plant.NoSuchReader = Some NoSuchReader
+refusal_as plant.NoSuchGenerator = Some NoSuchGenerator
+refusal_as plant.FutureReplay = Some FutureReplay
+refusal_as plant.EndOfYears = Some EndOfYears
+refusal_as plant.Memory = None
+
 -- events one after another, up to the first that is refused
 abbrev pub play : Setup → List Event → List Event → Play
 play s [] ev = play_by ev None
-play s (e ∷ es) ev = unless_refused (option_and_then refusal_as (refusal s e ev)) ev (play s es (e ∷ ev))
+play s (e ∷ es) ev =
+    unless_refused (option_and_then refusal_as (refusal s e ev)) ev (play s es (e ∷ ev))
 
 -- what a line asks for, as events
 abbrev pub events_of : Plan → Command → List Event
 events_of plan (command.Event e) = e ∷ []
-events_of plan (command.Seconds n) = times n (second_of (length plan.setup.generators) (length plan.setup.readers))
+events_of plan (command.Seconds n) =
+    times n (second_of (length plan.setup.generators) (length plan.setup.readers))
 
 -- ---- one line
 
@@ -59,34 +71,34 @@ pub record Step : Type 0 where
   pub refusal : Option Refusal
 
 -- this scene, and this refusal
-abbrev pub leaves : Option Scene → Option Refusal → Step
-leaves at k = record { scene = at; refusal = k }
+abbrev pub step_to : Option Scene → Option Refusal → Step
+step_to at k = record { scene = at; refusal = k }
 
 -- a plant line leaves a scene without events
-abbrev pub begun : Result Plan Refusal → Step
-begun (Ok plan) = leaves (Some (scene plan [])) None
-begun (Err k) = leaves None (Some k)
+abbrev pub step_of_plan : Result Plan Refusal → Step
+step_of_plan (Ok plan) = step_to (Some (scene plan [])) None
+step_of_plan (Err k) = step_to None (Some k)
 
 -- the scene after what was played
 abbrev pub after_play : Plan → Play → Step
-after_play plan p = leaves (Some (scene plan p.events)) p.refusal
+after_play plan p = step_to (Some (scene plan p.events)) p.refusal
 
 -- a further line plays what it asks for
-abbrev pub commanded : Scene → Result Command Refusal → Step
-commanded x (Ok c) = after_play x.plan (play x.plan.setup (events_of x.plan c) x.events)
-commanded x (Err k) = leaves (Some x) (Some k)
+abbrev pub step_of_command : Scene → Result Command Refusal → Step
+step_of_command x (Ok c) = after_play x.plan (play x.plan.setup (events_of x.plan c) x.events)
+step_of_command x (Err k) = step_to (Some x) (Some k)
 
 -- the first line that isn't skipped is the plant's, each further one an event or seconds
-abbrev pub taken : Option Scene → List ℕ → Step
-taken None line = begun (planned line)
-taken (Some x) line = commanded x (said x.plan.names line)
+abbrev pub step_of_line : Option Scene → List ℕ → Step
+step_of_line None line = step_of_plan (plan_in_line line)
+step_of_line (Some x) line = step_of_command x (command_in_line x.plan.names line)
 
 -- line n after some scene
 unfoldable pub step : ℕ → Option Scene → List ℕ → Step
 step n at line =
-    if nat_lt max_lines n then leaves at (Some TooManyLines)
-    else (if nat_lt max_line (length line) then leaves at (Some TooLong)
-    else (if is_blank line then leaves at None else taken at line))
+    if nat_lt max_lines n then step_to at (Some TooManyLines)
+    else (if nat_lt max_line (length line) then step_to at (Some TooLong)
+    else (if is_blank line then step_to at None else step_of_line at line))
 
 -- ---- all lines
 
@@ -96,8 +108,8 @@ pub record Refused : Type 0 where
   pub refusal : Refusal
 
 -- this line, and this refusal
-abbrev pub refused : ℕ → Refusal → Refused
-refused line k = record { line = line; refusal = k }
+abbrev pub refusal_at : ℕ → Refusal → Refused
+refusal_at line k = record { line = line; refusal = k }
 
 -- the scene that lines leave, and the refusal of the first that is refused, if one is
 pub record Meaning : Type 0 where
@@ -109,19 +121,21 @@ abbrev pub meaning : Option Scene → Option Refused → Meaning
 meaning at k = record { scene = at; refused = k }
 
 -- the input ends before line n; without a plant that is refused too
-abbrev pub ended : ℕ → Option Scene → Meaning
-ended n None = meaning None (Some (refused n NoPlant))
-ended n (Some x) = meaning (Some x) None
+abbrev pub meaning_at_end : ℕ → Option Scene → Meaning
+meaning_at_end n None = meaning None (Some (refusal_at n NoPlant))
+meaning_at_end n (Some x) = meaning (Some x) None
 
 -- the refusal of line n, which leaves this scene, else what follows
 abbrev pub unless_stopped : ℕ → Option Scene → Option Refusal → Meaning → Meaning
 unless_stopped n at None rest = rest
-unless_stopped n at (Some k) rest = meaning at (Some (refused n k))
+unless_stopped n at (Some k) rest = meaning at (Some (refusal_at n k))
 
 -- the lines from number n on, after some scene
 unfoldable pub meaning_from : List (List ℕ) → ℕ → Option Scene → Meaning
-meaning_from [] n at = ended n at
-meaning_from (l ∷ ls) n at = unless_stopped n (step n at l).scene (step n at l).refusal (meaning_from ls (n + 1) (step n at l).scene)
+meaning_from [] n at = meaning_at_end n at
+meaning_from (l ∷ ls) n at =
+    unless_stopped n (step n at l).scene (step n at l).refusal
+    (meaning_from ls (n + 1) (step n at l).scene)
 
 -- what the bytes x mean
 abbrev pub meaning_of : List ℕ → Meaning

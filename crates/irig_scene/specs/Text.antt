@@ -1,4 +1,5 @@
 -- The text of a log, and the last line of a run.
+-- Source: docs/OUTPUT.md.
 use Rattle.std.specs.Prelude.{ℕ, Bool, ◌||◌, List, [], ◌++◌, filter, codes, slice_get, unwrap_or, Option, Some, None, is_some}
 use Rattle.std.specs.List.{flat_map}
 use Rattle.std.specs.Fmt.{decimal}
@@ -11,8 +12,8 @@ use Rattle.irig_reader.specs.declared.report.Cause.TheVariants as cause
 use Rattle.irig_plant.specs.declared.entry.Entry.{Entry}
 use Rattle.irig_plant.specs.declared.audit.Audit.{Audit}
 use Rattle.irig_plant.specs.declared.audit.Audit.TheVariants.{Kept, Broken, FalseTable}
-use Rattle.irig_scene.specs.declared.refusal.Refusal.{Refusal}
-use Rattle.irig_scene.specs.Refusals.{number_of, name_of}
+use Rattle.irig_forms.specs.declared.refusal.Refusal.{Refusal}
+use Rattle.irig_forms.specs.Refusals.{number_of, name_of}
 
 -- ---- the words of an entry
 
@@ -48,21 +49,29 @@ name_at names reader = unwrap_or (slice_get names reader) []
 -- EDGE READER TIME LOCK CAUSE
 unfoldable pub entry_text : List (List ℕ) → Entry → List ℕ
 entry_text names entry =
-    decimal entry.edge ++ (codes " " ++ (name_at names entry.reader ++ (codes " " ++ (time_shown_text entry.report.announce
-    ++ (codes " " ++ (lock_text entry.report.lock ++ (codes " " ++ (cause_text entry.report.cause ++ codes "\n"))))))))
+    decimal entry.edge ++ (codes " " ++ (name_at names entry.reader
+    ++ (codes " " ++ (time_shown_text entry.report.announce
+    ++ (codes " " ++ (lock_text entry.report.lock
+    ++ (codes " " ++ (cause_text entry.report.cause ++ codes "\n"))))))))
 
 -- a line for each entry with an announcement, or for each entry where all are wanted
 unfoldable pub entries_text : List (List ℕ) → Bool → List Entry → List ℕ
-entries_text names all entries = flat_map (entry_text names) (filter (λ entry. all || is_some entry.report.announce) entries)
+entries_text names all entries =
+    flat_map (entry_text names) (filter (λ entry. all || is_some entry.report.announce) entries)
 
 -- ---- the last line
 
 -- whether the premises were kept, else the first broken place or the least reader whose table is false
 unfoldable pub audit_text : List (List ℕ) → Audit → List ℕ
 audit_text names Kept = codes "premises kept\n"
-audit_text names (Broken reader edge) = codes "premises broken: edge " ++ (decimal edge ++ (codes " reader " ++ (name_at names reader ++ codes "\n")))
-audit_text names (FalseTable reader) = codes "premises broken: table of reader " ++ (name_at names reader ++ codes "\n")
+audit_text names (Broken reader edge) =
+    codes "premises broken: edge " ++ (decimal edge
+    ++ (codes " reader " ++ (name_at names reader ++ codes "\n")))
+audit_text names (FalseTable reader) =
+    codes "premises broken: table of reader " ++ (name_at names reader ++ codes "\n")
 
 -- the line's number, and the number and name of its refusal
 unfoldable pub refusal_text : ℕ → Refusal → List ℕ
-refusal_text line refusal = codes "refused: line " ++ (decimal line ++ (codes ": " ++ (decimal (number_of refusal) ++ (codes " " ++ (name_of refusal ++ codes "\n")))))
+refusal_text line refusal =
+    codes "refused: line " ++ (decimal line ++ (codes ": " ++ (decimal (number_of refusal)
+    ++ (codes " " ++ (name_of refusal ++ codes "\n")))))

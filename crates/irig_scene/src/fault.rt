@@ -1,4 +1,4 @@
-//! Why a run of a scenario ended early.
+//! The faults of a run.
 
 use thiserror::Error;
 

@@ -1,4 +1,4 @@
-//! What a run without a refusal gave.
+//! The answer of a run.
 
 use irig_plant::Audit;
 

@@ -4,8 +4,8 @@ ghost use Rattle.std.specs.Prelude.{◌≡◌, ◌++◌, ◌||◌, map, is_some,
 ghost use Rattle.irig_time.specs.Seconds.{IsValid};
 ghost use Rattle.irig_scene.specs.Text.{lock_text, cause_text, time_shown_text, name_at, entry_text, entries_text, audit_text, refusal_text};
 
-use crate::refusal::Refusal;
 use indexmap::IndexSet;
+use irig_forms::Refusal;
 use irig_plant::{Audit, Entry};
 use irig_reader::{Cause, Lock};
 use irig_time::{UtcSecond, write_text};
@@ -19,7 +19,8 @@ pub(crate) fn push_entries(
     all: bool,
 ) -> Result<(), AllocError>
     requires { All (λ entry. IfSome entry.report.announce IsValid) entries.now }
-    ensures { OnOk result (string_bytes text.new ≡ string_bytes text.old ++ entries_text (map string_bytes names.now.keys) all entries.now) }
+    ensures { OnOk result (string_bytes text.new
+        ≡ string_bytes text.old ++ entries_text (map string_bytes names.now.keys) all entries.now) }
 {
     for entry in entries {
         if is_written(entry, all) {
@@ -40,7 +41,8 @@ fn is_written(entry: &Entry, all: bool) -> bool
 #[tactic(auto, unfolding(crate::specs::Text::entry_text))]
 fn push_entry(text: &mut String, names: &IndexSet<String>, entry: &Entry) -> Result<(), AllocError>
     requires { IfSome entry.now.report.announce IsValid }
-    ensures { OnOk result (string_bytes text.new ≡ string_bytes text.old ++ entry_text (map string_bytes names.now.keys) entry.now) }
+    ensures { OnOk result (string_bytes text.new
+        ≡ string_bytes text.old ++ entry_text (map string_bytes names.now.keys) entry.now) }
 {
     let name = name_at(names, entry.reader);
     let edge = entry.edge;
@@ -65,7 +67,8 @@ fn name_at(names: &IndexSet<String>, reader: u8) -> &str
 /// Adds the second that is announced, or a dash.
 fn push_time(text: &mut String, announce: Option<UtcSecond>) -> Result<(), AllocError>
     requires { IfSome announce IsValid }
-    ensures { OnOk result (string_bytes text.new ≡ string_bytes text.old ++ time_shown_text announce) }
+    ensures { OnOk result (string_bytes text.new
+        ≡ string_bytes text.old ++ time_shown_text announce) }
 {
     match announce {
         Some(second) => text.push_str(shown(&write_text(&second))),
@@ -116,7 +119,8 @@ pub(crate) fn push_audit(
     names: &IndexSet<String>,
     audit: Audit,
 ) -> Result<(), AllocError>
-    ensures { OnOk result (string_bytes text.new ≡ string_bytes text.old ++ audit_text (map string_bytes names.now.keys) audit) }
+    ensures { OnOk result (string_bytes text.new
+        ≡ string_bytes text.old ++ audit_text (map string_bytes names.now.keys) audit) }
 {
     match audit {
         Audit::Kept => text.push_str("premises kept\n"),
@@ -134,7 +138,8 @@ pub(crate) fn push_audit(
 /// Adds the last line of a run that a line's refusal ended.
 #[tactic(auto, unfolding(crate::specs::Text::refusal_text))]
 pub(crate) fn push_refusal(text: &mut String, line: u64, refusal: Refusal) -> Result<(), AllocError>
-    ensures { OnOk result (string_bytes text.new ≡ string_bytes text.old ++ refusal_text line refusal) }
+    ensures { OnOk result (string_bytes text.new
+        ≡ string_bytes text.old ++ refusal_text line refusal) }
 {
     let number = refusal.number();
     let name = refusal.name();

@@ -10,7 +10,7 @@ use Rattle.irig_time.specs.declared.rules.Sense.TheVariants.{Add, Subtract}
 use Rattle.irig_time.specs.declared.claim.TimeFault.TheVariants as fault
 use Rattle.irig_time.specs.Days.{IsMonthEnd, is_month_end, year_length}
 use Rattle.irig_time.specs.Seconds.{IsValid, minute_of, second_of}
-use Rattle.irig_time.specs.Coding.{IsCodedOf}
+use Rattle.irig_time.specs.CodedTime.{IsCodedOf}
 use Rattle.irig_time.specs.Claims.{utc_minute, is_last_minute, frame_mark, claim_at, claim_by, claim_of_second}
 use Rattle.irig_time.proofs.Dates.{date_of_parts}
 use Rattle.irig_time.proofs.MonthEnds.{month_end_test}

@@ -3,7 +3,7 @@ use Rattle.std.proofs.Common.{◌≡◌, ℕ, ◌*◌, ◌/◌, ◌%◌, ◌≤�
 use Rattle.std.proofs.lemmas.Bool.{cases_Bool, eqb-true, eqb-false}
 use Rattle.irig_frame.specs.declared.coded.Coded.{Coded}
 use Rattle.irig_time.specs.declared.second.UtcSecond.{UtcSecond}
-use Rattle.irig_time.specs.Coding.{IsCodedOf, coded_minute}
+use Rattle.irig_time.specs.CodedTime.{IsCodedOf, coded_minute}
 use Rattle.irig_time.specs.Days.{day_number, year_length}
 
 -- the year of a day by its number

@@ -11,4 +11,5 @@ pub mod NextLaws
 pub mod ClaimLaws
 pub mod CodedLaws
 pub mod TimeShown
+pub mod FrameLaws
 pub mod ClaimedSeconds

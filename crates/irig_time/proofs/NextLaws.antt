@@ -14,14 +14,14 @@ use Rattle.irig_time.specs.declared.leap.Leap.TheVariants.{Insert, Delete}
 use Rattle.irig_time.specs.Days.{is_month_end}
 use Rattle.irig_time.specs.Seconds.{IsValid}
 use Rattle.irig_time.specs.Next.{plain, turn_after, next_at_month_end, next_of}
-use Rattle.irig_time.specs.Times.{Times, leap_of, length_by, mark_by, day_length, seconds_in, IsSecond}
+use Rattle.irig_time.specs.Timelines.{TimelineValue, leap_of, length_by, mark_by, day_length, seconds_in, IsSecond}
 use Rattle.irig_time.specs.TimelineFaults.{first_leap_fault, start_fault, IsTimeline}
 use Rattle.irig_time.proofs.TimeLaws.{length_bounds, neither, unless, no_leap, one_second, in_order, some_same, same_day, new_day}
 
-abbrev after_last : Times → UtcSecond → Option UtcSecond
+abbrev after_last : TimelineValue → UtcSecond → Option UtcSecond
 after_last t u = turn_after (day_length t.leaps u.day - 1) u
 
-none_here : (t : Times) (u : UtcSecond) → IsTimeline t → is_month_end u.day ≡ false → leap_of t.leaps u.day ≡ None
+none_here : (t : TimelineValue) (u : UtcSecond) → IsTimeline t → is_month_end u.day ≡ false → leap_of t.leaps u.day ≡ None
 none_here t u sound e = no_leap _ t.leaps u.day (neither (first_leap_fault _ t.leaps) (start_fault t.leaps t.start) sound.sound).0 e
 
 by_leap : (u : UtcSecond) (o : Option Leap) → next_at_month_end u (mark_by o) ≡ turn_after (length_by o - 1) u
@@ -29,14 +29,14 @@ by_leap u None = refl
 by_leap u (Some Insert) = refl
 by_leap u (Some Delete) = refl
 
-heard_step : (t : Times) (u : UtcSecond) → IsTimeline t → next_of u (mark_by (leap_of t.leaps u.day)) ≡ after_last t u
+heard_step : (t : TimelineValue) (u : UtcSecond) → IsTimeline t → next_of u (mark_by (leap_of t.leaps u.day)) ≡ after_last t u
 heard_step t u sound =
     elim (cases_Bool (is_month_end u.day)) [
       | inl e ↦ rw e (by_leap u (leap_of t.leaps u.day))
       | inr e ↦ rw (e, none_here t u sound e) refl
     ]
 
-unspoken_step : (t : Times) (u : UtcSecond) → IsTimeline t → ¬ ((is_month_end u.day ≡ true) × ((u.sod ≡ 86398) ⊎ (u.sod ≡ 86399))) → next_of u Unspoken ≡ after_last t u
+unspoken_step : (t : TimelineValue) (u : UtcSecond) → IsTimeline t → ¬ ((is_month_end u.day ≡ true) × ((u.sod ≡ 86398) ⊎ (u.sod ≡ 86399))) → next_of u Unspoken ≡ after_last t u
 unspoken_step t u sound clear =
     let long = length_bounds (leap_of t.leaps u.day) in
     elim (cases_Bool (is_month_end u.day)) [
@@ -52,7 +52,7 @@ unspoken_step t u sound clear =
     ]
 
 -- where a second follows the last one of a day, that day isn't the last
-not_last : (t : Times) (n : ℕ) (u v : UtcSecond) → IsSecond t n u → IsSecond t (n + 1) v → day_length t.leaps u.day ≤ u.sod + 1 → u.day < 36523
+not_last : (t : TimelineValue) (n : ℕ) (u v : UtcSecond) → IsSecond t n u → IsSecond t (n + 1) v → day_length t.leaps u.day ≤ u.sod + 1 → u.day < 36523
 not_last t n u v a b late =
     elim (cases_lt u.day 36523) [
       | inl lt ↦ lt
@@ -64,7 +64,7 @@ not_last t n u v a b late =
           absurd (omega (arith, sums, lengths, a.sum, b.sum, b.sod, late))
     ]
 
-step_is : (t : Times) (n : ℕ) (u v : UtcSecond) → IsSecond t n u → IsSecond t (n + 1) v → after_last t u ≡ Some v
+step_is : (t : TimelineValue) (n : ℕ) (u v : UtcSecond) → IsSecond t n u → IsSecond t (n + 1) v → after_last t u ≡ Some v
 step_is t n u v a b =
     let long = length_bounds (leap_of t.leaps u.day) in
     elim (cases_lt (u.sod + 1) (day_length t.leaps u.day)) [
@@ -75,10 +75,10 @@ step_is t n u v a b =
           rw (le-ltb u.sod (day_length t.leaps u.day - 1) (omega arith), ne_eqb u.day 36523 (λ e. omega arith)) (some_same next v (one_second t (n + 1) next v (new_day t n u a ge low) b))
     ]
 
-pub heard : (t : Times) (n : ℕ) (u v : UtcSecond) → IsTimeline t → IsSecond t n u → IsSecond t (n + 1) v → next_of u (mark_by (leap_of t.leaps u.day)) ≡ Some v
+pub heard : (t : TimelineValue) (n : ℕ) (u v : UtcSecond) → IsTimeline t → IsSecond t n u → IsSecond t (n + 1) v → next_of u (mark_by (leap_of t.leaps u.day)) ≡ Some v
 heard t n u v sound a b = heard_step t u sound ∙ step_is t n u v a b
 
-pub unspoken : (t : Times) (n : ℕ) (u v : UtcSecond) → IsTimeline t → IsSecond t n u → IsSecond t (n + 1) v → ¬ ((is_month_end u.day ≡ true) × ((u.sod ≡ 86398) ⊎ (u.sod ≡ 86399))) → next_of u Unspoken ≡ Some v
+pub unspoken : (t : TimelineValue) (n : ℕ) (u v : UtcSecond) → IsTimeline t → IsSecond t n u → IsSecond t (n + 1) v → ¬ ((is_month_end u.day ≡ true) × ((u.sod ≡ 86398) ⊎ (u.sod ≡ 86399))) → next_of u Unspoken ≡ Some v
 unspoken t n u v sound a b clear = unspoken_step t u sound clear ∙ step_is t n u v a b
 
 last_date : IsCivilDate (pos 2099) 12 31
@@ -99,7 +99,7 @@ last_day =
     let one : 31 ≡ 1 = (month_end_is a 36523 day_of_last).1 ((month_end_test 36523 (omega arith) a day_of_last).0 h) in
     omega (arith, one))
 
-pub end : (t : Times) (n : ℕ) (u : UtcSecond) (mark : Mark) → IsTimeline t → IsSecond t n u → ((v : UtcSecond) → ¬ IsSecond t (n + 1) v) → next_of u mark ≡ None
+pub end : (t : TimelineValue) (n : ℕ) (u : UtcSecond) (mark : Mark) → IsTimeline t → IsSecond t n u → ((v : UtcSecond) → ¬ IsSecond t (n + 1) v) → next_of u mark ≡ None
 end t n u mark sound a none =
     let late : ¬ (u.sod + 1 < day_length t.leaps u.day) = λ lt. none (plain u) (same_day t n u a lt) in
     let last : ¬ (u.day < 36523) = λ lt. none (record { day = u.day + 1; sod = 0 }) (new_day t n u a (omega (arith, late)) lt) in
@@ -112,7 +112,7 @@ end t n u mark sound a none =
 start_served : (leaps : List (ℕ × Leap)) (u : UtcSecond) → start_fault leaps u ≡ None → 1 ≤ u.day
 start_served leaps u h = ltb-false u.day 1 (unless _ _ _ h).0
 
-pub valid_second : (t : Times) (n : ℕ) (u : UtcSecond) → IsTimeline t → IsSecond t n u → IsValid u
+pub valid_second : (t : TimelineValue) (n : ℕ) (u : UtcSecond) → IsTimeline t → IsSecond t n u → IsValid u
 valid_second t n u sound a =
     let start = start_served t.leaps t.start (neither (first_leap_fault _ t.leaps) (start_fault t.leaps t.start) sound.sound).1 in
     let long = length_bounds (leap_of t.leaps u.day) in

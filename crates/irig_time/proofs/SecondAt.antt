@@ -5,7 +5,7 @@ use Rattle.std.proofs.lemmas.Bool.{cases_Bool, cases_order, lt-ltb, le-ltb, ltb-
 use Rattle.irig_time.specs.declared.second.UtcSecond.{UtcSecond}
 use Rattle.irig_time.specs.declared.claim.Claim.{Claim}
 use Rattle.irig_time.specs.declared.leap.Leap.{Leap}
-use Rattle.irig_time.specs.Times.{Times, day_length, seconds_in, IsSecond, IsTrueClaim, true_mark, second_within, second_at, true_claim, truth_at}
+use Rattle.irig_time.specs.Timelines.{TimelineValue, day_length, seconds_in, IsSecond, IsTrueClaim, true_mark, second_within, second_at, true_claim, truth_at}
 use Rattle.irig_time.proofs.TimeLaws.{same_second, some_same}
 
 -- a sum of days, with the first one apart
@@ -80,7 +80,7 @@ is_found leaps day (suc days) seconds u e =
     ]
 
 -- second_at gives the u of IsSecond
-pub second_is : (t : Times) (n : ℕ) (u : UtcSecond) → (second_at t n ≡ Some u) ↔ IsSecond t n u
+pub second_is : (t : TimelineValue) (n : ℕ) (u : UtcSecond) → (second_at t n ≡ Some u) ↔ IsSecond t n u
 unfolding second_at
 second_is t n u = (
   λ e.
@@ -111,7 +111,7 @@ claim_mapped : (leaps : List (ℕ × Leap)) (c : Claim) → c.mark ≡ true_mark
 claim_mapped leaps c mark = ap (λ (x : Claim). let o : Option Claim = Some x in o) (same_claim leaps c.at c refl mark)
 
 -- truth_at gives the c of IsTrueClaim
-pub claim_is : (t : Times) (n : ℕ) (c : Claim) → (truth_at t n ≡ Some c) ↔ IsTrueClaim t (n + 1) c
+pub claim_is : (t : TimelineValue) (n : ℕ) (c : Claim) → (truth_at t n ≡ Some c) ↔ IsTrueClaim t (n + 1) c
 claim_is t n c = (
   λ e.
       let parts = mapped t.leaps (second_at t n) c e in
@@ -125,7 +125,7 @@ claim_is t n c = (
 -- ---- answers
 
 -- what is Some of T(n) and of nothing else is second_at
-pub value_is : (t : Times) (n : ℕ) (o : Option UtcSecond) → ((u : UtcSecond) → (o ≡ Some u) ↔ IsSecond t n u) → o ≡ second_at t n
+pub value_is : (t : TimelineValue) (n : ℕ) (o : Option UtcSecond) → ((u : UtcSecond) → (o ≡ Some u) ↔ IsSecond t n u) → o ≡ second_at t n
 value_is t n o h = same (second_at t n) o (λ u. ((λ e. (second_is t n u).1 ((h u).0 e)), λ e. (h u).1 ((second_is t n u).0 e)))
   where
     same : (p o : Option UtcSecond) → ((u : UtcSecond) → (o ≡ Some u → p ≡ Some u) × (p ≡ Some u → o ≡ Some u)) → o ≡ p

@@ -3,6 +3,11 @@ use Rattle.std.proofs.Common.{◌≡◌, ℕ, ◌+◌, true, false, List, [], �
 use Rattle.std.specs.Prelude.{codes, ◌++◌}
 use Rattle.jiff_core.specs.Calendar.{days_from_civil, day_count, days_of_years, days_of_months}
 use Rattle.irig_time.specs.declared.second.UtcSecond.{UtcSecond}
+use Rattle.irig_control.specs.declared.parity.Parity.TheVariants.{Even}
+use Rattle.irig_time.specs.declared.rules.Sense.TheVariants.{Add}
+use Rattle.irig_time.specs.declared.rules.SbsUse.TheVariants.{Check}
+use Rattle.irig_time.specs.declared.rules.TheConstants.Rules.{PLAIN}
+use Rattle.irig_time.specs.declared.second.TheConstants.{FIRST_DAY, LAST_DAY}
 use Rattle.irig_time.specs.Days.{day_number, year_length, IsMonthEnd}
 use Rattle.irig_time.specs.Seconds.{minute_of, second_of}
 use Rattle.irig_time.specs.Texts.{date_text, time_text}
@@ -11,7 +16,7 @@ use Rattle.irig_time.specs.declared.mark.Mark.TheVariants.{Unspoken, NoLeap, Ins
 use Rattle.irig_time.specs.declared.leap.Leap.{Leap}
 use Rattle.irig_time.specs.declared.leap.Leap.TheVariants as leap
 use Rattle.irig_time.specs.Next.{next_at_month_end, turn}
-use Rattle.irig_time.specs.Times.{Times, times, day_length, IsSecond}
+use Rattle.irig_time.specs.Timelines.{TimelineValue, times, day_length, IsSecond}
 use Rattle.irig_time.specs.Claims.{frame_mark}
 
 -- 2000-01-01 is day 0, 2000-12-31 day 365, 2016-12-31 day 6209, 2099-12-30 day 36523 and 2099-12-31 day 36524
@@ -23,6 +28,14 @@ pub known_dates : (days_from_civil (pos 2000) 1 1 ≡ pos 10957) × (days_from_c
     × (days_from_civil (pos 2099) 12 30 ≡ pos (36523 + 10957)) × (days_from_civil (pos 2099) 12 31 ≡ pos (36524 + 10957))
 unfolding days_from_civil day_count days_of_years days_of_months
 known_dates = (refl, refl, refl, refl)
+
+-- the years served begin with 2000-01-02 and end with 2099-12-30
+pub known_bounds : (FIRST_DAY ≡ day_number 0 2) × (LAST_DAY ≡ day_number 99 364)
+known_bounds = (refl, refl)
+
+-- even parity, the offset is added, the straight binary seconds are compared
+pub known_rules : PLAIN ≡ record { parity = Even; sense = Add; sbs = Check }
+known_rules = refl
 
 -- 2000, 2016 and 2096 are leap years, 2001 and 2099 are not
 pub known_years : map year_length (0 ∷ 16 ∷ 96 ∷ 1 ∷ 99 ∷ []) ≡ 366 ∷ 366 ∷ 366 ∷ 365 ∷ 365 ∷ []
@@ -70,7 +83,7 @@ leaps = (6209, leap.Insert) ∷ (6240, leap.Delete) ∷ []
 pub known_lengths : map (day_length leaps) (6208 ∷ 6209 ∷ 6210 ∷ 6240 ∷ []) ≡ 86400 ∷ 86401 ∷ 86400 ∷ 86399 ∷ []
 known_lengths = refl
 
-abbrev timeline : Times
+abbrev timeline : TimelineValue
 timeline = times (at 6209 86390) leaps
 
 -- from 2016-12-31T23:59:50: 23:59:60 is the tenth second after it, and then comes 2017

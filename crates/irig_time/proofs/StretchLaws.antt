@@ -12,7 +12,7 @@ use Rattle.std.proofs.Math.Seq.{get_or-append_seam}
 use Rattle.irig_time.specs.declared.second.UtcSecond.{UtcSecond}
 use Rattle.irig_time.specs.declared.leap.Leap.{Leap}
 use Rattle.irig_time.specs.declared.stretches.Stretch.{Stretch}
-use Rattle.irig_time.specs.Times.{Times, leap_of, length_by, day_length, seconds_in, IsSecond}
+use Rattle.irig_time.specs.Timelines.{TimelineValue, leap_of, length_by, day_length, seconds_in, IsSecond}
 use Rattle.irig_time.specs.TimelineFaults.{first_leap_fault}
 use Rattle.irig_time.specs.Stretches.{HasNoLeapFrom, IsNextLeap, IsPlaced, Joins, IsIndex, IsIndexed, IsRising, Holds, comes_before}
 use Rattle.irig_time.proofs.TimeLaws.{length_bounds, seconds_bounds, seconds_to_next, seconds_before_later, neither, no_fault, once_only, the_last}
@@ -193,14 +193,14 @@ first_found leaps from (Some n) sound h =
 
 -- ---- the second of a stretch
 
-pub plain_seconds : (t : Times) (total : ℕ) (s : Stretch) (last day : ℕ) → Holds t total s last → s.day ≤ day → day ≤ last → seconds_in t.leaps t.start.day (day - t.start.day) ≡ s.seconds + 86400 * (day - s.day)
+pub plain_seconds : (t : TimelineValue) (total : ℕ) (s : Stretch) (last day : ℕ) → Holds t total s last → s.day ≤ day → day ≤ last → seconds_in t.leaps t.start.day (day - t.start.day) ≡ s.seconds + 86400 * (day - s.day)
 plain_seconds t total s last day h from to = plain_until t.leaps t.start.day s day h.placed from (λ d low high. h.plain d low (omega arith))
 
 abbrev second : ℕ → ℕ → UtcSecond
 second day sod = record { day = day; sod = sod }
 
 -- where the day is served, the second is found
-pub found_in : (t : Times) (n total : ℕ) (s : Stretch) (last days : ℕ) → Holds t total s last → total ≡ t.start.sod + n → days ≡ min ((total - s.seconds) / 86400) (last - s.day) → s.day + days ≤ 36523
+pub found_in : (t : TimelineValue) (n total : ℕ) (s : Stretch) (last days : ℕ) → Holds t total s last → total ≡ t.start.sod + n → days ≡ min ((total - s.seconds) / 86400) (last - s.day) → s.day + days ≤ 36523
     → IsSecond t n (second (s.day + days) (total - s.seconds - days * 86400))
 found_in t n total s last days h e is served =
     let sum = plain_seconds t total s last (s.day + days) h (omega arith) (omega (arith, is, h.within)) in
@@ -228,7 +228,7 @@ found_in t n total s last days h e is served =
     }
 
 -- where it isn't, there is no second
-pub late_in : (t : Times) (n total : ℕ) (s : Stretch) (last days : ℕ) → Holds t total s last → total ≡ t.start.sod + n → days ≡ min ((total - s.seconds) / 86400) (last - s.day) → 36523 < s.day + days
+pub late_in : (t : TimelineValue) (n total : ℕ) (s : Stretch) (last days : ℕ) → Holds t total s last → total ≡ t.start.sod + n → days ≡ min ((total - s.seconds) / 86400) (last - s.day) → 36523 < s.day + days
     → (u : UtcSecond) → IsSecond t n u → ⊥
 late_in t n total s last days h e is past u a =
     let sum = plain_seconds t total s last (s.day + days) h (omega arith) (omega (arith, is, h.within)) in
@@ -252,7 +252,7 @@ rising leaps first stretches index = record {
 }
 
 -- the stretch that is the last to have begun holds the second
-pub held_until : (t : Times) (stretches : List Stretch) (total begun : ℕ) (d : Stretch) → IsIndex t.leaps t.start.day stretches → 0 < begun → begun < length stretches
+pub held_until : (t : TimelineValue) (stretches : List Stretch) (total begun : ℕ) (d : Stretch) → IsIndex t.leaps t.start.day stretches → 0 < begun → begun < length stretches
     → (get_or stretches (begun - 1) d).seconds ≤ total → total < (get_or stretches begun d).seconds → Holds t total (get_or stretches (begun - 1) d) ((get_or stretches begun d).day - 1)
 held_until t stretches total begun d index some lt low high =
     let at : begun - 1 + 1 ≡ begun = omega arith in
@@ -270,7 +270,7 @@ held_until t stretches total begun d index some lt low high =
       before_end = inr (omega (arith, end, high));
     }
 
-pub held_for_ever : (t : Times) (stretches : List Stretch) (total begun : ℕ) (d : Stretch) → IsIndex t.leaps t.start.day stretches → begun ≡ length stretches
+pub held_for_ever : (t : TimelineValue) (stretches : List Stretch) (total begun : ℕ) (d : Stretch) → IsIndex t.leaps t.start.day stretches → begun ≡ length stretches
     → (get_or stretches (begun - 1) d).seconds ≤ total → Holds t total (get_or stretches (begun - 1) d) 36524
 held_for_ever t stretches total begun d index all low =
     let last : length stretches - 1 ≡ begun - 1 = omega (arith, all) in
@@ -286,5 +286,5 @@ held_for_ever t stretches total begun d index all low =
     }
 
 -- the index of the same timeline, as the same list
-pub indexed_by : (s t : Times) (items slice : List Stretch) → s ≡ t → slice ≡ items → IsIndexed s items → IsIndexed t slice
-indexed_by s t items slice e f h = subst (λ (x : Times). IsIndexed x slice) e (subst (λ (xs : List Stretch). IsIndexed s xs) (sym f) h)
+pub indexed_by : (s t : TimelineValue) (items slice : List Stretch) → s ≡ t → slice ≡ items → IsIndexed s items → IsIndexed t slice
+indexed_by s t items slice e f h = subst (λ (x : TimelineValue). IsIndexed x slice) e (subst (λ (xs : List Stretch). IsIndexed s xs) (sym f) h)

@@ -8,7 +8,7 @@ use Rattle.irig_time.specs.declared.claim.Claim.{Claim}
 use Rattle.irig_time.specs.declared.leap.Leap.{Leap}
 use Rattle.irig_time.specs.declared.leap.Leap.TheVariants.{Insert, Delete}
 use Rattle.irig_time.specs.Days.{is_month_end}
-use Rattle.irig_time.specs.Times.{Times, leap_of, length_by, day_length, sum_below, seconds_in, IsSecond, IsTrueClaim, true_mark}
+use Rattle.irig_time.specs.Timelines.{TimelineValue, leap_of, length_by, day_length, sum_below, seconds_in, IsSecond, IsTrueClaim, true_mark}
 use Rattle.irig_time.specs.TimelineFaults.{leap_fault, first_leap_fault}
 
 pub length_bounds : (o : Option Leap) → (86399 ≤ length_by o) × (length_by o ≤ 86401)
@@ -48,7 +48,7 @@ seconds_before_later leaps from day later h lt =
 
 -- ---- at most one second for each number
 
-pub in_order : (t : Times) (n m : ℕ) (u v : UtcSecond) → IsSecond t n u → IsSecond t m v → u.day < v.day → n < m
+pub in_order : (t : TimelineValue) (n m : ℕ) (u v : UtcSecond) → IsSecond t n u → IsSecond t m v → u.day < v.day → n < m
 in_order t n m u v a b lt =
     omega (arith, seconds_before_later t.leaps t.start.day u.day v.day a.from lt, a.sod, a.sum, b.sum)
 
@@ -58,7 +58,7 @@ same_second u v d s = let e : ◌≡◌ {A = UtcSecond} (record { day = u.day; s
 pub some_same : (u v : UtcSecond) → u ≡ v → ◌≡◌ {A = Option UtcSecond} (Some u) (Some v)
 some_same u v e = ap (λ (x : UtcSecond). let o : Option UtcSecond = Some x in o) e
 
-pub one_second : (t : Times) (n : ℕ) (u v : UtcSecond) → IsSecond t n u → IsSecond t n v → u ≡ v
+pub one_second : (t : TimelineValue) (n : ℕ) (u v : UtcSecond) → IsSecond t n u → IsSecond t n v → u ≡ v
 one_second t n u v a b =
     let low : ¬ (u.day < v.day) = λ lt. omega (arith, in_order t n n u v a b lt) in
     let high : ¬ (v.day < u.day) = λ lt. omega (arith, in_order t n n v u b a lt) in
@@ -68,10 +68,10 @@ one_second t n u v a b =
 
 -- ---- the second after
 
-pub same_day : (t : Times) (n : ℕ) (u : UtcSecond) → IsSecond t n u → u.sod + 1 < day_length t.leaps u.day → IsSecond t (n + 1) (record { day = u.day; sod = u.sod + 1 })
+pub same_day : (t : TimelineValue) (n : ℕ) (u : UtcSecond) → IsSecond t n u → u.sod + 1 < day_length t.leaps u.day → IsSecond t (n + 1) (record { day = u.day; sod = u.sod + 1 })
 same_day t n u a h = record { from = a.from; to = a.to; sod = h; sum = omega (arith, a.sum) }
 
-pub new_day : (t : Times) (n : ℕ) (u : UtcSecond) → IsSecond t n u → day_length t.leaps u.day ≤ u.sod + 1 → u.day < 36523 → IsSecond t (n + 1) (record { day = u.day + 1; sod = 0 })
+pub new_day : (t : TimelineValue) (n : ℕ) (u : UtcSecond) → IsSecond t n u → day_length t.leaps u.day ≤ u.sod + 1 → u.day < 36523 → IsSecond t (n + 1) (record { day = u.day + 1; sod = 0 })
 new_day t n u a h low = record {
   from = omega (arith, a.from);
   to = omega arith;
@@ -80,7 +80,7 @@ new_day t n u a h low = record {
 }
 
 -- the numbers are few
-pub few : (t : Times) (n : ℕ) (u : UtcSecond) → IsSecond t n u → t.start.sod + n < 2 ^ 32
+pub few : (t : TimelineValue) (n : ℕ) (u : UtcSecond) → IsSecond t n u → t.start.sod + n < 2 ^ 32
 few t n u a =
     omega (arith, a.sum, a.sod, a.to, (seconds_bounds t.leaps t.start.day (u.day - t.start.day)).1, (length_bounds (leap_of t.leaps u.day)).1)
 
@@ -152,11 +152,11 @@ once_only before (x ∷ xs) day sound h =
 
 -- ---- answers
 
-pub found_is : (t : Times) (n : ℕ) (found u : UtcSecond) → IsSecond t n found → (◌≡◌ {A = Option UtcSecond} (Some found) (Some u) → IsSecond t n u) × (IsSecond t n u → ◌≡◌ {A = Option UtcSecond} (Some found) (Some u))
+pub found_is : (t : TimelineValue) (n : ℕ) (found u : UtcSecond) → IsSecond t n found → (◌≡◌ {A = Option UtcSecond} (Some found) (Some u) → IsSecond t n u) × (IsSecond t n u → ◌≡◌ {A = Option UtcSecond} (Some found) (Some u))
 found_is t n found u own =
     (λ e. let same : found ≡ u = cc e in subst (IsSecond t n) same own, λ h. some_same found u (one_second t n found u own h))
 
-pub one_claim : (t : Times) (n : ℕ) (c d : Claim) → IsTrueClaim t n c → IsTrueClaim t n d → c ≡ d
+pub one_claim : (t : TimelineValue) (n : ℕ) (c d : Claim) → IsTrueClaim t n c → IsTrueClaim t n d → c ≡ d
 one_claim t n c d a b =
     let m : a.second.0 ≡ b.second.0 = omega (arith, a.second.1, b.second.1) in
     let at : c.at ≡ d.at = one_second t b.second.0 c.at d.at (subst (λ (k : ℕ). IsSecond t k c.at) m a.second.2) b.second.2 in

@@ -5,7 +5,7 @@ use Rattle.std.proofs.lemmas.Int.{ints}
 use Rattle.irig_time.specs.declared.second.UtcSecond.{UtcSecond}
 use Rattle.irig_time.specs.Days.{day_number, year_length}
 use Rattle.irig_time.specs.Seconds.{IsValid, minute_of, second_of}
-use Rattle.irig_time.specs.Coding.{IsCodedOf, coded_minute, minute_shown, year_of_day, shown_in, time_shown}
+use Rattle.irig_time.specs.CodedTime.{IsCodedOf, coded_minute, minute_shown, year_of_day, shown_in, time_shown}
 
 -- the year has begun by the day, and has not ended before it
 begun : (day : ℕ) → day_number (year_of_day day) 1 ≤ day

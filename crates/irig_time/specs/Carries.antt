@@ -3,7 +3,7 @@
 use Rattle.std.specs.Prelude.{◌≡◌, ◌+◌, ◌*◌, ◌<◌, ◌≤◌, List, Ok}
 use Rattle.irig_frame.specs.declared.symbol.Symbol.{Symbol}
 use Rattle.irig_frame.specs.declared.coded.Coded.{Coded}
-use Rattle.irig_frame.specs.Reading.{Reads}
+use Rattle.irig_frame.specs.Decoder.{Reads}
 use Rattle.irig_control.specs.Control.{control_of}
 use Rattle.irig_control.specs.Parity.{HasParity}
 use Rattle.irig_time.specs.declared.rules.Rules.{Rules}

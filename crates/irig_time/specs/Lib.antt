@@ -1,11 +1,12 @@
 pub mod Days
 pub mod Seconds
-pub mod Coding
+pub mod CodedTime
+pub mod Frames
 pub mod Texts
 pub mod TextValues
 pub mod Claims
 pub mod Next
-pub mod Times
+pub mod Timelines
 pub mod TimelineFaults
 pub mod Stretches
 pub mod Tables

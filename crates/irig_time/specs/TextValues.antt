@@ -1,10 +1,11 @@
 -- The texts of days and seconds, and what is read of a text, as functions.
-use Rattle.std.specs.Prelude.{ℕ, ◌+◌, List, [], ◌++◌, ◌/◌, ◌%◌, if◌then◌else◌, Bool, map, Option, option_map, unwrap_or, pos}
+use Rattle.std.specs.Prelude.{ℕ, ◌+◌, ◌-◌, List, [], ◌++◌, ◌/◌, ◌%◌, if◌then◌else◌, Bool, map, Option, option_map, unwrap_or, pos}
 use Rattle.std.specs.Ordering.{int_eq}
 use Rattle.std.specs.List.{find, flat_map, range_with_len}
 use Rattle.std.specs.Str.{bytes_eq}
 use Rattle.jiff_core.specs.Calendar.{days_from_civil, days_in_month}
 use Rattle.irig_time.specs.declared.second.UtcSecond.{UtcSecond}
+use Rattle.irig_time.specs.declared.second.TheConstants.{FIRST_DAY, LAST_DAY}
 use Rattle.irig_time.specs.Days.{is_month_end}
 use Rattle.irig_time.specs.Seconds.{minute_of, second_of}
 use Rattle.irig_time.specs.Texts.{date_text, time_text}
@@ -15,7 +16,12 @@ Ymd = ℕ × ℕ × ℕ
 
 -- the dates from 2000-01-01 to 2099-12-31
 unfoldable pub dates : List Ymd
-dates = flat_map (λ year. flat_map (λ month. map (λ day. (year, month, day)) (range_with_len 1 (days_in_month (pos year) month))) (range_with_len 1 12)) (range_with_len 2000 100)
+dates =
+    flat_map (λ year.
+    flat_map (λ month.
+    map (λ day. (year, month, day)) (range_with_len 1 (days_in_month (pos year) month)))
+    (range_with_len 1 12))
+    (range_with_len 2000 100)
 
 -- whether this is the date of the day, which is counted from 2000-01-01
 abbrev pub is_date_of : ℕ → Ymd → Bool
@@ -31,11 +37,12 @@ second_text u = day_text u.day ++ time_text (minute_of u / 60) (minute_of u % 60
 
 -- the seconds of a day, with 86400 on a month's last
 abbrev pub seconds_of : ℕ → List UtcSecond
-seconds_of day = map (λ sod. record { day = day; sod = sod }) (range_with_len 0 (if is_month_end day then 86401 else 86400))
+seconds_of day =
+    map (λ sod. record { day = day; sod = sod }) (range_with_len 0 (if is_month_end day then 86401 else 86400))
 
 -- the valid seconds
 unfoldable pub valid_seconds : List UtcSecond
-valid_seconds = flat_map seconds_of (range_with_len 1 36523)
+valid_seconds = flat_map seconds_of (range_with_len FIRST_DAY (LAST_DAY + 1 - FIRST_DAY))
 
 -- the day from 2000-01-01 to 2099-12-31 whose text it is
 unfoldable pub day_read : List ℕ → Option ℕ

@@ -2,6 +2,7 @@
 
 ghost use Rattle.std.specs.Prelude.{◌≡◌, ◌↔◌, ◌≤◌, ◌<◌, ◌+◌, ℕ, pos, IsTrue, IfSome, Some};
 ghost use Rattle.jiff.specs.Words.{epoch_day};
+ghost use Rattle.irig_time.specs.declared.second.TheConstants.{LAST_DAY};
 ghost use Rattle.irig_time.specs.Days.{IsMonthEnd, is_month_end, IsDateOf, day_number, year_length};
 
 use jiff::ToSpan;
@@ -11,12 +12,11 @@ use jiff::civil::{Date, date};
 pub fn month_end(day: u32) -> bool
     requires { day ≤ 36524 }
     ensures calendar { IsTrue result ↔ IsMonthEnd day }
-    ensures test { day ≤ 36523 → result ≡ is_month_end day }
+    ensures test { day ≤ LAST_DAY → result ≡ is_month_end day }
 {
     date_of(day + 1).day() == 1
 }
 
-/// The date of a day.
 pub(crate) fn date_of(day: u32) -> Date
     requires { day ≤ 36525 }
     ensures { epoch_day result ≡ pos (day + 10957) }
@@ -35,7 +35,6 @@ pub(crate) fn year_and_day(day: u32) -> (u8, u16)
     ((date.year() - 2000) as u8, date.day_of_year() as u16)
 }
 
-/// The year, the month and the day of the month.
 pub(crate) fn date_parts(day: u32) -> (u32, u32, u32)
     requires { day ≤ 36524 }
     ensures date { IsDateOf day (pos result.0) result.1 result.2 }
@@ -47,7 +46,6 @@ pub(crate) fn date_parts(day: u32) -> (u32, u32, u32)
     (date.year() as u32, date.month() as u32, date.day() as u32)
 }
 
-/// The day of a date from 2000 to 2099.
 pub(crate) fn day_of(year: u32, month: u32, day: u32) -> Option<u32>
     requires { (year < 10000) × (month < 100) × (day < 100) }
     ensures found { (n : ℕ) → n ≤ 36524 → IsDateOf n (pos year) month day → result ≡ Some n }
@@ -61,7 +59,6 @@ pub(crate) fn day_of(year: u32, month: u32, day: u32) -> Option<u32>
     }
 }
 
-/// The days from 2000-01-01 to the date.
 fn days_since_2000(found: Date) -> i64
     ensures { (n : ℕ) → n ≤ 36524 → epoch_day found ≡ pos (n + 10957) → result ≡ pos n }
 {

@@ -1,16 +1,17 @@
 //! What a frame claims about UTC.
 
-ghost use Rattle.std.specs.Prelude.{◌≡◌, ◌≤◌, ◌<◌, IfOk};
-ghost use Rattle.irig_frame.specs.Reading.{IsCoded};
+ghost use Rattle.std.specs.Prelude.{◌≡◌, ◌≤◌, ◌<◌, ◌+◌, ◌*◌, IfOk};
+ghost use Rattle.irig_frame.specs.Decoder.{IsCoded};
 ghost use Rattle.irig_control.specs.Control.{IsControl};
 ghost use Rattle.irig_time.specs.Seconds.{IsValid};
-ghost use Rattle.irig_time.specs.Days.{year_length as length_of_year};
+ghost use Rattle.irig_time.specs.declared.second.TheConstants.{FIRST_DAY, LAST_DAY};
+ghost use Rattle.irig_time.specs.Days.{year_length};
 ghost use Rattle.irig_time.specs.Claims.{utc_minute, frame_mark, claim_at, claim_by};
 
 use crate::calendar::month_end;
 use crate::mark::Mark;
 use crate::rules::Sense;
-use crate::second::UtcSecond;
+use crate::second::{FIRST_DAY, LAST_DAY, UtcSecond};
 use irig_control::Control;
 use irig_frame::Coded;
 
@@ -24,12 +25,12 @@ pub struct Claim {
     pub mark: Mark,
 }
 
-/// Why a coded time is no second of UTC, in the order in which faults are told.
+/// Why a coded time is no second of UTC, in the order in which faults are answered.
 #[derive(Clone, Copy, Debug, PartialEq, Eq)]
 pub enum TimeFault {
     /// Day 366 of a year that has 365.
     NoSuchDay,
-    /// The UTC day is outside 1 to 36523, 2000-01-02 to 2099-12-30.
+    /// The UTC day is outside [`FIRST_DAY`] to [`LAST_DAY`], 2000-01-02 to 2099-12-30.
     OutOfYears,
     /// Second 60 elsewhere than in 23:59 UTC of a month's last day.
     Second60,
@@ -51,7 +52,8 @@ pub fn claim_of(coded: &Coded, control: &Control, sense: Sense) -> Result<Claim,
     claim_or_fault(coded, control, sense)
 }
 
-/// The claim, or the first fault.
+// Apart from `claim_of`, whose second clause follows from this one; the two faults of the years apart, so
+// that each test is one of the definition.
 fn claim_or_fault(coded: &Coded, control: &Control, sense: Sense) -> Result<Claim, TimeFault>
     requires coded { IsCoded coded.now }
     requires control { IsControl control.now }
@@ -61,23 +63,21 @@ fn claim_or_fault(coded: &Coded, control: &Control, sense: Sense) -> Result<Clai
         return Err(TimeFault::NoSuchDay);
     }
     let minute = utc_minute_of(coded, control, sense);
-    if minute < 1440 {
+    if minute < i64::from(FIRST_DAY) * 1440 {
         return Err(TimeFault::OutOfYears);
     }
-    if minute >= 52_594_560 {
+    if minute >= i64::from(LAST_DAY + 1) * 1440 {
         return Err(TimeFault::OutOfYears);
     }
     claim_in(minute as u32, coded, control)
 }
 
-/// The days of a year from 2000.
 fn year_length(year: u8) -> u16
-    ensures { result ≡ length_of_year year }
+    ensures { result ≡ year_length year }
 {
     if year % 4 == 0 { 366 } else { 365 }
 }
 
-/// The UTC minute, counted from 2000-01-01.
 #[tactic(auto, unfolding(crate::specs::Claims::utc_minute))]
 fn utc_minute_of(coded: &Coded, control: &Control, sense: Sense) -> i64
     requires coded { IsCoded coded.now }
@@ -94,9 +94,8 @@ fn utc_minute_of(coded: &Coded, control: &Control, sense: Sense) -> i64
     }
 }
 
-/// The claim of a frame whose UTC minute this is.
 fn claim_in(minute: u32, coded: &Coded, control: &Control) -> Result<Claim, TimeFault>
-    requires served { (1440 ≤ minute) × (minute < 52594560) }
+    requires served { (FIRST_DAY * 1440 ≤ minute) × (minute < (LAST_DAY + 1) * 1440) }
     requires second { coded.now.second ≤ 60 }
     ensures { result ≡ claim_at minute coded.now control.now }
 {
@@ -117,7 +116,6 @@ fn claim_in(minute: u32, coded: &Coded, control: &Control) -> Result<Claim, Time
     })
 }
 
-/// What the bits say of a leap in this second.
 fn mark_in(is_last_minute: bool, second: u8, control: &Control) -> Mark
     ensures { result ≡ frame_mark is_last_minute second control.now }
 {

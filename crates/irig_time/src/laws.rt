@@ -3,10 +3,10 @@
 ghost use Rattle.std.specs.Prelude.{◌≡◌, ◌↔◌, ◌≤◌, ◌+◌, ◌⊎◌, true, ℕ, ℤ, neg_ℤ, unsigned_abs, Some, None, Ok};
 ghost use Rattle.irig_time.specs.Days.{is_month_end};
 ghost use Rattle.irig_time.specs.Seconds.{IsValid};
-ghost use Rattle.irig_time.specs.Coding.{IsCodedOf, time_shown};
+ghost use Rattle.irig_time.specs.CodedTime.{IsCodedOf, time_shown};
 ghost use Rattle.irig_time.specs.Claims.{claim_by, claim_of_second};
 ghost use Rattle.irig_time.specs.Next.{next_of};
-ghost use Rattle.irig_time.specs.Times.{Times, leap_of, mark_by, IsSecond, IsTrueClaim, second_at, truth_at};
+ghost use Rattle.irig_time.specs.Timelines.{TimelineValue, EndsAt, leap_of, mark_by, IsSecond, IsTrueClaim, second_at, truth_at};
 ghost use Rattle.irig_time.specs.TimelineFaults.{IsTimeline};
 
 use crate::claim::Claim;
@@ -19,10 +19,12 @@ use irig_frame::Coded;
 /// The time that is coded of a second claims that second: with the offset `-h` where it is added, and
 /// `h` where it is subtracted, `h` being the half hours by which the clock is ahead of UTC.
 pub fn claim_of_coded()
-    ensures added { (u : UtcSecond) (h : ℤ) (c : Coded) (k : Control) → IsValid u → unsigned_abs h ≤ 31 → IsCodedOf u h c
-        → k.offset_half_hours ≡ neg_ℤ h → claim_by Sense.Add c k ≡ claim_of_second u k }
-    ensures subtracted { (u : UtcSecond) (h : ℤ) (c : Coded) (k : Control) → IsValid u → unsigned_abs h ≤ 31 → IsCodedOf u h c
-        → k.offset_half_hours ≡ h → claim_by Sense.Subtract c k ≡ claim_of_second u k }
+    ensures added { (u : UtcSecond) (h : ℤ) (c : Coded) (k : Control) → IsValid u
+        → unsigned_abs h ≤ 31 → IsCodedOf u h c → k.offset_half_hours ≡ neg_ℤ h
+        → claim_by Sense.Add c k ≡ claim_of_second u k }
+    ensures subtracted { (u : UtcSecond) (h : ℤ) (c : Coded) (k : Control) → IsValid u
+        → unsigned_abs h ≤ 31 → IsCodedOf u h c → k.offset_half_hours ≡ h
+        → claim_by Sense.Subtract c k ≡ claim_of_second u k }
 {}
 
 /// What a frame claims is a valid second.
@@ -44,26 +46,35 @@ pub fn time_is_shown()
 
 /// A timeline has at most one second for each number, which is a valid one, and at most one true claim.
 pub fn one_second()
-    ensures seconds { (t : Times) (n : ℕ) (u v : UtcSecond) → IsSecond t n u → IsSecond t n v → u ≡ v }
-    ensures claims { (t : Times) (n : ℕ) (c d : Claim) → IsTrueClaim t n c → IsTrueClaim t n d → c ≡ d }
-    ensures valid { (t : Times) (n : ℕ) (u : UtcSecond) → IsTimeline t → IsSecond t n u → IsValid u }
+    ensures seconds { (t : TimelineValue) (n : ℕ) (u v : UtcSecond) → IsSecond t n u
+        → IsSecond t n v → u ≡ v }
+    ensures claims { (t : TimelineValue) (n : ℕ) (c d : Claim) → IsTrueClaim t n c
+        → IsTrueClaim t n d → c ≡ d }
+    ensures valid { (t : TimelineValue) (n : ℕ) (u : UtcSecond) → IsTimeline t
+        → IsSecond t n u → IsValid u }
 {}
 
 /// The functions `second_at` and `truth_at` give the second of each number and its true claim, where there
 /// is one.
 pub fn second_is()
-    ensures second { (t : Times) (n : ℕ) (u : UtcSecond) → (second_at t n ≡ Some u) ↔ IsSecond t n u }
-    ensures claim { (t : Times) (n : ℕ) (c : Claim) → (truth_at t n ≡ Some c) ↔ IsTrueClaim t (n + 1) c }
+    ensures second { (t : TimelineValue) (n : ℕ) (u : UtcSecond)
+        → (second_at t n ≡ Some u) ↔ IsSecond t n u }
+    ensures claim { (t : TimelineValue) (n : ℕ) (c : Claim)
+        → (truth_at t n ≡ Some c) ↔ IsTrueClaim t (n + 1) c }
 {}
 
-/// The law of next: where the mark is what the timeline says of the day, the step after a second is the
-/// step of the timeline; so it is where nothing is said, but at 23:59:58 and 23:59:59 of a month's last
-/// day; and past the timeline's end there is no step, whatever is said.
+/// The law of `next`, for a second T(n) of a timeline.
 pub fn law_of_next()
-    ensures heard { (t : Times) (n : ℕ) (u v : UtcSecond) → IsTimeline t → IsSecond t n u → IsSecond t (n + 1) v
+    // Told the truth, `next` steps as the timeline does.
+    ensures heard { (t : TimelineValue) (n : ℕ) (u v : UtcSecond) → IsTimeline t
+        → IsSecond t n u → IsSecond t (n + 1) v
         → next_of u (mark_by (leap_of t.leaps u.day)) ≡ Some v }
-    ensures unspoken { (t : Times) (n : ℕ) (u v : UtcSecond) → IsTimeline t → IsSecond t n u → IsSecond t (n + 1) v
-        → ¬ ((is_month_end u.day ≡ true) × ((u.sod ≡ 86398) ⊎ (u.sod ≡ 86399))) → next_of u Mark.Unspoken ≡ Some v }
-    ensures end { (t : Times) (n : ℕ) (u : UtcSecond) (mark : Mark) → IsTimeline t → IsSecond t n u
-        → ((v : UtcSecond) → ¬ IsSecond t (n + 1) v) → next_of u mark ≡ None }
+    // Told nothing, it does too, but for the last two seconds of a month.
+    ensures unspoken { (t : TimelineValue) (n : ℕ) (u v : UtcSecond) → IsTimeline t
+        → IsSecond t n u → IsSecond t (n + 1) v
+        → ¬ ((is_month_end u.day ≡ true) × ((u.sod ≡ 86398) ⊎ (u.sod ≡ 86399)))
+        → next_of u Mark.Unspoken ≡ Some v }
+    // Past the timeline's end it gives nothing, whatever it was told.
+    ensures end { (t : TimelineValue) (n : ℕ) (u : UtcSecond) (mark : Mark) → IsTimeline t
+        → IsSecond t n u → EndsAt t n → next_of u mark ≡ None }
 {}

@@ -1,7 +1,7 @@
 //! Leaps by day.
 
 ghost use Rattle.std.specs.Prelude.{◌≡◌, ◌==◌};
-ghost use Rattle.irig_time.specs.Times.{leap_of, length_by, mark_by};
+ghost use Rattle.irig_time.specs.Timelines.{leap_of, length_by, mark_by};
 
 use crate::mark::Mark;
 
@@ -15,7 +15,6 @@ pub enum Leap {
     Delete,
 }
 
-/// The leap that the list has for the day.
 pub(crate) fn leap_on(leaps: &[(u32, Leap)], day: u32) -> Option<Leap>
     ensures { result ≡ leap_of leaps.now day }
 {
@@ -27,7 +26,6 @@ pub(crate) fn leap_on(leaps: &[(u32, Leap)], day: u32) -> Option<Leap>
     None
 }
 
-/// The seconds of a day with this leap.
 pub(crate) fn length_with(leap: Option<Leap>) -> u32
     ensures { result ≡ length_by leap }
 {
@@ -38,7 +36,6 @@ pub(crate) fn length_with(leap: Option<Leap>) -> u32
     }
 }
 
-/// What is truly said of a month's end with this leap.
 pub(crate) fn mark_with(leap: Option<Leap>) -> Mark
     ensures { result ≡ mark_by leap }
 {

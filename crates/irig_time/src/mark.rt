@@ -1,4 +1,4 @@
-//! What is said of the leap at a month's end.
+//! Marks of leap seconds.
 
 /// What is said of the leap at a month's end, by a frame or a table.
 #[derive(Clone, Copy, Debug, PartialEq, Eq)]

@@ -32,3 +32,12 @@ pub struct Rules {
     /// Whether the straight binary seconds are compared.
     pub sbs: SbsUse,
 }
+
+impl Rules {
+    /// The plain rules: even parity, the offset is added, the straight binary seconds are compared.
+    pub const PLAIN: Rules = Rules {
+        parity: Parity::Even,
+        sense: Sense::Add,
+        sbs: SbsUse::Check,
+    };
+}

@@ -5,10 +5,16 @@ ghost use Rattle.irig_time.specs.Seconds.{IsValid};
 
 use crate::calendar::month_end;
 
+/// The first day served, 2000-01-02, counted from 2000-01-01 as day 0.
+pub const FIRST_DAY: u32 = 1;
+
+/// The last day served, 2099-12-30.
+pub const LAST_DAY: u32 = 36523;
+
 /// A second of UTC.
 #[derive(Clone, Copy, Debug, PartialEq, Eq)]
 pub struct UtcSecond {
-    /// The day, counted from 2000-01-01 as day 0; 1 to 36523 where the second is valid.
+    /// The day, counted from 2000-01-01 as day 0; [`FIRST_DAY`] to [`LAST_DAY`] where the second is valid.
     pub day: u32,
     /// The second of the day, 0 to 86399, or 86400 for 23:59:60 on a month's last day.
     pub sod: u32,
@@ -20,5 +26,6 @@ pub struct UtcSecond {
 pub fn valid(utc: &UtcSecond) -> bool
     ensures { IsTrue result ↔ IsValid utc.now }
 {
-    (1..=36523).contains(&utc.day) && (utc.sod <= 86399 || (utc.sod == 86400 && month_end(utc.day)))
+    (FIRST_DAY..=LAST_DAY).contains(&utc.day)
+        && (utc.sod <= 86399 || (utc.sod == 86400 && month_end(utc.day)))
 }

@@ -2,14 +2,16 @@
 //! found by a binary search.
 
 ghost use Rattle.std.specs.Prelude.{◌≡◌, ◌≤◌, ◌<◌, ◌-◌, [], None, IfOk, MatchOption, length, slice_index_or};
-ghost use Rattle.irig_time.specs.TimelineFaults.{first_leap_fault as first_fault};
+ghost use Rattle.irig_time.specs.TimelineFaults.{first_leap_fault};
 ghost use Rattle.irig_time.specs.Stretches.{IsIndex, IsNextLeap, HasNoLeapFrom, IsRising, Holds, comes_before};
-ghost use Rattle.irig_time.specs.Times.{Times};
+ghost use Rattle.irig_time.specs.Timelines.{TimelineValue};
+ghost use Rattle.irig_time.specs.declared.second.TheConstants.{LAST_DAY};
 
 use crate::leap::{Leap, length_with};
+use crate::second::LAST_DAY;
 use std::alloc::{AllocError, Global};
 
-/// Where a stretch of days begins, of which none but the last has a leap.
+/// The beginning of a stretch: of the days up to the next one, the last alone has a leap.
 #[derive(Clone, Copy)]
 pub struct Stretch {
     /// Its first day.
@@ -18,14 +20,13 @@ pub struct Stretch {
     pub seconds: u64,
 }
 
-/// The stretches from a day on, in order.
 pub(crate) fn stretches_from(
     alloc: Global,
     first: u32,
     leaps: &[(u32, Leap)],
 ) -> Result<Vec<Stretch>, AllocError>
-    requires sound { first_fault [] leaps.now ≡ None }
-    requires served { first ≤ 36523 }
+    requires sound { first_leap_fault [] leaps.now ≡ None }
+    requires served { first ≤ LAST_DAY }
     ensures { IfOk result (λ stretches. IsIndex leaps.now first stretches.items) }
 {
     let mut stretches = Vec::new(alloc);
@@ -45,9 +46,8 @@ pub(crate) fn stretches_from(
     Ok(stretches)
 }
 
-/// The first leap from a day on.
 fn next_leap(leaps: &[(u32, Leap)], from: u32) -> Option<(u32, Leap)>
-    requires { first_fault [] leaps.now ≡ None }
+    requires { first_leap_fault [] leaps.now ≡ None }
     ensures { MatchOption result (HasNoLeapFrom leaps.now from) (IsNextLeap leaps.now from) }
 {
     let mut next: Option<(u32, Leap)> = None;
@@ -59,7 +59,6 @@ fn next_leap(leaps: &[(u32, Leap)], from: u32) -> Option<(u32, Leap)>
     next
 }
 
-/// Whether the day comes before this leap, if there is one.
 fn is_earlier(day: u32, leap: Option<(u32, Leap)>) -> bool
     ensures { result ≡ comes_before day leap }
 {
@@ -70,15 +69,16 @@ fn is_earlier(day: u32, leap: Option<(u32, Leap)>) -> bool
 }
 
 /// The stretch in which so many seconds have passed since the beginning of the first day, and its last
-/// day: 36524, past the years served, where no leap ends it.
+/// day: the one after the last day served, where no leap ends it.
 pub(crate) fn stretch_at(stretches: &[Stretch], total: u64) -> (Stretch, u32)
     requires { IsRising stretches.now }
-    ensures { (t : Times) → IsIndex t.leaps t.start.day stretches.now → Holds t total result.0 result.1 }
+    ensures { (t : TimelineValue) → IsIndex t.leaps t.start.day stretches.now
+        → Holds t total result.0 result.1 }
 {
     let begun = begun(stretches, total);
     let last = match stretches.get(begun) {
         Some(next) => next.day - 1,
-        None => 36524,
+        None => LAST_DAY + 1,
     };
     (stretches[begun - 1], last)
 }
@@ -89,7 +89,8 @@ fn begun(stretches: &[Stretch], total: u64) -> usize
     ensures some { 0 < result }
     ensures within { result ≤ length stretches.now }
     ensures last { (d : Stretch) → (slice_index_or stretches.now (result - 1) d).seconds ≤ total }
-    ensures next { (d : Stretch) → result < length stretches.now → total < (slice_index_or stretches.now result d).seconds }
+    ensures next { (d : Stretch) → result < length stretches.now
+        → total < (slice_index_or stretches.now result d).seconds }
 {
     stretches.partition_point(|stretch| stretch.seconds <= total)
 }

@@ -1,18 +1,20 @@
-//! The leaps that a reader was told of beforehand.
+//! The leaps that a reader knows beforehand.
 
 ghost use Rattle.std.specs.Prelude.{◌≡◌, ◌≤◌, [], Some, None, length, MatchResult};
-ghost use Rattle.irig_time.specs.Tables.{table, table_mark, entry_fault as fault_of_entry, first_entry_fault as first_fault, table_fault};
+ghost use Rattle.irig_time.specs.declared.second.TheConstants.{LAST_DAY};
+ghost use Rattle.irig_time.specs.Tables.{table, table_mark, entry_fault, first_entry_fault, table_fault};
 
 use crate::calendar::month_end;
 use crate::leap::{Leap, leap_on, mark_with};
 use crate::mark::Mark;
+use crate::second::{FIRST_DAY, LAST_DAY};
 use arrayvec::ArrayVec;
 use std::marker::Model;
 
-/// Why there is no such table, in the order in which faults are told.
+/// Why there is no such table, in the order in which faults are answered.
 #[derive(Clone, Copy, Debug, PartialEq, Eq)]
 pub enum TableFault {
-    /// The table ends after day 36523.
+    /// The table ends after [`LAST_DAY`].
     TableEnd,
     /// There are more than 64 leaps.
     TableLong,
@@ -30,10 +32,10 @@ pub struct LeapTable {
 }
 
 impl Model for LeapTable {
-    ghost use Rattle.irig_time.specs.Tables.{Table, table};
+    ghost use Rattle.irig_time.specs.Tables.{TableValue, table};
     ghost use Rattle.std.specs.Prelude.{◌≤◌, length};
 
-    ghost Value = { Table };
+    ghost Value = { TableValue };
 
     ghost view = { λ t. table t.until t.leaps.items };
 
@@ -49,7 +51,7 @@ impl LeapTable {
             (λ t. (table_fault until leaps.now ≡ None) × (t ≡ table until leaps.now))
             (λ e. table_fault until leaps.now ≡ Some e) }
     {
-        if until > 36523 {
+        if until > LAST_DAY {
             return Err(TableFault::TableEnd);
         }
         if leaps.len() > 64 {
@@ -84,10 +86,10 @@ impl LeapTable {
         }
     }
 
-    /// What the table says of the end of the day, at most 36523: unspoken where it is not a month's last or
+    /// What the table says of the end of the day, at most [`LAST_DAY`]: unspoken where it is not a month's last or
     /// lies past the table's end.
     pub fn mark(&self, day: u32) -> Mark
-        requires { day ≤ 36523 }
+        requires { day ≤ LAST_DAY }
         ensures { result ≡ table_mark self.now day }
     {
         if day > self.until {
@@ -100,10 +102,9 @@ impl LeapTable {
     }
 }
 
-/// The first fault of the leaps, in the list's order.
 fn first_entry_fault(until: u32, leaps: &[(u32, Leap)]) -> Option<TableFault>
-    requires { until ≤ 36523 }
-    ensures { result ≡ first_fault until [] leaps.now }
+    requires { until ≤ LAST_DAY }
+    ensures { result ≡ first_entry_fault until [] leaps.now }
 {
     for i in 0..leaps.len() {
         if let Some(fault) = entry_fault(until, &leaps[..i], leaps[i].0) {
@@ -113,12 +114,12 @@ fn first_entry_fault(until: u32, leaps: &[(u32, Leap)]) -> Option<TableFault>
     None
 }
 
-/// What is wrong with a leap's day, after these leaps.
+// Each test by itself, as in the definition.
 fn entry_fault(until: u32, before: &[(u32, Leap)], day: u32) -> Option<TableFault>
-    requires { until ≤ 36523 }
-    ensures { result ≡ fault_of_entry until before.now day }
+    requires { until ≤ LAST_DAY }
+    ensures { result ≡ entry_fault until before.now day }
 {
-    if day < 1 {
+    if day < FIRST_DAY {
         return Some(TableFault::TableDay);
     }
     if day > until {
@@ -134,7 +135,6 @@ fn entry_fault(until: u32, before: &[(u32, Leap)], day: u32) -> Option<TableFaul
     }
 }
 
-/// A copy of the leaps.
 fn copied(leaps: &[(u32, Leap)]) -> ArrayVec<(u32, Leap), 64>
     requires { length leaps.now ≤ 64 }
     ensures { result.items ≡ leaps.now }

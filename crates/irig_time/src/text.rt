@@ -27,6 +27,8 @@ pub fn write_text(utc: &UtcSecond) -> [u8; 20]
 }
 
 /// The second whose text this is: exactly what [`write_text`] gives for a [`valid`] second.
+///
+/// It reads leniently, and then compares the text with the one of what it read.
 pub fn read_text(text: &[u8]) -> Option<UtcSecond>
     ensures exact { (u : UtcSecond) → (result ≡ Some u) ↔ (IsValid u × IsText u text.now) }
     ensures value { result ≡ second_read text.now }
@@ -58,7 +60,6 @@ pub fn read_day(text: &[u8]) -> Option<u32>
     if same { Some(day) } else { None }
 }
 
-/// The date of a day, as `YYYY-MM-DD`.
 fn write_day(day: u32) -> [u8; 10]
     requires { day ≤ 36524 }
     ensures text { IsDayText day result }
@@ -72,7 +73,6 @@ fn write_day(day: u32) -> [u8; 10]
     [y1, y2, y3, y4, b'-', m1, m2, b'-', d1, d2]
 }
 
-/// A number below 100 in two decimal digits.
 fn digits(number: u32) -> [u8; 2]
     requires { number < 100 }
     ensures digits { result ≡ two number }
@@ -84,7 +84,8 @@ fn digits(number: u32) -> [u8; 2]
 /// What two bytes say as decimal digits, where they are such.
 fn two_at(text: &[u8], at: usize) -> u32
     requires { at + 1 < length text.now }
-    ensures value { (n : ℕ) → n < 100 → slice_index text.now at ≡ 48 + n / 10 → slice_index text.now (at + 1) ≡ 48 + n % 10 → result ≡ n }
+    ensures value { (n : ℕ) → n < 100 → slice_index text.now at ≡ 48 + n / 10
+        → slice_index text.now (at + 1) ≡ 48 + n % 10 → result ≡ n }
     ensures bounded { result < 100 }
 {
     let tens = text[at].saturating_sub(b'0').min(9);

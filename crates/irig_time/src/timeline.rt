@@ -1,29 +1,30 @@
 //! The seconds that follow a start.
 
 ghost use Rattle.std.specs.Prelude.{◌≡◌, ◌↔◌, ◌≤◌, ◌<◌, ◌+◌, ◌^◌, [], ℕ, IfSome, Some, None, unwrap_or, MatchResult};
+ghost use Rattle.irig_time.specs.declared.second.TheConstants.{LAST_DAY};
 ghost use Rattle.irig_time.specs.Seconds.{IsValid};
-ghost use Rattle.irig_time.specs.Times.{Times, leap_of, times, IsSecond, IsTrueClaim, second_at, truth_at, true_mark as mark_of_second};
-ghost use Rattle.irig_time.specs.TimelineFaults.{first_leap_fault as first_fault, leap_fault as fault_of_leap, start_fault as fault_of_start, timeline_fault, IsTimeline};
+ghost use Rattle.irig_time.specs.Timelines.{TimelineValue, leap_of, times, IsSecond, IsTrueClaim, second_at, truth_at, true_mark};
+ghost use Rattle.irig_time.specs.TimelineFaults.{first_leap_fault, leap_fault, start_fault, timeline_fault, IsTimeline};
 
 use crate::calendar::month_end;
 use crate::claim::Claim;
 use crate::leap::{Leap, leap_on, length_with, mark_with};
 use crate::mark::Mark;
-use crate::second::UtcSecond;
+use crate::second::{FIRST_DAY, LAST_DAY, UtcSecond};
 use crate::stretches::{Stretch, stretch_at, stretches_from};
 use std::alloc::Global;
 use std::marker::Model;
 
-/// Why there is no such timeline, in the order in which faults are told.
+/// Why there is no such timeline, in the order in which faults are answered.
 #[derive(Clone, Copy, Debug, PartialEq, Eq)]
 pub enum TimelineFault {
-    /// The start's day is outside 1 to 36523, or its second is none of that day's.
+    /// The start's day is outside [`FIRST_DAY`] to [`LAST_DAY`], or its second is none of that day's.
     BadStart,
     /// A leap's day is not a month's last.
     LeapNotMonthEnd,
     /// A leap's day stands earlier in the list.
     LeapTwice,
-    /// A leap's day is outside 1 to 36523.
+    /// A leap's day is outside [`FIRST_DAY`] to [`LAST_DAY`].
     OutOfYears,
     /// There was no memory.
     Memory,
@@ -38,10 +39,10 @@ pub struct Timeline {
 }
 
 impl Model for Timeline {
-    ghost use Rattle.irig_time.specs.Times.{Times, times};
+    ghost use Rattle.irig_time.specs.Timelines.{TimelineValue, times};
     ghost use Rattle.irig_time.specs.Stretches.{IsIndexed};
 
-    ghost Value = { Times };
+    ghost Value = { TimelineValue };
 
     ghost view = { λ t. times t.start t.leaps.items };
 
@@ -88,7 +89,7 @@ impl Timeline {
         leap_on(&self.leaps, day)
     }
 
-    /// The `number`-th second, the start being second 0; none past day 36523, 2099-12-30.
+    /// The `number`-th second, the start being second 0; none past [`LAST_DAY`].
     pub fn at(&self, number: u64) -> Option<UtcSecond>
         ensures sound { IsTimeline self.now }
         ensures second { (u : UtcSecond) → (result ≡ Some u) ↔ IsSecond self.now number u }
@@ -101,7 +102,7 @@ impl Timeline {
         let rest = total - stretch.seconds;
         let days = (rest / 86400).min(u64::from(last - stretch.day));
         let day = stretch.day + days as u32;
-        if day > 36523 {
+        if day > LAST_DAY {
             return None;
         }
         Some(UtcSecond {
@@ -122,9 +123,8 @@ impl Timeline {
     }
 }
 
-/// The first fault of the leaps, in the list's order.
 fn first_leap_fault(leaps: &[(u32, Leap)]) -> Option<TimelineFault>
-    ensures { result ≡ first_fault [] leaps.now }
+    ensures { result ≡ first_leap_fault [] leaps.now }
 {
     for i in 0..leaps.len() {
         if let Some(fault) = leap_fault(&leaps[..i], leaps[i].0) {
@@ -134,14 +134,14 @@ fn first_leap_fault(leaps: &[(u32, Leap)]) -> Option<TimelineFault>
     None
 }
 
-/// What is wrong with a leap's day, after these leaps.
+// Each test by itself, as in the definition.
 fn leap_fault(before: &[(u32, Leap)], day: u32) -> Option<TimelineFault>
-    ensures { result ≡ fault_of_leap before.now day }
+    ensures { result ≡ leap_fault before.now day }
 {
-    if day < 1 {
+    if day < FIRST_DAY {
         return Some(TimelineFault::OutOfYears);
     }
-    if day > 36523 {
+    if day > LAST_DAY {
         return Some(TimelineFault::OutOfYears);
     }
     if !month_end(day) {
@@ -154,14 +154,13 @@ fn leap_fault(before: &[(u32, Leap)], day: u32) -> Option<TimelineFault>
     }
 }
 
-/// What is wrong with the start.
 fn start_fault(leaps: &[(u32, Leap)], start: UtcSecond) -> Option<TimelineFault>
-    ensures { result ≡ fault_of_start leaps.now start }
+    ensures { result ≡ start_fault leaps.now start }
 {
-    if start.day < 1 {
+    if start.day < FIRST_DAY {
         return Some(TimelineFault::BadStart);
     }
-    if start.day > 36523 {
+    if start.day > LAST_DAY {
         return Some(TimelineFault::BadStart);
     }
     if start.sod < length_with(leap_on(leaps, start.day)) {
@@ -171,10 +170,9 @@ fn start_fault(leaps: &[(u32, Leap)], start: UtcSecond) -> Option<TimelineFault>
     }
 }
 
-/// What a true frame of the second says of a leap.
 fn true_mark(leaps: &[(u32, Leap)], utc: UtcSecond) -> Mark
-    requires { utc.day ≤ 36523 }
-    ensures { result ≡ mark_of_second leaps.now utc }
+    requires { utc.day ≤ LAST_DAY }
+    ensures { result ≡ true_mark leaps.now utc }
 {
     if utc.sod < 86341 {
         return Mark::Unspoken;

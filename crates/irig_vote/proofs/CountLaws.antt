@@ -5,7 +5,8 @@ use Rattle.std.proofs.lemmas.List.Sums.{sum_by-cons}
 use Rattle.irig_time.specs.declared.claim.Claim.{Claim}
 use Rattle.irig_port.specs.declared.told.Told.{Told}
 use Rattle.irig_port.specs.declared.told.Told.TheVariants as tells
-use Rattle.irig_vote.specs.Vote.{f_of, ports_of, same_claim, is_told, carriers, first_told, vote_of, is_other, others}
+use Rattle.irig_time.specs.Claims.{same_claim}
+use Rattle.irig_vote.specs.Vote.{f_of, ports_of, is_told, carriers, first_told, vote_of, is_other, others}
 use Rattle.irig_vote.specs.declared.redundancy.Redundancy.{Redundancy}
 use Rattle.irig_vote.specs.declared.redundancy.Redundancy.TheVariants.{Three, Five}
 use Rattle.irig_vote.specs.declared.tells.Tells.{Tells}

@@ -1,9 +1,8 @@
 -- The vote: of 2f + 1 ports, the claim that at least f + 1 tell.
-use Rattle.std.specs.Prelude.{ℕ, Bool, true, false, ◌==◌, not, ◌&&◌, nat_lt, if◌then◌else◌, List, [], ◌∷◌, count_by, Option, Some, None}
-use Rattle.irig_time.specs.declared.second.UtcSecond.{UtcSecond}
-use Rattle.irig_time.specs.declared.mark.Mark.{Mark}
-use Rattle.irig_time.specs.declared.mark.Mark.TheVariants.{Unspoken, NoLeap, Insert, Delete}
+-- Source: docs/PORTS.md; this project's profile: two of three ports, three of five.
+use Rattle.std.specs.Prelude.{ℕ, Bool, false, ◌==◌, not, nat_lt, if◌then◌else◌, List, [], ◌∷◌, count_by, Option, Some, None}
 use Rattle.irig_time.specs.declared.claim.Claim.{Claim}
+use Rattle.irig_time.specs.Claims.{same_claim}
 use Rattle.irig_port.specs.declared.told.Told.{Told}
 use Rattle.irig_port.specs.declared.told.Told.TheVariants as tells
 use Rattle.irig_vote.specs.declared.redundancy.Redundancy.{Redundancy}
@@ -20,24 +19,14 @@ abbrev pub ports_in : Redundancy → ℕ
 ports_in Three = 3
 ports_in Five = 5
 
+-- three ports or five
+abbrev pub redundancy_of : ℕ → Redundancy
+redundancy_of ports = if ports == 3 then Three else Five
+
 -- what they tell
 abbrev pub ports_of : Tells → Redundancy → List Told
 ports_of t Three = t.a ∷ t.b ∷ t.c ∷ []
 ports_of t Five = t.a ∷ t.b ∷ t.c ∷ t.d ∷ t.e ∷ []
-
-abbrev pub same_second : UtcSecond → UtcSecond → Bool
-same_second u v = (u.day == v.day) && (u.sod == v.sod)
-
-abbrev pub same_mark : Mark → Mark → Bool
-same_mark Unspoken Unspoken = true
-same_mark NoLeap NoLeap = true
-same_mark Insert Insert = true
-same_mark Delete Delete = true
-same_mark _ _ = false
-
--- second and mark both
-abbrev pub same_claim : Claim → Claim → Bool
-same_claim c d = same_second c.at d.at && same_mark c.mark d.mark
 
 -- whether a port tells this claim
 abbrev pub is_told : Claim → Told → Bool

@@ -1,15 +1,16 @@
 //! Laws of the vote over its definitions, for the crates above. They have no code.
 
 ghost use Rattle.std.specs.Prelude.{◌≡◌, ◌↔◌, ◌+◌, ◌*◌, ◌≤◌, ℕ, true, Some, List, length};
-ghost use Rattle.irig_vote.specs.Vote.{same_claim, is_told, carriers, others, f_of, ports_in, ports_of, vote_of};
+ghost use Rattle.irig_time.specs.Claims.{same_claim};
+ghost use Rattle.irig_vote.specs.Vote.{is_told, carriers, others, f_of, ports_in, ports_of, vote_of};
 
 use crate::redundancy::Redundancy;
 use crate::tells::Tells;
 use irig_port::Told;
 use irig_time::Claim;
 
-/// The tests by which the vote counts are what they say: two claims are the same where they are
-/// equal, and a port is counted for a claim where it tells that claim.
+/// The tests by which the vote counts are what they say: two claims are the same exactly if they are
+/// equal, and a port is counted for a claim exactly if it tells that claim.
 pub fn equal_claims()
     ensures same { (c d : Claim) → (same_claim c d ≡ true) ↔ (c ≡ d) }
     ensures told { (c : Claim) (told : Told) → (is_told c told ≡ true) ↔ (told ≡ Told.Claim c) }
@@ -30,7 +31,7 @@ pub fn vote_is()
         → (vote_of t r ≡ Some claim) ↔ (f_of r + 1 ≤ carriers claim (ports_of t r)) }
 {}
 
-/// Where at most f ports tell another claim than this one, no other is voted.
+/// If at most f ports tell another claim than this one, no other is voted.
 pub fn few_others()
     ensures { (t : Tells) (r : Redundancy) (c d : Claim) → others c (ports_of t r) ≤ f_of r
         → vote_of t r ≡ Some d → d ≡ c }

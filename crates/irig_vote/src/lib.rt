@@ -5,15 +5,15 @@
 //! in `specs/Vote.antt`. That f is 1 or 2 is this project's profile.
 #![tactic(auto)]
 
-mod counting;
 mod laws;
 mod redundancy;
 mod tells;
+mod votes;
 
-pub use counting::vote;
 pub use laws::{equal_claims, few_others, one_vote, vote_is};
 pub use redundancy::Redundancy;
 pub use tells::Tells;
+pub use votes::vote;
 
 #[cfg(test)]
 mod tests;

@@ -1,7 +1,7 @@
 //! How many ports a reader has.
 
-ghost use Rattle.std.specs.Prelude.{◌≡◌};
-ghost use Rattle.irig_vote.specs.Vote.{f_of, ports_in};
+ghost use Rattle.std.specs.Prelude.{◌≡◌, ◌⊎◌};
+ghost use Rattle.irig_vote.specs.Vote.{f_of, ports_in, redundancy_of};
 
 /// How many generators a plant has, and so each reader ports.
 #[derive(Clone, Copy, Debug, PartialEq, Eq)]
@@ -13,6 +13,18 @@ pub enum Redundancy {
 }
 
 impl Redundancy {
+    /// The redundancy of so many ports, three or five.
+    pub fn of_ports(ports: usize) -> Redundancy
+        requires { (ports ≡ 3) ⊎ (ports ≡ 5) }
+        ensures value { result ≡ redundancy_of ports }
+        ensures ports { ports ≡ ports_in result }
+    {
+        match ports {
+            3 => Redundancy::Three,
+            _ => Redundancy::Five,
+        }
+    }
+
     /// The number of ports: 3 or 5.
     pub fn ports(&self) -> u8
         ensures { result ≡ ports_in self.now }

@@ -1,4 +1,4 @@
-//! What the ports of a reader tell.
+//! The voices in a vote.
 
 use irig_port::Told;
 

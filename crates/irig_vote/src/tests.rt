@@ -82,3 +82,12 @@ fn three_and_five_ports_stand_one_and_two_untrue_ones(rt: HostRuntime) {
     assert!(rt; Redundancy::Three.ports() == 3 && Redundancy::Three.f() == 1);
     assert!(rt; Redundancy::Five.ports() == 5 && Redundancy::Five.f() == 2);
 }
+
+#[test]
+fn three_ports_have_one_to_spare_and_five_two(rt: HostRuntime) {
+    for (ports, f) in [(3, 1), (5, 2)] {
+        let redundancy = Redundancy::of_ports(ports);
+        assert!(rt; usize::from(redundancy.ports()) == ports);
+        assert!(rt; redundancy.f() == f);
+    }
+}

@@ -150,3 +150,29 @@ fn a_coded_second_claims_itself(rt: HostRuntime) {
     assert!(rt; valid(&utc));
     assert!(rt; claimed(&rt, &coded_of(&utc, 11), &insert) == Ok(claim));
 }
+
+#[test]
+fn the_frame_of_a_leap_day_has_the_bits_it_is_given(rt: HostRuntime) {
+    let pending = Control {
+        leap_pending: true,
+        ..QUIET
+    };
+    let utc = UtcSecond {
+        day: 6209,
+        sod: 86399,
+    };
+    assert!(rt; valid(&utc));
+    assert!(rt; irig_control::in_range(&pending));
+    let frame = frame_of_second(Rules::PLAIN.parity, &utc, 0, &pending);
+    let letters =
+        "P10010101P100101010P110000100P011000110P110000000P011001000P100000000P000001000P111111101P000101010P";
+    for (symbol, letter) in frame.iter().zip(letters.as_bytes()) {
+        assert!(rt; symbol.letter() == *letter);
+    }
+}
+
+#[test]
+fn the_last_day_served_is_the_30th_of_december_2099(rt: HostRuntime) {
+    assert!(rt; read_day(b"2000-01-02") == Some(FIRST_DAY));
+    assert!(rt; read_day(b"2099-12-30") == Some(LAST_DAY));
+}

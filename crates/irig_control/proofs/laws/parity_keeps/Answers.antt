@@ -12,4 +12,5 @@ pub returns-clause-control : goal.returns-clause-control
 returns-clause-control c = control_same
 
 pub returns-clause-one : goal.returns-clause-one
-returns-clause-one c = one_with_parity
+returns-clause-one c =
+    λ p s t c d a b same. one_with_parity p s t c d a.reads b.reads a.unused b.unused same a.spare b.spare a.parity b.parity

@@ -4,7 +4,7 @@ use Rattle.std.proofs.lemmas.List.{length-set, length-replicate, get_or-replicat
 use Rattle.std.proofs.Math.ListN.{replicate}
 use Rattle.std.proofs.lemmas.Option.{slice_get-get_or}
 use Rattle.irig_frame.specs.declared.symbol.Symbol.TheVariants.{Zero}
-use Rattle.irig_main.specs.Letters.{letter_of}
+use Rattle.irig_frame.specs.Symbols.{letter_of}
 use Rattle.irig_main.proofs.frame.text_of.Goals as goal
 
 get-set_same : (s : List ℕ) (i x : ℕ) → i < length s → slice_get (slice_set s i x) i ≡ Some x

@@ -1,6 +1,6 @@
 use Rattle.std.proofs.Common.{◌≡◌, ℕ, ◌+◌, ◌*◌, ◌/◌, ◌<◌, Some, length, slice_get}
 use Rattle.std.specs.Prelude.{option_map}
-use Rattle.irig_main.specs.Letters.{letter_of}
+use Rattle.irig_frame.specs.Symbols.{letter_of}
 use Rattle.irig_main.proofs.frame.text_of.Given as goal
 
 abbrev pub invariant-loop-place : goal.invariant-loop-place

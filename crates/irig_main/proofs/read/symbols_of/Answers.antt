@@ -1,4 +1,4 @@
-use Rattle.std.proofs.Common.{◌≡◌, ℕ, ◌+◌, ◌≤◌, List, [], ◌∷◌, ◌++◌, length, take, drop, slice_index_or, arith, sym, subst, ap, ◌∙◌, take-append-drop}
+use Rattle.std.proofs.Common.{◌≡◌, ℕ, ◌+◌, ◌≤◌, List, [], ◌∷◌, ◌++◌, length, take, drop, slice_index_or, arith, refl, sym, subst, ap, ◌∙◌, take-append-drop}
 use Rattle.std.proofs.lemmas.Bool.{eqb-false, eqb-true}
 use Rattle.std.proofs.lemmas.List.{drop_more, take_more}
 use Rattle.irig_main.specs.Letters.{Shows}
@@ -13,7 +13,7 @@ returns-in_default-clause-err c symbols shown =
     let letter = slice_index_or text i 0 in
     let whole : text ≡ take i text ++ letter ∷ drop (i + 1) text =
     sym (take-append-drop i text) ∙ ap (λ (rest : List ℕ). take i text ++ rest) (drop_more text i 0 c.loop-letter-test.true) in
-    strange-letter (take i text) (drop (i + 1) text) letter symbols c.if-letter-eq32.false c.in_default.ensures.none
+    strange-letter (take i text) (drop (i + 1) text) letter symbols c.if-letter-eq32.false (λ symbol is. c.in_default.not-Some symbol ((c.from_letter.ensures symbol).1 is))
     (subst (λ (t : List ℕ). Shows t symbols) (sym c.as_bytes-letters.ensures.value ∙ whole) shown)
 
 pub loop-letter-preserved : goal.loop-letter-preserved
@@ -31,4 +31,4 @@ loop-letter-preserved c =
           ap (λ symbols. symbols.items) w.symbols-is ∙ take-full read.past _ c.in-Some.symbol read.taken (omega (arith, full))
     ] in
     subst (λ (front : List ℕ). HasRead front c.if-not-is_full.symbols.items) (sym (take_more text i 0 c.loop-letter-test.true))
-    (read-symbol (take i text) c.loop-letter.symbols.items c.if-not-is_full.symbols.items (slice_index_or text i 0) c.in-Some.symbol read c.in-Some.ensures.some taken)
+    (read-symbol (take i text) c.loop-letter.symbols.items c.if-not-is_full.symbols.items (slice_index_or text i 0) c.in-Some.symbol read ((c.in-Some.ensures c.in-Some.symbol).0 refl) taken)

@@ -1,5 +1,5 @@
 use Rattle.std.proofs.Common.{◌≡◌, All, vec_len}
-use Rattle.irig_plant.specs.StandsFor.{IsNew}
+use Rattle.irig_plant.specs.History.{IsNew}
 use Rattle.irig_plant.proofs.tests.three_generators.Given as goal
 
 abbrev pub invariant-loop : goal.invariant-loop

@@ -1,5 +1,5 @@
 use Rattle.std.proofs.Common.{◌≡◌, drop}
-use Rattle.irig_time.specs.Times.{leap_of}
+use Rattle.irig_time.specs.Timelines.{leap_of}
 use Rattle.irig_time.proofs.leap.leap_on.Given as goal
 
 abbrev pub invariant-loop-at : goal.invariant-loop-at

@@ -2,10 +2,10 @@ use Rattle.std.proofs.Common.{Option, sym, ap, subst, ◌∙◌}
 use Rattle.std.specs.Option.{option_map}
 use Rattle.irig_gen.specs.declared.fault.GenFault.{GenFault}
 use Rattle.irig_gen.specs.Faults.{sent_edge}
-use Rattle.irig_gen.specs.Frames.{Gen, IsFrameIf}
+use Rattle.irig_gen.specs.Frames.{GeneratorValue, IsFrameOrNone}
 use Rattle.irig_gen.proofs.GenLaws.{sent_from, last_edge}
 use Rattle.irig_gen.proofs.SentLaws.{sent_of_by, nothing_sent}
-use Rattle.irig_gen.specs.Refusals.{IsGen}
+use Rattle.irig_gen.specs.Refusals.{IsGenerator}
 use Rattle.irig_gen.proofs.generator.Generator.frame.Goals as goal
 
 pub returns-clause-frame : goal.returns-clause-frame
@@ -14,16 +14,16 @@ returns-clause-frame c =
     let t = c.args.timeline.now in
     let o = c.frame_by.result in
     let edge = c.in_ok-edge.edge in
-    let sent = sym (ap (λ (x : Gen). option_map last_edge (sent_edge x.fault x.edge x.since)) c.self.view_is) ∙ sym c.edge_sent.ensures ∙ c.in_ok-edge.was in
-    let fault = ap (λ (x : Gen). x.fault) c.self.view_is in
+    let sent = sym (ap (λ (x : GeneratorValue). option_map last_edge (sent_edge x.fault x.edge x.since)) c.self.view_is) ∙ sym c.edge_sent.ensures ∙ c.in_ok-edge.was in
+    let fault = ap (λ (x : GeneratorValue). x.fault) c.self.view_is in
     sent_from g t o (sent_edge g.fault g.edge g.since) edge sent
-    (subst (λ (f : Option GenFault). IsFrameIf f g t edge o) fault c.frame_by.ensures.frame)
+    (subst (λ (f : Option GenFault). IsFrameOrNone f g t edge o) fault c.frame_by.ensures.frame)
 
 pub returns-clause-value : goal.returns-clause-value
 returns-clause-value c =
-    sent_of_by c.args.self.now c.args.timeline.now c.frame_by.result (subst IsGen c.self.view_is c.self.invariant) c.frame_by.ensures.sound (returns-clause-frame c)
+    sent_of_by c.args.self.now c.args.timeline.now c.frame_by.result (subst IsGenerator c.self.view_is c.self.invariant) c.frame_by.ensures.sound (returns-clause-frame c)
 
 pub returns-in_err-edge-clause-value : goal.returns-in_err-edge-clause-value
 returns-in_err-edge-clause-value c =
-    let sent = sym (ap (λ (x : Gen). option_map last_edge (sent_edge x.fault x.edge x.since)) c.self.view_is) ∙ sym c.edge_sent.ensures ∙ c.in_err-edge.was in
+    let sent = sym (ap (λ (x : GeneratorValue). option_map last_edge (sent_edge x.fault x.edge x.since)) c.self.view_is) ∙ sym c.edge_sent.ensures ∙ c.in_err-edge.was in
     c.from_residual.ensures ∙ sym (nothing_sent c.args.self.now c.args.timeline.now sent)

@@ -2,12 +2,12 @@ use Rattle.std.proofs.Common.{◌≡◌, ◌≤◌, ℤ, List, Option, Some, Non
 use Rattle.irig_control.specs.Control.{IsControl}
 use Rattle.irig_frame.specs.declared.symbol.Symbol.{Symbol}
 use Rattle.irig_time.specs.declared.second.UtcSecond.{UtcSecond}
-use Rattle.irig_time.specs.Times.{IsSecond}
-use Rattle.irig_gen.specs.Frames.{gen, IsFrameBy}
+use Rattle.irig_time.specs.Timelines.{IsSecond}
+use Rattle.irig_gen.specs.Frames.{gen, IsFrameWithFault}
 use Rattle.irig_control.proofs.ControlLaws.{in_byte}
 use Rattle.irig_gen.proofs.GenLaws.{sent_zone_fits, control_fits, frame_at_is, faulted_fits}
 use Rattle.irig_gen.proofs.SentLaws.{frame_of_by, no_frame}
-use Rattle.irig_gen.specs.Refusals.{IsGen}
+use Rattle.irig_gen.specs.Refusals.{IsGenerator}
 use Rattle.irig_gen.proofs.generator.Generator.frame_by.Goals as goal
 
 pub control_at-control-requires : goal.control_at-control-requires
@@ -15,18 +15,18 @@ control_at-control-requires c =
     let i = c.self.inside in
     sent_zone_fits (gen i.zone i.changes.items i.rules i.edge i.fault i.since) _ c.in_ok-utc.utc c.zone_at-zone.result c.self.invariant c.deref.ensures.value c.zone_at-zone.ensures
 
-pub frame_with-requires-clause-local : goal.frame_with-requires-clause-local
-frame_with-requires-clause-local c =
+pub frame_of_second-requires-clause-local : goal.frame_of_second-requires-clause-local
+frame_of_second-requires-clause-local c =
     let i = c.self.inside in
     let small = sent_zone_fits (gen i.zone i.changes.items i.rules i.edge i.fault i.since) _ c.in_ok-utc.utc c.zone_at-zone.result c.self.invariant c.deref.ensures.value c.zone_at-zone.ensures in
     subst (λ (h : ℤ). unsigned_abs h ≤ 31) (sym (in_byte c.zone_at-zone.result.half_hours small)) small
 
-pub frame_with-requires-clause-control : goal.frame_with-requires-clause-control
-frame_with-requires-clause-control c =
+pub frame_of_second-requires-clause-control : goal.frame_of_second-requires-clause-control
+frame_of_second-requires-clause-control c =
     let i = c.self.inside in
     let small = sent_zone_fits (gen i.zone i.changes.items i.rules i.edge i.fault i.since) _ c.in_ok-utc.utc c.zone_at-zone.result c.self.invariant c.deref.ensures.value c.zone_at-zone.ensures in
     let k = subst IsControl (sym c.control_at-control.ensures) (control_fits i.rules.sense c.zone_at-zone.result c.deref-2.result.now c.leap-leap.result c.in_ok-utc.utc small) in
-    subst IsControl (sym c.faulted-sent.ensures) (faulted_fits c.args.fault c.control_at-control.result k)
+    subst IsControl (sym c.control_with_fault-sent.ensures) (faulted_fits c.args.fault c.control_at-control.result k)
 
 pub returns-clause-frame : goal.returns-clause-frame
 returns-clause-frame c =
@@ -35,13 +35,13 @@ returns-clause-frame c =
     let z = c.zone_at-zone.result in
     let g = gen i.zone i.changes.items i.rules i.edge i.fault i.since in
     let small = sent_zone_fits g _ u z c.self.invariant c.deref.ensures.value c.zone_at-zone.ensures in
-    frame_at_is g c.args.self.now c.args.timeline.now c.args.edge u c.frame_with.result _ z c.control_at-control.result c.deref.result.now c.deref-2.result.now c.leap-leap.result
+    frame_at_is g c.args.self.now c.args.timeline.now c.args.edge u c.frame_of_second.result _ z c.control_at-control.result c.deref.result.now c.deref-2.result.now c.leap-leap.result
     c.self.view_is ((c.at.ensures.second u).0 c.in_ok-utc.was) c.deref.ensures.value c.deref-2.ensures.value c.zone_at-zone.ensures (in_byte z.half_hours small)
-    c.leap-leap.ensures c.control_at-control.ensures c.args.fault c.faulted-sent.result c.faulted-sent.ensures c.frame_with.ensures
+    c.leap-leap.ensures c.control_at-control.ensures c.args.fault c.control_with_fault-sent.result c.control_with_fault-sent.ensures c.frame_of_second.ensures.frame
 
 pub returns-in_err-utc-clause-frame : goal.returns-in_err-utc-clause-frame
 returns-in_err-utc-clause-frame c =
-    subst (λ (o : Option (List Symbol)). MatchOption o ((u : UtcSecond) → ¬ IsSecond c.args.timeline.now c.args.edge u) (IsFrameBy c.args.fault c.args.self.now c.args.timeline.now c.args.edge))
+    subst (λ (o : Option (List Symbol)). MatchOption o ((u : UtcSecond) → ¬ IsSecond c.args.timeline.now c.args.edge u) (IsFrameWithFault c.args.fault c.args.self.now c.args.timeline.now c.args.edge))
     (sym c.from_residual.ensures)
     (λ u h.
     let some : c.at.result ≡ Some u = (c.at.ensures.second u).1 h in
@@ -50,7 +50,7 @@ returns-in_err-utc-clause-frame c =
 
 pub returns-clause-value : goal.returns-clause-value
 returns-clause-value c =
-    frame_of_by c.args.fault c.args.self.now c.args.timeline.now c.args.edge _ (subst IsGen c.self.view_is c.self.invariant) c.at.ensures.sound (returns-clause-frame c)
+    frame_of_by c.args.fault c.args.self.now c.args.timeline.now c.args.edge _ (subst IsGenerator c.self.view_is c.self.invariant) c.at.ensures.sound (returns-clause-frame c)
 
 pub returns-in_err-utc-clause-value : goal.returns-in_err-utc-clause-value
 returns-in_err-utc-clause-value c =

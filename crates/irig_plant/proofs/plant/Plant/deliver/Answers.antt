@@ -2,9 +2,9 @@ use Rattle.std.proofs.Common.{◌<◌, ◌≤◌, ◌∷◌, length, drop, refl,
 use Rattle.irig_vote.specs.Vote.{ports_in}
 use Rattle.irig_vote.specs.declared.redundancy.Redundancy.{Redundancy}
 use Rattle.irig_vote.specs.declared.redundancy.Redundancy.TheVariants.{Three, Five}
-use Rattle.irig_plant.specs.Schedule.{delivery, life_of}
+use Rattle.irig_plant.specs.Schedule.{delivery, history_of}
 use Rattle.irig_plant.specs.Audits.{first_false, verdict}
-use Rattle.irig_plant.proofs.StepLaws.{set_station, delivers, feed_other, feed_here}
+use Rattle.irig_plant.proofs.StepLaws.{set_reader, delivers, feed_other, feed_here}
 use Rattle.irig_plant.proofs.plant.Plant.deliver.Goals as goal
 
 at_most_five : (redundancy : Redundancy) → ports_in redundancy ≤ 5
@@ -18,20 +18,20 @@ returns g c = λ h e p given.
     let k = c.args.g in
     let r = c.args.r in
     let ws = c.args.widths.now in
-    let xs = c.args.self.now.stations in
+    let xs = c.args.self.now.readers in
     let plain = delivers s e ev (delivery k r ws) given in
-    let low : r < length s.readers = omega (arith, c.requires.reader, p.station_count) in
+    let low : r < length s.readers = omega (arith, c.requires.reader, p.reader_count) in
     let port : k < 5 = omega (arith, c.requires.generator, c.args.self.now.fed, at_most_five c.args.self.now.redundancy) in
-    let x = c.index_mut-station.result.now in
+    let x = c.index_mut-ticked_reader.result.now in
     record {
       timeline = p.timeline;
       redundancy = p.redundancy;
       generator_count = p.generator_count;
       generators = λ i d lt. p.generators i d lt ∙ sym (plain.generators i);
-      station_count = p.station_count;
-      stations = set_station s ev (e ∷ ev) xs.items r x _ (sym xs.ok.0 ∙ p.station_count) low p.stations c.index_mut-station.ensures.value
+      reader_count = p.reader_count;
+      readers = set_reader s ev (e ∷ ev) xs.items r x _ (sym xs.ok.0 ∙ p.reader_count) low p.readers c.index_mut-ticked_reader.ensures.value
           (feed_other s e ev (delivery k r ws) given)
-          (λ old. feed_here s e ev k r ws x _ port given (c.feed.ensures.fed (life_of s r ev) old.reader) refl old);
+          (λ old. feed_here s e ev k r ws x _ port given (c.feed.ensures.fed (history_of s r ev) old.reader) refl old);
       log = p.log ∙ sym (ap (drop h.shown) plain.log);
       few = omega (arith, p.few, ap length plain.log);
       audit = p.audit ∙ sym (ap (verdict (first_false s.times 0 s.readers)) plain.broken);

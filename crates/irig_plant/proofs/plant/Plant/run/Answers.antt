@@ -1,5 +1,5 @@
 use Rattle.std.proofs.Common.{take}
-use Rattle.irig_plant.specs.StandsFor.{with_events}
+use Rattle.irig_plant.specs.History.{with_events}
 use Rattle.irig_plant.proofs.RunLaws.{accepted_step, stands_step, refused_at}
 use Rattle.irig_plant.proofs.plant.Plant.run.Goals as goal
 

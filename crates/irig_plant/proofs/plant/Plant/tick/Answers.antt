@@ -2,16 +2,16 @@ use Rattle.std.proofs.Common.{vec_len, ◌≡◌, ◌+◌, ◌<◌, ◌∷◌, [
 use Rattle.std.proofs.Math.Logic.{∥∥₁_map}
 use Rattle.std.proofs.lemmas.List.{length-append}
 use Rattle.std.proofs.lemmas.List.Elements.{All-push, All-set}
-use Rattle.irig_time.specs.Times.{Times, truth_at}
-use Rattle.irig_reader.specs.Life.{tells, report_at_tick}
+use Rattle.irig_time.specs.Timelines.{TimelineValue, truth_at}
+use Rattle.irig_reader.specs.History.{told_at_tick, report_at_tick}
 use Rattle.irig_plant.specs.declared.event.Event.TheVariants.{Tick}
 use Rattle.irig_plant.specs.declared.entry.Entry.{Entry}
 use Rattle.irig_plant.specs.Sound.{IsSound}
-use Rattle.irig_plant.specs.Schedule.{ticks_of, life_of, entry_of, log_of}
+use Rattle.irig_plant.specs.Schedule.{ticks_of, history_of, entry_of, log_of}
 use Rattle.irig_plant.specs.Audits.{place, is_broken_now, first_false, first_broken}
-use Rattle.irig_plant.specs.StandsFor.{IsStationAt}
+use Rattle.irig_plant.specs.History.{IsTickedReaderAt}
 use Rattle.irig_plant.proofs.ListLaws.{drop-push}
-use Rattle.irig_plant.proofs.StepLaws.{set_station, tick_other, tick_here, audit_tick}
+use Rattle.irig_plant.proofs.StepLaws.{set_reader, tick_other, tick_here, audit_tick}
 use Rattle.irig_plant.proofs.plant.Plant.tick.Goals as goal
 
 pub overflow_add-edge : goal.overflow_add-edge
@@ -29,44 +29,44 @@ invariant_of-self g c = record {
 pub invariant_of-self-2-clause-wired : goal.invariant_of-self-2-clause-wired
 invariant_of-self-2-clause-wired g c =
     let self = c.args.self.now in
-    let at = c.index_mut-station in
-    let low : c.args.r < length self.stations.items = omega (arith, c.in_ok-has_reader.ensures.ok, self.stations.ok.0) in
+    let at = c.index_mut-ticked_reader in
+    let low : c.args.r < length self.readers.items = omega (arith, c.in_ok-has_reader.ensures.ok, self.readers.ok.0) in
     let old : at.result.now.reader.redundancy ≡ self.redundancy = rw at.ensures.value (self.wired c.args.r at.result.now low) in
-    All-set (λ x. x.reader.redundancy ≡ self.redundancy) self.stations.items c.args.r _ (c.tick-ticked.ensures.ports ∙ old) self.wired
+    All-set (λ x. x.reader.redundancy ≡ self.redundancy) self.readers.items c.args.r _ (c.tick-ticked.ensures.ports ∙ old) self.wired
 
 pub invariant_of-self-2-clause-sound : goal.invariant_of-self-2-clause-sound
 invariant_of-self-2-clause-sound g c =
-    ∥∥₁_map c.args.self.now.sound (λ sound. rw (c.append.ensures, c.reserve.ensures.items) (All-push IsSound c.args.self.now.log.items _ sound c.tick-ticked.ensures.valid))
+    ∥∥₁_map c.args.self.now.sound (λ sound. rw (c.push_reserved.ensures.items, c.reserve.ensures.items) (All-push IsSound c.args.self.now.log.items _ sound c.tick-ticked.ensures.valid))
 
 pub invariant_of-self-2-clause-known : goal.invariant_of-self-2-clause-known
 invariant_of-self-2-clause-known g c =
     let self = c.args.self.now in
-    rw (c.append.ensures, c.reserve.ensures.items) (All-push (λ (e : Entry). e.reader < vec_len self.stations) self.log.items _ self.known c.in_ok-has_reader.ensures.ok)
+    rw (c.push_reserved.ensures.items, c.reserve.ensures.items) (All-push (λ (e : Entry). e.reader < vec_len self.readers) self.log.items _ self.known c.in_ok-has_reader.ensures.ok)
 
 pub returns-clause-stands : goal.returns-clause-stands
 returns-clause-stands g c = λ h p.
     let s = h.setup in
     let ev = h.events in
     let r = c.args.r in
-    let xs = c.args.self.now.stations in
-    let low : r < length s.readers = omega (arith, c.in_ok-has_reader.ensures.ok, p.station_count) in
-    let x = c.index_mut-station.result.now in
-    let old : IsStationAt s ev r x = rw c.index_mut-station.ensures.value (p.stations r x low) in
-    let first : IsStationAt s ev r c.index.result.now = rw c.index.ensures (p.stations r c.index.result.now low) in
-    let report : c.tick-ticked.result.report ≡ report_at_tick (life_of s r ev) = c.tick-ticked.ensures.report (life_of s r ev) old.reader in
-    let told : c.tick-ticked.result.told ≡ tells (life_of s r ev) = c.tick-ticked.ensures.told (life_of s r ev) old.reader in
+    let xs = c.args.self.now.readers in
+    let low : r < length s.readers = omega (arith, c.in_ok-has_reader.ensures.ok, p.reader_count) in
+    let x = c.index_mut-ticked_reader.result.now in
+    let old : IsTickedReaderAt s ev r x = rw c.index_mut-ticked_reader.ensures.value (p.readers r x low) in
+    let first : IsTickedReaderAt s ev r c.index.result.now = rw c.index.ensures (p.readers r c.index.result.now low) in
+    let report : c.tick-ticked.result.report ≡ report_at_tick (history_of s r ev) = c.tick-ticked.ensures.report (history_of s r ev) old.reader in
+    let told : c.tick-ticked.result.told ≡ told_at_tick (history_of s r ev) = c.tick-ticked.ensures.told (history_of s r ev) old.reader in
     let truth : Some c.in-Some.truth ≡ truth_at s.times (ticks_of r ev) =
-    sym c.in-Some.is ∙ c.truth.ensures.value ∙ ap (λ (t : Times). truth_at t c.index.result.now.ticks) p.timeline ∙ ap (truth_at s.times) first.ticked in
+    sym c.in-Some.is ∙ c.truth.ensures.value ∙ ap (λ (t : TimelineValue). truth_at t c.index.result.now.ticks) p.timeline ∙ ap (truth_at s.times) first.ticked in
     record {
       timeline = p.timeline;
       redundancy = p.redundancy;
       generator_count = p.generator_count;
       generators = p.generators;
-      station_count = p.station_count;
-      stations = set_station s ev (Tick r ∷ ev) xs.items r x _ (sym xs.ok.0 ∙ p.station_count) low p.stations c.index_mut-station.ensures.value
+      reader_count = p.reader_count;
+      readers = set_reader s ev (Tick r ∷ ev) xs.items r x _ (sym xs.ok.0 ∙ p.reader_count) low p.readers c.index_mut-ticked_reader.ensures.value
           (tick_other s ev r)
-          (λ o. tick_here s ev r x _ (c.tick-ticked.ensures.after (life_of s r ev) o.reader) (ap (λ n. n + 1) (first.ticked ∙ sym old.ticked)) o);
-      log = c.append.ensures ∙ rw (c.reserve.ensures.items, p.log, report, first.ticked) (sym (drop-push h.shown (log_of s ev) (entry_of s r ev) p.few));
+          (λ o. tick_here s ev r x _ (c.tick-ticked.ensures.after (history_of s r ev) o.reader) (ap (λ n. n + 1) (first.ticked ∙ sym old.ticked)) o);
+      log = c.push_reserved.ensures.items ∙ rw (c.reserve.ensures.items, p.log, report, first.ticked) (sym (drop-push h.shown (log_of s ev) (entry_of s r ev) p.few));
       few = omega (arith, p.few, length-append (log_of s ev) (entry_of s r ev ∷ []));
-      audit = c.audited-self.ensures ∙ rw (p.audit, truth, told, p.redundancy, first.ticked) (audit_tick (first_false s.times 0 s.readers) (first_broken s ev) (place r (ticks_of r ev + 1)) (is_broken_now s r ev));
+      audit = c.audit_after-self.ensures ∙ rw (p.audit, truth, told, p.redundancy, first.ticked) (audit_tick (first_false s.times 0 s.readers) (first_broken s ev) (place r (ticks_of r ev + 1)) (is_broken_now s r ev));
     }

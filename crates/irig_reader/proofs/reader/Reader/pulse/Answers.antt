@@ -10,5 +10,5 @@ at_most_five Three = omega arith
 at_most_five Five = omega arith
 
 pub returns-in_default-clause-fed : goal.returns-in_default-clause-fed
-returns-in_default-clause-fed g c life s =
+returns-in_default-clause-fed g c history s =
     let last : c.args.port ≡ 4 = omega (arith, c.requires, at_most_five c.args.self.now.redundancy) in grind (arith, heard-push)

@@ -1,0 +1,63 @@
+//! The texts of help.
+
+/// What the program does.
+pub const ABOUT: &str =
+    "Runs scenarios of a plant in which three or five generators of IRIG-B time code feed readers that vote, and
+writes and reads frames of that code (B004: pulse width, with the year, control functions and straight
+binary seconds).";
+
+/// What follows the commands and options of the program.
+pub const AFTER: &str =
+    "Without a command it runs the scenario on standard input, as `irig run` runs one in a file.
+
+Examples:
+  $ irig < examples/leap_inserted.jsonl
+  $ irig run examples/two_liars.jsonl --all
+  $ irig frame 2016-12-31T23:59:59Z --pending=insert
+  $ irig read \"$(irig frame 2016-12-31T23:59:59Z)\"
+
+Exit statuses:
+  0  done; that a frame is faulty, or a premise broken, is an answer too
+  2  the command line, TIME or FRAME is not understood
+  3  a line of the scenario is refused; the last line of the log says which, and why
+  4  FILE or standard input can't be read
+  5  the output took no more
+  6  out of memory";
+
+/// What follows the options of `run`.
+pub const RUN_AFTER: &str =
+    "FILE has one JSON value a line: the plant, then what happens in it, event by event. The log has a line for each
+second that a reader announces, and with --all for each tick of a reader:
+  EDGE READER TIME LOCK CAUSE
+TIME is - where the reader announces nothing. The last line says whether the premises held under which each
+announced second is the true one, or which line is refused.
+
+Example:
+  $ irig run examples/plain_minute.jsonl | tail -n 2
+  60 relay 2016-06-15T12:01:00Z locked voted
+  premises kept";
+
+/// What follows the options of `frame`.
+pub const FRAME_AFTER: &str =
+    "A frame has 100 symbols, here in ten groups of ten: P a marker, 0 and 1. It has even parity, quality 0
+and the offset that is added to the coded time.
+
+Example:
+  $ irig frame 2016-12-31T23:59:59Z --local=11 --pending=insert
+  P10010101P 100100100P 101000000P 100000000P 000000000P 111001000P 100011010P 100001000P 111010101P 011001000P";
+
+/// What follows the options of `read`.
+pub const READ_AFTER: &str =
+    "It prints the time that the frame codes, if it codes one, and what a port tells of it under even parity, where
+the offset is added and the straight binary seconds are checked:
+  coded YYYY-DDD HH:MM:SS control W sbs S   the time, the control word, the binary seconds
+  claim TIME MARK                           the UTC second, and what is said of a leap second:
+                                            unspoken, no-leap, insert or delete
+  poor Q                                    the time quality 10 to 15, which has no vote
+  fault K NAME ..                           the number and the name of the first fault
+  silence                                   no symbols
+
+Example:
+  $ irig read 'P10010101P 100100100P 101000000P 100000000P 000000000P 111001000P 100011010P 100001000P 111010101P 011001000P'
+  coded 2017-001 05:29:59 control 17073 sbs 19799
+  claim 2016-12-31T23:59:59Z insert";

@@ -1,0 +1,11 @@
+//! The words of a command line, read to what they ask for.
+#![tactic(auto)]
+
+mod command;
+mod help;
+mod request;
+#[cfg(test)]
+mod tests;
+
+pub use command::parse;
+pub use request::{NoRequest, Pending, Request};

@@ -1,0 +1,44 @@
+//! What the words of a command line ask for.
+
+/// What a command line asks for.
+#[derive(Clone, Copy, Debug, PartialEq, Eq)]
+pub enum Request<'a> {
+    /// The scenario on the input.
+    Plain,
+    /// The scenario in a file.
+    Run {
+        file: &'a str,
+        /// Whether the log shows silent ticks too.
+        all: bool,
+    },
+    /// The frame of a UTC second.
+    Frame {
+        time: &'a str,
+        /// The half hours that the clock is ahead of UTC, -31 to 31.
+        local: i8,
+        /// The leap second that is pending.
+        pending: Option<Pending>,
+    },
+    /// What a frame says.
+    Read {
+        frame: &'a str,
+    },
+}
+
+/// A leap second that is pending.
+#[derive(Clone, Copy, Debug, PartialEq, Eq)]
+pub enum Pending {
+    Insert,
+    Delete,
+}
+
+/// What comes in place of a request.
+#[derive(Debug, PartialEq, Eq, Drop)]
+pub enum NoRequest {
+    /// The help that the words ask for.
+    Help(String),
+    /// What is wrong with the words, and what would be right.
+    Fault(String),
+    /// The system gave no memory.
+    Memory,
+}

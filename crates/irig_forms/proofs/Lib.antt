@@ -1,0 +1,5 @@
+pub mod Keys
+pub mod ListLaws
+pub mod JsonLaws
+pub mod FieldLaws
+pub mod StandardFacts

@@ -1,0 +1,5 @@
+pub mod Refusals
+pub mod Json
+pub mod Keywords
+pub mod Keys
+pub mod Fields

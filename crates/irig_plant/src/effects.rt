@@ -1,0 +1,186 @@
+//! What a plant does with each kind of event.
+
+ghost use Rattle.std.specs.Prelude.{◌≡◌, ◌<◌, ◌≤◌, ◌+◌, [], IfErr, OnOk, OnErr, unwrap_or, vec_len, Some, None};
+
+use crate::audit::audit_after;
+use crate::entry::Entry;
+use crate::event::{Event, Widths};
+use crate::fault::PlantFault;
+use crate::plant::Plant;
+use crate::pulses::{feed, pulses, widths_of, with_damage};
+use irig_gen::GenFault;
+use irig_port::Port;
+
+impl<P: Port> Plant<P> {
+    ghost use Rattle.irig_plant.specs.Schedule.{delivery, delivery_of, pulses_sent, pulses_sent_at};
+    ghost use Rattle.irig_plant.specs.Refusals.{unless_reader, unless_generator};
+    ghost use Rattle.irig_plant.specs.History.{PlantHistory, with_event, HasPlantHistory, ForHistory, Accepts, Does, Follows, RefusesAtLast, Keeps};
+
+    pub(crate) fn step(&mut self, g: u8) -> Result<(), PlantFault>
+        ensures { Does self.old (Event.GenEdge g) self.new result }
+    {
+        self.has_generator(g)?;
+        let next = self.generators[g as usize].edge().saturating_add(1);
+        if self.timeline.at(next).is_none() {
+            return Err(PlantFault::EndOfYears);
+        }
+        let generator = &mut self.generators[g as usize];
+        generator.step();
+        Ok(())
+    }
+
+    // The room for the entry comes before the effect, so a tick that wants memory changes nothing.
+    pub(crate) fn tick(&mut self, r: u8) -> Result<(), PlantFault>
+        ensures accepted { OnOk result (Accepts self.old (Event.Tick r)) }
+        ensures stands { OnOk result (Follows self.old (Event.Tick r) self.new) }
+        ensures refused { IfErr result (RefusesAtLast self.old (Event.Tick r)) }
+        ensures unchanged { OnErr result (Keeps self.old self.new) }
+    {
+        self.has_reader(r)?;
+        let ticks = self.readers[r as usize].ticks;
+        let Some(truth) = self.timeline.truth(ticks) else {
+            return Err(PlantFault::EndOfYears);
+        };
+        self.log.reserve(1)?;
+        let edge = ticks + 1;
+        let ticked_reader = &mut self.readers[r as usize];
+        ticked_reader.ticks = edge;
+        let ticked = ticked_reader.reader.tick();
+        let report = ticked.report;
+        self.log.push_reserved(Entry {
+            reader: r,
+            edge,
+            report,
+        });
+        self.audit = audit_after(self.audit, (r, edge), truth, &ticked.told, self.redundancy);
+        Ok(())
+    }
+
+    pub(crate) fn carry(&mut self, g: u8, r: u8) -> Result<(), PlantFault>
+        ensures { Does self.old (Event.Carry g r) self.new result }
+    {
+        self.has_port(g, r)?;
+        let sent = self.sent(g);
+        self.deliver(g, r, pulses(&sent));
+        Ok(())
+    }
+
+    pub(crate) fn damage(&mut self, g: u8, r: u8, at: u8, width: u32) -> Result<(), PlantFault>
+        ensures { Does self.old (Event.Damage g r at width) self.new result }
+    {
+        self.has_port(g, r)?;
+        let sent = with_damage(self.sent(g), at, width);
+        self.deliver(g, r, pulses(&sent));
+        Ok(())
+    }
+
+    pub(crate) fn replay(&mut self, g: u8, r: u8, edge: u64) -> Result<(), PlantFault>
+        ensures { Does self.old (Event.Replay g r edge) self.new result }
+    {
+        self.has_port(g, r)?;
+        if edge > self.generators[g as usize].edge() {
+            return Err(PlantFault::FutureReplay);
+        }
+        let sent = self.sent_at(g, edge);
+        self.deliver(g, r, pulses(&sent));
+        Ok(())
+    }
+
+    pub(crate) fn raw(&mut self, g: u8, r: u8, widths: &Widths) -> Result<(), PlantFault>
+        ensures { Does self.old (Event.Raw g r widths.now) self.new result }
+    {
+        self.has_port(g, r)?;
+        self.deliver(g, r, widths.as_slice());
+        Ok(())
+    }
+
+    pub(crate) fn fault(&mut self, g: u8, kind: GenFault) -> Result<(), PlantFault>
+        ensures { Does self.old (Event.Fault g kind) self.new result }
+    {
+        self.has_generator(g)?;
+        let generator = &mut self.generators[g as usize];
+        generator.fault(kind);
+        Ok(())
+    }
+
+    pub(crate) fn repair(&mut self, g: u8) -> Result<(), PlantFault>
+        ensures { Does self.old (Event.Repair g) self.new result }
+    {
+        self.has_generator(g)?;
+        let generator = &mut self.generators[g as usize];
+        generator.repair();
+        Ok(())
+    }
+
+    pub(crate) fn restart(&mut self, r: u8) -> Result<(), PlantFault>
+        ensures { Does self.old (Event.Restart r) self.new result }
+    {
+        self.has_reader(r)?;
+        let ticked_reader = &mut self.readers[r as usize];
+        ticked_reader.reader.restart();
+        Ok(())
+    }
+
+    fn has_reader(&self, r: u8) -> Result<(), PlantFault>
+        ensures ok { OnOk result (r < vec_len self.now.readers) }
+        ensures err { IfErr result (λ fault.
+            (fault ≡ PlantFault.NoSuchReader) × (vec_len self.now.readers ≤ r)) }
+    {
+        if usize::from(r) < self.readers.len() {
+            Ok(())
+        } else {
+            Err(PlantFault::NoSuchReader)
+        }
+    }
+
+    fn has_generator(&self, g: u8) -> Result<(), PlantFault>
+        ensures ok { OnOk result (g < vec_len self.now.generators) }
+        ensures err { IfErr result (λ fault.
+            (fault ≡ PlantFault.NoSuchGenerator) × (vec_len self.now.generators ≤ g)) }
+    {
+        if usize::from(g) < self.generators.len() {
+            Ok(())
+        } else {
+            Err(PlantFault::NoSuchGenerator)
+        }
+    }
+
+    fn has_port(&self, g: u8, r: u8) -> Result<(), PlantFault>
+        ensures reader { OnOk result (r < vec_len self.now.readers) }
+        ensures generator { OnOk result (g < vec_len self.now.generators) }
+        ensures refused { IfErr result (λ fault. ForHistory self.now (λ h.
+            unless_reader h.setup r (unless_generator h.setup g None) ≡ Some fault)) }
+    {
+        self.has_reader(r)?;
+        self.has_generator(g)
+    }
+
+    fn sent(&self, g: u8) -> Option<[u32; 100]>
+        requires { g < vec_len self.now.generators }
+        ensures { ForHistory self.now (λ h.
+            unwrap_or result [] ≡ pulses_sent h.setup g h.events) }
+    {
+        let frame = self.generators[g as usize].frame(&self.timeline)?;
+        Some(widths_of(&frame))
+    }
+
+    fn sent_at(&self, g: u8, edge: u64) -> Option<[u32; 100]>
+        requires { g < vec_len self.now.generators }
+        ensures { ForHistory self.now (λ h.
+            unwrap_or result [] ≡ pulses_sent_at h.setup g edge h.events) }
+    {
+        let frame = self.generators[g as usize].frame_at(&self.timeline, edge)?;
+        Some(widths_of(&frame))
+    }
+
+    fn deliver(&mut self, g: u8, r: u8, widths: &[u32])
+        requires generator { g < vec_len self.old.generators }
+        requires reader { r < vec_len self.old.readers }
+        ensures { (h : PlantHistory) (e : Event) → HasPlantHistory self.old h
+            → delivery_of h.setup e h.events ≡ Some (delivery g r widths.now)
+            → HasPlantHistory self.new (with_event e h) }
+    {
+        let ticked_reader = &mut self.readers[r as usize];
+        feed(&mut ticked_reader.reader, g, widths);
+    }
+}

@@ -1,0 +1,84 @@
+-- What a reader was given, fed and voted: all that its answers depend on.
+use Rattle.std.specs.Prelude.{ℕ, ◌==◌, if◌then◌else◌, List, [], ◌∷◌, ◌++◌, Option}
+use Rattle.irig_time.specs.declared.rules.Rules.{Rules}
+use Rattle.irig_time.specs.declared.claim.Claim.{Claim}
+use Rattle.irig_time.specs.Tables.{TableValue}
+use Rattle.irig_port.specs.Told.{told_of_widths}
+use Rattle.irig_vote.specs.declared.redundancy.Redundancy.{Redundancy}
+use Rattle.irig_vote.specs.declared.tells.Tells.{Tells}
+use Rattle.irig_vote.specs.Vote.{vote_of}
+use Rattle.irig_reader.specs.declared.rules.ReaderRules.{ReaderRules}
+use Rattle.irig_reader.specs.declared.report.Report.{Report}
+use Rattle.irig_reader.specs.Rule.{report_of}
+
+-- the widths of the pulses at each port, the oldest first
+pub record Fed : Type 0 where
+  pub a : List ℕ
+  pub b : List ℕ
+  pub c : List ℕ
+  pub d : List ℕ
+  pub e : List ℕ
+
+-- no pulse at any port
+abbrev pub no_pulses : Fed
+no_pulses = record { a = []; b = []; c = []; d = []; e = [] }
+
+-- what a reader was made of, its pulses since the last tick or restart, and its votes since the last restart, the
+-- newest first
+pub record ReaderHistory : Type 0 where
+  pub rules : Rules
+  pub own : ReaderRules
+  pub table : TableValue
+  pub redundancy : Redundancy
+  pub fed : Fed
+  pub votes : List (Option Claim)
+
+-- nothing has happened to it
+abbrev pub new_history : Rules → ReaderRules → TableValue → Redundancy → ReaderHistory
+new_history rules own table redundancy = record {
+  rules = rules;
+  own = own;
+  table = table;
+  redundancy = redundancy;
+  fed = no_pulses;
+  votes = [];
+}
+
+-- one more width at a port
+abbrev pub with_width : Fed → ℕ → ℕ → Fed
+with_width fed port width =
+    if port == 0 then record fed { a = fed.a ++ width ∷ [] }
+    else (if port == 1 then record fed { b = fed.b ++ width ∷ [] }
+    else (if port == 2 then record fed { c = fed.c ++ width ∷ [] }
+    else (if port == 3 then record fed { d = fed.d ++ width ∷ [] }
+    else record fed { e = fed.e ++ width ∷ [] })))
+
+-- the history with one more pulse at a port
+abbrev pub after_pulse : ReaderHistory → ℕ → ℕ → ReaderHistory
+after_pulse history port width = record history { fed = with_width history.fed port width }
+
+-- what the ports tell at a tick that comes now
+abbrev pub told_at_tick : ReaderHistory → Tells
+told_at_tick history = record {
+  a = told_of_widths history.rules history.fed.a;
+  b = told_of_widths history.rules history.fed.b;
+  c = told_of_widths history.rules history.fed.c;
+  d = told_of_widths history.rules history.fed.d;
+  e = told_of_widths history.rules history.fed.e;
+}
+
+-- the vote over what they tell
+abbrev pub vote_at_tick : ReaderHistory → Option Claim
+vote_at_tick history = vote_of (told_at_tick history) history.redundancy
+
+-- what the reader then says
+abbrev pub report_at_tick : ReaderHistory → Report
+report_at_tick history = report_of history.own history.table (vote_at_tick history) history.votes
+
+-- the history after a tick
+abbrev pub after_tick : ReaderHistory → ReaderHistory
+after_tick history = record history { fed = no_pulses; votes = vote_at_tick history ∷ history.votes }
+
+-- the history after a restart
+abbrev pub after_restart : ReaderHistory → ReaderHistory
+after_restart history = record history { fed = no_pulses; votes = [] }

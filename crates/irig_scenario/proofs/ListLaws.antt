@@ -1,0 +1,32 @@
+-- Lists of JSON values, by what is asked of their data, and loops over them.
+use Rattle.std.proofs.Common.{◌≡◌, List, map, ◌++◌, Option, option_map}
+use Rattle.std.specs.List.{list_all}
+use Rattle.serde_json.specs.Data.{Data}
+use Rattle.serde_json.specs.View.{view}
+use Rattle.serde_json.specs.declared.value.Value.{Value}
+use Rattle.irig_forms.specs.Json.{all_of}
+use Rattle.irig_forms.proofs.ListLaws.{all_of_map}
+use Rattle.irig_scenario.specs.PlantShape.{is_leap, is_change, is_generator, is_reader}
+use Rattle.irig_scenario.specs.declared.plant_shape.Version.{Version}
+
+pub all_leaps : (vs : List Value) → list_all (λ v. is_leap (view v)) vs ≡ list_all is_leap (map view vs)
+all_leaps vs = all_of_map is_leap vs
+
+pub all_changes : (vs : List Value) → list_all (λ v. is_change (view v)) vs ≡ list_all is_change (map view vs)
+all_changes vs = all_of_map is_change vs
+
+pub all_generators : (vs : List Value) → list_all (λ v. is_generator (view v)) vs ≡ list_all is_generator (map view vs)
+all_generators vs = all_of_map is_generator vs
+
+pub all_readers : (version : Version) (vs : List Value) → list_all (λ v. is_reader version (view v)) vs ≡ list_all (is_reader version) (map view vs)
+all_readers version vs = all_of_map (is_reader version) vs
+
+-- ---- a loop, by what it has and what is left
+
+-- `front` is done, and `rest` is left
+pub record Found {A : Type 0} (f : Data → Option A) (front : List A) (rest all : List Value) : Type 0 where
+  pub is : option_map (λ xs. front ++ xs) (all_of f (map view rest)) ≡ all_of f (map view all)
+
+-- `front` is made, one for each, and `rest` is left
+pub record Made {A : Type 0} (f : Data → A) (front : List A) (rest all : List Value) : Type 0 where
+  pub is : front ++ map f (map view rest) ≡ map f (map view all)

@@ -1,0 +1,163 @@
+-- What a plant line that is not refused says of its plant.
+use Rattle.std.proofs.Common.{◌≡◌, ℕ, Bool, true, false, cond, List, [], ◌∷◌, ◌++◌, map, length, All, Option, Some, None, Result, Ok, Err, refl, subst, rules, nat_lt, ℤ, codes}
+use Rattle.std.specs.Prelude.{option_and_then, is_some}
+use Rattle.std.specs.Option.{option_or, option_map}
+use Rattle.std.proofs.lemmas.List.Elements.{All-nil, All-cons}
+use Rattle.irig_time.specs.declared.second.UtcSecond.{UtcSecond}
+use Rattle.irig_time.specs.declared.leap.Leap.{Leap}
+use Rattle.irig_time.specs.declared.timeline.TimelineFault.{TimelineFault}
+use Rattle.irig_time.specs.declared.timeline.TimelineFault.TheVariants as timeline
+use Rattle.irig_time.specs.Days.{is_month_end}
+use Rattle.irig_time.specs.Timelines.{leap_of, day_length}
+use Rattle.irig_time.specs.declared.table.TableFault.{TableFault}
+use Rattle.irig_time.specs.declared.table.TableFault.TheVariants as table
+use Rattle.irig_time.specs.Tables.{first_entry_fault}
+use Rattle.irig_time.specs.TimelineFaults.{leap_fault, first_leap_fault, start_fault, timeline_fault, IsTimeline}
+use Rattle.irig_forms.specs.declared.refusal.Refusal.{Refusal}
+use Rattle.irig_forms.specs.Refusals.{of_timeline, of_table}
+use Rattle.irig_scenario.specs.PlantValues.{PlantValues, ReaderValues, readers_in, plant_values}
+use Rattle.serde_json.specs.Data.{Data, Members}
+use Rattle.serde_json.specs.Find.{as_object}
+use Rattle.irig_plant.specs.Headline.{EndsServed}
+use Rattle.irig_scenario.specs.declared.plant_shape.Version.{Version}
+use Rattle.irig_forms.specs.declared.refusal.Refusal.TheVariants as refusal
+use Rattle.irig_forms.specs.Json.{◌>>=◌, or_else, holds_or, json_of, whole_at}
+use Rattle.irig_scenario.specs.PlantShape.{version_of, is_plant}
+use Rattle.irig_scenario.specs.Names.{names_in}
+use Rattle.irig_scenario.specs.PlantLine.{refusal_of, timeline_refusal, generator_refusal, reader_refusal, values_refusal, first_of, reader_with, setup_with, refused_or, setup_result, Plan, plan_in_line, plan_in_object}
+
+-- a timeline without fault, and tables that end with a day that is served
+pub record IsSound (plan : Plan) : Type 0 where
+  pub timeline : IsTimeline plan.setup.times
+  pub tables : All EndsServed plan.setup.readers
+
+-- ---- what a timeline is refused for is never want of memory
+
+neither_first : {A : Type 0} (o p : Option A) → option_or o p ≡ None → o ≡ None
+neither_first None p h = refl
+neither_first (Some a) p h = h
+
+neither_second : {A : Type 0} (o p : Option A) → option_or o p ≡ None → p ≡ None
+neither_second None p h = h
+neither_second (Some a) p h = absurd cc
+
+-- a fault with a number
+abbrev NamesFault : Option TimelineFault → Type 0
+NamesFault o = option_and_then (λ fault. refusal_of (of_timeline fault)) o ≡ None → o ≡ None
+
+leap_named : (a b c d : Bool) → NamesFault (cond a (Some timeline.OutOfYears) (cond b (Some timeline.OutOfYears) (cond c (cond d (Some timeline.LeapTwice) None) (Some timeline.LeapNotMonthEnd))))
+leap_named true b c d h = absurd cc
+leap_named false true c d h = absurd cc
+leap_named false false true true h = absurd cc
+leap_named false false true false h = refl
+leap_named false false false d h = absurd cc
+
+start_named : (a b c : Bool) → NamesFault (cond a (Some timeline.BadStart) (cond b (Some timeline.BadStart) (cond c None (Some timeline.BadStart))))
+start_named true b c h = absurd cc
+start_named false true c h = absurd cc
+start_named false false true h = refl
+start_named false false false h = absurd cc
+
+or_named : (o p : Option TimelineFault) → NamesFault o → NamesFault p → NamesFault (option_or o p)
+or_named None p f g = g
+or_named (Some a) p f g = f
+
+leaps_named : (before leaps : List (ℕ × Leap)) → NamesFault (first_leap_fault before leaps)
+leaps_named before [] = λ h. refl
+leaps_named before (x ∷ xs) =
+    or_named (leap_fault before x.0) (first_leap_fault (before ++ x ∷ []) xs)
+    (leap_named (nat_lt x.0 1) (nat_lt 36523 x.0) (is_month_end x.0) (is_some (leap_of before x.0))) (leaps_named (before ++ x ∷ []) xs)
+
+timeline_named : (start : UtcSecond) (leaps : List (ℕ × Leap)) → NamesFault (timeline_fault start leaps)
+timeline_named start leaps =
+    or_named (first_leap_fault [] leaps) (start_fault leaps start) (leaps_named [] leaps)
+    (start_named (nat_lt start.day 1) (nat_lt 36523 start.day) (nat_lt start.sod (day_length leaps start.day)))
+
+-- ---- what a plant line gives
+
+none_first : (o : Option Refusal) (os : List (Option Refusal)) → first_of (o ∷ os) ≡ None → (o ≡ None) × (first_of os ≡ None)
+none_first o os h = (neither_first o (first_of os) h, neither_second o (first_of os) h)
+
+none_later : (os ps : List (Option Refusal)) → first_of (os ++ ps) ≡ None → first_of ps ≡ None
+none_later [] ps h = h
+none_later (o ∷ os) ps h = none_later os ps (none_first o (os ++ ps) h).1
+
+table_end : (b c : Bool) (rest : Option TableFault) → option_map of_table (cond b (Some table.TableEnd) (cond c (Some table.TableLong) rest)) ≡ None → b ≡ false
+table_end true c rest h = absurd cc
+table_end false c rest h = refl
+
+served : (r : ReaderValues) → reader_refusal r ≡ None → EndsServed (reader_with r)
+served r h =
+    let test : nat_lt 36523 r.until ≡ false = table_end (nat_lt 36523 r.until) (nat_lt 64 (length r.leaps)) (first_entry_fault r.until [] r.leaps) h in
+    search rules
+
+all_served : (rs : List ReaderValues) → first_of (map reader_refusal rs) ≡ None → All EndsServed (map reader_with rs)
+all_served [] h = All-nil EndsServed
+all_served (r ∷ rs) h =
+    let both = none_first (reader_refusal r) (map reader_refusal rs) h in
+    All-cons EndsServed (reader_with r) (map reader_with rs) (served r both.0) (all_served rs both.1)
+
+sound_setup : (v : PlantValues) (names : List (List ℕ)) → values_refusal v ≡ None → IsSound (record { setup = setup_with v; names = names })
+sound_setup v names h =
+    let first = none_first (timeline_refusal v) (map generator_refusal v.generators ++ map reader_refusal v.readers) h in
+    record {
+      timeline = record { sound = timeline_named v.start v.leaps first.0 };
+      tables = all_served v.readers (none_later (map generator_refusal v.generators) (map reader_refusal v.readers) first.1);
+    }
+
+-- ---- one step of a plant line after another
+
+with_setup : (v : PlantValues) (names : List (List ℕ)) (plan : Plan) (k : Option Refusal) → values_refusal v ≡ k
+    → (refused_or k (setup_with v) >>= (λ setup. Ok (record { setup = setup; names = names }))) ≡ Ok plan → IsSound plan
+with_setup v names plan (Some k) e h = absurd cc
+with_setup v names plan None e h =
+    let same : ◌≡◌ {A = Plan} (record { setup = setup_with v; names = names }) plan = cc in
+    subst IsSound same (sound_setup v names e)
+
+abbrev planned_by : PlantValues → List (List ℕ) → Result Plan Refusal
+planned_by v names = setup_result v >>= (λ setup. Ok (record { setup = setup; names = names }))
+
+with_names : (v : PlantValues) (plan : Plan) (o : Result (List (List ℕ)) Refusal) → (o >>= planned_by v) ≡ Ok plan → IsSound plan
+with_names v plan (Err k) h = absurd cc
+with_names v plan (Ok names) h = with_setup v names plan (values_refusal v) refl h
+
+abbrev values_planned : Data → PlantValues → Result Plan Refusal
+values_planned d v = names_in (readers_in d) >>= planned_by v
+
+with_values : (d : Data) (plan : Plan) (o : Option PlantValues) → (or_else refusal.Value o >>= values_planned d) ≡ Ok plan → IsSound plan
+with_values d plan None h = absurd cc
+with_values d plan (Some v) h = with_names v plan (names_in (readers_in d)) h
+
+abbrev shape_planned : Version → Data → Unit {0} → Result Plan Refusal
+shape_planned version d shaped = or_else refusal.Value (plant_values version d) >>= values_planned d
+
+with_shape : (version : Version) (d : Data) (plan : Plan) (b : Bool) → (holds_or refusal.Shape b >>= shape_planned version d) ≡ Ok plan → IsSound plan
+with_shape version d plan false h = absurd cc
+with_shape version d plan true h = with_values d plan (plant_values version d) h
+
+abbrev version_planned : Data → Version → Result Plan Refusal
+version_planned d version = holds_or refusal.Shape (is_plant version d) >>= shape_planned version d
+
+with_version : (d : Data) (plan : Plan) (o : Option Version) → (or_else refusal.Version o >>= version_planned d) ≡ Ok plan → IsSound plan
+with_version d plan None h = absurd cc
+with_version d plan (Some version) h = with_shape version d plan (is_plant version d) h
+
+abbrev number_planned : Data → ℤ → Result Plan Refusal
+number_planned d number = or_else refusal.Version (version_of number) >>= version_planned d
+
+with_number : (d : Data) (plan : Plan) (o : Option ℤ) → (or_else refusal.Shape o >>= number_planned d) ≡ Ok plan → IsSound plan
+with_number d plan None h = absurd cc
+with_number d plan (Some number) h = with_version d plan (version_of number) h
+
+with_members : (d : Data) (plan : Plan) (o : Option Members) → (or_else refusal.Shape o >>= (λ ms. or_else refusal.Shape (whole_at (codes "version") d) >>= number_planned d)) ≡ Ok plan → IsSound plan
+with_members d plan None h = absurd cc
+with_members d plan (Some ms) h = with_number d plan (whole_at (codes "version") d) h
+
+with_data : (plan : Plan) (o : Option Data) → (or_else refusal.Json o >>= (λ d. plan_in_object d)) ≡ Ok plan → IsSound plan
+unfolding plan_in_object
+with_data plan None h = absurd cc
+with_data plan (Some d) h = with_members d plan (as_object d) h
+
+pub plan_is_sound : (line : List ℕ) (plan : Plan) → plan_in_line line ≡ Ok plan → IsSound plan
+unfolding plan_in_line
+plan_is_sound line plan h = with_data plan (json_of line) h

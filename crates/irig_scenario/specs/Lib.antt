@@ -1,0 +1,7 @@
+pub mod Forms
+pub mod EventLine
+pub mod Names
+pub mod PlantShape
+pub mod PlantValues
+pub mod PlantLine
+pub mod WholeSecond

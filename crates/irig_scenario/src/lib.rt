@@ -1,0 +1,24 @@
+//! What a line of a scenario says: of its bytes a plant, an event or a number of whole seconds, or why the
+//! line is refused. docs/SCENARIOS.md has the lines.
+#![tactic(auto)]
+
+mod event_line;
+mod form;
+mod generator_values;
+mod leap_values;
+mod names;
+mod plant_line;
+mod plant_shape;
+mod plant_values;
+mod reader_values;
+mod whole_second;
+mod widths;
+
+pub use event_line::{Command, event_of_line};
+pub use plant_line::{BuiltPlant, plant_of_line};
+pub use whole_second::second_of;
+
+#[cfg(test)]
+mod line_tests;
+#[cfg(test)]
+mod plant_tests;

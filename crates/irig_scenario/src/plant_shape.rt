@@ -1,0 +1,193 @@
+//! The objects of a plant line, as tables: which keys stand in each, and of which types their values are.
+
+ghost use Rattle.std.specs.Prelude.{◌≡◌, codes, map};
+ghost use Rattle.std.specs.List.{list_all};
+ghost use Rattle.serde_json.specs.View.{view};
+ghost use Rattle.irig_forms.specs.Keys.{key_value};
+ghost use Rattle.irig_forms.specs.Fields.{each_item};
+ghost use Rattle.irig_scenario.specs.PlantShape.{version_of, plant_keys, leap_keys, generator_keys, change_keys, reader_keys, table_keys, is_leap, is_change, is_generator, is_table, is_reader, is_plant};
+
+use irig_forms::{Key, Kind, has_form, items_at, key, optional_key};
+use serde_json::Value;
+
+/// A version of a plant line: the second adds tables of leaps, the third plants of five generators.
+#[derive(Clone, Copy, Debug, PartialEq, Eq)]
+pub(crate) enum Version {
+    /// Three generators, no tables.
+    One,
+    /// Three generators, and a reader may have a table.
+    Two,
+    /// Three or five generators, and a reader may have a table.
+    Three,
+}
+
+pub(crate) fn version_of(number: i128) -> Option<Version>
+    ensures { result ≡ version_of number }
+{
+    match number {
+        1 => Some(Version::One),
+        2 => Some(Version::Two),
+        3 => Some(Version::Three),
+        _ => None,
+    }
+}
+
+fn plant_keys() -> &'static [Key]
+    ensures { map key_value result.now ≡ plant_keys }
+{
+    &[
+        key!("version": Kind::Whole),
+        key!("start": Kind::Text),
+        key!("leaps": Kind::List),
+        key!("parity": Kind::Text),
+        key!("sense": Kind::Text),
+        key!("sbs": Kind::Text),
+        key!("generators": Kind::List),
+        key!("readers": Kind::List),
+    ]
+}
+
+fn leap_keys() -> &'static [Key]
+    ensures { map key_value result.now ≡ leap_keys }
+{
+    &[key!("day": Kind::Text), key!("kind": Kind::Text)]
+}
+
+fn generator_keys() -> &'static [Key]
+    ensures { map key_value result.now ≡ generator_keys }
+{
+    &[
+        key!("local": Kind::Whole),
+        optional_key!("dst": Kind::Truth),
+        optional_key!("changes": Kind::List),
+    ]
+}
+
+fn change_keys() -> &'static [Key]
+    ensures { map key_value result.now ≡ change_keys }
+{
+    &[
+        key!("at": Kind::Text),
+        key!("local": Kind::Whole),
+        key!("dst": Kind::Truth),
+    ]
+}
+
+fn reader_keys(version: Version) -> &'static [Key]
+    ensures { map key_value result.now ≡ reader_keys version }
+{
+    match version {
+        Version::One => &[
+            key!("name": Kind::Text),
+            key!("lock_after": Kind::Whole),
+            key!("holdover": Kind::Whole),
+        ],
+        Version::Two | Version::Three => &[
+            key!("name": Kind::Text),
+            key!("lock_after": Kind::Whole),
+            key!("holdover": Kind::Whole),
+            optional_key!("table": Kind::Object),
+        ],
+    }
+}
+
+fn table_keys() -> &'static [Key]
+    ensures { map key_value result.now ≡ table_keys }
+{
+    &[key!("until": Kind::Text), key!("leaps": Kind::List)]
+}
+
+fn is_leap(value: &Value) -> bool
+    ensures { result ≡ is_leap (view value.now) }
+{
+    has_form(leap_keys(), value)
+}
+
+#[tactic(auto, unfolding(irig_forms::specs::Fields::each_item), using(crate::proofs::ListLaws::all_leaps))]
+fn are_leaps(value: &Value) -> bool
+    ensures { result ≡ each_item (codes "leaps") is_leap (view value.now) }
+{
+    all_leaps(items_at(value, "leaps").unwrap_or(&[]))
+}
+
+fn all_leaps(values: &[Value]) -> bool
+    ensures { result ≡ list_all (λ v. is_leap (view v)) values.now }
+{
+    values.iter().all(is_leap)
+}
+
+fn is_change(value: &Value) -> bool
+    ensures { result ≡ is_change (view value.now) }
+{
+    has_form(change_keys(), value)
+}
+
+#[tactic(auto, unfolding(irig_forms::specs::Fields::each_item), using(crate::proofs::ListLaws::all_changes))]
+fn are_changes(value: &Value) -> bool
+    ensures { result ≡ each_item (codes "changes") is_change (view value.now) }
+{
+    all_changes(items_at(value, "changes").unwrap_or(&[]))
+}
+
+fn all_changes(values: &[Value]) -> bool
+    ensures { result ≡ list_all (λ v. is_change (view v)) values.now }
+{
+    values.iter().all(is_change)
+}
+
+#[tactic(auto, unfolding(crate::specs::PlantShape::is_generator))]
+fn is_generator(value: &Value) -> bool
+    ensures { result ≡ is_generator (view value.now) }
+{
+    has_form(generator_keys(), value) && are_changes(value)
+}
+
+#[tactic(auto, unfolding(irig_forms::specs::Fields::each_item), using(crate::proofs::ListLaws::all_generators))]
+fn are_generators(value: &Value) -> bool
+    ensures { result ≡ each_item (codes "generators") is_generator (view value.now) }
+{
+    all_generators(items_at(value, "generators").unwrap_or(&[]))
+}
+
+fn all_generators(values: &[Value]) -> bool
+    ensures { result ≡ list_all (λ v. is_generator (view v)) values.now }
+{
+    values.iter().all(is_generator)
+}
+
+#[tactic(auto, unfolding(crate::specs::PlantShape::is_table))]
+fn is_table(value: &Value) -> bool
+    ensures { result ≡ is_table (view value.now) }
+{
+    has_form(table_keys(), value) && are_leaps(value)
+}
+
+#[tactic(auto, unfolding(crate::specs::PlantShape::is_reader))]
+fn is_reader(version: Version, value: &Value) -> bool
+    ensures { result ≡ is_reader version (view value.now) }
+{
+    has_form(reader_keys(version), value) && value.get("table").is_none_or(is_table)
+}
+
+#[tactic(auto, unfolding(irig_forms::specs::Fields::each_item), using(crate::proofs::ListLaws::all_readers))]
+fn are_readers(version: Version, value: &Value) -> bool
+    ensures { result ≡ each_item (codes "readers") (is_reader version) (view value.now) }
+{
+    all_readers(version, items_at(value, "readers").unwrap_or(&[]))
+}
+
+fn all_readers(version: Version, values: &[Value]) -> bool
+    ensures { result ≡ list_all (λ v. is_reader version (view v)) values.now }
+{
+    values.iter().all(|value| is_reader(version, value))
+}
+
+#[tactic(auto, unfolding(crate::specs::PlantShape::is_plant))]
+pub(crate) fn is_plant(version: Version, value: &Value) -> bool
+    ensures { result ≡ is_plant version (view value.now) }
+{
+    has_form(plant_keys(), value)
+        && are_leaps(value)
+        && are_generators(value)
+        && are_readers(version, value)
+}

@@ -1,0 +1,5 @@
+use Rattle.irig_scene.specs.PlayerRuns.{past}
+use Rattle.irig_scene.proofs.player.Player.audit.Goals as goal
+
+pub returns : goal.returns
+returns g c = λ x at. c.audit.ensures (past x) at.plant

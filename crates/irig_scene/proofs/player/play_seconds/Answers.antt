@@ -1,0 +1,32 @@
+use Rattle.std.proofs.Common.{rules}
+use Rattle.std.proofs.lemmas.Result.{err_from_is_err_and}
+use Rattle.irig_scene.specs.PlayerRuns.{after_events}
+use Rattle.irig_scenario.specs.WholeSecond.{times}
+use Rattle.irig_scene.proofs.SecondsPlayed.{no_second, second_goes, second_stops, second_fails}
+use Rattle.irig_scene.proofs.player.play_seconds.Goals as goal
+
+pub returns-in_err-refusal-clause-fails : goal.returns-in_err-refusal-clause-fails
+returns-in_err-refusal-clause-fails g c =
+    let p = err_from_is_err_and c.from_residual.result c.from_residual.ensures.1 in
+    rw (p.1, p.2) (λ x at names.
+    let was = c.loop.invariant.1 x at names in
+    let failed = c.in_err-refusal.ensures.fails (after_events x (times c.loop.counter c.args.second.now)) was.stands names in
+    (failed.0, second_fails x _ _ _ _ _ _ _ _ c.loop-test.true was failed.1))
+
+pub returns-then-is_some-clause-plays : goal.returns-then-is_some-clause-plays
+returns-then-is_some-clause-plays g c = λ x at names.
+    let was = c.loop.invariant.1 x at names in
+    second_stops x _ _ _ _ _ _ _ _ _ _ c.loop-test.true (search rules) was
+    (c.in_ok-refusal.ensures.plays (after_events x (times c.loop.counter c.args.second.now)) was.stands names)
+
+pub loop-preserved : goal.loop-preserved
+loop-preserved g c = (
+  search rules,
+  λ x at names.
+      let was = c.loop.invariant.1 x at names in
+      second_goes x _ _ _ _ _ _ _ _ _ (search rules) was
+      (c.in_ok-refusal.ensures.plays (after_events x (times c.loop.counter c.args.second.now)) was.stands names),
+)
+
+pub loop-init : goal.loop-init
+loop-init g c = (search rules, λ x at names. no_second x c.args.second.now _ _ _ at)

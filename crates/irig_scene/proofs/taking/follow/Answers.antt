@@ -1,5 +1,0 @@
-use Rattle.irig_scene.proofs.TakingLaws.{memory_following}
-use Rattle.irig_scene.proofs.taking.follow.Goals as goal
-
-pub returns-in-Err-Memory-clause-fails : goal.returns-in-Err-Memory-clause-fails
-returns-in-Err-Memory-clause-fails g c = λ x stands. memory_following _ x _ _

@@ -1,0 +1,248 @@
+//! One line of a scenario: it is read, it does what it says, and what it gives is written.
+
+ghost use Rattle.std.specs.Prelude.{◌≡◌, ◌≤◌, ◌<◌, IfOk, IfErr, OnErr, None, Err, true, length, ◌||◌};
+ghost use Rattle.irig_device.specs.Watched.{device_of, has_failed};
+ghost use Rattle.irig_scene.specs.Faults.{IsFaultOfReading, says_write, is_write_fault};
+ghost use Rattle.irig_scene.specs.Lines.{GivesLine, GivesPart, is_blank, limit_of, HasNoNewline};
+ghost use Rattle.irig_scene.specs.LineRuns.{
+  Begins,
+  Takes,
+  FailsTaking,
+  Follows,
+  FailsFollowing,
+  Finishes,
+  RunsLast,
+  WroteRefusal,
+  too_long,
+};
+
+use crate::fault::SceneFault;
+use crate::log_writer::LogWriter;
+use crate::outcome::Outcome;
+use crate::player::Player;
+use irig_device::Watched;
+use irig_forms::{LineFault, Refusal};
+use irig_port::Port;
+use irig_scenario::{event_of_line, plant_of_line};
+use std::alloc::Global;
+use std::io::{BufRead, Write};
+
+// The last line that is run.
+const MAX_LINES: u64 = 1_000_000;
+
+// The longest line that is run, in bytes without its newline.
+const MAX_LINE: usize = 65536;
+
+/// How a line ends.
+#[derive(Clone, Copy, Debug, PartialEq, Eq)]
+pub(crate) enum LineEnd {
+    /// With its newline.
+    Newline,
+    /// With the input.
+    EndOfInput,
+    /// It doesn't: it was read no further than to see that it is too long.
+    TooLong,
+}
+
+/// How many bytes of a line are read at most before it is known to be refused.
+pub(crate) fn limit_of(number: u64) -> usize
+    ensures { result ≡ limit_of number }
+{
+    if number > MAX_LINES { 0 } else { MAX_LINE }
+}
+
+/// Reads the next line into `line`, without its newline and byte by byte, no further than to its
+/// newline or one byte above the limit.
+pub(crate) fn read_line<R: BufRead>(
+    input: &mut Watched<R>,
+    limit: usize,
+    line: &mut Vec<u8>,
+) -> Result<LineEnd, SceneFault>
+    ensures line { IfOk result (λ end. GivesLine end limit line.new.items
+        (R.remaining (device_of input.old)) (R.remaining (device_of input.new))) }
+    ensures part { OnErr result
+        (GivesPart (R.remaining (device_of input.old)) (R.remaining (device_of input.new))) }
+    ensures fault { IfErr result IsFaultOfReading }
+    ensures note { result ≡ Err SceneFault.Read → has_failed input.new ≡ true }
+{
+    line.clear();
+    loop {
+        let next = match input.read_byte() {
+            Ok(next) => next,
+            Err(_) => return Err(SceneFault::Read),
+        };
+        match next {
+            None => return Ok(LineEnd::EndOfInput),
+            Some(b'\n') => return Ok(LineEnd::Newline),
+            Some(byte) => {
+                if line.push(byte).is_err() {
+                    return Err(SceneFault::Memory);
+                }
+            }
+        }
+        if line.len() > limit {
+            return Ok(LineEnd::TooLong);
+        }
+    }
+}
+
+/// Takes a line that isn't too long, and writes what it gives; answers its refusal.
+#[tactic(auto, unfolding(crate::specs::Scene::step))]
+pub(crate) fn take_line<P: Port, W: Write>(
+    alloc: Global,
+    player: &mut Option<Player<P>>,
+    number: u64,
+    line: &[u8],
+    log: LogWriter,
+    output: &mut Watched<W>,
+) -> Result<Option<Refusal>, SceneFault>
+    requires { length line.now ≤ 65536 }
+    ensures takes { IfOk result (λ refusal.
+        Takes player.old number line.now log.all player.new refusal
+        (W.contents (device_of output.old)) (W.contents (device_of output.new))) }
+    ensures fails { IfErr result (λ fault. FailsTaking player.old number line.now log.all fault
+        (W.contents (device_of output.old)) (W.contents (device_of output.new))) }
+    ensures number { IfOk result (λ refusal. refusal ≡ None → number ≤ 1000000) }
+    ensures note { has_failed output.new ≡ (has_failed output.old || says_write result) }
+{
+    if number > MAX_LINES {
+        return Ok(Some(Refusal::TooManyLines));
+    }
+    if is_blank(line) {
+        return Ok(None);
+    }
+    match player {
+        Some(player) => follow(alloc, player, line, log, output),
+        None => match begin(alloc, line) {
+            Ok(begun) => {
+                *player = Some(begun);
+                Ok(None)
+            }
+            Err(LineFault::Refused(refusal)) => Ok(Some(refusal)),
+            Err(LineFault::Memory) => Err(SceneFault::Memory),
+        },
+    }
+}
+
+fn is_blank(line: &[u8]) -> bool
+    ensures { result ≡ is_blank line.now }
+{
+    line.iter()
+        .all(|byte| *byte == b' ' || *byte == b'\t' || *byte == b'\r')
+}
+
+// The player that a plant line gives.
+fn begin<P: Port>(alloc: Global, line: &[u8]) -> Result<Player<P>, LineFault>
+    ensures { Begins line.now result }
+{
+    let plant = plant_of_line(alloc, line)?;
+    match Player::new(alloc, plant) {
+        Ok(player) => Ok(player),
+        Err(_) => Err(LineFault::Memory),
+    }
+}
+
+// Does what a further line asks for, and writes what the readers said; answers its refusal.
+fn follow<P: Port, W: Write>(
+    alloc: Global,
+    player: &mut Player<P>,
+    line: &[u8],
+    log: LogWriter,
+    output: &mut Watched<W>,
+) -> Result<Option<Refusal>, SceneFault>
+    ensures follows { IfOk result (λ refusal.
+        Follows player.old line.now log.all player.new refusal
+        (W.contents (device_of output.old)) (W.contents (device_of output.new))) }
+    ensures fails { IfErr result (λ fault. FailsFollowing player.old line.now log.all fault
+        (W.contents (device_of output.old)) (W.contents (device_of output.new))) }
+    ensures note { has_failed output.new ≡ (has_failed output.old || says_write result) }
+{
+    match event_of_line(alloc, player.names(), line) {
+        Ok(command) => player.act(command, log, output),
+        Err(LineFault::Refused(refusal)) => Ok(Some(refusal)),
+        Err(LineFault::Memory) => Err(SceneFault::Memory),
+    }
+}
+
+/// Writes the refusal of a line, and answers it.
+pub(crate) fn refuse<W: Write>(
+    number: u64,
+    refusal: Refusal,
+    log: LogWriter,
+    output: &mut Watched<W>,
+) -> SceneFault
+    ensures wrote { WroteRefusal result number refusal
+        (W.contents (device_of output.old)) (W.contents (device_of output.new)) }
+    ensures note { has_failed output.new ≡ (has_failed output.old || is_write_fault result) }
+{
+    match log.write_refusal(number, refusal, output) {
+        Ok(()) => SceneFault::Refused {
+            line: number,
+            number: refusal.number(),
+        },
+        Err(fault) => fault,
+    }
+}
+
+/// The refusal of a line that is longer than its limit.
+pub(crate) fn too_long(number: u64) -> Refusal
+    ensures { result ≡ too_long number }
+{
+    if number > MAX_LINES {
+        Refusal::TooManyLines
+    } else {
+        Refusal::TooLong
+    }
+}
+
+/// Takes the line with which the input ended, if it has any bytes, and writes the last line of the
+/// text.
+pub(crate) fn run_last<P: Port, W: Write>(
+    alloc: Global,
+    player: &mut Option<Player<P>>,
+    number: u64,
+    line: &[u8],
+    log: LogWriter,
+    output: &mut Watched<W>,
+) -> Result<Outcome, SceneFault>
+    requires length { length line.now ≤ 65536 }
+    requires whole { HasNoNewline line.now }
+    requires number { 1 ≤ number }
+    requires few { number ≤ 1000001 }
+    ensures runs { RunsLast player.old number line.now log.all result
+        (W.contents (device_of output.old)) (W.contents (device_of output.new)) }
+    ensures note { has_failed output.new ≡ (has_failed output.old || says_write result) }
+{
+    if line.is_empty() {
+        return finish(player, number, log, output);
+    }
+    if let Some(refusal) = take_line(alloc, player, number, line, log, output)? {
+        return Err(refuse(number, refusal, log, output));
+    }
+    finish(player, number + 1, log, output)
+}
+
+// Writes the last line of the text, where the input ended before this line.
+fn finish<P: Port, W: Write>(
+    player: &Option<Player<P>>,
+    number: u64,
+    log: LogWriter,
+    output: &mut Watched<W>,
+) -> Result<Outcome, SceneFault>
+    requires number { 1 ≤ number }
+    ensures finishes { Finishes player.now number log.all result
+        (W.contents (device_of output.old)) (W.contents (device_of output.new)) }
+    ensures note { has_failed output.new ≡ (has_failed output.old || says_write result) }
+{
+    match player {
+        None => Err(refuse(number, Refusal::NoPlant, log, output)),
+        Some(player) => {
+            let audit = player.audit();
+            log.write_audit(player.names(), audit, output)?;
+            Ok(Outcome {
+                lines: number - 1,
+                audit,
+            })
+        }
+    }
+}

@@ -1,0 +1,184 @@
+//! A plant that plays the events of lines.
+
+ghost use Rattle.std.specs.Prelude.{◌≡◌, ◌≤◌, [], IfOk, IfErr, length, map, string_bytes, ◌||◌};
+ghost use Rattle.irig_device.specs.Watched.{device_of, has_failed};
+ghost use Rattle.irig_scenario.specs.WholeSecond.{times};
+ghost use Rattle.irig_scene.specs.Faults.{says_write};
+ghost use Rattle.irig_scene.specs.Scene.{refusal_as};
+ghost use Rattle.irig_scene.specs.PlayerRuns.{Runs, Plays, FailsPlaying};
+
+use crate::fault::SceneFault;
+use crate::log_writer::LogWriter;
+use indexmap::IndexSet;
+use irig_device::Watched;
+use irig_forms::Refusal;
+use irig_plant::{Audit, Event, Plant, PlantFault};
+use irig_port::Port;
+use irig_scenario::{BuiltPlant, Command, second_of};
+use std::alloc::Global;
+use std::io::Write;
+
+/// A plant, its readers' names, and the events of a whole second of it.
+#[derive(Drop)]
+pub(crate) struct Player<P: Port> {
+    plant: Plant<P>,
+    names: IndexSet<String>,
+    second: Vec<Event>,
+    ghost few: { length names.keys ≤ 16 },
+}
+
+impl<P: Port> Player<P> {
+    ghost use Rattle.std.specs.Prelude.{vec_len};
+    ghost use Rattle.irig_plant.specs.History.{AreGenerators, AreReaders};
+    ghost use Rattle.irig_scenario.specs.PlantLine.{plan_of};
+    ghost use Rattle.irig_scene.specs.Scene.{Scene as SceneOf, scene, audit_in};
+    ghost use Rattle.irig_scene.specs.LineRuns.{IsPlayerAt, Acts, Fails};
+
+    /// The player of a plant to which nothing has happened.
+    pub(crate) fn new(alloc: Global, line: BuiltPlant) -> Result<Player<P>, SceneFault>
+        requires generators { AreGenerators line.rules line.generators.items }
+        requires readers { AreReaders line.readers.items }
+        requires names { length line.names.keys ≡ vec_len line.readers }
+        ensures stands { IfOk result (λ player. IsPlayerAt player (scene (plan_of line) [])) }
+        ensures memory { IfErr result (λ fault. fault ≡ SceneFault.Memory) }
+    {
+        let BuiltPlant {
+            timeline,
+            generators,
+            rules,
+            readers,
+            names,
+        } = line;
+        let second = second_of(alloc, generators.len() as u8, readers.len() as u8);
+        let plant = Plant::new(alloc, timeline, generators, rules, &readers);
+        match (plant, second) {
+            (Ok(plant), Ok(second)) => Ok(Player {
+                plant,
+                names,
+                second,
+            }),
+            _ => Err(SceneFault::Memory),
+        }
+    }
+
+    /// The readers' names, in order.
+    pub(crate) fn names(&self) -> &IndexSet<String>
+        ensures names { result.now ≡ self.now.names }
+        ensures few { length result.now.keys ≤ 16 }
+    {
+        &self.names
+    }
+
+    /// The audit so far.
+    pub(crate) fn audit(&self) -> Audit
+        ensures { (x : SceneOf) → IsPlayerAt self.now x → result ≡ audit_in x }
+    {
+        self.plant.audit()
+    }
+
+    /// Does what a line asks for, up to an event that is refused, and writes what the readers said;
+    /// answers the refusal.
+    pub(crate) fn act<W: Write>(
+        &mut self,
+        command: Command,
+        log: LogWriter,
+        output: &mut Watched<W>,
+    ) -> Result<Option<Refusal>, SceneFault>
+        ensures acts { IfOk result (λ refusal. Acts self.old command log.all self.new refusal
+            (W.contents (device_of output.old)) (W.contents (device_of output.new))) }
+        ensures fails { IfErr result (λ fault. Fails self.old command log.all fault
+            (W.contents (device_of output.old)) (W.contents (device_of output.new))) }
+        ensures note { has_failed output.new ≡ (has_failed output.old || says_write result) }
+    {
+        match command {
+            Command::Event(event) => play(&mut self.plant, &self.names, &[event], log, output),
+            Command::Seconds(count) => play_seconds(
+                &mut self.plant,
+                &self.names,
+                &self.second,
+                count,
+                log,
+                output,
+            ),
+        }
+    }
+}
+
+// The refusal of an event; want of memory is none.
+fn refusal_as(fault: PlantFault) -> Option<Refusal>
+    ensures { result ≡ refusal_as fault }
+{
+    match fault {
+        PlantFault::NoSuchReader => Some(Refusal::NoSuchReader),
+        PlantFault::NoSuchGenerator => Some(Refusal::NoSuchGenerator),
+        PlantFault::FutureReplay => Some(Refusal::FutureReplay),
+        PlantFault::EndOfYears => Some(Refusal::EndOfYears),
+        PlantFault::Memory => None,
+    }
+}
+
+// Runs events up to the first that is refused, and answers its refusal.
+fn run<P: Port>(plant: &mut Plant<P>, events: &[Event]) -> Result<Option<Refusal>, SceneFault>
+    ensures runs { IfOk result (Runs plant.old events.now plant.new) }
+    ensures memory { IfErr result (λ fault. fault ≡ SceneFault.Memory) }
+{
+    match plant.run(events) {
+        Ok(()) => Ok(None),
+        Err(refused) => match refusal_as(refused.fault) {
+            Some(refusal) => Ok(Some(refusal)),
+            None => Err(SceneFault::Memory),
+        },
+    }
+}
+
+// Plays events up to the first that is refused, and writes what the readers said; answers the
+// refusal.
+fn play<P: Port, W: Write>(
+    plant: &mut Plant<P>,
+    names: &IndexSet<String>,
+    events: &[Event],
+    log: LogWriter,
+    output: &mut Watched<W>,
+) -> Result<Option<Refusal>, SceneFault>
+    ensures plays { IfOk result (λ refusal.
+        Plays plant.old (map string_bytes names.now.keys) events.now log.all plant.new refusal
+        (W.contents (device_of output.old)) (W.contents (device_of output.new))) }
+    ensures fails { IfErr result (λ fault.
+        FailsPlaying plant.old (map string_bytes names.now.keys) events.now log.all fault
+        (W.contents (device_of output.old)) (W.contents (device_of output.new))) }
+    ensures note { has_failed output.new ≡ (has_failed output.old || says_write result) }
+{
+    let refusal = run(plant, events)?;
+    log.write_entries(names, plant.log(), output)?;
+    plant.clear_log();
+    Ok(refusal)
+}
+
+// Plays so many whole seconds, up to an event that is refused, and writes what the readers said
+// after each second; answers the refusal.
+fn play_seconds<P: Port, W: Write>(
+    plant: &mut Plant<P>,
+    names: &IndexSet<String>,
+    second: &[Event],
+    count: u32,
+    log: LogWriter,
+    output: &mut Watched<W>,
+) -> Result<Option<Refusal>, SceneFault>
+    ensures plays { IfOk result (λ refusal.
+        Plays plant.old (map string_bytes names.now.keys)
+        (times count second.now) log.all plant.new refusal
+        (W.contents (device_of output.old)) (W.contents (device_of output.new))) }
+    ensures fails { IfErr result (λ fault.
+        FailsPlaying plant.old (map string_bytes names.now.keys)
+        (times count second.now) log.all fault
+        (W.contents (device_of output.old)) (W.contents (device_of output.new))) }
+    ensures note { has_failed output.new ≡ (has_failed output.old || says_write result) }
+{
+    for _ in 0..count {
+        let refusal = play(plant, names, second, log, output)?;
+        if refusal.is_some() {
+            return Ok(refusal);
+        }
+    }
+    Ok(None)
+}

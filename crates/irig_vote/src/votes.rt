@@ -1,0 +1,54 @@
+//! The vote.
+
+ghost use Rattle.std.specs.Prelude.{◌≡◌, ◌↔◌, ◌+◌, ◌-◌, ◌*◌, ◌<◌, ◌≤◌, Some, length};
+ghost use Rattle.irig_time.specs.declared.claim.Claim.{Claim};
+ghost use Rattle.irig_vote.specs.Vote.{is_told, carriers, f_of, first_told, ports_of, vote_of};
+
+use crate::redundancy::Redundancy;
+use crate::tells::Tells;
+use irig_port::Told;
+use irig_time::Claim;
+
+/// The claim that f + 1 ports tell, second and mark both: two of `a`, `b`, `c` under `Three`, three
+/// of all five under `Five`. None where there is no such claim.
+#[tactic(auto, unfolding(crate::specs::Vote::vote_of))]
+pub fn vote(tells: &Tells, redundancy: Redundancy) -> Option<Claim>
+    ensures value { result ≡ vote_of tells.now redundancy }
+    ensures counts { (claim : Claim) → (result ≡ Some claim)
+        ↔ (f_of redundancy + 1 ≤ carriers claim (ports_of tells.now redundancy)) }
+{
+    match redundancy {
+        Redundancy::Three => claim_told_by(2, &[tells.a, tells.b, tells.c]),
+        Redundancy::Five => claim_told_by(3, &[tells.a, tells.b, tells.c, tells.d, tells.e]),
+    }
+}
+
+/// The claim that at least `enough` of the ports tell, where that is more than half of them.
+fn claim_told_by(enough: usize, ports: &[Told]) -> Option<Claim>
+    requires { length ports.now < 2 * enough }
+    ensures value { result ≡ first_told (enough - 1) ports.now ports.now }
+    ensures counts { (claim : Claim)
+        → (result ≡ Some claim) ↔ (enough ≤ carriers claim ports.now) }
+{
+    for told in ports {
+        let Told::Claim(claim) = told else {
+            continue;
+        };
+        if carriers(claim, ports) >= enough {
+            return Some(*claim);
+        }
+    }
+    None
+}
+
+fn carriers(claim: &Claim, ports: &[Told]) -> usize
+    ensures { result ≡ carriers claim.now ports.now }
+{
+    ports.iter().filter(|told| tells_claim(told, claim)).count()
+}
+
+fn tells_claim(told: &Told, claim: &Claim) -> bool
+    ensures { result ≡ is_told claim.now told.now }
+{
+    *told == Told::Claim(*claim)
+}

@@ -1,0 +1,35 @@
+//! A scenario over ports that keep each symbol, in place of those that keep running sums.
+//!
+//! It runs the scenario on standard input and writes its log to standard output; with a word on the
+//! command line it shows silent entries too. What it writes has to be what the program `irig` writes, as
+//! the repository's `check` compares for each case.
+#![tactic(auto)]
+
+#[cfg(test)]
+mod tests;
+
+use irig_device::Watched;
+use irig_port::WholePort;
+use irig_scene::{SceneFault, run_scene_over};
+use std::io::BufReader;
+use std::process::ExitCode;
+use std::{env, io};
+
+fn run(rt: &HostRuntime) -> io::Result<u8> {
+    let alloc = rt.alloc();
+    let words: Vec<String> = env::args(rt)?.collect(alloc)?;
+    let mut input = Watched::new(BufReader::new(alloc, rt.reader())?);
+    let mut output = Watched::new(io::writer(rt));
+    let answer = run_scene_over::<WholePort, _, _>(alloc, &mut input, &mut output, words.len() > 1);
+    Ok(match answer {
+        Ok(_) => 0,
+        Err(SceneFault::Refused { .. }) => 3,
+        Err(SceneFault::Read) => 4,
+        Err(SceneFault::Write) => 5,
+        Err(SceneFault::Memory) => 6,
+    })
+}
+
+fn main(rt: HostRuntime) -> ExitCode {
+    ExitCode::from(run(&rt).unwrap_or(6))
+}
