@@ -2,22 +2,15 @@
 //! share of the ticks and edges of a second.
 
 ghost use Rattle.std.specs.Prelude.{IfSome};
-ghost use Rattle.irig_plant.specs.History.{AreGenerators, AreReaders};
+ghost use Rattle.irig_plant.specs.History.{AreReaders};
 
-use irig_control::Parity;
-use irig_gen::{Generator, Zone};
 use irig_plant::{Event, Plant, ReaderSetup};
 use irig_port::FlowPort;
 use irig_reader::ReaderRules;
-use irig_time::{LeapTable, Rules, SbsUse, Sense, Timeline, UtcSecond};
+use irig_time::{LeapTable, Timeline, UtcSecond};
+use irig_uses::plants::plain_plant;
 use std::alloc::Global;
 use std::io;
-
-const RULES: Rules = Rules {
-    parity: Parity::Even,
-    sense: Sense::Add,
-    sbs: SbsUse::Check,
-};
 
 /// Plays whole seconds of 4,800 pulses, and counts those in which each reader has its entry.
 pub fn run(rt: &HostRuntime, count: u32) -> io::Result<u64> {
@@ -49,24 +42,8 @@ fn plays_a_second(plant: &mut Plant<FlowPort>) {
 fn plant(alloc: Global) -> Option<Plant<FlowPort>> {
     let start = UtcSecond { day: 366, sod: 0 };
     let timeline = Timeline::new(alloc, start, &[]).ok()?;
-    let generators = three_generators(alloc, RULES)?;
     let readers = sixteen_readers(alloc)?;
-    Plant::new(alloc, timeline, generators, RULES, readers.as_slice()).ok()
-}
-
-fn three_generators(alloc: Global, rules: Rules) -> Option<Vec<Generator>>
-    ensures { IfSome result (λ generators. AreGenerators rules generators.items) }
-{
-    let zone = Zone {
-        half_hours: 0,
-        dst: false,
-    };
-    let mut generators = Vec::new(alloc);
-    for _ in 0..3usize {
-        let generator = Generator::new(alloc, zone, &[], rules).ok()?;
-        generators.push(generator).ok()?;
-    }
-    Some(generators)
+    plain_plant(alloc, timeline, readers.as_slice())
 }
 
 fn sixteen_readers(alloc: Global) -> Option<Vec<ReaderSetup>>

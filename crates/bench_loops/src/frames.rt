@@ -1,8 +1,7 @@
 //! `Generator::frame_at`, over a timeline with one leap second and a zone with one change.
 
-use irig_control::Parity;
 use irig_gen::{Change, Generator, Zone};
-use irig_time::{Leap, Rules, SbsUse, Sense, Timeline, UtcSecond};
+use irig_time::{Leap, Rules, Timeline, UtcSecond};
 use std::alloc::Global;
 use std::io;
 
@@ -36,11 +35,6 @@ fn plant(alloc: Global) -> Option<(Timeline, Generator)> {
         at: UtcSecond { day: 6211, sod: 0 },
         zone,
     };
-    let rules = Rules {
-        parity: Parity::Even,
-        sense: Sense::Add,
-        sbs: SbsUse::Check,
-    };
-    let generator = Generator::new(alloc, zone, &[change], rules).ok()?;
+    let generator = Generator::new(alloc, zone, &[change], Rules::PLAIN).ok()?;
     Some((timeline, generator))
 }

@@ -1,18 +1,13 @@
 //! `Port::pulse`, of a port that is fed true frames; one turn is one pulse.
 
-use irig_control::Parity;
 use irig_frame::{Coded, Symbol, encode};
 use irig_port::{Port, Told};
-use irig_time::{Rules, SbsUse, Sense};
+use irig_time::Rules;
 
 /// Feeds a port a frame of 100 pulses again and again, with an edge after each.
 pub fn run<P: Port>(count: u32) -> u64 {
     let widths = widths();
-    let mut port = P::fresh(Rules {
-        parity: Parity::Even,
-        sense: Sense::Add,
-        sbs: SbsUse::Check,
-    });
+    let mut port = P::fresh(Rules::PLAIN);
     let mut sum = 0u64;
     for _ in 0..count / 100 {
         for width_us in widths {
@@ -29,7 +24,7 @@ fn claims_told(told: Told) -> u64 {
 
 // The pulses of the frame of 2000-01-03T00:00:00Z, in microseconds.
 fn widths() -> [u32; 100] {
-    let frame = encode(&Coded {
+    let coded = Coded {
         second: 0,
         minute: 0,
         hour: 0,
@@ -37,11 +32,6 @@ fn widths() -> [u32; 100] {
         year: 0,
         control: 0,
         sbs: 0,
-    });
-    frame.map(|symbol| match symbol {
-        Symbol::Zero => 2000,
-        Symbol::One => 5000,
-        Symbol::Marker => 8000,
-        Symbol::Bad => 0,
-    })
+    };
+    encode(&coded).map(Symbol::width_us)
 }

@@ -1,4 +1,5 @@
 pub mod ControlLaws
+pub mod OnesLaws
 pub mod ParityLaws
 pub mod ParityKeeps
 pub mod StandardFacts

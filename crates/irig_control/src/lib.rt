@@ -16,6 +16,3 @@ mod parity;
 pub use control::{Control, in_range, pack, unpack};
 pub use laws::{inverses, parity_keeps, with_parity_is};
 pub use parity::{Parity, parity_ok, set_parity};
-
-#[cfg(test)]
-mod tests;

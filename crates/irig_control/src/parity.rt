@@ -1,9 +1,10 @@
 //! The parity of a frame.
 
-ghost use Rattle.std.specs.Prelude.{◌≡◌, ◌<◌, Bool, slice_set};
-ghost use Rattle.irig_control.specs.Parity.{is_counted, ones, remainder_of, has_parity, HasParity, data_symbol};
+ghost use Rattle.std.specs.Prelude.{◌≡◌, ◌≤◌, Bool, Some, count_by, length, slice_set};
+ghost use Rattle.irig_frame.specs.Values.{is_one};
+ghost use Rattle.irig_control.specs.Parity.{ones, remainder_of, has_parity, HasParity, data_symbol};
 
-use irig_frame::{Symbol, is_marker_place};
+use irig_frame::Symbol;
 
 /// Whether the ones that the parity counts are even or odd in number.
 ///
@@ -50,16 +51,28 @@ pub fn set_parity(frame: &mut [Symbol; 100], parity: Parity)
     }
 }
 
-#[tactic(auto, unfolding(crate::specs::Parity::ones))]
+// Between the marker places, so that no element is asked whether it is one.
+
 fn ones_in(frame: &[Symbol; 100]) -> usize
     ensures { result ≡ ones frame.now }
 {
-    (1..76).filter(|element| counts(frame, *element)).count()
+    count_ones(&frame[1..9])
+        + count_ones(&frame[10..19])
+        + count_ones(&frame[20..29])
+        + count_ones(&frame[30..39])
+        + count_ones(&frame[40..49])
+        + count_ones(&frame[50..59])
+        + count_ones(&frame[60..69])
+        + count_ones(&frame[70..76])
 }
 
-fn counts(frame: &[Symbol; 100], element: usize) -> bool
-    requires { element < 100 }
-    ensures { result ≡ is_counted frame.now element }
+fn count_ones(symbols: &[Symbol]) -> usize
+    ensures count { result ≡ count_by (λ s. is_one (Some s)) symbols.now }
+    ensures bounded { result ≤ length symbols.now }
 {
-    !is_marker_place(element) && frame[element] == Symbol::One
+    let mut count = 0;
+    for symbol in symbols {
+        count += usize::from(*symbol == Symbol::One);
+    }
+    count
 }

@@ -1,2 +1,3 @@
 pub mod Watched
 pub mod Fuse
+pub mod Lines

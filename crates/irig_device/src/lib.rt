@@ -2,10 +2,12 @@
 //! tests that fail or never end.
 #![tactic(auto)]
 
+mod line;
 mod test_devices;
 #[cfg(test)]
 mod tests;
 mod watched;
 
+pub use line::{LineEnd, ReadFault};
 pub use test_devices::{Break, Endless, Fuse};
 pub use watched::{DeviceFault, Watched};

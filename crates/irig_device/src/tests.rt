@@ -1,4 +1,4 @@
-use crate::{Break, DeviceFault, Endless, Fuse, Watched};
+use crate::{Break, DeviceFault, Endless, Fuse, LineEnd, ReadFault, Watched};
 
 const BREAKS: [Break; 3] = [Break::Fail, Break::Interrupt, Break::Nothing];
 
@@ -65,5 +65,51 @@ fn an_endless_reader_goes_on(rt: HostRuntime) {
     let mut input = Watched::new(Endless(5));
     for _ in 0..100_000 {
         assert_eq!(rt; input.read_byte(), Ok(Some(5)));
+    }
+}
+
+#[test]
+fn a_line_goes_to_its_newline_or_its_limit_or_the_end(rt: HostRuntime) {
+    let mut input = Watched::new(b"abc\n\nabcd\nab".as_slice());
+    let mut line = Vec::new(rt.alloc());
+    let rows = [
+        (LineEnd::Newline, "abc"),
+        (LineEnd::Newline, ""),
+        (LineEnd::TooLong, "abcd"),
+        (LineEnd::Newline, ""),
+        (LineEnd::EndOfInput, "ab"),
+        (LineEnd::EndOfInput, ""),
+    ];
+    for (end, expected) in rows {
+        assert_eq!(rt; input.read_line(3, &mut line), Ok(end));
+        assert_eq!(rt; line.as_slice(), expected.as_bytes());
+    }
+    assert!(rt; !input.failed());
+}
+
+#[test]
+fn a_line_past_the_fuse_fails(rt: HostRuntime) {
+    let mut line = Vec::new(rt.alloc());
+    for how in BREAKS {
+        let mut input = Watched::new(Fuse::new(b"ab\ncd\n".as_slice(), 1, how));
+        assert_eq!(rt; input.read_line(9, &mut line), Ok(LineEnd::Newline));
+        assert!(rt; !input.failed());
+        assert_eq!(rt; input.read_line(9, &mut line), Err(ReadFault::Device));
+        assert!(rt; input.failed());
+    }
+}
+
+#[test]
+fn a_line_that_is_too_long_takes_no_more_calls_than_bytes(rt: HostRuntime) {
+    let mut line = Vec::new(rt.alloc());
+    for how in BREAKS {
+        for limit in 0..50usize {
+            let calls = limit as u64 + 1;
+            let mut input = Watched::new(Fuse::new(Endless(5), calls, how));
+            assert_eq!(rt; input.read_line(limit, &mut line), Ok(LineEnd::TooLong));
+            assert_eq!(rt; line.len(), limit + 1);
+            let mut input = Watched::new(Fuse::new(Endless(5), calls - 1, how));
+            assert_eq!(rt; input.read_line(limit, &mut line), Err(ReadFault::Device));
+        }
     }
 }

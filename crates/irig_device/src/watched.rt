@@ -2,8 +2,10 @@
 
 ghost use Rattle.std.specs.Prelude.{◌≡◌, ◌<◌, ◌≤◌, ◌||◌, false, length, take, option_to_list, None, IfOk, OnErr, OnOk, is_err};
 ghost use Rattle.std.specs.Io.KnownBytes.{Appends, Consumes, IsAtEnd, Keeps};
+ghost use Rattle.irig_device.specs.Lines.{GivesLine, GivesPart, says_device};
 ghost use Rattle.irig_device.specs.Watched.{AppendsPart, device_of, has_failed};
 
+use crate::line::{LineEnd, ReadFault, read_part};
 use std::io::{BufRead, Write};
 
 /// A reader or a writer, and a note that one of its calls failed. The calls of this crate alone
@@ -69,6 +71,28 @@ impl<R: BufRead> Watched<R> {
             Err(_) => {
                 self.is_noted = true;
                 Err(DeviceFault)
+            }
+        }
+    }
+
+    /// Reads the next line into `line`, without its newline, no further than to its newline or one
+    /// byte above the limit. At a fault of the device the note is set.
+    pub fn read_line(&mut self, limit: usize, line: &mut Vec<u8>) -> Result<LineEnd, ReadFault>
+        ensures line { IfOk result (λ end. GivesLine end limit line.new.items
+            (R.remaining (device_of self.old)) (R.remaining (device_of self.new))) }
+        ensures part { OnErr result
+            (GivesPart (R.remaining (device_of self.old)) (R.remaining (device_of self.new))) }
+        ensures note { has_failed self.new ≡ (has_failed self.old || says_device result) }
+    {
+        line.clear();
+        loop {
+            match read_part(&mut self.inner, limit, line) {
+                Ok(None) => {}
+                Ok(Some(end)) => return Ok(end),
+                Err(fault) => {
+                    self.is_noted |= fault == ReadFault::Device;
+                    return Err(fault);
+                }
             }
         }
     }

@@ -1,5 +1,5 @@
 -- What is asked at each key of a line.
-use Rattle.std.proofs.Common.{◌≡◌, ℕ, ◌&&◌, ◌||◌, Bool, List, [], ◌∷◌, String, string_bytes, map, refl, ap, sym, ◌∙◌}
+use Rattle.std.proofs.Common.{◌≡◌, ℕ, ◌&&◌, ◌||◌, List, [], ◌∷◌, String, string_bytes, map, refl, ap, sym, ◌∙◌}
 use Rattle.std.specs.List.{list_all, list_any}
 use Rattle.std.specs.Str.{bytes_eq}
 use Rattle.std.specs.declared.alloc.Global.{Global}
@@ -9,14 +9,8 @@ use Rattle.serde_json.specs.Data.{Data}
 use Rattle.serde_json.specs.Find.{get}
 use Rattle.irig_forms.specs.declared.key.Key.{Key}
 use Rattle.irig_forms.specs.Json.{keys_of, has_only}
-use Rattle.irig_forms.specs.Keys.{key_value, names_of, has_type, is_in_range, is_known}
-use Rattle.irig_forms.specs.Fields.{fits, each_passes}
-
--- all that is asked of values, by how far a loop over the keys has come: no type was wrong, and what is left is asked still
-pub record Passing (names : List (List ℕ)) (in_range known : Bool) (rest all : List Key) (d : Data) : Type 0 where
-  pub types : each_passes has_type (map key_value rest) d ≡ each_passes has_type (map key_value all) d
-  pub ranges : (in_range && each_passes is_in_range (map key_value rest) d) ≡ each_passes is_in_range (map key_value all) d
-  pub readers : (known && each_passes (is_known names) (map key_value rest) d) ≡ each_passes (is_known names) (map key_value all) d
+use Rattle.irig_forms.specs.Keys.{key_value, names_of}
+use Rattle.irig_forms.specs.Fields.{fits}
 
 any_named : (k : List ℕ) (keys : List Key) → list_any (λ n. bytes_eq n.name.now k) keys ≡ list_any (λ n. bytes_eq n k) (names_of (map key_value keys))
 any_named k [] = refl

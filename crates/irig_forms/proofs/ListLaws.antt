@@ -1,12 +1,11 @@
 -- Lists of JSON values and of their data.
-use Rattle.std.proofs.Common.{◌≡◌, ℕ, List, [], ◌∷◌, ◌&&◌, Bool, refl, ap, map, sym, is_some, length, nat_le}
-use Rattle.std.proofs.lemmas.List.{length-map}
+use Rattle.std.proofs.Common.{◌≡◌, List, [], ◌∷◌, ◌++◌, ◌&&◌, Bool, Option, option_map, refl, ap, map, is_some}
 use Rattle.std.specs.List.{list_all}
 use Rattle.serde_json.specs.Data.{Data}
 use Rattle.serde_json.specs.View.{view, items_of}
 use Rattle.serde_json.specs.declared.value.Value.{Value}
-use Rattle.irig_forms.specs.Json.{whole_of, list_of}
-use Rattle.irig_forms.specs.Keys.{natural_in, are_naturals}
+use Rattle.irig_forms.specs.Json.{whole_of, list_of, all_of}
+use Rattle.irig_forms.specs.Keys.{are_wholes}
 
 -- the data of a list in order
 pub list_of_items : (ds : List Data) → list_of (items_of ds) ≡ ds
@@ -18,10 +17,11 @@ pub all_of_map : (p : Data → Bool) (vs : List Value) → list_all (λ v. p (vi
 all_of_map p [] = refl
 all_of_map p (v ∷ vs) = ap (λ b. p (view v) && b) (all_of_map p vs)
 
-pub all_wholes : (vs : List Value) → list_all (λ v. is_some (whole_of (view v))) vs ≡ list_all (λ d. is_some (whole_of d)) (map view vs)
+pub all_wholes : (vs : List Value) → list_all (λ v. is_some (whole_of (view v))) vs ≡ are_wholes (map view vs)
 all_wholes vs = all_of_map (λ d. is_some (whole_of d)) vs
 
-pub few_naturals : (count most : ℕ) (vs : List Value)
-    → are_naturals count most (map view vs) ≡ (nat_le (length vs) count && list_all (λ v. is_some (natural_in most (view v))) vs)
-few_naturals count most vs =
-    rw (length-map vs view) (ap (λ b. nat_le (length vs) count && b) (sym (all_of_map (λ d. is_some (natural_in most d)) vs)))
+-- ---- a loop, by what it has and what is left
+
+-- `front` is done, and `rest` is left
+pub record Found {A : Type 0} (f : Data → Option A) (front : List A) (rest all : List Value) : Type 0 where
+  pub is : option_map (λ xs. front ++ xs) (all_of f (map view rest)) ≡ all_of f (map view all)

@@ -62,10 +62,6 @@ abbrev pub natural_within : ℕ → ℕ → ℤ → Option ℕ
 natural_within least most (pos n) = if nat_le least n && nat_le n most then Some n else None
 natural_within least most (negsuc n) = None
 
--- a number from 0 to the most
-abbrev pub natural_to : ℕ → ℤ → Option ℕ
-natural_to most z = natural_within 0 most z
-
 -- a number from the least to the most
 abbrev pub integer_within : ℤ → ℤ → ℤ → Option ℤ
 integer_within least most z = if int_le least z && int_le z most then Some z else None

@@ -1,97 +1,25 @@
-//! What stands at the keys of a line. Values are read after they were checked; one that is not there, or not of its
-//! kind, reads as 0, as `insert` or as no numbers.
+//! Objects by the tables of their keys: whether one has its form, and what stands at a key where that is in
+//! the key's range.
 
-ghost use Rattle.std.specs.Prelude.{pos, ◌≡◌, ◌≤◌, ◌≤ℤ◌, length, map, string_bytes};
-ghost use Rattle.std.specs.List.{list_all, list_any};
+ghost use Rattle.std.specs.Prelude.{◌≡◌, ◌<◌, ◌≤◌, ◌≤ℤ◌, IfSome, length, map, option_map, string_bytes};
+ghost use Rattle.std.specs.List.{list_all, list_any, position};
 ghost use Rattle.std.specs.Str.{bytes_eq};
 ghost use Rattle.std.specs.BTreeMap.{keys};
 ghost use Rattle.serde_json.specs.Find.{get};
 ghost use Rattle.serde_json.specs.View.{view, members_view};
-ghost use Rattle.irig_forms.specs.Json.{has_only};
+ghost use Rattle.irig_forms.specs.Json.{all_of, has_only};
 ghost use Rattle.irig_forms.specs.Keys.{texts_of, key_value, names_of};
-ghost use Rattle.irig_forms.specs.Fields.{values_pass, fits, has_form, most_of, least_of, greatest_of, natural_at, integer_at, leap_at, reader_at};
+ghost use Rattle.irig_forms.specs.Refusals.{FoundUnlessMemory};
+ghost use Rattle.irig_forms.specs.Fields.{fits, has_form, natural_least, natural_most, integer_least, integer_most, natural_at, integer_at, leap_at, reader_at, few_items, natural_in, naturals_at};
 
-use crate::key::{
-    Key, Kind, has_type, integer_in, is_in_range, is_known, leap_in, natural_in, reader_in,
-};
-use crate::refusal::Refusal;
+use crate::json::{at_most, integer_within, items_at, natural_within, text_at, whole_at, whole_of};
+use crate::key::{Key, Kind, has_type};
+use crate::keywords::leap_named;
+use crate::refusal::{LineFault, Refusal};
 use indexmap::IndexSet;
 use irig_time::Leap;
 use serde_json::{Map, Value};
-
-/// Whether what stands at each key is of its type, then in its range, then a reader among `names`.
-///
-/// `Shape` where one is missing or of another type, else `Value` where one is out of range, else
-/// `NoSuchReader`.
-#[tactic(auto, unfolding(crate::specs::Fields::values_pass))]
-pub fn check_values(names: &IndexSet<String>, keys: &[Key], value: &Value) -> Result<(), Refusal>
-    ensures { result ≡ values_pass (texts_of names.now.keys) (map key_value keys.now)
-        (view value.now) }
-{
-    let mut in_range = true;
-    let mut known = true;
-    for key in keys {
-        let item = value.get(key.name).ok_or(Refusal::Shape)?;
-        if !has_type(key.kind, item) {
-            return Err(Refusal::Shape);
-        }
-        in_range = in_range && is_in_range(key.kind, item);
-        known = known && is_known(names, key.kind, item);
-    }
-    if !in_range {
-        return Err(Refusal::Value);
-    }
-    if !known {
-        return Err(Refusal::NoSuchReader);
-    }
-    Ok(())
-}
-
-/// The number at a key of kind `Natural`, from 0 to the most of it, else 0.
-pub fn natural_at(key: Key, value: &Value) -> u64
-    ensures value { result ≡ natural_at (key_value key) (view value.now) }
-    ensures within { result ≤ most_of key.kind }
-{
-    match (key.kind, value.get(key.name)) {
-        (Kind::Natural(most), Some(item)) => natural_in(most, item).unwrap_or(0),
-        _ => 0,
-    }
-}
-
-/// The number at a key of kind `Integer`, from its least to its greatest, else 0; the range has 0 in it.
-pub fn integer_at(key: Key, value: &Value) -> i32
-    requires least { least_of key.kind ≤ℤ pos 0 }
-    requires most { pos 0 ≤ℤ greatest_of key.kind }
-    ensures value { result ≡ integer_at (key_value key) (view value.now) }
-    ensures least { least_of key.kind ≤ℤ result }
-    ensures most { result ≤ℤ greatest_of key.kind }
-{
-    match (key.kind, value.get(key.name)) {
-        (Kind::Integer(least, most), Some(item)) => integer_in(least, most, item).unwrap_or(0),
-        _ => 0,
-    }
-}
-
-/// The leap at a key, `insert` where none stands there.
-pub fn leap_at(key: Key, value: &Value) -> Leap
-    ensures { result ≡ leap_at (key_value key) (view value.now) }
-{
-    match value.get(key.name) {
-        Some(item) => leap_in(item).unwrap_or(Leap::Insert),
-        None => Leap::Insert,
-    }
-}
-
-/// The place of the reader whose name stands at a key, from 0 on among at most 16 `names`, else 0.
-pub fn reader_at(names: &IndexSet<String>, key: Key, value: &Value) -> u8
-    requires { length names.now.keys ≤ 16 }
-    ensures { result ≡ reader_at (texts_of names.now.keys) (key_value key) (view value.now) }
-{
-    match value.get(key.name) {
-        Some(item) => reader_in(names, item).unwrap_or(0) as u8,
-        None => 0,
-    }
-}
+use std::alloc::Global;
 
 /// Whether a value is an object with no other keys than these, none missing that must be there, and at
 /// each a value of the right type. Ranges are not asked.
@@ -121,8 +49,7 @@ fn fits(key: &Key, value: &Value) -> bool
     }
 }
 
-/// Whether the keys of an object are all among these.
-pub fn has_only(members: &Map<String, Value>, named: &[Key]) -> bool
+fn has_only(members: &Map<String, Value>, named: &[Key]) -> bool
     ensures { result ≡ has_only (names_of (map key_value named.now))
         (members_view members.now.entries) }
 {
@@ -142,4 +69,98 @@ fn is_named(key: &str, named: &[Key]) -> bool
     ensures { result ≡ list_any (λ n. bytes_eq n.name.now key.now) named.now }
 {
     named.iter().any(|name| name.name == key)
+}
+
+/// The number at a key of kind `Natural`; none where there is none in its range.
+#[tactic(auto, unfolding(crate::specs::Json::whole_at))]
+pub fn natural_at(key: Key, value: &Value) -> Option<u64>
+    ensures value { result ≡ natural_at (key_value key) (view value.now) }
+    ensures least { IfSome result (λ n. natural_least key.kind ≤ n) }
+    ensures most { IfSome result (λ n. n ≤ natural_most key.kind) }
+{
+    match key.kind {
+        Kind::Natural(least, most) => natural_within(least, most, whole_at(value, key.name)?),
+        _ => None,
+    }
+}
+
+/// The number at a key of kind `Integer`; none where there is none in its range.
+#[tactic(auto, unfolding(crate::specs::Json::whole_at))]
+pub fn integer_at(key: Key, value: &Value) -> Option<i32>
+    ensures value { result ≡ integer_at (key_value key) (view value.now) }
+    ensures least { IfSome result (λ z. integer_least key.kind ≤ℤ z) }
+    ensures most { IfSome result (λ z. z ≤ℤ integer_most key.kind) }
+{
+    match key.kind {
+        Kind::Integer(least, most) => integer_within(least, most, whole_at(value, key.name)?),
+        _ => None,
+    }
+}
+
+/// The leap whose word stands at a key; none of another word.
+pub fn leap_at(key: Key, value: &Value) -> Option<Leap>
+    ensures { result ≡ leap_at (key_value key) (view value.now) }
+{
+    leap_named(text_at(value, key.name)?)
+}
+
+/// The place of the reader whose name stands at a key, from 0 on among at most 16 `names`; none of
+/// another name.
+pub fn reader_at(names: &IndexSet<String>, key: Key, value: &Value) -> Option<u8>
+    requires { length names.now.keys ≤ 16 }
+    ensures { result ≡ reader_at (texts_of names.now.keys) (key_value key) (view value.now) }
+{
+    let place = place_of(names, text_at(value, key.name)?)?;
+    Some(place as u8)
+}
+
+fn place_of(names: &IndexSet<String>, name: &str) -> Option<usize>
+    ensures place { result ≡ position (λ n. bytes_eq name.now n) (texts_of names.now.keys) }
+    ensures within { IfSome result (λ i. i < length names.now.keys) }
+{
+    names.get_index_of(name)
+}
+
+/// The items of a list of kind `Few`; none where there are too many.
+pub fn few_items(kind: Kind, items: &[Value]) -> Option<&[Value]>
+    ensures { option_map (λ vs. map view vs.now) result ≡ few_items kind (map view items.now) }
+{
+    match kind {
+        Kind::Few(count) => at_most(count, items),
+        _ => None,
+    }
+}
+
+/// The numbers of the list at a key of kind `Naturals`. `Refused` as `Value` where they are too many or
+/// one is out of range, `Memory` where there was none.
+#[tactic(auto, unfolding(crate::specs::Fields::naturals_at))]
+pub fn naturals_at(alloc: Global, key: Key, value: &Value) -> Result<Vec<u32>, LineFault>
+    ensures { FoundUnlessMemory (λ v. v.items)
+        (naturals_at (key_value key) (view value.now)) result }
+{
+    let (count, most) = match key.kind {
+        Kind::Naturals(count, most) => (count, most),
+        _ => return Err(LineFault::Refused(Refusal::Value)),
+    };
+    let items = items_at(value, key.name).ok_or(Refusal::Value)?;
+    let few = at_most(count, items).ok_or(Refusal::Value)?;
+    all_naturals(alloc, most, few)
+}
+
+fn all_naturals(alloc: Global, most: u32, values: &[Value]) -> Result<Vec<u32>, LineFault>
+    ensures { FoundUnlessMemory (λ v. v.items)
+        (all_of (natural_in most) (map view values.now)) result }
+{
+    let mut numbers = Vec::with_capacity(alloc, values.len())?;
+    for value in values {
+        numbers.push(natural_in(most, value).ok_or(Refusal::Value)?)?;
+    }
+    Ok(numbers)
+}
+
+fn natural_in(most: u32, value: &Value) -> Option<u32>
+    ensures { result ≡ natural_in most (view value.now) }
+{
+    let number = natural_within(0, u64::from(most), whole_of(value)?)?;
+    Some(number as u32)
 }

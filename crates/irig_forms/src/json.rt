@@ -3,7 +3,7 @@
 ghost use Rattle.std.specs.Prelude.{◌≡◌, ◌≤◌, ◌≤ℤ◌, IfSome, map, option_map};
 ghost use Rattle.serde_json.specs.View.{view};
 ghost use Rattle.irig_forms.specs.Refusals.{IsUnlessMemory};
-ghost use Rattle.irig_forms.specs.Json.{json_of, or_else, whole_of, whole_at, text_at, items_in, items_at, at_most, natural_within, natural_to, integer_within};
+ghost use Rattle.irig_forms.specs.Json.{json_of, or_else, whole_of, whole_at, text_at, items_in, items_at, at_most, natural_within, integer_within};
 
 use crate::refusal::{LineFault, Refusal};
 use serde_json::Value;
@@ -86,14 +86,6 @@ pub fn natural_within(least: u64, most: u64, number: i128) -> Option<u64>
         Ok(natural) if least <= natural && natural <= most => Some(natural),
         _ => None,
     }
-}
-
-/// A number from 0 to `most`, which is taken; none outside.
-pub fn natural_to(most: u64, number: i128) -> Option<u64>
-    ensures value { result ≡ natural_to most number }
-    ensures within { IfSome result (λ n. n ≤ most) }
-{
-    natural_within(0, most, number)
 }
 
 /// A number from `least` to `most`, both taken; none outside.

@@ -5,7 +5,7 @@ ghost use Rattle.irig_forms.specs.Refusals.{number_of, name_of, of_table, of_tim
 
 use irig_gen::GenRefusal;
 use irig_time::{TableFault, TimelineFault};
-use std::alloc::AllocError;
+use std::alloc::{AllocError, AllocFailed};
 
 /// Why a line of a scenario is refused.
 #[derive(Clone, Copy, Debug, PartialEq, Eq)]
@@ -183,6 +183,17 @@ impl From<AllocError> for LineFault {
     ghost from_gives = { λ _ fault. fault ≡ Memory };
 
     fn from(_: AllocError) -> LineFault {
+        LineFault::Memory
+    }
+}
+
+impl<T: Drop> From<AllocFailed<T>> for LineFault {
+    ghost use Rattle.std.specs.Prelude.{◌≡◌};
+    ghost use Rattle.irig_forms.specs.declared.refusal.LineFault.TheVariants.{Memory};
+
+    ghost from_gives = { λ _ fault. fault ≡ Memory };
+
+    fn from(_: AllocFailed<T>) -> LineFault {
         LineFault::Memory
     }
 }

@@ -6,8 +6,8 @@ use Rattle.std.proofs.lemmas.List.FromFn.{length-map-range_with_len, get_or-map-
 use Rattle.std.proofs.lemmas.Option.{slice_get-get_or}
 use Rattle.irig_frame.specs.declared.symbol.Symbol.{Symbol}
 use Rattle.irig_frame.specs.declared.symbol.Symbol.TheVariants.{Zero}
-use Rattle.irig_frame.specs.declared.field.Field.{Field}
-use Rattle.irig_frame.specs.declared.field.Field.TheVariants.{Second, Minute, Hour, Day, Year}
+use Rattle.irig_frame.specs.declared.layout.Field.{Field}
+use Rattle.irig_frame.specs.declared.layout.Field.TheVariants.{Second, Minute, Hour, Day, Year}
 use Rattle.irig_frame.specs.declared.layout.Place.{Place}
 use Rattle.irig_frame.specs.declared.coded.Coded.{Coded}
 use Rattle.irig_frame.specs.FieldTable.{units_of, tens_of, hundreds_of, places_of, control_places, straight_binary_places}

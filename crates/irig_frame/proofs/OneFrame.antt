@@ -6,8 +6,8 @@ use Rattle.std.proofs.Math.Nat.{mul-div_cancel_left}
 use Rattle.std.proofs.lemmas.List.{same_lists}
 use Rattle.irig_frame.specs.declared.symbol.Symbol.{Symbol}
 use Rattle.irig_frame.specs.declared.symbol.Symbol.TheVariants.{Zero, One, Marker, Bad}
-use Rattle.irig_frame.specs.declared.field.Field.{Field}
-use Rattle.irig_frame.specs.declared.field.Field.TheVariants.{Second, Minute, Hour, Day, Year}
+use Rattle.irig_frame.specs.declared.layout.Field.{Field}
+use Rattle.irig_frame.specs.declared.layout.Field.TheVariants.{Second, Minute, Hour, Day, Year}
 use Rattle.irig_frame.specs.declared.layout.Place.{Place}
 use Rattle.irig_frame.specs.declared.coded.Coded.{Coded}
 use Rattle.irig_frame.specs.Values.{is_one, is_one_at, value}

@@ -8,8 +8,8 @@ use Rattle.irig_frame.specs.declared.layout.Place.{Place}
 use Rattle.std.proofs.lemmas.Bool.{ltb-false, le-ltb}
 use Rattle.irig_frame.specs.declared.symbol.Symbol.{Symbol}
 use Rattle.irig_frame.specs.declared.symbol.Symbol.TheVariants.{Zero, One, Marker, Bad}
-use Rattle.irig_frame.specs.declared.field.Field.{Field}
-use Rattle.irig_frame.specs.declared.field.Field.TheVariants.{Second, Minute, Hour, Day, Year}
+use Rattle.irig_frame.specs.declared.layout.Field.{Field}
+use Rattle.irig_frame.specs.declared.layout.Field.TheVariants.{Second, Minute, Hour, Day, Year}
 use Rattle.irig_frame.specs.declared.coded.Coded.{Coded}
 use Rattle.irig_frame.specs.declared.fault.FrameFault.{FrameFault}
 use Rattle.irig_frame.specs.declared.fault.FrameFault.TheVariants as fault

@@ -4,7 +4,7 @@ use Rattle.std.specs.Prelude.{codes, count_by, sum_by}
 use Rattle.std.specs.List.{list_all, range_with_len}
 use Rattle.irig_frame.specs.declared.symbol.Symbol.{Symbol}
 use Rattle.irig_frame.specs.declared.symbol.Symbol.TheVariants.{Zero, One, Marker, Bad}
-use Rattle.irig_frame.specs.declared.field.Field.TheVariants.{Second, Minute, Hour, Day, Year}
+use Rattle.irig_frame.specs.declared.layout.Field.TheVariants.{Second, Minute, Hour, Day, Year}
 use Rattle.irig_frame.specs.Symbols.{letter_of, symbol_of, width_of}
 use Rattle.irig_frame.specs.FieldTable.{places_of, control_places, straight_binary_places, is_marker_place, spare_places}
 use Rattle.irig_frame.specs.Values.{value, weights}

@@ -3,8 +3,8 @@
 use Rattle.std.specs.Prelude.{◌≡◌, ℕ, ◌<◌, ◌≤◌, ◌^◌, true, false, List, Option, Some, slice_get, length}
 use Rattle.irig_frame.specs.declared.symbol.Symbol.{Symbol}
 use Rattle.irig_frame.specs.declared.symbol.Symbol.TheVariants.{Marker, Bad}
-use Rattle.irig_frame.specs.declared.field.Field.{Field}
-use Rattle.irig_frame.specs.declared.field.Field.TheVariants.{Second, Minute, Hour, Day, Year}
+use Rattle.irig_frame.specs.declared.layout.Field.{Field}
+use Rattle.irig_frame.specs.declared.layout.Field.TheVariants.{Second, Minute, Hour, Day, Year}
 use Rattle.irig_frame.specs.declared.coded.Coded.{Coded}
 use Rattle.irig_frame.specs.FieldTable.{units_of, tens_of, places_of, control_places, straight_binary_places, is_marker_place}
 use Rattle.irig_frame.specs.Values.{value}

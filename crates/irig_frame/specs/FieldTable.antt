@@ -1,8 +1,8 @@
 -- The field table of IRIG Standard 200-16, format B, code B004: each element with the weight of a one there, least
 -- weight first. It is written in the order of the standard's table, to be laid beside it.
 use Rattle.std.specs.Prelude.{ℕ, ◌%◌, Bool, ◌==◌, ◌||◌, List, [], ◌∷◌, ◌++◌}
-use Rattle.irig_frame.specs.declared.field.Field.{Field}
-use Rattle.irig_frame.specs.declared.field.Field.TheVariants.{Second, Minute, Hour, Day, Year}
+use Rattle.irig_frame.specs.declared.layout.Field.{Field}
+use Rattle.irig_frame.specs.declared.layout.Field.TheVariants.{Second, Minute, Hour, Day, Year}
 use Rattle.irig_frame.specs.declared.layout.Place.{Place}
 
 -- an element of the frame with its weight; the name serves the crates above, too

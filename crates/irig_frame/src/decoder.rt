@@ -7,8 +7,7 @@ ghost use Rattle.irig_frame.specs.Values.{is_one_at, value, weights, IsInFrame};
 
 use crate::coded::Coded;
 use crate::fault::FrameFault;
-use crate::field::Field;
-use crate::layout::{self, Place, is_marker_place};
+use crate::layout::{self, Field, Place, is_marker_place};
 use crate::symbol::Symbol;
 
 /// The value that the frame reads as, or its first fault.

@@ -7,8 +7,7 @@ ghost use Rattle.irig_frame.specs.Faults.{decode_result};
 ghost use Rattle.irig_frame.specs.Encoder.{HasUnusedZeros, bit_symbol, with_bits, with_parts, digits_of, parts_of, blank_at, IsBlank};
 
 use crate::coded::Coded;
-use crate::field::Field;
-use crate::layout::{self, Place};
+use crate::layout::{self, Field, Place};
 use crate::symbol::Symbol;
 
 /// The frame that reads as this value, with zeros at the data elements without a field.

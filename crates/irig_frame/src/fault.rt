@@ -1,6 +1,6 @@
 //! The faults of a frame.
 
-use crate::field::Field;
+use crate::layout::Field;
 
 /// What is wrong with a frame, in the order in which faults are answered.
 #[derive(Clone, Copy, Debug, PartialEq, Eq)]

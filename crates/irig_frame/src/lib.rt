@@ -13,7 +13,6 @@ mod coded;
 mod decoder;
 mod encoder;
 mod fault;
-mod field;
 mod laws;
 mod layout;
 mod symbol;
@@ -22,10 +21,6 @@ pub use coded::{Coded, in_range};
 pub use decoder::{decode, fault_at};
 pub use encoder::encode;
 pub use fault::FrameFault;
-pub use field::Field;
 pub use laws::{one_frame, one_reading, round_trip, written_reads};
-pub use layout::is_marker_place;
+pub use layout::{Field, is_marker_place};
 pub use symbol::{Symbol, classify, is_one_width, is_right_width};
-
-#[cfg(test)]
-mod tests;

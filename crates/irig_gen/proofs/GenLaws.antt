@@ -31,7 +31,7 @@ use Rattle.irig_time.proofs.TimeLaws.{few, one_second}
 use Rattle.irig_gen.specs.declared.zone.Zone.{Zone}
 use Rattle.irig_gen.specs.declared.zone.Change.{Change}
 use Rattle.irig_time.specs.Seconds.{has_come}
-use Rattle.irig_gen.specs.Zones.{fits, all_fit, zone_at}
+use Rattle.irig_gen.specs.Zones.{in_order, fits, all_fit, zone_at}
 use Rattle.irig_time.specs.Timelines.{is_deletion}
 use Rattle.irig_gen.specs.ControlBits.{offset_sent, control_in}
 use Rattle.irig_gen.specs.Faults.{limited_offset, control_with_fault}
@@ -61,6 +61,17 @@ sound_zones g h =
       | inl e ↦ e
       | inr e ↦ absurd (let k = rw e at h.sound in cc)
     ]
+
+sound_order : (g : GeneratorValue) → IsGenerator g → in_order 0 g.changes ≡ true
+sound_order g h =
+    elim (cases_Bool (in_order 0 g.changes)) [
+      | inl e ↦ e
+      | inr e ↦ absurd (let k = rw (sound_zones g h, e) at h.sound in cc)
+    ]
+
+-- the changes that were read stand in order
+pub changes_ordered : (g : GeneratorValue) (changes : List Change) → IsGenerator g → changes ≡ g.changes → in_order 0 changes ≡ true
+changes_ordered g changes sound e = subst (λ (xs : List Change). in_order 0 xs ≡ true) (sym e) (sound_order g sound)
 
 pub gen_zone_fits : (g : GeneratorValue) (u : UtcSecond) → IsGenerator g → unsigned_abs (zone_at g.zone g.changes u).half_hours ≤ 31
 gen_zone_fits g u h = zone_fits g.zone g.changes u (sound_zones g h)

@@ -1,11 +1,12 @@
 //! What the control bits of a second truly say.
 
-ghost use Rattle.std.specs.Prelude.{◌≡◌, ◌≤◌, ◌==◌, unsigned_abs};
+ghost use Rattle.std.specs.Prelude.{◌≡◌, ◌≤◌, ◌==◌, true, unsigned_abs};
 ghost use Rattle.std.specs.List.{list_any};
 ghost use Rattle.irig_time.specs.Seconds.{minute_of};
 ghost use Rattle.irig_gen.specs.ControlBits.{ends_minute, control_in, offset_sent};
+ghost use Rattle.irig_gen.specs.Zones.{in_order};
 
-use crate::zone::{Change, Zone};
+use crate::zone::{Change, Zone, count_come, minute_at, minute_number};
 use irig_control::Control;
 use irig_time::{Leap, Sense, UtcSecond};
 
@@ -17,7 +18,8 @@ pub(crate) fn control_at(
     leap: Option<Leap>,
     utc: &UtcSecond,
 ) -> Control
-    requires { unsigned_abs zone.half_hours ≤ 31 }
+    requires zone { unsigned_abs zone.half_hours ≤ 31 }
+    requires order { in_order 0 changes.now ≡ true }
     ensures { result ≡ control_in sense zone changes.now leap utc.now }
 {
     let is_last = is_last_minute(utc);
@@ -37,17 +39,16 @@ fn is_last_minute(utc: &UtcSecond) -> bool
     (utc.sod / 60).min(1439) == 1439
 }
 
+// The next change alone can come with the next minute.
 fn any_ends(utc: &UtcSecond, changes: &[Change]) -> bool
+    requires { in_order 0 changes.now ≡ true }
     ensures { result ≡ list_any (λ x. ends_minute utc.now x.at) changes.now }
 {
-    changes.iter().any(|change| ends_minute(utc, change.at))
-}
-
-fn ends_minute(utc: &UtcSecond, at: UtcSecond) -> bool
-    ensures { result ≡ ends_minute utc.now at }
-{
-    let next = u64::from(utc.day) * 1440 + u64::from((utc.sod / 60).min(1439)) + 1;
-    u64::from(at.day) * 1440 + u64::from(at.sod / 60) == next
+    let minute = minute_at(utc);
+    match changes.get(count_come(changes, minute)) {
+        Some(next) => minute_number(next.at) == minute + 1,
+        None => false,
+    }
 }
 
 fn offset(sense: Sense, half_hours: i8) -> i8

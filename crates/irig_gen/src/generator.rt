@@ -1,6 +1,6 @@
 //! A generator.
 
-ghost use Rattle.std.specs.Prelude.{◌≡◌, ◌+◌, ◌<◌, Some, None, unwrap_or, MatchResult};
+ghost use Rattle.std.specs.Prelude.{◌≡◌, ◌+◌, ◌<◌, true, Some, None, unwrap_or, MatchResult};
 ghost use Rattle.irig_gen.specs.Frames.{gen, IsFrameOrNone, IsSent};
 ghost use Rattle.irig_gen.specs.Sent.{frame_of, sent_of};
 ghost use Rattle.irig_time.specs.TimelineFaults.{IsTimeline};
@@ -82,6 +82,28 @@ impl Generator {
         }
     }
 
+    /// Whether the other generator was made alike and is in the same state, so that both send the same.
+    pub fn is_alike(&self, other: &Generator) -> bool
+        ensures { result ≡ true → self.now ≡ other.now }
+    {
+        if self.edge != other.edge {
+            return false;
+        }
+        if self.since != other.since {
+            return false;
+        }
+        if !is_same_fault(self.fault, other.fault) {
+            return false;
+        }
+        if !is_same_zone(self.zone, other.zone) {
+            return false;
+        }
+        if !are_same_rules(self.rules, other.rules) {
+            return false;
+        }
+        are_same_changes(&self.changes, &other.changes)
+    }
+
     /// The edge at which it stands.
     pub fn edge(&self) -> u64
         ensures { result ≡ self.now.edge }
@@ -147,4 +169,28 @@ impl Generator {
         let sent = control_with_fault(fault, control);
         Some(frame_of_second(self.rules.parity, &utc, zone.half_hours, &sent))
     }
+}
+
+fn is_same_fault(one: Option<GenFault>, other: Option<GenFault>) -> bool
+    ensures { result ≡ true → one ≡ other }
+{
+    one == other
+}
+
+fn is_same_zone(one: Zone, other: Zone) -> bool
+    ensures { result ≡ true → one ≡ other }
+{
+    one == other
+}
+
+fn are_same_rules(one: Rules, other: Rules) -> bool
+    ensures { result ≡ true → one ≡ other }
+{
+    one == other
+}
+
+fn are_same_changes(some: &[Change], others: &[Change]) -> bool
+    ensures { result ≡ true → some.now ≡ others.now }
+{
+    some == others
 }

@@ -16,6 +16,3 @@ pub use fault::GenFault;
 pub use generator::{GenRefusal, Generator};
 pub use laws::{frames_are, law_of_true_frames, one_frame};
 pub use zone::{Change, Zone};
-
-#[cfg(test)]
-mod tests;

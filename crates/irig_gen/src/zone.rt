@@ -1,8 +1,9 @@
 //! The zones of a clock.
 
-ghost use Rattle.std.specs.Prelude.{◌≡◌};
+ghost use Rattle.std.specs.Prelude.{◌≡◌, ◌≤◌, ◌<◌, ◌+◌, ◌*◌, true, length};
 ghost use Rattle.std.specs.List.{list_all};
-ghost use Rattle.irig_time.specs.Seconds.{has_come};
+ghost use Rattle.std.specs.List.Sorted.{IsPartitionPoint};
+ghost use Rattle.irig_time.specs.Seconds.{minute_number, minute_of};
 ghost use Rattle.irig_gen.specs.Zones.{all_fit, fits, in_order, is_change_time, zone_at};
 
 use irig_time::{FIRST_DAY, LAST_DAY, UtcSecond};
@@ -74,20 +75,37 @@ fn is_change_time(at: &UtcSecond) -> bool
     (at.day >= FIRST_DAY && at.day <= LAST_DAY) && (at.sod < 86400 && at.sod % 60 == 0)
 }
 
+/// The zone of the last change that has come, else the first one.
 pub(crate) fn zone_at(first: Zone, changes: &[Change], utc: &UtcSecond) -> Zone
+    requires { in_order 0 changes.now ≡ true }
     ensures { result ≡ zone_at first changes.now utc.now }
 {
-    let mut zone = first;
-    for change in changes {
-        if has_come(&change.at, utc) {
-            zone = change.zone;
-        }
+    match count_come(changes, minute_at(utc)).checked_sub(1) {
+        Some(last) => changes[last].zone,
+        None => first,
     }
-    zone
 }
 
-fn has_come(at: &UtcSecond, utc: &UtcSecond) -> bool
-    ensures { result ≡ has_come at.now utc.now }
+/// How many changes have come in a minute.
+pub(crate) fn count_come(changes: &[Change], minute: u64) -> usize
+    requires { in_order 0 changes.now ≡ true }
+    ensures within { result ≤ length changes.now }
+    ensures point { IsPartitionPoint (λ x. minute_number x.at ≤ minute)
+        (λ x. minute < minute_number x.at) changes.now result }
 {
-    at.day < utc.day || (at.day == utc.day && at.sod <= utc.sod)
+    changes.partition_point(|change| minute_number(change.at) <= minute)
+}
+
+/// The minute of UTC, counted from 2000-01-01, in which the second lies.
+pub(crate) fn minute_at(utc: &UtcSecond) -> u64
+    ensures { result ≡ utc.now.day * 1440 + minute_of utc.now }
+{
+    u64::from(utc.day) * 1440 + u64::from((utc.sod / 60).min(1439))
+}
+
+/// The minute that begins with a change at this second.
+pub(crate) fn minute_number(at: UtcSecond) -> u64
+    ensures { result ≡ minute_number at }
+{
+    u64::from(at.day) * 1440 + u64::from(at.sod / 60)
 }

@@ -15,8 +15,8 @@ use Rattle.irig_time.specs.Next.{next_of}
 use Rattle.irig_time.specs.Timelines.{TimelineValue, leap_of, mark_by, day_length, seconds_in, EndsAt, IsSecond, true_mark, IsTrueClaim}
 use Rattle.irig_time.specs.TimelineFaults.{IsTimeline}
 use Rattle.irig_time.specs.Tables.{TableValue, table_mark, spoken_mark}
-use Rattle.irig_hold.specs.declared.turn.Turn.{Turn}
-use Rattle.irig_hold.specs.declared.turn.Turn.TheVariants.{Now, LeapGuard, Expired, RangeEnd, Jump}
+use Rattle.irig_hold.specs.declared.hold.Turn.{Turn}
+use Rattle.irig_hold.specs.declared.hold.Turn.TheVariants.{Now, LeapGuard, Expired, RangeEnd, Jump}
 use Rattle.irig_hold.specs.Steps.{HoldValue, stop_on, mark_kept, hold_after, hold_or_stop, hold_step, hold_start, Outcome, outcome_of, mark_or, voted_by, alone_by}
 use Rattle.irig_hold.specs.Truth.{IsTrueTable, IsOnTime, IsGuarded, HasComeTo}
 use Rattle.irig_hold.proofs.Stepping.{IsLast, free_or_last, next_none, last_waits}

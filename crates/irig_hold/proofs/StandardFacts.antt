@@ -12,8 +12,8 @@ use Rattle.irig_time.specs.declared.claim.Claim.{Claim}
 use Rattle.irig_time.specs.Days.{is_month_end}
 use Rattle.irig_time.specs.Timelines.{times}
 use Rattle.irig_time.specs.Tables.{TableValue, table}
-use Rattle.irig_hold.specs.declared.turn.Turn.{Turn}
-use Rattle.irig_hold.specs.declared.turn.Turn.TheVariants.{LeapGuard, Expired, RangeEnd, Jump}
+use Rattle.irig_hold.specs.declared.hold.Turn.{Turn}
+use Rattle.irig_hold.specs.declared.hold.Turn.TheVariants.{LeapGuard, Expired, RangeEnd, Jump}
 use Rattle.irig_hold.specs.Steps.{HoldValue, hold_value, hold_start, Outcome, outcome_of, voted_by, alone_by}
 use Rattle.irig_hold.specs.Truth.{IsTrueTable}
 

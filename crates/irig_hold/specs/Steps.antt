@@ -9,8 +9,8 @@ use Rattle.irig_time.specs.declared.second.TheConstants.{LAST_DAY}
 use Rattle.irig_time.specs.Next.{next_of}
 use Rattle.irig_time.specs.Seconds.{same_second}
 use Rattle.irig_time.specs.Tables.{TableValue, spoken_mark}
-use Rattle.irig_hold.specs.declared.turn.Turn.{Turn}
-use Rattle.irig_hold.specs.declared.turn.Turn.TheVariants.{Now, LeapGuard, Expired, RangeEnd, Jump}
+use Rattle.irig_hold.specs.declared.hold.Turn.{Turn}
+use Rattle.irig_hold.specs.declared.hold.Turn.TheVariants.{Now, LeapGuard, Expired, RangeEnd, Jump}
 
 -- the second that a hold has come to, how many seconds it has gone alone, and what it heard of the end of that day
 pub record HoldValue : Type 0 where

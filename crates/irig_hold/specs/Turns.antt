@@ -1,7 +1,7 @@
 -- What a hold answers, in clauses.
 use Rattle.irig_time.specs.declared.second.UtcSecond.{UtcSecond}
-use Rattle.irig_hold.specs.declared.turn.Turn.{Turn}
-use Rattle.irig_hold.specs.declared.turn.Turn.TheVariants.{Now, LeapGuard, Expired, RangeEnd, Jump}
+use Rattle.irig_hold.specs.declared.hold.Turn.{Turn}
+use Rattle.irig_hold.specs.declared.hold.Turn.TheVariants.{Now, LeapGuard, Expired, RangeEnd, Jump}
 
 -- a fact of the second that is answered
 abbrev pub IfNow : Turn → (UtcSecond → Type 0) → Type 0

@@ -1,4 +1,4 @@
-//! The hold and its steps.
+//! The hold, its steps and its answers.
 
 ghost use Rattle.std.specs.Prelude.{◌≡◌, ◌≤◌};
 ghost use Rattle.irig_time.specs.Seconds.{IsValid};
@@ -7,9 +7,23 @@ ghost use Rattle.irig_time.specs.Tables.{spoken_mark};
 ghost use Rattle.irig_hold.specs.Turns.{IfNow, OnStop};
 ghost use Rattle.irig_hold.specs.Steps.{hold_step, hold_start, outcome_of, voted_by, alone_by};
 
-use crate::turn::Turn;
 use irig_time::{Claim, LAST_DAY, LeapTable, Mark, UtcSecond, next};
 use std::marker::Model;
+
+/// What a hold answers: the second that it has come to, or why it stays.
+#[derive(Clone, Copy, Debug, PartialEq, Eq)]
+pub enum Turn {
+    /// It has come to this second.
+    Now(UtcSecond),
+    /// A month ends, and nothing was said of a leap second there.
+    LeapGuard,
+    /// It has gone alone for as long as it may.
+    Expired,
+    /// The last day served, 2099-12-30, ends.
+    RangeEnd,
+    /// The vote is for another second.
+    Jump,
+}
 
 /// A second that was reached by votes and by counting, how many seconds were counted alone since the last
 /// vote, and what was heard of the leap at the end of that day.

@@ -7,7 +7,7 @@ ghost use Rattle.irig_time.specs.TimelineFaults.{IsTimeline};
 ghost use Rattle.irig_hold.specs.Steps.{HoldValue, hold_after, hold_start, outcome_of, mark_or, voted_by, alone_by};
 ghost use Rattle.irig_hold.specs.Truth.{IsTrueTable, IsOnTime, HasComeTo, IsGuarded};
 
-use crate::turn::Turn;
+use crate::hold::Turn;
 use irig_time::{Claim, UtcSecond};
 
 /// The law of the hold: a hold that stands at T(n), and heard nothing false of the day's leap, goes to

@@ -8,11 +8,6 @@
 
 mod hold;
 mod laws;
-mod turn;
 
-pub use hold::Hold;
+pub use hold::{Hold, Turn};
 pub use laws::{law_of_hold, law_of_steps, law_of_stops};
-pub use turn::Turn;
-
-#[cfg(test)]
-mod tests;

@@ -205,15 +205,14 @@ fn an_output_that_breaks_has_a_front_of_the_text(rt: HostRuntime) {
     }
 }
 
-// Each byte is read by one call, and a line's log is written before the next line is read.
+// A device in memory shows a line by one call, and its log is written before the next is read.
 #[test]
 fn an_input_that_breaks_has_the_log_of_its_whole_lines(rt: HostRuntime) {
     for how in [Break::Fail, Break::Interrupt, Break::Nothing] {
-        for bytes in 0..=SCENARIO.len() {
-            let input = Fuse::new(SCENARIO.as_bytes(), bytes as u64, how);
+        for (lines, log) in [(0, ""), (1, ""), (2, ENTRIES)] {
+            let input = Fuse::new(SCENARIO.as_bytes(), lines, how);
             let ended = Ended::reading(&rt, &["irig"], input, AMPLE, Break::Fail);
-            let log = if bytes < SCENARIO.len() { "" } else { ENTRIES };
-            assert!(rt; ended.is(4, log.as_bytes()), "after {bytes}");
+            assert!(rt; ended.is(4, log.as_bytes()), "after {lines} lines");
         }
     }
 }

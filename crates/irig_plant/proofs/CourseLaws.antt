@@ -6,7 +6,7 @@ use Rattle.irig_time.specs.declared.claim.Claim.{Claim}
 use Rattle.irig_time.specs.Timelines.{truth_at, IsTrueClaim}
 use Rattle.irig_time.proofs.SecondAt.{claim_is}
 use Rattle.irig_vote.specs.declared.redundancy.Redundancy.{Redundancy}
-use Rattle.irig_vote.specs.declared.tells.Tells.{Tells}
+use Rattle.irig_vote.specs.declared.votes.Tells.{Tells}
 use Rattle.irig_vote.specs.Vote.{f_of, ports_of, carriers, vote_of}
 use Rattle.irig_vote.proofs.CountLaws.{vote_counts}
 use Rattle.irig_reader.specs.History.{told_at_tick, vote_at_tick}

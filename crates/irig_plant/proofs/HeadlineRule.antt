@@ -9,8 +9,8 @@ use Rattle.irig_time.specs.Next.{next_of}
 use Rattle.irig_time.specs.Timelines.{TimelineValue, IsSecond, IsTrueClaim}
 use Rattle.irig_time.specs.TimelineFaults.{IsTimeline}
 use Rattle.irig_time.specs.Tables.{TableValue, spoken_mark}
-use Rattle.irig_hold.specs.declared.turn.Turn.{Turn}
-use Rattle.irig_hold.specs.declared.turn.Turn.TheVariants as turn
+use Rattle.irig_hold.specs.declared.hold.Turn.{Turn}
+use Rattle.irig_hold.specs.declared.hold.Turn.TheVariants as turn
 use Rattle.irig_hold.specs.Steps.{HoldValue, stop_on, hold_or_stop, outcome_of, hold_start, voted_by, alone_by}
 use Rattle.irig_hold.specs.Truth.{IsTrueTable, IsOnTime, HasComeTo}
 use Rattle.irig_hold.proofs.HoldLaws.{voted_true, alone_true, started_true, voted_no_jump, voted_stops, started_stops, alone_end}

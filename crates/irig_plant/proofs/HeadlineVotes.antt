@@ -6,7 +6,7 @@ use Rattle.irig_time.specs.declared.claim.Claim.{Claim}
 use Rattle.irig_time.specs.Timelines.{truth_at}
 use Rattle.irig_port.specs.declared.told.Told.{Told}
 use Rattle.irig_vote.specs.declared.redundancy.Redundancy.{Redundancy}
-use Rattle.irig_vote.specs.declared.tells.Tells.{Tells}
+use Rattle.irig_vote.specs.declared.votes.Tells.{Tells}
 use Rattle.irig_time.specs.Claims.{same_claim}
 use Rattle.irig_vote.specs.Vote.{f_of, ports_of, is_told, carriers, vote_of}
 use Rattle.irig_vote.proofs.CountLaws.{told_is, same_is, carriers-cons, none_of, vote_counts}

@@ -9,19 +9,21 @@ use Rattle.irig_time.proofs.SecondAt.{second_is}
 use Rattle.irig_time.proofs.TimeLaws.{few}
 use Rattle.irig_gen.specs.declared.fault.GenFault.{GenFault}
 use Rattle.irig_gen.specs.Frames.{GeneratorValue}
+use Rattle.irig_gen.specs.Sent.{sent_of}
 use Rattle.irig_port.specs.declared.port.Port.{Ghosts}
-use Rattle.irig_reader.specs.History.{after_tick, after_restart}
+use Rattle.irig_port.specs.Heard.{symbols_heard}
+use Rattle.irig_reader.specs.History.{after_tick, after_restart, with_widths, after_pulses}
 use Rattle.irig_reader.specs.Readers.{HasReaderHistory}
 use Rattle.irig_plant.specs.declared.event.Event.{Event}
 use Rattle.irig_plant.specs.declared.event.Event.TheVariants.{GenEdge, Tick, Carry, Damage, Replay, Raw, Fault, Repair, Restart}
 use Rattle.irig_plant.specs.declared.fault.PlantFault.{PlantFault}
 use Rattle.irig_plant.specs.declared.fault.PlantFault.TheVariants.{NoSuchReader, NoSuchGenerator, EndOfYears}
 use Rattle.irig_plant.specs.declared.ticked_reader.TickedReader.{TickedReader}
-use Rattle.irig_plant.specs.Pulses.{with_widths, after_pulses}
 use Rattle.irig_plant.specs.Schedule.{Setup, generator_at_next_edge, generator_with_fault, generator_without_fault, generator_at, Delivery, delivery, delivery_of, empties, with_delivery, heard_at, fed_at, ticks_of, votes_of, history_of, log_of}
+use Rattle.irig_plant.specs.Widths.{widths_of}
 use Rattle.irig_plant.specs.Refusals.{unless_reader, unless_generator, unless_second}
 use Rattle.irig_plant.specs.Audits.{Place, first_broken, verdict, audit_after}
-use Rattle.irig_plant.specs.History.{IsTickedReaderAt}
+use Rattle.irig_plant.specs.History.{IsTickedReaderAt, IsWave}
 use Rattle.irig_plant.proofs.ListLaws.{apart, each_set}
 use Rattle.irig_plant.proofs.FeedLaws.{fed_if, fed_ports}
 
@@ -158,6 +160,25 @@ repair_other s ev i k q = rw (apart i k (λ e. q (sym e))) refl
 
 pub repair_here : (s : Setup) (ev : List Event) (i : ℕ) (x : GeneratorValue) → x ≡ generator_at s i ev → generator_without_fault x ≡ generator_at s i (Repair i ∷ ev)
 repair_here s ev i x h = rw (eq-eqb i i refl) (ap generator_without_fault h)
+
+-- ---- waves
+
+module _ {P : Type 0} (g : Ghosts P) where
+  -- a wave stays while its generator does
+  pub wave_after : (s : Setup) (ev ev' : List Event) (k : ℕ) (w : Option P) → generator_at s k ev' ≡ generator_at s k ev → IsWave g s ev k w → IsWave g s ev' k w
+  wave_after s ev ev' k None same h = tt
+  wave_after s ev ev' k (Some port) same h =
+      subst (λ (x : GeneratorValue). g.stands_for port s.rules (symbols_heard (widths_of (sent_of x s.times)))) (sym same) h
+
+  -- a new wave of generator i, or none, where the event leaves the other generators
+  pub set_wave : (s : Setup) (ev ev' : List Event) (xs : List (Option P)) (i : ℕ) (w : Option P)
+      → i < length xs
+      → ((k : ℕ) (d : Option P) → k < length s.generators → IsWave g s ev k (get_or xs k d))
+      → ((k : ℕ) → k ≢ i → generator_at s k ev' ≡ generator_at s k ev)
+      → IsWave g s ev' i w
+      → (k : ℕ) (d : Option P) → k < length s.generators → IsWave g s ev' k (get_or (set xs i w) k d)
+  set_wave s ev ev' xs i w l h other here =
+      each_set (IsWave g s ev) (IsWave g s ev') (length s.generators) xs i w l h (λ k z q. wave_after s ev ev' k z (other k q)) here
 
 -- ---- the audit
 

@@ -9,8 +9,8 @@ use Rattle.irig_time.specs.Timelines.{TimelineValue, second_at, IsSecond, IsTrue
 use Rattle.irig_time.specs.TimelineFaults.{IsTimeline}
 use Rattle.irig_time.proofs.SecondAt.{second_is}
 use Rattle.irig_time.proofs.TimeLaws.{one_second}
-use Rattle.irig_hold.specs.declared.turn.Turn.{Turn}
-use Rattle.irig_hold.specs.declared.turn.Turn.TheVariants as turn
+use Rattle.irig_hold.specs.declared.hold.Turn.{Turn}
+use Rattle.irig_hold.specs.declared.hold.Turn.TheVariants as turn
 use Rattle.irig_hold.specs.Steps.{HoldValue, mark_or, hold_after, outcome_of, hold_start, voted_by, alone_by}
 use Rattle.irig_hold.specs.Truth.{IsTrueTable, IsGuarded}
 use Rattle.irig_hold.proofs.HoldLaws.{voted_goes, alone_goes, started_goes, voted_stops, started_stops, alone_guard, alone_end}

@@ -1,8 +1,9 @@
 -- What it is for a plant to have a history.
-use Rattle.std.specs.Prelude.{◌≡◌, ℕ, ◌<◌, ◌≤◌, ◌⊎◌, drop, All, List, [], ◌∷◌, length, None, Some, slice_index_or, vec_len, Result, OnOk, OnErr, IfErr}
+use Rattle.std.specs.Prelude.{◌≡◌, ℕ, ◌<◌, ◌≤◌, ◌⊎◌, drop, All, List, [], ◌∷◌, length, Option, None, Some, ⊤, slice_index_or, vec_len, Result, OnOk, OnErr, IfErr}
 use Rattle.irig_time.specs.declared.rules.Rules.{Rules}
 use Rattle.irig_gen.specs.Frames.{GeneratorValue}
 use Rattle.irig_port.specs.declared.port.Port.{Ghosts}
+use Rattle.irig_port.specs.Heard.{symbols_heard}
 use Rattle.irig_reader.specs.Rules.{IsReaderRules}
 use Rattle.irig_reader.specs.History.{ReaderHistory, new_history}
 use Rattle.irig_vote.specs.declared.redundancy.Redundancy.{Redundancy}
@@ -13,7 +14,7 @@ use Rattle.irig_plant.specs.declared.setup.ReaderSetup.{ReaderSetup}
 use Rattle.irig_plant.specs.declared.ticked_reader.TickedReader.{TickedReader}
 use Rattle.irig_plant.specs.declared.plant.Plant.{Plant}
 use Rattle.irig_vote.specs.Vote.{redundancy_of}
-use Rattle.irig_plant.specs.Schedule.{Setup, setup_at, generator_at, ticks_of, history_of, log_of}
+use Rattle.irig_plant.specs.Schedule.{Setup, setup_at, generator_at, pulses_sent, ticks_of, history_of, log_of}
 use Rattle.irig_plant.specs.Audits.{audit_of}
 use Rattle.irig_plant.specs.declared.fault.PlantFault.{PlantFault}
 use Rattle.irig_plant.specs.Refusals.{refusal}
@@ -75,13 +76,21 @@ with_events es h = record h { events = events_after es h.events }
 abbrev pub with_cleared_log : PlantHistory → PlantHistory
 with_cleared_log h = record h { shown = length (log_of h.setup h.events) }
 
+-- a wave of generator k, if there is one: a port that heard just what the generator now sends
+abbrev pub IsWave : {P : Type 0} (g : Ghosts P) → Setup → List Event → ℕ → Option P → Type 0
+IsWave g s ev k None = ⊤
+IsWave g s ev k (Some port) = g.stands_for port s.rules (symbols_heard (pulses_sent s k ev))
+
 -- the plant is where its history leaves it
 pub record HasPlantHistory {P : Type 0} {g : Ghosts P} (p : Plant P g) (h : PlantHistory) : Type 0 where
   pub timeline : p.timeline ≡ h.setup.times
+  pub rules : p.rules ≡ h.setup.rules
   pub redundancy : p.redundancy ≡ redundancy_of (length h.setup.generators)
   pub generator_count : vec_len p.generators ≡ length h.setup.generators
   pub generators : (k : ℕ) (d : GeneratorValue) → k < length h.setup.generators
       → slice_index_or p.generators.items k d ≡ generator_at h.setup k h.events
+  pub waves : (k : ℕ) (d : Option P) → k < length h.setup.generators
+      → IsWave g h.setup h.events k (slice_index_or p.waves.items k d)
   pub reader_count : vec_len p.readers ≡ length h.setup.readers
   pub readers : (r : ℕ) (d : TickedReader P g) → r < length h.setup.readers
       → IsTickedReaderAt h.setup h.events r (slice_index_or p.readers.items r d)

@@ -1,5 +1,4 @@
 pub mod Widths
-pub mod Pulses
 pub mod Sound
 pub mod Schedule
 pub mod Refusals

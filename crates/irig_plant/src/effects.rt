@@ -7,14 +7,13 @@ use crate::entry::Entry;
 use crate::event::{Event, Widths};
 use crate::fault::PlantFault;
 use crate::plant::Plant;
-use crate::pulses::{feed, pulses, widths_of, with_damage};
+use crate::pulses::{pulses, with_damage};
 use irig_gen::GenFault;
 use irig_port::Port;
 
 impl<P: Port> Plant<P> {
-    ghost use Rattle.irig_plant.specs.Schedule.{delivery, delivery_of, pulses_sent, pulses_sent_at};
     ghost use Rattle.irig_plant.specs.Refusals.{unless_reader, unless_generator};
-    ghost use Rattle.irig_plant.specs.History.{PlantHistory, with_event, HasPlantHistory, ForHistory, Accepts, Does, Follows, RefusesAtLast, Keeps};
+    ghost use Rattle.irig_plant.specs.History.{ForHistory, Accepts, Does, Follows, RefusesAtLast, Keeps};
 
     pub(crate) fn step(&mut self, g: u8) -> Result<(), PlantFault>
         ensures { Does self.old (Event.GenEdge g) self.new result }
@@ -26,6 +25,7 @@ impl<P: Port> Plant<P> {
         }
         let generator = &mut self.generators[g as usize];
         generator.step();
+        self.waves[g as usize] = None;
         Ok(())
     }
 
@@ -60,8 +60,10 @@ impl<P: Port> Plant<P> {
         ensures { Does self.old (Event.Carry g r) self.new result }
     {
         self.has_port(g, r)?;
-        let sent = self.sent(g);
-        self.deliver(g, r, pulses(&sent));
+        if !self.carry_wave(g, r) {
+            let sent = self.sent(g);
+            self.deliver(g, r, pulses(&sent));
+        }
         Ok(())
     }
 
@@ -100,6 +102,7 @@ impl<P: Port> Plant<P> {
         self.has_generator(g)?;
         let generator = &mut self.generators[g as usize];
         generator.fault(kind);
+        self.waves[g as usize] = None;
         Ok(())
     }
 
@@ -109,6 +112,7 @@ impl<P: Port> Plant<P> {
         self.has_generator(g)?;
         let generator = &mut self.generators[g as usize];
         generator.repair();
+        self.waves[g as usize] = None;
         Ok(())
     }
 
@@ -153,34 +157,5 @@ impl<P: Port> Plant<P> {
     {
         self.has_reader(r)?;
         self.has_generator(g)
-    }
-
-    fn sent(&self, g: u8) -> Option<[u32; 100]>
-        requires { g < vec_len self.now.generators }
-        ensures { ForHistory self.now (λ h.
-            unwrap_or result [] ≡ pulses_sent h.setup g h.events) }
-    {
-        let frame = self.generators[g as usize].frame(&self.timeline)?;
-        Some(widths_of(&frame))
-    }
-
-    fn sent_at(&self, g: u8, edge: u64) -> Option<[u32; 100]>
-        requires { g < vec_len self.now.generators }
-        ensures { ForHistory self.now (λ h.
-            unwrap_or result [] ≡ pulses_sent_at h.setup g edge h.events) }
-    {
-        let frame = self.generators[g as usize].frame_at(&self.timeline, edge)?;
-        Some(widths_of(&frame))
-    }
-
-    fn deliver(&mut self, g: u8, r: u8, widths: &[u32])
-        requires generator { g < vec_len self.old.generators }
-        requires reader { r < vec_len self.old.readers }
-        ensures { (h : PlantHistory) (e : Event) → HasPlantHistory self.old h
-            → delivery_of h.setup e h.events ≡ Some (delivery g r widths.now)
-            → HasPlantHistory self.new (with_event e h) }
-    {
-        let ticked_reader = &mut self.readers[r as usize];
-        feed(&mut ticked_reader.reader, g, widths);
     }
 }

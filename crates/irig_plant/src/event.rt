@@ -56,6 +56,13 @@ impl Widths {
         Ok(Widths { items })
     }
 
+    /// The widths of a vector, which is kept.
+    pub fn from_vec(widths: Vec<u32>) -> Widths
+        ensures { result ≡ widths.items }
+    {
+        Widths { items: widths }
+    }
+
     pub(crate) fn as_slice(&self) -> &[u32]
         ensures { result.now ≡ self.now }
     {

@@ -30,6 +30,3 @@ pub use laws::{
 };
 pub use plant::Plant;
 pub use setup::ReaderSetup;
-
-#[cfg(test)]
-mod tests;

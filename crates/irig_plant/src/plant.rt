@@ -22,12 +22,16 @@ use std::alloc::{AllocError, Global};
 #[derive(Drop)]
 pub struct Plant<P: Port> {
     pub(crate) timeline: Timeline,
+    pub(crate) rules: Rules,
     pub(crate) redundancy: Redundancy,
     pub(crate) generators: Vec<Generator>,
+    /// For each generator a port that heard just what it now sends, once that was carried.
+    pub(crate) waves: Vec<Option<P>>,
     pub(crate) readers: Vec<TickedReader<P>>,
     pub(crate) log: Vec<Entry>,
     pub(crate) audit: Audit,
     ghost fed: { vec_len generators ≡ ports_in redundancy },
+    ghost carried: { vec_len waves ≡ vec_len generators },
     ghost wired: { All (λ x. x.reader.redundancy ≡ redundancy) readers.items },
     ghost timed: { timeline_fault timeline.start timeline.leaps ≡ None },
     ghost sound: { ∥ All IsSound log.items ∥₁ },
@@ -62,15 +66,30 @@ impl<P: Port> Plant<P> {
     {
         let redundancy = Redundancy::of_ports(generators.len());
         let audit = first_audit(&timeline, readers);
+        let waves = Self::new_waves(alloc, generators.len())?;
         let ticked = Self::new_readers(alloc, rules, redundancy, readers)?;
         Ok(Plant {
             timeline,
+            rules,
             redundancy,
             generators,
+            waves,
             readers: ticked,
             log: Vec::new(alloc),
             audit,
         })
+    }
+
+    // So many generators of which nothing was carried.
+    fn new_waves(alloc: Global, count: usize) -> Result<Vec<Option<P>>, AllocError>
+        ensures count { IfOk result (λ waves. vec_len waves ≡ count) }
+        ensures none { IfOk result (λ waves. All (λ wave. wave ≡ None) waves.items) }
+    {
+        let mut waves = Vec::new(alloc);
+        for _ in 0..count {
+            waves.push(None)?;
+        }
+        Ok(waves)
     }
 
     fn new_readers(

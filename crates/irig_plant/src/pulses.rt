@@ -1,15 +1,123 @@
 //! Pulses on their way to a port.
 
-ghost use Rattle.std.specs.Prelude.{◌≡◌, ◌<◌, [], map, unwrap_or};
-ghost use Rattle.irig_vote.specs.Vote.{ports_in};
-ghost use Rattle.irig_reader.specs.Readers.{Advances};
+ghost use Rattle.std.specs.Prelude.{◌≡◌, ◌<◌, [], map, unwrap_or, vec_len, IfSome, Some, true, false};
 ghost use Rattle.irig_frame.specs.Symbols.{width_of};
+ghost use Rattle.irig_time.specs.declared.rules.Rules.{Rules};
+ghost use Rattle.irig_port.specs.Heard.{symbols_heard};
 ghost use Rattle.irig_plant.specs.Widths.{with_damage};
-ghost use Rattle.irig_plant.specs.Pulses.{after_pulses};
 
+use crate::event::Event;
+use crate::plant::Plant;
 use irig_frame::Symbol;
 use irig_port::Port;
-use irig_reader::Reader;
+
+impl<P: Port> Plant<P> {
+    ghost use Rattle.irig_plant.specs.Schedule.{delivery, delivery_of, pulses_sent, pulses_sent_at};
+    ghost use Rattle.irig_plant.specs.History.{PlantHistory, with_event, HasPlantHistory, ForHistory, Follows, Keeps};
+
+    pub(crate) fn sent(&self, g: u8) -> Option<[u32; 100]>
+        requires { g < vec_len self.now.generators }
+        ensures { ForHistory self.now (λ h.
+            unwrap_or result [] ≡ pulses_sent h.setup g h.events) }
+    {
+        let frame = self.generators[g as usize].frame(&self.timeline)?;
+        Some(widths_of(&frame))
+    }
+
+    pub(crate) fn sent_at(&self, g: u8, edge: u64) -> Option<[u32; 100]>
+        requires { g < vec_len self.now.generators }
+        ensures { ForHistory self.now (λ h.
+            unwrap_or result [] ≡ pulses_sent_at h.setup g edge h.events) }
+    {
+        let frame = self.generators[g as usize].frame_at(&self.timeline, edge)?;
+        Some(widths_of(&frame))
+    }
+
+    pub(crate) fn deliver(&mut self, g: u8, r: u8, widths: &[u32])
+        requires generator { g < vec_len self.old.generators }
+        requires reader { r < vec_len self.old.readers }
+        ensures { (h : PlantHistory) (e : Event) → HasPlantHistory self.old h
+            → delivery_of h.setup e h.events ≡ Some (delivery g r widths.now)
+            → HasPlantHistory self.new (with_event e h) }
+    {
+        let ticked_reader = &mut self.readers[r as usize];
+        ticked_reader.reader.pulses(g, widths);
+    }
+
+    // What a generator sends comes to a port at once, if that is empty, from a port that heard it. The
+    // pulses are so taken once, and not by each reader. Answers whether the port was empty.
+    pub(crate) fn carry_wave(&mut self, g: u8, r: u8) -> bool
+        requires generator { g < vec_len self.old.generators }
+        requires reader { r < vec_len self.old.readers }
+        ensures carried { result ≡ true → Follows self.old (Event.Carry g r) self.new }
+        ensures unchanged { result ≡ false → Keeps self.old self.new }
+        ensures generators { vec_len self.new.generators ≡ vec_len self.old.generators }
+        ensures readers { vec_len self.new.readers ≡ vec_len self.old.readers }
+    {
+        self.make_wave(g);
+        let Some(wave) = &mut self.waves[g as usize] else {
+            return false;
+        };
+        let ticked_reader = &mut self.readers[r as usize];
+        ticked_reader.reader.take_over(g, wave)
+    }
+
+    fn make_wave(&mut self, g: u8)
+        requires { g < vec_len self.old.generators }
+        ensures same { Keeps self.old self.new }
+        ensures generators { vec_len self.new.generators ≡ vec_len self.old.generators }
+        ensures readers { vec_len self.new.readers ≡ vec_len self.old.readers }
+    {
+        if self.waves[g as usize].is_none() {
+            let wave = match self.first_wave(g) {
+                Some(wave) => wave,
+                None => self.new_wave(g),
+            };
+            self.waves[g as usize] = Some(wave);
+        }
+    }
+
+    // A copy of the first generator's wave, if this one sends the same.
+    fn first_wave(&mut self, g: u8) -> Option<P>
+        requires { g < vec_len self.old.generators }
+        ensures same { Keeps self.old self.new }
+        ensures wave { IfSome result (λ wave. ForHistory self.old (λ h.
+            P.stands_for wave h.setup.rules (symbols_heard (pulses_sent h.setup g h.events)))) }
+        ensures generators { vec_len self.new.generators ≡ vec_len self.old.generators }
+        ensures readers { vec_len self.new.readers ≡ vec_len self.old.readers }
+    {
+        if !self.generators[0].is_alike(&self.generators[g as usize]) {
+            return None;
+        }
+        let first = self.waves[0].as_mut()?;
+        let mut wave = P::fresh(self.rules);
+        wave.take_over(first);
+        Some(wave)
+    }
+
+    // A port that heard what a generator now sends.
+    fn new_wave(&self, g: u8) -> P
+        requires { g < vec_len self.now.generators }
+        ensures { ForHistory self.now (λ h.
+            P.stands_for result h.setup.rules (symbols_heard (pulses_sent h.setup g h.events))) }
+    {
+        let mut wave = P::fresh(self.rules);
+        if let Some(frame) = self.generators[g as usize].frame(&self.timeline) {
+            take_frame(&mut wave, &frame);
+        }
+        wave
+    }
+}
+
+// The pulses of a frame come to an empty port.
+fn take_frame<P: Port>(port: &mut P, frame: &[Symbol; 100])
+    ensures { (rules : Rules) → P.stands_for port.old rules []
+        → P.stands_for port.new rules (symbols_heard (map width_of frame.now)) }
+{
+    for symbol in frame {
+        port.pulse(symbol.width_us());
+    }
+}
 
 // What travels is pulses: a port reads the symbols back from their widths.
 pub(crate) fn widths_of(frame: &[Symbol; 100]) -> [u32; 100]
@@ -35,15 +143,5 @@ pub(crate) fn pulses(sent: &Option<[u32; 100]>) -> &[u32]
     match sent {
         Some(widths) => widths,
         None => &[],
-    }
-}
-
-pub(crate) fn feed<P: Port>(reader: &mut Reader<P>, port: u8, widths: &[u32])
-    requires { port < ports_in reader.old.redundancy }
-    ensures fed { Advances reader.old reader.new (λ h. after_pulses h port widths.now) }
-    ensures ports { reader.new.redundancy ≡ reader.old.redundancy }
-{
-    for width_us in widths {
-        reader.pulse(port, *width_us);
     }
 }

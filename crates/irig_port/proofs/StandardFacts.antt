@@ -4,7 +4,7 @@ use Rattle.std.specs.Prelude.{codes, replicate}
 use Rattle.irig_frame.proofs.StandardFacts.{symbols}
 use Rattle.irig_frame.specs.declared.symbol.Symbol.{Symbol}
 use Rattle.irig_frame.specs.declared.symbol.Symbol.TheVariants.{Zero, One, Bad}
-use Rattle.irig_frame.specs.declared.field.Field.TheVariants.{Second}
+use Rattle.irig_frame.specs.declared.layout.Field.TheVariants.{Second}
 use Rattle.irig_frame.specs.declared.coded.Coded.{Coded}
 use Rattle.irig_frame.specs.declared.fault.FrameFault.TheVariants as frame_fault
 use Rattle.irig_frame.specs.Faults.{values_of, field_at}

@@ -5,9 +5,12 @@ use Rattle.irig_frame.specs.declared.fault.FrameFault.TheVariants as frame_fault
 use Rattle.irig_frame.specs.Faults.{first_wrong, values_of}
 use Rattle.irig_control.specs.Parity.{has_parity}
 use Rattle.irig_time.specs.declared.rules.Rules.{Rules}
+use Rattle.irig_time.specs.Seconds.{IsValid}
+use Rattle.irig_time.proofs.ValidLaws.{still_valid}
 use Rattle.irig_port.specs.declared.told.PortFault.TheVariants as fault
+use Rattle.irig_port.specs.declared.told.Told.{Told}
 use Rattle.irig_port.specs.declared.told.Told.TheVariants as tells
-use Rattle.irig_port.specs.Told.{told_of, frame_told, values_told}
+use Rattle.irig_port.specs.Told.{told_of, frame_told, values_told, IfClaim}
 
 pub none_told : (rules : Rules) (s : List Symbol) → length s ≡ 0 → told_of rules s ≡ tells.Silence
 unfolding told_of
@@ -34,3 +37,11 @@ parity_told rules s len right wrong = rw (len, right, wrong) refl
 pub fields_told : (rules : Rules) (s : List Symbol) → length s ≡ 100 → first_wrong 0 s ≡ None → has_parity rules.parity s ≡ true → told_of rules s ≡ values_told rules (values_of s)
 unfolding told_of frame_told
 fields_told rules s len right even = rw (len, right, even) refl
+
+-- ---- a port may keep that a claim is of UTC
+
+pub still_valid_claim : (t : Told) → ∥ IfClaim t (λ claim. IsValid claim.at) ∥₁ → IfClaim t (λ claim. IsValid claim.at)
+still_valid_claim tells.Silence kept = tt
+still_valid_claim (tells.Fault f) kept = tt
+still_valid_claim (tells.Poor q) kept = tt
+still_valid_claim (tells.Claim claim) kept = still_valid claim.at kept

@@ -1,7 +1,7 @@
 //! A port that keeps running sums and no symbol.
 
 ghost use Rattle.std.specs.Prelude.{◌≡◌, ◌≤◌, ◌+◌, ℕ, min, List, Some, None, true, IfOk, if◌then◌else◌};
-ghost use Rattle.std.specs.Option.{option_or};
+ghost use Rattle.std.specs.Option.{option_or, ForSome};
 ghost use Rattle.irig_frame.specs.declared.symbol.Symbol.{Symbol};
 ghost use Rattle.irig_frame.specs.FieldTable.{is_marker_place};
 ghost use Rattle.irig_frame.specs.Symbols.{symbol_of};
@@ -32,7 +32,12 @@ pub struct FlowPort {
     ones: u32,
     wrong: Option<FrameFault>,
     sums: [u32; SUMS],
+    /// What the port tells, where it was worked out since the last pulse.
+    known: Option<Told>,
     ghost few: { count ≤ 101 },
+    ghost whole: { ForSome known (λ told. count ≡ 100) },
+    ghost right: { ForSome known (λ told. told ≡ frame_from rules wrong ones sums) },
+    ghost valid: { ForSome known (λ told. ∥ IfClaim told (λ claim. IsValid claim.at) ∥₁) },
 }
 
 impl Port for FlowPort {
@@ -47,6 +52,7 @@ impl Port for FlowPort {
             ones: 0,
             wrong: None,
             sums: [0; SUMS],
+            known: None,
         }
     }
 
@@ -61,10 +67,16 @@ impl Port for FlowPort {
         self.ones = self.ones.wrapping_add(weight_if(is_one, row.parity as u32));
         let element = self.count as u8;
         note(&mut self.wrong, element, row.is_marker_place, width_us);
+        if self.count == 100 {
+            self.known = None;
+        }
         self.count = one_more(self.count);
     }
 
     fn edge(&mut self) -> Told {
+        if self.is_empty() {
+            return Told::Silence;
+        }
         let told = self.tell();
         self.clear();
         told
@@ -75,6 +87,20 @@ impl Port for FlowPort {
         self.ones = 0;
         self.wrong = None;
         self.sums = [0; SUMS];
+        self.known = None;
+    }
+
+    fn is_empty(&self) -> bool {
+        self.count == 0
+    }
+
+    fn take_over(&mut self, other: &mut Self) {
+        other.work_out();
+        self.count = other.count;
+        self.ones = other.ones;
+        self.wrong = other.wrong;
+        self.sums = other.sums;
+        self.known = other.known_by(self.rules);
     }
 }
 
@@ -95,7 +121,35 @@ impl FlowPort {
         if self.count > 100 {
             return Told::Fault(PortFault::Frame(FrameFault::Long));
         }
-        tell_frame(&self.rules, self.wrong, self.ones, &self.sums)
+        match self.known {
+            Some(told) => told,
+            None => tell_frame(&self.rules, self.wrong, self.ones, &self.sums),
+        }
+    }
+
+    // What a frame tells by these rules, where that was worked out.
+    fn known_by(&self, rules: Rules) -> Option<Told>
+        ensures whole { ForSome result (λ told. self.now.count ≡ 100) }
+        ensures right { ForSome result
+            (λ told. told ≡ frame_from rules self.now.wrong self.now.ones self.now.sums) }
+        ensures valid { ForSome result (λ told. ∥ IfClaim told (λ claim. IsValid claim.at) ∥₁) }
+    {
+        if self.rules == rules {
+            self.known
+        } else {
+            None
+        }
+    }
+
+    // Keeps what a whole frame tells; the rest is told at no cost.
+    fn work_out(&mut self)
+        ensures { (rules : Rules) (s : List Symbol) → Numbers self.old rules s
+            → Numbers self.new rules s }
+    {
+        if self.count == 100 && self.known.is_none() {
+            let told = tell_frame(&self.rules, self.wrong, self.ones, &self.sums);
+            self.known = Some(told);
+        }
     }
 }
 

@@ -19,6 +19,3 @@ pub use laws::{carries_is_told, cut_at_101, telling_of_reading};
 pub use port::Port;
 pub use told::{PortFault, Told};
 pub use whole::WholePort;
-
-#[cfg(test)]
-mod tests;

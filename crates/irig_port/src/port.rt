@@ -1,6 +1,6 @@
 //! What every port does.
 
-ghost use Rattle.std.specs.Prelude.{◌≡◌, List, []};
+ghost use Rattle.std.specs.Prelude.{◌≡◌, ◌==◌, length, List, []};
 ghost use Rattle.irig_frame.specs.declared.symbol.Symbol.{Symbol};
 ghost use Rattle.irig_frame.specs.Symbols.{symbol_of};
 ghost use Rattle.irig_time.specs.declared.rules.Rules.{Rules};
@@ -41,4 +41,19 @@ pub trait Port: Drop {
     fn clear(&mut self)
         ensures { (rules : Rules) (s : List Symbol) → stands_for self.old rules s
             → stands_for self.new rules [] };
+
+    /// Whether the port is empty: it was fed nothing since its last edge, or since it was cleared.
+    fn is_empty(&self) -> bool
+        ensures { (rules : Rules) (s : List Symbol) → stands_for self.now rules s
+            → result ≡ (length s == 0) };
+
+    /// Takes over what another port heard, in place of its own pulses, and keeps its rules. The other
+    /// is as it was, but that it may work out here what it will tell, so that each port that takes it
+    /// over has the answer.
+    fn take_over(&mut self, other: &mut Self)
+        ensures heard { (rules others : Rules) (s heard : List Symbol)
+            → stands_for self.old rules s → stands_for other.old others heard
+            → stands_for self.new rules heard }
+        ensures kept { (rules : Rules) (s : List Symbol) → stands_for other.old rules s
+            → stands_for other.new rules s };
 }

@@ -47,6 +47,17 @@ impl Port for WholePort {
     fn clear(&mut self) {
         self.symbols.clear();
     }
+
+    fn is_empty(&self) -> bool {
+        self.symbols.is_empty()
+    }
+
+    fn take_over(&mut self, other: &mut Self) {
+        self.symbols.clear();
+        self.symbols
+            .try_extend_from_slice(other.symbols.as_slice())
+            .unwrap();
+    }
 }
 
 fn tell(rules: &Rules, symbols: &[Symbol]) -> Told

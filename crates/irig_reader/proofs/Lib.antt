@@ -1,3 +1,4 @@
 pub mod VoteLaws
 pub mod HeardRules
+pub mod FedLaws
 pub mod StandardFacts

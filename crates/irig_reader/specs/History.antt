@@ -5,7 +5,7 @@ use Rattle.irig_time.specs.declared.claim.Claim.{Claim}
 use Rattle.irig_time.specs.Tables.{TableValue}
 use Rattle.irig_port.specs.Told.{told_of_widths}
 use Rattle.irig_vote.specs.declared.redundancy.Redundancy.{Redundancy}
-use Rattle.irig_vote.specs.declared.tells.Tells.{Tells}
+use Rattle.irig_vote.specs.declared.votes.Tells.{Tells}
 use Rattle.irig_vote.specs.Vote.{vote_of}
 use Rattle.irig_reader.specs.declared.rules.ReaderRules.{ReaderRules}
 use Rattle.irig_reader.specs.declared.report.Report.{Report}
@@ -56,6 +56,19 @@ with_width fed port width =
 -- the history with one more pulse at a port
 abbrev pub after_pulse : ReaderHistory → ℕ → ℕ → ReaderHistory
 after_pulse history port width = record history { fed = with_width history.fed port width }
+
+-- more pulses at a port, one after another
+abbrev pub with_widths : Fed → ℕ → List ℕ → Fed
+with_widths fed port widths =
+    if port == 0 then record fed { a = fed.a ++ widths }
+    else (if port == 1 then record fed { b = fed.b ++ widths }
+    else (if port == 2 then record fed { c = fed.c ++ widths }
+    else (if port == 3 then record fed { d = fed.d ++ widths }
+    else record fed { e = fed.e ++ widths })))
+
+-- the history with more pulses at a port
+abbrev pub after_pulses : ReaderHistory → ℕ → List ℕ → ReaderHistory
+after_pulses history port widths = record history { fed = with_widths history.fed port widths }
 
 -- what the ports tell at a tick that comes now
 abbrev pub told_at_tick : ReaderHistory → Tells

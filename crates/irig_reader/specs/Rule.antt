@@ -4,8 +4,8 @@ use Rattle.std.specs.Prelude.{ℕ, ◌+◌, ◌==◌, if◌then◌else◌, Optio
 use Rattle.irig_time.specs.declared.second.UtcSecond.{UtcSecond}
 use Rattle.irig_time.specs.declared.claim.Claim.{Claim}
 use Rattle.irig_time.specs.Tables.{TableValue}
-use Rattle.irig_hold.specs.declared.turn.Turn.{Turn}
-use Rattle.irig_hold.specs.declared.turn.Turn.TheVariants as turn
+use Rattle.irig_hold.specs.declared.hold.Turn.{Turn}
+use Rattle.irig_hold.specs.declared.hold.Turn.TheVariants as turn
 use Rattle.irig_hold.specs.Steps.{HoldValue, Outcome, hold_start, voted_by, alone_by}
 use Rattle.irig_reader.specs.declared.rules.ReaderRules.{ReaderRules}
 use Rattle.irig_reader.specs.declared.report.Lock.{Lock}

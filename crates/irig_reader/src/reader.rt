@@ -1,6 +1,8 @@
 //! A reader with its ports.
 
-ghost use Rattle.std.specs.Prelude.{◌≡◌, ◌<◌, IfSome};
+ghost use Rattle.std.specs.Prelude.{◌≡◌, ◌<◌, IfSome, ℕ, List, [], true, false};
+ghost use Rattle.irig_frame.specs.declared.symbol.Symbol.{Symbol};
+ghost use Rattle.irig_port.specs.Heard.{symbols_heard};
 ghost use Rattle.irig_time.specs.Seconds.{IsValid};
 ghost use Rattle.irig_vote.specs.Vote.{ports_in};
 ghost use Rattle.irig_reader.specs.Rule.{count_of};
@@ -41,7 +43,7 @@ pub struct Reader<P: Port> {
 }
 
 impl<P: Port> Reader<P> {
-    ghost use Rattle.irig_reader.specs.History.{new_history, after_pulse, told_at_tick, report_at_tick, after_tick, after_restart};
+    ghost use Rattle.irig_reader.specs.History.{new_history, after_pulse, after_pulses, told_at_tick, report_at_tick, after_tick, after_restart};
     ghost use Rattle.irig_reader.specs.Readers.{Advances, ForReaderHistory, HasReaderHistory};
 
     /// A reader to which nothing has happened, with rules that are [`in_range`](crate::in_range).
@@ -77,6 +79,39 @@ impl<P: Port> Reader<P> {
             2 => self.c.pulse(width_us),
             3 => self.d.pulse(width_us),
             _ => self.e.pulse(width_us),
+        }
+    }
+
+    /// Pulses at one of the ports, one after another, as [`Reader::pulse`] takes each.
+    pub fn pulses(&mut self, port: u8, widths_us: &[u32])
+        requires { port < ports_in self.old.redundancy }
+        ensures fed { Advances self.old self.new (λ h. after_pulses h port widths_us.now) }
+        ensures ports { self.new.redundancy ≡ self.old.redundancy }
+    {
+        for width_us in widths_us {
+            self.pulse(port, *width_us);
+        }
+    }
+
+    /// All the pulses that another port heard, at one of the reader's ports, if that is empty: it takes
+    /// them over at once. Answers whether it was; if not, nothing happens. The other port still tells
+    /// what it did.
+    pub fn take_over(&mut self, port: u8, heard: &mut P) -> bool
+        requires { port < ports_in self.old.redundancy }
+        ensures fed { result ≡ true → (rules : Rules) (widths : List ℕ)
+            → P.stands_for heard.old rules (symbols_heard widths)
+            → Advances self.old self.new (λ h. after_pulses h port widths) }
+        ensures unchanged { result ≡ false → Advances self.old self.new (λ h. h) }
+        ensures kept { (rules : Rules) (s : List Symbol)
+            → P.stands_for heard.old rules s → P.stands_for heard.new rules s }
+        ensures ports { self.new.redundancy ≡ self.old.redundancy }
+    {
+        match port {
+            0 => take_if_empty(&mut self.a, heard),
+            1 => take_if_empty(&mut self.b, heard),
+            2 => take_if_empty(&mut self.c, heard),
+            3 => take_if_empty(&mut self.d, heard),
+            _ => take_if_empty(&mut self.e, heard),
         }
     }
 
@@ -118,4 +153,22 @@ impl<P: Port> Reader<P> {
         self.e.clear();
         self.state = State::Idle;
     }
+}
+
+// A port that is empty takes over what another heard. Answers whether it was.
+fn take_if_empty<P: Port>(port: &mut P, heard: &mut P) -> bool
+    ensures empty { result ≡ true → (rules : Rules) (s : List Symbol)
+        → P.stands_for port.old rules s → s ≡ [] }
+    ensures taken { result ≡ true → (rules others : Rules) (s t : List Symbol)
+        → P.stands_for port.old rules s → P.stands_for heard.old others t
+        → P.stands_for port.new rules t }
+    ensures unchanged { result ≡ false → port.new ≡ port.old }
+    ensures kept { (rules : Rules) (s : List Symbol)
+        → P.stands_for heard.old rules s → P.stands_for heard.new rules s }
+{
+    if !port.is_empty() {
+        return false;
+    }
+    port.take_over(heard);
+    true
 }

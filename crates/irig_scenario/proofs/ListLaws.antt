@@ -1,10 +1,8 @@
--- Lists of JSON values, by what is asked of their data, and loops over them.
-use Rattle.std.proofs.Common.{◌≡◌, List, map, ◌++◌, Option, option_map}
+-- Lists of JSON values, by what is asked of their data.
+use Rattle.std.proofs.Common.{◌≡◌, List, map}
 use Rattle.std.specs.List.{list_all}
-use Rattle.serde_json.specs.Data.{Data}
 use Rattle.serde_json.specs.View.{view}
 use Rattle.serde_json.specs.declared.value.Value.{Value}
-use Rattle.irig_forms.specs.Json.{all_of}
 use Rattle.irig_forms.proofs.ListLaws.{all_of_map}
 use Rattle.irig_scenario.specs.PlantShape.{is_leap, is_change, is_generator, is_reader}
 use Rattle.irig_scenario.specs.declared.plant_shape.Version.{Version}
@@ -20,13 +18,3 @@ all_generators vs = all_of_map is_generator vs
 
 pub all_readers : (version : Version) (vs : List Value) → list_all (λ v. is_reader version (view v)) vs ≡ list_all (is_reader version) (map view vs)
 all_readers version vs = all_of_map (is_reader version) vs
-
--- ---- a loop, by what it has and what is left
-
--- `front` is done, and `rest` is left
-pub record Found {A : Type 0} (f : Data → Option A) (front : List A) (rest all : List Value) : Type 0 where
-  pub is : option_map (λ xs. front ++ xs) (all_of f (map view rest)) ≡ all_of f (map view all)
-
--- `front` is made, one for each, and `rest` is left
-pub record Made {A : Type 0} (f : Data → A) (front : List A) (rest all : List Value) : Type 0 where
-  pub is : front ++ map f (map view rest) ≡ map f (map view all)

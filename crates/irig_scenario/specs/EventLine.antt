@@ -1,23 +1,22 @@
 -- What a line after the plant line says.
-use Rattle.std.specs.Prelude.{ℕ, List, codes, if◌then◌else◌, Option, option_map, option_and_then, Result, Ok}
+use Rattle.std.specs.Prelude.{ℕ, ℤ, List, codes, if◌then◌else◌, Option, option_map, option_and_then, Result, Ok}
 use Rattle.std.specs.Str.{bytes_eq}
 use Rattle.serde_json.specs.Data.{Data}
-use Rattle.serde_json.specs.Find.{as_object}
 use Rattle.irig_gen.specs.declared.fault.GenFault.{GenFault}
 use Rattle.irig_gen.specs.declared.fault.GenFault.TheVariants.{Silent, Stuck, Skew, NoPending, FalsePending, Quality, WrongOffset}
 use Rattle.irig_plant.specs.declared.event.Event.TheVariants.{GenEdge, Tick, Carry, Damage, Replay, Raw, Fault, Repair, Restart}
 use Rattle.irig_forms.specs.declared.refusal.Refusal.{Refusal}
-use Rattle.irig_forms.specs.declared.refusal.Refusal.TheVariants.{Json, Shape}
+use Rattle.irig_forms.specs.declared.refusal.Refusal.TheVariants.{Json, Shape, Value, NoSuchReader}
 use Rattle.irig_scenario.specs.declared.event_line.Command.{Command}
 use Rattle.irig_scenario.specs.declared.event_line.Command.TheVariants.{Event, Seconds}
 use Rattle.irig_scenario.specs.declared.form.Action.{Action}
 use Rattle.irig_scenario.specs.declared.form.Action.TheVariants as action
 use Rattle.irig_scenario.specs.declared.form.FaultKind.{FaultKind}
 use Rattle.irig_scenario.specs.declared.form.FaultKind.TheVariants as fault
-use Rattle.irig_forms.specs.Json.{json_of, text_at, has_only, ◌>>=◌, or_else, holds_or}
+use Rattle.irig_forms.specs.Json.{json_of, text_at, ◌>>=◌, or_else, holds_or}
 use Rattle.irig_scenario.specs.Forms.{action_named, fault_named, g, r, at, width, widths, edge, n, edges_by, half_hours_by, leap, q, keys_of}
-use Rattle.irig_forms.specs.Keys.{names_of}
-use Rattle.irig_forms.specs.Fields.{values_pass, natural_at, integer_at, leap_at, reader_at, naturals_at}
+use Rattle.irig_forms.specs.Keys.{KeyValue}
+use Rattle.irig_forms.specs.Fields.{has_form, natural_at, integer_at, leap_at, reader_at, naturals_at}
 
 -- ---- which form a line has
 
@@ -35,44 +34,72 @@ action_by word d = if bytes_eq word (codes "fault") then fault_action d else act
 unfoldable pub action_of : Data → Option Action
 action_of d = option_and_then (λ word. action_by word d) (text_at (codes "do") d)
 
--- ---- what a line of each form says
+-- ---- what stands in a line of a form, where it is in range
+
+-- a natural number
+abbrev pub natural_in : KeyValue → Data → Result ℕ Refusal
+natural_in key d = or_else Value (natural_at key d)
+
+-- a number that may be negative
+abbrev pub integer_in : KeyValue → Data → Result ℤ Refusal
+integer_in key d = or_else Value (integer_at key d)
+
+-- a reader that there is
+abbrev pub reader_in : List (List ℕ) → Data → Result ℕ Refusal
+reader_in names d = or_else NoSuchReader (reader_at names r d)
+
+-- ---- what a line of each form says: in each the ranges come first and the reader last
 
 -- the fault of a generator
-abbrev pub fault_of_form : FaultKind → Data → GenFault
-fault_of_form fault.Silent d = Silent
-fault_of_form fault.Stuck d = Stuck
-fault_of_form fault.Skew d = Skew (integer_at edges_by d)
-fault_of_form fault.NoPending d = NoPending
-fault_of_form fault.FalsePending d = FalsePending (leap_at leap d)
-fault_of_form fault.Quality d = Quality (natural_at q d)
-fault_of_form fault.WrongOffset d = WrongOffset (integer_at half_hours_by d)
+abbrev pub fault_of_form : FaultKind → Data → Result GenFault Refusal
+fault_of_form fault.Silent d = Ok Silent
+fault_of_form fault.Stuck d = Ok Stuck
+fault_of_form fault.Skew d = integer_in edges_by d >>= λ by. Ok (Skew by)
+fault_of_form fault.NoPending d = Ok NoPending
+fault_of_form fault.FalsePending d = or_else Value (leap_at leap d) >>= λ kind. Ok (FalsePending kind)
+fault_of_form fault.Quality d = natural_in q d >>= λ quality. Ok (Quality quality)
+fault_of_form fault.WrongOffset d = integer_in half_hours_by d >>= λ by. Ok (WrongOffset by)
 
 -- the event, or the count of seconds
-abbrev pub command_of_form : List (List ℕ) → Action → Data → Command
-command_of_form names action.Carry d = Event (Carry (natural_at g d) (reader_at names r d))
-command_of_form names action.Tick d = Event (Tick (reader_at names r d))
-command_of_form names action.Step d = Event (GenEdge (natural_at g d))
-command_of_form names action.Seconds d = Seconds (natural_at n d)
-command_of_form names action.Damage d =
-    Event (Damage (natural_at g d) (reader_at names r d) (natural_at at d) (natural_at width d))
-command_of_form names action.Replay d =
-    Event (Replay (natural_at g d) (reader_at names r d) (natural_at edge d))
-command_of_form names action.Raw d =
-    Event (Raw (natural_at g d) (reader_at names r d) (naturals_at widths d))
-command_of_form names (action.Fault kind) d = Event (Fault (natural_at g d) (fault_of_form kind d))
-command_of_form names action.Repair d = Event (Repair (natural_at g d))
-command_of_form names action.Restart d = Event (Restart (reader_at names r d))
+abbrev pub command_of_form : List (List ℕ) → Action → Data → Result Command Refusal
+command_of_form names action.Carry d = do
+  generator ← natural_in g d
+  reader ← reader_in names d
+  Ok (Event (Carry generator reader))
+command_of_form names action.Tick d = reader_in names d >>= λ reader. Ok (Event (Tick reader))
+command_of_form names action.Step d = natural_in g d >>= λ generator. Ok (Event (GenEdge generator))
+command_of_form names action.Seconds d = natural_in n d >>= λ count. Ok (Seconds count)
+command_of_form names action.Damage d = do
+  generator ← natural_in g d
+  element ← natural_in at d
+  microseconds ← natural_in width d
+  reader ← reader_in names d
+  Ok (Event (Damage generator reader element microseconds))
+command_of_form names action.Replay d = do
+  generator ← natural_in g d
+  number ← natural_in edge d
+  reader ← reader_in names d
+  Ok (Event (Replay generator reader number))
+command_of_form names action.Raw d = do
+  generator ← natural_in g d
+  microseconds ← or_else Value (naturals_at widths d)
+  reader ← reader_in names d
+  Ok (Event (Raw generator reader microseconds))
+command_of_form names (action.Fault kind) d = do
+  generator ← natural_in g d
+  fault ← fault_of_form kind d
+  Ok (Event (Fault generator fault))
+command_of_form names action.Repair d = natural_in g d >>= λ generator. Ok (Event (Repair generator))
+command_of_form names action.Restart d = reader_in names d >>= λ reader. Ok (Event (Restart reader))
 
 -- ---- lines
 
--- what an object says, by its form
+-- what an object says: types first, then the values by its form
 unfoldable pub command_in_object : List (List ℕ) → Data → Result Command Refusal
 command_in_object names d = do
-  ms ← or_else Shape (as_object d)
   action ← or_else Shape (action_of d)
-  only ← holds_or Shape (has_only (names_of (keys_of action)) ms)
-  passed ← values_pass names (keys_of action) d
-  Ok (command_of_form names action d)
+  formed ← holds_or Shape (has_form (keys_of action) d)
+  command_of_form names action d
 
 -- what a line says, by the names of the readers in order
 unfoldable pub command_in_line : List (List ℕ) → List ℕ → Result Command Refusal

@@ -49,7 +49,7 @@ kind_key = key (codes "kind") kind.Text
 
 -- a generator's number
 abbrev pub g : KeyValue
-g = key (codes "g") (kind.Natural 255)
+g = key (codes "g") (kind.Natural 0 255)
 
 -- a reader's name
 abbrev pub r : KeyValue
@@ -57,11 +57,11 @@ r = key (codes "r") kind.Reader
 
 -- an element of a frame
 abbrev pub at : KeyValue
-at = key (codes "at") (kind.Natural 99)
+at = key (codes "at") (kind.Natural 0 99)
 
 -- the width of a pulse in microseconds
 abbrev pub width : KeyValue
-width = key (codes "width") (kind.Natural 4294967295)
+width = key (codes "width") (kind.Natural 0 4294967295)
 
 -- at most 1,000 widths of pulses in microseconds
 abbrev pub widths : KeyValue
@@ -69,11 +69,11 @@ widths = key (codes "widths") (kind.Naturals 1000 4294967295)
 
 -- an edge of a generator
 abbrev pub edge : KeyValue
-edge = key (codes "edge") (kind.Natural 18446744073709551615)
+edge = key (codes "edge") (kind.Natural 0 18446744073709551615)
 
 -- a count of seconds
 abbrev pub n : KeyValue
-n = key (codes "n") (kind.Natural 100000)
+n = key (codes "n") (kind.Natural 0 100000)
 
 -- by how many edges a generator is ahead, or with a negative number behind
 abbrev pub edges_by : KeyValue
@@ -89,7 +89,7 @@ leap = key (codes "leap") kind.Leap
 
 -- a time quality
 abbrev pub q : KeyValue
-q = key (codes "q") (kind.Natural 15)
+q = key (codes "q") (kind.Natural 0 15)
 
 -- ---- the forms
 

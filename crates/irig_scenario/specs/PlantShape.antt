@@ -1,6 +1,6 @@
--- The objects of a plant line: which keys stand in each, and of which types their values are. The
--- rows are those of docs/SCENARIOS.md, "The plant line".
-use Rattle.std.specs.Prelude.{ℤ, pos, negsuc, Bool, true, ◌&&◌, List, [], ◌∷◌, ◌==◌, if◌then◌else◌, codes, Option, Some, None}
+-- The objects of a plant line: which keys stand in each, and what may stand at a key. The rows are
+-- those of docs/SCENARIOS.md, "The plant line".
+use Rattle.std.specs.Prelude.{ℤ, pos, negsuc, neg_ℤ, Bool, true, ◌&&◌, List, [], ◌∷◌, ◌==◌, if◌then◌else◌, codes, Option, Some, None}
 use Rattle.serde_json.specs.Data.{Data}
 use Rattle.serde_json.specs.Find.{get}
 use Rattle.irig_scenario.specs.declared.plant_shape.Version.{Version}
@@ -18,14 +18,40 @@ version_of (pos n) =
     else None))
 version_of (negsuc n) = None
 
--- ---- the keys
+-- ---- the keys that have a range
+
+-- the leaps that come, at most 1,200
+abbrev pub leaps : KeyValue
+leaps = key (codes "leaps") (kind.Few 1200)
+
+-- the half hours of an offset
+abbrev pub local : KeyValue
+local = key (codes "local") (kind.Integer (neg_ℤ (pos 128)) (pos 127))
+
+-- the changes of a generator's zone, at most 400
+abbrev pub changes : KeyValue
+changes = optional_key (codes "changes") (kind.Few 400)
+
+-- insert or delete
+abbrev pub leap_kind : KeyValue
+leap_kind = key (codes "kind") kind.Leap
+
+-- after how many votes a reader locks, 1 to 60
+abbrev pub lock_after : KeyValue
+lock_after = key (codes "lock_after") (kind.Natural 1 60)
+
+-- for how many seconds it counts on alone, 0 to 1,000,000
+abbrev pub holdover : KeyValue
+holdover = key (codes "holdover") (kind.Natural 0 1000000)
+
+-- ---- the objects, by their keys
 
 -- of a plant line
 abbrev pub plant_keys : List KeyValue
 plant_keys =
     key (codes "version") kind.Whole
     ∷ key (codes "start") kind.Text
-    ∷ key (codes "leaps") kind.List
+    ∷ leaps
     ∷ key (codes "parity") kind.Text
     ∷ key (codes "sense") kind.Text
     ∷ key (codes "sbs") kind.Text
@@ -35,38 +61,26 @@ plant_keys =
 
 -- of a leap, in a plant line or in a table
 abbrev pub leap_keys : List KeyValue
-leap_keys = key (codes "day") kind.Text ∷ key (codes "kind") kind.Text ∷ []
+leap_keys = key (codes "day") kind.Text ∷ leap_kind ∷ []
 
 -- of a generator
 abbrev pub generator_keys : List KeyValue
-generator_keys =
-    key (codes "local") kind.Whole
-    ∷ optional_key (codes "dst") kind.Truth
-    ∷ optional_key (codes "changes") kind.List
-    ∷ []
+generator_keys = local ∷ optional_key (codes "dst") kind.Truth ∷ changes ∷ []
 
 -- of a change of a generator's zone
 abbrev pub change_keys : List KeyValue
-change_keys =
-    key (codes "at") kind.Text
-    ∷ key (codes "local") kind.Whole
-    ∷ key (codes "dst") kind.Truth
-    ∷ []
+change_keys = key (codes "at") kind.Text ∷ local ∷ key (codes "dst") kind.Truth ∷ []
 
 -- of a reader of the first version
 abbrev pub plain_reader_keys : List KeyValue
-plain_reader_keys =
-    key (codes "name") kind.Text
-    ∷ key (codes "lock_after") kind.Whole
-    ∷ key (codes "holdover") kind.Whole
-    ∷ []
+plain_reader_keys = key (codes "name") kind.Text ∷ lock_after ∷ holdover ∷ []
 
 -- of a reader of a later version, which may have a table
 abbrev pub later_reader_keys : List KeyValue
 later_reader_keys =
     key (codes "name") kind.Text
-    ∷ key (codes "lock_after") kind.Whole
-    ∷ key (codes "holdover") kind.Whole
+    ∷ lock_after
+    ∷ holdover
     ∷ optional_key (codes "table") kind.Object
     ∷ []
 

@@ -1,5 +1,5 @@
 -- The values of a plant line: what its words, numbers and texts stand for, where its shape is right.
-use Rattle.std.specs.Prelude.{ℕ, pos, negsuc, Bool, false, ◌==◌, ◌||◌, if◌then◌else◌, List, [], length, codes, Option, Some, None, option_and_then, unwrap_or}
+use Rattle.std.specs.Prelude.{ℕ, Bool, false, ◌==◌, ◌||◌, if◌then◌else◌, List, [], length, codes, Option, Some, None, option_and_then, unwrap_or}
 use Rattle.serde_json.specs.Data.{Data}
 use Rattle.serde_json.specs.Find.{get, as_bool}
 use Rattle.irig_time.specs.declared.second.UtcSecond.{UtcSecond}
@@ -11,10 +11,10 @@ use Rattle.irig_gen.specs.declared.zone.Change.{Change}
 use Rattle.irig_reader.specs.declared.rules.ReaderRules.{ReaderRules}
 use Rattle.irig_scenario.specs.declared.plant_shape.Version.{Version}
 use Rattle.irig_scenario.specs.declared.plant_shape.Version.TheVariants.{One, Two, Three}
-use Rattle.irig_forms.specs.Json.{whole_at, text_at}
-use Rattle.irig_forms.specs.Json.{items_at, at_most, all_of}
-use Rattle.irig_forms.specs.Json.{natural_within, natural_to, integer_within}
-use Rattle.irig_forms.specs.Keywords.{parity_of, sense_of, sbs_use_of, leap_named}
+use Rattle.irig_forms.specs.Json.{text_at, items_at, all_of}
+use Rattle.irig_forms.specs.Keywords.{parity_of, sense_of, sbs_use_of}
+use Rattle.irig_forms.specs.Fields.{natural_at, integer_at, leap_at, few_items}
+use Rattle.irig_scenario.specs.PlantShape.{leaps, local, changes, leap_kind, lock_after, holdover}
 
 -- ---- steps that may have no value
 
@@ -45,17 +45,15 @@ rules_of d = do
 -- a leap with its day
 unfoldable pub leap_of : Data → Option (ℕ × Leap)
 leap_of d = do
-  day ← text_at (codes "day") d
-  kind ← text_at (codes "kind") d
-  day ← day_read day
-  leap ← leap_named kind
+  text ← text_at (codes "day") d
+  day ← day_read text
+  leap ← leap_at leap_kind d
   Some (day, leap)
 
 -- the zone of a generator or a change; no daylight saving, where nothing is said of it
 unfoldable pub zone_of : Data → Option Zone
 zone_of d = do
-  number ← whole_at (codes "local") d
-  half_hours ← integer_within (negsuc 127) (pos 127) number
+  half_hours ← integer_at local d
   Some (record {
     half_hours = half_hours;
     dst = unwrap_or (option_and_then as_bool (get (codes "dst") d)) false;
@@ -74,10 +72,10 @@ pub record GeneratorValues : Type 0 where
   pub zone : Zone
   pub changes : List Change
 
--- at most 400 changes
+-- no more changes than may be
 abbrev pub few_changes_of : List Data → Option (List Change)
 few_changes_of items = do
-  few ← at_most 400 items
+  few ← few_items changes.kind items
   all_of change_of few
 
 -- no changes, where nothing is said of them
@@ -87,7 +85,7 @@ changes_if (Some items) = few_changes_of items
 
 -- the changes of a generator
 unfoldable pub changes_of : Data → Option (List Change)
-changes_of d = changes_if (items_at (codes "changes") d)
+changes_of d = changes_if (items_at changes.name d)
 
 -- the values of a generator
 unfoldable pub generator_of : Data → Option GeneratorValues
@@ -114,14 +112,12 @@ pub record ReaderValues : Type 0 where
   pub until : ℕ
   pub leaps : List (ℕ × Leap)
 
--- when a reader locks, 1 to 60, and how long it holds over, 0 to 1000000
+-- when a reader locks, and how long it holds over
 unfoldable pub reader_rules_of : Data → Option ReaderRules
 reader_rules_of d = do
-  lock_after ← whole_at (codes "lock_after") d
-  holdover ← whole_at (codes "holdover") d
-  lock_after ← natural_within 1 60 lock_after
-  holdover ← natural_to 1000000 holdover
-  Some (record { lock_after = lock_after; holdover = holdover })
+  votes ← natural_at lock_after d
+  seconds ← natural_at holdover d
+  Some (record { lock_after = votes; holdover = seconds })
 
 -- the end and the leaps of a table, in any number: which are too many, the table says
 unfoldable pub table_of : Data → Option (ℕ × List (ℕ × Leap))
@@ -148,11 +144,11 @@ reader_of d = do
 unfoldable pub readers_in : Data → List Data
 readers_in d = unwrap_or (items_at (codes "readers") d) []
 
--- at most 1,200 leaps
+-- the leaps that come
 unfoldable pub leaps_of : Data → Option (List (ℕ × Leap))
 leaps_of d = do
-  items ← items_at (codes "leaps") d
-  few ← at_most 1200 items
+  items ← items_at leaps.name d
+  few ← few_items leaps.kind items
   all_of leap_of few
 
 -- ---- the line

@@ -1,25 +1,24 @@
 //! Lines after the plant line.
 
-ghost use Rattle.std.specs.Prelude.{◌≡◌, ◌≤◌, IfErr, IfOk, length};
+ghost use Rattle.std.specs.Prelude.{◌≡◌, ◌≤◌, IfOk, length};
 ghost use Rattle.serde_json.specs.View.{view};
+ghost use Rattle.irig_forms.specs.Fields.{natural_most};
+ghost use Rattle.irig_forms.specs.Keys.{key_value, texts_of};
 ghost use Rattle.irig_forms.specs.Refusals.{IsUnlessMemory};
 ghost use Rattle.irig_scenario.specs.Forms.{g};
-ghost use Rattle.irig_forms.specs.Fields.{natural_at};
-ghost use Rattle.irig_scenario.specs.EventLine.{action_of, action_by, fault_action, fault_of_form, command_of_form, command_in_object, command_in_line};
-ghost use Rattle.irig_forms.specs.Keys.{texts_of};
+ghost use Rattle.irig_scenario.specs.EventLine.{action_of, action_by, fault_action, natural_in, reader_in, fault_of_form, command_of_form, command_in_object, command_in_line};
 
 use crate::form::{
-    AT, Action, EDGE, EDGES_BY, FaultKind, G, HALF_HOURS_BY, LEAP, N, Q, R, WIDTH, action_named,
-    fault_named, keys_of,
+    AT, Action, EDGE, EDGES_BY, FaultKind, G, HALF_HOURS_BY, LEAP, N, Q, R, WIDTH, WIDTHS,
+    action_named, fault_named, keys_of,
 };
-use crate::widths::widths_at;
 use indexmap::IndexSet;
 use irig_forms::{
-    LineFault, Refusal, check_values, has_only, integer_at, leap_at, natural_at, reader_at,
+    Key, LineFault, Refusal, has_form, integer_at, leap_at, natural_at, naturals_at, reader_at,
     text_at, value_of,
 };
 use irig_gen::GenFault;
-use irig_plant::Event;
+use irig_plant::{Event, Widths};
 use serde_json::Value;
 use std::alloc::Global;
 
@@ -49,24 +48,43 @@ fn fault_action(value: &Value) -> Option<Action>
     Some(Action::Fault(kind))
 }
 
-fn generator_at(value: &Value) -> u8
-    ensures { result ≡ natural_at g (view value.now) }
+fn number_at(key: Key, value: &Value) -> Result<u64, Refusal>
+    ensures value { result ≡ natural_in (key_value key) (view value.now) }
+    ensures most { IfOk result (λ n. n ≤ natural_most key.kind) }
 {
-    natural_at(G, value) as u8
+    natural_at(key, value).ok_or(Refusal::Value)
 }
 
-fn fault_of_form(kind: FaultKind, value: &Value) -> GenFault
+fn generator_at(value: &Value) -> Result<u8, Refusal>
+    ensures { result ≡ natural_in g (view value.now) }
+{
+    Ok(number_at(G, value)? as u8)
+}
+
+fn reader_in(names: &IndexSet<String>, value: &Value) -> Result<u8, Refusal>
+    requires { length names.now.keys ≤ 16 }
+    ensures { result ≡ reader_in (texts_of names.now.keys) (view value.now) }
+{
+    reader_at(names, R, value).ok_or(Refusal::NoSuchReader)
+}
+
+fn fault_of_form(kind: FaultKind, value: &Value) -> Result<GenFault, Refusal>
     ensures { result ≡ fault_of_form kind (view value.now) }
 {
-    match kind {
+    let fault = match kind {
         FaultKind::Silent => GenFault::Silent,
         FaultKind::Stuck => GenFault::Stuck,
-        FaultKind::Skew => GenFault::Skew(integer_at(EDGES_BY, value)),
+        FaultKind::Skew => GenFault::Skew(integer_at(EDGES_BY, value).ok_or(Refusal::Value)?),
         FaultKind::NoPending => GenFault::NoPending,
-        FaultKind::FalsePending => GenFault::FalsePending(leap_at(LEAP, value)),
-        FaultKind::Quality => GenFault::Quality(natural_at(Q, value) as u8),
-        FaultKind::WrongOffset => GenFault::WrongOffset(integer_at(HALF_HOURS_BY, value) as i8),
-    }
+        FaultKind::FalsePending => {
+            GenFault::FalsePending(leap_at(LEAP, value).ok_or(Refusal::Value)?)
+        }
+        FaultKind::Quality => GenFault::Quality(number_at(Q, value)? as u8),
+        FaultKind::WrongOffset => {
+            GenFault::WrongOffset(integer_at(HALF_HOURS_BY, value).ok_or(Refusal::Value)? as i8)
+        }
+    };
+    Ok(fault)
 }
 
 fn command_of_form(
@@ -76,40 +94,39 @@ fn command_of_form(
     value: &Value,
 ) -> Result<Command, LineFault>
     requires { length names.now.keys ≤ 16 }
-    ensures ok { IfOk result (λ command.
-        command ≡ command_of_form (texts_of names.now.keys) action (view value.now)) }
-    ensures memory { IfErr result (λ fault. fault ≡ LineFault.Memory) }
+    ensures { IsUnlessMemory (λ c. c)
+        (command_of_form (texts_of names.now.keys) action (view value.now)) result }
 {
     let event = match action {
         Action::Carry => Event::Carry {
-            g: generator_at(value),
-            r: reader_at(names, R, value),
+            g: generator_at(value)?,
+            r: reader_in(names, value)?,
         },
-        Action::Tick => Event::Tick(reader_at(names, R, value)),
-        Action::Step => Event::GenEdge(generator_at(value)),
-        Action::Seconds => return Ok(Command::Seconds(natural_at(N, value) as u32)),
+        Action::Tick => Event::Tick(reader_in(names, value)?),
+        Action::Step => Event::GenEdge(generator_at(value)?),
+        Action::Seconds => return Ok(Command::Seconds(number_at(N, value)? as u32)),
         Action::Damage => Event::Damage {
-            g: generator_at(value),
-            r: reader_at(names, R, value),
-            at: natural_at(AT, value) as u8,
-            width: natural_at(WIDTH, value) as u32,
+            g: generator_at(value)?,
+            at: number_at(AT, value)? as u8,
+            width: number_at(WIDTH, value)? as u32,
+            r: reader_in(names, value)?,
         },
         Action::Replay => Event::Replay {
-            g: generator_at(value),
-            r: reader_at(names, R, value),
-            edge: natural_at(EDGE, value),
+            g: generator_at(value)?,
+            edge: number_at(EDGE, value)?,
+            r: reader_in(names, value)?,
         },
         Action::Raw => Event::Raw {
-            g: generator_at(value),
-            r: reader_at(names, R, value),
-            widths: widths_at(alloc, value)?,
+            g: generator_at(value)?,
+            widths: Widths::from_vec(naturals_at(alloc, WIDTHS, value)?),
+            r: reader_in(names, value)?,
         },
         Action::Fault(kind) => Event::Fault {
-            g: generator_at(value),
-            kind: fault_of_form(kind, value),
+            g: generator_at(value)?,
+            kind: fault_of_form(kind, value)?,
         },
-        Action::Repair => Event::Repair(generator_at(value)),
-        Action::Restart => Event::Restart(reader_at(names, R, value)),
+        Action::Repair => Event::Repair(generator_at(value)?),
+        Action::Restart => Event::Restart(reader_in(names, value)?),
     };
     Ok(Command::Event(event))
 }
@@ -121,16 +138,13 @@ fn command_in_object(
     value: &Value,
 ) -> Result<Command, LineFault>
     requires { length names.now.keys ≤ 16 }
-    ensures { IsUnlessMemory (λ x. x)
+    ensures { IsUnlessMemory (λ c. c)
         (command_in_object (texts_of names.now.keys) (view value.now)) result }
 {
-    let members = value.as_object().ok_or(Refusal::Shape)?;
     let action = action_of(value).ok_or(Refusal::Shape)?;
-    let keys = keys_of(action);
-    if !has_only(members, keys) {
+    if !has_form(keys_of(action), value) {
         return Err(LineFault::Refused(Refusal::Shape));
     }
-    check_values(names, keys, value)?;
     command_of_form(alloc, names, action, value)
 }
 

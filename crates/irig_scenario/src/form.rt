@@ -69,19 +69,19 @@ pub(crate) const DO: Key = key!("do": Kind::Text);
 
 pub(crate) const KIND: Key = key!("kind": Kind::Text);
 
-pub(crate) const G: Key = key!("g": Kind::Natural(255));
+pub(crate) const G: Key = key!("g": Kind::Natural(0, 255));
 
 pub(crate) const R: Key = key!("r": Kind::Reader);
 
-pub(crate) const AT: Key = key!("at": Kind::Natural(99));
+pub(crate) const AT: Key = key!("at": Kind::Natural(0, 99));
 
-pub(crate) const WIDTH: Key = key!("width": Kind::Natural(4294967295));
+pub(crate) const WIDTH: Key = key!("width": Kind::Natural(0, 4294967295));
 
 pub(crate) const WIDTHS: Key = key!("widths": Kind::Naturals(1000, 4294967295));
 
-pub(crate) const EDGE: Key = key!("edge": Kind::Natural(u64::MAX));
+pub(crate) const EDGE: Key = key!("edge": Kind::Natural(0, u64::MAX));
 
-pub(crate) const N: Key = key!("n": Kind::Natural(100000));
+pub(crate) const N: Key = key!("n": Kind::Natural(0, 100000));
 
 pub(crate) const EDGES_BY: Key = key!("by": Kind::Integer(i32::MIN, i32::MAX));
 
@@ -89,7 +89,7 @@ pub(crate) const HALF_HOURS_BY: Key = key!("by": Kind::Integer(-62, 62));
 
 pub(crate) const LEAP: Key = key!("leap": Kind::Leap);
 
-pub(crate) const Q: Key = key!("q": Kind::Natural(15));
+pub(crate) const Q: Key = key!("q": Kind::Natural(0, 15));
 
 pub(crate) fn keys_of(action: Action) -> &'static [Key]
     ensures { map key_value result.now ≡ keys_of action }

@@ -6,16 +6,13 @@ ghost use Rattle.irig_forms.specs.Json.{all_of};
 ghost use Rattle.irig_forms.specs.Refusals.{FoundUnlessMemory};
 ghost use Rattle.irig_scenario.specs.PlantValues.{zone_of, change_of, changes_of, generator_of, is_count, generators_of};
 
-use crate::plant_shape::Version;
-use irig_forms::{LineFault, Refusal, at_most, integer_within, items_at, text_at, whole_at};
+use crate::plant_shape::{CHANGES, LOCAL, Version};
+use irig_forms::{LineFault, Refusal, few_items, integer_at, items_at, text_at};
 use irig_gen::{Change, Zone};
 use irig_time::read_text;
 use serde_json::Value;
 use std::alloc::Global;
 use std::marker::Model;
-
-/// The most changes of a generator.
-const MOST_CHANGES: usize = 400;
 
 /// What a generator is to be made of.
 #[derive(Drop)]
@@ -68,10 +65,7 @@ fn all_generators(alloc: Global, values: &[Value]) -> Result<Vec<GeneratorValues
 {
     let mut generators = Vec::new(alloc);
     for value in values {
-        let generator = generator_of(alloc, value)?;
-        if generators.push(generator).is_err() {
-            return Err(LineFault::Memory);
-        }
+        generators.push(generator_of(alloc, value)?)?;
     }
     Ok(generators)
 }
@@ -89,10 +83,10 @@ fn generator_of(alloc: Global, value: &Value) -> Result<GeneratorValues, LineFau
 fn changes_of(alloc: Global, value: &Value) -> Result<Vec<Change>, LineFault>
     ensures { FoundUnlessMemory (λ v. v.items) (changes_of (view value.now)) result }
 {
-    match items_at(value, "changes") {
+    match items_at(value, CHANGES.name) {
         None => Ok(Vec::new(alloc)),
         Some(items) => {
-            let few = at_most(MOST_CHANGES, items).ok_or(Refusal::Value)?;
+            let few = few_items(CHANGES.kind, items).ok_or(Refusal::Value)?;
             all_changes(alloc, few)
         }
     }
@@ -103,10 +97,7 @@ fn all_changes(alloc: Global, values: &[Value]) -> Result<Vec<Change>, LineFault
 {
     let mut changes = Vec::new(alloc);
     for value in values {
-        let change = change_of(value).ok_or(Refusal::Value)?;
-        if changes.push(change).is_err() {
-            return Err(LineFault::Memory);
-        }
+        changes.push(change_of(value).ok_or(Refusal::Value)?)?;
     }
     Ok(changes)
 }
@@ -124,8 +115,7 @@ fn change_of(value: &Value) -> Option<Change>
 fn zone_of(value: &Value) -> Option<Zone>
     ensures { result ≡ zone_of (view value.now) }
 {
-    let number = whole_at(value, "local")?;
-    let half_hours = integer_within(-128, 127, number)? as i8;
+    let half_hours = integer_at(LOCAL, value)? as i8;
     let dst = value.get("dst").and_then(Value::as_bool).unwrap_or(false);
     Some(Zone { half_hours, dst })
 }

@@ -6,20 +6,18 @@ ghost use Rattle.irig_forms.specs.Json.{all_of};
 ghost use Rattle.irig_forms.specs.Refusals.{FoundUnlessMemory};
 ghost use Rattle.irig_scenario.specs.PlantValues.{leap_of, leaps_of};
 
-use irig_forms::{LineFault, Refusal, at_most, items_at, leap_named, text_at};
+use crate::plant_shape::{LEAP_KIND, LEAPS};
+use irig_forms::{LineFault, Refusal, few_items, items_at, leap_at, text_at};
 use irig_time::{Leap, read_day};
 use serde_json::Value;
 use std::alloc::Global;
-
-/// The most leaps of a plant line.
-const MOST_LEAPS: usize = 1200;
 
 #[tactic(auto, unfolding(crate::specs::PlantValues::leaps_of))]
 pub(crate) fn leaps_of(alloc: Global, value: &Value) -> Result<Vec<(u32, Leap)>, LineFault>
     ensures { FoundUnlessMemory (λ v. v.items) (leaps_of (view value.now)) result }
 {
-    let items = items_at(value, "leaps").ok_or(Refusal::Value)?;
-    let few = at_most(MOST_LEAPS, items).ok_or(Refusal::Value)?;
+    let items = items_at(value, LEAPS.name).ok_or(Refusal::Value)?;
+    let few = few_items(LEAPS.kind, items).ok_or(Refusal::Value)?;
     all_leaps(alloc, few)
 }
 
@@ -28,10 +26,7 @@ pub(crate) fn all_leaps(alloc: Global, values: &[Value]) -> Result<Vec<(u32, Lea
 {
     let mut leaps = Vec::new(alloc);
     for value in values {
-        let leap = leap_of(value).ok_or(Refusal::Value)?;
-        if leaps.push(leap).is_err() {
-            return Err(LineFault::Memory);
-        }
+        leaps.push(leap_of(value).ok_or(Refusal::Value)?)?;
     }
     Ok(leaps)
 }
@@ -40,7 +35,6 @@ pub(crate) fn all_leaps(alloc: Global, values: &[Value]) -> Result<Vec<(u32, Lea
 fn leap_of(value: &Value) -> Option<(u32, Leap)>
     ensures { result ≡ leap_of (view value.now) }
 {
-    let day = text_at(value, "day")?;
-    let kind = text_at(value, "kind")?;
-    Some((read_day(day.as_bytes())?, leap_named(kind)?))
+    let day = read_day(text_at(value, "day")?.as_bytes())?;
+    Some((day, leap_at(LEAP_KIND, value)?))
 }

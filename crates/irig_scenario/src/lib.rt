@@ -12,13 +12,7 @@ mod plant_shape;
 mod plant_values;
 mod reader_values;
 mod whole_second;
-mod widths;
 
 pub use event_line::{Command, event_of_line};
 pub use plant_line::{BuiltPlant, plant_of_line};
 pub use whole_second::second_of;
-
-#[cfg(test)]
-mod line_tests;
-#[cfg(test)]
-mod plant_tests;

@@ -129,10 +129,7 @@ fn make_generators(
 {
     let mut generators = Vec::new(alloc);
     for value in values {
-        let generator = make_generator(alloc, rules, value)?;
-        if generators.push(generator).is_err() {
-            return Err(LineFault::Memory);
-        }
+        generators.push(make_generator(alloc, rules, value)?)?;
     }
     Ok(generators)
 }
@@ -154,10 +151,7 @@ fn make_readers(alloc: Global, values: &[ReaderValues]) -> Result<Vec<ReaderSetu
 {
     let mut readers = Vec::new(alloc);
     for value in values {
-        let reader = make_reader(value)?;
-        if readers.push(reader).is_err() {
-            return Err(LineFault::Memory);
-        }
+        readers.push(make_reader(value)?)?;
     }
     Ok(readers)
 }

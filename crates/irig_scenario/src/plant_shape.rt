@@ -1,4 +1,4 @@
-//! The objects of a plant line, as tables: which keys stand in each, and of which types their values are.
+//! The objects of a plant line, as tables: which keys stand in each, and what may stand at a key.
 
 ghost use Rattle.std.specs.Prelude.{◌≡◌, codes, map};
 ghost use Rattle.std.specs.List.{list_all};
@@ -32,13 +32,25 @@ pub(crate) fn version_of(number: i128) -> Option<Version>
     }
 }
 
+pub(crate) const LEAPS: Key = key!("leaps": Kind::Few(1200));
+
+pub(crate) const LOCAL: Key = key!("local": Kind::Integer(-128, 127));
+
+pub(crate) const CHANGES: Key = optional_key!("changes": Kind::Few(400));
+
+pub(crate) const LEAP_KIND: Key = key!("kind": Kind::Leap);
+
+pub(crate) const LOCK_AFTER: Key = key!("lock_after": Kind::Natural(1, 60));
+
+pub(crate) const HOLDOVER: Key = key!("holdover": Kind::Natural(0, 1_000_000));
+
 fn plant_keys() -> &'static [Key]
     ensures { map key_value result.now ≡ plant_keys }
 {
     &[
         key!("version": Kind::Whole),
         key!("start": Kind::Text),
-        key!("leaps": Kind::List),
+        LEAPS,
         key!("parity": Kind::Text),
         key!("sense": Kind::Text),
         key!("sbs": Kind::Text),
@@ -50,42 +62,30 @@ fn plant_keys() -> &'static [Key]
 fn leap_keys() -> &'static [Key]
     ensures { map key_value result.now ≡ leap_keys }
 {
-    &[key!("day": Kind::Text), key!("kind": Kind::Text)]
+    &[key!("day": Kind::Text), LEAP_KIND]
 }
 
 fn generator_keys() -> &'static [Key]
     ensures { map key_value result.now ≡ generator_keys }
 {
-    &[
-        key!("local": Kind::Whole),
-        optional_key!("dst": Kind::Truth),
-        optional_key!("changes": Kind::List),
-    ]
+    &[LOCAL, optional_key!("dst": Kind::Truth), CHANGES]
 }
 
 fn change_keys() -> &'static [Key]
     ensures { map key_value result.now ≡ change_keys }
 {
-    &[
-        key!("at": Kind::Text),
-        key!("local": Kind::Whole),
-        key!("dst": Kind::Truth),
-    ]
+    &[key!("at": Kind::Text), LOCAL, key!("dst": Kind::Truth)]
 }
 
 fn reader_keys(version: Version) -> &'static [Key]
     ensures { map key_value result.now ≡ reader_keys version }
 {
     match version {
-        Version::One => &[
-            key!("name": Kind::Text),
-            key!("lock_after": Kind::Whole),
-            key!("holdover": Kind::Whole),
-        ],
+        Version::One => &[key!("name": Kind::Text), LOCK_AFTER, HOLDOVER],
         Version::Two | Version::Three => &[
             key!("name": Kind::Text),
-            key!("lock_after": Kind::Whole),
-            key!("holdover": Kind::Whole),
+            LOCK_AFTER,
+            HOLDOVER,
             optional_key!("table": Kind::Object),
         ],
     }

@@ -8,7 +8,8 @@ ghost use Rattle.irig_forms.specs.Refusals.{FoundUnlessMemory};
 ghost use Rattle.irig_scenario.specs.PlantValues.{reader_rules_of, table_of, table_if, reader_of};
 
 use crate::leap_values::all_leaps;
-use irig_forms::{LineFault, Refusal, items_at, natural_to, natural_within, text_at, whole_at};
+use crate::plant_shape::{HOLDOVER, LOCK_AFTER};
+use irig_forms::{LineFault, Refusal, items_at, natural_at, text_at};
 use irig_reader::ReaderRules;
 use irig_time::{Leap, read_day};
 use serde_json::Value;
@@ -42,10 +43,7 @@ pub(crate) fn all_readers(alloc: Global, values: &[Value]) -> Result<Vec<ReaderV
 {
     let mut readers = Vec::new(alloc);
     for value in values {
-        let reader = reader_of(alloc, value)?;
-        if readers.push(reader).is_err() {
-            return Err(LineFault::Memory);
-        }
+        readers.push(reader_of(alloc, value)?)?;
     }
     Ok(readers)
 }
@@ -69,13 +67,9 @@ fn reader_rules_of(value: &Value) -> Option<ReaderRules>
     ensures value { result ≡ reader_rules_of (view value.now) }
     ensures range { IfSome result IsReaderRules }
 {
-    let lock_after = whole_at(value, "lock_after")?;
-    let holdover = whole_at(value, "holdover")?;
-    let lock_after = natural_within(1, 60, lock_after)?;
-    let holdover = natural_to(1_000_000, holdover)?;
     Some(ReaderRules {
-        lock_after: lock_after as u8,
-        holdover: holdover as u32,
+        lock_after: natural_at(LOCK_AFTER, value)? as u8,
+        holdover: natural_at(HOLDOVER, value)? as u32,
     })
 }
 

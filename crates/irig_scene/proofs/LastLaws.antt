@@ -5,7 +5,8 @@ use Rattle.irig_scene.specs.declared.outcome.Outcome.{Outcome}
 use Rattle.irig_scene.specs.declared.player.Player.{Player}
 use Rattle.irig_scene.specs.declared.fault.SceneFault.{SceneFault}
 use Rattle.irig_forms.specs.declared.refusal.Refusal.{Refusal}
-use Rattle.irig_scene.specs.Lines.{lines, HasNoNewline}
+use Rattle.irig_device.specs.Lines.{HasNoNewline}
+use Rattle.irig_scene.specs.Lines.{lines}
 use Rattle.irig_scene.specs.Text.{refusal_text}
 use Rattle.irig_scene.specs.Scene.{Scene, step, Meaning, meaning_from, meaning_at_end, log_text, text_of}
 use Rattle.irig_scene.specs.LineRuns.{TakesFor, FailsIn, RanRest, WroteRefusal}

@@ -3,7 +3,8 @@ use Rattle.std.proofs.Common.{◌≡◌, ◌≢◌, ℕ, ◌<◌, ◌==◌, fals
 use Rattle.std.specs.List.{AllByRecursion}
 use Rattle.std.proofs.lemmas.List.Elements.{recursion_from_All}
 use Rattle.std.proofs.lemmas.Bool.Decides.{eqb_tells}
-use Rattle.irig_scene.specs.Lines.{lines, onto_first, unlines, HasNoNewline}
+use Rattle.irig_device.specs.Lines.{HasNoNewline}
+use Rattle.irig_scene.specs.Lines.{lines, onto_first, unlines}
 
 not_newline : (b : ℕ) → b ≢ 10 → (b == 10) ≡ false
 not_newline b h = elim (eqb_tells b 10) [ inl e ↦ absurd (h e.1) | inr e ↦ e.0 ]

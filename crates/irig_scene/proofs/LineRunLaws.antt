@@ -1,5 +1,5 @@
 -- What the parts of a run tell together.
-use Rattle.std.proofs.Common.{◌≡◌, ℕ, ◌≤◌, Bool, List, [], ◌++◌, length, Option, Some, None, Result, Ok, Err, refl, ap, sym, subst, ◌∙◌, append_assoc, false, IfErr}
+use Rattle.std.proofs.Common.{◌≡◌, ℕ, ◌≤◌, Bool, List, [], ◌++◌, length, Option, Some, None, Result, Ok, Err, refl, ap, sym, subst, ◌∙◌, append_assoc, false, IfErr, IfOk}
 use Rattle.std.proofs.KnownBytes.{Appends-trans, Appends-nil}
 use Rattle.irig_port.specs.declared.port.Port.{Ghosts}
 use Rattle.irig_scene.specs.declared.outcome.Outcome.{Outcome}
@@ -15,7 +15,7 @@ use Rattle.irig_scene.specs.Text.{entries_text, refusal_text}
 use Rattle.irig_device.specs.Watched.{AppendsPart}
 use Rattle.irig_scene.specs.Scene.{Scene, scene, Step, step_to, step_of_plan, step_of_line, step, step_of_command, Meaning, meaning, refusal_at, meaning_at_end, log_text, text_of}
 use Rattle.irig_scene.specs.PlayerRuns.{Grew, GrewPart}
-use Rattle.irig_scene.specs.LineRuns.{IsAt, TakesFor, Takes, FailsIn, FailsTaking, FailsFollowing, Begins, WroteRest, WrotePart, RanRest, WroteRefusal}
+use Rattle.irig_scene.specs.LineRuns.{IsAt, TakesFor, Takes, FailsIn, FailsTaking, Follows, FailsFollowing, Begins, WroteRest, WrotePart, RanRest, WroteRefusal}
 use Rattle.irig_scene.proofs.StepLaws.{IsFront, front_of_step, front_commanded, step_taken}
 
 -- ---- want of memory, before anything was written
@@ -135,6 +135,20 @@ pub following_fails : {P : Type 0} {g : Ghosts P} (r : Result (Option Refusal) S
 following_fails (Ok k) was player n line all old new is few short full fails = tt
 following_fails (Err fault) was player n line all old new is few short full fails = λ at stands.
     fails_at fault was player n line all old new at few short full (subst (λ w. IsAt w at) is stands) fails
+
+takes_at : {P : Type 0} {g : Ghosts P} (refusal : Option Refusal) (player is : Player P g) (n : ℕ) (line : List ℕ) (all : Bool) (old new : Option (List ℕ)) (at : Option Scene)
+    → n ≤ max_lines → length line ≤ max_line → is_blank line ≡ false → IsAt (Some player) at
+    → Follows player line all is refusal old new → TakesFor (step n at line) all at (Some is) refusal old new
+takes_at refusal player is n line all old new None few short full stands follows = absurd stands
+takes_at refusal player is n line all old new (Some x) few short full stands follows =
+    subst (λ (st : Step). TakesFor st all (Some x) (Some is) refusal old new) (sym (step_taken n (Some x) line few short full)) (follows x stands)
+
+pub following_takes : {P : Type 0} {g : Ghosts P} (r : Result (Option Refusal) SceneFault) (was : Option (Player P g)) (player is : Player P g) (n : ℕ) (line : List ℕ) (all : Bool) (old new : Option (List ℕ))
+    → was ≡ Some player → n ≤ max_lines → length line ≤ max_line → is_blank line ≡ false
+    → IfOk r (λ refusal. Follows player line all is refusal old new) → IfOk r (λ refusal. Takes was n line all (Some is) refusal old new)
+following_takes (Ok k) was player is n line all old new same few short full follows = λ at stands.
+    takes_at k player is n line all old new at few short full (subst (λ w. IsAt w at) same stands) follows
+following_takes (Err fault) was player is n line all old new same few short full follows = tt
 
 nothing_logged : (all : Bool) (plan : Plan) → log_text all (Some (scene plan [])) ≡ []
 unfolding entries_text

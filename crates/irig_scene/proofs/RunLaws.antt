@@ -7,13 +7,14 @@ use Rattle.std.proofs.lemmas.Grind.{flat_map-append}
 use Rattle.irig_port.specs.declared.port.Port.{Ghosts}
 use Rattle.irig_scene.specs.declared.outcome.Outcome.{Outcome}
 use Rattle.irig_scene.specs.declared.player.Player.{Player}
-use Rattle.irig_scene.specs.declared.line.LineEnd.{LineEnd}
-use Rattle.irig_scene.specs.declared.line.LineEnd.TheVariants.{Newline, EndOfInput, TooLong}
+use Rattle.irig_device.specs.declared.line.LineEnd.{LineEnd}
+use Rattle.irig_device.specs.declared.line.LineEnd.TheVariants.{Newline, EndOfInput, TooLong}
 use Rattle.irig_scene.specs.declared.fault.SceneFault.{SceneFault}
 use Rattle.irig_scene.specs.declared.fault.SceneFault.TheVariants.{Refused, Read, Write, Memory}
 use Rattle.irig_forms.specs.declared.refusal.Refusal.{Refusal}
 use Rattle.irig_forms.specs.declared.refusal.Refusal.TheVariants as refusal
-use Rattle.irig_scene.specs.Lines.{lines, unlines, HasNoNewline, HasLength, spelling, max_line, max_lines, limit_of, GivesLine, GivesPart}
+use Rattle.irig_device.specs.Lines.{HasNoNewline, HasLength, spelling, GivesLine, GivesPart}
+use Rattle.irig_scene.specs.Lines.{lines, unlines, max_line, max_lines, limit_of}
 use Rattle.irig_device.specs.Watched.{AppendsPart}
 use Rattle.irig_scene.specs.Faults.{IsFaultOfReading}
 use Rattle.irig_scene.specs.Scene.{Scene, Step, step_to, step, Meaning, meaning, refusal_at, meaning_from, meaning_of, meaning_at_end, log_text, text_of, output}
@@ -151,7 +152,7 @@ pub left_too_long : {P : Type 0} {g : Ghosts P} (e : SceneFault) (all : Bool) (w
 left_too_long e all was None in1 in2 out0 out1 out2 n limit line end k run got ends limited is tells = tt
 left_too_long e all was (Some x) None in2 out0 out1 out2 n limit line end k run got ends limited is tells = absurd run.took
 left_too_long e all was (Some x) (Some y) in2 out0 out1 out2 n limit line end k run got ends limited is tells =
-    let beyond : limit < length line = subst (λ end. HasLength end limit line) ends got.has_length in
+    let beyond : length line ≡ limit + 1 = subst (λ end. HasLength end limit line) ends got.has_length in
     let long : limit_of n < length line = omega (arith, beyond, limited) in
     let first = opens_long y line in2 got.whole (omega (arith, beyond)) (subst (λ end. Consumes (Some y) in2 (spelling end line)) ends got.taken) in
     let l = line ++ first.more in

@@ -14,7 +14,8 @@ use Rattle.irig_forms.specs.declared.refusal.LineFault.{LineFault}
 use Rattle.irig_forms.specs.declared.refusal.LineFault.TheVariants as line_fault
 use Rattle.irig_forms.specs.declared.refusal.Refusal.TheVariants.{TooManyLines, TooLong}
 use Rattle.irig_forms.specs.Refusals.{number_of}
-use Rattle.irig_scene.specs.Lines.{Bytes, lines, max_lines}
+use Rattle.irig_device.specs.Lines.{Bytes}
+use Rattle.irig_scene.specs.Lines.{lines, max_lines}
 use Rattle.irig_scene.specs.Text.{refusal_text}
 use Rattle.irig_scenario.specs.EventLine.{command_in_line}
 use Rattle.irig_scene.specs.Run.{IsDone, IsRefused}

@@ -8,7 +8,7 @@ use Rattle.irig_plant.specs.Schedule.{log_of}
 use Rattle.irig_plant.specs.History.{PlantHistory, HasPlantHistory}
 use Rattle.irig_scene.specs.declared.fault.SceneFault.{SceneFault}
 use Rattle.irig_forms.specs.declared.refusal.Refusal.{Refusal}
-use Rattle.irig_scene.specs.Lines.{Bytes}
+use Rattle.irig_device.specs.Lines.{Bytes}
 use Rattle.irig_device.specs.Watched.{AppendsPart}
 use Rattle.irig_scene.specs.Faults.{IsFaultOfWriting}
 use Rattle.irig_scene.specs.Scene.{Scene, scene, play, log_text}

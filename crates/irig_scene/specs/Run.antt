@@ -7,7 +7,8 @@ use Rattle.irig_scene.specs.declared.fault.SceneFault.TheVariants.{Refused, Read
 use Rattle.irig_forms.specs.declared.refusal.Refusal.{Refusal}
 use Rattle.irig_forms.specs.Refusals.{number_of}
 use Rattle.irig_device.specs.Watched.{AppendsPart}
-use Rattle.irig_scene.specs.Lines.{Bytes, HasNoNewline, lines, unlines}
+use Rattle.irig_device.specs.Lines.{Bytes, HasNoNewline}
+use Rattle.irig_scene.specs.Lines.{lines, unlines}
 use Rattle.irig_scene.specs.Scene.{Scene, Meaning, meaning_of, log_text, output, audit_in, refusal_at}
 
 -- ---- the whole run

@@ -9,6 +9,7 @@ use Rattle.irig_reader.specs.declared.report.Lock.{Lock}
 use Rattle.irig_reader.specs.declared.report.Lock.TheVariants.{Unlocked, Acquiring, Locked, Holdover}
 use Rattle.irig_reader.specs.declared.report.Cause.{Cause}
 use Rattle.irig_reader.specs.declared.report.Cause.TheVariants as cause
+use Rattle.irig_reader.specs.declared.report.Report.{Report}
 use Rattle.irig_plant.specs.declared.entry.Entry.{Entry}
 use Rattle.irig_plant.specs.declared.audit.Audit.{Audit}
 use Rattle.irig_plant.specs.declared.audit.Audit.TheVariants.{Kept, Broken, FalseTable}
@@ -46,13 +47,17 @@ name_at names reader = unwrap_or (slice_get names reader) []
 
 -- ---- the log
 
+-- TIME LOCK CAUSE, after a blank
+abbrev pub report_text : Report → List ℕ
+report_text report =
+    codes " " ++ (time_shown_text report.announce
+    ++ (codes " " ++ (lock_text report.lock
+    ++ (codes " " ++ (cause_text report.cause ++ codes "\n")))))
+
 -- EDGE READER TIME LOCK CAUSE
 unfoldable pub entry_text : List (List ℕ) → Entry → List ℕ
 entry_text names entry =
-    decimal entry.edge ++ (codes " " ++ (name_at names entry.reader
-    ++ (codes " " ++ (time_shown_text entry.report.announce
-    ++ (codes " " ++ (lock_text entry.report.lock
-    ++ (codes " " ++ (cause_text entry.report.cause ++ codes "\n"))))))))
+    decimal entry.edge ++ (codes " " ++ (name_at names entry.reader ++ report_text entry.report))
 
 -- a line for each entry with an announcement, or for each entry where all are wanted
 unfoldable pub entries_text : List (List ℕ) → Bool → List Entry → List ℕ

@@ -8,8 +8,6 @@ mod log_writer;
 mod outcome;
 mod player;
 mod run;
-#[cfg(test)]
-mod tests;
 mod text;
 
 pub use fault::SceneFault;

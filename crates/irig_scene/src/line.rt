@@ -3,7 +3,8 @@
 ghost use Rattle.std.specs.Prelude.{◌≡◌, ◌≤◌, ◌<◌, IfOk, IfErr, OnErr, None, Err, true, length, ◌||◌};
 ghost use Rattle.irig_device.specs.Watched.{device_of, has_failed};
 ghost use Rattle.irig_scene.specs.Faults.{IsFaultOfReading, says_write, is_write_fault};
-ghost use Rattle.irig_scene.specs.Lines.{GivesLine, GivesPart, is_blank, limit_of, HasNoNewline};
+ghost use Rattle.irig_device.specs.Lines.{GivesLine, GivesPart, HasNoNewline};
+ghost use Rattle.irig_scene.specs.Lines.{is_blank, limit_of};
 ghost use Rattle.irig_scene.specs.LineRuns.{
   Begins,
   Takes,
@@ -20,7 +21,7 @@ use crate::fault::SceneFault;
 use crate::log_writer::LogWriter;
 use crate::outcome::Outcome;
 use crate::player::Player;
-use irig_device::Watched;
+use irig_device::{LineEnd, ReadFault, Watched};
 use irig_forms::{LineFault, Refusal};
 use irig_port::Port;
 use irig_scenario::{event_of_line, plant_of_line};
@@ -33,17 +34,6 @@ const MAX_LINES: u64 = 1_000_000;
 // The longest line that is run, in bytes without its newline.
 const MAX_LINE: usize = 65536;
 
-/// How a line ends.
-#[derive(Clone, Copy, Debug, PartialEq, Eq)]
-pub(crate) enum LineEnd {
-    /// With its newline.
-    Newline,
-    /// With the input.
-    EndOfInput,
-    /// It doesn't: it was read no further than to see that it is too long.
-    TooLong,
-}
-
 /// How many bytes of a line are read at most before it is known to be refused.
 pub(crate) fn limit_of(number: u64) -> usize
     ensures { result ≡ limit_of number }
@@ -51,8 +41,8 @@ pub(crate) fn limit_of(number: u64) -> usize
     if number > MAX_LINES { 0 } else { MAX_LINE }
 }
 
-/// Reads the next line into `line`, without its newline and byte by byte, no further than to its
-/// newline or one byte above the limit.
+/// Reads the next line into `line`, without its newline, no further than to its newline or one byte
+/// above the limit.
 pub(crate) fn read_line<R: BufRead>(
     input: &mut Watched<R>,
     limit: usize,
@@ -65,24 +55,10 @@ pub(crate) fn read_line<R: BufRead>(
     ensures fault { IfErr result IsFaultOfReading }
     ensures note { result ≡ Err SceneFault.Read → has_failed input.new ≡ true }
 {
-    line.clear();
-    loop {
-        let next = match input.read_byte() {
-            Ok(next) => next,
-            Err(_) => return Err(SceneFault::Read),
-        };
-        match next {
-            None => return Ok(LineEnd::EndOfInput),
-            Some(b'\n') => return Ok(LineEnd::Newline),
-            Some(byte) => {
-                if line.push(byte).is_err() {
-                    return Err(SceneFault::Memory);
-                }
-            }
-        }
-        if line.len() > limit {
-            return Ok(LineEnd::TooLong);
-        }
+    match input.read_line(limit, line) {
+        Ok(end) => Ok(end),
+        Err(ReadFault::Device) => Err(SceneFault::Read),
+        Err(ReadFault::Memory) => Err(SceneFault::Memory),
     }
 }
 

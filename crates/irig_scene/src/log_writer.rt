@@ -7,13 +7,30 @@ ghost use Rattle.irig_scene.specs.Faults.{WroteText, says_write};
 ghost use Rattle.irig_scene.specs.Text.{entries_text, audit_text, refusal_text};
 
 use crate::fault::SceneFault;
-use crate::text::{push_audit, push_entries, push_refusal};
+use crate::text::{ReportText, push_audit, push_entries, push_refusal};
 use indexmap::IndexSet;
 use irig_device::Watched;
 use irig_forms::Refusal;
 use irig_plant::{Audit, Entry};
 use std::alloc::Global;
 use std::io::Write;
+
+/// The text of log lines, in memory that is kept from one round to the next.
+#[derive(Drop)]
+pub(crate) struct LogText {
+    lines: String,
+    last: ReportText,
+}
+
+impl LogText {
+    /// No text yet.
+    pub(crate) fn new(alloc: Global) -> LogText {
+        LogText {
+            lines: String::new(alloc),
+            last: ReportText::new(alloc),
+        }
+    }
+}
 
 /// Writes the text of a log, which it makes in memory first.
 #[derive(Clone, Copy)]
@@ -27,6 +44,7 @@ impl LogWriter {
     /// Writes the lines of log entries.
     pub(crate) fn write_entries<W: Write>(
         self,
+        text: &mut LogText,
         names: &IndexSet<String>,
         entries: &[Entry],
         output: &mut Watched<W>,
@@ -37,11 +55,12 @@ impl LogWriter {
             (entries_text (map string_bytes names.now.keys) self.all entries.now) }
         ensures note { has_failed output.new ≡ (has_failed output.old || says_write result) }
     {
-        let mut text = String::new(self.alloc);
-        if push_entries(&mut text, names, entries, self.all).is_err() {
+        let LogText { lines, last } = text;
+        lines.clear();
+        if push_entries(lines, last, names, entries, self.all).is_err() {
             return Err(SceneFault::Memory);
         }
-        write(output, text.as_str())
+        write(output, lines.as_str())
     }
 
     /// Writes the last line of a run without a refusal.

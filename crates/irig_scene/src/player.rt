@@ -8,7 +8,7 @@ ghost use Rattle.irig_scene.specs.Scene.{refusal_as};
 ghost use Rattle.irig_scene.specs.PlayerRuns.{Runs, Plays, FailsPlaying};
 
 use crate::fault::SceneFault;
-use crate::log_writer::LogWriter;
+use crate::log_writer::{LogText, LogWriter};
 use indexmap::IndexSet;
 use irig_device::Watched;
 use irig_forms::Refusal;
@@ -18,12 +18,13 @@ use irig_scenario::{BuiltPlant, Command, second_of};
 use std::alloc::Global;
 use std::io::Write;
 
-/// A plant, its readers' names, and the events of a whole second of it.
+/// A plant, its readers' names, the events of a whole second of it, and the text of its log.
 #[derive(Drop)]
 pub(crate) struct Player<P: Port> {
     plant: Plant<P>,
     names: IndexSet<String>,
     second: Vec<Event>,
+    text: LogText,
     ghost few: { length names.keys ≤ 16 },
 }
 
@@ -56,6 +57,7 @@ impl<P: Port> Player<P> {
                 plant,
                 names,
                 second,
+                text: LogText::new(alloc),
             }),
             _ => Err(SceneFault::Memory),
         }
@@ -91,13 +93,21 @@ impl<P: Port> Player<P> {
         ensures note { has_failed output.new ≡ (has_failed output.old || says_write result) }
     {
         match command {
-            Command::Event(event) => play(&mut self.plant, &self.names, &[event], log, output),
+            Command::Event(event) => play(
+                &mut self.plant,
+                &self.names,
+                &[event],
+                log,
+                &mut self.text,
+                output,
+            ),
             Command::Seconds(count) => play_seconds(
                 &mut self.plant,
                 &self.names,
                 &self.second,
                 count,
                 log,
+                &mut self.text,
                 output,
             ),
         }
@@ -138,6 +148,7 @@ fn play<P: Port, W: Write>(
     names: &IndexSet<String>,
     events: &[Event],
     log: LogWriter,
+    text: &mut LogText,
     output: &mut Watched<W>,
 ) -> Result<Option<Refusal>, SceneFault>
     ensures plays { IfOk result (λ refusal.
@@ -149,7 +160,7 @@ fn play<P: Port, W: Write>(
     ensures note { has_failed output.new ≡ (has_failed output.old || says_write result) }
 {
     let refusal = run(plant, events)?;
-    log.write_entries(names, plant.log(), output)?;
+    log.write_entries(text, names, plant.log(), output)?;
     plant.clear_log();
     Ok(refusal)
 }
@@ -162,6 +173,7 @@ fn play_seconds<P: Port, W: Write>(
     second: &[Event],
     count: u32,
     log: LogWriter,
+    text: &mut LogText,
     output: &mut Watched<W>,
 ) -> Result<Option<Refusal>, SceneFault>
     ensures plays { IfOk result (λ refusal.
@@ -175,7 +187,7 @@ fn play_seconds<P: Port, W: Write>(
     ensures note { has_failed output.new ≡ (has_failed output.old || says_write result) }
 {
     for _ in 0..count {
-        let refusal = play(plant, names, second, log, output)?;
+        let refusal = play(plant, names, second, log, text, output)?;
         if refusal.is_some() {
             return Ok(refusal);
         }

@@ -5,11 +5,11 @@ ghost use Rattle.irig_device.specs.Watched.{device_of, has_failed};
 ghost use Rattle.irig_scene.specs.Run.{Ran};
 
 use crate::fault::SceneFault;
-use crate::line::{LineEnd, limit_of, read_line, refuse, run_last, take_line, too_long};
+use crate::line::{limit_of, read_line, refuse, run_last, take_line, too_long};
 use crate::log_writer::LogWriter;
 use crate::outcome::Outcome;
 use crate::player::Player;
-use irig_device::Watched;
+use irig_device::{LineEnd, Watched};
 use irig_port::{FlowPort, Port};
 use std::alloc::Global;
 use std::io::{BufRead, Write};

@@ -1,19 +1,83 @@
 //! The text of a log, and the last line of a run.
 
-ghost use Rattle.std.specs.Prelude.{◌≡◌, ◌++◌, ◌||◌, map, is_some, string_bytes, All, IfSome, OnOk, IsAscii};
+ghost use Rattle.std.specs.Prelude.{◌≡◌, ◌++◌, ◌||◌, map, is_some, string_bytes, All, IfOk, IfSome, OnOk, IsAscii, IsTrue, Some};
+ghost use Rattle.std.specs.Option.{ForSome};
+ghost use Rattle.std.specs.Fmt.{decimal};
 ghost use Rattle.irig_time.specs.Seconds.{IsValid};
-ghost use Rattle.irig_scene.specs.Text.{lock_text, cause_text, time_shown_text, name_at, entry_text, entries_text, audit_text, refusal_text};
+ghost use Rattle.irig_scene.specs.Text.{
+  lock_text,
+  cause_text,
+  time_shown_text,
+  name_at,
+  report_text,
+  entry_text,
+  entries_text,
+  audit_text,
+  refusal_text,
+};
 
 use indexmap::IndexSet;
 use irig_forms::Refusal;
 use irig_plant::{Audit, Entry};
-use irig_reader::{Cause, Lock};
+use irig_reader::{Cause, Lock, Report};
 use irig_time::{UtcSecond, write_text};
-use std::alloc::AllocError;
+use itoa::Buffer;
+use std::alloc::{AllocError, Global};
+
+/// The text of the last report, since readers that tick together mostly say the same.
+#[derive(Drop)]
+pub(crate) struct ReportText {
+    report: Option<Report>,
+    text: String,
+    ghost exact: { ForSome report (λ report. string_bytes text ≡ report_text report) },
+}
+
+impl ReportText {
+    /// No report's text.
+    pub(crate) fn new(alloc: Global) -> ReportText {
+        ReportText {
+            report: None,
+            text: String::new(alloc),
+        }
+    }
+
+    // The text of this report.
+    fn of(&mut self, report: Report) -> Result<&str, AllocError>
+        requires { IfSome report.announce IsValid }
+        ensures { IfOk result (λ text. text.now ≡ report_text report) }
+    {
+        if is_kept(self.report, report) {
+            return Ok(self.text.as_str());
+        }
+        self.report = None;
+        self.text.clear();
+        push_report(&mut self.text, report)?;
+        self.report = Some(report);
+        Ok(self.text.as_str())
+    }
+}
+
+// The test of `==`, field by field.
+fn is_kept(kept: Option<Report>, report: Report) -> bool
+    ensures { IsTrue result → kept ≡ Some report }
+{
+    let Some(
+        Report {
+            announce,
+            lock,
+            cause,
+        },
+    ) = kept
+    else {
+        return false;
+    };
+    announce == report.announce && lock == report.lock && cause == report.cause
+}
 
 /// Adds a line for each entry with an announcement, or for each entry where all are wanted.
 pub(crate) fn push_entries(
     text: &mut String,
+    last: &mut ReportText,
     names: &IndexSet<String>,
     entries: &[Entry],
     all: bool,
@@ -24,7 +88,7 @@ pub(crate) fn push_entries(
 {
     for entry in entries {
         if is_written(entry, all) {
-            push_entry(text, names, entry)?;
+            push_entry(text, last, names, entry)?;
         }
     }
     Ok(())
@@ -39,19 +103,40 @@ fn is_written(entry: &Entry, all: bool) -> bool
 
 /// Adds the line of one entry.
 #[tactic(auto, unfolding(crate::specs::Text::entry_text))]
-fn push_entry(text: &mut String, names: &IndexSet<String>, entry: &Entry) -> Result<(), AllocError>
+fn push_entry(
+    text: &mut String,
+    last: &mut ReportText,
+    names: &IndexSet<String>,
+    entry: &Entry,
+) -> Result<(), AllocError>
     requires { IfSome entry.now.report.announce IsValid }
     ensures { OnOk result (string_bytes text.new
         ≡ string_bytes text.old ++ entry_text (map string_bytes names.now.keys) entry.now) }
 {
-    let name = name_at(names, entry.reader);
-    let edge = entry.edge;
-    write!(text, "{edge} {name} ")?;
-    push_time(text, entry.report.announce)?;
+    push_number(text, entry.edge)?;
     text.push_str(" ")?;
-    push_lock(text, entry.report.lock)?;
-    let cause = cause_word(entry.report.cause);
-    write!(text, " {cause}\n")
+    text.push_str(name_at(names, entry.reader))?;
+    text.push_str(last.of(entry.report)?)
+}
+
+fn push_number(text: &mut String, number: u64) -> Result<(), AllocError>
+    ensures { OnOk result (string_bytes text.new ≡ string_bytes text.old ++ decimal number) }
+{
+    text.push_str(Buffer::new().format(number))
+}
+
+/// Adds what a reader says, after a blank.
+fn push_report(text: &mut String, report: Report) -> Result<(), AllocError>
+    requires { IfSome report.announce IsValid }
+    ensures { OnOk result (string_bytes text.new ≡ string_bytes text.old ++ report_text report) }
+{
+    text.push_str(" ")?;
+    push_time(text, report.announce)?;
+    text.push_str(" ")?;
+    push_lock(text, report.lock)?;
+    text.push_str(" ")?;
+    text.push_str(cause_word(report.cause))?;
+    text.push_str("\n")
 }
 
 /// The name of a reader.
@@ -90,9 +175,15 @@ fn push_lock(text: &mut String, lock: Lock) -> Result<(), AllocError>
 {
     match lock {
         Lock::Unlocked => text.push_str("unlocked"),
-        Lock::Acquiring(votes) => write!(text, "acquiring:{votes}"),
+        Lock::Acquiring(votes) => {
+            text.push_str("acquiring:")?;
+            push_number(text, u64::from(votes))
+        }
         Lock::Locked => text.push_str("locked"),
-        Lock::Holdover(age) => write!(text, "holdover:{age}"),
+        Lock::Holdover(age) => {
+            text.push_str("holdover:")?;
+            push_number(text, u64::from(age))
+        }
     }
 }
 

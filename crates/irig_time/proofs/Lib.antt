@@ -13,3 +13,4 @@ pub mod CodedLaws
 pub mod TimeShown
 pub mod FrameLaws
 pub mod ClaimedSeconds
+pub mod ValidLaws

@@ -1,12 +1,13 @@
 -- The stretches of a timeline, and the second that is found by them.
-use Rattle.std.proofs.Common.{◌≡◌, ℕ, zero, suc, ◌+◌, ◌-◌, ◌*◌, ◌/◌, ◌^◌, ◌<◌, ◌≤◌, min, ◌⊎◌, true, false, All, get_or, List, [], ◌∷◌, ◌++◌, length, slice_get, Option, Some, None, refl, sym, ap, subst, ◌∙◌, arith, inl, inr}
+use Rattle.std.proofs.Common.{leb, leb-true, take, drop, ◌≡◌, ℕ, zero, suc, ◌+◌, ◌-◌, ◌*◌, ◌/◌, ◌^◌, ◌<◌, ◌≤◌, min, ◌⊎◌, true, false, All, get_or, List, [], ◌∷◌, ◌++◌, length, slice_get, Option, Some, None, refl, sym, ap, subst, ◌∙◌, arith, inl, inr}
 use Rattle.std.specs.List.{AllAdjacentBelow}
-use Rattle.std.proofs.lemmas.Bool.{cases_lt, ltb-true, ltb-false, ne_eqb, eq-eqb}
+use Rattle.std.proofs.lemmas.Bool.{cases_lt, leb-false, ltb-true, ltb-false, ne_eqb, eq-eqb}
 use Rattle.std.specs.Prelude.{MatchOption}
 use Rattle.std.proofs.lemmas.Option.{slice_get_within}
 use Rattle.std.proofs.lemmas.List.Sorted.{IsNonDecreasingBy-from_all_adjacent, all_adjacent_more}
 use Rattle.std.proofs.lemmas.List.Elements.{All-push}
-use Rattle.std.proofs.lemmas.List.{length-append}
+use Rattle.std.proofs.lemmas.List.{length-append, length-drop, length-take-le, get_or-drop, get_or-take}
+use Rattle.std.specs.List.Sorted.{IsPartitionPoint}
 use Rattle.std.proofs.Math.ListN.{get_or-append}
 use Rattle.std.proofs.Math.Seq.{get_or-append_seam}
 use Rattle.irig_time.specs.declared.second.UtcSecond.{UtcSecond}
@@ -38,15 +39,21 @@ plain_until leaps first s day placed from plain =
 
 -- the stretch after a leap
 pub next_placed : (leaps : List (ℕ × Leap)) (first : ℕ) (s : Stretch) (leap : ℕ × Leap) (seconds : ℕ) → IsPlaced leaps first s → IsNextLeap leaps s.day leap → seconds ≡ s.seconds + 86400 * (leap.0 - s.day) + length_by (Some leap.1)
-    → IsPlaced leaps first (record { day = leap.0 + 1; seconds = seconds })
+    → IsPlaced leaps first (record { day = leap.0 + 1; seconds = seconds; leap = Some leap.1 })
 next_placed leaps first s leap seconds placed next e =
     let sum = plain_until leaps first s leap.0 placed next.from_on next.none_before in
     let more = seconds_to_next leaps first leap.0 (omega (arith, placed.from_on, next.from_on)) in
     let long : day_length leaps leap.0 ≡ length_by (Some leap.1) = ap length_by next.there in
     record { from_on = omega (arith, placed.from_on, next.from_on); served = omega (arith, next.served); seconds = omega (arith, e, sum, more, long) }
 
-pub next_joins : (leaps : List (ℕ × Leap)) (s : Stretch) (leap : ℕ × Leap) (seconds : ℕ) → IsNextLeap leaps s.day leap → Joins leaps s (record { day = leap.0 + 1; seconds = seconds })
-next_joins leaps s leap seconds next = record { later = omega (arith, next.from_on); plain = λ day low high. next.none_before day low (omega arith) }
+pub next_joins : (leaps : List (ℕ × Leap)) (s : Stretch) (leap : ℕ × Leap) (seconds : ℕ) → IsNextLeap leaps s.day leap → Joins leaps s (record { day = leap.0 + 1; seconds = seconds; leap = Some leap.1 })
+next_joins leaps s leap seconds next =
+    let before : leap.0 + 1 - 1 ≡ leap.0 = omega arith in
+    record {
+      later = omega (arith, next.from_on);
+      plain = λ day low high. next.none_before day low (omega arith);
+      leap = ap (leap_of leaps) before ∙ next.there;
+    }
 
 -- the stretches so far, and the one that is to follow
 pub record IsBuilt (leaps : List (ℕ × Leap)) (first : ℕ) (all : List Stretch) : Type 0 where
@@ -55,11 +62,11 @@ pub record IsBuilt (leaps : List (ℕ × Leap)) (first : ℕ) (all : List Stretc
   pub placed : All (IsPlaced leaps first) all
   pub joined : AllAdjacentBelow (Joins leaps) all (length all)
 
-pub first_built : (leaps : List (ℕ × Leap)) (first : ℕ) → first ≤ 36523 → IsBuilt leaps first (record { day = first; seconds = 0 } ∷ [])
+pub first_built : (leaps : List (ℕ × Leap)) (first : ℕ) → first ≤ 36523 → IsBuilt leaps first (record { day = first; seconds = 0; leap = None } ∷ [])
 first_built leaps first h =
     let none : first - first ≡ 0 = omega arith in
     let sum : seconds_in leaps first (first - first) ≡ 0 = ap (seconds_in leaps first) none in
-    let here : IsPlaced leaps first (record { day = first; seconds = 0 }) = record { from_on = omega arith; served = omega arith; seconds = sym sum } in
+    let here : IsPlaced leaps first (record { day = first; seconds = 0; leap = None }) = record { from_on = omega arith; served = omega arith; seconds = sym sum } in
     record {
       some = omega arith;
       start = λ d. refl;
@@ -251,6 +258,51 @@ rising leaps first stretches index = record {
   later = λ k d lt. (index.joined k d lt).later;
 }
 
+-- so many stretches have begun
+pub record HasBegun (stretches : List Stretch) (total begun : ℕ) : Type 0 where
+  pub some : 0 < begun
+  pub within : begun ≤ length stretches
+  pub last : (d : Stretch) → (get_or stretches (begun - 1) d).seconds ≤ total
+  pub next : (d : Stretch) → begun < length stretches → total < (get_or stretches begun d).seconds
+
+-- what was found among some of the stretches
+pub found_among : (all : List Stretch) (low high point total : ℕ) → low < high → high ≤ length all
+    → ((d : Stretch) → (get_or all low d).seconds ≤ total) → ((d : Stretch) → high < length all → total < (get_or all high d).seconds)
+    → point ≤ length (take (high - low) (drop low all))
+    → IsPartitionPoint (λ s. leb s.seconds total ≡ true) (λ s. leb s.seconds total ≡ false) (take (high - low) (drop low all)) point
+    → HasBegun all total (low + point)
+found_among all low high point total up within first past bound found =
+    let some : 0 < point = elim (cases_lt 0 point) [
+      | inl some ↦ some
+      | inr none ↦
+          let d : Stretch = record { day = 0; seconds = 0; leap = None } in
+          let late = leb-false _ _ (found.1 0 d none (omega (arith, long, up))) in
+          let here : low + 0 ≡ low = omega arith in
+          absurd (omega (arith, late, seconds_at 0 d (omega (arith, up)), ap (λ (k : ℕ). (get_or all k d).seconds) here, first d))
+    ] in
+    record {
+      some = omega (arith, some);
+      within = omega (arith, bound, long, up, within);
+      last = λ d.
+          let before : low + (point - 1) ≡ low + point - 1 = omega (arith, some) in
+          let begun = leb-true _ _ (found.0 (point - 1) d (omega arith) (omega (arith, some))) in
+          omega (arith, begun, seconds_at (point - 1) d (omega (arith, some, bound, long)), ap (λ (k : ℕ). (get_or all k d).seconds) before);
+      next = λ d lt. elim (cases_lt point (high - low)) [
+        | inl inside ↦
+            let later = leb-false _ _ (found.1 point d (omega arith) (omega (arith, long, inside))) in
+            omega (arith, later, seconds_at point d inside)
+        | inr end ↦
+            let same : high ≡ low + point = omega (arith, end, bound, long, up) in
+            omega (arith, past d (omega (arith, same, lt)), ap (λ (k : ℕ). (get_or all k d).seconds) same)
+      ];
+    }
+  where
+    long : length (take (high - low) (drop low all)) ≡ high - low
+    long = length-take-le (high - low) (drop low all) (omega (arith, length-drop low all, within))
+
+    seconds_at : (k : ℕ) (d : Stretch) → k < high - low → (get_or (take (high - low) (drop low all)) k d).seconds ≡ (get_or all (low + k) d).seconds
+    seconds_at k d lt = ap (λ (s : Stretch). s.seconds) (get_or-take (high - low) (drop low all) k d lt ∙ get_or-drop low all k d)
+
 -- the stretch that is the last to have begun holds the second
 pub held_until : (t : TimelineValue) (stretches : List Stretch) (total begun : ℕ) (d : Stretch) → IsIndex t.leaps t.start.day stretches → 0 < begun → begun < length stretches
     → (get_or stretches (begun - 1) d).seconds ≤ total → total < (get_or stretches begun d).seconds → Holds t total (get_or stretches (begun - 1) d) ((get_or stretches begun d).day - 1)
@@ -284,6 +336,51 @@ held_for_ever t stretches total begun d index all low =
       plain = λ x from to. plain x from;
       before_end = inl refl;
     }
+
+-- ---- the leap of a day
+
+-- the first stretch begins on the first day
+first_stretch : (leaps : List (ℕ × Leap)) (first : ℕ) (stretches : List Stretch) (d : Stretch)
+    → IsIndex leaps first stretches → (get_or stretches 0 d).day ≡ first
+first_stretch leaps first stretches d index =
+    let one = index.placed 0 d index.some in
+    let long = seconds_bounds leaps first ((get_or stretches 0 d).day - first) in
+    omega (arith, one.from_on, one.seconds, index.start d, long.0)
+
+-- the stretch after the day of a leap names it
+pub leap_told : (leaps : List (ℕ × Leap)) (first day begun : ℕ) (stretches : List Stretch) (d : Stretch)
+    → IsIndex leaps first stretches → first ≤ day → begun < length stretches
+    → (0 < begun → (get_or stretches (begun - 1) d).day ≤ day) → day < (get_or stretches begun d).day
+    → ((get_or stretches begun d).day - day ≡ 1 → leap_of leaps day ≡ (get_or stretches begun d).leap)
+    × (¬ ((get_or stretches begun d).day - day ≡ 1) → leap_of leaps day ≡ None)
+leap_told leaps first day begun stretches d index from lt low high =
+    let some : 0 < begun = elim (cases_lt 0 begun) [
+      | inl some ↦ some
+      | inr none ↦
+          let zero : begun ≡ 0 = omega arith in
+          let here : (get_or stretches begun d).day ≡ first = ap (λ (k : ℕ). (get_or stretches k d).day) zero ∙ first_stretch leaps first stretches d index in
+          absurd (omega (arith, here, from, high))
+    ] in
+    let at : begun - 1 + 1 ≡ begun = omega (arith, some) in
+    let joins : Joins leaps (get_or stretches (begun - 1) d) (get_or stretches begun d) = subst (λ (k : ℕ). Joins leaps (get_or stretches (begun - 1) d) (get_or stretches k d)) at (index.joined (begun - 1) d (omega (arith, some, lt))) in (
+      λ next. let same : day ≡ (get_or stretches begun d).day - 1 = omega (arith, next, high) in ap (leap_of leaps) same ∙ joins.leap,
+      λ other. joins.plain day (low some) (far other),
+    )
+  where
+    far : ¬ ((get_or stretches begun d).day - day ≡ 1) → day + 1 < (get_or stretches begun d).day
+    far other = elim (cases_lt (day + 1) (get_or stretches begun d).day) [
+      | inl later ↦ later
+      | inr ge ↦ absurd (other (omega (arith, ge, high)))
+    ]
+
+-- no leap comes where the last stretch has begun
+pub none_told : (leaps : List (ℕ × Leap)) (first day begun : ℕ) (stretches : List Stretch) (d : Stretch)
+    → IsIndex leaps first stretches → begun ≡ length stretches
+    → (0 < begun → (get_or stretches (begun - 1) d).day ≤ day) → leap_of leaps day ≡ None
+none_told leaps first day begun stretches d index all low =
+    let last : length stretches - 1 ≡ begun - 1 = omega (arith, all) in
+    let plain : HasNoLeapFrom leaps (get_or stretches (begun - 1) d).day = subst (λ (k : ℕ). HasNoLeapFrom leaps (get_or stretches k d).day) last (index.plain_after d) in
+    plain day (low (omega (arith, all, index.some)))
 
 -- the index of the same timeline, as the same list
 pub indexed_by : (s t : TimelineValue) (items slice : List Stretch) → s ≡ t → slice ≡ items → IsIndexed s items → IsIndexed t slice

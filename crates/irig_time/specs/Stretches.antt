@@ -31,10 +31,11 @@ pub record IsPlaced (leaps : List (ℕ × Leap)) (first : ℕ) (s : Stretch) : T
   pub served : s.day ≤ LAST_DAY + 1
   pub seconds : s.seconds ≡ seconds_in leaps first (s.day - first)
 
--- none but the last day of the one stretch has a leap, and the other follows
+-- none but the last day of the one stretch has a leap, and the other follows and names it
 pub record Joins (leaps : List (ℕ × Leap)) (one other : Stretch) : Type 0 where
   pub later : one.day < other.day
   pub plain : (day : ℕ) → one.day ≤ day → day + 1 < other.day → leap_of leaps day ≡ None
+  pub leap : leap_of leaps (other.day - 1) ≡ other.leap
 
 -- the stretches from the first day on, the last of which no leap ends
 pub record IsIndex (leaps : List (ℕ × Leap)) (first : ℕ) (stretches : List Stretch) : Type 0 where

@@ -1,14 +1,45 @@
-//! The frame of a second.
+//! The time that a frame codes for a second of UTC, and the frame of the second.
 
 ghost use Rattle.std.specs.Prelude.{◌≡◌, ◌≤◌, unsigned_abs};
+ghost use Rattle.irig_frame.specs.Decoder.{IsCoded};
 ghost use Rattle.irig_control.specs.Control.{IsControl};
 ghost use Rattle.irig_time.specs.Seconds.{IsValid};
+ghost use Rattle.irig_time.specs.CodedTime.{IsCodedOf};
 ghost use Rattle.irig_time.specs.Frames.{IsFrameOfSecond, frame_of_second};
 
-use crate::coded_time::coded_of;
+use crate::calendar::year_and_day;
 use crate::second::UtcSecond;
 use irig_control::{Control, Parity, pack, set_parity};
 use irig_frame::{Coded, Symbol, encode};
+
+/// What a clock shows that is `local_half_hours` half hours ahead of UTC, -31 to 31, with the straight
+/// binary seconds of that time and without control bits.
+///
+/// The second must be a [`valid`](crate::valid) one. A leap second lies inside the minute 23:59 UTC, so
+/// a coded minute is converted with 1440 minutes a day. The straight binary seconds are 3600h + 60m + s
+/// of the coded time, also at second 60; that is this project's profile of IRIG Standard 200-16.
+pub fn coded_of(utc: &UtcSecond, local_half_hours: i8) -> Coded
+    requires valid { IsValid utc.now }
+    requires local { unsigned_abs local_half_hours ≤ 31 }
+    ensures time { IsCodedOf utc.now local_half_hours result }
+    ensures in_range { IsCoded result }
+{
+    let utc_minute = (utc.sod / 60).min(1439);
+    let second = utc.sod - utc_minute * 60;
+    let coded_minute = (i64::from(utc.day * 1440 + utc_minute)
+        + i64::from(local_half_hours) * 30) as u32;
+    let (year, day) = year_and_day(coded_minute / 1440);
+    let minute_of_day = coded_minute % 1440;
+    Coded {
+        second: second as u8,
+        minute: (minute_of_day % 60) as u8,
+        hour: (minute_of_day / 60) as u8,
+        day,
+        year,
+        control: 0,
+        sbs: minute_of_day * 60 + second,
+    }
+}
 
 /// The frame of a [`valid`](crate::valid) second with these control bits, by a clock `half_hours` half
 /// hours ahead of UTC, -31 to 31.

@@ -7,12 +7,10 @@
 
 mod calendar;
 mod claim;
-mod coded_time;
 mod frame;
 mod laws;
 mod leap;
 mod mark;
-mod next_second;
 mod rules;
 mod second;
 mod stretches;
@@ -22,19 +20,14 @@ mod timeline;
 
 pub use calendar::month_end;
 pub use claim::{Claim, TimeFault, claim_of};
-pub use coded_time::coded_of;
-pub use frame::frame_of_second;
+pub use frame::{coded_of, frame_of_second};
 pub use laws::{
     claim_of_coded, claims_are_valid, law_of_next, one_coded, one_second, second_is, time_is_shown,
 };
 pub use leap::Leap;
 pub use mark::Mark;
-pub use next_second::next;
 pub use rules::{Rules, SbsUse, Sense};
-pub use second::{FIRST_DAY, LAST_DAY, UtcSecond, valid};
+pub use second::{FIRST_DAY, LAST_DAY, UtcSecond, next, valid};
 pub use table::{LeapTable, TableFault};
 pub use text::{read_day, read_text, write_text};
 pub use timeline::{Timeline, TimelineFault};
-
-#[cfg(test)]
-mod tests;

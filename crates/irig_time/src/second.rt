@@ -1,9 +1,11 @@
-//! Seconds of UTC.
+//! Seconds of UTC, and which comes after which.
 
-ghost use Rattle.std.specs.Prelude.{◌↔◌, IsTrue};
+ghost use Rattle.std.specs.Prelude.{◌≡◌, ◌↔◌, IsTrue};
 ghost use Rattle.irig_time.specs.Seconds.{IsValid};
+ghost use Rattle.irig_time.specs.Next.{next_of};
 
 use crate::calendar::month_end;
+use crate::mark::Mark;
 
 /// The first day served, 2000-01-02, counted from 2000-01-01 as day 0.
 pub const FIRST_DAY: u32 = 1;
@@ -28,4 +30,37 @@ pub fn valid(utc: &UtcSecond) -> bool
 {
     (FIRST_DAY..=LAST_DAY).contains(&utc.day)
         && (utc.sod <= 86399 || (utc.sod == 86400 && month_end(utc.day)))
+}
+
+/// The second after a [`valid`](crate::valid) second, by what is said of the leap at the end of its day.
+///
+/// None past 2099-12-30, and, where nothing is said, after 23:59:58 and 23:59:59 of a month's last day:
+/// what follows those is not known.
+pub fn next(utc: UtcSecond, mark: Mark) -> Option<UtcSecond>
+    requires { IsValid utc }
+    ensures { result ≡ next_of utc mark }
+{
+    let last = if !month_end(utc.day) {
+        86399
+    } else {
+        match mark {
+            Mark::Unspoken if utc.sod == 86398 || utc.sod == 86399 => return None,
+            Mark::Unspoken | Mark::Insert => 86400,
+            Mark::NoLeap => 86399,
+            Mark::Delete => 86398,
+        }
+    };
+    if utc.sod < last {
+        Some(UtcSecond {
+            day: utc.day,
+            sod: utc.sod + 1,
+        })
+    } else if utc.day == LAST_DAY {
+        None
+    } else {
+        Some(UtcSecond {
+            day: utc.day + 1,
+            sod: 0,
+        })
+    }
 }

@@ -11,7 +11,7 @@ use crate::claim::Claim;
 use crate::leap::{Leap, leap_on, length_with, mark_with};
 use crate::mark::Mark;
 use crate::second::{FIRST_DAY, LAST_DAY, UtcSecond};
-use crate::stretches::{Stretch, stretch_at, stretches_from};
+use crate::stretches::{Stretch, leap_in, stretch_at, stretches_from};
 use std::alloc::Global;
 use std::marker::Model;
 
@@ -86,7 +86,11 @@ impl Timeline {
     pub fn leap(&self, day: u32) -> Option<Leap>
         ensures { result ≡ leap_of self.now.leaps day }
     {
-        leap_on(&self.leaps, day)
+        if day < self.start.day {
+            leap_on(&self.leaps, day)
+        } else {
+            leap_in(&self.stretches, day)
+        }
     }
 
     /// The `number`-th second, the start being second 0; none past [`LAST_DAY`].
@@ -118,8 +122,25 @@ impl Timeline {
         ensures early { IfSome result (λ c. number < 2 ^ 32) }
     {
         let at = self.at(number)?;
-        let mark = true_mark(&self.leaps, at);
+        let mark = self.true_mark(at);
         Some(Claim { at, mark })
+    }
+
+    fn true_mark(&self, utc: UtcSecond) -> Mark
+        requires { utc.day ≤ LAST_DAY }
+        ensures { result ≡ true_mark self.now.leaps utc }
+    {
+        if utc.sod < 86341 {
+            return Mark::Unspoken;
+        }
+        if utc.sod >= 86400 {
+            return Mark::Unspoken;
+        }
+        if month_end(utc.day) {
+            mark_with(self.leap(utc.day))
+        } else {
+            Mark::Unspoken
+        }
     }
 }
 
@@ -167,22 +188,5 @@ fn start_fault(leaps: &[(u32, Leap)], start: UtcSecond) -> Option<TimelineFault>
         None
     } else {
         Some(TimelineFault::BadStart)
-    }
-}
-
-fn true_mark(leaps: &[(u32, Leap)], utc: UtcSecond) -> Mark
-    requires { utc.day ≤ LAST_DAY }
-    ensures { result ≡ true_mark leaps.now utc }
-{
-    if utc.sod < 86341 {
-        return Mark::Unspoken;
-    }
-    if utc.sod >= 86400 {
-        return Mark::Unspoken;
-    }
-    if month_end(utc.day) {
-        mark_with(leap_on(leaps, utc.day))
-    } else {
-        Mark::Unspoken
     }
 }

@@ -1,31 +1,28 @@
 //! Uses of `irig_plant`.
 
 ghost use Rattle.std.specs.Prelude.{◌≡◌, [], All, IfSome, OnOk};
-ghost use Rattle.irig_reader.specs.Rules.{IsReaderRules};
 ghost use Rattle.irig_plant.specs.Headline.{AnnouncesTruth, IsKept};
-ghost use Rattle.irig_plant.specs.History.{AreGenerators, PlantHistory, HasPlantHistory, with_cleared_log, with_events};
+ghost use Rattle.irig_plant.specs.History.{AreGenerators, AreReaders, PlantHistory, HasPlantHistory, with_cleared_log, with_events};
 
 use irig_gen::{Generator, Zone};
 use irig_plant::{Audit, Entry, Event, Plant, ReaderSetup, Refused};
 use irig_port::Port;
-use irig_reader::ReaderRules;
-use irig_time::{LeapTable, Rules, Timeline, UtcSecond};
+use irig_time::{Rules, Timeline};
 use std::alloc::Global;
 
-/// A plant of three generators on UTC and one reader, from a second on; `None` if the second is not
-/// served, or there is no memory.
-pub fn plain_plant<P: Port>(alloc: Global, start: UtcSecond, rules: ReaderRules) -> Option<Plant<P>>
-    requires { IsReaderRules rules }
+/// A plant of three generators on UTC over this timeline, read by the plain rules; `None` if there is no
+/// memory.
+pub fn plain_plant<P: Port>(
+    alloc: Global,
+    timeline: Timeline,
+    readers: &[ReaderSetup],
+) -> Option<Plant<P>>
+    requires { AreReaders readers.now }
     ensures { IfSome result (λ plant.
         (h : PlantHistory) × HasPlantHistory plant h × (h.events ≡ [])) }
 {
-    let timeline = Timeline::new(alloc, start, &[]).ok()?;
     let generators = three_generators(alloc, Rules::PLAIN)?;
-    let reader = ReaderSetup {
-        rules,
-        table: LeapTable::empty(),
-    };
-    Plant::new(alloc, timeline, generators, Rules::PLAIN, &[reader]).ok()
+    Plant::new(alloc, timeline, generators, Rules::PLAIN, readers).ok()
 }
 
 fn three_generators(alloc: Global, rules: Rules) -> Option<Vec<Generator>>

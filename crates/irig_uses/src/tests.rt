@@ -1,9 +1,9 @@
 use crate::{frames, plants, ports, scenes, times};
 use irig_frame::{Coded, encode};
-use irig_plant::{Event, Plant};
+use irig_plant::{Event, Plant, ReaderSetup};
 use irig_port::{FlowPort, Told, WholePort};
 use irig_reader::ReaderRules;
-use irig_time::{Leap, Rules, Timeline, UtcSecond};
+use irig_time::{Leap, LeapTable, Rules, Timeline, UtcSecond};
 use std::process::Abort;
 use std::test::*;
 
@@ -54,24 +54,29 @@ fn ports_tell_the_same(rt: HostRuntime) {
 }
 
 #[test]
-fn a_plant_is_made_and_trusted(rt: HostRuntime) {
+fn a_plant_is_made_and_trusted(rt: HostRuntime) -> Result<(), Fail> {
     let noon = UtcSecond {
         day: 6010,
         sod: 43200,
     };
-    let rules = ReaderRules {
-        lock_after: 1,
-        holdover: 0,
+    let timeline = Timeline::new(rt.alloc(), noon, &[])?;
+    let reader = ReaderSetup {
+        rules: ReaderRules {
+            lock_after: 1,
+            holdover: 0,
+        },
+        table: LeapTable::empty(),
     };
-    let made: Option<Plant<FlowPort>> = plants::plain_plant(rt.alloc(), noon, rules);
+    let made: Option<Plant<FlowPort>> = plants::plain_plant(rt.alloc(), timeline, &[reader]);
     let Some(mut plant) = made else {
-        return assert!(&rt; false);
+        return Ok(assert!(&rt; false));
     };
     assert_eq!(&rt;
         plants::count_entries(&mut plant, &[Event::Tick(0)]).ok(),
         Some(1)
     );
     assert_eq!(&rt; plants::trusted_log(&plant).map(|log| log.len()), Some(0));
+    Ok(())
 }
 
 #[test]

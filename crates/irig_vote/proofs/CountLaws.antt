@@ -9,7 +9,7 @@ use Rattle.irig_time.specs.Claims.{same_claim}
 use Rattle.irig_vote.specs.Vote.{f_of, ports_of, is_told, carriers, first_told, vote_of, is_other, others}
 use Rattle.irig_vote.specs.declared.redundancy.Redundancy.{Redundancy}
 use Rattle.irig_vote.specs.declared.redundancy.Redundancy.TheVariants.{Three, Five}
-use Rattle.irig_vote.specs.declared.tells.Tells.{Tells}
+use Rattle.irig_vote.specs.declared.votes.Tells.{Tells}
 
 pub carriers-cons : (c : Claim) (t : Told) (ts : List Told) → carriers c (t ∷ ts) ≡ cond (is_told c t) 1 0 + carriers c ts
 carriers-cons c t ts = sum_by-cons (λ u. cond (is_told c u) 1 0) t ts

@@ -7,7 +7,7 @@ use Rattle.irig_port.specs.declared.told.Told.{Told}
 use Rattle.irig_port.specs.declared.told.Told.TheVariants as tells
 use Rattle.irig_vote.specs.declared.redundancy.Redundancy.{Redundancy}
 use Rattle.irig_vote.specs.declared.redundancy.Redundancy.TheVariants.{Three, Five}
-use Rattle.irig_vote.specs.declared.tells.Tells.{Tells}
+use Rattle.irig_vote.specs.declared.votes.Tells.{Tells}
 
 -- how many ports may be untrue
 abbrev pub f_of : Redundancy → ℕ

@@ -5,7 +5,7 @@ ghost use Rattle.irig_time.specs.Claims.{same_claim};
 ghost use Rattle.irig_vote.specs.Vote.{is_told, carriers, others, f_of, ports_in, ports_of, vote_of};
 
 use crate::redundancy::Redundancy;
-use crate::tells::Tells;
+use crate::votes::Tells;
 use irig_port::Told;
 use irig_time::Claim;
 

@@ -7,13 +7,8 @@
 
 mod laws;
 mod redundancy;
-mod tells;
 mod votes;
 
 pub use laws::{equal_claims, few_others, one_vote, vote_is};
 pub use redundancy::Redundancy;
-pub use tells::Tells;
-pub use votes::vote;
-
-#[cfg(test)]
-mod tests;
+pub use votes::{Tells, vote};

@@ -1,13 +1,27 @@
-//! The vote.
+//! The voices in a vote, and the vote.
 
 ghost use Rattle.std.specs.Prelude.{◌≡◌, ◌↔◌, ◌+◌, ◌-◌, ◌*◌, ◌<◌, ◌≤◌, Some, length};
 ghost use Rattle.irig_time.specs.declared.claim.Claim.{Claim};
 ghost use Rattle.irig_vote.specs.Vote.{is_told, carriers, f_of, first_told, ports_of, vote_of};
 
 use crate::redundancy::Redundancy;
-use crate::tells::Tells;
 use irig_port::Told;
 use irig_time::Claim;
+
+/// What each port of a reader tells at an edge. Of three ports `d` and `e` are not there.
+#[derive(Clone, Copy, Debug, PartialEq, Eq)]
+pub struct Tells {
+    /// The port of generator 0.
+    pub a: Told,
+    /// The port of generator 1.
+    pub b: Told,
+    /// The port of generator 2.
+    pub c: Told,
+    /// The port of generator 3.
+    pub d: Told,
+    /// The port of generator 4.
+    pub e: Told,
+}
 
 /// The claim that f + 1 ports tell, second and mark both: two of `a`, `b`, `c` under `Three`, three
 /// of all five under `Five`. None where there is no such claim.

@@ -1,17 +1,14 @@
 //! A plant: a call that finds no memory is made once more, and the log comes out the same, since a call
 //! that was refused has changed nothing.
 
-ghost use Rattle.std.specs.Prelude.{IfOk};
 ghost use Rattle.irig_reader.specs.Rules.{IsReaderRules};
 ghost use Rattle.irig_plant.specs.Sound.{IsSound};
-ghost use Rattle.irig_plant.specs.History.{AreGenerators};
 
-use irig_control::Parity;
-use irig_gen::{Generator, Zone};
 use irig_plant::{Entry, Event, Plant, PlantFault, ReaderSetup, Refused};
 use irig_port::{FlowPort, Port};
 use irig_reader::ReaderRules;
-use irig_time::{Leap, LeapTable, Rules, SbsUse, Sense, Timeline, UtcSecond, write_text};
+use irig_time::{Leap, LeapTable, Timeline, UtcSecond, write_text};
+use irig_uses::plants::plain_plant;
 use std::alloc::Global;
 use std::{io, str};
 
@@ -92,12 +89,6 @@ fn print(rt: &HostRuntime, entry: &Entry) -> io::Result<()>
 #[derive(Clone, Copy, Debug)]
 struct NoMemory;
 
-const RULES: Rules = Rules {
-    parity: Parity::Even,
-    sense: Sense::Add,
-    sbs: SbsUse::Check,
-};
-
 const START: UtcSecond = UtcSecond {
     day: 6209,
     sod: 86390,
@@ -106,8 +97,7 @@ const START: UtcSecond = UtcSecond {
 /// Two readers that lock by two votes, from ten seconds before midnight of 2016-12-31 on.
 fn over_the_leap_of_2016<P: Port>(alloc: Global) -> Result<Plant<P>, NoMemory> {
     let timeline = Timeline::new(alloc, START, &[(6209, Leap::Insert)]).map_err(|_| NoMemory)?;
-    let generators = three_generators(alloc, RULES)?;
-    Plant::new(alloc, timeline, generators, RULES, &[reader(), reader()]).map_err(|_| NoMemory)
+    plain_plant(alloc, timeline, &[reader(), reader()]).ok_or(NoMemory)
 }
 
 fn reader() -> ReaderSetup
@@ -120,21 +110,4 @@ fn reader() -> ReaderSetup
         },
         table: LeapTable::empty(),
     }
-}
-
-fn three_generators(alloc: Global, rules: Rules) -> Result<Vec<Generator>, NoMemory>
-    ensures { IfOk result (λ generators. AreGenerators rules generators.items) }
-{
-    let zone = Zone {
-        half_hours: 0,
-        dst: false,
-    };
-    let mut generators = Vec::new(alloc);
-    for _ in 0..3usize {
-        let generator = Generator::new(alloc, zone, &[], rules).map_err(|_| NoMemory)?;
-        if generators.push(generator).is_err() {
-            return Err(NoMemory);
-        }
-    }
-    Ok(generators)
 }

@@ -1,6 +1,6 @@
 use Rattle.std.proofs.Common.{◌≡◌, drop, length}
 use Rattle.irig_scenario.specs.PlantValues.{generator_of}
-use Rattle.irig_scenario.proofs.ListLaws.{Found}
+use Rattle.irig_forms.proofs.ListLaws.{Found}
 use Rattle.irig_scenario.proofs.generator_values.all_generators.Given as goal
 
 abbrev pub invariant-loop-value : goal.invariant-loop-value

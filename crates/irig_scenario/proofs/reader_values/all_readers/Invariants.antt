@@ -1,7 +1,7 @@
 use Rattle.std.proofs.Common.{◌≡◌, All, drop, length}
 use Rattle.irig_reader.specs.Rules.{IsReaderRules}
 use Rattle.irig_scenario.specs.PlantValues.{reader_of}
-use Rattle.irig_scenario.proofs.ListLaws.{Found}
+use Rattle.irig_forms.proofs.ListLaws.{Found}
 use Rattle.irig_scenario.proofs.reader_values.all_readers.Given as goal
 
 abbrev pub invariant-loop-value : goal.invariant-loop-value

@@ -1,6 +1,10 @@
 use Rattle.std.proofs.Common.{rules, ◌≡◌, ◌∙◌, ◌||◌, Bool, true, false, refl, sym}
-use Rattle.irig_scene.proofs.LineRunLaws.{following_fails, beginning_takes, memory_taking}
+use Rattle.irig_scene.proofs.LineRunLaws.{following_takes, following_fails, beginning_takes, memory_taking}
 use Rattle.irig_scene.proofs.line.take_line.Goals as goal
+
+pub returns-in-Some-clause-takes : goal.returns-in-Some-clause-takes
+returns-in-Some-clause-takes g c =
+    following_takes _ _ _ _ _ _ _ _ _ c.in-Some.is (search rules) c.requires (sym c.is_blank.ensures ∙ c.if-is_blank.false) c.follow.ensures.follows
 
 pub returns-in-Some-clause-fails : goal.returns-in-Some-clause-fails
 returns-in-Some-clause-fails g c =

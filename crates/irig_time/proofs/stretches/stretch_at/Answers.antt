@@ -1,4 +1,4 @@
-use Rattle.std.proofs.Common.{◌≡◌, ℕ, ◌+◌, ◌-◌, get_or, sym, ap, ◌∙◌, arith}
+use Rattle.std.proofs.Common.{None, ◌≡◌, ℕ, ◌+◌, ◌-◌, get_or, sym, ap, ◌∙◌, arith}
 use Rattle.irig_time.specs.declared.stretches.Stretch.{Stretch}
 use Rattle.irig_time.specs.Stretches.{Holds}
 use Rattle.irig_time.proofs.StretchLaws.{held_until, held_for_ever}
@@ -6,7 +6,7 @@ use Rattle.irig_time.proofs.stretches.stretch_at.Goals as goal
 use Rattle.irig_time.proofs.stretches.stretch_at.Goals.{in-Some, in-None}
 
 abbrev nowhere : Stretch
-nowhere = record { day = 0; seconds = 0 }
+nowhere = record { day = 0; seconds = 0; leap = None }
 
 pub overflow_sub-last : goal.overflow_sub-last
 overflow_sub-last c =

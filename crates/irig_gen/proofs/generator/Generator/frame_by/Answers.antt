@@ -5,13 +5,23 @@ use Rattle.irig_time.specs.declared.second.UtcSecond.{UtcSecond}
 use Rattle.irig_time.specs.Timelines.{IsSecond}
 use Rattle.irig_gen.specs.Frames.{gen, IsFrameWithFault}
 use Rattle.irig_control.proofs.ControlLaws.{in_byte}
-use Rattle.irig_gen.proofs.GenLaws.{sent_zone_fits, control_fits, frame_at_is, faulted_fits}
+use Rattle.irig_gen.proofs.GenLaws.{changes_ordered, sent_zone_fits, control_fits, frame_at_is, faulted_fits}
 use Rattle.irig_gen.proofs.SentLaws.{frame_of_by, no_frame}
 use Rattle.irig_gen.specs.Refusals.{IsGenerator}
 use Rattle.irig_gen.proofs.generator.Generator.frame_by.Goals as goal
 
-pub control_at-control-requires : goal.control_at-control-requires
-control_at-control-requires c =
+pub zone_at-zone-requires : goal.zone_at-zone-requires
+zone_at-zone-requires c =
+    let i = c.self.inside in
+    changes_ordered (gen i.zone i.changes.items i.rules i.edge i.fault i.since) _ c.self.invariant c.deref.ensures.value
+
+pub control_at-control-requires-clause-order : goal.control_at-control-requires-clause-order
+control_at-control-requires-clause-order c =
+    let i = c.self.inside in
+    changes_ordered (gen i.zone i.changes.items i.rules i.edge i.fault i.since) _ c.self.invariant c.deref-2.ensures.value
+
+pub control_at-control-requires-clause-zone : goal.control_at-control-requires-clause-zone
+control_at-control-requires-clause-zone c =
     let i = c.self.inside in
     sent_zone_fits (gen i.zone i.changes.items i.rules i.edge i.fault i.since) _ c.in_ok-utc.utc c.zone_at-zone.result c.self.invariant c.deref.ensures.value c.zone_at-zone.ensures
 

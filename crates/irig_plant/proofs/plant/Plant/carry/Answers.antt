@@ -1,14 +1,15 @@
-use Rattle.std.proofs.Common.{rules, Some, sym, ◌∙◌, ap}
+use Rattle.std.proofs.Common.{rules, ◌≡◌, false, Some, sym, ◌∙◌, ap}
 use Rattle.irig_plant.specs.declared.event.Event.TheVariants.{Carry}
 use Rattle.irig_plant.specs.Schedule.{delivery}
 use Rattle.irig_plant.proofs.plant.Plant.carry.Goals as goal
 
-pub returns : goal.returns
-returns g c = record {
+pub returns-then-not-carry_wave : goal.returns-then-not-carry_wave
+returns-then-not-carry_wave g c = record {
   accepted = search rules;
   stands = λ h p.
-      c.deliver.ensures h (Carry c.args.g c.args.r) p
-      (ap (λ ws. Some (delivery c.args.g c.args.r ws)) (sym (c.sent-sent.ensures h p) ∙ sym c.pulses.ensures));
+      let refused : c.carry_wave.result ≡ false = c.if-not-carry_wave.true in
+      c.deliver.ensures h (Carry c.args.g c.args.r) (c.carry_wave.ensures.unchanged refused h p)
+      (ap (λ ws. Some (delivery c.args.g c.args.r ws)) (sym (c.sent-sent.ensures h (c.carry_wave.ensures.unchanged refused h p)) ∙ sym c.pulses.ensures));
   refused = search rules;
   unchanged = search rules;
 }

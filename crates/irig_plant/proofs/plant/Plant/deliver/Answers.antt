@@ -4,7 +4,7 @@ use Rattle.irig_vote.specs.declared.redundancy.Redundancy.{Redundancy}
 use Rattle.irig_vote.specs.declared.redundancy.Redundancy.TheVariants.{Three, Five}
 use Rattle.irig_plant.specs.Schedule.{delivery, history_of}
 use Rattle.irig_plant.specs.Audits.{first_false, verdict}
-use Rattle.irig_plant.proofs.StepLaws.{set_reader, delivers, feed_other, feed_here}
+use Rattle.irig_plant.proofs.StepLaws.{set_reader, wave_after, delivers, feed_other, feed_here}
 use Rattle.irig_plant.proofs.plant.Plant.deliver.Goals as goal
 
 at_most_five : (redundancy : Redundancy) → ports_in redundancy ≤ 5
@@ -25,13 +25,15 @@ returns g c = λ h e p given.
     let x = c.index_mut-ticked_reader.result.now in
     record {
       timeline = p.timeline;
+      rules = p.rules;
       redundancy = p.redundancy;
       generator_count = p.generator_count;
       generators = λ i d lt. p.generators i d lt ∙ sym (plain.generators i);
+      waves = λ i d lt. wave_after g.P.Port s ev (e ∷ ev) i _ (plain.generators i) (p.waves i d lt);
       reader_count = p.reader_count;
       readers = set_reader s ev (e ∷ ev) xs.items r x _ (sym xs.ok.0 ∙ p.reader_count) low p.readers c.index_mut-ticked_reader.ensures.value
           (feed_other s e ev (delivery k r ws) given)
-          (λ old. feed_here s e ev k r ws x _ port given (c.feed.ensures.fed (history_of s r ev) old.reader) refl old);
+          (λ old. feed_here s e ev k r ws x _ port given (c.pulses.ensures.fed (history_of s r ev) old.reader) refl old);
       log = p.log ∙ sym (ap (drop h.shown) plain.log);
       few = omega (arith, p.few, ap length plain.log);
       audit = p.audit ∙ sym (ap (verdict (first_false s.times 0 s.readers)) plain.broken);

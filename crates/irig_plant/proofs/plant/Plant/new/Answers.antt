@@ -1,7 +1,8 @@
-use Rattle.std.proofs.Common.{◌≡◌, length, refl, ◌∙◌, ap, arith}
+use Rattle.std.proofs.Common.{◌≡◌, [], length, refl, sym, ◌∙◌, ap, subst, arith}
 use Rattle.std.proofs.lemmas.List.{get_or_default}
 use Rattle.irig_vote.specs.Vote.{redundancy_of}
-use Rattle.irig_plant.specs.Schedule.{no_generator}
+use Rattle.irig_plant.specs.Schedule.{setup, no_generator}
+use Rattle.irig_plant.specs.History.{IsWave}
 use Rattle.irig_plant.proofs.plant.Plant.new.Goals as goal
 
 pub returns-clause-stands : goal.returns-clause-stands
@@ -11,9 +12,12 @@ returns-clause-stands g c =
     let redundancy : c.of_ports-redundancy.result ≡ redundancy_of (length xs.items) = c.of_ports-redundancy.ensures.value ∙ ap redundancy_of (c.len.ensures ∙ xs.ok.0) in
     record {
       timeline = refl;
+      rules = refl;
       redundancy = redundancy;
       generator_count = xs.ok.0;
       generators = λ k d lt. get_or_default xs.items k d no_generator lt;
+      waves = λ k d lt. subst (λ w. IsWave g.P.Port (setup c.args.timeline xs.items c.args.rules readers) [] k w)
+          (sym (c.in_ok-waves.ensures.none k d (omega (arith, c.in_ok-waves.ensures.count, c.len-2.ensures, xs.ok.0, c.in_ok-waves.waves.ok.0)))) tt;
       reader_count = c.in_ok-ticked.ensures.count;
       readers = λ r d lt. rw (← redundancy) (c.in_ok-ticked.ensures.new r d lt);
       log = c.new.ensures.items;

@@ -1,4 +1,4 @@
-use Rattle.std.proofs.Common.{vec_len, ◌≡◌, ◌+◌, ◌<◌, ◌∷◌, [], length, Some, sym, ◌∙◌, ap, arith}
+use Rattle.std.proofs.Common.{vec_len, ◌≡◌, ◌+◌, ◌<◌, ◌∷◌, [], length, Some, refl, sym, ◌∙◌, ap, arith}
 use Rattle.std.proofs.Math.Logic.{∥∥₁_map}
 use Rattle.std.proofs.lemmas.List.{length-append}
 use Rattle.std.proofs.lemmas.List.Elements.{All-push, All-set}
@@ -11,7 +11,7 @@ use Rattle.irig_plant.specs.Schedule.{ticks_of, history_of, entry_of, log_of}
 use Rattle.irig_plant.specs.Audits.{place, is_broken_now, first_false, first_broken}
 use Rattle.irig_plant.specs.History.{IsTickedReaderAt}
 use Rattle.irig_plant.proofs.ListLaws.{drop-push}
-use Rattle.irig_plant.proofs.StepLaws.{set_reader, tick_other, tick_here, audit_tick}
+use Rattle.irig_plant.proofs.StepLaws.{set_reader, wave_after, tick_other, tick_here, audit_tick}
 use Rattle.irig_plant.proofs.plant.Plant.tick.Goals as goal
 
 pub overflow_add-edge : goal.overflow_add-edge
@@ -20,6 +20,7 @@ overflow_add-edge g c = omega (arith, c.in-Some.ensures.early)
 pub invariant_of-self : goal.invariant_of-self
 invariant_of-self g c = record {
   fed = c.args.self.now.fed;
+  carried = c.args.self.now.carried;
   wired = c.args.self.now.wired;
   timed = c.args.self.now.timed;
   sound = rw c.reserve.ensures.items c.args.self.now.sound;
@@ -59,9 +60,11 @@ returns-clause-stands g c = λ h p.
     sym c.in-Some.is ∙ c.truth.ensures.value ∙ ap (λ (t : TimelineValue). truth_at t c.index.result.now.ticks) p.timeline ∙ ap (truth_at s.times) first.ticked in
     record {
       timeline = p.timeline;
+      rules = p.rules;
       redundancy = p.redundancy;
       generator_count = p.generator_count;
       generators = p.generators;
+      waves = λ i d lt. wave_after g.P.Port s ev (Tick r ∷ ev) i _ refl (p.waves i d lt);
       reader_count = p.reader_count;
       readers = set_reader s ev (Tick r ∷ ev) xs.items r x _ (sym xs.ok.0 ∙ p.reader_count) low p.readers c.index_mut-ticked_reader.ensures.value
           (tick_other s ev r)

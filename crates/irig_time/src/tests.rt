@@ -1,4 +1,0 @@
-mod claims;
-mod tables;
-mod texts;
-mod timelines;

@@ -1,0 +1,216 @@
+use irig_device::{Break, Endless, Fuse, Watched};
+use irig_plant::Audit;
+use irig_port::WholePort;
+use irig_scene::{Outcome, SceneFault, run_scene, run_scene_over};
+use std::alloc::Global;
+use std::io;
+use std::io::{BufRead, BufReader, Read, Write};
+use std::test::*;
+
+// The plain plant line.
+const PLAIN: &str =
+    r#"{"version":1,"start":"2016-06-15T12:00:00Z","leaps":[],"parity":"even","sense":"add","sbs":"check","generators":[{"local":0},{"local":0},{"local":0}],"readers":[{"name":"r1","lock_after":2,"holdover":3600}]}"#;
+
+// Three lines after it that write, the last its refusal.
+const EVENTS: &str = r#"
+{"do":"seconds","n":2}
+{"do":"seconds","n":1}
+{"do":"tick","r":"r9"}
+"#;
+
+// What stands after so many whole lines.
+const AFTER_LINES: [&str; 4] = [
+    "",
+    "",
+    "2 r1 2016-06-15T12:00:02Z locked voted\n",
+    "2 r1 2016-06-15T12:00:02Z locked voted\n3 r1 2016-06-15T12:00:03Z locked voted\n",
+];
+
+// What stands at the end.
+const WHOLE: &str = "2 r1 2016-06-15T12:00:02Z locked voted
+3 r1 2016-06-15T12:00:03Z locked voted
+refused: line 4: 19 NoSuchReader
+";
+
+const BREAKS: [Break; 3] = [Break::Fail, Break::Interrupt, Break::Nothing];
+
+fn answer_of<R: BufRead + Drop>(
+    alloc: Global,
+    input: R,
+    output: &mut Vec<u8>,
+) -> Result<Outcome, SceneFault> {
+    let mut input = Watched::new(input);
+    let mut output = Watched::new(output);
+    run_scene(alloc, &mut input, &mut output, false)
+}
+
+#[test]
+fn a_plain_minute_is_written_over_both_kinds_of_ports(rt: HostRuntime) -> Result<(), Fail> {
+    let scenario = format!(in rt.alloc(); "{PLAIN}\n{{\"do\":\"seconds\",\"n\":2}}\n")?;
+    let expected = Outcome {
+        lines: 2,
+        audit: Audit::Kept,
+    };
+    for is_whole in [false, true] {
+        let mut input = Watched::new(scenario.as_bytes());
+        let mut output = Watched::new(Vec::new(rt.alloc()));
+        let answer = match is_whole {
+            true => run_scene_over::<WholePort, _, _>(rt.alloc(), &mut input, &mut output, true),
+            false => run_scene(rt.alloc(), &mut input, &mut output, true),
+        };
+        assert_eq!(rt; answer, Ok(expected));
+        assert_eq!(rt;
+            str::from_utf8(&output.into_inner())?,
+            "1 r1 - acquiring:1 acquiring\n2 r1 2016-06-15T12:00:02Z locked voted\npremises kept\n"
+        );
+    }
+    Ok(())
+}
+
+fn is_refused<R: BufRead + Drop>(
+    alloc: Global,
+    input: R,
+    (line, number): (u64, u8),
+    text: &str,
+) -> bool {
+    let mut written = Vec::new(alloc);
+    let answer = answer_of(alloc, input, &mut written);
+    answer == Err(SceneFault::Refused { line, number }) && written.as_slice() == text.as_bytes()
+}
+
+#[test]
+fn a_plant_line_that_is_cut_is_no_json(rt: HostRuntime) {
+    for count in 1..PLAIN.len() {
+        let cut = PLAIN.as_bytes().take(count as u64);
+        let json = "refused: line 1: 24 Json\n";
+        assert!(rt; is_refused(rt.alloc(), cut, (1, 24), json), "{count} bytes");
+    }
+}
+
+#[test]
+fn a_line_above_the_greatest_length_is_refused(rt: HostRuntime) {
+    let longest = Endless(b' ').take(65_536).chain(b"\n".as_slice());
+    let mut written = Vec::new(rt.alloc());
+    let answer = answer_of(rt.alloc(), longest.chain(PLAIN.as_bytes()), &mut written);
+    assert!(rt; answer.is_ok());
+    assert_eq!(rt; written.as_slice(), b"premises kept\n".as_slice());
+
+    let text = "refused: line 1: 23 TooLong\n";
+    let longer = Endless(b' ').take(65_537).chain(b"\n".as_slice());
+    assert!(rt; is_refused(rt.alloc(), longer, (1, 23), text));
+    assert!(rt; is_refused(rt.alloc(), Endless(b'x'), (1, 23), text));
+}
+
+#[test]
+fn a_line_above_the_greatest_number_is_refused(rt: HostRuntime) {
+    let lines = Endless(b'\n').take(1_000_000);
+    let no_plant = "refused: line 1000001: 29 NoPlant\n";
+    assert!(rt; is_refused(rt.alloc(), lines, (1_000_001, 29), no_plant));
+    let many = "refused: line 1000001: 30 TooManyLines\n";
+    assert!(rt; is_refused(rt.alloc(), Endless(b'\n'), (1_000_001, 30), many));
+}
+
+// Whether a run whose input breaks after so many bytes leaves the text of the whole lines among
+// them.
+fn leaves_whole_lines(
+    alloc: Global,
+    scenario: &str,
+    calls: usize,
+    how: Break,
+) -> Result<bool, Fail> {
+    let bytes = BufReader::with_capacity(alloc, 1, scenario.as_bytes())?;
+    let mut input = Watched::new(Fuse::new(bytes, calls as u64, how));
+    let mut output = Watched::new(Vec::new(alloc));
+    let answer = run_scene(alloc, &mut input, &mut output, false);
+    let read = scenario.bytes().take(calls);
+    let lines = read.filter(|byte| *byte == b'\n').count();
+    let expected = AFTER_LINES.get(lines).map(|text| text.as_bytes());
+    let has_noted = input.failed() && !output.failed();
+    let written = output.into_inner();
+    Ok(has_noted && answer == Err(SceneFault::Read) && expected == Some(written.as_slice()))
+}
+
+#[test]
+fn a_read_that_breaks_leaves_the_text_of_the_whole_lines(rt: HostRuntime) -> Result<(), Fail> {
+    let scenario = format!(in rt.alloc(); "{PLAIN}{EVENTS}")?;
+    for calls in 0..scenario.len() {
+        for how in BREAKS {
+            let leaves = leaves_whole_lines(rt.alloc(), &scenario, calls, how)?;
+            assert!(rt; leaves, "{calls} bytes, {how:?}");
+        }
+    }
+    Ok(())
+}
+
+// A writer that takes one byte a call.
+#[derive(Drop)]
+struct Narrow<'a>(&'a mut Vec<u8>);
+
+impl Write for Narrow<'_> {
+    fn write(&mut self, bytes: &[u8]) -> io::Result<usize> {
+        let Some(byte) = bytes.first() else {
+            return Ok(0);
+        };
+        self.0.push(*byte)?;
+        Ok(1)
+    }
+
+    fn flush(&mut self) -> io::Result<()> {
+        Ok(())
+    }
+}
+
+// Whether a run whose output breaks after so many bytes leaves just these.
+fn leaves_a_front(alloc: Global, scenario: &str, calls: usize, how: Break) -> bool {
+    let mut written = Vec::new(alloc);
+    let mut input = Watched::new(scenario.as_bytes());
+    let mut output = Watched::new(Fuse::new(Narrow(&mut written), calls as u64, how));
+    let answer = run_scene(alloc, &mut input, &mut output, false);
+    let has_noted = output.failed() && !input.failed();
+    let front = WHOLE.as_bytes().get(..calls);
+    has_noted && answer == Err(SceneFault::Write) && front == Some(written.as_slice())
+}
+
+#[test]
+fn a_write_that_breaks_leaves_a_front_of_the_text(rt: HostRuntime) -> Result<(), Fail> {
+    let scenario = format!(in rt.alloc(); "{PLAIN}{EVENTS}")?;
+    for calls in 0..WHOLE.len() {
+        for how in BREAKS {
+            let leaves = leaves_a_front(rt.alloc(), &scenario, calls, how);
+            assert!(rt; leaves, "{calls} bytes, {how:?}");
+        }
+    }
+    Ok(())
+}
+
+#[test]
+fn a_long_run_ends_as_it_began(rt: HostRuntime) -> Result<(), Fail> {
+    let scenario = format!(in rt.alloc(); "{PLAIN}\n{{\"do\":\"seconds\",\"n\":10000}}")?;
+    let mut written = Vec::new(rt.alloc());
+    let answer = answer_of(rt.alloc(), scenario.as_bytes(), &mut written);
+    assert!(rt; answer.is_ok());
+    let lines = written.iter().filter(|byte| **byte == b'\n').count();
+    assert_eq!(rt; lines, 10_000);
+    let end = b"\n10000 r1 2016-06-15T14:46:40Z locked voted\npremises kept\n";
+    assert!(rt; written.ends_with(end.as_slice()));
+    Ok(())
+}
+
+#[test]
+fn each_fault_has_its_text(rt: HostRuntime) -> Result<(), Fail> {
+    let refused = SceneFault::Refused {
+        line: 1,
+        number: 24,
+    };
+    let rows = [
+        (SceneFault::Read, "read failed"),
+        (SceneFault::Write, "write failed"),
+        (SceneFault::Memory, "out of memory"),
+        (refused, "scenario refused"),
+    ];
+    for (fault, expected) in rows {
+        let text = format!(in rt.alloc(); "{fault}")?;
+        assert_eq!(rt; text.as_str(), expected);
+    }
+    Ok(())
+}
