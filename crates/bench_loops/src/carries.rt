@@ -1,5 +1,5 @@
-//! `Plant::apply` of `Carry`, from three generators to sixteen readers; one turn is one pulse, with its
-//! share of the ticks and edges of a second.
+//! `Plant::apply` of `Carry`, from three generators to sixteen readers; one turn is one pulse, with
+//! its share of the ticks and edges of a second.
 
 ghost use Rattle.std.specs.Prelude.{IfSome};
 ghost use Rattle.irig_plant.specs.History.{AreReaders};

@@ -4,8 +4,6 @@
 mod command;
 mod help;
 mod request;
-#[cfg(test)]
-mod tests;
 
 pub use command::parse;
 pub use request::{NoRequest, Pending, Request};

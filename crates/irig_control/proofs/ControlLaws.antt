@@ -1,4 +1,5 @@
--- What the table of the control bits comes to in numbers, and that to write and to read by it are one another's inverse.
+-- What the table of the control bits comes to in numbers, and that to write and to read by it are
+-- one another's inverse.
 use Rattle.std.proofs.Common.{◌≡◌, ℕ, zero, suc, ◌+◌, ◌-◌, ◌*◌, ◌/◌, ◌%◌, ◌<◌, ◌≤◌, ◌^◌, Bool, true, false, cond, eqb, ltb, refl, ap, ◌∙◌, arith, inl, inr, ℤ, pos, negsuc, neg_ℤ, unsigned_abs, int_lt, bit_or, to_z, of_z, w8}
 use Rattle.std.proofs.lemmas.Bool.{cases_Bool, eqb-true, le-ltb, ne_eqb}
 use Rattle.std.proofs.lemmas.Int.{ints}

@@ -1,5 +1,6 @@
--- The word of control bits and what it says, both by the table of specs/ControlTable.antt. Bit n of the word has the
--- weight 2^n.
+-- The word of control bits and what it says, both by the table of specs/ControlTable.antt. Bit n of
+-- the word has the weight 2^n.
+-- Source: docs/FRAME.md; IEEE 1344-1995, the IRIG-B annex, by the table of ControlTable.antt.
 use Rattle.std.specs.Prelude.{ℕ, ◌+◌, ◌-◌, ◌*◌, ◌/◌, ◌%◌, ◌≤◌, ◌^◌, Bool, ◌==◌, if◌then◌else◌, sum_by, ℤ, pos, neg_ℤ, int_lt, unsigned_abs}
 use Rattle.irig_control.specs.declared.control.Control.{Control}
 use Rattle.irig_control.specs.ControlTable.{Meaning, LeapPending, LeapDelete, DstPending, Dst, OffsetMinus, OffsetHours, OffsetHalfHour, Quality, ParityBit, Unused, bits_of, meanings}
@@ -49,7 +50,8 @@ half_hours_in word = 2 * number_in word OffsetHours + number_in word OffsetHalfH
 -- the offset in half hours, with its sign
 unfoldable pub offset_in : ℕ → ℤ
 offset_in word =
-    if number_in word OffsetMinus == 1 then neg_ℤ (pos (half_hours_in word)) else pos (half_hours_in word)
+    if number_in word OffsetMinus == 1 then neg_ℤ (pos (half_hours_in word))
+    else pos (half_hours_in word)
 
 -- what the word says; the parity and the unused bits are ignored
 unfoldable pub control_of : ℕ → Control

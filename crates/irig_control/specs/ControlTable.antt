@@ -1,6 +1,6 @@
--- The control bits of IEEE 1344-1995, annex on IRIG-B: each bit with its number, the element that carries it in the
--- frame of IRIG Standard 200-16, format B, and the weight of a one there. It is written in the order of the standard's
--- table, to be laid beside it.
+-- The control bits of IEEE 1344-1995, annex on IRIG-B: each bit with its number, the element that
+-- carries it in the frame of IRIG Standard 200-16, format B, and the weight of a one there. It is
+-- written in the order of the standard's table, to be laid beside it.
 use Rattle.std.specs.Prelude.{ℕ, List, [], ◌∷◌}
 
 -- what the control bits say

@@ -1,5 +1,5 @@
--- The parity of a frame. What it counts is this project's profile: the ones at the data places 1 to 75, element 75,
--- which carries the parity bit, included. Marker places never count.
+-- The parity of a frame. What it counts is this project's profile: the ones at the data places 1 to
+-- 75, element 75, which carries the parity bit, included. Marker places never count.
 use Rattle.std.specs.Prelude.{ℕ, ◌%◌, ◌^◌, ◌<◌, Bool, ◌==◌, not, ◌&&◌, if◌then◌else◌, IsTrue, List, count_by, slice_get, slice_set}
 use Rattle.std.specs.List.{range_with_len}
 use Rattle.irig_frame.specs.declared.symbol.Symbol.{Symbol}
@@ -45,7 +45,8 @@ with_parity p s = slice_set s 75 (data_symbol (not (has_parity p (slice_set s 75
 abbrev pub without_parity : Coded → Coded
 without_parity c = record c { control = c.control % 2 ^ 14 }
 
--- the frame has the parity and reads as the value; its last three control bits and its unused elements are 0
+-- the frame has the parity and reads as the value; its last three control bits and its unused
+-- elements are 0
 pub record ReadsWithParity (p : Parity) (s : List Symbol) (c : Coded) : Type 0 where
   pub reads : Reads s c
   pub unused : c.control < 2 ^ 15

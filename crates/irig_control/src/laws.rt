@@ -11,8 +11,8 @@ use crate::control::Control;
 use crate::parity::Parity;
 use irig_frame::{Coded, Symbol};
 
-/// What is packed is unpacked again, and what is unpacked is packed again, without the parity, the last
-/// three bits and the sign of an offset of 0.
+/// What is packed is unpacked again, and what is unpacked is packed again, without the parity, the
+/// last three bits and the sign of an offset of 0.
 pub fn inverses()
     ensures unpacked { (c : Control) → IsControl c → control_of (word_of c) ≡ c }
     ensures packed { (w : ℕ) → word_of (control_of w) ≡ normal_word w }
@@ -20,8 +20,9 @@ pub fn inverses()
     ensures below { (c : Control) → IsControl c → word_of c < 2 ^ 14 }
 {}
 
-/// To set the parity of a frame changes nothing that it reads as but the parity's own bit, which says
-/// nothing. With a parity, and with the unused elements and bits 0, a value has one frame at most.
+/// To set the parity of a frame changes nothing that it reads as but the parity's own bit, which
+/// says nothing. With a parity, and with the unused elements and bits 0, a value has one frame at
+/// most.
 pub fn parity_keeps()
     ensures reads { (s : List Symbol) (b : Bool) (c : Coded) → Reads s c → c.control < 2 ^ 14
         → Reads (slice_set s 75 (data_symbol b))

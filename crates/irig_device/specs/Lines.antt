@@ -1,4 +1,5 @@
 -- What a reader gives of a line.
+-- Source: docs/SCENARIOS.md, lines; this project's profile.
 use Rattle.std.specs.Prelude.{◌≡◌, ◌≢◌, ℕ, ◌+◌, Bool, true, false, ◌<◌, ◌≤◌, List, [], ◌∷◌, ◌++◌, length, take, slice_index, All, Option, Some, None, Result, Ok, Err, IfSome}
 use Rattle.std.specs.Io.KnownBytes.{Consumes, IsAtEnd}
 use Rattle.irig_device.specs.declared.line.LineEnd.{LineEnd}
@@ -26,7 +27,8 @@ HasLength Newline limit line = length line ≤ limit
 HasLength EndOfInput limit line = length line ≤ limit
 HasLength TooLong limit line = length line ≡ limit + 1
 
--- a reader that had `old` left has `new` left, and gave this line, or what shows that it is longer than the limit
+-- a reader that had `old` left has `new` left, and gave this line, or what shows that it is longer
+-- than the limit
 pub record GivesLine (end : LineEnd) (limit : ℕ) (line : List ℕ) (old new : Bytes) : Type 0 where
   pub taken : Consumes old new (spelling end line)
   pub has_length : HasLength end limit line
@@ -48,18 +50,18 @@ says_device (Err Memory) = false
 -- ---- a part of a line
 
 -- a line with room for so many bytes has so many of these first, and goes on or ends so
-abbrev pub EndsAt : Option LineEnd → List ℕ → ℕ → ℕ → Type 0
-EndsAt None bytes room count = (0 < count) × (count ≤ room)
-EndsAt (Some Newline) bytes room count =
+abbrev pub EndsAfter : Option LineEnd → List ℕ → ℕ → ℕ → Type 0
+EndsAfter None bytes room count = (0 < count) × (count ≤ room)
+EndsAfter (Some Newline) bytes room count =
     (count < length bytes) × (slice_index bytes count ≡ 10) × (count ≤ room)
-EndsAt (Some EndOfInput) bytes room count = length bytes ≡ 0
-EndsAt (Some TooLong) bytes room count = count ≡ room + 1
+EndsAfter (Some EndOfInput) bytes room count = length bytes ≡ 0
+EndsAfter (Some TooLong) bytes room count = count ≡ room + 1
 
 -- these bytes show so many of a line, and whether it ends with them
 pub record Shows (end : Option LineEnd) (bytes : List ℕ) (room count : ℕ) : Type 0 where
   pub within : count ≤ length bytes
   pub whole : HasNoNewline (take count bytes)
-  pub ends : EndsAt end bytes room count
+  pub ends : EndsAfter end bytes room count
 
 -- what a part of a line takes of the input
 abbrev pub part_spelling : Option LineEnd → List ℕ → List ℕ

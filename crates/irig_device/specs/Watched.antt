@@ -1,4 +1,5 @@
 -- What is seen of a watched device.
+-- Source: this project's profile: a device notes its first failure.
 use Rattle.std.specs.Prelude.{◌≡◌, ◌++◌, Bool, List, Option, ℕ}
 use Rattle.std.specs.Io.KnownBytes.{Appends}
 use Rattle.irig_device.specs.declared.watched.Watched.{Watched}

@@ -4,8 +4,6 @@
 
 mod line;
 mod test_devices;
-#[cfg(test)]
-mod tests;
 mod watched;
 
 pub use line::{LineEnd, ReadFault};

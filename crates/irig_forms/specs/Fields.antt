@@ -1,4 +1,5 @@
 -- What stands at the keys of an object: whether it has its form, and the values in their ranges.
+-- Source: docs/SCENARIOS.md; this project's profile.
 use Rattle.std.specs.Prelude.{ℕ, ℤ, pos, Bool, not, ◌&&◌, List, [], Option, Some, None, option_and_then, unwrap_or}
 use Rattle.std.specs.List.{list_all, position}
 use Rattle.std.specs.Str.{bytes_eq}

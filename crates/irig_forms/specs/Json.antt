@@ -1,4 +1,5 @@
 -- What a JSON value is and has, by what serde_json reads.
+-- Source: RFC 8259, as serde_json reads it.
 use Rattle.std.specs.Prelude.{ℕ, ℤ, pos, negsuc, Bool, false, ◌&&◌, List, [], ◌∷◌, length, nat_le, int_le, if◌then◌else◌, Option, Some, None, option_map, option_and_then, Result, Ok, Err}
 use Rattle.std.specs.List.{list_all, list_any}
 use Rattle.std.specs.Str.{bytes_eq, is_utf8}

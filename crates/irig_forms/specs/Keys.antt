@@ -1,4 +1,5 @@
 -- The keys of JSON objects, for the tables of what stands in a line.
+-- Source: docs/SCENARIOS.md; this project's profile.
 use Rattle.std.specs.Prelude.{ℕ, Bool, true, false, List, map, is_some, String, string_bytes}
 use Rattle.std.specs.declared.alloc.Global.{Global}
 use Rattle.std.specs.List.{list_all}

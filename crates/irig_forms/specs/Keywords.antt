@@ -1,4 +1,5 @@
 -- The words of a line.
+-- Source: docs/SCENARIOS.md; this project's profile.
 use Rattle.std.specs.Prelude.{ℕ, List, if◌then◌else◌, codes, Option, Some, None}
 use Rattle.std.specs.Str.{bytes_eq}
 use Rattle.irig_control.specs.declared.parity.Parity.{Parity}

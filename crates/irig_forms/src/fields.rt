@@ -1,5 +1,5 @@
-//! Objects by the tables of their keys: whether one has its form, and what stands at a key where that is in
-//! the key's range.
+//! Objects by the tables of their keys: whether one has its form, and what stands at a key where
+//! that is in the key's range.
 
 ghost use Rattle.std.specs.Prelude.{◌≡◌, ◌<◌, ◌≤◌, ◌≤ℤ◌, IfSome, length, map, option_map, string_bytes};
 ghost use Rattle.std.specs.List.{list_all, list_any, position};
@@ -21,8 +21,8 @@ use irig_time::Leap;
 use serde_json::{Map, Value};
 use std::alloc::Global;
 
-/// Whether a value is an object with no other keys than these, none missing that must be there, and at
-/// each a value of the right type. Ranges are not asked.
+/// Whether a value is an object with no other keys than these, none missing that must be there, and
+/// at each a value of the right type. Ranges are not asked.
 #[tactic(auto, unfolding(crate::specs::Fields::has_form), using(crate::proofs::FieldLaws::all_fit))]
 pub fn has_form(keys: &[Key], value: &Value) -> bool
     ensures { result ≡ has_form (map key_value keys.now) (view value.now) }
@@ -131,8 +131,8 @@ pub fn few_items(kind: Kind, items: &[Value]) -> Option<&[Value]>
     }
 }
 
-/// The numbers of the list at a key of kind `Naturals`. `Refused` as `Value` where they are too many or
-/// one is out of range, `Memory` where there was none.
+/// The numbers of the list at a key of kind `Naturals`. `Refused` as `Value` where they are too
+/// many or one is out of range, `Memory` where there was none.
 #[tactic(auto, unfolding(crate::specs::Fields::naturals_at))]
 pub fn naturals_at(alloc: Global, key: Key, value: &Value) -> Result<Vec<u32>, LineFault>
     ensures { FoundUnlessMemory (λ v. v.items)

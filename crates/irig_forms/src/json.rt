@@ -9,8 +9,8 @@ use crate::refusal::{LineFault, Refusal};
 use serde_json::Value;
 use std::alloc::Global;
 
-/// The value that a line of JSON in UTF-8 is. `Refused` as `Json` where it is none, `Memory` where there
-/// was none.
+/// The value that a line of JSON in UTF-8 is. `Refused` as `Json` where it is none, `Memory` where
+/// there was none.
 #[tactic(auto, using(crate::proofs::JsonLaws::json_of_text, crate::proofs::JsonLaws::no_json))]
 pub fn value_of(alloc: Global, line: &[u8]) -> Result<Value, LineFault>
     ensures { IsUnlessMemory view (or_else Refusal.Json (json_of line.now)) result }
@@ -31,8 +31,8 @@ pub(crate) fn whole_of(value: &Value) -> Option<i128>
     }
 }
 
-/// The whole number at a key of an object, from `i64::MIN` to `u64::MAX`; none where there is no such key,
-/// or another value there.
+/// The whole number at a key of an object, from `i64::MIN` to `u64::MAX`; none where there is no
+/// such key, or another value there.
 #[tactic(auto, unfolding(crate::specs::Json::whole_at))]
 pub fn whole_at(value: &Value, key: &str) -> Option<i128>
     ensures { result ≡ whole_at key.now (view value.now) }

@@ -40,7 +40,8 @@ pub enum Refusal {
     Value,
     /// The version is none that is read.
     Version,
-    /// There are no readers or too many, or their names are not of the stated form or not all different.
+    /// There are no readers or too many, or their names are not of the stated form or not all
+    /// different.
     Names,
     /// The input ended before the plant line.
     NoPlant,

@@ -34,7 +34,8 @@ known_letters = refl
 pub known_markers : map is_marker_place (0 ∷ 9 ∷ 19 ∷ 29 ∷ 39 ∷ 49 ∷ 59 ∷ 69 ∷ 79 ∷ 89 ∷ 99 ∷ []) ≡ map (λ _. true) (range_with_len 0 11)
 known_markers = refl
 
--- what all ones of a field would sum to: 15 and 70, 15 and 70, 15 and 30, 15 and 150 and 300, 15 and 150
+-- what all ones of a field would sum to: 15 and 70, 15 and 70, 15 and 30, 15 and 150 and 300, 15
+-- and 150
 pub known_weights : map (λ f. weights (places_of f)) (Second ∷ Minute ∷ Hour ∷ Day ∷ Year ∷ []) ≡ 85 ∷ 85 ∷ 45 ∷ 465 ∷ 165 ∷ []
 known_weights = refl
 
@@ -53,7 +54,8 @@ times_of i =
 pub one_meaning : list_all (λ i. eqb (times_of i) 1) (range_with_len 0 100) ≡ true
 one_meaning = refl
 
--- 2016-12-31T23:59:59, day 366, with a leap second pending and even parity; 86399 straight binary seconds
+-- 2016-12-31T23:59:59, day 366, with a leap second pending and even parity; 86399 straight binary
+-- seconds
 abbrev pub leap_day : List Symbol
 leap_day = symbols (codes "P10010101P100101010P110000100P011000110P110000000P011001000P100000000P000001000P111111101P000101010P")
 

@@ -1,5 +1,6 @@
 -- The frame that codes a value, place by place.
--- Source: the field table of specs/FieldTable.antt; zeros at elements without a field by this project's profile.
+-- Source: the field table of specs/FieldTable.antt; zeros at elements without a field by this
+-- project's profile.
 use Rattle.std.specs.Prelude.{◌≡◌, ℕ, ◌-◌, ◌/◌, ◌%◌, ◌==◌, List, [], ◌∷◌, ◌++◌, ◌<◌, if◌then◌else◌, length, map, All, Some, slice_get, slice_set}
 use Rattle.std.specs.List.{range_with_len}
 use Rattle.irig_frame.specs.declared.symbol.Symbol.{Symbol}
@@ -20,7 +21,8 @@ bit_symbol number weight = if number / weight % 2 == 1 then One else Zero
 -- the frame with the bits of the number at these places
 abbrev pub with_bits : List Symbol → List TableEntry → ℕ → List Symbol
 with_bits s [] number = s
-with_bits s (p ∷ ps) number = with_bits (slice_set s p.element (bit_symbol number p.weight)) ps number
+with_bits s (p ∷ ps) number =
+    with_bits (slice_set s p.element (bit_symbol number p.weight)) ps number
 
 -- some places, and the number that they hold
 pub record Part : Type 0 where

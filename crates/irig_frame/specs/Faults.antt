@@ -1,4 +1,5 @@
--- The faults of a frame, in their order: the length; the lowest wrong element; the first wrong field.
+-- The faults of a frame, in their order: the length; the lowest wrong element; the first wrong
+-- field.
 -- Source: the order is this project's profile (docs/FAULTS.md).
 use Rattle.std.specs.Prelude.{ℕ, ◌+◌, List, [], ◌∷◌, if◌then◌else◌, nat_lt, Option, Some, None, Result, Ok, Err, length}
 use Rattle.std.specs.Option.{option_or}
@@ -15,7 +16,8 @@ use Rattle.irig_frame.specs.Decoder.{least, most}
 
 -- the step after a step that gave a value
 infixl 10 ◌>>=◌
-abbrev pub ◌>>=◌ : {A B : Type 0} → Result A FrameFault → (A → Result B FrameFault) → Result B FrameFault
+abbrev pub ◌>>=◌ : {A B : Type 0} → Result A FrameFault → (A → Result B FrameFault)
+    → Result B FrameFault
 (Ok x) >>= f = f x
 (Err e) >>= f = Err e
 

@@ -1,5 +1,6 @@
--- The field table of IRIG Standard 200-16, format B, code B004: each element with the weight of a one there, least
--- weight first. It is written in the order of the standard's table, to be laid beside it.
+-- The field table of IRIG Standard 200-16, format B, code B004: each element with the weight of a
+-- one there, least weight first. It is written in the order of the standard's table, to be laid
+-- beside it.
 use Rattle.std.specs.Prelude.{ℕ, ◌%◌, Bool, ◌==◌, ◌||◌, List, [], ◌∷◌, ◌++◌}
 use Rattle.irig_frame.specs.declared.layout.Field.{Field}
 use Rattle.irig_frame.specs.declared.layout.Field.TheVariants.{Second, Minute, Hour, Day, Year}
@@ -49,7 +50,8 @@ control_places =
 abbrev pub straight_binary_places : List TableEntry
 straight_binary_places =
     at 80 1 ∷ at 81 2 ∷ at 82 4 ∷ at 83 8 ∷ at 84 16 ∷ at 85 32 ∷ at 86 64 ∷ at 87 128 ∷ at 88 256
-    ∷ at 90 512 ∷ at 91 1024 ∷ at 92 2048 ∷ at 93 4096 ∷ at 94 8192 ∷ at 95 16384 ∷ at 96 32768 ∷ at 97 65536 ∷ []
+    ∷ at 90 512 ∷ at 91 1024 ∷ at 92 2048 ∷ at 93 4096 ∷ at 94 8192 ∷ at 95 16384 ∷ at 96 32768
+    ∷ at 97 65536 ∷ []
 
 -- the reference marker and the position identifiers P1 to P9 and P0: 0, 9, 19, .. and 99
 abbrev pub is_marker_place : ℕ → Bool

@@ -12,8 +12,8 @@ symbol_of width =
     else (if nat_lt width 6500 then One
     else (if nat_lt width 9500 then Marker else Bad)))
 
--- the nominal widths of IRIG Standard 200-16, format B, round which the bounds above are this project's profile; a bad
--- pulse has none and is never sent
+-- the nominal widths of IRIG Standard 200-16, format B, round which the bounds above are this
+-- project's profile; a bad pulse has none and is never sent
 abbrev pub width_of : Symbol → ℕ
 width_of Zero = 2000
 width_of One = 5000

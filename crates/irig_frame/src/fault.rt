@@ -11,7 +11,8 @@ pub enum FrameFault {
     Long,
     /// The lowest wrong element, 0 to 99, is a bad pulse.
     Pulse(u8),
-    /// The lowest wrong element, 0 to 99, is a marker where data belongs, or data where a marker does.
+    /// The lowest wrong element, 0 to 99, is a marker where data belongs, or data where a marker
+    /// does.
     Marker(u8),
     /// The first wrong field has a decimal digit above 9.
     Digit(Field),

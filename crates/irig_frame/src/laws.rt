@@ -8,8 +8,9 @@ ghost use Rattle.irig_frame.specs.Encoder.{HasUnusedZeros, frame_of_coded};
 use crate::coded::Coded;
 use crate::symbol::Symbol;
 
-/// The round trip: symbols are decoded to a value exactly if they read as that value. Then no element
-/// is wrong, and the fields give the value. What [`encode`](crate::encode) gives reads as its argument.
+/// The round trip: symbols are decoded to a value exactly if they read as that value. Then no
+/// element is wrong, and the fields give the value. What [`encode`](crate::encode) gives reads as
+/// its argument.
 pub fn round_trip()
     ensures reads { (s : List Symbol) (c : Coded) → (decode_result s ≡ Ok c) ↔ Reads s c }
     ensures elements { (s : List Symbol) (c : Coded) → Reads s c → first_wrong 0 s ≡ None }

@@ -129,8 +129,8 @@ pub(crate) fn straight_binary() -> &'static [Place]
     &STRAIGHT_BINARY
 }
 
-/// Whether the element, from 0, holds a marker: the reference marker at 0 or a position identifier at 9,
-/// 19, .. and 99.
+/// Whether the element, from 0, holds a marker: the reference marker at 0 or a position identifier
+/// at 9, 19, .. and 99.
 pub fn is_marker_place(element: usize) -> bool
     ensures { result ≡ is_marker_place element }
 {

@@ -5,8 +5,8 @@
 //! elements, 0 to 99, one every 10 ms; it codes the second that begins at the leading edge of
 //! element 0. Years are those from 2000 to 2099.
 //!
-//! [`encode`] writes a [`Coded`] time as 100 [`Symbol`]s, and [`decode`] reads one or answers the first
-//! [`FrameFault`]. The field table stands once as data in `specs/FieldTable.antt`.
+//! [`encode`] writes a [`Coded`] time as 100 [`Symbol`]s, and [`decode`] reads one or answers the
+//! first [`FrameFault`]. The field table stands once as data in `specs/FieldTable.antt`.
 #![tactic(auto)]
 
 mod coded;

@@ -6,6 +6,15 @@ ghost use Rattle.irig_frame.specs.FieldTable.{is_marker_place};
 ghost use Rattle.irig_frame.specs.Faults.{element_fault};
 ghost use Rattle.irig_frame.specs.Values.{is_one};
 
+// The least width of each symbol, and of what is too wide, in microseconds.
+const LEAST_ZERO: u32 = 500;
+
+const LEAST_ONE: u32 = 3500;
+
+const LEAST_MARKER: u32 = 6500;
+
+const TOO_WIDE: u32 = 9500;
+
 /// What one element of a frame says.
 ///
 /// The nominal widths are those of IRIG Standard 200-16, format B: 2, 5 and 8 ms.
@@ -23,8 +32,8 @@ pub enum Symbol {
 }
 
 impl Symbol {
-    /// The nominal width of its pulse in microseconds: 2000, 5000 or 8000, and 0 for a bad pulse, which
-    /// is never sent.
+    /// The nominal width of its pulse in microseconds: 2000, 5000 or 8000, and 0 for a bad pulse,
+    /// which is never sent.
     pub fn width_us(self) -> u32
         ensures width { result ≡ width_of self }
         ensures classified { symbol_of result ≡ self }
@@ -63,17 +72,17 @@ impl Symbol {
     }
 }
 
-/// The symbol of a pulse `width_us` microseconds wide: 500 to 3499 is a 0, 3500 to 6499 a 1, 6500 to
-/// 9499 a marker, and any other width a bad pulse.
+/// The symbol of a pulse `width_us` microseconds wide: 500 to 3499 is a 0, 3500 to 6499 a 1, 6500
+/// to 9499 a marker, and any other width a bad pulse.
 ///
 /// The bounds are this project's profile; the standard gives the nominal widths alone.
 pub fn classify(width_us: u32) -> Symbol
     ensures { result ≡ symbol_of width_us }
 {
     match width_us {
-        500..=3499 => Symbol::Zero,
-        3500..=6499 => Symbol::One,
-        6500..=9499 => Symbol::Marker,
+        LEAST_ZERO..LEAST_ONE => Symbol::Zero,
+        LEAST_ONE..LEAST_MARKER => Symbol::One,
+        LEAST_MARKER..TOO_WIDE => Symbol::Marker,
         _ => Symbol::Bad,
     }
 }
@@ -83,15 +92,15 @@ pub fn classify(width_us: u32) -> Symbol
 pub fn is_one_width(width_us: u32) -> bool
     ensures { result ≡ is_one (Some (symbol_of width_us)) }
 {
-    (3500..6500).contains(&width_us)
+    (LEAST_ONE..LEAST_MARKER).contains(&width_us)
 }
 
-/// Whether a pulse of this width is right at an element: a marker at a marker place, and a 0 or a 1 at
-/// any other.
+/// Whether a pulse of this width is right at an element: a marker at a marker place, and a 0 or a 1
+/// at any other.
 #[inline]
 pub fn is_right_width(width_us: u32, at_marker_place: bool) -> bool
     ensures { (i : ℕ) → is_marker_place i ≡ at_marker_place
         → IsTrue result ↔ (element_fault i (symbol_of width_us) ≡ None) }
 {
-    (500..9500).contains(&width_us) && (width_us >= 6500) == at_marker_place
+    (LEAST_ZERO..TOO_WIDE).contains(&width_us) && (width_us >= LEAST_MARKER) == at_marker_place
 }

@@ -1,4 +1,5 @@
--- Known values of zones, control bits, faults and frames, so that a wrong definition does not check.
+-- Known values of zones, control bits, faults and frames, so that a wrong definition does not
+-- check.
 use Rattle.std.proofs.Common.{◌≡◌, ℕ, ◌+◌, true, false, Bool, List, [], ◌∷◌, map, Option, Some, None, ℤ, pos, negsuc, refl}
 use Rattle.std.specs.Prelude.{codes}
 use Rattle.irig_frame.proofs.StandardFacts.{symbols}
@@ -51,7 +52,8 @@ pub known_skews : map (λ by. sent_edge (Some (Skew by)) 5 5) (negsuc 5 ∷ negs
     ≡ None ∷ Some 0 ∷ Some 4 ∷ Some 5 ∷ Some 6 ∷ []
 known_skews = refl
 
--- a stuck generator keeps the edge at which it was set, a silent one has none, and all others their own
+-- a stuck generator keeps the edge at which it was set, a silent one has none, and all others their
+-- own
 pub known_edges : (sent_edge (Some Stuck) 6 5 ≡ Some 5) × (sent_edge (Some Silent) 6 5 ≡ None)
     × (map (λ fault. sent_edge fault 6 5) some_faults ≡ Some 6 ∷ Some 6 ∷ Some 6 ∷ Some 6 ∷ Some 6 ∷ [])
 known_edges = (refl, refl, refl)
@@ -108,7 +110,8 @@ known_senses = (refl, refl)
 abbrev plain : ℤ → Control
 plain offset = record { leap_pending = false; leap_delete = false; dst_pending = false; dst = false; offset_half_hours = offset; quality = 0 }
 
--- daylight saving is pending in all the minute that ends at the change and not before it, and in force from then on
+-- daylight saving is pending in all the minute that ends at the change and not before it, and in
+-- force from then on
 pub known_daylight : map (true_control Add winter to_summer None) (at 6010 43199 ∷ at 6010 43200 ∷ at 6010 43259 ∷ at 6010 43260 ∷ [])
     ≡ plain (pos 10) ∷ record (plain (pos 10)) { dst_pending = true } ∷ record (plain (pos 10)) { dst_pending = true } ∷ record (plain (pos 8)) { dst = true } ∷ []
 known_daylight = refl
@@ -118,7 +121,8 @@ pub known_midnight : map (λ sod. (true_control Add winter (change (at 6210 0) s
     ≡ false ∷ true ∷ true ∷ true ∷ []
 known_midnight = refl
 
--- a leap is pending in the minute 23:59 of its day, 23:59:60 included, and not at 23:58:59; on a day without one it never is
+-- a leap is pending in the minute 23:59 of its day, 23:59:60 included, and not at 23:58:59; on a
+-- day without one it never is
 abbrev leap_bits : Option Leap → ℕ → Bool × Bool
 leap_bits leap sod = let k = true_control Add utc [] leap (at 6209 sod) in (k.leap_pending, k.leap_delete)
 
@@ -138,7 +142,8 @@ pub known_frames : (frame_of_second Even (at 6209 86399) (pos 0) (last_second (p
 unfolding frame_of_second frame_of_coded time_shown word_of ones
 known_frames = (refl, refl)
 
--- under odd parity element 75 is 0; the frame of 2000-01-03T00:00:00Z has an even number of ones without it
+-- under odd parity element 75 is 0; the frame of 2000-01-03T00:00:00Z has an even number of ones
+-- without it
 pub known_parities : (frame_of_second Odd (at 6209 86399) (pos 0) (last_second (pos 0)) ≡ symbols (codes "P10010101P100101010P110000100P011000110P110000000P011001000P100000000P000000000P111111101P000101010P"))
     × (frame_of_second Even (at 2 0) (pos 0) (plain (pos 0)) ≡ symbols (codes "P00000000P000000000P000000000P110000000P000000000P000000000P000000000P000000000P000000000P000000000P"))
 unfolding frame_of_second frame_of_coded time_shown word_of ones
@@ -188,7 +193,8 @@ known_clock = (refl, refl)
 
 -- ---- refusals
 
--- 31 half hours from UTC are the most, in a change too, and that goes before the order of the changes
+-- 31 half hours from UTC are the most, in a change too, and that goes before the order of the
+-- changes
 pub known_ranges : (map (λ h. gen_refusal (zone h false) []) (pos 31 ∷ pos 32 ∷ negsuc 30 ∷ negsuc 31 ∷ []) ≡ None ∷ Some Offset ∷ None ∷ Some Offset ∷ [])
     × (gen_refusal utc (change (at 6010 43261) utc ∷ change (at 6010 43320) (zone (negsuc 31) false) ∷ []) ≡ Some Offset)
 known_ranges = (refl, refl)

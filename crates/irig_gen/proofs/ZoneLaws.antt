@@ -1,4 +1,5 @@
--- The changes of a generator stand in order, and so the last that has come is found by a binary search.
+-- The changes of a generator stand in order, and so the last that has come is found by a binary
+-- search.
 use Rattle.std.proofs.Common.{◌≡◌, ℕ, zero, suc, ◌+◌, ◌*◌, ◌%◌, ◌<◌, ◌≤◌, Bool, true, false, ◌||◌, leb, get_or, List, [], ◌∷◌, length, refl, arith, inl, inr}
 use Rattle.std.specs.List.{list_any}
 use Rattle.std.specs.List.Sorted.{IsNonDecreasingBy, IsPartitionPoint}

@@ -1,5 +1,5 @@
--- What the control bits of a second truly say (IEEE 1344-1995, the IRIG-B annex; when they are set is this project's
--- profile).
+-- What the control bits of a second truly say (IEEE 1344-1995, the IRIG-B annex; when they are set
+-- is this project's profile).
 use Rattle.std.specs.Prelude.{◌+◌, ◌*◌, Bool, ◌&&◌, ◌==◌, is_some, List, Option, ℤ, neg_ℤ}
 use Rattle.std.specs.List.{list_any}
 use Rattle.irig_control.specs.declared.control.Control.{Control}

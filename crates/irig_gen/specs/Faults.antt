@@ -8,7 +8,8 @@ use Rattle.irig_time.specs.Timelines.{is_deletion}
 
 -- the nearest offset for which the control bits have room
 abbrev pub limited_offset : ℤ → ℤ
-limited_offset z = if int_lt z (neg_ℤ (pos 31)) then neg_ℤ (pos 31) else (if int_lt (pos 31) z then pos 31 else z)
+limited_offset z =
+    if int_lt z (neg_ℤ (pos 31)) then neg_ℤ (pos 31) else (if int_lt (pos 31) z then pos 31 else z)
 
 -- what a fault makes of the control bits
 abbrev pub control_with_fault : Option GenFault → Control → Control

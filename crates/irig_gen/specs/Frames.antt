@@ -14,7 +14,8 @@ use Rattle.irig_gen.specs.Zones.{zone_at}
 use Rattle.irig_gen.specs.ControlBits.{true_control}
 use Rattle.irig_gen.specs.Faults.{control_with_fault, sent_edge}
 
--- the zones and rules of a generator, how far it has come, and its fault with the edge at which it was set
+-- the zones and rules of a generator, how far it has come, and its fault with the edge at which it
+-- was set
 pub record GeneratorValue : Type 0 where
   pub zone : Zone
   pub changes : List Change
@@ -26,14 +27,22 @@ pub record GeneratorValue : Type 0 where
 -- the generator with these zones, rules, edge and fault
 abbrev pub gen : Zone → List Change → Rules → ℕ → Option GenFault → ℕ → GeneratorValue
 gen zone changes rules edge fault since =
-    record { zone = zone; changes = changes; rules = rules; edge = edge; fault = fault; since = since }
+    record {
+      zone = zone;
+      changes = changes;
+      rules = rules;
+      edge = edge;
+      fault = fault;
+      since = since;
+    }
 
 -- what its control bits truly say at a second
 abbrev pub control_at : GeneratorValue → TimelineValue → UtcSecond → Control
 control_at g t u = true_control g.rules.sense g.zone g.changes (leap_of t.leaps u.day) u
 
 -- the frame of an edge, with the control bits that a fault makes of the true ones
-pub record IsFrameWithFault (fault : Option GenFault) (g : GeneratorValue) (t : TimelineValue) (edge : ℕ)
+pub record IsFrameWithFault (fault : Option GenFault) (g : GeneratorValue) (t : TimelineValue)
+    (edge : ℕ)
     (s : List Symbol) : Type 0 where
   pub second : UtcSecond
   pub is : IsSecond t edge second
@@ -45,8 +54,10 @@ abbrev pub IsTrueFrame : GeneratorValue → TimelineValue → ℕ → List Symbo
 IsTrueFrame = IsFrameWithFault None
 
 -- the frame of an edge, or none where the edge has no second
-abbrev pub IsFrameOrNone : Option GenFault → GeneratorValue → TimelineValue → ℕ → Option (List Symbol) → Type 0
-IsFrameOrNone fault g t edge o = MatchOption o ((u : UtcSecond) → ¬ IsSecond t edge u) (IsFrameWithFault fault g t edge)
+abbrev pub IsFrameOrNone : Option GenFault → GeneratorValue → TimelineValue → ℕ
+    → Option (List Symbol) → Type 0
+IsFrameOrNone fault g t edge o =
+    MatchOption o ((u : UtcSecond) → ¬ IsSecond t edge u) (IsFrameWithFault fault g t edge)
 
 -- what is sent, where it is the frame of this edge
 abbrev pub IsSentFrom : Option ℕ → GeneratorValue → TimelineValue → Option (List Symbol) → Type 0

@@ -11,7 +11,8 @@ use Rattle.irig_gen.specs.Frames.{GeneratorValue}
 -- why there is no such generator: first its offsets, then its changes
 abbrev pub gen_refusal : Zone → List Change → Option GenRefusal
 gen_refusal zone changes =
-    if all_fit zone changes then (if in_order 0 changes then None else Some Changes) else Some Offset
+    if all_fit zone changes then (if in_order 0 changes then None else Some Changes)
+    else Some Offset
 
 -- nothing is wrong with its zones
 pub record IsGenerator (g : GeneratorValue) : Type 0 where

@@ -18,7 +18,8 @@ all_fit zone changes = fits zone && list_all (λ x. fits x.zone) changes
 
 -- the first second of a minute, of a day that is served
 abbrev pub is_change_time : UtcSecond → Bool
-is_change_time u = (nat_le FIRST_DAY u.day && nat_le u.day LAST_DAY) && (nat_lt u.sod 86400 && (u.sod % 60 == 0))
+is_change_time u =
+    (nat_le FIRST_DAY u.day && nat_le u.day LAST_DAY) && (nat_lt u.sod 86400 && (u.sod % 60 == 0))
 
 -- each change is at such a second, and later than this minute and the changes before
 abbrev pub in_order : ℕ → List Change → Bool

@@ -36,11 +36,11 @@ pub(crate) fn control_at(
 fn is_last_minute(utc: &UtcSecond) -> bool
     ensures { result ≡ (minute_of utc.now == 1439) }
 {
-    (utc.sod / 60).min(1439) == 1439
+    utc.minute_of_day() == 1439
 }
 
 // The next change alone can come with the next minute.
-fn any_ends(utc: &UtcSecond, changes: &[Change]) -> bool
+pub(crate) fn any_ends(utc: &UtcSecond, changes: &[Change]) -> bool
     requires { in_order 0 changes.now ≡ true }
     ensures { result ≡ list_any (λ x. ends_minute utc.now x.at) changes.now }
 {

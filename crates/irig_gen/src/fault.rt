@@ -22,12 +22,13 @@ pub enum GenFault {
     FalsePending(Leap),
     /// The time quality is this, 15 where it is more.
     Quality(u8),
-    /// The offset sent is so many half hours more, limited to -31 to 31; the coded time is not changed.
+    /// The offset sent is so many half hours more, limited to -31 to 31; the coded time is not
+    /// changed.
     WrongOffset(i8),
 }
 
-/// The edge whose frame is sent at this edge, where the fault was set at edge `since`. Past 2^64 it is the
-/// last one, for which no timeline has a second.
+/// The edge whose frame is sent at this edge, where the fault was set at edge `since`. Past 2^64 it
+/// is the last one, for which no timeline has a second.
 pub(crate) fn edge_sent(fault: Option<GenFault>, edge: u64, since: u64) -> Option<u64>
     ensures { result ≡ option_map (λ e. min e u64.MAX) (sent_edge fault edge since) }
 {

@@ -1,16 +1,19 @@
 //! A generator.
 
-ghost use Rattle.std.specs.Prelude.{◌≡◌, ◌+◌, ◌<◌, true, Some, None, unwrap_or, MatchResult};
+ghost use Rattle.std.specs.Prelude.{◌≡◌, ◌+◌, ◌<◌, ℕ, true, Some, None, unwrap_or, MatchResult};
+ghost use Rattle.irig_time.specs.declared.second.UtcSecond.{UtcSecond};
+ghost use Rattle.irig_time.specs.Timelines.{second_at};
+ghost use Rattle.irig_gen.specs.Faults.{sent_edge};
 ghost use Rattle.irig_gen.specs.Frames.{gen, IsFrameOrNone, IsSent};
-ghost use Rattle.irig_gen.specs.Sent.{frame_of, sent_of};
+ghost use Rattle.irig_gen.specs.Sent.{ShowSame, frame_of, last_sent, sent_of};
 ghost use Rattle.irig_time.specs.TimelineFaults.{IsTimeline};
 ghost use Rattle.irig_gen.specs.Refusals.{gen_refusal};
 
-use crate::control::control_at;
+use crate::control::{any_ends, control_at};
 use crate::fault::{GenFault, control_with_fault, edge_sent};
 use crate::zone::{Change, Zone, all_fit, in_order, zone_at};
 use irig_frame::Symbol;
-use irig_time::{Rules, Timeline, frame_of_second};
+use irig_time::{Rules, Timeline, UtcSecond, frame_of_second};
 use std::alloc::Global;
 use std::marker::Model;
 
@@ -19,8 +22,8 @@ use std::marker::Model;
 pub enum GenRefusal {
     /// A zone, the first or a change's, is not -31 to 31 half hours ahead of UTC.
     Offset,
-    /// A change is not at the first second of a UTC minute of a day served, or not later than the one
-    /// before.
+    /// A change is not at the first second of a UTC minute of a day served, or not later than the
+    /// one before.
     Changes,
     /// There was no memory.
     Memory,
@@ -60,7 +63,8 @@ impl Generator {
         rules: Rules,
     ) -> Result<Generator, GenRefusal>
         ensures { MatchResult result
-            (λ g. (gen_refusal zone changes.now ≡ None) × (g ≡ gen zone changes.now rules 0 None 0))
+            (λ g. (gen_refusal zone changes.now ≡ None)
+            × (g ≡ gen zone changes.now rules 0 None 0))
             (λ e. e ≡ unwrap_or (gen_refusal zone changes.now) GenRefusal.Memory) }
     {
         if !all_fit(&zone, changes) {
@@ -82,26 +86,69 @@ impl Generator {
         }
     }
 
-    /// Whether the other generator was made alike and is in the same state, so that both send the same.
-    pub fn is_alike(&self, other: &Generator) -> bool
-        ensures { result ≡ true → self.now ≡ other.now }
+    /// Yes only if the other generator now sends the same: the frame of the same edge, by the same
+    /// fault and rules, and its clock shows the same of that second.
+    pub fn sends_as(&self, other: &Generator, timeline: &Timeline) -> bool
+        ensures { result ≡ true
+            → sent_of self.now timeline.now ≡ sent_of other.now timeline.now }
     {
-        if self.edge != other.edge {
+        if !self.stands_as(other) {
             return false;
         }
-        if self.since != other.since {
-            return false;
+        if self.is_plain_as(other) {
+            return true;
         }
+        match self.second_sent(timeline) {
+            Some(utc) => self.shows_as(other, &utc),
+            None => true,
+        }
+    }
+
+    fn stands_as(&self, other: &Generator) -> bool
+        ensures edge { result ≡ true → last_sent self.now ≡ last_sent other.now }
+        ensures fault { result ≡ true → self.now.fault ≡ other.now.fault }
+        ensures rules { result ≡ true → self.now.rules ≡ other.now.rules }
+    {
         if !is_same_fault(self.fault, other.fault) {
-            return false;
-        }
-        if !is_same_zone(self.zone, other.zone) {
             return false;
         }
         if !are_same_rules(self.rules, other.rules) {
             return false;
         }
-        are_same_changes(&self.changes, &other.changes)
+        let edge = edge_sent(self.fault, self.edge, self.since);
+        is_same_edge(edge, edge_sent(other.fault, other.edge, other.since))
+    }
+
+    // Whether both stay in one zone: then no second has to be looked up.
+    fn is_plain_as(&self, other: &Generator) -> bool
+        ensures { result ≡ true → (u : UtcSecond) → ShowSame self.now other.now u }
+    {
+        if !self.changes.is_empty() {
+            return false;
+        }
+        if !other.changes.is_empty() {
+            return false;
+        }
+        is_same_zone(self.zone, other.zone)
+    }
+
+    fn shows_as(&self, other: &Generator, utc: &UtcSecond) -> bool
+        ensures { result ≡ true → ShowSame self.now other.now utc.now }
+    {
+        let zone = zone_at(self.zone, &self.changes, utc);
+        if !is_same_zone(zone, zone_at(other.zone, &other.changes, utc)) {
+            return false;
+        }
+        any_ends(utc, &self.changes) == any_ends(utc, &other.changes)
+    }
+
+    // The second whose frame is sent, if there is one.
+    fn second_sent(&self, timeline: &Timeline) -> Option<UtcSecond>
+        ensures { (edge : ℕ)
+            → sent_edge self.now.fault self.now.edge self.now.since ≡ Some edge
+            → result ≡ second_at timeline.now edge }
+    {
+        timeline.at(edge_sent(self.fault, self.edge, self.since)?)
     }
 
     /// The edge at which it stands.
@@ -177,6 +224,12 @@ fn is_same_fault(one: Option<GenFault>, other: Option<GenFault>) -> bool
     one == other
 }
 
+fn is_same_edge(one: Option<u64>, other: Option<u64>) -> bool
+    ensures { result ≡ true → one ≡ other }
+{
+    one == other
+}
+
 fn is_same_zone(one: Zone, other: Zone) -> bool
     ensures { result ≡ true → one ≡ other }
 {
@@ -187,10 +240,4 @@ fn are_same_rules(one: Rules, other: Rules) -> bool
     ensures { result ≡ true → one ≡ other }
 {
     one == other
-}
-
-fn are_same_changes(some: &[Change], others: &[Change]) -> bool
-    ensures { result ≡ true → some.now ≡ others.now }
-{
-    some == others
 }

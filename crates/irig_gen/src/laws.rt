@@ -14,8 +14,8 @@ use irig_time::Claim;
 
 /// The law of true frames: the frame of an edge without fault carries the true claim of its second.
 pub fn law_of_true_frames()
-    ensures { (g : GeneratorValue) (t : TimelineValue) (edge : ℕ) (s : List Symbol) → IsGenerator g
-        → IsTimeline t → IsTrueFrame g t edge s
+    ensures { (g : GeneratorValue) (t : TimelineValue) (edge : ℕ) (s : List Symbol)
+        → IsGenerator g → IsTimeline t → IsTrueFrame g t edge s
         → (c : Claim) × IsTrueClaim t (edge + 1) c × Carries g.rules s c }
 {}
 
@@ -26,7 +26,8 @@ pub fn one_frame()
         → IsFrameWithFault fault g t edge r → s ≡ r }
 {}
 
-/// The functions `frame_of` and `sent_of` give the frame of an edge, with each fault, and what is now sent.
+/// The functions `frame_of` and `sent_of` give the frame of an edge, with each fault, and what is
+/// now sent.
 pub fn frames_are()
     ensures frame { (fault : Option GenFault) (g : GeneratorValue) (t : TimelineValue) (edge : ℕ)
         → IsGenerator g → IsTimeline t

@@ -50,8 +50,8 @@ fn fits(zone: &Zone) -> bool
     zone.half_hours.unsigned_abs() <= 31
 }
 
-/// Whether each change is at the first second of a minute, of a day that is served, and later than the
-/// one before.
+/// Whether each change is at the first second of a minute, of a day that is served, and later than
+/// the one before.
 pub(crate) fn in_order(changes: &[Change]) -> bool
     ensures { result ≡ in_order 0 changes.now }
 {
@@ -60,7 +60,7 @@ pub(crate) fn in_order(changes: &[Change]) -> bool
         if !is_change_time(&change.at) {
             return false;
         }
-        let minute = change.at.day * 1440 + change.at.sod / 60;
+        let minute = minute_number(change.at);
         if minute <= before {
             return false;
         }
@@ -100,7 +100,7 @@ pub(crate) fn count_come(changes: &[Change], minute: u64) -> usize
 pub(crate) fn minute_at(utc: &UtcSecond) -> u64
     ensures { result ≡ utc.now.day * 1440 + minute_of utc.now }
 {
-    u64::from(utc.day) * 1440 + u64::from((utc.sod / 60).min(1439))
+    u64::from(utc.day) * 1440 + u64::from(utc.minute_of_day())
 }
 
 /// The minute that begins with a change at this second.

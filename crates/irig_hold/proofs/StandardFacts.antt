@@ -52,7 +52,8 @@ pub known_deletion : (alone_by nothing (hold_value (at 6209 86398) 0 Delete) 9 �
     × (hold_start nothing (claim 6209 86398 Delete) ≡ Ok (hold_value (at 6210 0) 0 Unspoken))
 known_deletion = (rw december refl, rw december refl)
 
--- where nothing was heard, the guard; unless the table speaks, which it does on the day with which it ends
+-- where nothing was heard, the guard; unless the table speaks, which it does on the day with which
+-- it ends
 pub known_guard : (alone_by nothing (hold_value (at 6209 86397) 0 Unspoken) 9 ≡ goes (hold_value (at 6209 86398) 1 Unspoken))
     × (alone_by nothing (hold_value (at 6209 86398) 0 Unspoken) 9 ≡ stays (hold_value (at 6209 86398) 0 Unspoken) LeapGuard)
     × (alone_by (table 6208 []) (hold_value (at 6209 86398) 0 Unspoken) 9 ≡ stays (hold_value (at 6209 86398) 0 Unspoken) LeapGuard)
@@ -66,7 +67,8 @@ pub known_table : (alone_by (table 6209 ((6209, leap.Insert) ∷ [])) (hold_valu
     × (alone_by (table 6209 ((6209, leap.Insert) ∷ [])) (hold_value (at 6209 86399) 0 NoLeap) 9 ≡ goes (hold_value (at 6210 0) 1 Unspoken))
 known_table = (rw december refl, rw december refl)
 
--- a vote that says nothing leaves what was heard, one that says something is heard, and one for another second is a jump
+-- a vote that says nothing leaves what was heard, one that says something is heard, and one for
+-- another second is a jump
 pub known_votes : (voted_by nothing (hold_value (at 6209 86397) 5 Insert) (claim 6209 86397 Unspoken) ≡ goes (hold_value (at 6209 86398) 0 Insert))
     × (voted_by nothing (hold_value (at 6209 86397) 5 Insert) (claim 6209 86397 NoLeap) ≡ goes (hold_value (at 6209 86398) 0 NoLeap))
     × (voted_by nothing (hold_value (at 6209 86398) 5 Insert) (claim 6209 86397 Insert) ≡ stays (hold_value (at 6209 86398) 5 Insert) Jump)
@@ -95,7 +97,8 @@ leaps = (6209, leap.Insert) ∷ []
 abbrev some : Leap → Option Leap
 some l = Some l
 
--- true: the leap there is, or an end before it; not true: no leap where there is one, or one where there is none
+-- true: the leap there is, or an end before it; not true: no leap where there is one, or one where
+-- there is none
 pub known_tables : IsTrueTable (times (at 6000 0) leaps) (table 6240 leaps) × IsTrueTable (times (at 6209 0) leaps) (table 6208 [])
     × ¬ IsTrueTable (times (at 6209 86400) leaps) (table 6209 []) × ¬ IsTrueTable (times (at 6209 0) []) (table 6209 leaps)
 known_tables = (

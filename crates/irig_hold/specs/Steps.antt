@@ -12,7 +12,8 @@ use Rattle.irig_time.specs.Tables.{TableValue, spoken_mark}
 use Rattle.irig_hold.specs.declared.hold.Turn.{Turn}
 use Rattle.irig_hold.specs.declared.hold.Turn.TheVariants.{Now, LeapGuard, Expired, RangeEnd, Jump}
 
--- the second that a hold has come to, how many seconds it has gone alone, and what it heard of the end of that day
+-- the second that a hold has come to, how many seconds it has gone alone, and what it heard of the
+-- end of that day
 pub record HoldValue : Type 0 where
   pub last : UtcSecond
   pub age : ℕ
@@ -41,7 +42,8 @@ hold_or_stop from age heard (Some to) = Ok (hold_after from age heard to)
 
 -- the step from a second, by what was heard and the table: the hold there, or why there is none
 abbrev pub hold_step : TableValue → UtcSecond → ℕ → Mark → Result HoldValue Turn
-hold_step table from age heard = hold_or_stop from age heard (next_of from (spoken_mark table heard from.day))
+hold_step table from age heard =
+    hold_or_stop from age heard (next_of from (spoken_mark table heard from.day))
 
 -- a hold that begins with a claim, or why there is none
 abbrev pub hold_start : TableValue → Claim → Result HoldValue Turn
@@ -74,4 +76,5 @@ voted_by table h c =
 -- a hold without a vote, which goes alone for so many seconds at most
 abbrev pub alone_by : TableValue → HoldValue → ℕ → Outcome
 alone_by table h limit =
-    if nat_le limit h.age then outcome_of h (Err Expired) else outcome_of h (hold_step table h.last (h.age + 1) h.heard)
+    if nat_le limit h.age then outcome_of h (Err Expired)
+    else outcome_of h (hold_step table h.last (h.age + 1) h.heard)

@@ -25,8 +25,8 @@ pub enum Turn {
     Jump,
 }
 
-/// A second that was reached by votes and by counting, how many seconds were counted alone since the last
-/// vote, and what was heard of the leap at the end of that day.
+/// A second that was reached by votes and by counting, how many seconds were counted alone since
+/// the last vote, and what was heard of the leap at the end of that day.
 ///
 /// The second is always a [`valid`](irig_time::valid) one.
 #[derive(Debug, Drop, PartialEq, Eq)]
@@ -50,8 +50,8 @@ impl Model for Hold {
 }
 
 impl Hold {
-    /// The hold that begins with a claim of a [`valid`](irig_time::valid) second: it stands at the next
-    /// one, by what the claim says of a leap or else the table.
+    /// The hold that begins with a claim of a [`valid`](irig_time::valid) second: it stands at the
+    /// next one, by what the claim says of a leap or else the table.
     ///
     /// `LeapGuard` or `RangeEnd` where there is no next one.
     pub fn start(claim: Claim, table: &LeapTable) -> Result<Hold, Turn>
@@ -63,8 +63,8 @@ impl Hold {
 
     /// One second on, with a vote for the second that it stands at.
     ///
-    /// It keeps what the vote says of a leap, if it says something. `Jump` where the vote is for another
-    /// second, then `LeapGuard` or `RangeEnd`; these leave it as it was.
+    /// It keeps what the vote says of a leap, if it says something. `Jump` where the vote is for
+    /// another second, then `LeapGuard` or `RangeEnd`; these leave it as it was.
     pub fn voted(&mut self, claim: Claim, table: &LeapTable) -> Turn
         ensures answer { result ≡ (voted_by table.now self.old claim).answer }
         ensures new { self.new ≡ (voted_by table.now self.old claim).new }

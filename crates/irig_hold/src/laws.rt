@@ -10,8 +10,8 @@ ghost use Rattle.irig_hold.specs.Truth.{IsTrueTable, IsOnTime, HasComeTo, IsGuar
 use crate::hold::Turn;
 use irig_time::{Claim, UtcSecond};
 
-/// The law of the hold: a hold that stands at T(n), and heard nothing false of the day's leap, goes to
-/// T(n + 1) or stops; and then it has again heard nothing false.
+/// The law of the hold: a hold that stands at T(n), and heard nothing false of the day's leap, goes
+/// to T(n + 1) or stops; and then it has again heard nothing false.
 ///
 /// So it is with a true claim, alone with a true table, and at the beginning with a true claim.
 pub fn law_of_hold()
@@ -28,8 +28,8 @@ pub fn law_of_hold()
         → IsOnTime t (n + 1) h }
 {}
 
-/// If T(n + 1) exists, a hold goes there from T(n): with a true vote always, and alone unless it has
-/// expired or is guarded. So does one that begins with a true claim of T(n).
+/// If T(n + 1) exists, a hold goes there from T(n): with a true vote always, and alone unless it
+/// has expired or is guarded. So does one that begins with a true claim of T(n).
 pub fn law_of_steps()
     ensures voted { (t : TimelineValue) (table : TableValue) (n : ℕ) (h : HoldValue) (c : Claim)
         (v : UtcSecond) → IsTimeline t → IsSecond t n h.last → IsTrueClaim t (n + 1) c
@@ -37,8 +37,8 @@ pub fn law_of_steps()
         ≡ outcome_of h (Ok (hold_after h.last 0 (mark_or c.mark h.heard) v)) }
     ensures alone { (t : TimelineValue) (table : TableValue) (n limit : ℕ) (h : HoldValue)
         (v : UtcSecond) → IsTimeline t → IsTrueTable t table → IsOnTime t n h
-        → IsSecond t (n + 1) v → h.age < limit → ¬ IsGuarded table h → alone_by table h limit
-        ≡ outcome_of h (Ok (hold_after h.last (h.age + 1) h.heard v)) }
+        → IsSecond t (n + 1) v → h.age < limit → ¬ IsGuarded table h
+        → alone_by table h limit ≡ outcome_of h (Ok (hold_after h.last (h.age + 1) h.heard v)) }
     ensures started { (t : TimelineValue) (table : TableValue) (n : ℕ) (c : Claim) (v : UtcSecond)
         → IsTimeline t → IsTrueClaim t (n + 1) c → IsSecond t (n + 1) v
         → hold_start table c ≡ Ok (hold_after c.at 0 c.mark v) }
@@ -54,10 +54,11 @@ pub fn law_of_stops()
         (c : Claim) → IsTimeline t → IsSecond t n h.last → IsTrueClaim t (n + 1) c
         → ¬ ((voted_by table h c).answer ≡ Turn.LeapGuard) }
     ensures started_guard { (t : TimelineValue) (table : TableValue) (n : ℕ) (c : Claim)
-        → IsTimeline t → IsTrueClaim t (n + 1) c → ¬ (hold_start table c ≡ Err Turn.LeapGuard) }
+        → IsTimeline t → IsTrueClaim t (n + 1) c
+        → ¬ (hold_start table c ≡ Err Turn.LeapGuard) }
     // The range ends exactly if T(n + 1) does not exist.
-    ensures voted_end { (t : TimelineValue) (table : TableValue) (n : ℕ) (h : HoldValue) (c : Claim)
-        → IsTimeline t → IsSecond t n h.last → IsTrueClaim t (n + 1) c
+    ensures voted_end { (t : TimelineValue) (table : TableValue) (n : ℕ) (h : HoldValue)
+        (c : Claim) → IsTimeline t → IsSecond t n h.last → IsTrueClaim t (n + 1) c
         → ((voted_by table h c).answer ≡ Turn.RangeEnd) ↔ EndsAt t n }
     ensures started_end { (t : TimelineValue) (table : TableValue) (n : ℕ) (c : Claim)
         → IsTimeline t → IsTrueClaim t (n + 1) c
@@ -68,5 +69,6 @@ pub fn law_of_stops()
         ↔ ((h.age < limit) × IsGuarded table h) }
     ensures end { (t : TimelineValue) (table : TableValue) (n limit : ℕ) (h : HoldValue)
         → IsTimeline t → IsSecond t n h.last
-        → ((alone_by table h limit).answer ≡ Turn.RangeEnd) ↔ ((h.age < limit) × EndsAt t n) }
+        → ((alone_by table h limit).answer ≡ Turn.RangeEnd)
+        ↔ ((h.age < limit) × EndsAt t n) }
 {}

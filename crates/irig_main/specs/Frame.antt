@@ -15,7 +15,8 @@ use Rattle.irig_time.specs.Frames.{IsFrameOfSecond}
 -- ten groups of ten letters, a blank (32) between two groups, and a newline (10) at the end
 pub record IsFrameText (frame : List Symbol) (text : List ℕ) : Type 0 where
   pub len : length text ≡ 110
-  pub letters : (i : ℕ) → i < 100 → slice_get text (i + i / 10) ≡ option_map letter_of (slice_get frame i)
+  pub letters : (i : ℕ) → i < 100
+      → slice_get text (i + i / 10) ≡ option_map letter_of (slice_get frame i)
   pub blanks : (group : ℕ) → group < 9 → slice_get text (11 * group + 10) ≡ Some 32
   pub newline : slice_get text 109 ≡ Some 10
 
@@ -30,9 +31,10 @@ control_with local pending = record {
   quality = 0;
 }
 
--- the text is the frame of the UTC second that the time names, by a clock so many half hours ahead of UTC,
--- with this leap second pending and even parity
-pub record ShowsFrameOf (time : List ℕ) (local : ℤ) (pending : Option Leap) (text : List ℕ) : Type 0 where
+-- the text is the frame of the UTC second that the time names, by a clock so many half hours ahead
+-- of UTC, with this leap second pending and even parity
+pub record ShowsFrameOf (time : List ℕ) (local : ℤ) (pending : Option Leap)
+    (text : List ℕ) : Type 0 where
   pub utc : UtcSecond
   pub frame : List Symbol
   pub valid : IsValid utc

@@ -7,7 +7,8 @@ use Rattle.irig_scene.specs.declared.fault.SceneFault.TheVariants as scene
 use Rattle.irig_main.specs.declared.fault.Fault.{Fault}
 use Rattle.irig_main.specs.declared.fault.Fault.TheVariants.{CommandLine, NotText, BadTime, BadFrameText, Refused, Read, Write, Memory}
 
--- a fault of the words is 2, a refused scenario 3, a fault of the input 4, of the output 5, of the memory 6
+-- a fault of the words is 2, a refused scenario 3, a fault of the input 4, of the output 5, of the
+-- memory 6
 abbrev pub status_of : Fault → ℕ
 status_of (CommandLine text) = 2
 status_of NotText = 2

@@ -15,8 +15,9 @@ use irig_time::{Leap, frame_of_second, read_text};
 /// The text of a frame: ten groups of ten symbols with a blank between, and a newline.
 pub type FrameText = [u8; 110];
 
-/// The frame of the UTC second whose text this is, by a clock `local` half hours ahead of UTC, -31 to 31,
-/// with this leap second pending: even parity, quality 0, the offset added to the coded time.
+/// The frame of the UTC second whose text this is, by a clock `local` half hours ahead of UTC, -31
+/// to 31, with this leap second pending: even parity, quality 0, the offset added to the coded
+/// time.
 pub fn frame_text(time: &str, local: i8, pending: Option<Leap>) -> Result<FrameText, Fault>
     requires { unsigned_abs local ≤ 31 }
     ensures frame { IfOk result (λ text. ShowsFrameOf time.now local pending text) }

@@ -5,8 +5,6 @@ mod drive;
 mod fault;
 mod frame;
 mod read;
-#[cfg(test)]
-mod tests;
 mod told;
 
 use drive::drive;

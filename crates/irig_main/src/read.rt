@@ -10,12 +10,13 @@ use arrayvec::ArrayVec;
 use irig_frame::{Coded, Symbol, decode};
 use std::alloc::{AllocError, Global};
 
-/// What the frame says: the line of the time that it codes, if it codes one, and the line of what a port
-/// tells of it; `BadFrameText` where the text has a letter of no symbol.
+/// What the frame says: the line of the time that it codes, if it codes one, and the line of what a
+/// port tells of it; `BadFrameText` where the text has a letter of no symbol.
 pub fn frame_lines(alloc: Global, text: &str) -> Result<String, Fault>
     ensures bad_text { (result ≡ Err Fault.BadFrameText)
         ↔ ((symbols : List Symbol) → ¬ Shows text.now symbols) }
-    ensures kind { IfErr result (λ fault. (fault ≡ Fault.BadFrameText) ⊎ (fault ≡ Fault.Memory)) }
+    ensures kind { IfErr result
+        (λ fault. (fault ≡ Fault.BadFrameText) ⊎ (fault ≡ Fault.Memory)) }
 {
     let symbols = symbols_of(text)?;
     let told = told_line(alloc, &told_by(symbols.as_slice()))?;

@@ -1,4 +1,5 @@
--- What later events leave as it was: votes, restarts and ticks of a reader up to an edge; and what its votes are.
+-- What later events leave as it was: votes, restarts and ticks of a reader up to an edge; and what
+-- its votes are.
 use Rattle.std.specs.Prelude.{◌==◌, ◌&&◌, is_some}
 use Rattle.std.proofs.Common.{◌≡◌, ℕ, ◌+◌, ◌<◌, ◌≤◌, Bool, true, false, List, [], ◌∷◌, ◌++◌, length, Option, Some, None, inl, inr, refl, sym, ap, subst, ◌∙◌, arith, eqb-true}
 use Rattle.std.proofs.lemmas.Bool.{false≢true, cases_Bool, cases_lt, eq-eqb, ne_eqb, and_right, ltb-false, ltb-true, lt-ltb, le-ltb}

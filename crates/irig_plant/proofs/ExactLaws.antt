@@ -1,4 +1,5 @@
--- When entries announce, with what lock, why they are silent, and that the guard's cause is told at guard edges alone.
+-- When entries announce, with what lock, why they are silent, and that the guard's cause is told at
+-- guard edges alone.
 use Rattle.std.specs.Prelude.{is_some, All, ◌↔◌}
 use Rattle.std.specs.List.{Contains}
 use Rattle.std.proofs.Common.{◌≡◌, ℕ, ◌+◌, ◌-◌, ◌<◌, ◌≤◌, Bool, true, false, List, [], ◌∷◌, ◌++◌, Option, Some, None, refl, sym, ap, subst, ◌∙◌, arith}

@@ -1,4 +1,5 @@
--- Readers whose ports were kept and whose tables are true stand at the truth, and so their entries announce it.
+-- Readers whose ports were kept and whose tables are true stand at the truth, and so their entries
+-- announce it.
 use Rattle.std.proofs.Common.{◌≡◌, ◌==◌, ℕ, ◌+◌, ◌<◌, ◌≤◌, false, List, [], ◌∷◌, Option, Some, None, get_or, refl, sym, ap, subst, ◌∙◌, arith, inl, inr, ◌⊎◌, eqb-true}
 use Rattle.std.specs.Prelude.{All}
 use Rattle.std.proofs.lemmas.Bool.{cases_Bool}

@@ -1,4 +1,5 @@
--- The reader's rule keeps to the truth: by true votes a reader that stands at T(n), or nowhere, goes to T(n + 1), or nowhere.
+-- The reader's rule keeps to the truth: by true votes a reader that stands at T(n), or nowhere,
+-- goes to T(n + 1), or nowhere.
 use Rattle.std.proofs.Common.{◌≡◌, ◌==◌, ℕ, ◌+◌, Bool, true, false, cond, Option, Some, None, Result, Ok, Err, refl, subst, inl, inr}
 use Rattle.std.specs.Prelude.{nat_le}
 use Rattle.std.proofs.lemmas.Bool.{cases_Bool}
@@ -22,7 +23,7 @@ use Rattle.irig_reader.specs.declared.report.Cause.TheVariants as cause
 use Rattle.irig_reader.specs.declared.rule.State.{State}
 use Rattle.irig_reader.specs.declared.rule.State.TheVariants.{Idle, Acquiring, Locked}
 use Rattle.irig_reader.specs.declared.rule.Step.{Step}
-use Rattle.irig_reader.specs.Rule.{stop_step, announcement, count_step, first_vote_step, later_vote_step_by, locked_step, step_of}
+use Rattle.irig_reader.specs.Rule.{stop_step, announce_step, count_step, first_vote_step, later_vote_step_by, locked_step, step_of}
 use Rattle.irig_plant.specs.Headline.{StandsAtTruth}
 
 -- there is no T(n)
@@ -43,7 +44,7 @@ pub record IsTrueStep (t : TimelineValue) (n : ℕ) (step : Step) : Type 0 where
 stopped_true : (t : TimelineValue) (n : ℕ) (c : Cause) → IsTrueCause t n c → IsTrueStep t n (stop_step c)
 stopped_true t n c calm = record { state = tt; says = λ u e. absurd cc; calm = calm }
 
-announced_true : (t : TimelineValue) (n : ℕ) (h : HoldValue) (u : UtcSecond) (l : Lock) (c : Cause) → IsOnTime t n h → h.last ≡ u → IsTrueCause t n c → IsTrueStep t n (announcement h u l c)
+announced_true : (t : TimelineValue) (n : ℕ) (h : HoldValue) (u : UtcSecond) (l : Lock) (c : Cause) → IsOnTime t n h → h.last ≡ u → IsTrueCause t n c → IsTrueStep t n (announce_step h u l c)
 announced_true t n h u l c on_time last calm = record {
   state = on_time;
   says = λ v e. let same : h.last ≡ v = cc in subst (IsSecond t n) same on_time.last;
@@ -52,7 +53,7 @@ announced_true t n h u l c on_time last calm = record {
 
 counted_true : (t : TimelineValue) (n : ℕ) (own : ReaderRules) (h : HoldValue) (count : ℕ) → IsOnTime t n h → IsTrueStep t n (count_step own h count)
 counted_true t n own h count on_time =
-    either (count == own.lock_after) (announcement h h.last lock.Locked cause.Voted) (record { state = Acquiring h count; report = record { announce = None; lock = lock.Acquiring count; cause = cause.Acquiring } })
+    either (count == own.lock_after) (announce_step h h.last lock.Locked cause.Voted) (record { state = Acquiring h count; report = record { announce = None; lock = lock.Acquiring count; cause = cause.Acquiring } })
     (announced_true t n h h.last lock.Locked cause.Voted on_time refl (record { jump = λ e. cc; range_end = λ e. absurd cc }))
     (record { state = on_time; says = λ u e. absurd cc; calm = record { jump = λ e. cc; range_end = λ e. absurd cc } })
   where

@@ -14,7 +14,8 @@ use Rattle.irig_time.proofs.TimeLaws.{length_bounds, seconds_to_next, seconds_be
 use Rattle.irig_hold.specs.Steps.{HoldValue, mark_or, mark_kept, hold_after}
 use Rattle.irig_hold.specs.Truth.{IsOnTime, IsGuarded}
 
--- what a hold has heard whose last vote told the second that lies so many seconds before u: the mark of that vote, on the same day
+-- what a hold has heard whose last vote told the second that lies so many seconds before u: the
+-- mark of that vote, on the same day
 abbrev pub heard_at : TimelineValue → UtcSecond → ℕ → Mark
 heard_at t u since = if is_month_end u.day && nat_le (86341 + since) u.sod then mark_by (leap_of t.leaps u.day) else Unspoken
 
@@ -129,7 +130,8 @@ true_mark_low t u low =
       ]
     ]
 
--- the mark of a vote at u goes before what was heard earlier on that day, and is the same where both are there
+-- the mark of a vote at u goes before what was heard earlier on that day, and is the same where
+-- both are there
 heard_by : (l : Option Leap) (a b c : Bool) → (c ≡ true → b ≡ true) → mark_or (cond (a && b) (mark_by l) Unspoken) (cond (a && c) (mark_by l) Unspoken) ≡ cond (a && b) (mark_by l) Unspoken
 heard_by l false b c f = refl
 heard_by l true true c f = mark_or_it l (cond c (mark_by l) Unspoken)

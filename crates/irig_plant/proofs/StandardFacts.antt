@@ -1,4 +1,5 @@
--- What some short lists of events say, to pin the definitions to examples worked by hand. Newest events come first.
+-- What some short lists of events say, to pin the definitions to examples worked by hand. Newest
+-- events come first.
 use Rattle.std.specs.Prelude.{◌==◌, ◌||◌}
 use Rattle.std.proofs.Common.{◌≡◌, ℕ, ◌+◌, ◌≤◌, true, false, [], ◌∷◌, Some, None, inl, inr, refl, sym, ap, ◌∙◌, arith}
 use Rattle.std.proofs.lemmas.Bool.{false≢true, cases_eq}
@@ -116,7 +117,8 @@ carried_by_two = refl
 not_carried_by_one : is_carried 1 (tells.Claim noon ∷ tells.Silence ∷ tells.Claim (record noon { mark = NoLeap }) ∷ []) (Some noon) ≡ false
 not_carried_by_one = refl
 
--- a reader that locks after 2 votes and holds over for 1 edge, of which edges 1 and 2 are voted, is held at 2 and 3 alone
+-- a reader that locks after 2 votes and holds over for 1 edge, of which edges 1 and 2 are voted, is
+-- held at 2 and 3 alone
 module _ (t : TimelineValue) (table : TableValue) where
   abbrev two_votes : VotedEdges
   two_votes = record { times = t; own = record { lock_after = 2; holdover = 1 }; table = table; voted = λ i. (i == 1) || (i == 2); restarted = λ i. false }

@@ -27,7 +27,8 @@ use Rattle.irig_plant.specs.Exactly.{announcement, silence}
 use Rattle.irig_plant.proofs.EdgeLaws.{held_back, lock_is_before, run_of_lock, lock_of_run, held_voted, held_alone, not_held_late, not_held_guard, first_run, next_run, now_last, older_last}
 use Rattle.irig_plant.proofs.HeldMarks.{heard_at, IsTrueHold, on_time, IsOpen, moved_true, true_mark_low, voted_mark, vote_opens, unheard_since, unheard_by}
 
--- ---- what stands after the n-th tick, by the state; restarts that come after it are still to be counted
+-- ---- what stands after the n-th tick, by the state; restarts that come after it are still to be
+-- counted
 
 pub record IsReady (x : VotedEdges) (n : ℕ) : Type 0 where
   pub unheld : IsHeld x n → x.restarted n ≡ false → ⊥

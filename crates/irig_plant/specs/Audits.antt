@@ -1,4 +1,5 @@
--- The audit: whether the premises hold under which readers announce the truth, and where they first break.
+-- The audit: whether the premises hold under which readers announce the truth, and where they first
+-- break.
 -- Source: docs/PLANT.md, the audit.
 use Rattle.std.specs.Prelude.{ℕ, ◌+◌, ◌-◌, Bool, true, false, not, ◌||◌, nat_lt, if◌then◌else◌, List, [], ◌∷◌, length, count_by, Option, Some, None}
 use Rattle.std.specs.Option.{option_or}
@@ -34,7 +35,8 @@ agrees_on t table day = agrees (table_mark table day) (mark_by (leap_of t.leaps 
 
 -- so for each day from the start's to the last one served
 unfoldable pub is_true_table : TimelineValue → TableValue → Bool
-is_true_table t table = list_all (agrees_on t table) (range_with_len t.start.day (LAST_DAY + 1 - t.start.day))
+is_true_table t table =
+    list_all (agrees_on t table) (range_with_len t.start.day (LAST_DAY + 1 - t.start.day))
 
 -- the least reader, from this number on, whose table isn't true
 abbrev pub first_false : TimelineValue → ℕ → List ReaderSetup → Option ℕ
@@ -57,7 +59,8 @@ is_untrue truth _ = false
 abbrev pub untrue_ports : Option Claim → List Told → ℕ
 untrue_ports truth ports = count_by (is_untrue truth) ports
 
--- whether f + 1 or more ports do at a tick of r that comes now; at tick n the truth is the claim of T(n - 1)
+-- whether f + 1 or more ports do at a tick of r that comes now; at tick n the truth is the claim of
+-- T(n - 1)
 abbrev pub is_broken_now : Setup → ℕ → List Event → Bool
 is_broken_now s r ev =
     nat_lt (f_of (redundancy_of (length s.generators)))
@@ -77,7 +80,8 @@ place reader edge = record { reader = reader; edge = edge }
 abbrev pub first_broken : Setup → List Event → Option Place
 first_broken s [] = None
 first_broken s (Tick r ∷ ev) =
-    option_or (first_broken s ev) (if is_broken_now s r ev then Some (place r (ticks_of r ev + 1)) else None)
+    option_or (first_broken s ev)
+    (if is_broken_now s r ev then Some (place r (ticks_of r ev + 1)) else None)
 first_broken s (_ ∷ ev) = first_broken s ev
 
 -- ---- the audit

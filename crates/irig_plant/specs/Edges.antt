@@ -1,4 +1,5 @@
--- Voted, guard and held edges of a reader. They are statements about events, and speak of no state of a reader.
+-- Voted, guard and held edges of a reader. They are statements about events, and speak of no state
+-- of a reader.
 -- Source: docs/EXACTLY_WHEN.md.
 use Rattle.std.specs.Prelude.{◌≡◌, ℕ, ◌+◌, ◌<◌, ◌≤◌, Bool, true, false, ◌==◌, ◌&&◌, nat_lt, if◌then◌else◌, List, [], ◌∷◌, ◌++◌, length, Option, Some, None}
 use Rattle.irig_time.specs.declared.second.UtcSecond.{UtcSecond}
@@ -18,10 +19,12 @@ use Rattle.irig_plant.specs.Schedule.{Setup, fed_at, setup_at, history_with, tic
 
 -- ---- voted edges and restarts
 
--- what the ports of r tell of what they heard, at a tick of r that comes now; its votes do not matter
+-- what the ports of r tell of what they heard, at a tick of r that comes now; its votes do not
+-- matter
 abbrev pub ports_now : Setup → ℕ → List Event → List Told
 ports_now s r ev =
-    ports_of (told_at_tick (history_with s r (fed_at s r ev) [])) (redundancy_of (length s.generators))
+    ports_of (told_at_tick (history_with s r (fed_at s r ev) []))
+    (redundancy_of (length s.generators))
 
 -- whether more than f of the ports carry the claim, if there is one
 abbrev pub is_carried : ℕ → List Told → Option Claim → Bool
@@ -31,21 +34,25 @@ is_carried f ports (Some c) = nat_lt f (carriers c ports)
 -- whether f + 1 or more ports of r carry the true claim at a tick of r that comes now
 abbrev pub is_voted_now : Setup → ℕ → List Event → Bool
 is_voted_now s r ev =
-    is_carried (f_of (redundancy_of (length s.generators))) (ports_now s r ev) (truth_at s.times (ticks_of r ev))
+    is_carried (f_of (redundancy_of (length s.generators))) (ports_now s r ev)
+    (truth_at s.times (ticks_of r ev))
 
 -- whether so many ports do at the i-th tick of r
 abbrev pub is_voted : Setup → ℕ → List Event → ℕ → Bool
 is_voted s r [] i = false
-is_voted s r (Tick x ∷ ev) i = if (x == r) && (i == (ticks_of r ev + 1)) then is_voted_now s r ev else is_voted s r ev i
+is_voted s r (Tick x ∷ ev) i =
+    if (x == r) && (i == (ticks_of r ev + 1)) then is_voted_now s r ev else is_voted s r ev i
 is_voted s r (_ ∷ ev) i = is_voted s r ev i
 
 -- whether a restart of r falls after its i-th tick and before the next
 abbrev pub is_restarted : ℕ → List Event → ℕ → Bool
 is_restarted r [] i = false
-is_restarted r (Restart x ∷ ev) i = if (x == r) && (i == ticks_of r ev) then true else is_restarted r ev i
+is_restarted r (Restart x ∷ ev) i =
+    if (x == r) && (i == ticks_of r ev) then true else is_restarted r ev i
 is_restarted r (_ ∷ ev) i = is_restarted r ev i
 
--- the same as relations: edge i is r's tick at which f + 1 or more ports carry a claim that is true there
+-- the same as relations: edge i is r's tick at which f + 1 or more ports carry a claim that is true
+-- there
 pub record IsVoted (s : Setup) (r : ℕ) (ev : List Event) (i : ℕ) : Type 0 where
   pub later : List Event
   pub earlier : List Event
@@ -53,7 +60,8 @@ pub record IsVoted (s : Setup) (r : ℕ) (ev : List Event) (i : ℕ) : Type 0 wh
   pub edge : i ≡ ticks_of r earlier + 1
   pub claim : Claim
   pub is_true : IsTrueClaim s.times i claim
-  pub carried : f_of (redundancy_of (length s.generators)) + 1 ≤ carriers claim (ports_now s r earlier)
+  pub carried : f_of (redundancy_of (length s.generators)) + 1 ≤ carriers claim
+      (ports_now s r earlier)
 
 -- and this restart of r comes after i ticks of r
 pub record IsRestarted (r : ℕ) (ev : List Event) (i : ℕ) : Type 0 where
@@ -64,8 +72,8 @@ pub record IsRestarted (r : ℕ) (ev : List Event) (i : ℕ) : Type 0 where
 
 -- ---- one reader's edges
 
--- what decides when a reader announces: its timeline, rules and table, which edges are voted, and after which it is
--- restarted
+-- what decides when a reader announces: its timeline, rules and table, which edges are voted, and
+-- after which it is restarted
 pub record VotedEdges : Type 0 where
   pub times : TimelineValue
   pub own : ReaderRules
@@ -87,8 +95,8 @@ voted_edges_of s r ev = record {
 abbrev pub CanLock : ReaderSetup → Type 0
 CanLock x = 1 ≤ x.rules.lock_after
 
--- a guard edge: not voted, after 23:59:58 of a month's last day above the table, and none of the 57 edges before it is
--- voted
+-- a guard edge: not voted, after 23:59:58 of a month's last day above the table, and none of the 57
+-- edges before it is voted
 pub record IsGuard (x : VotedEdges) (j : ℕ) : Type 0 where
   pub before : ℕ
   pub is_before : j ≡ before + 1

@@ -88,7 +88,8 @@ pub record IsStopped (x : VotedEdges) (n : ℕ) (said : Report) : Type 0 where
 -- why it says nothing; held is whether it announced at the tick before, and no restart fell between
 pub record IsSilence (x : VotedEdges) (held : Type 0) (n : ℕ) (said : Report) : Type 0 where
   pub voted : x.voted n ≡ true → IsCounting x n said
-  pub expired : x.voted n ≡ false → held → NoneWithin x n x.own.holdover → said ≡ silence lock.Unlocked cause.Expired
+  pub expired : x.voted n ≡ false → held → NoneWithin x n x.own.holdover
+      → said ≡ silence lock.Unlocked cause.Expired
   pub guarded : x.voted n ≡ false → held → ¬ NoneWithin x n x.own.holdover → IsStopped x n said
   pub other : x.voted n ≡ false → ¬ held → said ≡ silence lock.Unlocked cause.NoVote
 

@@ -18,7 +18,8 @@ use Rattle.irig_plant.specs.Edges.{voted_edges_of, IsGuard}
 
 -- at each tick of r up to its n-th at most f ports tell an untrue claim
 pub record IsKeptUpTo (s : Setup) (r n : ℕ) (ev : List Event) : Type 0 where
-  pub ticks : (later earlier : List Event) → ev ≡ later ++ (Tick r ∷ earlier) → ticks_of r earlier < n
+  pub ticks : (later earlier : List Event) → ev ≡ later ++ (Tick r ∷ earlier)
+      → ticks_of r earlier < n
       → is_broken_now s r earlier ≡ false
 
 -- the premises for an entry: its reader's table is true, and its ports were kept so far
@@ -43,13 +44,16 @@ StandsAtTruth t n (Locked h) = IsOnTime t n h
 
 -- under its premises an entry announces T of its edge, or nothing
 pub record AnnouncesTruth (s : Setup) (ev : List Event) (e : Entry) : Type 0 where
-  pub second : HasPremises s ev e → (u : UtcSecond) → e.report.announce ≡ Some u → second_at s.times e.edge ≡ Some u
+  pub second : HasPremises s ev e → (u : UtcSecond) → e.report.announce ≡ Some u
+      → second_at s.times e.edge ≡ Some u
 
--- its cause is then no jump, the end of the range only if there is no T of its edge, and the guard only at a guard edge
+-- its cause is then no jump, the end of the range only if there is no T of its edge, and the guard
+-- only at a guard edge
 pub record GivesNoFalseAlarm (s : Setup) (ev : List Event) (e : Entry) : Type 0 where
   pub jump : HasPremises s ev e → ¬ (e.report.cause ≡ Jump)
   pub range_end : HasPremises s ev e → e.report.cause ≡ RangeEnd → second_at s.times e.edge ≡ None
-  pub leap_guard : HasPremises s ev e → e.report.cause ≡ LeapGuard → IsGuard (voted_edges_of s e.reader ev) e.edge
+  pub leap_guard : HasPremises s ev e → e.report.cause ≡ LeapGuard
+      → IsGuard (voted_edges_of s e.reader ev) e.edge
 
 -- an entry announces T of its edge, or nothing, without a premise
 pub record IsTruthful (t : TimelineValue) (e : Entry) : Type 0 where

@@ -37,7 +37,8 @@ pub record AreReaders (xs : List ReaderSetup) : Type 0 where
   pub range : All (λ x. IsReaderRules x.rules) xs
 
 -- a reader that has this history and ticked so often
-pub record IsTickedReader {P : Type 0} {g : Ghosts P} (history : ReaderHistory) (ticks : ℕ) (x : TickedReader P g)
+pub record IsTickedReader {P : Type 0} {g : Ghosts P} (history : ReaderHistory) (ticks : ℕ)
+    (x : TickedReader P g)
     : Type 0 where
   pub reader : HasReaderHistory x.reader history
   pub ticked : x.ticks ≡ ticks
@@ -47,14 +48,17 @@ abbrev pub AreNew : {P : Type 0} {g : Ghosts P}
     → Rules → Redundancy → List ReaderSetup → List (TickedReader P g) → Type 0
 AreNew {P} {g} rules redundancy readers xs =
     (r : ℕ) (d : TickedReader P g) → r < length readers
-    → IsTickedReader (new_history rules (setup_at readers r).rules (setup_at readers r).table redundancy) 0
+    → IsTickedReader
+    (new_history rules (setup_at readers r).rules (setup_at readers r).table redundancy) 0
     (slice_index_or xs r d)
 
 -- reader r is where the events leave it
-abbrev pub IsTickedReaderAt : {P : Type 0} {g : Ghosts P} → Setup → List Event → ℕ → TickedReader P g → Type 0
+abbrev pub IsTickedReaderAt : {P : Type 0} {g : Ghosts P} → Setup → List Event → ℕ
+    → TickedReader P g → Type 0
 IsTickedReaderAt s ev r x = IsTickedReader (history_of s r ev) (ticks_of r ev) x
 
--- what a plant is made of, the events that came, the newest first, and how many entries of its log were let go
+-- what a plant is made of, the events that came, the newest first, and how many entries of its log
+-- were let go
 pub record PlantHistory : Type 0 where
   pub setup : Setup
   pub events : List Event
@@ -82,7 +86,8 @@ IsWave g s ev k None = ⊤
 IsWave g s ev k (Some port) = g.stands_for port s.rules (symbols_heard (pulses_sent s k ev))
 
 -- the plant is where its history leaves it
-pub record HasPlantHistory {P : Type 0} {g : Ghosts P} (p : Plant P g) (h : PlantHistory) : Type 0 where
+pub record HasPlantHistory {P : Type 0} {g : Ghosts P} (p : Plant P g)
+    (h : PlantHistory) : Type 0 where
   pub timeline : p.timeline ≡ h.setup.times
   pub rules : p.rules ≡ h.setup.rules
   pub redundancy : p.redundancy ≡ redundancy_of (length h.setup.generators)
@@ -108,7 +113,8 @@ abbrev pub ForEntries : {P : Type 0} {g : Ghosts P}
 ForEntries plant entries fact = ForHistory plant (λ h. All (fact h.setup h.events) entries)
 
 -- the plant then has the history that this makes of the one that it had
-abbrev pub Becomes : {P : Type 0} {g : Ghosts P} → Plant P g → Plant P g → (PlantHistory → PlantHistory) → Type 0
+abbrev pub Becomes : {P : Type 0} {g : Ghosts P} → Plant P g → Plant P g
+    → (PlantHistory → PlantHistory) → Type 0
 Becomes old new next = ForHistory old (λ h. HasPlantHistory new (next h))
 
 -- ---- what a plant does with an event, whatever its history

@@ -24,4 +24,5 @@ MayWantMemory _ = ⊥
 
 -- after ev the event is refused with this fault: its own, or, last of all, want of memory
 abbrev pub IsRefused : Setup → Event → List Event → PlantFault → Type 0
-IsRefused s e ev fault = (refusal s e ev ≡ Some fault) ⊎ ((refusal s e ev ≡ None) × (fault ≡ Memory) × MayWantMemory e)
+IsRefused s e ev fault =
+    (refusal s e ev ≡ Some fault) ⊎ ((refusal s e ev ≡ None) × (fault ≡ Memory) × MayWantMemory e)

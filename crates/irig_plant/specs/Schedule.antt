@@ -1,5 +1,6 @@
--- What a schedule says: what each generator, port and reader comes to by a list of events, and what is then logged.
--- Lists of events and of votes are written newest first, so that what was "since the last .." comes first in them.
+-- What a schedule says: what each generator, port and reader comes to by a list of events, and what
+-- is then logged. Lists of events and of votes are written newest first, so that what was "since
+-- the last .." comes first in them.
 -- Source: docs/PLANT.md, events and what a list of them says.
 use Rattle.std.specs.Prelude.{ℕ, ◌+◌, Bool, false, ◌==◌, ◌&&◌, if◌then◌else◌, pos, List, [], ◌∷◌, ◌++◌, length, Option, Some, None, slice_index_or}
 use Rattle.irig_control.specs.declared.parity.Parity.TheVariants.{Even}
@@ -39,7 +40,8 @@ no_reader = record { rules = record { lock_after = 1; holdover = 0 }; table = ta
 -- what stands for a generator past the last one
 abbrev pub no_generator : GeneratorValue
 no_generator =
-    gen (record { half_hours = pos 0; dst = false }) [] (record { parity = Even; sense = Add; sbs = Ignore }) 0 None 0
+    gen (record { half_hours = pos 0; dst = false }) []
+    (record { parity = Even; sense = Add; sbs = Ignore }) 0 None 0
 
 -- ---- generators
 
@@ -55,13 +57,16 @@ generator_with_fault kind x = record x { fault = Some kind; since = x.edge }
 abbrev pub generator_without_fault : GeneratorValue → GeneratorValue
 generator_without_fault x = record x { fault = None }
 
--- generator g: an edge further with each of its steps, and with its last fault unless it was repaired since
+-- generator g: an edge further with each of its steps, and with its last fault unless it was
+-- repaired since
 abbrev pub generator_at : Setup → ℕ → List Event → GeneratorValue
 generator_at s g [] = slice_index_or s.generators g no_generator
-generator_at s g (GenEdge x ∷ ev) = if x == g then generator_at_next_edge (generator_at s g ev) else generator_at s g ev
+generator_at s g (GenEdge x ∷ ev) =
+    if x == g then generator_at_next_edge (generator_at s g ev) else generator_at s g ev
 generator_at s g (Fault x kind ∷ ev) =
     if x == g then generator_with_fault kind (generator_at s g ev) else generator_at s g ev
-generator_at s g (Repair x ∷ ev) = if x == g then generator_without_fault (generator_at s g ev) else generator_at s g ev
+generator_at s g (Repair x ∷ ev) =
+    if x == g then generator_without_fault (generator_at s g ev) else generator_at s g ev
 generator_at s g (_ ∷ ev) = generator_at s g ev
 
 -- the pulses that it now sends
@@ -87,7 +92,8 @@ delivery g r widths = record { generator = g; reader = r; widths = widths }
 -- what an event delivers that comes after ev
 abbrev pub delivery_of : Setup → Event → List Event → Option Delivery
 delivery_of s (Carry g r) ev = Some (delivery g r (pulses_sent s g ev))
-delivery_of s (Damage g r at width) ev = Some (delivery g r (with_damage at width (pulses_sent s g ev)))
+delivery_of s (Damage g r at width) ev =
+    Some (delivery g r (with_damage at width (pulses_sent s g ev)))
 delivery_of s (Replay g r edge) ev = Some (delivery g r (pulses_sent_at s g edge ev))
 delivery_of s (Raw g r widths) ev = Some (delivery g r widths)
 delivery_of s (GenEdge g) ev = None
@@ -105,12 +111,14 @@ empties r _ = false
 -- the pulses at port p of reader r after a delivery, if there is one
 abbrev pub with_delivery : ℕ → ℕ → Option Delivery → List ℕ → List ℕ
 with_delivery r p None widths = widths
-with_delivery r p (Some d) widths = if (d.reader == r) && (d.generator == p) then widths ++ d.widths else widths
+with_delivery r p (Some d) widths =
+    if (d.reader == r) && (d.generator == p) then widths ++ d.widths else widths
 
 -- heard(r, p): the pulses that port p of reader r was fed since its last tick or restart
 abbrev pub heard_at : Setup → ℕ → ℕ → List Event → List ℕ
 heard_at s r p [] = []
-heard_at s r p (e ∷ ev) = if empties r e then [] else with_delivery r p (delivery_of s e ev) (heard_at s r p ev)
+heard_at s r p (e ∷ ev) =
+    if empties r e then [] else with_delivery r p (delivery_of s e ev) (heard_at s r p ev)
 
 -- what all ports of reader r were fed since
 abbrev pub fed_at : Setup → ℕ → List Event → Fed
@@ -149,7 +157,8 @@ history_with s r fed votes = record {
 abbrev pub votes_of : Setup → ℕ → List Event → List (Option Claim)
 votes_of s r [] = []
 votes_of s r (Tick x ∷ ev) =
-    if x == r then vote_at_tick (history_with s r (fed_at s r ev) (votes_of s r ev)) ∷ votes_of s r ev
+    if x == r then vote_at_tick (history_with s r (fed_at s r ev) (votes_of s r ev))
+    ∷ votes_of s r ev
     else votes_of s r ev
 votes_of s r (Restart x ∷ ev) = if x == r then [] else votes_of s r ev
 votes_of s r (_ ∷ ev) = votes_of s r ev
@@ -160,9 +169,11 @@ history_of s r ev = history_with s r (fed_at s r ev) (votes_of s r ev)
 
 -- ---- the log
 
--- what is logged of a tick of r that comes now: its edge, and what the reader's rule says of its votes
+-- what is logged of a tick of r that comes now: its edge, and what the reader's rule says of its
+-- votes
 abbrev pub entry_of : Setup → ℕ → List Event → Entry
-entry_of s r ev = record { reader = r; edge = ticks_of r ev + 1; report = report_at_tick (history_of s r ev) }
+entry_of s r ev =
+    record { reader = r; edge = ticks_of r ev + 1; report = report_at_tick (history_of s r ev) }
 
 -- one entry for each tick, the oldest first
 abbrev pub log_of : Setup → List Event → List Entry

@@ -14,12 +14,14 @@ use irig_port::Told;
 use irig_time::{Claim, LAST_DAY, Leap, LeapTable, Mark, Timeline};
 use irig_vote::{Redundancy, Tells};
 
-/// Whether the premises of a run hold under which each reader that announces announces the true second.
+/// Whether the premises of a run hold under which each reader that announces announces the true
+/// second.
 #[derive(Clone, Copy, Debug, PartialEq, Eq)]
 pub enum Audit {
     /// They held at each tick so far, and each reader's table is true.
     Kept,
-    /// This is the first tick, in the order of events, at which f + 1 or more ports told an untrue claim.
+    /// This is the first tick, in the order of events, at which f + 1 or more ports told an untrue
+    /// claim.
     Broken { reader: u8, edge: u64 },
     /// This is the least reader whose leap table isn't true. It goes before any broken tick.
     FalseTable { reader: u8 },

@@ -17,10 +17,11 @@ pub enum Event {
     Tick(u8),
     /// The frame that a generator now sends comes to a reader. Nothing comes where it is silent.
     Carry { g: u8, r: u8 },
-    /// The same, with the pulse of one element `width` microseconds wide; an element `at` of 100 or more
-    /// changes nothing.
+    /// The same, with the pulse of one element `width` microseconds wide; an element `at` of 100 or
+    /// more changes nothing.
     Damage { g: u8, r: u8, at: u8, width: u32 },
-    /// The true frame of an earlier edge, or this one, comes to a reader, whatever the generator's fault.
+    /// The true frame of an earlier edge, or this one, comes to a reader, whatever the generator's
+    /// fault.
     Replay { g: u8, r: u8, edge: u64 },
     /// These pulses come to a reader.
     Raw { g: u8, r: u8, widths: Widths },

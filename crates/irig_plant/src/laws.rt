@@ -22,7 +22,8 @@ use crate::plant::Plant;
 use irig_port::Port;
 use irig_time::UtcSecond;
 
-/// Two plants with the same history have equal logs and the same audit, whatever ports their readers have.
+/// Two plants with the same history have equal logs and the same audit, whatever ports their
+/// readers have.
 pub fn equal_logs<P: Port, Q: Port>(one: &Plant<P>, other: &Plant<Q>)
     ensures log { (h : PlantHistory) → HasPlantHistory one.now h → HasPlantHistory other.now h
         → one.now.log.items ≡ other.now.log.items }
@@ -30,23 +31,24 @@ pub fn equal_logs<P: Port, Q: Port>(one: &Plant<P>, other: &Plant<Q>)
         → one.now.audit ≡ other.now.audit }
 {}
 
-/// A table that ends with a day that is served passes the audit's test exactly if it is true: from the
-/// timeline's first day on it has at each month's end the leap that the timeline has, as far as it goes.
+/// A table that ends with a day that is served passes the audit's test exactly if it is true: from
+/// the timeline's first day on it has at each month's end the leap that the timeline has, as far as
+/// it goes.
 pub fn true_tables()
     ensures { (t : TimelineValue) (table : TableValue) → table.until ≤ LAST_DAY
         → (is_true_table t table ≡ true) ↔ IsTrueTable t table }
 {}
 
-/// If at most f ports of a reader tell an untrue claim at a tick, there is no vote, or it is for the true
-/// claim.
+/// If at most f ports of a reader tell an untrue claim at a tick, there is no vote, or it is for
+/// the true claim.
 pub fn votes_are_true()
     ensures { (s : Setup) (r : ℕ) (ev : List Event) → is_broken_now s r ev ≡ false
         → (vote_at_tick (history_of s r ev) ≡ None)
         ⊎ (vote_at_tick (history_of s r ev) ≡ truth_at s.times (ticks_of r ev)) }
 {}
 
-/// A reader with a true table, at most f of whose ports told an untrue claim at any tick so far, stands at
-/// the second of its edge, or has nothing to go on.
+/// A reader with a true table, at most f of whose ports told an untrue claim at any tick so far,
+/// stands at the second of its edge, or has nothing to go on.
 pub fn readers_keep_to_the_truth()
     ensures { (s : Setup) (r : ℕ) (ev : List Event) → IsTimeline s.times
         → IsTrueTable s.times (setup_at s.readers r).table → IsKeptUpTo s r (ticks_of r ev) ev
@@ -54,22 +56,22 @@ pub fn readers_keep_to_the_truth()
         (state_of (setup_at s.readers r).rules (setup_at s.readers r).table (votes_of s r ev)) }
 {}
 
-/// The headline: an entry announces the second of its edge, or nothing, if its reader's table is true and
-/// at each tick so far at most f of its reader's ports told an untrue claim.
+/// The headline: an entry announces the second of its edge, or nothing, if its reader's table is
+/// true and at each tick so far at most f of its reader's ports told an untrue claim.
 pub fn announcements_are_true()
     ensures { (s : Setup) (ev : List Event) → IsTimeline s.times
         → All (AnnouncesTruth s ev) (log_of s ev) }
 {}
 
-/// The whole log is true, if the premises hold for all readers and ticks, and each table ends with a day
-/// that is served.
+/// The whole log is true, if the premises hold for all readers and ticks, and each table ends with
+/// a day that is served.
 pub fn kept_logs_are_true()
     ensures { (s : Setup) (ev : List Event) → IsTimeline s.times → All EndsServed s.readers
         → IsKept s ev → All (IsTruthful s.times) (log_of s ev) }
 {}
 
-/// Two entries of the same edge announce the same second, whatever their readers, if the premises hold for
-/// both.
+/// Two entries of the same edge announce the same second, whatever their readers, if the premises
+/// hold for both.
 pub fn announcements_agree()
     ensures { (s : Setup) (ev : List Event) (one other : Entry) (u v : UtcSecond)
         → AnnouncesTruth s ev one → AnnouncesTruth s ev other → one.edge ≡ other.edge
@@ -77,14 +79,15 @@ pub fn announcements_agree()
         → one.report.announce ≡ Some u → other.report.announce ≡ Some v → u ≡ v }
 {}
 
-/// No false alarm: under its premises the cause of an entry is no jump, the end of the range only if the
-/// timeline has no second for its edge, and the guard only at a guard edge.
+/// No false alarm: under its premises the cause of an entry is no jump, the end of the range only
+/// if the timeline has no second for its edge, and the guard only at a guard edge.
 pub fn no_false_alarms()
     ensures { (s : Setup) (ev : List Event) → IsTimeline s.times → All CanLock s.readers
         → All (GivesNoFalseAlarm s ev) (log_of s ev) }
 {}
 
-/// The tests by which edges are voted, and restarts fall between them, are what their relations say.
+/// The tests by which edges are voted, and restarts fall between them, are what their relations
+/// say.
 pub fn edges_are_voted()
     ensures voted { (s : Setup) (r : ℕ) (ev : List Event) (i : ℕ)
         → (is_voted s r ev i ≡ true) ↔ IsVoted s r ev i }
@@ -92,29 +95,29 @@ pub fn edges_are_voted()
         → (is_restarted r ev i ≡ true) ↔ IsRestarted r ev i }
 {}
 
-/// If at most f ports of a reader tell an untrue claim at a tick, there is a vote exactly if the edge is
-/// voted.
+/// If at most f ports of a reader tell an untrue claim at a tick, there is a vote exactly if the
+/// edge is voted.
 pub fn votes_are_at_voted_edges()
     ensures { (s : Setup) (r : ℕ) (ev : List Event) → is_broken_now s r ev ≡ false
         → is_some (vote_at_tick (history_of s r ev)) ≡ is_voted_now s r ev }
 {}
 
-/// Under its premises, if the timeline has a second for its edge, an entry announces exactly if the edge is
-/// held.
+/// Under its premises, if the timeline has a second for its edge, an entry announces exactly if the
+/// edge is held.
 pub fn announces_exactly_when_held()
     ensures { (s : Setup) (ev : List Event) → IsTimeline s.times → All CanLock s.readers
         → All (AnnouncesWhenHeld s ev) (log_of s ev) }
 {}
 
-/// An entry that announces is then locked by the vote of a voted edge, or holds over since the greatest
-/// voted edge below.
+/// An entry that announces is then locked by the vote of a voted edge, or holds over since the
+/// greatest voted edge below.
 pub fn announcements_tell_their_lock()
     ensures { (s : Setup) (ev : List Event) → IsTimeline s.times → All CanLock s.readers
         → All (HasItsLock s ev) (log_of s ev) }
 {}
 
-/// An entry that is silent then counts the voted edges of a run, or has expired, or was stopped by the
-/// guard, or has no vote.
+/// An entry that is silent then counts the voted edges of a run, or has expired, or was stopped by
+/// the guard, or has no vote.
 pub fn silences_tell_their_cause()
     ensures { (s : Setup) (ev : List Event) → IsTimeline s.times → All CanLock s.readers
         → All (HasItsCause s ev) (log_of s ev) }

@@ -1,10 +1,11 @@
 //! A plant: generators of time code, the readers that they feed, and a log of what the readers say.
 //!
 //! A [`Plant`] has three or five [`Generator`](irig_gen::Generator)s and 1 to 16
-//! [`Reader`](irig_reader::Reader)s, and takes one [`Event`] after another: a generator's edge, a reader's
-//! tick, a frame that is carried, damaged or replayed, raw pulses, a fault, its repair, a restart. Any order
-//! of events is legal. What a list of events comes to stands in `specs/Schedule.antt`; a plant's log is
-//! that of its events, whatever [`Port`](irig_port::Port) its readers have.
+//! [`Reader`](irig_reader::Reader)s, and takes one [`Event`] after another: a generator's edge, a
+//! reader's tick, a frame that is carried, damaged or replayed, raw pulses, a fault, its repair, a
+//! restart. Any order of events is legal. What a list of events comes to stands in
+//! `specs/Schedule.antt`; a plant's log is that of its events, whatever [`Port`](irig_port::Port)
+//! its readers have.
 #![tactic(auto)]
 
 mod audit;

@@ -46,11 +46,12 @@ impl<P: Port> Plant<P> {
     ghost use Rattle.irig_plant.specs.Exactly.{AnnouncesWhenHeld, HasItsLock, HasItsCause};
     ghost use Rattle.irig_plant.specs.History.{AreGenerators, AreReaders, AreNew, beginning, with_events, with_cleared_log, HasPlantHistory, ForHistory, ForEntries, Becomes, Accepts, Follows, RefusesAtLast, Keeps};
 
-    /// A plant over this timeline, with these generators, all of whose readers read by the same rules.
+    /// A plant over this timeline, with these generators, all of whose readers read by the same
+    /// rules.
     ///
-    /// There must be three or five generators, made with these rules, at edge 0 and without fault, and
-    /// 1 to 16 readers whose rules are [`in_range`](irig_reader::in_range). The plant keeps copies of
-    /// their tables. `Memory` where there is none.
+    /// There must be three or five generators, made with these rules, at edge 0 and without fault,
+    /// and 1 to 16 readers whose rules are [`in_range`](irig_reader::in_range). The plant keeps
+    /// copies of their tables. `Memory` where there is none.
     pub fn new(
         alloc: Global,
         timeline: Timeline,
@@ -112,8 +113,8 @@ impl<P: Port> Plant<P> {
         Ok(ticked)
     }
 
-    /// One event. Refusals come in the order of [`PlantFault`]; a refused event changes nothing. Only a
-    /// tick may want memory, for its entry.
+    /// One event. Refusals come in the order of [`PlantFault`]; a refused event changes nothing.
+    /// Only a tick may want memory, for its entry.
     pub fn apply(&mut self, event: &Event) -> Result<(), PlantFault>
         ensures accepted { OnOk result (Accepts self.old event.now) }
         ensures stands { OnOk result (Follows self.old event.now self.new) }
@@ -156,9 +157,9 @@ impl<P: Port> Plant<P> {
     }
 
     /// What the readers said, in order, since the log was last cleared. What they announced are
-    /// [`valid`](irig_time::valid) seconds, and those of their edges where the premises held. Then none
-    /// gives a false alarm, each announces exactly where its edge is held, and its lock and its cause are
-    /// those that the events give.
+    /// [`valid`](irig_time::valid) seconds, and those of their edges where the premises held. Then
+    /// none gives a false alarm, each announces exactly where its edge is held, and its lock and
+    /// its cause are those that the events give.
     pub fn log(&self) -> &[Entry]
         ensures entries { ForHistory self.now (λ h.
             result.now ≡ drop h.shown (log_of h.setup h.events)) }

@@ -44,8 +44,8 @@ impl<P: Port> Plant<P> {
         ticked_reader.reader.pulses(g, widths);
     }
 
-    // What a generator sends comes to a port at once, if that is empty, from a port that heard it. The
-    // pulses are so taken once, and not by each reader. Answers whether the port was empty.
+    // What a generator sends comes to a port at once, if that is empty, from a port that heard it.
+    // The pulses are so taken once, and not by each reader. Answers whether the port was empty.
     pub(crate) fn carry_wave(&mut self, g: u8, r: u8) -> bool
         requires generator { g < vec_len self.old.generators }
         requires reader { r < vec_len self.old.readers }
@@ -86,7 +86,8 @@ impl<P: Port> Plant<P> {
         ensures generators { vec_len self.new.generators ≡ vec_len self.old.generators }
         ensures readers { vec_len self.new.readers ≡ vec_len self.old.readers }
     {
-        if !self.generators[0].is_alike(&self.generators[g as usize]) {
+        let generator = &self.generators[g as usize];
+        if !self.generators[0].sends_as(generator, &self.timeline) {
             return None;
         }
         let first = self.waves[0].as_mut()?;

@@ -34,7 +34,8 @@ pub known_lengths : map (told_of rules) ([] ∷ take 1 plain ∷ take 99 plain �
 unfolding told_of
 known_lengths = refl
 
--- the lowest wrong element; elements go before the parity, the parity before the fields, the fields before the binary seconds
+-- the lowest wrong element; elements go before the parity, the parity before the fields, the fields
+-- before the binary seconds
 pub known_order : map (told_of rules)
     (slice_set (slice_set plain 12 Bad) 20 Bad ∷ slice_set (slice_set plain 9 Zero) 12 Bad ∷ slice_set (slice_set plain 12 Bad) 42 One
     ∷ slice_set (slice_set (slice_set plain 2 One) 4 One) 42 One ∷ slice_set (slice_set (slice_set plain 2 One) 4 One) 80 One ∷ slice_set plain 80 One ∷ [])
@@ -59,7 +60,8 @@ pub known_qualities : (map (claim_told (Ok claim)) (0 ∷ 9 ∷ 10 ∷ 15 ∷ []
     × (claim_told (Err time_fault.NoSuchDay) 12 ≡ tells.Fault (fault.Time time_fault.NoSuchDay))
 known_qualities = (refl, refl)
 
--- the values of a true frame are told, also of one with a one where no field lies and the parity set
+-- the values of a true frame are told, also of one with a one where no field lies and the parity
+-- set
 abbrev values : ℕ → Coded
 values control = record { second = 0; minute = 0; hour = 0; day = 3; year = 0; control = control; sbs = 0 }
 

@@ -1,4 +1,5 @@
--- The table of the code against the field table, the marker places and the parity rule, element by element.
+-- The table of the code against the field table, the marker places and the parity rule, element by
+-- element.
 use Rattle.std.proofs.Common.{◌≡◌, ℕ, ◌<◌, true, eqb, nat_lt, slice_index_or, refl, sym, subst}
 use Rattle.std.proofs.lemmas.Bool.{agree_below_at, eqb-true, ltb-true}
 use Rattle.irig_frame.specs.FieldTable.{is_marker_place}

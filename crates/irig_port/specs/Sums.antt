@@ -21,7 +21,8 @@ use Rattle.irig_port.specs.Told.{values_told, told_unless}
 -- the places that a port sums over, in the order of its sums
 abbrev pub tables : List (List TableEntry)
 tables =
-    units_of Second ∷ tens_of Second ∷ units_of Minute ∷ tens_of Minute ∷ units_of Hour ∷ tens_of Hour
+    units_of Second ∷ tens_of Second ∷ units_of Minute ∷ tens_of Minute ∷ units_of Hour
+    ∷ tens_of Hour
     ∷ units_of Day ∷ tens_of Day ∷ hundreds_of Day ∷ units_of Year ∷ tens_of Year
     ∷ control_places ∷ straight_binary_places ∷ []
 
@@ -70,8 +71,8 @@ field_from f units tens hundreds =
     else (if nat_lt (most f) (units + tens + hundreds) then Err (frame_fault.Range f)
     else Ok (units + tens + hundreds))))
 
--- the values with these sums, or the fault of the first wrong field; no sum of control bits or of straight binary
--- seconds passes the bounds
+-- the values with these sums, or the fault of the first wrong field; no sum of control bits or of
+-- straight binary seconds passes the bounds
 unfoldable pub values_from : List ℕ → Result Coded FrameFault
 values_from n = do
   second ← field_from Second (slice_index n 0) (slice_index n 1) 0
@@ -97,7 +98,8 @@ frame_from rules wrong ones n =
     else tells.Fault fault.Parity)
 
 -- the numbers of some symbols; past 100 nothing counts but how many there are
-pub record IsOf (count ones : ℕ) (wrong : Option FrameFault) (sums : List ℕ) (s : List Symbol) : Type 0 where
+pub record IsOf (count ones : ℕ) (wrong : Option FrameFault) (sums : List ℕ)
+    (s : List Symbol) : Type 0 where
   pub counted : count ≡ length s
   pub few : length s ≤ 101
   pub parity : length s ≤ 100 → ones ≡ Parity.ones s

@@ -1,4 +1,4 @@
--- What a port tells of the symbols that it was fed: the first of eight lines that applies. In short:
+-- What a port tells of the symbols that it was fed, by the first of eight lines that applies:
 --   1  no symbols: silence; fewer than 100: Short; more than 100: Long
 --   2  a wrong element: Pulse or Marker, of the lowest one
 --   3  not the parity of the rules: Parity
@@ -57,7 +57,8 @@ told_unless None rest = rest
 unfoldable pub frame_told : Rules → List Symbol → Told
 frame_told rules s =
     told_unless (first_wrong 0 s)
-    (if has_parity rules.parity s then values_told rules (values_of s) else tells.Fault fault.Parity)
+    (if has_parity rules.parity s then values_told rules (values_of s)
+    else tells.Fault fault.Parity)
 
 -- what some symbols tell: line 1, then what follows
 unfoldable pub told_of : Rules → List Symbol → Told

@@ -23,8 +23,8 @@ use irig_frame::{Coded, Field, FrameFault, classify, fault_at, is_one_width, is_
 use irig_time::Rules;
 
 /// A port that keeps what its symbols come to: their number, the sums of the decimal digits, of the
-/// control bits and of the straight binary seconds, the ones that the parity counts, and the fault of
-/// the lowest wrong element.
+/// control bits and of the straight binary seconds, the ones that the parity counts, and the fault
+/// of the lowest wrong element.
 #[derive(Drop)]
 pub struct FlowPort {
     rules: Rules,
@@ -56,8 +56,8 @@ impl Port for FlowPort {
         }
     }
 
-    // The innermost loop of a plant: nothing branches on the data but the note of a first fault. No sum
-    // wraps while the port stands for symbols.
+    // The innermost loop of a plant: nothing branches on the data but the note of a first fault. No
+    // sum wraps while the port stands for symbols.
     #[inline]
     fn pulse(&mut self, width_us: u32) {
         let row = row_of(self.count);
@@ -132,7 +132,8 @@ impl FlowPort {
         ensures whole { ForSome result (λ told. self.now.count ≡ 100) }
         ensures right { ForSome result
             (λ told. told ≡ frame_from rules self.now.wrong self.now.ones self.now.sums) }
-        ensures valid { ForSome result (λ told. ∥ IfClaim told (λ claim. IsValid claim.at) ∥₁) }
+        ensures valid { ForSome result
+            (λ told. ∥ IfClaim told (λ claim. IsValid claim.at) ∥₁) }
     {
         if self.rules == rules {
             self.known

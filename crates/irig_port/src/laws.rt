@@ -12,7 +12,8 @@ use crate::told::Told;
 use irig_frame::{Coded, Symbol};
 use irig_time::{Claim, Rules};
 
-/// A port that keeps the first 101 symbols tells what all of them would, and keeps one more with each width.
+/// A port that keeps the first 101 symbols tells what all of them would, and keeps one more with
+/// each width.
 pub fn cut_at_101()
     ensures same { (rules : Rules) (widths : List ℕ)
         → told_of rules (symbols_heard widths) ≡ told_of_widths rules widths }
@@ -22,8 +23,8 @@ pub fn cut_at_101()
 
 /// A frame that reads as some values, and has the parity, tells what the values tell.
 pub fn telling_of_reading()
-    ensures { (rules : Rules) (s : List Symbol) (c : Coded) → Reads s c → HasParity rules.parity s
-        → told_of rules s ≡ coded_told rules c }
+    ensures { (rules : Rules) (s : List Symbol) (c : Coded)
+        → Reads s c → HasParity rules.parity s → told_of rules s ≡ coded_told rules c }
 {}
 
 /// A claim is told of exactly those symbols that carry it.

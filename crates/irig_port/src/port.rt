@@ -15,8 +15,8 @@ use irig_time::Rules;
 ///
 /// A port keeps its rules, and stands for the symbols since it was last empty, 101 of them at most.
 pub trait Port: Drop {
-    // The port works by these rules and stands for these symbols, the oldest first. It may stand for
-    // many lists at once: what a port keeps need not tell them apart.
+    // The port works by these rules and stands for these symbols, the oldest first. It may stand
+    // for many lists at once: what a port keeps need not tell them apart.
     ghost stands_for: { Self → Rules → List Symbol → Type 0 };
 
     /// A port that was fed nothing, for frames that are read by these rules.
@@ -47,9 +47,9 @@ pub trait Port: Drop {
         ensures { (rules : Rules) (s : List Symbol) → stands_for self.now rules s
             → result ≡ (length s == 0) };
 
-    /// Takes over what another port heard, in place of its own pulses, and keeps its rules. The other
-    /// is as it was, but that it may work out here what it will tell, so that each port that takes it
-    /// over has the answer.
+    /// Takes over what another port heard, in place of its own pulses, and keeps its rules. The
+    /// other is as it was, but that it may work out here what it will tell, so that each port that
+    /// takes it over has the answer.
     fn take_over(&mut self, other: &mut Self)
         ensures heard { (rules others : Rules) (s heard : List Symbol)
             → stands_for self.old rules s → stands_for other.old others heard

@@ -1,7 +1,8 @@
 //! What a one at each element adds to the numbers of a port, laid out as the standard's table.
 //!
-//! Source: IRIG Standard 200-16, format B, code B004. It is the field table of `irig_frame` once more, by
-//! element, since a pulse looks up its element; the crate's proof compares the two, element by element.
+//! Source: IRIG Standard 200-16, format B, code B004. It is the field table of `irig_frame` once
+//! more, by element, since a pulse looks up its element; the crate's proof compares the two,
+//! element by element.
 
 ghost use Rattle.std.specs.Prelude.{◌≡◌, ◌<◌, true, slice_index_or};
 ghost use Rattle.irig_frame.specs.FieldTable.{is_marker_place};
@@ -40,8 +41,8 @@ pub(crate) const STRAIGHT_BINARY: usize = 12;
 /// The sum to which elements without a field add 0; it might be any.
 const SPARE: usize = 0;
 
-/// What the table says of an element: the weight of a one there and the sum to which it adds, what a
-/// one adds to those that the parity counts, and whether a marker stands there.
+/// What the table says of an element: the weight of a one there and the sum to which it adds, what
+/// a one adds to those that the parity counts, and whether a marker stands there.
 #[derive(Clone, Copy)]
 pub struct Row {
     pub weight: u32,
@@ -58,8 +59,8 @@ const P: Row = Row {
     is_marker_place: true,
 };
 
-/// An array of rows. A line is a marker; 1 where the parity counts the elements that follow, else 0;
-/// and these elements, for each sum the weights in order.
+/// An array of rows. A line is a marker; 1 where the parity counts the elements that follow, else
+/// 0; and these elements, for each sum the weights in order.
 macro_rules! rows {
     ($($($marker:ident)? $parity:literal: $($sum:ident $($weight:literal)+),+);+ $(;)?) => {
         [$($($marker,)? $($(Row {

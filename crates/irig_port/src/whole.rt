@@ -14,7 +14,8 @@ use irig_control::{Parity, parity_ok};
 use irig_frame::{Coded, FrameFault, Symbol, classify, decode};
 use irig_time::Rules;
 
-/// A port that keeps the symbols that it was fed, 101 of them at most, and decodes them at the edge.
+/// A port that keeps the symbols that it was fed, 101 of them at most, and decodes them at the
+/// edge.
 #[derive(Drop)]
 pub struct WholePort {
     rules: Rules,

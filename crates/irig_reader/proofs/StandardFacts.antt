@@ -28,7 +28,7 @@ use Rattle.irig_reader.specs.declared.report.Cause.TheVariants as cause
 use Rattle.irig_reader.specs.declared.report.Report.{Report}
 use Rattle.irig_reader.specs.declared.rule.State.TheVariants.{Idle, Acquiring, Locked}
 use Rattle.irig_reader.specs.Rules.{IsReaderRules}
-use Rattle.irig_reader.specs.Rule.{stop_step, announcement, count_step, step_of, state_of, report_of}
+use Rattle.irig_reader.specs.Rule.{stop_step, announce_step, count_step, step_of, state_of, report_of}
 use Rattle.irig_reader.specs.History.{ReaderHistory, after_pulse, told_at_tick, vote_at_tick, after_tick, after_restart}
 
 -- ---- votes and reports
@@ -105,13 +105,13 @@ module _ (own : ReaderRules) (sod : ℕ) (room : nat_lt sod 86399 ≡ true) wher
   anew from age count other = rw (other, last_day, room) refl
 
   -- one that follows, of a locked reader
-  next : (age : ℕ) → step_of own nothing (Locked (hold sod age)) (vote sod) ≡ announcement (hold (sod + 1) 0) (at 36523 (sod + 1)) lock.Locked cause.Voted
+  next : (age : ℕ) → step_of own nothing (Locked (hold sod age)) (vote sod) ≡ announce_step (hold (sod + 1) 0) (at 36523 (sod + 1)) lock.Locked cause.Voted
   unfolding step_of
   next age = rw (eq-eqb sod sod refl, last_day, room) refl
 
   -- none, of a locked reader within its limit
   over : (age : ℕ) → nat_le own.holdover age ≡ false
-      → step_of own nothing (Locked (hold sod age)) lost ≡ announcement (hold (sod + 1) (age + 1)) (at 36523 (sod + 1)) (lock.Holdover (age + 1)) cause.Held
+      → step_of own nothing (Locked (hold sod age)) lost ≡ announce_step (hold (sod + 1) (age + 1)) (at 36523 (sod + 1)) (lock.Holdover (age + 1)) cause.Held
   unfolding step_of
   over age low = rw (low, last_day, room) refl
 
@@ -144,7 +144,8 @@ two = rules 2 9
 abbrev three : ReaderRules
 three = rules 3 9
 
--- after two votes a reader locks at the second, and announces the second that follows the one voted for
+-- after two votes a reader locks at the second, and announces the second that follows the one voted
+-- for
 pub known_lock : reports two nothing (vote 43200 ∷ vote 43201 ∷ vote 43202 ∷ []) ≡ acquiring 1 ∷ voted 43202 ∷ voted 43203 ∷ []
 known_lock = rw (first two 43200 refl, further two 43201 refl 0 1, next two 43202 refl 0, report_of, state_of) refl
 
@@ -206,9 +207,9 @@ unfolding step_of
 known_limit = refl
 
 -- no guard where the mark was heard, or the table speaks: 23:59:60, and the next day at once
-pub known_leaps : (step_of two nothing (Locked (late_hold 86399 6 Insert)) lost ≡ announcement (late_hold 86400 7 Insert) (at 6209 86400) (lock.Holdover 7) cause.Held)
+pub known_leaps : (step_of two nothing (Locked (late_hold 86399 6 Insert)) lost ≡ announce_step (late_hold 86400 7 Insert) (at 6209 86400) (lock.Holdover 7) cause.Held)
     × (step_of two (table 6209 ((6209, leap.Delete) ∷ [])) (Locked (late_hold 86398 6 Unspoken)) lost
-    ≡ announcement (hold_value (at 6210 0) 7 Unspoken) (at 6210 0) (lock.Holdover 7) cause.Held)
+    ≡ announce_step (hold_value (at 6210 0) 7 Unspoken) (at 6210 0) (lock.Holdover 7) cause.Held)
 unfolding step_of
 known_leaps = (rw december refl, rw december refl)
 

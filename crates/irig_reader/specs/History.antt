@@ -1,4 +1,5 @@
 -- What a reader was given, fed and voted: all that its answers depend on.
+-- Source: docs/READER.md; this project's profile.
 use Rattle.std.specs.Prelude.{ℕ, ◌==◌, if◌then◌else◌, List, [], ◌∷◌, ◌++◌, Option}
 use Rattle.irig_time.specs.declared.rules.Rules.{Rules}
 use Rattle.irig_time.specs.declared.claim.Claim.{Claim}
@@ -23,8 +24,8 @@ pub record Fed : Type 0 where
 abbrev pub no_pulses : Fed
 no_pulses = record { a = []; b = []; c = []; d = []; e = [] }
 
--- what a reader was made of, its pulses since the last tick or restart, and its votes since the last restart, the
--- newest first
+-- what a reader was made of, its pulses since the last tick or restart, and its votes since the
+-- last restart, the newest first
 pub record ReaderHistory : Type 0 where
   pub rules : Rules
   pub own : ReaderRules
@@ -44,18 +45,14 @@ new_history rules own table redundancy = record {
   votes = [];
 }
 
--- one more width at a port
-abbrev pub with_width : Fed → ℕ → ℕ → Fed
-with_width fed port width =
-    if port == 0 then record fed { a = fed.a ++ width ∷ [] }
-    else (if port == 1 then record fed { b = fed.b ++ width ∷ [] }
-    else (if port == 2 then record fed { c = fed.c ++ width ∷ [] }
-    else (if port == 3 then record fed { d = fed.d ++ width ∷ [] }
-    else record fed { e = fed.e ++ width ∷ [] })))
-
--- the history with one more pulse at a port
-abbrev pub after_pulse : ReaderHistory → ℕ → ℕ → ReaderHistory
-after_pulse history port width = record history { fed = with_width history.fed port width }
+-- what was fed to a port since it was last empty
+abbrev pub fed_at : Fed → ℕ → List ℕ
+fed_at fed port =
+    if port == 0 then fed.a
+    else (if port == 1 then fed.b
+    else (if port == 2 then fed.c
+    else (if port == 3 then fed.d
+    else fed.e)))
 
 -- more pulses at a port, one after another
 abbrev pub with_widths : Fed → ℕ → List ℕ → Fed
@@ -65,6 +62,14 @@ with_widths fed port widths =
     else (if port == 2 then record fed { c = fed.c ++ widths }
     else (if port == 3 then record fed { d = fed.d ++ widths }
     else record fed { e = fed.e ++ widths })))
+
+-- one more width at a port
+abbrev pub with_width : Fed → ℕ → ℕ → Fed
+with_width fed port width = with_widths fed port (width ∷ [])
+
+-- the history with one more pulse at a port
+abbrev pub after_pulse : ReaderHistory → ℕ → ℕ → ReaderHistory
+after_pulse history port width = record history { fed = with_width history.fed port width }
 
 -- the history with more pulses at a port
 abbrev pub after_pulses : ReaderHistory → ℕ → List ℕ → ReaderHistory
@@ -90,7 +95,8 @@ report_at_tick history = report_of history.own history.table (vote_at_tick histo
 
 -- the history after a tick
 abbrev pub after_tick : ReaderHistory → ReaderHistory
-after_tick history = record history { fed = no_pulses; votes = vote_at_tick history ∷ history.votes }
+after_tick history =
+    record history { fed = no_pulses; votes = vote_at_tick history ∷ history.votes }
 
 -- the history after a restart
 abbrev pub after_restart : ReaderHistory → ReaderHistory

@@ -7,7 +7,8 @@ use Rattle.irig_reader.specs.Rule.{state_of}
 use Rattle.irig_reader.specs.History.{ReaderHistory}
 
 -- the reader is where its history leaves it
-pub record HasReaderHistory {P : Type 0} {g : Ghosts P} (reader : Reader P g) (history : ReaderHistory)
+pub record HasReaderHistory {P : Type 0} {g : Ghosts P} (reader : Reader P g)
+    (history : ReaderHistory)
     : Type 0 where
   pub a : g.stands_for reader.a history.rules (symbols_heard history.fed.a)
   pub b : g.stands_for reader.b history.rules (symbols_heard history.fed.b)
@@ -20,9 +21,12 @@ pub record HasReaderHistory {P : Type 0} {g : Ghosts P} (reader : Reader P g) (h
   pub state : reader.state ≡ state_of history.own history.table history.votes
 
 -- a fact of each history that the reader may have
-abbrev pub ForReaderHistory : {P : Type 0} {g : Ghosts P} → Reader P g → (ReaderHistory → Type 0) → Type 0
-ForReaderHistory reader fact = (history : ReaderHistory) → HasReaderHistory reader history → fact history
+abbrev pub ForReaderHistory : {P : Type 0} {g : Ghosts P} → Reader P g → (ReaderHistory → Type 0)
+    → Type 0
+ForReaderHistory reader fact =
+    (history : ReaderHistory) → HasReaderHistory reader history → fact history
 
 -- the reader then has the history that this makes of the one that it had
-abbrev pub Advances : {P : Type 0} {g : Ghosts P} → Reader P g → Reader P g → (ReaderHistory → ReaderHistory) → Type 0
+abbrev pub Advances : {P : Type 0} {g : Ghosts P} → Reader P g → Reader P g
+    → (ReaderHistory → ReaderHistory) → Type 0
 Advances old new next = ForReaderHistory old (λ history. HasReaderHistory new (next history))

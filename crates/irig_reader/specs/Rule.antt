@@ -1,5 +1,5 @@
--- The reader's rule: what becomes of a reader by the vote of an edge, and what it says there. It is this project's
--- profile. The steps of the hold are those of irig_hold.
+-- The reader's rule: what becomes of a reader by the vote of an edge, and what it says there. It is
+-- this project's profile. The steps of the hold are those of irig_hold.
 use Rattle.std.specs.Prelude.{ℕ, ◌+◌, ◌==◌, if◌then◌else◌, Option, Some, None, Result, Ok, Err, List, [], ◌∷◌}
 use Rattle.irig_time.specs.declared.second.UtcSecond.{UtcSecond}
 use Rattle.irig_time.specs.declared.claim.Claim.{Claim}
@@ -25,11 +25,13 @@ count_of (Locked hold) = 0
 
 -- a stop: it says nothing, and has nothing to go on
 abbrev pub stop_step : Cause → Step
-stop_step c = record { state = Idle; report = record { announce = None; lock = lock.Unlocked; cause = c } }
+stop_step c =
+    record { state = Idle; report = record { announce = None; lock = lock.Unlocked; cause = c } }
 
 -- it announces this second, and is locked
-abbrev pub announcement : HoldValue → UtcSecond → Lock → Cause → Step
-announcement h u l c = record { state = Locked h; report = record { announce = Some u; lock = l; cause = c } }
+abbrev pub announce_step : HoldValue → UtcSecond → Lock → Cause → Step
+announce_step h u l c =
+    record { state = Locked h; report = record { announce = Some u; lock = l; cause = c } }
 
 -- the cause that is named like a hold's stop
 abbrev pub cause_of : Turn → Cause
@@ -42,7 +44,7 @@ cause_of turn.Jump = cause.Jump
 -- so many votes that followed one another, the last of which led to this hold
 abbrev pub count_step : ReaderRules → HoldValue → ℕ → Step
 count_step own h count =
-    if count == own.lock_after then announcement h h.last lock.Locked cause.Voted
+    if count == own.lock_after then announce_step h h.last lock.Locked cause.Voted
     else record {
       state = Acquiring h count;
       report = record { announce = None; lock = lock.Acquiring count; cause = cause.Acquiring };
@@ -69,7 +71,7 @@ later_vote_step own table h count c =
 
 -- locked, by what the hold answers: it announces that second with this lock and cause, or stops
 abbrev pub locked_step : Lock → Cause → Turn → HoldValue → Step
-locked_step l c (turn.Now u) h = announcement h u l c
+locked_step l c (turn.Now u) h = announce_step h u l c
 locked_step l c turn.LeapGuard h = stop_step cause.LeapGuard
 locked_step l c turn.Expired h = stop_step cause.Expired
 locked_step l c turn.RangeEnd h = stop_step cause.RangeEnd

@@ -1,9 +1,9 @@
 //! A reader: its ports, the vote over what they tell, and the rule by which it announces.
 //!
-//! A [`Reader`] is fed pulses at its ports. At each tick it takes what the ports tell, votes, and says in
-//! a [`Report`] which UTC second begins, or why it says none: it locks after so many votes that follow
-//! one another, holds over without votes for so long, and stops where it would have to guess. The rule is
-//! this project's profile; no call knows the plant's timeline.
+//! A [`Reader`] is fed pulses at its ports. At each tick it takes what the ports tell, votes, and
+//! says in a [`Report`] which UTC second begins, or why it says none: it locks after so many votes
+//! that follow one another, holds over without votes for so long, and stops where it would have to
+//! guess. The rule is this project's profile; no call knows the plant's timeline.
 #![tactic(auto)]
 
 mod reader;
@@ -14,6 +14,3 @@ mod rules;
 pub use reader::{Reader, Ticked};
 pub use report::{Cause, Lock, Report};
 pub use rules::{ReaderRules, in_range};
-
-#[cfg(test)]
-mod tests;

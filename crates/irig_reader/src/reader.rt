@@ -1,6 +1,6 @@
 //! A reader with its ports.
 
-ghost use Rattle.std.specs.Prelude.{◌≡◌, ◌<◌, IfSome, ℕ, List, [], true, false};
+ghost use Rattle.std.specs.Prelude.{◌≡◌, ◌<◌, ◌==◌, IfSome, ℕ, List, [], length, true, false};
 ghost use Rattle.irig_frame.specs.declared.symbol.Symbol.{Symbol};
 ghost use Rattle.irig_port.specs.Heard.{symbols_heard};
 ghost use Rattle.irig_time.specs.Seconds.{IsValid};
@@ -43,7 +43,7 @@ pub struct Reader<P: Port> {
 }
 
 impl<P: Port> Reader<P> {
-    ghost use Rattle.irig_reader.specs.History.{new_history, after_pulse, after_pulses, told_at_tick, report_at_tick, after_tick, after_restart};
+    ghost use Rattle.irig_reader.specs.History.{new_history, after_pulse, after_pulses, told_at_tick, report_at_tick, after_tick, after_restart, fed_at};
     ghost use Rattle.irig_reader.specs.Readers.{Advances, ForReaderHistory, HasReaderHistory};
 
     /// A reader to which nothing has happened, with rules that are [`in_range`](crate::in_range).
@@ -65,8 +65,8 @@ impl<P: Port> Reader<P> {
         }
     }
 
-    /// A pulse at one of the ports, `width_us` microseconds wide. The port is 0 to 2 of three, 0 to 4 of
-    /// five.
+    /// A pulse at one of the ports, `width_us` microseconds wide. The port is 0 to 2 of three, 0 to
+    /// 4 of five.
     #[tactic(auto, using(crate::proofs::HeardRules::one_more_heard))]
     pub fn pulse(&mut self, port: u8, width_us: u32)
         requires { port < ports_in self.old.redundancy }
@@ -93,11 +93,14 @@ impl<P: Port> Reader<P> {
         }
     }
 
-    /// All the pulses that another port heard, at one of the reader's ports, if that is empty: it takes
-    /// them over at once. Answers whether it was; if not, nothing happens. The other port still tells
-    /// what it did.
+    /// All the pulses that another port heard, at one of the reader's ports, if that is empty: it
+    /// takes them over at once. Answers whether it was; if not, nothing happens. The other port
+    /// still tells what it did.
+    #[tactic(auto, using(crate::proofs::HeardRules::none_heard))]
     pub fn take_over(&mut self, port: u8, heard: &mut P) -> bool
         requires { port < ports_in self.old.redundancy }
+        ensures answer { ForReaderHistory self.old (λ h.
+            result ≡ (length (fed_at h.fed port) == 0)) }
         ensures fed { result ≡ true → (rules : Rules) (widths : List ℕ)
             → P.stands_for heard.old rules (symbols_heard widths)
             → Advances self.old self.new (λ h. after_pulses h port widths) }
@@ -115,8 +118,8 @@ impl<P: Port> Reader<P> {
         }
     }
 
-    /// One edge: the vote over what the ports tell, and what the rule makes of it. The ports are then
-    /// empty. What is announced is a [`valid`](irig_time::valid) second.
+    /// One edge: the vote over what the ports tell, and what the rule makes of it. The ports are
+    /// then empty. What is announced is a [`valid`](irig_time::valid) second.
     pub fn tick(&mut self) -> Ticked
         ensures told { ForReaderHistory self.old (λ h. result.told ≡ told_at_tick h) }
         ensures report { ForReaderHistory self.old (λ h. result.report ≡ report_at_tick h) }
@@ -157,6 +160,8 @@ impl<P: Port> Reader<P> {
 
 // A port that is empty takes over what another heard. Answers whether it was.
 fn take_if_empty<P: Port>(port: &mut P, heard: &mut P) -> bool
+    ensures answer { (rules : Rules) (s : List Symbol)
+        → P.stands_for port.old rules s → result ≡ (length s == 0) }
     ensures empty { result ≡ true → (rules : Rules) (s : List Symbol)
         → P.stands_for port.old rules s → s ≡ [] }
     ensures taken { result ≡ true → (rules others : Rules) (s t : List Symbol)

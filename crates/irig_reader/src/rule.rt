@@ -135,7 +135,7 @@ fn counted(own: ReaderRules, hold: Hold, count: u8) -> Step
 }
 
 fn announced(hold: Hold, utc: UtcSecond, lock: Lock, cause: Cause) -> Step
-    ensures { result ≡ rule.announcement hold utc lock cause }
+    ensures { result ≡ rule.announce_step hold utc lock cause }
 {
     Step {
         state: State::Locked(hold),

@@ -1,4 +1,5 @@
 -- What a line after the plant line says.
+-- Source: docs/SCENARIOS.md; the order of refusals is that of docs/FAULTS.md.
 use Rattle.std.specs.Prelude.{ℕ, ℤ, List, codes, if◌then◌else◌, Option, option_map, option_and_then, Result, Ok}
 use Rattle.std.specs.Str.{bytes_eq}
 use Rattle.serde_json.specs.Data.{Data}
@@ -14,7 +15,7 @@ use Rattle.irig_scenario.specs.declared.form.Action.TheVariants as action
 use Rattle.irig_scenario.specs.declared.form.FaultKind.{FaultKind}
 use Rattle.irig_scenario.specs.declared.form.FaultKind.TheVariants as fault
 use Rattle.irig_forms.specs.Json.{json_of, text_at, ◌>>=◌, or_else, holds_or}
-use Rattle.irig_scenario.specs.Forms.{action_named, fault_named, g, r, at, width, widths, edge, n, edges_by, half_hours_by, leap, q, keys_of}
+use Rattle.irig_scenario.specs.Forms.{action_key, action_named, fault_named, g, kind_key, r, at, width, widths, edge, n, edges_by, half_hours_by, leap, q, keys_of}
 use Rattle.irig_forms.specs.Keys.{KeyValue}
 use Rattle.irig_forms.specs.Fields.{has_form, natural_at, integer_at, leap_at, reader_at, naturals_at}
 
@@ -24,7 +25,7 @@ use Rattle.irig_forms.specs.Fields.{has_form, natural_at, integer_at, leap_at, r
 abbrev pub fault_action : Data → Option Action
 fault_action d =
     option_map (λ kind. action.Fault kind)
-    (option_and_then fault_named (text_at (codes "kind") d))
+    (option_and_then fault_named (text_at kind_key.name d))
 
 -- the action of this word
 abbrev pub action_by : List ℕ → Data → Option Action
@@ -32,13 +33,13 @@ action_by word d = if bytes_eq word (codes "fault") then fault_action d else act
 
 -- by what stands at `do`
 unfoldable pub action_of : Data → Option Action
-action_of d = option_and_then (λ word. action_by word d) (text_at (codes "do") d)
+action_of d = option_and_then (λ word. action_by word d) (text_at action_key.name d)
 
 -- ---- what stands in a line of a form, where it is in range
 
 -- a natural number
-abbrev pub natural_in : KeyValue → Data → Result ℕ Refusal
-natural_in key d = or_else Value (natural_at key d)
+abbrev pub natural_or_refusal : KeyValue → Data → Result ℕ Refusal
+natural_or_refusal key d = or_else Value (natural_at key d)
 
 -- a number that may be negative
 abbrev pub integer_in : KeyValue → Data → Result ℤ Refusal
@@ -56,40 +57,43 @@ fault_of_form fault.Silent d = Ok Silent
 fault_of_form fault.Stuck d = Ok Stuck
 fault_of_form fault.Skew d = integer_in edges_by d >>= λ by. Ok (Skew by)
 fault_of_form fault.NoPending d = Ok NoPending
-fault_of_form fault.FalsePending d = or_else Value (leap_at leap d) >>= λ kind. Ok (FalsePending kind)
-fault_of_form fault.Quality d = natural_in q d >>= λ quality. Ok (Quality quality)
+fault_of_form fault.FalsePending d =
+    or_else Value (leap_at leap d) >>= λ kind. Ok (FalsePending kind)
+fault_of_form fault.Quality d = natural_or_refusal q d >>= λ quality. Ok (Quality quality)
 fault_of_form fault.WrongOffset d = integer_in half_hours_by d >>= λ by. Ok (WrongOffset by)
 
 -- the event, or the count of seconds
 abbrev pub command_of_form : List (List ℕ) → Action → Data → Result Command Refusal
 command_of_form names action.Carry d = do
-  generator ← natural_in g d
+  generator ← natural_or_refusal g d
   reader ← reader_in names d
   Ok (Event (Carry generator reader))
 command_of_form names action.Tick d = reader_in names d >>= λ reader. Ok (Event (Tick reader))
-command_of_form names action.Step d = natural_in g d >>= λ generator. Ok (Event (GenEdge generator))
-command_of_form names action.Seconds d = natural_in n d >>= λ count. Ok (Seconds count)
+command_of_form names action.Step d =
+    natural_or_refusal g d >>= λ generator. Ok (Event (GenEdge generator))
+command_of_form names action.Seconds d = natural_or_refusal n d >>= λ count. Ok (Seconds count)
 command_of_form names action.Damage d = do
-  generator ← natural_in g d
-  element ← natural_in at d
-  microseconds ← natural_in width d
+  generator ← natural_or_refusal g d
+  element ← natural_or_refusal at d
+  microseconds ← natural_or_refusal width d
   reader ← reader_in names d
   Ok (Event (Damage generator reader element microseconds))
 command_of_form names action.Replay d = do
-  generator ← natural_in g d
-  number ← natural_in edge d
+  generator ← natural_or_refusal g d
+  number ← natural_or_refusal edge d
   reader ← reader_in names d
   Ok (Event (Replay generator reader number))
 command_of_form names action.Raw d = do
-  generator ← natural_in g d
+  generator ← natural_or_refusal g d
   microseconds ← or_else Value (naturals_at widths d)
   reader ← reader_in names d
   Ok (Event (Raw generator reader microseconds))
 command_of_form names (action.Fault kind) d = do
-  generator ← natural_in g d
+  generator ← natural_or_refusal g d
   fault ← fault_of_form kind d
   Ok (Event (Fault generator fault))
-command_of_form names action.Repair d = natural_in g d >>= λ generator. Ok (Event (Repair generator))
+command_of_form names action.Repair d =
+    natural_or_refusal g d >>= λ generator. Ok (Event (Repair generator))
 command_of_form names action.Restart d = reader_in names d >>= λ reader. Ok (Event (Restart reader))
 
 -- ---- lines

@@ -1,4 +1,5 @@
 -- What a plant line says: its plant and the names of its readers, or why it is refused.
+-- Source: docs/SCENARIOS.md; the order of refusals is that of docs/FAULTS.md.
 use Rattle.std.specs.Prelude.{◌≡◌, ⊤, ℕ, List, [], ◌∷◌, ◌++◌, map, codes, string_bytes, Option, Some, None, Result, Ok, Err, option_map, option_and_then}
 use Rattle.std.specs.Option.{option_or}
 use Rattle.serde_json.specs.Data.{Data}

@@ -1,4 +1,6 @@
--- The values of a plant line: what its words, numbers and texts stand for, where its shape is right.
+-- The values of a plant line: what its words, numbers and texts stand for, where its shape is
+-- right.
+-- Source: docs/SCENARIOS.md; the order of refusals is that of docs/FAULTS.md.
 use Rattle.std.specs.Prelude.{ℕ, Bool, false, ◌==◌, ◌||◌, if◌then◌else◌, List, [], length, codes, Option, Some, None, option_and_then, unwrap_or}
 use Rattle.serde_json.specs.Data.{Data}
 use Rattle.serde_json.specs.Find.{get, as_bool}

@@ -1,4 +1,5 @@
 -- The events of a whole second, and of many.
+-- Source: docs/SCENARIOS.md, whole seconds; this project's profile.
 use Rattle.std.specs.Prelude.{ℕ, zero, suc, List, [], ◌++◌, map}
 use Rattle.std.specs.List.{flat_map, range_with_len}
 use Rattle.irig_plant.specs.declared.event.Event.{Event}

@@ -6,11 +6,11 @@ ghost use Rattle.irig_forms.specs.Fields.{natural_most};
 ghost use Rattle.irig_forms.specs.Keys.{key_value, texts_of};
 ghost use Rattle.irig_forms.specs.Refusals.{IsUnlessMemory};
 ghost use Rattle.irig_scenario.specs.Forms.{g};
-ghost use Rattle.irig_scenario.specs.EventLine.{action_of, action_by, fault_action, natural_in, reader_in, fault_of_form, command_of_form, command_in_object, command_in_line};
+ghost use Rattle.irig_scenario.specs.EventLine.{action_of, action_by, fault_action, natural_or_refusal, reader_in, fault_of_form, command_of_form, command_in_object, command_in_line};
 
 use crate::form::{
-    AT, Action, EDGE, EDGES_BY, FaultKind, G, HALF_HOURS_BY, LEAP, N, Q, R, WIDTH, WIDTHS,
-    action_named, fault_named, keys_of,
+    AT, Action, DO, EDGE, EDGES_BY, FaultKind, G, HALF_HOURS_BY, KIND, LEAP, N, Q, R, WIDTH,
+    WIDTHS, action_named, fault_named, keys_of,
 };
 use indexmap::IndexSet;
 use irig_forms::{
@@ -27,7 +27,8 @@ use std::alloc::Global;
 pub enum Command {
     /// One event.
     Event(Event),
-    /// So many whole seconds, 0 to 100,000, each with the events of [`second_of`](crate::second_of).
+    /// So many whole seconds, 0 to 100,000, each with the events of
+    /// [`second_of`](crate::second_of).
     Seconds(u32),
 }
 
@@ -35,7 +36,7 @@ pub enum Command {
 fn action_of(value: &Value) -> Option<Action>
     ensures { result ≡ action_of (view value.now) }
 {
-    match text_at(value, "do")? {
+    match text_at(value, DO.name)? {
         "fault" => fault_action(value),
         word => action_named(word),
     }
@@ -44,19 +45,19 @@ fn action_of(value: &Value) -> Option<Action>
 fn fault_action(value: &Value) -> Option<Action>
     ensures { result ≡ fault_action (view value.now) }
 {
-    let kind = fault_named(text_at(value, "kind")?)?;
+    let kind = fault_named(text_at(value, KIND.name)?)?;
     Some(Action::Fault(kind))
 }
 
 fn number_at(key: Key, value: &Value) -> Result<u64, Refusal>
-    ensures value { result ≡ natural_in (key_value key) (view value.now) }
+    ensures value { result ≡ natural_or_refusal (key_value key) (view value.now) }
     ensures most { IfOk result (λ n. n ≤ natural_most key.kind) }
 {
     natural_at(key, value).ok_or(Refusal::Value)
 }
 
 fn generator_at(value: &Value) -> Result<u8, Refusal>
-    ensures { result ≡ natural_in g (view value.now) }
+    ensures { result ≡ natural_or_refusal g (view value.now) }
 {
     Ok(number_at(G, value)? as u8)
 }
@@ -148,9 +149,11 @@ fn command_in_object(
     command_of_form(alloc, names, action, value)
 }
 
-/// What a line after the plant line asks for, by the names of the plant's readers in order, at most 16.
+/// What a line after the plant line asks for, by the names of the plant's readers in order, at most
+/// 16.
 ///
-/// `Refused` with the first reason in the order of docs/SCENARIOS.md, `Memory` where there was none.
+/// `Refused` with the first reason in the order of docs/FAULTS.md, `Memory` where there was
+/// none.
 #[tactic(auto, unfolding(crate::specs::EventLine::command_in_line))]
 pub fn event_of_line(
     alloc: Global,

@@ -1,4 +1,5 @@
-//! The forms of the lines after the plant line, as tables: which keys stand in each, and what may stand at a key.
+//! The forms of the lines after the plant line, as tables: which keys stand in each, and what may
+//! stand at a key.
 
 ghost use Rattle.std.specs.Prelude.{◌≡◌, map};
 ghost use Rattle.irig_forms.specs.Keys.{key_value};

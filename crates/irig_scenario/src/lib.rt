@@ -1,5 +1,5 @@
-//! What a line of a scenario says: of its bytes a plant, an event or a number of whole seconds, or why the
-//! line is refused. docs/SCENARIOS.md has the lines.
+//! What a line of a scenario says: of its bytes a plant, an event or a number of whole seconds, or
+//! why the line is refused. docs/SCENARIOS.md has the lines.
 #![tactic(auto)]
 
 mod event_line;

@@ -41,7 +41,8 @@ pub struct BuiltPlant {
 
 /// The plant of a plant line: three or five generators, 1 to 16 readers, and as many names.
 ///
-/// `Refused` with the first reason in the order of docs/SCENARIOS.md, `Memory` where there was none.
+/// `Refused` with the first reason in the order of docs/FAULTS.md, `Memory` where there was
+/// none.
 #[tactic(auto, unfolding(crate::specs::PlantLine::plan_in_line))]
 pub fn plant_of_line(alloc: Global, line: &[u8]) -> Result<BuiltPlant, LineFault>
     ensures plan { IsUnlessMemory plan_of (plan_in_line line.now) result }

@@ -139,14 +139,16 @@ plant = setup (times (record { day = 6010; sod = 43200 }) []) (generator ∷ gen
 abbrev plan : Plan
 plan = record { setup = plant; names = codes "r1" ∷ [] }
 
--- events come one after another, the last one newest, up to the first that is refused; those before it stand
+-- events come one after another, the last one newest, up to the first that is refused; those before
+-- it stand
 pub known_play : (play plant (Carry 0 0 ∷ Tick 0 ∷ GenEdge 2 ∷ []) [] ≡ play_by (GenEdge 2 ∷ Tick 0 ∷ Carry 0 0 ∷ []) None)
     × (play plant (Tick 0 ∷ Tick 1 ∷ Restart 0 ∷ []) (Carry 0 0 ∷ []) ≡ play_by (Tick 0 ∷ Carry 0 0 ∷ []) (Some refusal.NoSuchReader))
     × (play plant (GenEdge 3 ∷ Tick 0 ∷ []) [] ≡ play_by [] (Some refusal.NoSuchGenerator))
 unfolding second_at
 known_play = (refl, refl, refl)
 
--- two seconds of it are seven events and seven again; none is no event; a refused line leaves the scene as it was
+-- two seconds of it are seven events and seven again; none is no event; a refused line leaves the
+-- scene as it was
 pub known_commands : (step_of_command (scene plan []) (Ok (command.Seconds 2))
     ≡ step_to (Some (scene plan (GenEdge 2 ∷ GenEdge 1 ∷ GenEdge 0 ∷ Tick 0 ∷ Carry 2 0 ∷ Carry 1 0 ∷ Carry 0 0
     ∷ GenEdge 2 ∷ GenEdge 1 ∷ GenEdge 0 ∷ Tick 0 ∷ Carry 2 0 ∷ Carry 1 0 ∷ Carry 0 0 ∷ []))) None)

@@ -51,9 +51,11 @@ pub record RunsFor {P : Type 0} {g : Ghosts P} (x : Scene) (events : List Event)
 -- whatever scene it is of
 abbrev pub Runs : {P : Type 0} {g : Ghosts P} → Plant P g → List Event → Plant P g → Option Refusal
     → Type 0
-Runs was events is refusal = (x : Scene) → HasPlantHistory was (past x) → RunsFor x events is refusal
+Runs was events is refusal =
+    (x : Scene) → HasPlantHistory was (past x) → RunsFor x events is refusal
 
--- a plant of this scene played events, up to a refusal if there is one, and their entries were written
+-- a plant of this scene played events, up to a refusal if there is one, and their entries were
+-- written
 pub record PlaysFor {P : Type 0} {g : Ghosts P} (x : Scene) (events : List Event) (all : Bool)
     (plant : Plant P g) (refusal : Option Refusal) (old new : Bytes) : Type 0 where
   pub refused : (play x.plan.setup events x.events).refusal ≡ refusal

@@ -1,4 +1,5 @@
 -- A run: its answer, and by how much the output grew.
+-- Source: docs/OUTPUT.md; this project's profile.
 use Rattle.std.specs.Prelude.{◌≡◌, ℕ, Bool, List, ◌++◌, length, Some, None, Result, Ok, Err, ⊤, All}
 use Rattle.std.specs.Io.KnownBytes.{Appends, Consumes}
 use Rattle.irig_scene.specs.declared.outcome.Outcome.{Outcome}

@@ -1,4 +1,5 @@
--- What a scenario means: the plant and the events that its lines give, and the text that is written for them.
+-- What a scenario means: the plant and the events that its lines give, and the text that is written
+-- for them.
 -- Source: docs/SCENARIOS.md and docs/OUTPUT.md.
 use Rattle.std.specs.Prelude.{ℕ, ◌+◌, Bool, List, [], ◌∷◌, ◌++◌, length, if◌then◌else◌, nat_lt, Option, Some, None, Result, Ok, Err, option_and_then}
 use Rattle.irig_plant.specs.declared.audit.Audit.{Audit}
@@ -29,7 +30,8 @@ scene plan events = record { plan = plan; events = events }
 
 -- ---- events
 
--- the events that were played, the newest first, and the refusal of the one after them, if it was refused
+-- the events that were played, the newest first, and the refusal of the one after them, if it was
+-- refused
 pub record Play : Type 0 where
   pub events : List Event
   pub refusal : Option Refusal
@@ -65,7 +67,8 @@ events_of plan (command.Seconds n) =
 
 -- ---- one line
 
--- the scene that a line leaves, none before the plant line, and the line's refusal, if it was refused
+-- the scene that a line leaves, none before the plant line, and the line's refusal, if it was
+-- refused
 pub record Step : Type 0 where
   pub scene : Option Scene
   pub refusal : Option Refusal

@@ -66,7 +66,8 @@ entries_text names all entries =
 
 -- ---- the last line
 
--- whether the premises were kept, else the first broken place or the least reader whose table is false
+-- whether the premises were kept, else the first broken place or the least reader whose table is
+-- false
 unfoldable pub audit_text : List (List ℕ) → Audit → List ℕ
 audit_text names Kept = codes "premises kept\n"
 audit_text names (Broken reader edge) =

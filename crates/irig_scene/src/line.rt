@@ -1,10 +1,10 @@
 //! One line of a scenario: it is read, it does what it says, and what it gives is written.
 
-ghost use Rattle.std.specs.Prelude.{◌≡◌, ◌≤◌, ◌<◌, IfOk, IfErr, OnErr, None, Err, true, length, ◌||◌};
+ghost use Rattle.std.specs.Prelude.{◌≡◌, ◌≤◌, ◌<◌, ◌+◌, IfOk, IfErr, OnErr, None, Err, true, length, ◌||◌};
 ghost use Rattle.irig_device.specs.Watched.{device_of, has_failed};
 ghost use Rattle.irig_scene.specs.Faults.{IsFaultOfReading, says_write, is_write_fault};
 ghost use Rattle.irig_device.specs.Lines.{GivesLine, GivesPart, HasNoNewline};
-ghost use Rattle.irig_scene.specs.Lines.{is_blank, limit_of};
+ghost use Rattle.irig_scene.specs.Lines.{is_blank, limit_of, max_line, max_lines};
 ghost use Rattle.irig_scene.specs.LineRuns.{
   Begins,
   Takes,
@@ -72,13 +72,13 @@ pub(crate) fn take_line<P: Port, W: Write>(
     log: LogWriter,
     output: &mut Watched<W>,
 ) -> Result<Option<Refusal>, SceneFault>
-    requires { length line.now ≤ 65536 }
+    requires { length line.now ≤ max_line }
     ensures takes { IfOk result (λ refusal.
         Takes player.old number line.now log.all player.new refusal
         (W.contents (device_of output.old)) (W.contents (device_of output.new))) }
     ensures fails { IfErr result (λ fault. FailsTaking player.old number line.now log.all fault
         (W.contents (device_of output.old)) (W.contents (device_of output.new))) }
-    ensures number { IfOk result (λ refusal. refusal ≡ None → number ≤ 1000000) }
+    ensures number { IfOk result (λ refusal. refusal ≡ None → number ≤ max_lines) }
     ensures note { has_failed output.new ≡ (has_failed output.old || says_write result) }
 {
     if number > MAX_LINES {
@@ -181,10 +181,10 @@ pub(crate) fn run_last<P: Port, W: Write>(
     log: LogWriter,
     output: &mut Watched<W>,
 ) -> Result<Outcome, SceneFault>
-    requires length { length line.now ≤ 65536 }
+    requires length { length line.now ≤ max_line }
     requires whole { HasNoNewline line.now }
     requires number { 1 ≤ number }
-    requires few { number ≤ 1000001 }
+    requires few { number ≤ max_lines + 1 }
     ensures runs { RunsLast player.old number line.now log.all result
         (W.contents (device_of output.old)) (W.contents (device_of output.new)) }
     ensures note { has_failed output.new ≡ (has_failed output.old || says_write result) }

@@ -83,8 +83,8 @@ pub(crate) fn push_entries(
     all: bool,
 ) -> Result<(), AllocError>
     requires { All (λ entry. IfSome entry.report.announce IsValid) entries.now }
-    ensures { OnOk result (string_bytes text.new
-        ≡ string_bytes text.old ++ entries_text (map string_bytes names.now.keys) all entries.now) }
+    ensures { OnOk result (string_bytes text.new ≡ string_bytes text.old
+        ++ entries_text (map string_bytes names.now.keys) all entries.now) }
 {
     for entry in entries {
         if is_written(entry, all) {

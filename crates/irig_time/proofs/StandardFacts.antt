@@ -19,7 +19,8 @@ use Rattle.irig_time.specs.Next.{next_at_month_end, turn}
 use Rattle.irig_time.specs.Timelines.{TimelineValue, times, day_length, IsSecond}
 use Rattle.irig_time.specs.Claims.{frame_mark}
 
--- 2000-01-01 is day 0, 2000-12-31 day 365, 2016-12-31 day 6209, 2099-12-30 day 36523 and 2099-12-31 day 36524
+-- 2000-01-01 is day 0, 2000-12-31 day 365, 2016-12-31 day 6209, 2099-12-30 day 36523 and 2099-12-31
+-- day 36524
 pub known_days : (day_number 0 1 ≡ 0) × (day_number 0 366 ≡ 365) × (day_number 16 366 ≡ 6209) × (day_number 99 364 ≡ 36523) × (day_number 99 365 ≡ 36524)
 known_days = (refl, refl, refl, refl, refl)
 

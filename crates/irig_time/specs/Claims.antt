@@ -1,5 +1,5 @@
--- What a frame claims: the UTC second by the offset, and what is said of a leap (IEEE 1344-1995, the IRIG-B annex,
--- with this project's profile of when the leap bits speak).
+-- What a frame claims: the UTC second by the offset, and what is said of a leap (IEEE 1344-1995,
+-- the IRIG-B annex, with this project's profile of when the leap bits speak).
 use Rattle.std.specs.Prelude.{ℕ, ◌+◌, ◌*◌, ◌/◌, ◌%◌, Bool, not, ◌&&◌, ◌==◌, nat_lt, if◌then◌else◌, Result, Ok, Err, ℤ, pos, ◌+ℤ◌, ◌-ℤ◌, ◌*ℤ◌, int_lt, unsigned_abs, true, false}
 use Rattle.irig_frame.specs.declared.coded.Coded.{Coded}
 use Rattle.irig_control.specs.declared.control.Control.{Control}
@@ -42,14 +42,18 @@ claim_at minute c k =
     if (c.second == 60) && not (is_last_minute minute) then Err fault.Second60
     else (if is_last_minute minute && ((c.second == 59) && (k.leap_pending && k.leap_delete))
     then Err fault.DeletedSecond
-    else Ok (record { at = utc_at minute c.second; mark = frame_mark (is_last_minute minute) c.second k }))
+    else Ok (record {
+      at = utc_at minute c.second;
+      mark = frame_mark (is_last_minute minute) c.second k;
+    }))
 
 -- what a frame claims, or the first fault; a day has 1440 minutes
 abbrev pub claim_by : Sense → Coded → Control → Result Claim TimeFault
 claim_by sense c k =
     if nat_lt (year_length c.year) c.day then Err fault.NoSuchDay
     else (if int_lt (utc_minute sense c k) (pos (FIRST_DAY * 1440)) then Err fault.OutOfYears
-    else (if int_lt (utc_minute sense c k) (pos ((LAST_DAY + 1) * 1440)) then claim_at (unsigned_abs (utc_minute sense c k)) c k
+    else (if int_lt (utc_minute sense c k) (pos ((LAST_DAY + 1) * 1440))
+    then claim_at (unsigned_abs (utc_minute sense c k)) c k
     else Err fault.OutOfYears))
 
 -- what a frame of this second claims with these bits
@@ -58,7 +62,10 @@ claim_of_second u k =
     if is_last_minute (1440 * u.day + minute_of u)
     && ((second_of u == 59) && (k.leap_pending && k.leap_delete))
     then Err fault.DeletedSecond
-    else Ok (record { at = u; mark = frame_mark (is_last_minute (1440 * u.day + minute_of u)) (second_of u) k })
+    else Ok (record {
+      at = u;
+      mark = frame_mark (is_last_minute (1440 * u.day + minute_of u)) (second_of u) k;
+    })
 
 -- whether two marks are the same
 abbrev pub same_mark : Mark → Mark → Bool

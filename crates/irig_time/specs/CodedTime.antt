@@ -1,5 +1,5 @@
--- The time that a frame codes for a second of UTC (IRIG Standard 200-16, format B, with this project's profile of
--- the straight binary seconds).
+-- The time that a frame codes for a second of UTC (IRIG Standard 200-16, format B, with this
+-- project's profile of the straight binary seconds).
 use Rattle.std.specs.Prelude.{◌≡◌, ℕ, ◌+◌, ◌-◌, ◌*◌, ◌/◌, ◌%◌, ◌≤◌, ℤ, pos, ◌+ℤ◌, ◌*ℤ◌, unsigned_abs}
 use Rattle.irig_frame.specs.declared.coded.Coded.{Coded}
 use Rattle.irig_time.specs.declared.second.UtcSecond.{UtcSecond}

@@ -1,4 +1,5 @@
--- Days, counted from 2000-01-01, which is day 0 here and day 10957 from 1970-01-01; and their dates.
+-- Days, counted from 2000-01-01, which is day 0 here and day 10957 from 1970-01-01; and their
+-- dates.
 -- Source: the Gregorian calendar from 2000 to 2099; the dates of days are those of jiff_core.
 use Rattle.std.specs.Prelude.{◌≡◌, ℕ, ◌+◌, ◌-◌, ◌*◌, ◌/◌, ◌%◌, ◌==◌, if◌then◌else◌, Bool, ℤ, pos}
 use Rattle.std.specs.Ordering.{int_eq}
@@ -28,4 +29,5 @@ begins_on day year month = int_eq (days_from_civil (pos year) month 1) (pos (day
 -- the same as a test: some month from 2000 to 2099 begins on the next day
 unfoldable pub is_month_end : ℕ → Bool
 is_month_end day =
-    list_any (λ year. list_any (begins_on (day + 1) year) (range_with_len 1 12)) (range_with_len 2000 100)
+    list_any (λ year. list_any (begins_on (day + 1) year) (range_with_len 1 12))
+    (range_with_len 2000 100)

@@ -1,5 +1,6 @@
 -- The frame of a second of UTC with given control bits.
--- Source: IRIG Standard 200-16, format B, and IEEE 1344-1995, the IRIG-B annex, by the definitions that it names.
+-- Source: IRIG Standard 200-16, format B, and IEEE 1344-1995, the IRIG-B annex, by the definitions
+-- that it names.
 use Rattle.std.specs.Prelude.{◌≡◌, ◌%◌, ◌^◌, ◌<◌, List, ℤ}
 use Rattle.irig_frame.specs.declared.symbol.Symbol.{Symbol}
 use Rattle.irig_frame.specs.declared.coded.Coded.{Coded}
@@ -12,9 +13,10 @@ use Rattle.irig_control.specs.Parity.{HasParity, with_parity}
 use Rattle.irig_time.specs.declared.second.UtcSecond.{UtcSecond}
 use Rattle.irig_time.specs.CodedTime.{IsCodedOf, time_shown}
 
--- the frame of u with these control bits, on a clock so many half hours ahead of UTC: its last three control bits and
--- its unused elements are 0
-pub record IsFrameOfSecond (parity : Parity) (u : UtcSecond) (half_hours : ℤ) (k : Control) (s : List Symbol)
+-- the frame of u with these control bits, on a clock so many half hours ahead of UTC: its last
+-- three control bits and its unused elements are 0
+pub record IsFrameOfSecond (parity : Parity) (u : UtcSecond) (half_hours : ℤ) (k : Control)
+    (s : List Symbol)
     : Type 0 where
   pub coded : Coded
   pub reads : Reads s coded

@@ -1,11 +1,13 @@
 -- Seconds of UTC.
--- Source: 2000-01-02 to 2099-12-30 by this project's profile; 23:59:60 at a month's end by ITU-R TF.460.
+-- Source: 2000-01-02 to 2099-12-30 by this project's profile; 23:59:60 at a month's end by ITU-R
+-- TF.460.
 use Rattle.std.specs.Prelude.{◌≡◌, ℕ, ◌+◌, ◌-◌, ◌*◌, ◌/◌, ◌≤◌, min, Bool, ◌==◌, ◌&&◌, ◌||◌, nat_lt, nat_le, ◌⊎◌}
 use Rattle.irig_time.specs.declared.second.UtcSecond.{UtcSecond}
 use Rattle.irig_time.specs.declared.second.TheConstants.{FIRST_DAY, LAST_DAY}
 use Rattle.irig_time.specs.Days.{IsMonthEnd}
 
--- a second from 2000-01-02 to 2099-12-30, where 86400 is the one inserted at a month's end (ITU-R TF.460)
+-- a second from 2000-01-02 to 2099-12-30, where 86400 is the one inserted at a month's end (ITU-R
+-- TF.460)
 pub record IsValid (u : UtcSecond) : Type 0 where
   pub day : (FIRST_DAY ≤ u.day) × (u.day ≤ LAST_DAY)
   pub sod : (u.sod ≤ 86399) ⊎ ((u.sod ≡ 86400) × IsMonthEnd u.day)

@@ -1,5 +1,5 @@
--- The index of a timeline: its days in stretches, each of which ends with the day of a leap. No public clause
--- speaks of it.
+-- The index of a timeline: its days in stretches, each of which ends with the day of a leap. No
+-- public clause speaks of it.
 use Rattle.std.specs.Prelude.{◌≡◌, ℕ, ◌+◌, ◌-◌, ◌<◌, ◌≤◌, ◌⊎◌, Bool, true, nat_lt, All, List, Option, Some, None, length, slice_index_or}
 use Rattle.std.specs.List.{AllAdjacentBelow}
 use Rattle.std.specs.List.Sorted.{IsNonDecreasingBy}
@@ -43,7 +43,8 @@ pub record IsIndex (leaps : List (ℕ × Leap)) (first : ℕ) (stretches : List 
   pub start : (d : Stretch) → (slice_index_or stretches 0 d).seconds ≡ 0
   pub placed : All (IsPlaced leaps first) stretches
   pub joined : AllAdjacentBelow (Joins leaps) stretches (length stretches)
-  pub plain_after : (d : Stretch) → HasNoLeapFrom leaps (slice_index_or stretches (length stretches - 1) d).day
+  pub plain_after : (d : Stretch)
+      → HasNoLeapFrom leaps (slice_index_or stretches (length stretches - 1) d).day
 
 -- what the search for a stretch rests on
 pub record IsRising (stretches : List Stretch) : Type 0 where
@@ -52,14 +53,16 @@ pub record IsRising (stretches : List Stretch) : Type 0 where
   pub rising : IsNonDecreasingBy (λ s. s.seconds) stretches
   pub later : AllAdjacentBelow (λ one other. one.day < other.day) stretches (length stretches)
 
--- the stretch in which so many seconds have passed since the beginning of the first day, and its last day
+-- the stretch in which so many seconds have passed since the beginning of the first day, and its
+-- last day
 pub record Holds (t : TimelineValue) (total : ℕ) (s : Stretch) (last : ℕ) : Type 0 where
   pub placed : IsPlaced t.leaps t.start.day s
   pub within : s.day ≤ last
   pub served : last ≤ LAST_DAY + 1
   pub begun : s.seconds ≤ total
   pub plain : (day : ℕ) → s.day ≤ day → day < last → leap_of t.leaps day ≡ None
-  pub before_end : (last ≡ LAST_DAY + 1) ⊎ (total < seconds_in t.leaps t.start.day (last + 1 - t.start.day))
+  pub before_end : (last ≡ LAST_DAY + 1)
+      ⊎ (total < seconds_in t.leaps t.start.day (last + 1 - t.start.day))
 
 -- the index of this sound timeline
 pub record IsIndexed (t : TimelineValue) (stretches : List Stretch) : Type 0 where

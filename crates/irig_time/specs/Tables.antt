@@ -1,5 +1,6 @@
 -- A reader's table of leaps: what it says of a day, and what is wrong with one.
--- Source: docs/TIME.md, leap tables; the order of refusals is this project's profile (docs/FAULTS.md).
+-- Source: docs/TIME.md, leap tables; the order of refusals is this project's profile
+-- (docs/FAULTS.md).
 use Rattle.std.specs.Prelude.{ℕ, nat_lt, is_some, length, if◌then◌else◌, List, [], ◌∷◌, ◌++◌, Option, Some, None}
 use Rattle.std.specs.Option.{option_or}
 use Rattle.irig_time.specs.declared.mark.Mark.{Mark}
@@ -23,7 +24,8 @@ table until leaps = record { until = until; leaps = leaps }
 -- what the table says of the end of a day
 abbrev pub table_mark : TableValue → ℕ → Mark
 table_mark t day =
-    if is_month_end day then (if nat_lt t.until day then Unspoken else mark_by (leap_of t.leaps day))
+    if is_month_end day
+    then (if nat_lt t.until day then Unspoken else mark_by (leap_of t.leaps day))
     else Unspoken
 
 -- what was heard, else what the table says

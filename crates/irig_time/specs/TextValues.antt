@@ -1,4 +1,5 @@
 -- The texts of days and seconds, and what is read of a text, as functions.
+-- Source: RFC 3339, by the definitions of Texts.antt.
 use Rattle.std.specs.Prelude.{ℕ, ◌+◌, ◌-◌, List, [], ◌++◌, ◌/◌, ◌%◌, if◌then◌else◌, Bool, map, Option, option_map, unwrap_or, pos}
 use Rattle.std.specs.Ordering.{int_eq}
 use Rattle.std.specs.List.{find, flat_map, range_with_len}
@@ -38,7 +39,8 @@ second_text u = day_text u.day ++ time_text (minute_of u / 60) (minute_of u % 60
 -- the seconds of a day, with 86400 on a month's last
 abbrev pub seconds_of : ℕ → List UtcSecond
 seconds_of day =
-    map (λ sod. record { day = day; sod = sod }) (range_with_len 0 (if is_month_end day then 86401 else 86400))
+    map (λ sod. record { day = day; sod = sod })
+    (range_with_len 0 (if is_month_end day then 86401 else 86400))
 
 -- the valid seconds
 unfoldable pub valid_seconds : List UtcSecond

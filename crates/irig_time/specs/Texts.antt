@@ -1,4 +1,6 @@
--- The texts of a day and of a second: YYYY-MM-DD and YYYY-MM-DDTHH:MM:SSZ, in decimal digits with leading zeros.
+-- The texts of a day and of a second: YYYY-MM-DD and YYYY-MM-DDTHH:MM:SSZ, in decimal digits with
+-- leading zeros.
+-- Source: RFC 3339, the time with Z; which of them have a text is this project's profile.
 use Rattle.std.specs.Prelude.{◌≡◌, ℕ, ◌+◌, ◌/◌, ◌%◌, List, [], ◌∷◌, ◌++◌, pos}
 use Rattle.irig_time.specs.declared.second.UtcSecond.{UtcSecond}
 use Rattle.irig_time.specs.Days.{IsDateOf}
@@ -30,4 +32,5 @@ pub record IsText (u : UtcSecond) (bytes : List ℕ) : Type 0 where
   pub month : ℕ
   pub day_of_month : ℕ
   pub date : IsDateOf u.day (pos year) month day_of_month
-  pub text : bytes ≡ date_text year month day_of_month ++ time_text (minute_of u / 60) (minute_of u % 60) (second_of u)
+  pub text : bytes ≡ date_text year month day_of_month
+      ++ time_text (minute_of u / 60) (minute_of u % 60) (second_of u)

@@ -21,7 +21,8 @@ leap_fault before day =
 -- the first fault of the leaps, in the list's order, after these leaps
 abbrev pub first_leap_fault : List (ℕ × Leap) → List (ℕ × Leap) → Option TimelineFault
 first_leap_fault before [] = None
-first_leap_fault before (x ∷ xs) = option_or (leap_fault before x.0) (first_leap_fault (before ++ x ∷ []) xs)
+first_leap_fault before (x ∷ xs) =
+    option_or (leap_fault before x.0) (first_leap_fault (before ++ x ∷ []) xs)
 
 -- what is wrong with the start
 abbrev pub start_fault : List (ℕ × Leap) → UtcSecond → Option TimelineFault

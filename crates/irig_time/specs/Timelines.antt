@@ -1,5 +1,7 @@
--- A timeline: a start, and the days that end with a leap. Its seconds are counted by sums of day lengths.
--- Source: ITU-R TF.460: a day with a leap is one second longer or shorter; marks by this project's profile.
+-- A timeline: a start, and the days that end with a leap. Its seconds are counted by sums of day
+-- lengths.
+-- Source: ITU-R TF.460: a day with a leap is one second longer or shorter; marks by this project's
+-- profile.
 use Rattle.std.specs.Prelude.{◌≡◌, ℕ, zero, suc, ◌+◌, ◌-◌, ◌≤◌, ◌<◌, Bool, true, false, ◌==◌, nat_lt, if◌then◌else◌, List, [], ◌∷◌, Option, Some, None}
 use Rattle.std.specs.Option.{option_map}
 use Rattle.irig_time.specs.declared.second.UtcSecond.{UtcSecond}
@@ -56,7 +58,8 @@ sum_below f (suc n) = sum_below f n + f n
 abbrev pub seconds_in : List (ℕ × Leap) → ℕ → ℕ → ℕ
 seconds_in leaps day days = sum_below (λ k. day_length leaps (day + k)) days
 
--- u is T(n): the n-th second after the start, by the lengths of the days from the start's day to the one before u's
+-- u is T(n): the n-th second after the start, by the lengths of the days from the start's day to
+-- the one before u's
 pub record IsSecond (t : TimelineValue) (n : ℕ) (u : UtcSecond) : Type 0 where
   pub from : t.start.day ≤ u.day
   pub to : u.day ≤ LAST_DAY

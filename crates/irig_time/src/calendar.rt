@@ -48,7 +48,8 @@ pub(crate) fn date_parts(day: u32) -> (u32, u32, u32)
 
 pub(crate) fn day_of(year: u32, month: u32, day: u32) -> Option<u32>
     requires { (year < 10000) × (month < 100) × (day < 100) }
-    ensures found { (n : ℕ) → n ≤ 36524 → IsDateOf n (pos year) month day → result ≡ Some n }
+    ensures found { (n : ℕ) → n ≤ 36524 → IsDateOf n (pos year) month day
+        → result ≡ Some n }
     ensures bounded { IfSome result (λ n. n ≤ 36524) }
 {
     match Date::new(year as i16, month as i8, day as i8) {
@@ -60,7 +61,8 @@ pub(crate) fn day_of(year: u32, month: u32, day: u32) -> Option<u32>
 }
 
 fn days_since_2000(found: Date) -> i64
-    ensures { (n : ℕ) → n ≤ 36524 → epoch_day found ≡ pos (n + 10957) → result ≡ pos n }
+    ensures { (n : ℕ) → n ≤ 36524 → epoch_day found ≡ pos (n + 10957)
+        → result ≡ pos n }
 {
     found.duration_since(date(2000, 1, 1)).as_hours() / 24
 }

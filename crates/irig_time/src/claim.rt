@@ -20,8 +20,8 @@ use irig_frame::Coded;
 pub struct Claim {
     /// The UTC second that begins with the frame.
     pub at: UtcSecond,
-    /// What the frame says of the leap at the end of that day; unspoken but in seconds 1 to 59 of 23:59
-    /// UTC on a month's last day.
+    /// What the frame says of the leap at the end of that day; unspoken but in seconds 1 to 59 of
+    /// 23:59 UTC on a month's last day.
     pub mark: Mark,
 }
 
@@ -40,9 +40,10 @@ pub enum TimeFault {
 
 /// What a frame with these values claims, or the first fault.
 ///
-/// Both arguments are in range ([`irig_frame::in_range`], [`irig_control::in_range`]). The UTC minute is
-/// the coded minute plus or minus 30 for each half hour of offset, and the second is unchanged. That
-/// the leap bits speak in the last minute alone is this project's profile of IEEE 1344-1995.
+/// Both arguments are in range ([`irig_frame::in_range`], [`irig_control::in_range`]). The UTC
+/// minute is the coded minute plus or minus 30 for each half hour of offset, and the second is
+/// unchanged. That the leap bits speak in the last minute alone is this project's profile of IEEE
+/// 1344-1995.
 pub fn claim_of(coded: &Coded, control: &Control, sense: Sense) -> Result<Claim, TimeFault>
     requires coded { IsCoded coded.now }
     requires control { IsControl control.now }
@@ -52,8 +53,8 @@ pub fn claim_of(coded: &Coded, control: &Control, sense: Sense) -> Result<Claim,
     claim_or_fault(coded, control, sense)
 }
 
-// Apart from `claim_of`, whose second clause follows from this one; the two faults of the years apart, so
-// that each test is one of the definition.
+// Apart from `claim_of`, whose second clause follows from this one; the two faults of the years
+// apart, so that each test is one of the definition.
 fn claim_or_fault(coded: &Coded, control: &Control, sense: Sense) -> Result<Claim, TimeFault>
     requires coded { IsCoded coded.now }
     requires control { IsControl control.now }

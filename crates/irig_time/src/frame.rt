@@ -12,19 +12,20 @@ use crate::second::UtcSecond;
 use irig_control::{Control, Parity, pack, set_parity};
 use irig_frame::{Coded, Symbol, encode};
 
-/// What a clock shows that is `local_half_hours` half hours ahead of UTC, -31 to 31, with the straight
-/// binary seconds of that time and without control bits.
+/// What a clock shows that is `local_half_hours` half hours ahead of UTC, -31 to 31, with the
+/// straight binary seconds of that time and without control bits.
 ///
-/// The second must be a [`valid`](crate::valid) one. A leap second lies inside the minute 23:59 UTC, so
-/// a coded minute is converted with 1440 minutes a day. The straight binary seconds are 3600h + 60m + s
-/// of the coded time, also at second 60; that is this project's profile of IRIG Standard 200-16.
+/// The second must be a [`valid`](crate::valid) one. A leap second lies inside the minute 23:59
+/// UTC, so a coded minute is converted with 1440 minutes a day. The straight binary seconds are
+/// 3600h + 60m + s of the coded time, also at second 60; that is this project's profile of IRIG
+/// Standard 200-16.
 pub fn coded_of(utc: &UtcSecond, local_half_hours: i8) -> Coded
     requires valid { IsValid utc.now }
     requires local { unsigned_abs local_half_hours ≤ 31 }
     ensures time { IsCodedOf utc.now local_half_hours result }
     ensures in_range { IsCoded result }
 {
-    let utc_minute = (utc.sod / 60).min(1439);
+    let utc_minute = utc.minute_of_day();
     let second = utc.sod - utc_minute * 60;
     let coded_minute = (i64::from(utc.day * 1440 + utc_minute)
         + i64::from(local_half_hours) * 30) as u32;
@@ -41,11 +42,12 @@ pub fn coded_of(utc: &UtcSecond, local_half_hours: i8) -> Coded
     }
 }
 
-/// The frame of a [`valid`](crate::valid) second with these control bits, by a clock `half_hours` half
-/// hours ahead of UTC, -31 to 31.
+/// The frame of a [`valid`](crate::valid) second with these control bits, by a clock `half_hours`
+/// half hours ahead of UTC, -31 to 31.
 ///
-/// The control bits are in range ([`irig_control::in_range`]). The frame has the parity, and its unused
-/// bits and elements are 0; that is this project's profile of IRIG Standard 200-16 and IEEE 1344-1995.
+/// The control bits are in range ([`irig_control::in_range`]). The frame has the parity, and its
+/// unused bits and elements are 0; that is this project's profile of IRIG Standard 200-16 and IEEE
+/// 1344-1995.
 pub fn frame_of_second(
     parity: Parity,
     utc: &UtcSecond,

@@ -16,8 +16,8 @@ use crate::second::UtcSecond;
 use irig_control::Control;
 use irig_frame::Coded;
 
-/// The time that is coded of a second claims that second: with the offset `-h` where it is added, and
-/// `h` where it is subtracted, `h` being the half hours by which the clock is ahead of UTC.
+/// The time that is coded of a second claims that second: with the offset `-h` where it is added,
+/// and `h` where it is subtracted, `h` being the half hours by which the clock is ahead of UTC.
 pub fn claim_of_coded()
     ensures added { (u : UtcSecond) (h : ℤ) (c : Coded) (k : Control) → IsValid u
         → unsigned_abs h ≤ 31 → IsCodedOf u h c → k.offset_half_hours ≡ neg_ℤ h
@@ -35,7 +35,8 @@ pub fn claims_are_valid()
 
 /// A second is coded in one way by a clock.
 pub fn one_coded()
-    ensures { (u : UtcSecond) (h : ℤ) (c d : Coded) → IsCodedOf u h c → IsCodedOf u h d → c ≡ d }
+    ensures { (u : UtcSecond) (h : ℤ) (c d : Coded) → IsCodedOf u h c
+        → IsCodedOf u h d → c ≡ d }
 {}
 
 /// What a clock shows of a second is its coded time.
@@ -44,7 +45,8 @@ pub fn time_is_shown()
         → IsCodedOf u half_hours (time_shown u half_hours) }
 {}
 
-/// A timeline has at most one second for each number, which is a valid one, and at most one true claim.
+/// A timeline has at most one second for each number, which is a valid one, and at most one true
+/// claim.
 pub fn one_second()
     ensures seconds { (t : TimelineValue) (n : ℕ) (u v : UtcSecond) → IsSecond t n u
         → IsSecond t n v → u ≡ v }
@@ -54,8 +56,8 @@ pub fn one_second()
         → IsSecond t n u → IsValid u }
 {}
 
-/// The functions `second_at` and `truth_at` give the second of each number and its true claim, where there
-/// is one.
+/// The functions `second_at` and `truth_at` give the second of each number and its true claim,
+/// where there is one.
 pub fn second_is()
     ensures second { (t : TimelineValue) (n : ℕ) (u : UtcSecond)
         → (second_at t n ≡ Some u) ↔ IsSecond t n u }

@@ -2,7 +2,8 @@
 
 use irig_control::Parity;
 
-/// Whether the offset that a frame carries is added to the coded time or subtracted from it to give UTC.
+/// Whether the offset that a frame carries is added to the coded time or subtracted from it to give
+/// UTC.
 ///
 /// Which one IEEE 1344-1995 means is for the plant to say.
 #[derive(Clone, Copy, Debug, PartialEq, Eq)]
@@ -16,7 +17,8 @@ pub enum Sense {
 /// Whether the straight binary seconds are compared with the coded time.
 #[derive(Clone, Copy, Debug, PartialEq, Eq)]
 pub enum SbsUse {
-    /// They are 3600h + 60m + s of the coded time, except at second 60, where they are not compared.
+    /// They are 3600h + 60m + s of the coded time, except at second 60, where they are not
+    /// compared.
     Check,
     /// They are not looked at.
     Ignore,

@@ -1,7 +1,7 @@
 //! Seconds of UTC, and which comes after which.
 
 ghost use Rattle.std.specs.Prelude.{◌≡◌, ◌↔◌, IsTrue};
-ghost use Rattle.irig_time.specs.Seconds.{IsValid};
+ghost use Rattle.irig_time.specs.Seconds.{IsValid, minute_of};
 ghost use Rattle.irig_time.specs.Next.{next_of};
 
 use crate::calendar::month_end;
@@ -16,10 +16,20 @@ pub const LAST_DAY: u32 = 36523;
 /// A second of UTC.
 #[derive(Clone, Copy, Debug, PartialEq, Eq)]
 pub struct UtcSecond {
-    /// The day, counted from 2000-01-01 as day 0; [`FIRST_DAY`] to [`LAST_DAY`] where the second is valid.
+    /// The day, counted from 2000-01-01 as day 0; [`FIRST_DAY`] to [`LAST_DAY`] where the second is
+    /// valid.
     pub day: u32,
     /// The second of the day, 0 to 86399, or 86400 for 23:59:60 on a month's last day.
     pub sod: u32,
+}
+
+impl UtcSecond {
+    /// The minute of its UTC day, 0 to 1439. 23:59:60 lies in the last one.
+    pub fn minute_of_day(&self) -> u32
+        ensures { result ≡ minute_of self.now }
+    {
+        (self.sod / 60).min(1439)
+    }
 }
 
 /// Whether it is a second from 2000-01-02 to 2099-12-30, where 23:59:60 ends a month.
@@ -32,10 +42,11 @@ pub fn valid(utc: &UtcSecond) -> bool
         && (utc.sod <= 86399 || (utc.sod == 86400 && month_end(utc.day)))
 }
 
-/// The second after a [`valid`](crate::valid) second, by what is said of the leap at the end of its day.
+/// The second after a [`valid`](crate::valid) second, by what is said of the leap at the end of its
+/// day.
 ///
-/// None past 2099-12-30, and, where nothing is said, after 23:59:58 and 23:59:59 of a month's last day:
-/// what follows those is not known.
+/// None past 2099-12-30, and, where nothing is said, after 23:59:58 and 23:59:59 of a month's last
+/// day: what follows those is not known.
 pub fn next(utc: UtcSecond, mark: Mark) -> Option<UtcSecond>
     requires { IsValid utc }
     ensures { result ≡ next_of utc mark }

@@ -1,5 +1,5 @@
-//! The days of a timeline in stretches, each of which ends with the day of a leap, so that a second and
-//! a day's leap are found by a binary search.
+//! The days of a timeline in stretches, each of which ends with the day of a leap, so that a second
+//! and a day's leap are found by a binary search.
 
 ghost use Rattle.std.specs.Prelude.{◌≡◌, ◌≤◌, ◌<◌, ◌-◌, [], None, IfOk, MatchOption, length, slice_index_or};
 ghost use Rattle.irig_time.specs.TimelineFaults.{first_leap_fault};
@@ -72,8 +72,8 @@ fn is_earlier(day: u32, leap: Option<(u32, Leap)>) -> bool
     }
 }
 
-/// The stretch in which so many seconds have passed since the beginning of the first day, and its last
-/// day: the one after the last day served, where no leap ends it.
+/// The stretch in which so many seconds have passed since the beginning of the first day, and its
+/// last day: the one after the last day served, where no leap ends it.
 pub(crate) fn stretch_at(stretches: &[Stretch], total: u64) -> (Stretch, u32)
     requires { IsRising stretches.now }
     ensures { (t : TimelineValue) → IsIndex t.leaps t.start.day stretches.now
@@ -87,12 +87,14 @@ pub(crate) fn stretch_at(stretches: &[Stretch], total: u64) -> (Stretch, u32)
     (stretches[begun - 1], last)
 }
 
-/// How many stretches have begun where so many seconds have passed since the beginning of the first.
+/// How many stretches have begun where so many seconds have passed since the beginning of the
+/// first.
 fn begun(stretches: &[Stretch], total: u64) -> usize
     requires { IsRising stretches.now }
     ensures some { 0 < result }
     ensures within { result ≤ length stretches.now }
-    ensures last { (d : Stretch) → (slice_index_or stretches.now (result - 1) d).seconds ≤ total }
+    ensures last { (d : Stretch)
+        → (slice_index_or stretches.now (result - 1) d).seconds ≤ total }
     ensures next { (d : Stretch) → result < length stretches.now
         → total < (slice_index_or stretches.now result d).seconds }
 {
@@ -100,7 +102,8 @@ fn begun(stretches: &[Stretch], total: u64) -> usize
     low + stretches[low..high].partition_point(|stretch| stretch.seconds <= total)
 }
 
-/// The places among which the search may stay: where leaps come evenly, a few about a guess, else all.
+/// The places among which the search may stay: where leaps come evenly, a few about a guess, else
+/// all.
 fn window(stretches: &[Stretch], total: u64) -> (usize, usize)
     requires { IsRising stretches.now }
     ensures some { result.0 < result.1 }

@@ -45,7 +45,8 @@ impl Model for LeapTable {
 impl LeapTable {
     /// The table that ends with the day `until` and has these leaps, each with its day.
     ///
-    /// `TableEnd`, then `TableLong`; then for each leap in the list's order `TableDay` and `TableTwice`.
+    /// `TableEnd`, then `TableLong`; then for each leap in the list's order `TableDay` and
+    /// `TableTwice`.
     pub fn new(until: u32, leaps: &[(u32, Leap)]) -> Result<LeapTable, TableFault>
         ensures { MatchResult result
             (λ t. (table_fault until leaps.now ≡ None) × (t ≡ table until leaps.now))
@@ -86,8 +87,8 @@ impl LeapTable {
         }
     }
 
-    /// What the table says of the end of the day, at most [`LAST_DAY`]: unspoken where it is not a month's last or
-    /// lies past the table's end.
+    /// What the table says of the end of the day, at most [`LAST_DAY`]: unspoken where it is not a
+    /// month's last or lies past the table's end.
     pub fn mark(&self, day: u32) -> Mark
         requires { day ≤ LAST_DAY }
         ensures { result ≡ table_mark self.now day }

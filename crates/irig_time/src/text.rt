@@ -9,14 +9,15 @@ ghost use Rattle.irig_time.specs.TextValues.{second_text, second_read, day_read}
 use crate::calendar::{date_parts, day_of};
 use crate::second::{UtcSecond, valid};
 
-/// The text of a [`valid`] second, as `YYYY-MM-DDTHH:MM:SSZ`; that of sod 86400 ends with `T23:59:60Z`.
+/// The text of a [`valid`] second, as `YYYY-MM-DDTHH:MM:SSZ`; that of sod 86400 ends with
+/// `T23:59:60Z`.
 pub fn write_text(utc: &UtcSecond) -> [u8; 20]
     requires { IsValid utc.now }
     ensures text { IsText utc.now result }
     ensures value { result ≡ second_text utc.now }
     ensures ascii { IsAscii result }
 {
-    let minutes = (utc.sod / 60).min(1439);
+    let minutes = utc.minute_of_day();
     let [y1, y2, y3, y4, _, m1, m2, _, d1, d2] = write_day(utc.day);
     let [h1, h2] = digits(minutes / 60);
     let [n1, n2] = digits(minutes % 60);
@@ -46,7 +47,8 @@ pub fn read_text(text: &[u8]) -> Option<UtcSecond>
     if same { Some(utc) } else { None }
 }
 
-/// The day, counted from 2000-01-01, whose date this is as `YYYY-MM-DD`, from 2000-01-01 to 2099-12-31.
+/// The day, counted from 2000-01-01, whose date this is as `YYYY-MM-DD`, from 2000-01-01 to
+/// 2099-12-31.
 pub fn read_day(text: &[u8]) -> Option<u32>
     ensures exact { (d : ℕ) → (result ≡ Some d) ↔ ((d ≤ 36524) × IsDayText d text.now) }
     ensures value { result ≡ day_read text.now }

@@ -18,7 +18,8 @@ use std::marker::Model;
 /// Why there is no such timeline, in the order in which faults are answered.
 #[derive(Clone, Copy, Debug, PartialEq, Eq)]
 pub enum TimelineFault {
-    /// The start's day is outside [`FIRST_DAY`] to [`LAST_DAY`], or its second is none of that day's.
+    /// The start's day is outside [`FIRST_DAY`] to [`LAST_DAY`], or its second is none of that
+    /// day's.
     BadStart,
     /// A leap's day is not a month's last.
     LeapNotMonthEnd,
@@ -117,7 +118,8 @@ impl Timeline {
 
     /// What a true frame of the `number`-th second claims.
     pub fn truth(&self, number: u64) -> Option<Claim>
-        ensures claim { (c : Claim) → (result ≡ Some c) ↔ IsTrueClaim self.now (number + 1) c }
+        ensures claim { (c : Claim)
+            → (result ≡ Some c) ↔ IsTrueClaim self.now (number + 1) c }
         ensures value { result ≡ truth_at self.now number }
         ensures early { IfSome result (λ c. number < 2 ^ 32) }
     {

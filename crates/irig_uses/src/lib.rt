@@ -1,11 +1,9 @@
-//! Short uses of the libraries, as a caller writes them, each proved. The first of each module is the one
-//! to read.
+//! Short uses of the libraries, as a caller writes them, each proved. The first of each module is
+//! the one to read.
 #![tactic(auto)]
 
 pub mod frames;
 pub mod plants;
 pub mod ports;
 pub mod scenes;
-#[cfg(test)]
-mod tests;
 pub mod times;

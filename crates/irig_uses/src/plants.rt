@@ -10,8 +10,8 @@ use irig_port::Port;
 use irig_time::{Rules, Timeline};
 use std::alloc::Global;
 
-/// A plant of three generators on UTC over this timeline, read by the plain rules; `None` if there is no
-/// memory.
+/// A plant of three generators on UTC over this timeline, read by the plain rules; `None` if there
+/// is no memory.
 pub fn plain_plant<P: Port>(
     alloc: Global,
     timeline: Timeline,

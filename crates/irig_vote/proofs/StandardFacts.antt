@@ -63,7 +63,8 @@ pub known_single : (map (λ told. three told (tell true_claim) told) (tells.Sile
 unfolding vote_of
 known_single = (refl, refl, refl)
 
--- the same second with another mark is another claim; so are the same second of the day on another day, and another second
+-- the same second with another mark is another claim; so are the same second of the day on another
+-- day, and another second
 pub known_differences : (map (λ mark. three (tell true_claim) (tell (marked mark)) tells.Silence) (Unspoken ∷ NoLeap ∷ Insert ∷ Delete ∷ []) ≡ None ∷ None ∷ Some true_claim ∷ None ∷ [])
     × (three (tell true_claim) (tell day_before) tells.Silence ≡ None)
     × (three (tell true_claim) (tell earlier) tells.Silence ≡ None)

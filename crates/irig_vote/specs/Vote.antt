@@ -49,7 +49,8 @@ others c ports = count_by (is_other c) ports
 -- the first of these claims that more than f of all ports tell
 abbrev pub first_told : ℕ → List Told → List Told → Option Claim
 first_told f ports [] = None
-first_told f ports (tells.Claim c ∷ ts) = if nat_lt f (carriers c ports) then Some c else first_told f ports ts
+first_told f ports (tells.Claim c ∷ ts) =
+    if nat_lt f (carriers c ports) then Some c else first_told f ports ts
 first_told f ports (_ ∷ ts) = first_told f ports ts
 
 -- the vote: the claim that at least f + 1 ports tell, if there is one

@@ -9,11 +9,12 @@ use crate::votes::Tells;
 use irig_port::Told;
 use irig_time::Claim;
 
-/// The tests by which the vote counts are what they say: two claims are the same exactly if they are
-/// equal, and a port is counted for a claim exactly if it tells that claim.
+/// The tests by which the vote counts are what they say: two claims are the same exactly if they
+/// are equal, and a port is counted for a claim exactly if it tells that claim.
 pub fn equal_claims()
     ensures same { (c d : Claim) → (same_claim c d ≡ true) ↔ (c ≡ d) }
-    ensures told { (c : Claim) (told : Told) → (is_told c told ≡ true) ↔ (told ≡ Told.Claim c) }
+    ensures told { (c : Claim) (told : Told)
+        → (is_told c told ≡ true) ↔ (told ≡ Told.Claim c) }
 {}
 
 /// Of 2f + 1 ports, at most one claim is told by f + 1. A reader has 2f + 1 ports.

@@ -1,8 +1,8 @@
 //! The vote of a reader over its ports.
 //!
 //! A plant has 2f + 1 generators, and each reader a port for each. As at most f of them send untrue
-//! frames, a claim that f + 1 ports tell is true: [`vote`] gives it. The vote is defined by counting,
-//! in `specs/Vote.antt`. That f is 1 or 2 is this project's profile.
+//! frames, a claim that f + 1 ports tell is true: [`vote`] gives it. The vote is defined by
+//! counting, in `specs/Vote.antt`. That f is 1 or 2 is this project's profile.
 #![tactic(auto)]
 
 mod laws;

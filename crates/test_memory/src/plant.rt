@@ -1,5 +1,5 @@
-//! A plant: a call that finds no memory is made once more, and the log comes out the same, since a call
-//! that was refused has changed nothing.
+//! A plant: a call that finds no memory is made once more, and the log comes out the same, since a
+//! call that was refused has changed nothing.
 
 ghost use Rattle.irig_reader.specs.Rules.{IsReaderRules};
 ghost use Rattle.irig_plant.specs.Sound.{IsSound};

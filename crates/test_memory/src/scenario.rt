@@ -1,5 +1,5 @@
-//! A scenario: where memory was wanted, what was written is a front of its text, and once more run it
-//! comes out whole.
+//! A scenario: where memory was wanted, what was written is a front of its text, and once more run
+//! it comes out whole.
 
 use irig_device::Watched;
 use irig_scene::{Outcome, SceneFault, run_scene};

@@ -1,5 +1,5 @@
 use irig_hold::*;
-use irig_time::{Claim, LAST_DAY, Leap, LeapTable, Mark, UtcSecond, valid};
+use irig_time::{Claim, Leap, LeapTable, Mark, UtcSecond, valid};
 use std::process::Abort;
 use std::test::*;
 
@@ -42,22 +42,6 @@ fn a_hold_goes_on_by_votes_and_for_a_while_alone(rt: HostRuntime) -> Result<(), 
     assert!(rt; hold.voted(vote, &table) == Turn::Now(second(JUNE, 43205)));
     assert!(rt; hold.alone(1, &table) == Turn::Now(second(JUNE, 43206)));
     assert!(rt; hold.now() == second(JUNE, 43206));
-    Ok(())
-}
-
-#[test]
-fn a_month_does_not_end_on_nothing_said(rt: HostRuntime) -> Result<(), Fail> {
-    let table = LeapTable::empty();
-    let mut hold = started(&rt, claim(DECEMBER, 86396, Mark::Unspoken), &table)?;
-    assert!(rt; hold.alone(9, &table) == Turn::Now(second(DECEMBER, 86398)));
-    let silent = claim(DECEMBER, 86398, Mark::Unspoken);
-    assert!(rt; hold.alone(9, &table) == Turn::LeapGuard);
-    assert!(rt; hold.voted(silent, &table) == Turn::LeapGuard);
-    assert!(rt; hold.now() == second(DECEMBER, 86398));
-    assert!(rt; started(&rt, silent, &table) == Err(Turn::LeapGuard));
-    let told = claim(DECEMBER, 86398, Mark::NoLeap);
-    assert!(rt; hold.voted(told, &table) == Turn::Now(second(DECEMBER, 86399)));
-    assert!(rt; hold.alone(9, &table) == Turn::Now(second(DECEMBER + 1, 0)));
     Ok(())
 }
 

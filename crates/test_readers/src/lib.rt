@@ -7,5 +7,10 @@
 mod holds;
 #[cfg(test)]
 mod plants;
+mod ports;
+#[cfg(test)]
+mod readers;
 #[cfg(test)]
 mod votes;
+
+pub use ports::tells;

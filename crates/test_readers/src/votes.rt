@@ -1,3 +1,4 @@
+use crate::tells;
 use irig_port::{PortFault, Told};
 use irig_time::{Claim, Mark, UtcSecond};
 use irig_vote::*;
@@ -16,11 +17,6 @@ const SILENT: Told = Told::Silence;
 const FAULTY: Told = Told::Fault(PortFault::Parity);
 
 const POOR: Told = Told::Poor(10);
-
-fn tells(ports: [Told; 5]) -> Tells {
-    let [a, b, c, d, e] = ports;
-    Tells { a, b, c, d, e }
-}
 
 #[test]
 fn two_of_three_are_a_vote_and_one_is_none(rt: HostRuntime) {
@@ -50,30 +46,6 @@ fn two_of_three_are_a_vote_and_one_is_none(rt: HostRuntime) {
             let ports = tells([a, b, c, other, other]);
             assert!(rt; vote(&ports, Redundancy::Three) == expected, "{ports:?}");
         }
-    }
-}
-
-#[test]
-fn three_of_five_are_a_vote_and_two_are_none(rt: HostRuntime) {
-    let insert = claim(86350, Mark::Insert);
-    let yes = Told::Claim(insert);
-    let early = Told::Claim(claim(86349, Mark::Insert));
-    let unmarked = Told::Claim(claim(86350, Mark::NoLeap));
-    let rows = [
-        ([yes, yes, yes, yes, yes], Some(insert)),
-        ([yes, yes, yes, early, early], Some(insert)),
-        ([early, early, yes, yes, yes], Some(insert)),
-        ([yes, SILENT, yes, FAULTY, yes], Some(insert)),
-        ([unmarked, yes, unmarked, yes, yes], Some(insert)),
-        ([yes, yes, SILENT, SILENT, SILENT], None),
-        ([yes, yes, early, early, SILENT], None),
-        ([yes, yes, unmarked, unmarked, POOR], None),
-        ([SILENT, SILENT, SILENT, SILENT, yes], None),
-        ([POOR, POOR, POOR, FAULTY, FAULTY], None),
-    ];
-    for (ports, expected) in rows {
-        let ports = tells(ports);
-        assert!(rt; vote(&ports, Redundancy::Five) == expected, "{ports:?}");
     }
 }
 

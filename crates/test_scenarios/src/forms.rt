@@ -1,6 +1,4 @@
-ghost use Rattle.std.specs.Prelude.{◌≤◌, length, IfOk};
-
-use indexmap::IndexSet;
+use crate::two_names;
 use irig_control::Parity;
 use irig_forms::{
     Key, Kind, LineFault, Refusal, few_items, has_form, integer_at, items_at, key, leap_at,
@@ -9,8 +7,6 @@ use irig_forms::{
 };
 use irig_gen::GenRefusal;
 use irig_time::{Leap, SbsUse, Sense, TableFault, TimelineFault};
-use serde_json::Value;
-use std::alloc::Global;
 use std::test::Fail;
 
 const G: Key = key!("g": Kind::Natural(1, 255));
@@ -27,19 +23,9 @@ const NUMBERS: Key = key!("l": Kind::Naturals(2, 5));
 
 const DST: Key = optional_key!("dst": Kind::Truth);
 
-/// Two readers, `r1` and `r2`.
-fn readers(alloc: Global) -> Result<IndexSet<String>, Fail>
-    ensures { IfOk result (λ names. length names.keys ≤ 16) }
-{
-    let mut names = IndexSet::new(alloc);
-    names.insert(String::from_str(alloc, "r1")?)?;
-    names.insert(String::from_str(alloc, "r2")?)?;
-    Ok(names)
-}
-
 #[test]
 fn a_value_stands_at_its_key(rt: HostRuntime) -> Result<(), Fail> {
-    let names = readers(rt.alloc())?;
+    let names = two_names(rt.alloc())?;
     let Ok(value) = value_of(
         rt.alloc(),
         br#"{"g":255,"r":"r2","by":-62,"leap":"delete","l":[0,5]}"#,
@@ -57,44 +43,6 @@ fn a_value_stands_at_its_key(rt: HostRuntime) -> Result<(), Fail> {
     assert!(rt; items.len() == 2 && few_items(FEW.kind, items).is_some());
     let numbers = naturals_at(rt.alloc(), NUMBERS, &value);
     assert!(rt; numbers.is_ok_and(|numbers| numbers.as_slice() == [0, 5].as_slice()));
-    Ok(())
-}
-
-#[test]
-fn a_value_may_be_out_of_its_range(rt: HostRuntime) -> Result<(), Fail> {
-    let names = readers(rt.alloc())?;
-    let value = Value::from_str(
-        rt.alloc(),
-        r#"{"g":0,"r":"r9","by":63,"leap":"none","l":[5,6]}"#,
-    )?;
-    assert!(rt; has_form(&[G, R, BY, LEAP, NUMBERS], &value));
-    assert!(rt; natural_at(G, &value).is_none() && integer_at(BY, &value).is_none());
-    assert!(rt; leap_at(LEAP, &value).is_none() && reader_at(&names, R, &value).is_none());
-    let refused = Some(LineFault::Refused(Refusal::Value));
-    assert!(rt; naturals_at(rt.alloc(), NUMBERS, &value).err() == refused);
-    let many = Value::from_str(rt.alloc(), r#"{"l":[0,0,0]}"#)?;
-    assert!(rt; naturals_at(rt.alloc(), NUMBERS, &many).err() == refused);
-    let items = items_at(&many, "l").unwrap_or(&[]);
-    assert!(rt; items.len() == 3 && few_items(FEW.kind, items).is_none());
-    Ok(())
-}
-
-#[test]
-fn an_object_has_the_keys_of_its_form(rt: HostRuntime) -> Result<(), Fail> {
-    let value = Value::from_str(rt.alloc(), r#"{"g":256,"r":"r9"}"#)?;
-    assert!(rt; has_form(&[G, R, DST], &value));
-    assert!(rt; !has_form(&[G], &value));
-    assert!(rt; !has_form(&[G, R, BY], &value));
-    assert!(rt; !has_form(&[G, key!("r": Kind::Truth)], &value));
-    Ok(())
-}
-
-#[test]
-fn a_line_may_be_no_json(rt: HostRuntime) -> Result<(), Fail> {
-    for line in [b"{\"g\":1".as_slice(), b"\xff".as_slice(), b"".as_slice()] {
-        let answer = value_of(rt.alloc(), line);
-        assert!(rt; answer.err() == Some(LineFault::Refused(Refusal::Json)));
-    }
     Ok(())
 }
 

@@ -1,26 +1,6 @@
-ghost use Rattle.std.specs.Prelude.{◌≤◌, length, IfOk};
-
-use indexmap::IndexSet;
-use irig_forms::{LineFault, Refusal};
+use crate::two_names;
 use irig_scenario::{event_of_line, second_of};
-use std::alloc::Global;
 use std::test::Fail;
-
-/// Two readers, `r1` and `r2`.
-fn readers(alloc: Global) -> Result<IndexSet<String>, Fail>
-    ensures { IfOk result (λ names. length names.keys ≤ 16) }
-{
-    let mut names = IndexSet::new(alloc);
-    names.insert(String::from_str(alloc, "r1")?)?;
-    names.insert(String::from_str(alloc, "r2")?)?;
-    Ok(names)
-}
-
-/// What is refused of a line.
-fn refusal_of(alloc: Global, line: &[u8]) -> Result<Option<LineFault>, Fail> {
-    let names = readers(alloc)?;
-    Ok(event_of_line(alloc, &names, line).err())
-}
 
 #[test]
 fn a_line_is_its_event(rt: HostRuntime) -> Result<(), Fail> {
@@ -53,71 +33,13 @@ fn a_line_is_its_event(rt: HostRuntime) -> Result<(), Fail> {
         (r#"{"do":"seconds","n":0}"#, "Seconds(0)"),
         (r#"{"do":"seconds","n":100000}"#, "Seconds(100000)"),
     ];
-    let names = readers(rt.alloc())?;
+    let names = two_names(rt.alloc())?;
     for (line, event) in rows {
         let answer = event_of_line(rt.alloc(), &names, line.as_bytes());
         let shown = format!(in rt.alloc(); "{answer:?}")?;
         let wanted = format!(in rt.alloc(); "Ok({event})")?;
         assert!(rt; shown == wanted, "{shown}");
     }
-    Ok(())
-}
-
-/// Whether each of these lines is refused so.
-fn are_refused(alloc: Global, lines: &[&str], refusal: Refusal) -> Result<bool, Fail> {
-    for line in lines {
-        if refusal_of(alloc, line.as_bytes())? != Some(LineFault::Refused(refusal)) {
-            return Ok(false);
-        }
-    }
-    Ok(true)
-}
-
-/// A line with so many widths more than one.
-fn raw_line(alloc: Global, further: usize) -> Result<String, Fail> {
-    let mut line = String::from_str(alloc, r#"{"do":"raw","g":1,"r":"r1","widths":[2000"#)?;
-    for _ in 0..further {
-        line.push_str(",5000")?;
-    }
-    line.push_str("]}")?;
-    Ok(line)
-}
-
-#[test]
-fn a_line_has_at_most_a_thousand_widths(rt: HostRuntime) -> Result<(), Fail> {
-    let line = raw_line(rt.alloc(), 999)?;
-    assert!(rt; refusal_of(rt.alloc(), line.as_bytes())?.is_none());
-    let line = raw_line(rt.alloc(), 1000)?;
-    assert!(rt; are_refused(rt.alloc(), &[line.as_str()], Refusal::Value)?);
-    Ok(())
-}
-
-#[test]
-fn a_line_is_refused_for_its_shape_then_its_values_then_its_name(
-    rt: HostRuntime,
-) -> Result<(), Fail> {
-    let shapes = [
-        r#"{"do":"damage","g":256,"r":"r9","at":9,"width":"2000"}"#,
-        r#"{"do":"carry","g":256,"r":1}"#,
-        r#"{"do":"raw","g":256,"r":"r9","widths":[4294967296,null]}"#,
-        r#"{"do":"fault","g":256,"kind":"loud"}"#,
-    ];
-    let values = [
-        r#"{"do":"carry","g":256,"r":"r9"}"#,
-        r#"{"do":"damage","g":1,"r":"r9","at":9,"width":4294967296}"#,
-        r#"{"do":"raw","g":1,"r":"r9","widths":[4294967296]}"#,
-    ];
-    let names = [
-        r#"{"do":"tick","r":"r9"}"#,
-        r#"{"do":"carry","g":1,"r":""}"#,
-        r#"{"do":"damage","g":1,"r":"West","at":9,"width":2000}"#,
-        r#"{"do":"replay","g":1,"r":"r","edge":0}"#,
-        r#"{"do":"raw","g":1,"r":"r11","widths":[]}"#,
-        r#"{"do":"restart","r":"r3"}"#,
-    ];
-    assert!(rt; are_refused(rt.alloc(), &shapes, Refusal::Shape)?);
-    assert!(rt; are_refused(rt.alloc(), &values, Refusal::Value)?);
-    assert!(rt; are_refused(rt.alloc(), &names, Refusal::NoSuchReader)?);
     Ok(())
 }
 

@@ -79,15 +79,6 @@ fn is_refused<R: BufRead + Drop>(
 }
 
 #[test]
-fn a_plant_line_that_is_cut_is_no_json(rt: HostRuntime) {
-    for count in 1..PLAIN.len() {
-        let cut = PLAIN.as_bytes().take(count as u64);
-        let json = "refused: line 1: 24 Json\n";
-        assert!(rt; is_refused(rt.alloc(), cut, (1, 24), json), "{count} bytes");
-    }
-}
-
-#[test]
 fn a_line_above_the_greatest_length_is_refused(rt: HostRuntime) {
     let longest = Endless(b' ').take(65_536).chain(b"\n".as_slice());
     let mut written = Vec::new(rt.alloc());
@@ -99,15 +90,6 @@ fn a_line_above_the_greatest_length_is_refused(rt: HostRuntime) {
     let longer = Endless(b' ').take(65_537).chain(b"\n".as_slice());
     assert!(rt; is_refused(rt.alloc(), longer, (1, 23), text));
     assert!(rt; is_refused(rt.alloc(), Endless(b'x'), (1, 23), text));
-}
-
-#[test]
-fn a_line_above_the_greatest_number_is_refused(rt: HostRuntime) {
-    let lines = Endless(b'\n').take(1_000_000);
-    let no_plant = "refused: line 1000001: 29 NoPlant\n";
-    assert!(rt; is_refused(rt.alloc(), lines, (1_000_001, 29), no_plant));
-    let many = "refused: line 1000001: 30 TooManyLines\n";
-    assert!(rt; is_refused(rt.alloc(), Endless(b'\n'), (1_000_001, 30), many));
 }
 
 // Whether a run whose input breaks after so many bytes leaves the text of the whole lines among
@@ -180,19 +162,6 @@ fn a_write_that_breaks_leaves_a_front_of_the_text(rt: HostRuntime) -> Result<(),
             assert!(rt; leaves, "{calls} bytes, {how:?}");
         }
     }
-    Ok(())
-}
-
-#[test]
-fn a_long_run_ends_as_it_began(rt: HostRuntime) -> Result<(), Fail> {
-    let scenario = format!(in rt.alloc(); "{PLAIN}\n{{\"do\":\"seconds\",\"n\":10000}}")?;
-    let mut written = Vec::new(rt.alloc());
-    let answer = answer_of(rt.alloc(), scenario.as_bytes(), &mut written);
-    assert!(rt; answer.is_ok());
-    let lines = written.iter().filter(|byte| **byte == b'\n').count();
-    assert_eq!(rt; lines, 10_000);
-    let end = b"\n10000 r1 2016-06-15T14:46:40Z locked voted\npremises kept\n";
-    assert!(rt; written.ends_with(end.as_slice()));
     Ok(())
 }
 

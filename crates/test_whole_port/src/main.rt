@@ -1,12 +1,9 @@
 //! A scenario over ports that keep each symbol, in place of those that keep running sums.
 //!
 //! It runs the scenario on standard input and writes its log to standard output; with a word on the
-//! command line it shows silent entries too. What it writes has to be what the program `irig` writes, as
-//! the repository's `check` compares for each case.
+//! command line it shows silent entries too. What it writes has to be what the program `irig`
+//! writes, as the repository's `check` compares for each case.
 #![tactic(auto)]
-
-#[cfg(test)]
-mod tests;
 
 use irig_device::Watched;
 use irig_port::WholePort;
