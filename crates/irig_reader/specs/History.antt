@@ -46,8 +46,8 @@ new_history rules own table redundancy = record {
 }
 
 -- what was fed to a port since it was last empty
-abbrev pub fed_at : Fed → ℕ → List ℕ
-fed_at fed port =
+abbrev pub fed_to : Fed → ℕ → List ℕ
+fed_to fed port =
     if port == 0 then fed.a
     else (if port == 1 then fed.b
     else (if port == 2 then fed.c

@@ -43,7 +43,7 @@ pub struct Reader<P: Port> {
 }
 
 impl<P: Port> Reader<P> {
-    ghost use Rattle.irig_reader.specs.History.{new_history, after_pulse, after_pulses, told_at_tick, report_at_tick, after_tick, after_restart, fed_at};
+    ghost use Rattle.irig_reader.specs.History.{new_history, after_pulse, after_pulses, told_at_tick, report_at_tick, after_tick, after_restart, fed_to};
     ghost use Rattle.irig_reader.specs.Readers.{Advances, ForReaderHistory, HasReaderHistory};
 
     /// A reader to which nothing has happened, with rules that are [`in_range`](crate::in_range).
@@ -100,7 +100,7 @@ impl<P: Port> Reader<P> {
     pub fn take_over(&mut self, port: u8, heard: &mut P) -> bool
         requires { port < ports_in self.old.redundancy }
         ensures answer { ForReaderHistory self.old (λ h.
-            result ≡ (length (fed_at h.fed port) == 0)) }
+            result ≡ (length (fed_to h.fed port) == 0)) }
         ensures fed { result ≡ true → (rules : Rules) (widths : List ℕ)
             → P.stands_for heard.old rules (symbols_heard widths)
             → Advances self.old self.new (λ h. after_pulses h port widths) }
