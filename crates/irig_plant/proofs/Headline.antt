@@ -1,6 +1,6 @@
 -- Readers whose ports were kept and whose tables are true stand at the truth, and so their entries
 -- announce it.
-use Rattle.std.proofs.Common.{◌≡◌, ◌==◌, ℕ, ◌+◌, ◌<◌, ◌≤◌, false, List, [], ◌∷◌, Option, Some, None, get_or, refl, sym, ap, subst, ◌∙◌, arith, inl, inr, ◌⊎◌, eqb-true}
+use Rattle.std.proofs.Common.{◌≡◌, ◌↔◌, ◌==◌, ℕ, ◌+◌, ◌<◌, ◌≤◌, false, List, [], ◌∷◌, ◌++◌, Option, Some, None, get_or, refl, sym, ap, subst, ◌∙◌, arith, inl, inr, ◌⊎◌, eqb-true}
 use Rattle.std.specs.Prelude.{All}
 use Rattle.std.proofs.lemmas.Bool.{cases_Bool}
 use Rattle.std.proofs.lemmas.List.Elements.{All-nil, All-push}
@@ -39,6 +39,22 @@ kept_before s r n e ev kept = record { ticks = λ later earlier is low. kept.tic
 
 pub kept_now : (s : Setup) (r n : ℕ) (ev : List Event) → IsKeptUpTo s r n (Tick r ∷ ev) → ticks_of r ev < n → is_broken_now s r ev ≡ false
 kept_now s r n ev kept low = kept.ticks [] ev refl low
+
+-- an event that is no tick of r up to its n-th adds nothing to it
+kept_after : (s : Setup) (r n : ℕ) (e : Event) (ev : List Event) → (e ≡ Tick r → n ≤ ticks_of r ev) → IsKeptUpTo s r n ev → IsKeptUpTo s r n (e ∷ ev)
+kept_after s r n e ev late kept = record { ticks = at }
+  where
+    at : (later earlier : List Event) → e ∷ ev ≡ later ++ (Tick r ∷ earlier) → ticks_of r earlier < n → is_broken_now s r earlier ≡ false
+    at [] earlier is low =
+        let tick : e ≡ Tick r = cc in
+        let rest : ev ≡ earlier = cc in
+        absurd (omega (arith, late tick, low, ap (ticks_of r) rest))
+    at (x ∷ later) earlier is low =
+        let rest : ev ≡ later ++ (Tick r ∷ earlier) = cc in
+        kept.ticks later earlier rest low
+
+pub harmless : (s : Setup) (r n : ℕ) (e : Event) (ev : List Event) → (e ≡ Tick r → n ≤ ticks_of r ev) → IsKeptUpTo s r n (e ∷ ev) ↔ IsKeptUpTo s r n ev
+harmless s r n e ev late = (kept_before s r n e ev, kept_after s r n e ev late)
 
 -- ---- where a reader stands
 

@@ -19,7 +19,7 @@ use Rattle.irig_plant.specs.Audits.{differs, is_untrue, untrue_ports, is_broken_
 untrue-cons : (truth : Option Claim) (t : Told) (ts : List Told) → untrue_ports truth (t ∷ ts) ≡ cond (is_untrue truth t) 1 0 + untrue_ports truth ts
 untrue-cons truth t ts = sum_by-cons (λ u. cond (is_untrue truth u) 1 0) t ts
 
-one_of : (b : Bool) → b ≡ true → ◌≡◌ {A = ℕ} (cond b 1 0) 1
+pub one_of : (b : Bool) → b ≡ true → ◌≡◌ {A = ℕ} (cond b 1 0) 1
 one_of b e = rw e refl
 
 -- ports that tell a claim which isn't the true one are untrue
@@ -33,7 +33,7 @@ carriers_untrue truth c (t ∷ ts) other =
       | inr silent ↦ omega (arith, carriers-cons c t ts, untrue-cons truth t ts, none_of (is_told c t) silent, carriers_untrue truth c ts other)
     ]
 
-the_same : (truth : Option Claim) (c : Claim) → differs truth c ≡ false → truth ≡ Some c
+pub the_same : (truth : Option Claim) (c : Claim) → differs truth c ≡ false → truth ≡ Some c
 the_same None c e = absurd cc
 the_same (Some truth) c e =
     elim (cases_Bool (same_claim c truth)) [

@@ -10,7 +10,7 @@ use Rattle.irig_hold.specs.Truth.{IsTrueTable}
 use Rattle.irig_plant.specs.declared.event.Event.{Event}
 use Rattle.irig_plant.specs.declared.setup.ReaderSetup.{ReaderSetup}
 use Rattle.irig_plant.specs.Schedule.{Setup, setup_at, log_of}
-use Rattle.irig_plant.specs.Headline.{HasTrueTable, IsKept, EndsServed, IsTruthful}
+use Rattle.irig_plant.specs.Headline.{HasTrueTable, IsKept, IsTruthful}
 use Rattle.irig_plant.proofs.TableLaws.{true_by_test}
 use Rattle.irig_plant.proofs.Headline.{log_is_true}
 
@@ -29,14 +29,14 @@ starts_late t h =
 empty_true : (t : TimelineValue) → 1 ≤ t.start.day → IsTrueTable t (table 0 [])
 empty_true t late = record { leaps = λ day end from to. absurd (omega (arith, late, from, to)) }
 
-table_true : (t : TimelineValue) (readers : List ReaderSetup) (r : ℕ) → 1 ≤ t.start.day → All EndsServed readers → All (HasTrueTable t) readers → IsTrueTable t (setup_at readers r).table
-table_true t [] r late ends tables = empty_true t late
-table_true t (x ∷ xs) zero late ends tables = true_by_test t x.table (All-head EndsServed x xs ends) (All-head (HasTrueTable t) x xs tables)
-table_true t (x ∷ xs) (suc r) late ends tables = table_true t xs r late (All-tail EndsServed x xs ends) (All-tail (HasTrueTable t) x xs tables)
+table_true : (t : TimelineValue) (readers : List ReaderSetup) (r : ℕ) → 1 ≤ t.start.day → All (HasTrueTable t) readers → IsTrueTable t (setup_at readers r).table
+table_true t [] r late tables = empty_true t late
+table_true t (x ∷ xs) zero late tables = true_by_test t x.table (All-head (HasTrueTable t) x xs tables)
+table_true t (x ∷ xs) (suc r) late tables = table_true t xs r late (All-tail (HasTrueTable t) x xs tables)
 
-pub kept_log_is_true : (s : Setup) (ev : List Event) → IsTimeline s.times → All EndsServed s.readers → IsKept s ev → All (IsTruthful s.times) (log_of s ev)
-kept_log_is_true s ev sound ends kept = λ k d lt.
+pub kept_log_is_true : (s : Setup) (ev : List Event) → IsTimeline s.times → IsKept s ev → All (IsTruthful s.times) (log_of s ev)
+kept_log_is_true s ev sound kept = λ k d lt.
     record {
       second = λ u announces. (log_is_true s ev sound k d lt).second
-          (record { true_table = table_true s.times s.readers _ (starts_late s.times sound) ends kept.tables; kept = kept.ticks _ _ }) u announces;
+          (record { true_table = table_true s.times s.readers _ (starts_late s.times sound) kept.tables; kept = kept.ticks _ _ }) u announces;
     }

@@ -8,6 +8,7 @@ pub mod HeadlineVotes
 pub mod HeadlineRule
 pub mod Headline
 pub mod AuditLaws
+pub mod PortLaws
 pub mod EdgeLaws
 pub mod HeldMarks
 pub mod TickLaws

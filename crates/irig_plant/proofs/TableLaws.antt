@@ -9,6 +9,7 @@ use Rattle.irig_time.specs.declared.leap.Leap.TheVariants.{Insert, Delete}
 use Rattle.irig_time.specs.Days.{is_month_end}
 use Rattle.irig_time.specs.Timelines.{TimelineValue, leap_of, mark_by}
 use Rattle.irig_time.specs.Tables.{TableValue}
+use Rattle.irig_time.proofs.MonthEnds.{month_end_served}
 use Rattle.irig_hold.specs.Truth.{IsTrueTable}
 use Rattle.irig_plant.specs.Audits.{agrees, agrees_on, is_true_table}
 
@@ -38,10 +39,11 @@ day_agrees t table day h from =
       ]
     ]
 
-pub true_by_test : (t : TimelineValue) (table : TableValue) → table.until ≤ 36523 → is_true_table t table ≡ true → IsTrueTable t table
+pub true_by_test : (t : TimelineValue) (table : TableValue) → is_true_table t table ≡ true → IsTrueTable t table
 unfolding is_true_table
-true_by_test t table served h = record {
+true_by_test t table h = record {
   leaps = λ day e from to.
+      let served = month_end_served day e in
       let days = range_with_len t.start.day (36524 - t.start.day) in
       let i = day - t.start.day in
       let long = length-range_with_len t.start.day (36524 - t.start.day) in

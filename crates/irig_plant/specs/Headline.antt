@@ -1,8 +1,7 @@
 -- The headline: what readers announce is the truth, where the premises hold.
 -- Source: docs/HEADLINE.md.
-use Rattle.std.specs.Prelude.{◌≡◌, ℕ, ◌<◌, ◌≤◌, true, false, List, ◌∷◌, ◌++◌, Some, None, All, ⊤}
+use Rattle.std.specs.Prelude.{◌≡◌, ℕ, ◌<◌, true, false, List, ◌∷◌, ◌++◌, Some, None, All, ⊤}
 use Rattle.irig_time.specs.declared.second.UtcSecond.{UtcSecond}
-use Rattle.irig_time.specs.declared.second.TheConstants.{LAST_DAY}
 use Rattle.irig_time.specs.Timelines.{TimelineValue, second_at}
 use Rattle.irig_hold.specs.Truth.{IsTrueTable, IsOnTime}
 use Rattle.irig_reader.specs.declared.report.Cause.TheVariants.{Jump, RangeEnd, LeapGuard}
@@ -58,7 +57,3 @@ pub record GivesNoFalseAlarm (s : Setup) (ev : List Event) (e : Entry) : Type 0 
 -- an entry announces T of its edge, or nothing, without a premise
 pub record IsTruthful (t : TimelineValue) (e : Entry) : Type 0 where
   pub second : (u : UtcSecond) → e.report.announce ≡ Some u → second_at t e.edge ≡ Some u
-
--- the reader's table ends with a day that is served
-abbrev pub EndsServed : ReaderSetup → Type 0
-EndsServed x = x.table.until ≤ LAST_DAY

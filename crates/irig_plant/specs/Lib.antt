@@ -6,5 +6,6 @@ pub mod Runs
 pub mod Audits
 pub mod Edges
 pub mod Headline
+pub mod Ports
 pub mod Exactly
 pub mod History

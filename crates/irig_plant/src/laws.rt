@@ -1,7 +1,6 @@
 //! Laws of plants over their definitions. They have no code.
 
-ghost use Rattle.std.specs.Prelude.{◌≡◌, ◌≤◌, ◌↔◌, ◌⊎◌, true, false, ℕ, Some, None, List, All, is_some};
-ghost use Rattle.irig_time.specs.declared.second.TheConstants.{LAST_DAY};
+ghost use Rattle.std.specs.Prelude.{◌≡◌, ◌+◌, ◌≤◌, ◌↔◌, ◌⊎◌, true, false, ℕ, Some, None, List, ◌∷◌, All, is_some};
 ghost use Rattle.irig_time.specs.Timelines.{TimelineValue, truth_at};
 ghost use Rattle.irig_time.specs.TimelineFaults.{IsTimeline};
 ghost use Rattle.irig_time.specs.Tables.{TableValue};
@@ -11,8 +10,9 @@ ghost use Rattle.irig_reader.specs.Rule.{state_of};
 ghost use Rattle.irig_plant.specs.Schedule.{Setup, setup_at, ticks_of, votes_of, history_of, log_of};
 ghost use Rattle.irig_plant.specs.Audits.{is_true_table, is_broken_now, audit_of};
 ghost use Rattle.irig_plant.specs.Edges.{CanLock, is_voted_now, is_voted, is_restarted, IsVoted, IsRestarted};
+ghost use Rattle.irig_plant.specs.Ports.{AtLeast, AtMost, f_in, IsTruePort, IsUntruePort};
 ghost use Rattle.irig_plant.specs.Exactly.{AnnouncesWhenHeld, HasItsLock, HasItsCause};
-ghost use Rattle.irig_plant.specs.Headline.{HasPremises, IsKeptUpTo, IsKept, StandsAtTruth, AnnouncesTruth, GivesNoFalseAlarm, EndsServed, IsTruthful};
+ghost use Rattle.irig_plant.specs.Headline.{HasPremises, IsKeptUpTo, IsKept, StandsAtTruth, AnnouncesTruth, GivesNoFalseAlarm, IsTruthful};
 ghost use Rattle.irig_plant.specs.History.{PlantHistory, HasPlantHistory};
 
 use crate::audit::Audit;
@@ -31,12 +31,27 @@ pub fn equal_logs<P: Port, Q: Port>(one: &Plant<P>, other: &Plant<Q>)
         → one.now.audit ≡ other.now.audit }
 {}
 
-/// A table that ends with a day that is served passes the audit's test exactly if it is true: from
-/// the timeline's first day on it has at each month's end the leap that the timeline has, as far as
-/// it goes.
+/// A table passes the audit's test exactly if it is true: from the timeline's first day on it has
+/// at each month's end the leap that the timeline has, as far as it goes.
 pub fn true_tables()
-    ensures { (t : TimelineValue) (table : TableValue) → table.until ≤ LAST_DAY
+    ensures { (t : TimelineValue) (table : TableValue)
         → (is_true_table t table ≡ true) ↔ IsTrueTable t table }
+{}
+
+/// A tick is broken exactly if at least f + 1 ports of the reader heard what carries an untrue
+/// claim, and is not broken exactly if at most f of them did.
+pub fn broken_ports()
+    ensures broken { (s : Setup) (r : ℕ) (ev : List Event)
+        → (is_broken_now s r ev ≡ true) ↔ AtLeast (f_in s + 1) (IsUntruePort s r ev) }
+    ensures kept { (s : Setup) (r : ℕ) (ev : List Event)
+        → (is_broken_now s r ev ≡ false) ↔ AtMost (f_in s) (IsUntruePort s r ev) }
+{}
+
+/// An edge is voted exactly if at least f + 1 ports of the reader heard what carries a claim that
+/// is true there.
+pub fn voted_ports()
+    ensures { (s : Setup) (r : ℕ) (ev : List Event)
+        → (is_voted_now s r ev ≡ true) ↔ AtLeast (f_in s + 1) (IsTruePort s r ev) }
 {}
 
 /// If at most f ports of a reader tell an untrue claim at a tick, there is no vote, or it is for
@@ -56,6 +71,14 @@ pub fn readers_keep_to_the_truth()
         (state_of (setup_at s.readers r).rules (setup_at s.readers r).table (votes_of s r ev)) }
 {}
 
+/// No harm: an event that is no tick of reader r up to its n-th, as a tick of another reader or a
+/// later one, leaves the premise of r's n-th tick as it was.
+pub fn harmless()
+    ensures { (s : Setup) (r n : ℕ) (e : Event) (ev : List Event)
+        → (e ≡ Event.Tick r → n ≤ ticks_of r ev)
+        → IsKeptUpTo s r n (e ∷ ev) ↔ IsKeptUpTo s r n ev }
+{}
+
 /// The headline: an entry announces the second of its edge, or nothing, if its reader's table is
 /// true and at each tick so far at most f of its reader's ports told an untrue claim.
 pub fn announcements_are_true()
@@ -63,11 +86,10 @@ pub fn announcements_are_true()
         → All (AnnouncesTruth s ev) (log_of s ev) }
 {}
 
-/// The whole log is true, if the premises hold for all readers and ticks, and each table ends with
-/// a day that is served.
+/// The whole log is true, if the premises hold for all readers and ticks.
 pub fn kept_logs_are_true()
-    ensures { (s : Setup) (ev : List Event) → IsTimeline s.times → All EndsServed s.readers
-        → IsKept s ev → All (IsTruthful s.times) (log_of s ev) }
+    ensures { (s : Setup) (ev : List Event) → IsTimeline s.times → IsKept s ev
+        → All (IsTruthful s.times) (log_of s ev) }
 {}
 
 /// Two entries of the same edge announce the same second, whatever their readers, if the premises

@@ -25,9 +25,9 @@ pub use event::{Event, Widths};
 pub use fault::{PlantFault, Refused};
 pub use laws::{
     announcements_agree, announcements_are_true, announcements_tell_their_lock,
-    announces_exactly_when_held, audit_is_kept, edges_are_voted, equal_logs, kept_logs_are_true,
-    no_false_alarms, readers_keep_to_the_truth, silences_tell_their_cause, true_tables,
-    votes_are_at_voted_edges, votes_are_true,
+    announces_exactly_when_held, audit_is_kept, broken_ports, edges_are_voted, equal_logs,
+    harmless, kept_logs_are_true, no_false_alarms, readers_keep_to_the_truth,
+    silences_tell_their_cause, true_tables, voted_ports, votes_are_at_voted_edges, votes_are_true,
 };
 pub use plant::Plant;
 pub use setup::ReaderSetup;

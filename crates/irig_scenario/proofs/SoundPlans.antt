@@ -1,45 +1,35 @@
 -- What a plant line that is not refused says of its plant.
-use Rattle.std.proofs.Common.{◌≡◌, ℕ, Bool, true, false, cond, List, [], ◌∷◌, ◌++◌, map, length, All, Option, Some, None, Result, Ok, Err, refl, subst, rules, nat_lt, ℤ, codes}
+use Rattle.std.proofs.Common.{◌≡◌, ℕ, Bool, true, false, cond, List, [], ◌∷◌, ◌++◌, map, Option, Some, None, Result, Ok, Err, refl, subst, nat_lt, ℤ, codes}
 use Rattle.std.specs.Prelude.{option_and_then, is_some}
-use Rattle.std.specs.Option.{option_or, option_map}
-use Rattle.std.proofs.lemmas.List.Elements.{All-nil, All-cons}
+use Rattle.std.specs.Option.{option_or}
 use Rattle.irig_time.specs.declared.second.UtcSecond.{UtcSecond}
 use Rattle.irig_time.specs.declared.leap.Leap.{Leap}
 use Rattle.irig_time.specs.declared.timeline.TimelineFault.{TimelineFault}
 use Rattle.irig_time.specs.declared.timeline.TimelineFault.TheVariants as timeline
 use Rattle.irig_time.specs.Days.{is_month_end}
 use Rattle.irig_time.specs.Timelines.{leap_of, day_length}
-use Rattle.irig_time.specs.declared.table.TableFault.{TableFault}
-use Rattle.irig_time.specs.declared.table.TableFault.TheVariants as table
-use Rattle.irig_time.specs.Tables.{first_entry_fault}
 use Rattle.irig_time.specs.TimelineFaults.{leap_fault, first_leap_fault, start_fault, timeline_fault, IsTimeline}
 use Rattle.irig_forms.specs.declared.refusal.Refusal.{Refusal}
-use Rattle.irig_forms.specs.Refusals.{of_timeline, of_table}
-use Rattle.irig_scenario.specs.PlantValues.{PlantValues, ReaderValues, readers_in, plant_values}
+use Rattle.irig_forms.specs.Refusals.{of_timeline}
+use Rattle.irig_scenario.specs.PlantValues.{PlantValues, readers_in, plant_values}
 use Rattle.serde_json.specs.Data.{Data, Members}
 use Rattle.serde_json.specs.Find.{as_object}
-use Rattle.irig_plant.specs.Headline.{EndsServed}
 use Rattle.irig_scenario.specs.declared.plant_shape.Version.{Version}
 use Rattle.irig_forms.specs.declared.refusal.Refusal.TheVariants as refusal
 use Rattle.irig_forms.specs.Json.{◌>>=◌, or_else, holds_or, json_of, whole_at}
 use Rattle.irig_scenario.specs.PlantShape.{version_of, is_plant}
 use Rattle.irig_scenario.specs.Names.{names_in}
-use Rattle.irig_scenario.specs.PlantLine.{refusal_of, timeline_refusal, generator_refusal, reader_refusal, values_refusal, first_of, reader_with, setup_with, refused_or, setup_result, Plan, plan_in_line, plan_in_object}
+use Rattle.irig_scenario.specs.PlantLine.{refusal_of, timeline_refusal, generator_refusal, reader_refusal, values_refusal, first_of, setup_with, refused_or, setup_result, Plan, plan_in_line, plan_in_object}
 
--- a timeline without fault, and tables that end with a day that is served
+-- its timeline has no fault
 pub record IsSound (plan : Plan) : Type 0 where
   pub timeline : IsTimeline plan.setup.times
-  pub tables : All EndsServed plan.setup.readers
 
 -- ---- what a timeline is refused for is never want of memory
 
 neither_first : {A : Type 0} (o p : Option A) → option_or o p ≡ None → o ≡ None
 neither_first None p h = refl
 neither_first (Some a) p h = h
-
-neither_second : {A : Type 0} (o p : Option A) → option_or o p ≡ None → p ≡ None
-neither_second None p h = h
-neither_second (Some a) p h = absurd cc
 
 -- a fault with a number
 abbrev NamesFault : Option TimelineFault → Type 0
@@ -75,35 +65,10 @@ timeline_named start leaps =
 
 -- ---- what a plant line gives
 
-none_first : (o : Option Refusal) (os : List (Option Refusal)) → first_of (o ∷ os) ≡ None → (o ≡ None) × (first_of os ≡ None)
-none_first o os h = (neither_first o (first_of os) h, neither_second o (first_of os) h)
-
-none_later : (os ps : List (Option Refusal)) → first_of (os ++ ps) ≡ None → first_of ps ≡ None
-none_later [] ps h = h
-none_later (o ∷ os) ps h = none_later os ps (none_first o (os ++ ps) h).1
-
-table_end : (b c : Bool) (rest : Option TableFault) → option_map of_table (cond b (Some table.TableEnd) (cond c (Some table.TableLong) rest)) ≡ None → b ≡ false
-table_end true c rest h = absurd cc
-table_end false c rest h = refl
-
-served : (r : ReaderValues) → reader_refusal r ≡ None → EndsServed (reader_with r)
-served r h =
-    let test : nat_lt 36523 r.until ≡ false = table_end (nat_lt 36523 r.until) (nat_lt 64 (length r.leaps)) (first_entry_fault r.until [] r.leaps) h in
-    search rules
-
-all_served : (rs : List ReaderValues) → first_of (map reader_refusal rs) ≡ None → All EndsServed (map reader_with rs)
-all_served [] h = All-nil EndsServed
-all_served (r ∷ rs) h =
-    let both = none_first (reader_refusal r) (map reader_refusal rs) h in
-    All-cons EndsServed (reader_with r) (map reader_with rs) (served r both.0) (all_served rs both.1)
-
 sound_setup : (v : PlantValues) (names : List (List ℕ)) → values_refusal v ≡ None → IsSound (record { setup = setup_with v; names = names })
 sound_setup v names h =
-    let first = none_first (timeline_refusal v) (map generator_refusal v.generators ++ map reader_refusal v.readers) h in
-    record {
-      timeline = record { sound = timeline_named v.start v.leaps first.0 };
-      tables = all_served v.readers (none_later (map generator_refusal v.generators) (map reader_refusal v.readers) first.1);
-    }
+    let first = neither_first (timeline_refusal v) (first_of (map generator_refusal v.generators ++ map reader_refusal v.readers)) h in
+    record { timeline = record { sound = timeline_named v.start v.leaps first } }
 
 -- ---- one step of a plant line after another
 

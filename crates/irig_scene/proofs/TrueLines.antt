@@ -63,5 +63,4 @@ scene_sound x at e = subst IsSoundScene e (meaning_sound (lines x) 1 None tt)
 
 pub lines_true : (x : List ℕ) (at : Scene) → (meaning_of x).scene ≡ Some at → IsKept at.plan.setup at.events → All (IsTruthful at.plan.setup.times) (log_of at.plan.setup at.events)
 lines_true x at e kept =
-    let sound = scene_sound x at e in
-    kept_log_is_true at.plan.setup at.events sound.timeline sound.tables kept
+    kept_log_is_true at.plan.setup at.events (scene_sound x at e).timeline kept

@@ -9,10 +9,10 @@ use Rattle.jiff.proofs.SpanFacts.{signed_arith}
 use Rattle.jiff_core.specs.declared.civil.date.Date.{Date}
 use Rattle.jiff_core.specs.Calendar.{days_from_civil, IsCivilDate}
 use Rattle.jiff_core.specs.Date.{epoch_day}
-use Rattle.jiff_core.proofs.CalendarLemmas.{days_in_month_bounds}
+use Rattle.jiff_core.proofs.CalendarLemmas.{days_in_month_bounds, days_from_civil-day_count, day_count-lt_year}
 use Rattle.jiff_core.proofs.DateLemmas.{civil}
-use Rattle.irig_time.specs.Days.{IsMonthEnd, begins_on, is_month_end}
-use Rattle.irig_time.proofs.Dates.{month_end_is, parts_of_date}
+use Rattle.irig_time.specs.Days.{IsDateOf, IsMonthEnd, begins_on, is_month_end}
+use Rattle.irig_time.proofs.Dates.{month_end_is, year_day, parts_of_date}
 
 any_here : (p : ℕ → Bool) (a n k : ℕ) → a ≤ k → k < a + n → p k ≡ true → list_any p (range_with_len a n) ≡ true
 any_here p a n k low high h =
@@ -27,15 +27,27 @@ any_where p a (suc n) h =
       | inr there ↦ let w = any_where p (a + 1) n there in (w.0, omega (arith, w.1), omega (arith, w.2), w.3)
     ]
 
--- a day that passes the test is a month's last
-pub month_end_from_test : (day : ℕ) → is_month_end day ≡ true → IsMonthEnd day
+-- a month of a year before 2100 begins on the day after one that passes the test
+month_after : (day : ℕ) → is_month_end day ≡ true → (y : ℕ) × (m : ℕ) × (y < 2100) × IsDateOf (day + 1) (pos y) m 1
 unfolding is_month_end
-month_end_from_test day h =
+month_after day h =
     let y = any_where (λ year. list_any (begins_on (day + 1) year) (range_with_len 1 12)) 2000 100 h in
     let m = any_where (begins_on (day + 1) y.0) 1 12 y.3 in
     let long = days_in_month_bounds (pos y.0) m.0 in
     let date : IsCivilDate (pos y.0) m.0 1 = ((omega (arith, signed_arith, y.2), omega (arith, signed_arith, y.2)), (m.1, omega (arith, m.2)), (omega arith, omega (arith, long))) in
-    (pos y.0, m.0, (date, (Decides-int_eq (days_from_civil (pos y.0) m.0 1) (pos (day + 1 + 10957))).0 m.3))
+    (y.0, m.0, y.2, (date, (Decides-int_eq (days_from_civil (pos y.0) m.0 1) (pos (day + 1 + 10957))).0 m.3))
+
+-- a day that passes the test is a month's last
+pub month_end_from_test : (day : ℕ) → is_month_end day ≡ true → IsMonthEnd day
+month_end_from_test day h = let month = month_after day h in (pos month.0, month.1, month.3)
+
+-- and one that is served
+pub month_end_served : (day : ℕ) → is_month_end day ≡ true → day ≤ 36523
+month_end_served day h =
+    let month = month_after day h in
+    let date = month.3 in
+    let before = day_count-lt_year (pos month.0) month.1 1 (pos 2100) 1 1 date.0 (omega arith) (omega (arith, signed_arith, month.2)) in
+    omega (arith, signed_arith, date.1, before, days_from_civil-day_count (pos month.0) month.1 1, days_from_civil-day_count (pos 2100) 1 1, year_day 100 (omega arith))
 
 pub month_end_test : (day : ℕ) → day ≤ 36523 → (a : Date) → epoch_day a ≡ pos (day + 1 + 10957) → (is_month_end day ≡ true) ↔ IsMonthEnd day
 unfolding is_month_end
