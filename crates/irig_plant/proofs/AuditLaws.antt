@@ -11,7 +11,7 @@ use Rattle.irig_plant.specs.declared.audit.Audit.TheVariants.{Kept}
 use Rattle.irig_plant.specs.declared.setup.ReaderSetup.{ReaderSetup}
 use Rattle.irig_plant.specs.Schedule.{Setup, ticks_of}
 use Rattle.irig_plant.specs.Audits.{is_true_table, first_false, is_broken_now, Place, place, first_broken, verdict, audit_of}
-use Rattle.irig_plant.specs.Headline.{IsKeptUpTo, HasTrueTable, IsKept}
+use Rattle.irig_plant.specs.Premises.{IsKeptUpTo, HasTrueTable, IsKept}
 use Rattle.irig_plant.proofs.Headline.{kept_before, kept_now}
 
 -- ---- tables

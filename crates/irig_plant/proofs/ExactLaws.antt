@@ -2,7 +2,7 @@
 -- guard edges alone.
 use Rattle.std.specs.Prelude.{is_some, All, ◌↔◌}
 use Rattle.std.specs.List.{Contains}
-use Rattle.std.proofs.Common.{◌≡◌, ℕ, ◌+◌, ◌-◌, ◌<◌, ◌≤◌, Bool, true, false, List, [], ◌∷◌, ◌++◌, Option, Some, None, refl, sym, ap, subst, ◌∙◌, arith}
+use Rattle.std.proofs.Common.{◌≡◌, ℕ, ◌+◌, ◌-◌, ◌<◌, ◌≤◌, Bool, true, false, List, [], ◌∷◌, ◌++◌, Option, Some, None, inl, inr, refl, sym, ap, subst, ◌∙◌, arith}
 use Rattle.std.proofs.lemmas.Bool.{false≢true}
 use Rattle.std.proofs.lemmas.List.{append_assoc}
 use Rattle.std.proofs.lemmas.List.Elements.{All-nil, All-push, All-contains, Contains-append_left, Contains-push}
@@ -21,10 +21,12 @@ use Rattle.irig_plant.specs.declared.event.Event.{Event}
 use Rattle.irig_plant.specs.declared.event.Event.TheVariants.{Tick}
 use Rattle.irig_plant.specs.declared.entry.Entry.{Entry}
 use Rattle.irig_plant.specs.Schedule.{Setup, setup_at, ticks_of, entry_of, log_of}
-use Rattle.irig_plant.specs.Headline.{IsKeptUpTo, HasPremises, GivesNoFalseAlarm}
+use Rattle.irig_plant.specs.Premises.{IsKeptUpTo, HasPremises}
+use Rattle.irig_plant.specs.Truth.{GivesNoFalseAlarm}
 use Rattle.irig_plant.specs.Edges.{VotedEdges, voted_edges_of, CanLock, IsGuard, IsHeld, IsLastVote}
-use Rattle.irig_plant.specs.Exactly.{announcement, silence, IsServed, AnnouncesWhenHeld, IsAnnouncement, HasItsLock, WasHeld, NoneWithin, IsSilence, HasItsCause}
-use Rattle.irig_plant.proofs.Headline.{IsCalm, log_keeps_calm}
+use Rattle.irig_plant.specs.Exactly.{announcement, silence, IsServed, AnnouncesWhenHeld, IsAnnouncement, HasItsLock, WasHeld, NoneWithin, SomeWithin, IsSilence, HasItsCause}
+use Rattle.irig_plant.specs.Headline.{KeepsHeadline}
+use Rattle.irig_plant.proofs.Headline.{log_is_true, IsCalm, log_keeps_calm}
 use Rattle.irig_plant.proofs.HeldMarks.{second_before}
 use Rattle.irig_plant.proofs.CourseLaws.{HasTick, has_tick}
 use Rattle.irig_plant.proofs.TickLaws.{Said, by_vote, by_hold, by_count, by_age, by_guard, by_silence, is_over, Ticked, live, over}
@@ -89,8 +91,8 @@ said_at x n v step at (over c e is k) = let q : ◌≡◌ {A = Option UtcSecond}
 none_within : (x : VotedEdges) (n age : ℕ) → IsLastVote x n age → x.own.holdover ≤ age → NoneWithin x (n + 1) x.own.holdover
 none_within x n age l old j a b = l.none_since j (omega (arith, l.is_at)) (omega arith)
 
-some_within : (x : VotedEdges) (n age : ℕ) → IsLastVote x n age → age < x.own.holdover → ¬ NoneWithin x (n + 1) x.own.holdover
-some_within x n age l young f = false≢true (sym (f l.edge (omega (arith, l.is_at)) (omega (arith, l.is_at))) ∙ l.is)
+some_within : (x : VotedEdges) (n age : ℕ) → IsLastVote x n age → age < x.own.holdover → SomeWithin x (n + 1) x.own.holdover
+some_within x n age l young = record { edge = l.edge; near = omega (arith, l.is_at); below = omega (arith, l.is_at); is = l.is }
 
 -- ---- entries
 
@@ -191,30 +193,24 @@ module _ (s : Setup) (all : List Event) (sound : IsTimeline s.times) (ruled : Al
       → Said (voted_edges_of s r all) (ticks_of r ev) v (entry_of s r ev).report → IsSilence (voted_edges_of s r all) (WasHeld s all r (ticks_of r ev + 1)) (ticks_of r ev + 1) (entry_of s r ev).report
   cause_of r later ev v is served h (by_vote held voted said) = clash _ (said_some _ _ _ _ said) h
   cause_of r later ev v is served h (by_hold age held unvoted last said) = clash _ (said_some _ _ _ _ said) h
-  cause_of r later ev v is served h (by_count count unheld voted run said) = record {
-    voted = λ _. record { count = count; run = run; report = said };
-    expired = λ q _ _. clash _ voted q;
-    guarded = λ q _ _. clash _ voted q;
-    other = λ q _. clash _ voted q;
-  }
-  cause_of r later ev v is served h (by_age age unheld unvoted before unbroken last old said) = record {
-    voted = λ q. clash _ q unvoted;
-    expired = λ _ _ _. said;
-    guarded = λ _ _ g. absurd (g (none_within (voted_edges_of s r all) (ticks_of r ev) age last old));
-    other = λ _ f. absurd (f (was_held r later ev v is served before unbroken));
-  }
-  cause_of r later ev v is served h (by_guard age unheld unvoted before unbroken last young guard said) = record {
-    voted = λ q. clash _ q unvoted;
-    expired = λ _ _ f. absurd (some_within (voted_edges_of s r all) (ticks_of r ev) age last young f);
-    guarded = λ _ _ _. record { report = said; guard = guard };
-    other = λ _ f. absurd (f (was_held r later ev v is served before unbroken));
-  }
-  cause_of r later ev v is served h (by_silence unheld unvoted before said) = record {
-    voted = λ q. clash _ q unvoted;
-    expired = λ _ w _. absurd (was_not_held r ev v served before w);
-    guarded = λ _ w _. absurd (was_not_held r ev v served before w);
-    other = λ _ _. said;
-  }
+  cause_of r later ev v is served h (by_count count unheld voted run said) = inl (record { voted = voted; count = count; run = run; report = said })
+  cause_of r later ev v is served h (by_age age unheld unvoted before unbroken last old said) =
+      inr (inl (record {
+        unvoted = unvoted;
+        was_held = was_held r later ev v is served before unbroken;
+        none = none_within (voted_edges_of s r all) (ticks_of r ev) age last old;
+        report = said;
+      }))
+  cause_of r later ev v is served h (by_guard age unheld unvoted before unbroken last young guard said) =
+      inr (inr (inl (record {
+        unvoted = unvoted;
+        was_held = was_held r later ev v is served before unbroken;
+        some = some_within (voted_edges_of s r all) (ticks_of r ev) age last young;
+        guard = guard;
+        report = said;
+      })))
+  cause_of r later ev v is served h (by_silence unheld unvoted before said) =
+      inr (inr (inr (record { unvoted = unvoted; unheld = was_not_held r ev v served before; report = said })))
 
   pub log_tells_cause : All (HasItsCause s all) (log_of s all)
   log_tells_cause = log_at s all (HasItsCause s all) (λ r later ev is. record { cause = λ v served silence. cause_of r later ev v is served silence (said r later ev is v served) }) [] all refl
@@ -236,3 +232,14 @@ module _ (s : Setup) (all : List Event) (sound : IsTimeline s.times) (ruled : Al
         leap_guard = λ p e.
             guard_at (voted_edges_of s r all) (ticks_of r ev) _ e (ticked_at s r all (record { sound = sound; true_table = p.true_table }) (can_lock s r ruled) later ev is p.kept);
       }) [] all refl
+
+  -- ---- all of the headline
+
+  pub log_keeps_headline : All (KeepsHeadline s all) (log_of s all)
+  log_keeps_headline i d low = record {
+    truth = log_is_true s all sound i d low;
+    calm = log_is_calm i d low;
+    exactly = log_when_held i d low;
+    lock = log_tells_lock i d low;
+    cause = log_tells_cause i d low;
+  }

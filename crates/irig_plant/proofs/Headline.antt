@@ -1,14 +1,15 @@
 -- Readers whose ports were kept and whose tables are true stand at the truth, and so their entries
 -- announce it.
-use Rattle.std.proofs.Common.{◌≡◌, ◌↔◌, ◌==◌, ℕ, ◌+◌, ◌<◌, ◌≤◌, false, List, [], ◌∷◌, ◌++◌, Option, Some, None, get_or, refl, sym, ap, subst, ◌∙◌, arith, inl, inr, ◌⊎◌, eqb-true}
+use Rattle.std.proofs.Common.{◌≡◌, ◌↔◌, ◌==◌, ℕ, ◌+◌, ◌-◌, ◌<◌, ◌≤◌, false, List, [], ◌∷◌, ◌++◌, Option, Some, None, get_or, refl, sym, ap, subst, ◌∙◌, arith, inl, inr, ◌⊎◌, eqb-true}
 use Rattle.std.specs.Prelude.{All}
-use Rattle.std.proofs.lemmas.Bool.{cases_Bool}
-use Rattle.std.proofs.lemmas.List.Elements.{All-nil, All-push}
+use Rattle.std.proofs.lemmas.Bool.{cases_Bool, cases_order}
+use Rattle.std.proofs.lemmas.List.Elements.{All-nil, All-push, All-contains}
 use Rattle.irig_time.specs.declared.second.UtcSecond.{UtcSecond}
 use Rattle.irig_time.specs.declared.claim.Claim.{Claim}
-use Rattle.irig_time.specs.Timelines.{TimelineValue, IsSecond, second_at, truth_at}
+use Rattle.irig_time.specs.Timelines.{TimelineValue, seconds_in, IsSecond, second_at, truth_at}
 use Rattle.irig_time.specs.TimelineFaults.{IsTimeline}
 use Rattle.irig_time.specs.Tables.{TableValue}
+use Rattle.irig_time.proofs.TimeLaws.{in_order}
 use Rattle.irig_time.proofs.SecondAt.{second_is, claim_is}
 use Rattle.irig_hold.specs.Truth.{IsTrueTable}
 use Rattle.irig_reader.specs.declared.rules.ReaderRules.{ReaderRules}
@@ -21,7 +22,8 @@ use Rattle.irig_plant.specs.declared.event.Event.TheVariants.{Tick, Restart}
 use Rattle.irig_plant.specs.declared.entry.Entry.{Entry}
 use Rattle.irig_plant.specs.Schedule.{Setup, setup_at, ticks_of, votes_of, history_of, entry_of, log_of}
 use Rattle.irig_plant.specs.Audits.{is_broken_now}
-use Rattle.irig_plant.specs.Headline.{IsKeptUpTo, HasPremises, StandsAtTruth, AnnouncesTruth}
+use Rattle.irig_plant.specs.Premises.{IsKeptUpTo, HasPremises}
+use Rattle.irig_plant.specs.Truth.{Announces, IsBefore, StandsAtTruth, AnnouncesTruth}
 use Rattle.irig_plant.proofs.HeadlineVotes.{vote_is_true}
 use Rattle.irig_plant.proofs.HeadlineRule.{IsTrueStep, alone_step, voted_step}
 
@@ -155,11 +157,28 @@ log_keeps_calm s ev sound = log_has s (IsCalm s) keeps new ev
 
 -- ---- two entries
 
-pub entries_agree : (s : Setup) (ev : List Event) (one other : Entry) (u v : UtcSecond) → AnnouncesTruth s ev one → AnnouncesTruth s ev other → one.edge ≡ other.edge
-    → HasPremises s ev one → HasPremises s ev other
-    → one.report.announce ≡ Some u → other.report.announce ≡ Some v → u ≡ v
-entries_agree s ev one other u v truth truth' same premises premises' said said' =
-    let first = truth.second premises u said in
-    let then : second_at s.times one.edge ≡ Some v = rw same (truth'.second premises' v said') in
-    let both : ◌≡◌ {A = Option UtcSecond} (Some u) (Some v) = sym first ∙ then in
+announced : (s : Setup) (ev : List Event) (e : Entry) (u : UtcSecond) → IsTimeline s.times → Announces s ev e u → second_at s.times e.edge ≡ Some u
+announced s ev e u sound says =
+    let truth : AnnouncesTruth s ev e = All-contains (AnnouncesTruth s ev) (log_of s ev) e (log_is_true s ev sound) says.logged in
+    truth.second says.premises u says.second
+
+pub entries_agree : (s : Setup) (ev : List Event) (one other : Entry) (u v : UtcSecond) → IsTimeline s.times → Announces s ev one u → Announces s ev other v → one.edge ≡ other.edge → u ≡ v
+entries_agree s ev one other u v sound first second same =
+    let both : ◌≡◌ {A = Option UtcSecond} (Some u) (Some v) = sym (announced s ev one u sound first) ∙ ap (second_at s.times) same ∙ announced s ev other v sound second in
     cc
+
+before_by : (t : TimelineValue) (n m : ℕ) (u v : UtcSecond) → IsSecond t n u → IsSecond t m v → n < m → IsBefore u v
+before_by t n m u v a b low =
+    elim (cases_order u.day v.day) [
+      | inl day ↦
+          let sums : seconds_in t.leaps t.start.day (u.day - t.start.day) ≡ seconds_in t.leaps t.start.day (v.day - t.start.day) = ap (λ (d : ℕ). seconds_in t.leaps t.start.day (d - t.start.day)) day in
+          inr (day, omega (arith, sums, a.sum, b.sum, low))
+      | inr other ↦ elim other [
+        | inl earlier ↦ inl earlier
+        | inr later ↦ absurd (omega (arith, in_order t m n v u b a later, low))
+      ]
+    ]
+
+pub entries_in_order : (s : Setup) (ev : List Event) (one other : Entry) (u v : UtcSecond) → IsTimeline s.times → Announces s ev one u → Announces s ev other v → one.edge < other.edge → IsBefore u v
+entries_in_order s ev one other u v sound first second =
+    before_by s.times one.edge other.edge u v ((second_is s.times one.edge u).0 (announced s ev one u sound first)) ((second_is s.times other.edge v).0 (announced s ev other v sound second))

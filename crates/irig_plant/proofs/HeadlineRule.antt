@@ -24,7 +24,7 @@ use Rattle.irig_reader.specs.declared.rule.State.{State}
 use Rattle.irig_reader.specs.declared.rule.State.TheVariants.{Idle, Acquiring, Locked}
 use Rattle.irig_reader.specs.declared.rule.Step.{Step}
 use Rattle.irig_reader.specs.Rule.{stop_step, announce_step, count_step, first_vote_step, later_vote_step_by, locked_step, step_of}
-use Rattle.irig_plant.specs.Headline.{StandsAtTruth}
+use Rattle.irig_plant.specs.Truth.{StandsAtTruth}
 
 -- there is no T(n)
 abbrev Ends : TimelineValue → ℕ → Type 0

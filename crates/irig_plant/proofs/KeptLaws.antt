@@ -10,7 +10,8 @@ use Rattle.irig_hold.specs.Truth.{IsTrueTable}
 use Rattle.irig_plant.specs.declared.event.Event.{Event}
 use Rattle.irig_plant.specs.declared.setup.ReaderSetup.{ReaderSetup}
 use Rattle.irig_plant.specs.Schedule.{Setup, setup_at, log_of}
-use Rattle.irig_plant.specs.Headline.{HasTrueTable, IsKept, IsTruthful}
+use Rattle.irig_plant.specs.Premises.{HasTrueTable, IsKept}
+use Rattle.irig_plant.specs.Truth.{IsTruthful}
 use Rattle.irig_plant.proofs.TableLaws.{true_by_test}
 use Rattle.irig_plant.proofs.Headline.{log_is_true}
 

@@ -9,6 +9,7 @@ pub mod HeadlineRule
 pub mod Headline
 pub mod AuditLaws
 pub mod PortLaws
+pub mod FrameLaws
 pub mod EdgeLaws
 pub mod HeldMarks
 pub mod TickLaws

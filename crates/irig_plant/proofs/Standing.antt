@@ -20,7 +20,7 @@ use Rattle.irig_plant.specs.declared.event.Event.TheVariants.{Tick, Restart}
 use Rattle.irig_plant.specs.declared.setup.ReaderSetup.{ReaderSetup}
 use Rattle.irig_plant.specs.Schedule.{Setup, no_reader, setup_at, ticks_of, history_of}
 use Rattle.irig_plant.specs.Audits.{is_broken_now}
-use Rattle.irig_plant.specs.Headline.{IsKeptUpTo}
+use Rattle.irig_plant.specs.Premises.{IsKeptUpTo}
 use Rattle.irig_plant.specs.Edges.{VotedEdges, voted_edges_of, is_voted, is_restarted, CanLock}
 use Rattle.irig_plant.proofs.Headline.{IsFit, state_at}
 use Rattle.irig_plant.proofs.HeldMarks.{second_before}

@@ -1,6 +1,6 @@
 -- When a reader announces, with what lock, and why it is silent where it is.
 -- Source: docs/EXACTLY_WHEN.md.
-use Rattle.std.specs.Prelude.{◌≡◌, ◌↔◌, ℕ, ◌+◌, ◌<◌, ◌≤◌, true, false, List, Some, None, is_some}
+use Rattle.std.specs.Prelude.{◌≡◌, ◌↔◌, ◌⊎◌, ℕ, ◌+◌, ◌<◌, ◌≤◌, true, false, List, Some, None, is_some}
 use Rattle.std.specs.List.{Contains}
 use Rattle.irig_time.specs.declared.second.UtcSecond.{UtcSecond}
 use Rattle.irig_time.specs.Timelines.{second_at}
@@ -12,7 +12,7 @@ use Rattle.irig_reader.specs.declared.report.Report.{Report}
 use Rattle.irig_plant.specs.declared.event.Event.{Event}
 use Rattle.irig_plant.specs.declared.entry.Entry.{Entry}
 use Rattle.irig_plant.specs.Schedule.{Setup, log_of}
-use Rattle.irig_plant.specs.Headline.{HasPremises}
+use Rattle.irig_plant.specs.Premises.{HasPremises}
 use Rattle.irig_plant.specs.Edges.{VotedEdges, voted_edges_of, is_restarted, IsGuard, IsHeld, IsLongestRun, IsLastVote}
 
 -- a second with a lock and a cause
@@ -74,24 +74,47 @@ pub record WasHeld (s : Setup) (ev : List Event) (r n : ℕ) : Type 0 where
 abbrev pub NoneWithin : VotedEdges → ℕ → ℕ → Type 0
 NoneWithin x n limit = (j : ℕ) → n ≤ j + limit → j < n → x.voted j ≡ false
 
+-- one of them is
+pub record SomeWithin (x : VotedEdges) (n limit : ℕ) : Type 0 where
+  pub edge : ℕ
+  pub near : n ≤ edge + limit
+  pub below : edge < n
+  pub is : x.voted edge ≡ true
+
 -- it counts the voted edges of a run
 pub record IsCounting (x : VotedEdges) (n : ℕ) (said : Report) : Type 0 where
+  pub voted : x.voted n ≡ true
   pub count : ℕ
   pub run : IsLongestRun x n count
   pub report : said ≡ silence (lock.Acquiring count) cause.Acquiring
 
--- the guard stopped it, at a guard edge
-pub record IsStopped (x : VotedEdges) (n : ℕ) (said : Report) : Type 0 where
-  pub report : said ≡ silence lock.Unlocked cause.LeapGuard
-  pub guard : IsGuard x n
+-- it was held, and no edge of its holdover is voted
+pub record IsExpired (x : VotedEdges) (held : Type 0) (n : ℕ) (said : Report) : Type 0 where
+  pub unvoted : x.voted n ≡ false
+  pub was_held : held
+  pub none : NoneWithin x n x.own.holdover
+  pub report : said ≡ silence lock.Unlocked cause.Expired
 
--- why it says nothing; held is whether it announced at the tick before, and no restart fell between
-pub record IsSilence (x : VotedEdges) (held : Type 0) (n : ℕ) (said : Report) : Type 0 where
-  pub voted : x.voted n ≡ true → IsCounting x n said
-  pub expired : x.voted n ≡ false → held → NoneWithin x n x.own.holdover
-      → said ≡ silence lock.Unlocked cause.Expired
-  pub guarded : x.voted n ≡ false → held → ¬ NoneWithin x n x.own.holdover → IsStopped x n said
-  pub other : x.voted n ≡ false → ¬ held → said ≡ silence lock.Unlocked cause.NoVote
+-- it was held, an edge of its holdover is voted, and the guard stopped it, at a guard edge
+pub record IsStopped (x : VotedEdges) (held : Type 0) (n : ℕ) (said : Report) : Type 0 where
+  pub unvoted : x.voted n ≡ false
+  pub was_held : held
+  pub some : SomeWithin x n x.own.holdover
+  pub guard : IsGuard x n
+  pub report : said ≡ silence lock.Unlocked cause.LeapGuard
+
+-- it was not held
+pub record IsVoteless (x : VotedEdges) (held : Type 0) (n : ℕ) (said : Report) : Type 0 where
+  pub unvoted : x.voted n ≡ false
+  pub unheld : ¬ held
+  pub report : said ≡ silence lock.Unlocked cause.NoVote
+
+-- why it says nothing: one of the four; held is whether it announced at the tick before, and no
+-- restart fell between
+abbrev pub IsSilence : VotedEdges → Type 0 → ℕ → Report → Type 0
+IsSilence x held n said =
+    IsCounting x n said ⊎ IsExpired x held n said ⊎ IsStopped x held n said
+    ⊎ IsVoteless x held n said
 
 -- if it is silent, its cause is the one that the events give
 pub record HasItsCause (s : Setup) (ev : List Event) (e : Entry) : Type 0 where

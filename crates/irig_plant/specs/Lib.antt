@@ -5,7 +5,9 @@ pub mod Refusals
 pub mod Runs
 pub mod Audits
 pub mod Edges
-pub mod Headline
 pub mod Ports
+pub mod Premises
+pub mod Truth
 pub mod Exactly
+pub mod Headline
 pub mod History

@@ -1,9 +1,14 @@
 //! Laws of plants over their definitions. They have no code.
 
-ghost use Rattle.std.specs.Prelude.{◌≡◌, ◌+◌, ◌≤◌, ◌↔◌, ◌⊎◌, true, false, ℕ, Some, None, List, ◌∷◌, All, is_some};
+ghost use Rattle.std.specs.Prelude.{◌≡◌, ◌+◌, ◌<◌, ◌≤◌, ◌↔◌, ◌⊎◌, true, false, ℕ, Some, None, List, ◌∷◌, All, is_some};
 ghost use Rattle.irig_time.specs.Timelines.{TimelineValue, truth_at};
 ghost use Rattle.irig_time.specs.TimelineFaults.{IsTimeline};
 ghost use Rattle.irig_time.specs.Tables.{TableValue};
+ghost use Rattle.irig_gen.specs.Frames.{GeneratorValue, IsTrueFrame};
+ghost use Rattle.irig_gen.specs.Refusals.{IsGenerator};
+ghost use Rattle.irig_gen.specs.Sent.{frame_of};
+ghost use Rattle.irig_port.specs.Heard.{symbols_of};
+ghost use Rattle.irig_port.specs.Told.{told_of, told_of_widths};
 ghost use Rattle.irig_hold.specs.Truth.{IsTrueTable};
 ghost use Rattle.irig_reader.specs.History.{vote_at_tick};
 ghost use Rattle.irig_reader.specs.Rule.{state_of};
@@ -12,15 +17,19 @@ ghost use Rattle.irig_plant.specs.Audits.{is_true_table, is_broken_now, audit_of
 ghost use Rattle.irig_plant.specs.Edges.{CanLock, is_voted_now, is_voted, is_restarted, IsVoted, IsRestarted};
 ghost use Rattle.irig_plant.specs.Ports.{AtLeast, AtMost, f_in, IsTruePort, IsUntruePort};
 ghost use Rattle.irig_plant.specs.Exactly.{AnnouncesWhenHeld, HasItsLock, HasItsCause};
-ghost use Rattle.irig_plant.specs.Headline.{HasPremises, IsKeptUpTo, IsKept, StandsAtTruth, AnnouncesTruth, GivesNoFalseAlarm, IsTruthful};
+ghost use Rattle.irig_plant.specs.Premises.{HasPremises, IsKeptUpTo, IsKept};
+ghost use Rattle.irig_plant.specs.Truth.{Announces, IsBefore, StandsAtTruth, AnnouncesTruth, GivesNoFalseAlarm, IsTruthful};
+ghost use Rattle.irig_plant.specs.Headline.{KeepsHeadline};
+ghost use Rattle.irig_plant.specs.Widths.{widths_of};
 ghost use Rattle.irig_plant.specs.History.{PlantHistory, HasPlantHistory};
 
 use crate::audit::Audit;
 use crate::entry::Entry;
 use crate::event::Event;
 use crate::plant::Plant;
-use irig_port::Port;
-use irig_time::UtcSecond;
+use irig_frame::Symbol;
+use irig_port::{Port, Told};
+use irig_time::{Claim, UtcSecond};
 
 /// Two plants with the same history have equal logs and the same audit, whatever ports their
 /// readers have.
@@ -92,13 +101,15 @@ pub fn kept_logs_are_true()
         → All (IsTruthful s.times) (log_of s ev) }
 {}
 
-/// Two entries of the same edge announce the same second, whatever their readers, if the premises
-/// hold for both.
+/// Two entries of a log that announce a second under their premises, whatever their readers: of the
+/// same edge they announce the same one, and of two edges the later announces a later one.
 pub fn announcements_agree()
-    ensures { (s : Setup) (ev : List Event) (one other : Entry) (u v : UtcSecond)
-        → AnnouncesTruth s ev one → AnnouncesTruth s ev other → one.edge ≡ other.edge
-        → HasPremises s ev one → HasPremises s ev other
-        → one.report.announce ≡ Some u → other.report.announce ≡ Some v → u ≡ v }
+    ensures same { (s : Setup) (ev : List Event) (one other : Entry) (u v : UtcSecond)
+        → IsTimeline s.times → Announces s ev one u → Announces s ev other v
+        → one.edge ≡ other.edge → u ≡ v }
+    ensures order { (s : Setup) (ev : List Event) (one other : Entry) (u v : UtcSecond)
+        → IsTimeline s.times → Announces s ev one u → Announces s ev other v
+        → one.edge < other.edge → IsBefore u v }
 {}
 
 /// No false alarm: under its premises the cause of an entry is no jump, the end of the range only
@@ -139,10 +150,28 @@ pub fn announcements_tell_their_lock()
 {}
 
 /// An entry that is silent then counts the voted edges of a run, or has expired, or was stopped by
-/// the guard, or has no vote.
+/// the guard, or has no vote: one of the four, by what the events say.
 pub fn silences_tell_their_cause()
     ensures { (s : Setup) (ev : List Event) → IsTimeline s.times → All CanLock s.readers
         → All (HasItsCause s ev) (log_of s ev) }
+{}
+
+/// All of the headline, for each entry of a log.
+pub fn logs_keep_the_headline()
+    ensures { (s : Setup) (ev : List Event) → IsTimeline s.times → All CanLock s.readers
+        → All (KeepsHeadline s ev) (log_of s ev) }
+{}
+
+/// A true frame tells the truth: what a generator without fault sends of an edge is told as the
+/// true claim of its second, by its symbols and by its pulses, which are heard as those symbols.
+pub fn true_frames_tell_the_truth()
+    ensures symbols { (g : GeneratorValue) (t : TimelineValue) (edge : ℕ) (s : List Symbol)
+        (c : Claim) → IsGenerator g → IsTimeline t → IsTrueFrame g t edge s
+        → truth_at t edge ≡ Some c → told_of g.rules s ≡ Told.Claim c }
+    ensures widths { (g : GeneratorValue) (t : TimelineValue) (edge : ℕ) (c : Claim)
+        → IsGenerator g → IsTimeline t → truth_at t edge ≡ Some c
+        → told_of_widths g.rules (widths_of (frame_of None g t edge)) ≡ Told.Claim c }
+    ensures heard { (s : List Symbol) → symbols_of (widths_of (Some s)) ≡ s }
 {}
 
 /// The audit answers `Kept` exactly if the premises of the headline hold for all readers and ticks.

@@ -42,7 +42,7 @@ impl<P: Port> Plant<P> {
     ghost use Rattle.irig_plant.specs.Schedule.{setup, log_of};
     ghost use Rattle.irig_plant.specs.Runs.{events_after, AreAccepted, IsRefused};
     ghost use Rattle.irig_plant.specs.Audits.{audit_of};
-    ghost use Rattle.irig_plant.specs.Headline.{AnnouncesTruth, GivesNoFalseAlarm};
+    ghost use Rattle.irig_plant.specs.Truth.{AnnouncesTruth, GivesNoFalseAlarm};
     ghost use Rattle.irig_plant.specs.Exactly.{AnnouncesWhenHeld, HasItsLock, HasItsCause};
     ghost use Rattle.irig_plant.specs.History.{AreGenerators, AreReaders, AreNew, beginning, with_events, with_cleared_log, HasPlantHistory, ForHistory, ForEntries, Becomes, Accepts, Follows, RefusesAtLast, Keeps};
 

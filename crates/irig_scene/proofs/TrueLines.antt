@@ -3,7 +3,8 @@ use Rattle.std.proofs.Common.{◌≡◌, ℕ, ◌+◌, Bool, true, false, cond, 
 use Rattle.std.specs.Prelude.{⊤}
 use Rattle.irig_forms.specs.declared.refusal.Refusal.{Refusal}
 use Rattle.irig_plant.specs.Schedule.{log_of}
-use Rattle.irig_plant.specs.Headline.{IsKept, IsTruthful}
+use Rattle.irig_plant.specs.Premises.{IsKept}
+use Rattle.irig_plant.specs.Truth.{IsTruthful}
 use Rattle.irig_scenario.specs.declared.event_line.Command.{Command}
 use Rattle.irig_forms.specs.declared.refusal.Refusal.TheVariants as refusal
 use Rattle.irig_scenario.specs.EventLine.{command_in_line}

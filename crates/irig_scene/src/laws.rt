@@ -1,7 +1,8 @@
 //! Laws of scenarios over their definitions. They have no code.
 
 ghost use Rattle.std.specs.Prelude.{◌≡◌, ℕ, Some, List, All};
-ghost use Rattle.irig_plant.specs.Headline.{IsKept, IsTruthful};
+ghost use Rattle.irig_plant.specs.Premises.{IsKept};
+ghost use Rattle.irig_plant.specs.Truth.{IsTruthful};
 ghost use Rattle.irig_plant.specs.Schedule.{log_of};
 ghost use Rattle.irig_scene.specs.Scene.{Scene, meaning_of};
 

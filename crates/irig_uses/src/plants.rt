@@ -1,7 +1,8 @@
 //! Uses of `irig_plant`.
 
 ghost use Rattle.std.specs.Prelude.{◌≡◌, [], All, IfSome, OnOk};
-ghost use Rattle.irig_plant.specs.Headline.{AnnouncesTruth, IsKept};
+ghost use Rattle.irig_plant.specs.Premises.{IsKept};
+ghost use Rattle.irig_plant.specs.Truth.{AnnouncesTruth};
 ghost use Rattle.irig_plant.specs.History.{AreGenerators, AreReaders, PlantHistory, HasPlantHistory, with_cleared_log, with_events};
 
 use irig_gen::{Generator, Zone};

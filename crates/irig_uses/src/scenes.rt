@@ -2,7 +2,7 @@
 
 ghost use Rattle.std.specs.Prelude.{◌≡◌, false, IfOk, IsTrue, Some, length};
 ghost use Rattle.irig_scene.specs.Lines.{lines};
-ghost use Rattle.irig_plant.specs.Headline.{IsKept};
+ghost use Rattle.irig_plant.specs.Premises.{IsKept};
 ghost use Rattle.irig_scene.specs.Scene.{Scene, meaning_of, output};
 
 use irig_device::Watched;

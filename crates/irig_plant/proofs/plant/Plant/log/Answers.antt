@@ -3,7 +3,7 @@ use Rattle.std.proofs.lemmas.List.Elements.{All-drop}
 use Rattle.irig_time.specs.Timelines.{TimelineValue}
 use Rattle.irig_time.specs.TimelineFaults.{IsTimeline}
 use Rattle.irig_plant.specs.Schedule.{log_of}
-use Rattle.irig_plant.specs.Headline.{AnnouncesTruth, GivesNoFalseAlarm}
+use Rattle.irig_plant.specs.Truth.{AnnouncesTruth, GivesNoFalseAlarm}
 use Rattle.irig_plant.specs.Exactly.{AnnouncesWhenHeld, HasItsLock, HasItsCause}
 use Rattle.irig_plant.proofs.Headline.{log_is_true}
 use Rattle.irig_plant.proofs.ExactLaws.{log_is_calm, log_when_held, log_tells_lock, log_tells_cause}
