@@ -1,13 +1,16 @@
 -- Known values of the standard's frame, so that a wrong definition does not check.
-use Rattle.std.proofs.Common.{◌≡◌, ℕ, ◌+◌, true, cond, eqb, List, [], ◌∷◌, map, refl}
+use Rattle.std.proofs.Common.{◌≡◌, ℕ, ◌+◌, true, cond, eqb, List, [], ◌∷◌, map, Ok, Err, refl}
 use Rattle.std.specs.Prelude.{codes, count_by, sum_by}
-use Rattle.std.specs.List.{list_all, range_with_len}
+use Rattle.std.specs.List.{list_all, list_any, range_with_len}
 use Rattle.irig_frame.specs.declared.symbol.Symbol.{Symbol}
 use Rattle.irig_frame.specs.declared.symbol.Symbol.TheVariants.{Zero, One, Marker, Bad}
 use Rattle.irig_frame.specs.declared.layout.Field.TheVariants.{Second, Minute, Hour, Day, Year}
+use Rattle.irig_frame.specs.declared.fault.FrameFault.TheVariants as fault
 use Rattle.irig_frame.specs.Symbols.{letter_of, symbol_of, width_of}
 use Rattle.irig_frame.specs.FieldTable.{places_of, control_places, straight_binary_places, is_marker_place, spare_places}
 use Rattle.irig_frame.specs.Values.{value, weights}
+use Rattle.irig_frame.specs.Decoder.{least, most}
+use Rattle.irig_frame.specs.Faults.{field_at, values_of}
 
 -- the symbols of a text, in which P is a marker
 abbrev pub symbol_of_letter : ℕ → Symbol
@@ -38,6 +41,34 @@ known_markers = refl
 -- and 150
 pub known_weights : map (λ f. weights (places_of f)) (Second ∷ Minute ∷ Hour ∷ Day ∷ Year ∷ []) ≡ 85 ∷ 85 ∷ 45 ∷ 465 ∷ 165 ∷ []
 known_weights = refl
+
+-- the least and the greatest value of each field: day 1 to 366, second 60 for an inserted one
+pub known_bounds : (map least (Second ∷ Minute ∷ Hour ∷ Day ∷ Year ∷ []) ≡ 0 ∷ 0 ∷ 0 ∷ 1 ∷ 0 ∷ [])
+    × (map most (Second ∷ Minute ∷ Hour ∷ Day ∷ Year ∷ []) ≡ 60 ∷ 59 ∷ 23 ∷ 366 ∷ 99 ∷ [])
+known_bounds = (refl, refl)
+
+-- the frame with ones at these elements
+abbrev with_ones : List ℕ → List Symbol
+with_ones elements = map (λ i. cond (is_marker_place i) Marker (cond (list_any (eqb i) elements) One Zero)) (range_with_len 0 100)
+
+-- either side of each bound: seconds 60 and 61, minutes 59 and 60, hours 23 and 24, days 0, 1, 366
+-- and 367; and year 99
+pub known_ranges : (map (λ ones. field_at (with_ones ones) Second) ((7 ∷ 8 ∷ []) ∷ (1 ∷ 7 ∷ 8 ∷ []) ∷ []) ≡ Ok 60 ∷ Err (fault.Range Second) ∷ [])
+    × (map (λ ones. field_at (with_ones ones) Minute) ((10 ∷ 13 ∷ 15 ∷ 17 ∷ []) ∷ (16 ∷ 17 ∷ []) ∷ []) ≡ Ok 59 ∷ Err (fault.Range Minute) ∷ [])
+    × (map (λ ones. field_at (with_ones ones) Hour) ((20 ∷ 21 ∷ 26 ∷ []) ∷ (22 ∷ 26 ∷ []) ∷ []) ≡ Ok 23 ∷ Err (fault.Range Hour) ∷ [])
+    × (map (λ ones. field_at (with_ones ones) Day) ([] ∷ (30 ∷ []) ∷ (31 ∷ 32 ∷ 36 ∷ 37 ∷ 40 ∷ 41 ∷ []) ∷ (30 ∷ 31 ∷ 32 ∷ 36 ∷ 37 ∷ 40 ∷ 41 ∷ []) ∷ [])
+    ≡ Err (fault.Range Day) ∷ Ok 1 ∷ Ok 366 ∷ Err (fault.Range Day) ∷ [])
+    × (field_at (with_ones (50 ∷ 53 ∷ 55 ∷ 58 ∷ [])) Year ≡ Ok 99)
+unfolding field_at
+known_ranges = (refl, refl, refl, refl, refl)
+
+-- of two wrong fields the first is told, in the order second, minute, hour, day, year: second 61
+-- and minute 60, minute 60 and hour 24, hour 24 and day 0, day 0 and year 10 with the digit 10, and
+-- that year with day 1
+pub known_order : map (λ ones. values_of (with_ones ones)) ((1 ∷ 7 ∷ 8 ∷ 16 ∷ 17 ∷ []) ∷ (16 ∷ 17 ∷ 22 ∷ 26 ∷ []) ∷ (22 ∷ 26 ∷ []) ∷ (51 ∷ 53 ∷ []) ∷ (30 ∷ 51 ∷ 53 ∷ []) ∷ [])
+    ≡ Err (fault.Range Second) ∷ Err (fault.Range Minute) ∷ Err (fault.Range Hour) ∷ Err (fault.Range Day) ∷ Err (fault.Digit Year) ∷ []
+unfolding values_of field_at
+known_order = refl
 
 -- 18 control bits and 17 straight binary seconds
 pub known_numbers : (weights control_places ≡ 262143) × (weights straight_binary_places ≡ 131071)

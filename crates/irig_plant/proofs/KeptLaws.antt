@@ -27,7 +27,7 @@ starts_late t h =
     search rules
 
 -- a table that speaks of no day is true
-empty_true : (t : TimelineValue) → 1 ≤ t.start.day → IsTrueTable t (table 0 [])
+pub empty_true : (t : TimelineValue) → 1 ≤ t.start.day → IsTrueTable t (table 0 [])
 empty_true t late = record { leaps = λ day end from to. absurd (omega (arith, late, from, to)) }
 
 table_true : (t : TimelineValue) (readers : List ReaderSetup) (r : ℕ) → 1 ≤ t.start.day → All (HasTrueTable t) readers → IsTrueTable t (setup_at readers r).table

@@ -18,4 +18,5 @@ pub mod Standing
 pub mod ExactLaws
 pub mod RangeLaws
 pub mod StandardFacts
+pub mod HeadlineFacts
 pub mod KeptLaws

@@ -1,5 +1,5 @@
 -- Known values of the calendar and of leaps, so that a wrong definition does not check.
-use Rattle.std.proofs.Common.{◌≡◌, ℕ, ◌+◌, true, false, List, [], ◌∷◌, map, Option, Some, None, pos, refl, arith}
+use Rattle.std.proofs.Common.{◌≡◌, ℕ, ◌+◌, true, false, List, [], ◌∷◌, map, Option, Some, None, Err, pos, refl, arith}
 use Rattle.std.specs.Prelude.{codes, ◌++◌}
 use Rattle.jiff_core.specs.Calendar.{days_from_civil, day_count, days_of_years, days_of_months}
 use Rattle.irig_time.specs.declared.second.UtcSecond.{UtcSecond}
@@ -8,7 +8,8 @@ use Rattle.irig_time.specs.declared.rules.Sense.TheVariants.{Add}
 use Rattle.irig_time.specs.declared.rules.SbsUse.TheVariants.{Check}
 use Rattle.irig_time.specs.declared.rules.TheConstants.Rules.{PLAIN}
 use Rattle.irig_time.specs.declared.second.TheConstants.{FIRST_DAY, LAST_DAY}
-use Rattle.irig_time.specs.Days.{day_number, year_length, IsMonthEnd}
+use Rattle.irig_time.specs.Days.{day_number, year_length, IsMonthEnd, is_month_end}
+use Rattle.irig_time.proofs.MonthEnds.{month_end_served}
 use Rattle.irig_time.specs.Seconds.{minute_of, second_of}
 use Rattle.irig_time.specs.Texts.{date_text, time_text}
 use Rattle.irig_control.specs.declared.control.Control.{Control}
@@ -17,7 +18,13 @@ use Rattle.irig_time.specs.declared.leap.Leap.{Leap}
 use Rattle.irig_time.specs.declared.leap.Leap.TheVariants as leap
 use Rattle.irig_time.specs.Next.{next_at_month_end, turn}
 use Rattle.irig_time.specs.Timelines.{TimelineValue, times, day_length, IsSecond}
-use Rattle.irig_time.specs.Claims.{frame_mark}
+use Rattle.irig_time.specs.Claims.{frame_mark, utc_minute, claim_by}
+use Rattle.irig_frame.specs.declared.coded.Coded.{Coded}
+use Rattle.irig_time.specs.declared.claim.TimeFault.TheVariants as fault
+use Rattle.irig_time.specs.declared.timeline.TimelineFault.TheVariants.{OutOfYears, BadStart}
+use Rattle.irig_time.specs.declared.table.TableFault.TheVariants as table
+use Rattle.irig_time.specs.TimelineFaults.{leap_fault, timeline_fault}
+use Rattle.irig_time.specs.Tables.{table_fault}
 
 -- 2000-01-01 is day 0, 2000-12-31 day 365, 2016-12-31 day 6209, 2099-12-30 day 36523 and 2099-12-31
 -- day 36524
@@ -46,6 +53,14 @@ known_years = refl
 pub month_end_6209 : IsMonthEnd 6209
 unfolding days_from_civil day_count days_of_years days_of_months
 month_end_6209 = (pos 2017, 1, (((omega arith, omega arith), (omega arith, omega arith), (omega arith, omega arith)), refl))
+
+-- the test says so; it says of 2099-12-31, which isn't served, that it ends none
+pub known_month_end : is_month_end 6209 ≡ true
+unfolding is_month_end days_from_civil day_count days_of_years days_of_months
+known_month_end = refl
+
+pub known_last_end : ¬ (is_month_end 36524 ≡ true)
+known_last_end h = omega (arith, month_end_served 36524 h)
 
 abbrev second : ℕ → UtcSecond
 second sod = record { day = 6209; sod = sod }
@@ -102,3 +117,27 @@ pending = record { leap_pending = true; leap_delete = false; dst_pending = false
 pub known_marks : (map (λ second. frame_mark true second pending) (0 ∷ 1 ∷ 59 ∷ 60 ∷ []) ≡ Unspoken ∷ Insert ∷ Insert ∷ Unspoken ∷ [])
     × (map (λ second. frame_mark false second pending) (0 ∷ 1 ∷ 59 ∷ 60 ∷ []) ≡ Unspoken ∷ Unspoken ∷ Unspoken ∷ Unspoken ∷ [])
 known_marks = (refl, refl)
+
+-- ---- the first of two faults
+
+abbrev coded : ℕ → ℕ → ℕ → Coded
+coded year day second = record { second = second; minute = 0; hour = 12; day = day; year = year; control = 0; sbs = 0 }
+
+-- day 366 of 2099 is neither a day nor served; 2000-01-01 isn't served, and has no 12:00:60; day
+-- 366 of 2017 isn't there, and has none
+pub known_time_order : map (λ c. claim_by Add c (record pending { leap_pending = false })) (coded 99 366 0 ∷ coded 0 1 60 ∷ coded 17 366 60 ∷ coded 99 365 0 ∷ [])
+    ≡ Err fault.NoSuchDay ∷ Err fault.OutOfYears ∷ Err fault.NoSuchDay ∷ Err fault.OutOfYears ∷ []
+unfolding utc_minute
+known_time_order = refl
+
+-- the years go before the month's end: 2000-01-01 and 2099-12-31 aren't served
+pub known_leap_order : map (leap_fault []) (0 ∷ 36524 ∷ []) ≡ Some OutOfYears ∷ Some OutOfYears ∷ []
+known_leap_order = refl
+
+-- the leaps of a timeline go before its start, and of two leaps the first in the list's order
+pub known_timeline_order : (timeline_fault (at 0 0) ((0, leap.Insert) ∷ []) ≡ Some OutOfYears) × (timeline_fault (at 0 0) [] ≡ Some BadStart)
+known_timeline_order = (refl, refl)
+
+-- the end of a table goes before its leaps, and 2000-01-01 before the month's end
+pub known_table_order : (table_fault 36524 ((0, leap.Insert) ∷ []) ≡ Some table.TableEnd) × (table_fault 36523 ((0, leap.Insert) ∷ []) ≡ Some table.TableDay)
+known_table_order = (refl, refl)
