@@ -16,6 +16,7 @@ pub mod TickLaws
 pub mod CourseLaws
 pub mod Standing
 pub mod ExactLaws
+pub mod HealthLaws
 pub mod RangeLaws
 pub mod StandardFacts
 pub mod HeadlineFacts

@@ -81,6 +81,9 @@ pub record SomeWithin (x : VotedEdges) (n limit : ℕ) : Type 0 where
   pub below : edge < n
   pub is : x.voted edge ≡ true
 
+-- ---- the four causes; held is whether the reader announced at the tick before, and no restart
+-- fell between
+
 -- it counts the voted edges of a run
 pub record IsCounting (x : VotedEdges) (n : ℕ) (said : Report) : Type 0 where
   pub voted : x.voted n ≡ true
@@ -109,8 +112,7 @@ pub record IsVoteless (x : VotedEdges) (held : Type 0) (n : ℕ) (said : Report)
   pub unheld : ¬ held
   pub report : said ≡ silence lock.Unlocked cause.NoVote
 
--- why it says nothing: one of the four; held is whether it announced at the tick before, and no
--- restart fell between
+-- why it says nothing: one of the four applies, and it tells that one
 abbrev pub IsSilence : VotedEdges → Type 0 → ℕ → Report → Type 0
 IsSilence x held n said =
     IsCounting x n said ⊎ IsExpired x held n said ⊎ IsStopped x held n said

@@ -11,3 +11,4 @@ pub mod Truth
 pub mod Exactly
 pub mod Headline
 pub mod History
+pub mod Health

@@ -1,6 +1,7 @@
 //! Laws of plants over their definitions. They have no code.
 
-ghost use Rattle.std.specs.Prelude.{◌≡◌, ◌+◌, ◌<◌, ◌≤◌, ◌↔◌, ◌⊎◌, true, false, ℕ, Some, None, List, ◌∷◌, All, is_some};
+ghost use Rattle.std.specs.Prelude.{◌≡◌, ◌+◌, ◌<◌, ◌≤◌, ◌↔◌, ◌⊎◌, true, false, ℕ, Some, None, List, [], ◌∷◌, length, All, is_some};
+ghost use Rattle.std.specs.List.{Contains};
 ghost use Rattle.irig_time.specs.Timelines.{TimelineValue, truth_at};
 ghost use Rattle.irig_time.specs.TimelineFaults.{IsTimeline};
 ghost use Rattle.irig_time.specs.Tables.{TableValue};
@@ -10,16 +11,18 @@ ghost use Rattle.irig_gen.specs.Sent.{frame_of};
 ghost use Rattle.irig_port.specs.Heard.{symbols_of};
 ghost use Rattle.irig_port.specs.Told.{told_of, told_of_widths};
 ghost use Rattle.irig_hold.specs.Truth.{IsTrueTable};
+ghost use Rattle.irig_vote.specs.Vote.{ports_in, redundancy_of};
 ghost use Rattle.irig_reader.specs.History.{vote_at_tick};
 ghost use Rattle.irig_reader.specs.Rule.{state_of};
-ghost use Rattle.irig_plant.specs.Schedule.{Setup, setup_at, ticks_of, votes_of, history_of, log_of};
+ghost use Rattle.irig_plant.specs.Schedule.{Setup, setup_at, generator_at, heard_at, ticks_of, votes_of, history_of, log_of};
 ghost use Rattle.irig_plant.specs.Audits.{is_true_table, is_broken_now, audit_of};
-ghost use Rattle.irig_plant.specs.Edges.{CanLock, is_voted_now, is_voted, is_restarted, IsVoted, IsRestarted};
+ghost use Rattle.irig_plant.specs.Edges.{CanLock, is_voted_now, is_voted, is_restarted, IsVoted, IsRestarted, voted_edges_of, IsRun};
 ghost use Rattle.irig_plant.specs.Ports.{AtLeast, AtMost, f_in, IsTruePort, IsUntruePort};
-ghost use Rattle.irig_plant.specs.Exactly.{AnnouncesWhenHeld, HasItsLock, HasItsCause};
+ghost use Rattle.irig_plant.specs.Exactly.{announcement, IsServed, AnnouncesWhenHeld, HasItsLock, HasItsCause};
 ghost use Rattle.irig_plant.specs.Premises.{HasPremises, IsKeptUpTo, IsKept};
 ghost use Rattle.irig_plant.specs.Truth.{Announces, IsBefore, StandsAtTruth, AnnouncesTruth, GivesNoFalseAlarm, IsTruthful};
 ghost use Rattle.irig_plant.specs.Headline.{KeepsHeadline};
+ghost use Rattle.irig_plant.specs.Health.{HasGenerators, IsHealthyPort};
 ghost use Rattle.irig_plant.specs.Widths.{widths_of};
 ghost use Rattle.irig_plant.specs.History.{PlantHistory, HasPlantHistory};
 
@@ -29,6 +32,7 @@ use crate::event::Event;
 use crate::plant::Plant;
 use irig_frame::Symbol;
 use irig_port::{Port, Told};
+use irig_reader::{Cause, Lock};
 use irig_time::{Claim, UtcSecond};
 
 /// Two plants with the same history have equal logs and the same audit, whatever ports their
@@ -172,6 +176,29 @@ pub fn true_frames_tell_the_truth()
         → IsGenerator g → IsTimeline t → truth_at t edge ≡ Some c
         → told_of_widths g.rules (widths_of (frame_of None g t edge)) ≡ Told.Claim c }
     ensures heard { (s : List Symbol) → symbols_of (widths_of (Some s)) ≡ s }
+{}
+
+/// A healthy carry is a true vote.
+pub fn healthy_carries_vote()
+    // A generator without fault, at the edge of a reader's last tick, sends an empty port just the
+    // frame that makes it healthy.
+    ensures healthy { (s : Setup) (r p : ℕ) (ev : List Event)
+        → p < ports_in (redundancy_of (length s.generators))
+        → (generator_at s p ev).fault ≡ None → (generator_at s p ev).edge ≡ ticks_of r ev
+        → heard_at s r p ev ≡ [] → IsHealthyPort s r (Event.Carry p r ∷ ev) p }
+    // Where at least f + 1 ports are healthy and the timeline has a second, the edge is voted.
+    ensures voted { (s : Setup) (r : ℕ) (ev : List Event) (c : Claim) → IsTimeline s.times
+        → HasGenerators s → truth_at s.times (ticks_of r ev) ≡ Some c
+        → AtLeast (f_in s + 1) (IsHealthyPort s r ev) → is_voted_now s r ev ≡ true }
+{}
+
+/// A reader is available, and recovers: after as many voted edges in a row as it locks after, with
+/// no restart between, an entry announces under its premises, whatever came before.
+pub fn runs_are_announced()
+    ensures { (s : Setup) (ev : List Event) (e : Entry) (v : UtcSecond) → IsTimeline s.times
+        → All CanLock s.readers → Contains (log_of s ev) e → IsServed s ev e v
+        → IsRun (voted_edges_of s e.reader ev) e.edge (setup_at s.readers e.reader).rules.lock_after
+        → e.report ≡ announcement v Lock.Locked Cause.Voted }
 {}
 
 /// The audit answers `Kept` exactly if the premises of the headline hold for all readers and ticks.

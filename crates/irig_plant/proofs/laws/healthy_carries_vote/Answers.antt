@@ -1,0 +1,8 @@
+use Rattle.irig_plant.proofs.HealthLaws.{carried_is_healthy, healthy_votes}
+use Rattle.irig_plant.proofs.laws.healthy_carries_vote.Goals as goal
+
+pub returns-clause-healthy : goal.returns-clause-healthy
+returns-clause-healthy _ = carried_is_healthy
+
+pub returns-clause-voted : goal.returns-clause-voted
+returns-clause-voted _ = healthy_votes
