@@ -1,34 +1,21 @@
 -- Instances of the headline's records that hold, and instances that do not, so that none of their
 -- fields can be dropped or turned. Newest events come first.
 use Rattle.std.specs.Prelude.{◌==◌, ◌||◌, All}
-use Rattle.std.proofs.Common.{◌≡◌, ℕ, ◌+◌, ◌<◌, ◌≤◌, true, false, List, [], ◌∷◌, ◌++◌, Option, Some, None, inl, inr, refl, sym, ap, subst, ◌∙◌, arith}
+use Rattle.std.proofs.Common.{◌≡◌, ℕ, ◌+◌, ◌<◌, ◌≤◌, true, false, [], ◌∷◌, Option, Some, None, inl, inr, refl, sym, ap, subst, ◌∙◌, arith}
 use Rattle.std.proofs.lemmas.Bool.{false≢true, cases_eq}
 use Rattle.std.proofs.lemmas.List.Elements.{All-nil, All-cons}
-use Rattle.irig_control.specs.declared.parity.Parity.TheVariants.{Even}
-use Rattle.irig_time.specs.declared.rules.Rules.{Rules}
-use Rattle.irig_time.specs.declared.rules.Sense.TheVariants.{Add}
-use Rattle.irig_time.specs.declared.rules.SbsUse.TheVariants.{Ignore}
 use Rattle.irig_time.specs.declared.second.UtcSecond.{UtcSecond}
 use Rattle.irig_time.specs.declared.leap.Leap.TheVariants as leap
 use Rattle.irig_time.proofs.StandardFacts.{known_month_end}
-use Rattle.irig_time.specs.Timelines.{TimelineValue, times, second_at, true_claim, truth_at}
-use Rattle.irig_time.specs.TimelineFaults.{IsTimeline}
+use Rattle.irig_time.specs.Timelines.{TimelineValue, times, second_at}
 use Rattle.irig_time.specs.Tables.{TableValue, table}
 use Rattle.irig_hold.specs.Truth.{IsTrueTable}
-use Rattle.irig_gen.specs.Refusals.{IsGenerator}
-use Rattle.irig_gen.specs.Sent.{frame_of}
-use Rattle.irig_port.specs.declared.told.Told.TheVariants as tells
-use Rattle.irig_port.specs.Told.{told_of_widths}
-use Rattle.irig_port.proofs.ToldLaws.{none_told}
 use Rattle.irig_reader.specs.declared.report.Lock.TheVariants as lock
 use Rattle.irig_reader.specs.declared.report.Cause.TheVariants as cause
 use Rattle.irig_reader.specs.declared.report.Report.{Report}
-use Rattle.irig_plant.specs.declared.event.Event.{Event}
 use Rattle.irig_plant.specs.declared.event.Event.TheVariants.{Tick, Replay}
 use Rattle.irig_plant.specs.declared.entry.Entry.{Entry}
 use Rattle.irig_plant.specs.declared.setup.ReaderSetup.{ReaderSetup}
-use Rattle.irig_plant.specs.Widths.{widths_of}
-use Rattle.irig_plant.specs.Schedule.{Setup, setup, no_generator, ticks_of}
 use Rattle.irig_plant.specs.Audits.{is_true_table, first_false, is_broken_now, place, first_broken}
 use Rattle.irig_plant.specs.Edges.{VotedEdges, voted_edges_of, IsGuard, HasVote, IsHeld, IsRun, IsLongestRun, IsLastVote}
 use Rattle.irig_plant.specs.Ports.{AreRising, AtLeast, AtMost}
@@ -37,7 +24,7 @@ use Rattle.irig_plant.specs.Truth.{AnnouncesTruth, GivesNoFalseAlarm, IsTruthful
 use Rattle.irig_plant.specs.Exactly.{announcement, silence, IsServed, AnnouncesWhenHeld, IsAnnouncement, HasAnnounced, IsSilence}
 use Rattle.irig_plant.proofs.Headline.{kept_now, harmless}
 use Rattle.irig_plant.proofs.KeptLaws.{empty_true}
-use Rattle.irig_plant.proofs.FrameLaws.{true_frame_told}
+use Rattle.irig_plant.proofs.NoonPlants.{at, noon, plant, told_0, told_nothing, kept_none, kept_tick, kept_replay, two_stale, kept_first_of_3}
 
 -- ---- how many numbers are such
 
@@ -71,92 +58,41 @@ not_at_least_three h = omega (arith, h.many, at_most_two h.numbers h.rising h.su
 
 -- ---- the premises
 
--- three generators on UTC from 12:00:00 of day 100 on, and a reader that locks after one vote
-abbrev at : ℕ → UtcSecond
-at sod = record { day = 100; sod = sod }
-
-abbrev noon : TimelineValue
-noon = times (at 43200) []
-
-abbrev rules : Rules
-rules = record { parity = Even; sense = Add; sbs = Ignore }
-
-abbrev plant : Setup
-plant = setup noon (no_generator ∷ no_generator ∷ no_generator ∷ []) rules (record { rules = record { lock_after = 1; holdover = 0 }; table = table 0 [] } ∷ [])
-
-is_timeline : IsTimeline noon
-is_timeline = record { sound = refl }
-
-is_generator : IsGenerator no_generator
-is_generator = record { sound = refl }
-
-truth_5 : truth_at noon 5 ≡ Some (true_claim [] (at 43205))
+-- of three generators; at the second tick two ports of reader 0 have heard the frame of edge 0
+broken_at_2 : is_broken_now (plant 3) 0 two_stale ≡ true
 unfolding second_at
-truth_5 = refl
+broken_at_2 = rw (told_0, told_nothing) refl
 
-told_5 : told_of_widths rules (widths_of (frame_of None no_generator noon 5)) ≡ tells.Claim (true_claim [] (at 43205))
-told_5 = true_frame_told no_generator noon 5 (true_claim [] (at 43205)) is_generator is_timeline truth_5
-
-told_nothing : told_of_widths rules [] ≡ tells.Silence
-told_nothing = none_told rules [] refl
-
--- after reader 0's first tick two of its ports hear the frame of edge 5
-abbrev replayed : List Event
-replayed = Replay 1 0 5 ∷ Replay 0 0 5 ∷ Tick 0 ∷ []
-
-kept_at_1 : is_broken_now plant 0 [] ≡ false
-unfolding second_at
-kept_at_1 = rw told_nothing refl
-
-broken_at_2 : is_broken_now plant 0 replayed ≡ true
-unfolding second_at
-broken_at_2 = rw (told_5, told_nothing) refl
-
-first_at_2 : first_broken plant (Tick 0 ∷ replayed) ≡ Some (place 0 2)
-first_at_2 = rw (kept_at_1, broken_at_2) refl
-
-none_yet : (r n : ℕ) → IsKeptUpTo plant r n []
-none_yet r n = record { ticks = at }
-  where
-    at : (later earlier : List Event) → [] ≡ later ++ (Tick r ∷ earlier) → ticks_of r earlier < n → is_broken_now plant r earlier ≡ false
-    at [] earlier is low = absurd cc
-    at (x ∷ later) earlier is low = absurd cc
-
-kept_after_1 : IsKeptUpTo plant 0 1 (Tick 0 ∷ [])
-kept_after_1 = record { ticks = at }
-  where
-    at : (later earlier : List Event) → Tick 0 ∷ [] ≡ later ++ (Tick 0 ∷ earlier) → ticks_of 0 earlier < 1 → is_broken_now plant 0 earlier ≡ false
-    at [] earlier is low = let none : [] ≡ earlier = cc in subst (λ (ev : List Event). is_broken_now plant 0 ev ≡ false) none kept_at_1
-    at (x ∷ later) earlier is low = (none_yet 0 1).ticks later earlier (let none : [] ≡ later ++ (Tick 0 ∷ earlier) = cc in none) low
+first_at_2 : first_broken (plant 3) (Tick 0 ∷ two_stale) ≡ Some (place 0 2)
+first_at_2 = rw (kept_first_of_3, broken_at_2) refl
 
 -- a tick that is broken later, or at another reader, breaks nothing here; at this edge it does
-kept_up_to_1 : IsKeptUpTo plant 0 1 (Tick 0 ∷ replayed)
+kept_up_to_1 : IsKeptUpTo (plant 3) 0 1 (Tick 0 ∷ two_stale)
 kept_up_to_1 =
-    (harmless plant 0 1 (Tick 0) replayed (λ e. omega arith)).1
-    ((harmless plant 0 1 (Replay 1 0 5) (Replay 0 0 5 ∷ Tick 0 ∷ []) (λ e. absurd cc)).1
-    ((harmless plant 0 1 (Replay 0 0 5) (Tick 0 ∷ []) (λ e. absurd cc)).1 kept_after_1))
+    (harmless (plant 3) 0 1 (Tick 0) two_stale (λ e. omega arith)).1
+    (kept_replay (plant 3) 1 0 0 0 1 (Replay 0 0 0 ∷ Tick 0 ∷ [])
+    (kept_replay (plant 3) 0 0 0 0 1 (Tick 0 ∷ []) (kept_tick (plant 3) 0 0 1 [] kept_first_of_3 (kept_none (plant 3) 0 1))))
 
-other_kept : IsKeptUpTo plant 1 2 (Tick 0 ∷ replayed)
+other_kept : IsKeptUpTo (plant 3) 1 2 (Tick 0 ∷ two_stale)
 other_kept =
-    (harmless plant 1 2 (Tick 0) replayed (λ e. absurd cc)).1
-    ((harmless plant 1 2 (Replay 1 0 5) (Replay 0 0 5 ∷ Tick 0 ∷ []) (λ e. absurd cc)).1
-    ((harmless plant 1 2 (Replay 0 0 5) (Tick 0 ∷ []) (λ e. absurd cc)).1
-    ((harmless plant 1 2 (Tick 0) [] (λ e. absurd cc)).1 (none_yet 1 2))))
+    (harmless (plant 3) 1 2 (Tick 0) two_stale (λ e. absurd cc)).1
+    (kept_replay (plant 3) 1 0 0 1 2 (Replay 0 0 0 ∷ Tick 0 ∷ [])
+    (kept_replay (plant 3) 0 0 0 1 2 (Tick 0 ∷ []) (kept_tick (plant 3) 0 1 2 [] kept_first_of_3 (kept_none (plant 3) 1 2))))
 
-broken_up_to_2 : ¬ IsKeptUpTo plant 0 2 (Tick 0 ∷ replayed)
-broken_up_to_2 kept = false≢true (sym (kept_now plant 0 2 replayed kept (omega arith)) ∙ broken_at_2)
+broken_up_to_2 : ¬ IsKeptUpTo (plant 3) 0 2 (Tick 0 ∷ two_stale)
+broken_up_to_2 kept = false≢true (sym (kept_now (plant 3) 0 2 two_stale kept (omega arith)) ∙ broken_at_2)
 
-not_kept : ¬ IsKept plant (Tick 0 ∷ replayed)
+not_kept : ¬ IsKept (plant 3) (Tick 0 ∷ two_stale)
 not_kept kept = broken_up_to_2 (kept.ticks 0 2)
 
 -- so an entry of edge 1 has its premises, and one of edge 2 has not
 abbrev entry : ℕ → Report → Entry
 entry edge report = record { reader = 0; edge = edge; report = report }
 
-premises_at_1 : (said : Report) → HasPremises plant (Tick 0 ∷ replayed) (entry 1 said)
+premises_at_1 : (said : Report) → HasPremises (plant 3) (Tick 0 ∷ two_stale) (entry 1 said)
 premises_at_1 said = record { true_table = empty_true noon (omega arith); kept = kept_up_to_1 }
 
-no_premises_at_2 : (said : Report) → ¬ HasPremises plant (Tick 0 ∷ replayed) (entry 2 said)
+no_premises_at_2 : (said : Report) → ¬ HasPremises (plant 3) (Tick 0 ∷ two_stale) (entry 2 said)
 no_premises_at_2 said p = broken_up_to_2 p.kept
 
 -- of three tables the least false one is named
@@ -166,14 +102,14 @@ module _ (t : TimelineValue) (a b c : ReaderSetup) (right : is_true_table t a.ta
 
 -- ---- truth and alarms, where no event has come
 
-premises : (said : Report) → HasPremises plant [] (entry 1 said)
-premises said = record { true_table = empty_true noon (omega arith); kept = none_yet 0 1 }
+premises : (said : Report) → HasPremises (plant 3) [] (entry 1 said)
+premises said = record { true_table = empty_true noon (omega arith); kept = kept_none (plant 3) 0 1 }
 
 abbrev holds_over : ℕ → Report
 holds_over sod = announcement (at sod) (lock.Holdover 1) cause.Held
 
 -- what is announced by a hold is to be T of the edge, too
-true_hold : AnnouncesTruth plant [] (entry 1 (holds_over 43201))
+true_hold : AnnouncesTruth (plant 3) [] (entry 1 (holds_over 43201))
 unfolding second_at
 true_hold = record { second = λ p u e. e }
 
@@ -182,7 +118,7 @@ another e =
     let same : at 43201 ≡ at 43202 = cc in
     omega (arith, ap (λ (u : UtcSecond). u.sod) same)
 
-false_hold : ¬ AnnouncesTruth plant [] (entry 1 (holds_over 43202))
+false_hold : ¬ AnnouncesTruth (plant 3) [] (entry 1 (holds_over 43202))
 unfolding second_at
 false_hold h = another (h.second (premises (holds_over 43202)) (at 43202) refl)
 
@@ -194,20 +130,20 @@ not_truthful : ¬ IsTruthful noon (entry 1 (holds_over 43202))
 unfolding second_at
 not_truthful h = another (h.second (at 43202) refl)
 
-calm : GivesNoFalseAlarm plant [] (entry 1 (silence lock.Unlocked cause.NoVote))
+calm : GivesNoFalseAlarm (plant 3) [] (entry 1 (silence lock.Unlocked cause.NoVote))
 calm = record { jump = λ p e. cc; range_end = λ p e. absurd cc; leap_guard = λ p e. absurd cc }
 
-false_jump : ¬ GivesNoFalseAlarm plant [] (entry 1 (silence lock.Unlocked cause.Jump))
+false_jump : ¬ GivesNoFalseAlarm (plant 3) [] (entry 1 (silence lock.Unlocked cause.Jump))
 false_jump h = h.jump (premises (silence lock.Unlocked cause.Jump)) refl
 
-false_end : ¬ GivesNoFalseAlarm plant [] (entry 1 (silence lock.Unlocked cause.RangeEnd))
+false_end : ¬ GivesNoFalseAlarm (plant 3) [] (entry 1 (silence lock.Unlocked cause.RangeEnd))
 unfolding second_at
 false_end h = let none : ◌≡◌ {A = Option UtcSecond} (Some (at 43201)) None = h.range_end (premises (silence lock.Unlocked cause.RangeEnd)) refl in cc
 
-false_guard : ¬ GivesNoFalseAlarm plant [] (entry 1 (silence lock.Unlocked cause.LeapGuard))
+false_guard : ¬ GivesNoFalseAlarm (plant 3) [] (entry 1 (silence lock.Unlocked cause.LeapGuard))
 unfolding second_at
 false_guard h =
-    let g : IsGuard (voted_edges_of plant 0 []) 1 = h.leap_guard (premises (silence lock.Unlocked cause.LeapGuard)) refl in
+    let g : IsGuard (voted_edges_of (plant 3) 0 []) 1 = h.leap_guard (premises (silence lock.Unlocked cause.LeapGuard)) refl in
     let first : g.before ≡ 0 = omega (arith, g.is_before) in
     let second : ◌≡◌ {A = Option UtcSecond} (Some (at 43200)) (Some g.second) = subst (λ (n : ℕ). second_at noon n ≡ Some g.second) first g.at in
     let same : at 43200 ≡ g.second = cc in
@@ -227,20 +163,20 @@ not_itself (inr same) = omega (arith, same.1)
 
 -- ---- exactly when
 
-unheld : ¬ IsHeld (voted_edges_of plant 0 []) 1
+unheld : ¬ IsHeld (voted_edges_of (plant 3) 0 []) 1
 unheld h = false≢true (h.votes h.lock (omega arith) (omega arith))
 
-served : (said : Report) → IsServed plant [] (entry 1 said) (at 43201)
+served : (said : Report) → IsServed (plant 3) [] (entry 1 said) (at 43201)
 unfolding second_at
 served said = record { second = refl; premises = premises said }
 
-silent_unheld : AnnouncesWhenHeld plant [] (entry 1 (silence lock.Unlocked cause.NoVote))
+silent_unheld : AnnouncesWhenHeld (plant 3) [] (entry 1 (silence lock.Unlocked cause.NoVote))
 silent_unheld = record { exactly = λ v s. (λ says. absurd (false≢true says), λ held. absurd (unheld held)) }
 
-announced_unheld : ¬ AnnouncesWhenHeld plant [] (entry 1 (holds_over 43201))
+announced_unheld : ¬ AnnouncesWhenHeld (plant 3) [] (entry 1 (holds_over 43201))
 announced_unheld h = unheld ((h.exactly (at 43201) (served (holds_over 43201))).0 refl)
 
-none_announced : ¬ HasAnnounced plant [] 0 0
+none_announced : ¬ HasAnnounced (plant 3) [] 0 0
 none_announced h = omega (arith, h.logged.1)
 
 -- ---- edges

@@ -20,4 +20,5 @@ pub mod HealthLaws
 pub mod RangeLaws
 pub mod StandardFacts
 pub mod HeadlineFacts
+pub mod NoonPlants
 pub mod KeptLaws

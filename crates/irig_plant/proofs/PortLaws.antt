@@ -178,12 +178,16 @@ module _ (s : Setup) (r : ℕ) (ev : List Event) where
         λ h. lt-ltb (f_in s) untrue_now (omega (arith, counts.1 h, untrue_counted)),
       )
 
+  pub few_untrue : (few : ℕ) → (untrue_now ≤ few) ↔ AtMost few (IsUntruePort s r ev)
+  few_untrue few =
+      let counts = at_most is_untrue_now (told_by s r ev) (IsUntruePort s r ev) (ports_in (redundancy_of (length s.generators))) untrue_told untrue_port few in
+      (λ h. counts.0 (omega (arith, h, untrue_counted)), λ h. omega (arith, counts.1 h, untrue_counted))
+
   pub kept_by_ports : (is_broken_now s r ev ≡ false) ↔ AtMost (f_in s) (IsUntruePort s r ev)
-  kept_by_ports =
-      let counts = at_most is_untrue_now (told_by s r ev) (IsUntruePort s r ev) (ports_in (redundancy_of (length s.generators))) untrue_told untrue_port (f_in s) in (
-        λ h. counts.0 (omega (arith, ltb-false (f_in s) untrue_now h, untrue_counted)),
-        λ h. le-ltb (f_in s) untrue_now (omega (arith, counts.1 h, untrue_counted)),
-      )
+  kept_by_ports = (
+    λ h. (few_untrue (f_in s)).0 (ltb-false (f_in s) untrue_now h),
+    λ h. le-ltb (f_in s) untrue_now ((few_untrue (f_in s)).1 h),
+  )
 
   module _ (c : Claim) (truth : truth_at s.times (ticks_of r ev) ≡ Some c) where
     true_told : (p : ℕ) → IsTruePort s r ev p → (p < ports_in (redundancy_of (length s.generators))) × (is_told c (told_by s r ev p) ≡ true)

@@ -12,3 +12,4 @@ pub mod Exactly
 pub mod Headline
 pub mod History
 pub mod Health
+pub mod Misled

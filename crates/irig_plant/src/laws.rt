@@ -23,6 +23,7 @@ ghost use Rattle.irig_plant.specs.Premises.{HasPremises, IsKeptUpTo, IsKept};
 ghost use Rattle.irig_plant.specs.Truth.{Announces, IsBefore, StandsAtTruth, AnnouncesTruth, GivesNoFalseAlarm, IsTruthful};
 ghost use Rattle.irig_plant.specs.Headline.{KeepsHeadline};
 ghost use Rattle.irig_plant.specs.Health.{HasGenerators, IsHealthyPort};
+ghost use Rattle.irig_plant.specs.Misled.{IsMisled};
 ghost use Rattle.irig_plant.specs.Widths.{widths_of};
 ghost use Rattle.irig_plant.specs.History.{PlantHistory, HasPlantHistory};
 
@@ -114,6 +115,15 @@ pub fn announcements_agree()
     ensures order { (s : Setup) (ev : List Event) (one other : Entry) (u v : UtcSecond)
         → IsTimeline s.times → Announces s ev one u → Announces s ev other v
         → one.edge < other.edge → IsBefore u v }
+{}
+
+/// The premise is needed, of three generators and of five: a plant in which f + 1 ports of one
+/// reader are untrue at a single tick, and all else is kept, announces a false second there.
+pub fn premise_is_needed()
+    ensures three { (s : Setup) × (ev : List Event) × (r : ℕ) × (u : UtcSecond)
+        × (length s.generators ≡ 3) × IsMisled s ev r u }
+    ensures five { (s : Setup) × (ev : List Event) × (r : ℕ) × (u : UtcSecond)
+        × (length s.generators ≡ 5) × IsMisled s ev r u }
 {}
 
 /// No false alarm: under its premises the cause of an entry is no jump, the end of the range only

@@ -54,10 +54,15 @@ pub month_end_6209 : IsMonthEnd 6209
 unfolding days_from_civil day_count days_of_years days_of_months
 month_end_6209 = (pos 2017, 1, (((omega arith, omega arith), (omega arith, omega arith), (omega arith, omega arith)), refl))
 
--- the test says so; it says of 2099-12-31, which isn't served, that it ends none
+-- the test says so, and so of 2000-01-31; it says of 2099-12-31, which isn't served, that it ends
+-- none
 pub known_month_end : is_month_end 6209 ≡ true
 unfolding is_month_end days_from_civil day_count days_of_years days_of_months
 known_month_end = refl
+
+pub known_first_end : is_month_end 30 ≡ true
+unfolding is_month_end days_from_civil day_count days_of_years days_of_months
+known_first_end = refl
 
 pub known_last_end : ¬ (is_month_end 36524 ≡ true)
 known_last_end h = omega (arith, month_end_served 36524 h)

@@ -1,0 +1,9 @@
+use Rattle.std.proofs.Common.{refl}
+use Rattle.irig_plant.proofs.NoonPlants.{at, plant, two_stale, three_stale, three_misled, five_misled}
+use Rattle.irig_plant.proofs.laws.premise_is_needed.Goals as goal
+
+pub returns-clause-three : goal.returns-clause-three
+returns-clause-three _ = (plant 3, two_stale, 0, at 43201, refl, three_misled)
+
+pub returns-clause-five : goal.returns-clause-five
+returns-clause-five _ = (plant 5, three_stale, 0, at 43201, refl, five_misled)
