@@ -21,4 +21,5 @@ pub mod RangeLaws
 pub mod StandardFacts
 pub mod HeadlineFacts
 pub mod NoonPlants
+pub mod LeapPlant
 pub mod KeptLaws

@@ -68,7 +68,7 @@ plant count = setup noon (replicate count no_generator) rules (reader ∷ [])
 is_timeline : IsTimeline noon
 is_timeline = record { sound = refl }
 
-is_generator : IsGenerator no_generator
+pub is_generator : IsGenerator no_generator
 is_generator = record { sound = refl }
 
 -- ---- what ports tell of the frame of edge 0, and of nothing
@@ -123,6 +123,9 @@ has_generators count some long = record {
   };
   zones = All-replicate IsGenerator count no_generator is_generator;
 }
+
+pub three_generators : HasGenerators (plant 3)
+three_generators = has_generators 3 (inl refl) refl
 
 are_readers : AreReaders (reader ∷ [])
 are_readers = record {
@@ -200,7 +203,7 @@ three_misled = record {
   in_order = refl;
   takes = record {
     timeline = is_timeline;
-    generators = has_generators 3 (inl refl) refl;
+    generators = three_generators;
     readers = are_readers;
     accepted = (refl, (refl, (refl, (refl, tt))));
   };

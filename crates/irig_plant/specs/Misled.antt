@@ -1,4 +1,4 @@
--- Where the premise breaks once, and a false second is announced.
+-- Where one premise does not hold, and a false second is announced.
 -- Source: docs/HEADLINE.md, the premises.
 use Rattle.std.specs.Prelude.{◌≡◌, ℕ, ◌+◌, List, [], ◌∷◌, Some}
 use Rattle.irig_time.specs.declared.second.UtcSecond.{UtcSecond}
@@ -9,7 +9,7 @@ use Rattle.irig_plant.specs.declared.event.Event.TheVariants.{Tick}
 use Rattle.irig_plant.specs.Schedule.{Setup, ticks_of, entry_of}
 use Rattle.irig_plant.specs.Runs.{events_after, AreAccepted}
 use Rattle.irig_plant.specs.Ports.{AtMost, f_in, IsUntruePort}
-use Rattle.irig_plant.specs.Premises.{IsKept}
+use Rattle.irig_plant.specs.Premises.{IsKeptUpTo, IsKept}
 use Rattle.irig_plant.specs.History.{AreReaders}
 use Rattle.irig_plant.specs.Health.{HasGenerators}
 
@@ -28,5 +28,14 @@ pub record IsMisled (s : Setup) (ev : List Event) (r : ℕ) (u : UtcSecond) : Ty
   pub takes : Takes s events
   pub kept : IsKept s ev
   pub few : AtMost (f_in s + 1) (IsUntruePort s r ev)
+  pub says : (entry_of s r ev).report.announce ≡ Some u
+  pub untrue : ¬ (second_at s.times (ticks_of r ev + 1) ≡ Some u)
+
+-- the same by a false table: the ports of all readers were kept at every tick, that one too
+pub record IsMisledByTable (s : Setup) (ev : List Event) (r : ℕ) (u : UtcSecond) : Type 0 where
+  pub events : List Event
+  pub in_order : events_after events [] ≡ Tick r ∷ ev
+  pub takes : Takes s events
+  pub kept : (q n : ℕ) → IsKeptUpTo s q n (Tick r ∷ ev)
   pub says : (entry_of s r ev).report.announce ≡ Some u
   pub untrue : ¬ (second_at s.times (ticks_of r ev + 1) ≡ Some u)

@@ -23,7 +23,7 @@ ghost use Rattle.irig_plant.specs.Premises.{HasPremises, IsKeptUpTo, IsKept};
 ghost use Rattle.irig_plant.specs.Truth.{Announces, IsBefore, StandsAtTruth, AnnouncesTruth, GivesNoFalseAlarm, IsTruthful};
 ghost use Rattle.irig_plant.specs.Headline.{KeepsHeadline};
 ghost use Rattle.irig_plant.specs.Health.{HasGenerators, IsHealthyPort};
-ghost use Rattle.irig_plant.specs.Misled.{IsMisled};
+ghost use Rattle.irig_plant.specs.Misled.{IsMisled, IsMisledByTable};
 ghost use Rattle.irig_plant.specs.Widths.{widths_of};
 ghost use Rattle.irig_plant.specs.History.{PlantHistory, HasPlantHistory};
 
@@ -117,13 +117,16 @@ pub fn announcements_agree()
         → one.edge < other.edge → IsBefore u v }
 {}
 
-/// The premise is needed, of three generators and of five: a plant in which f + 1 ports of one
-/// reader are untrue at a single tick, and all else is kept, announces a false second there.
-pub fn premise_is_needed()
+/// The premises are needed. A plant of three generators, and one of five, in which f + 1 ports of a
+/// reader are untrue at a single tick, and all else is kept, announces a false second there; and so
+/// does one that kept all of that, but for a table.
+pub fn premises_are_needed()
     ensures three { (s : Setup) × (ev : List Event) × (r : ℕ) × (u : UtcSecond)
         × (length s.generators ≡ 3) × IsMisled s ev r u }
     ensures five { (s : Setup) × (ev : List Event) × (r : ℕ) × (u : UtcSecond)
         × (length s.generators ≡ 5) × IsMisled s ev r u }
+    ensures table { (s : Setup) × (ev : List Event) × (r : ℕ) × (u : UtcSecond)
+        × IsMisledByTable s ev r u }
 {}
 
 /// No false alarm: under its premises the cause of an entry is no jump, the end of the range only

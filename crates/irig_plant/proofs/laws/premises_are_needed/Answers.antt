@@ -1,9 +1,13 @@
 use Rattle.std.proofs.Common.{refl}
+use Rattle.irig_plant.proofs.LeapPlant as minute
 use Rattle.irig_plant.proofs.NoonPlants.{at, plant, two_stale, three_stale, three_misled, five_misled}
-use Rattle.irig_plant.proofs.laws.premise_is_needed.Goals as goal
+use Rattle.irig_plant.proofs.laws.premises_are_needed.Goals as goal
 
 pub returns-clause-three : goal.returns-clause-three
 returns-clause-three _ = (plant 3, two_stale, 0, at 43201, refl, three_misled)
 
 pub returns-clause-five : goal.returns-clause-five
 returns-clause-five _ = (plant 5, three_stale, 0, at 43201, refl, five_misled)
+
+pub returns-clause-table : goal.returns-clause-table
+returns-clause-table _ = (minute.plant, minute.silent 58, 0, record { day = 31; sod = 0 }, minute.misled_by_table)
