@@ -17,6 +17,7 @@ pub mod CourseLaws
 pub mod Standing
 pub mod ExactLaws
 pub mod HealthLaws
+pub mod HearingLaws
 pub mod RangeLaws
 pub mod StandardFacts
 pub mod HeadlineFacts

@@ -12,4 +12,5 @@ pub mod Exactly
 pub mod Headline
 pub mod History
 pub mod Health
+pub mod Hearing
 pub mod Misled

@@ -14,7 +14,7 @@ ghost use Rattle.irig_hold.specs.Truth.{IsTrueTable};
 ghost use Rattle.irig_vote.specs.Vote.{ports_in, redundancy_of};
 ghost use Rattle.irig_reader.specs.History.{vote_at_tick};
 ghost use Rattle.irig_reader.specs.Rule.{state_of};
-ghost use Rattle.irig_plant.specs.Schedule.{Setup, setup_at, generator_at, heard_at, ticks_of, votes_of, history_of, log_of};
+ghost use Rattle.irig_plant.specs.Schedule.{Setup, setup_at, generator_at, heard_at, ticks_of, votes_of, history_of, entry_of, log_of};
 ghost use Rattle.irig_plant.specs.Audits.{is_true_table, is_broken_now, audit_of};
 ghost use Rattle.irig_plant.specs.Edges.{CanLock, is_voted_now, is_voted, is_restarted, IsVoted, IsRestarted, voted_edges_of, IsRun};
 ghost use Rattle.irig_plant.specs.Ports.{AtLeast, AtMost, f_in, IsTruePort, IsUntruePort};
@@ -23,6 +23,7 @@ ghost use Rattle.irig_plant.specs.Premises.{HasPremises, IsKeptUpTo, IsKept};
 ghost use Rattle.irig_plant.specs.Truth.{Announces, IsBefore, StandsAtTruth, AnnouncesTruth, GivesNoFalseAlarm, IsTruthful};
 ghost use Rattle.irig_plant.specs.Headline.{KeepsHeadline};
 ghost use Rattle.irig_plant.specs.Health.{HasGenerators, IsHealthyPort};
+ghost use Rattle.irig_plant.specs.Hearing.{HearAlike};
 ghost use Rattle.irig_plant.specs.Misled.{IsMisled, IsMisledByTable};
 ghost use Rattle.irig_plant.specs.Widths.{widths_of};
 ghost use Rattle.irig_plant.specs.History.{PlantHistory, HasPlantHistory};
@@ -212,6 +213,13 @@ pub fn runs_are_announced()
         → All CanLock s.readers → Contains (log_of s ev) e → IsServed s ev e v
         → IsRun (voted_edges_of s e.reader ev) e.edge (setup_at s.readers e.reader).rules.lock_after
         → e.report ≡ announcement v Lock.Locked Cause.Voted }
+{}
+
+/// Equal hearing: two readers that are made alike, heard the same at each tick and were restarted
+/// alike say the same, whatever is true.
+pub fn equal_hearing()
+    ensures { (s : Setup) (r : ℕ) (ev : List Event) (t : Setup) (q : ℕ) (other : List Event)
+        → HearAlike s r ev t q other → (entry_of s r ev).report ≡ (entry_of t q other).report }
 {}
 
 /// The audit answers `Kept` exactly if the premises of the headline hold for all readers and ticks.
