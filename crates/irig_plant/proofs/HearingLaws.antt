@@ -41,6 +41,10 @@ votes_are s r (Restart x ∷ ev) =
     ]
 votes_are s r (e ∷ ev) = votes_are s r ev
 
+pub votes_heard_alike : (s : Setup) (r : ℕ) (ev other : List Event) → hearing_of s r ev ≡ hearing_of s r other → votes_of s r ev ≡ votes_of s r other
+votes_heard_alike s r ev other same =
+    votes_are s r ev ∙ ap (votes_by s.rules (setup_at s.readers r) (redundancy_of (length s.generators))) same ∙ sym (votes_are s r other)
+
 history_heard : Rules → ReaderSetup → Redundancy → Fed → List (Option Fed) → ReaderHistory
 history_heard rules own redundancy fed hearing = history_by rules own redundancy fed (votes_by rules own redundancy hearing)
 

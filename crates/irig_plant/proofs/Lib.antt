@@ -18,6 +18,7 @@ pub mod Standing
 pub mod ExactLaws
 pub mod HealthLaws
 pub mod HearingLaws
+pub mod SteadyLaws
 pub mod RangeLaws
 pub mod StandardFacts
 pub mod HeadlineFacts

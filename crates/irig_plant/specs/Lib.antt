@@ -13,4 +13,5 @@ pub mod Headline
 pub mod History
 pub mod Health
 pub mod Hearing
+pub mod Steadiness
 pub mod Misled

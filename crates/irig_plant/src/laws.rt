@@ -1,6 +1,6 @@
 //! Laws of plants over their definitions. They have no code.
 
-ghost use Rattle.std.specs.Prelude.{◌≡◌, ◌+◌, ◌<◌, ◌≤◌, ◌↔◌, ◌⊎◌, true, false, ℕ, Some, None, List, [], ◌∷◌, length, All, is_some};
+ghost use Rattle.std.specs.Prelude.{◌≡◌, ◌+◌, ◌<◌, ◌≤◌, ◌↔◌, ◌⊎◌, true, false, ℕ, Some, None, List, [], ◌∷◌, ◌++◌, length, All, is_some};
 ghost use Rattle.std.specs.List.{Contains};
 ghost use Rattle.irig_time.specs.Timelines.{TimelineValue, truth_at};
 ghost use Rattle.irig_time.specs.TimelineFaults.{IsTimeline};
@@ -23,7 +23,8 @@ ghost use Rattle.irig_plant.specs.Premises.{HasPremises, IsKeptUpTo, IsKept};
 ghost use Rattle.irig_plant.specs.Truth.{Announces, IsBefore, StandsAtTruth, AnnouncesTruth, GivesNoFalseAlarm, IsTruthful};
 ghost use Rattle.irig_plant.specs.Headline.{KeepsHeadline};
 ghost use Rattle.irig_plant.specs.Health.{HasGenerators, IsHealthyPort};
-ghost use Rattle.irig_plant.specs.Hearing.{HearAlike};
+ghost use Rattle.irig_plant.specs.Hearing.{hearing_of, HearAlike};
+ghost use Rattle.irig_plant.specs.Steadiness.{FollowsByMark};
 ghost use Rattle.irig_plant.specs.Misled.{IsMisled, IsMisledByTable};
 ghost use Rattle.irig_plant.specs.Widths.{widths_of};
 ghost use Rattle.irig_plant.specs.History.{PlantHistory, HasPlantHistory};
@@ -220,6 +221,17 @@ pub fn runs_are_announced()
 pub fn equal_hearing()
     ensures { (s : Setup) (r : ℕ) (ev : List Event) (t : Setup) (q : ℕ) (other : List Event)
         → HearAlike s r ev t q other → (entry_of s r ev).report ≡ (entry_of t q other).report }
+{}
+
+/// No silent step, whatever is true: where a reader announces at a tick and at its next one, and no
+/// restart came between, the second one follows the first by a mark that its table or a vote gave.
+pub fn no_silent_step()
+    ensures { (s : Setup) (r : ℕ) (ev between : List Event) (u v : UtcSecond)
+        → hearing_of s r (between ++ (Event.Tick r ∷ ev)) ≡ hearing_of s r (Event.Tick r ∷ ev)
+        → (entry_of s r ev).report.announce ≡ Some u
+        → (entry_of s r (between ++ (Event.Tick r ∷ ev))).report.announce ≡ Some v
+        → FollowsByMark (setup_at s.readers r).table
+        (votes_of s r (Event.Tick r ∷ (between ++ (Event.Tick r ∷ ev)))) u v }
 {}
 
 /// The audit answers `Kept` exactly if the premises of the headline hold for all readers and ticks.
