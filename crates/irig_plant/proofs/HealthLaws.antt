@@ -97,7 +97,7 @@ sent_plain : (g : GeneratorValue) (t : TimelineValue) → g.fault ≡ None → s
 unfolding sent_of
 sent_plain g t plain = rw plain refl
 
--- a frame that is carried to an empty port by a generator without fault, at the edge of the tick before
+-- a frame that a generator without fault carries to an empty port, at the edge of the last tick
 pub carried_is_healthy : (s : Setup) (r p : ℕ) (ev : List Event) → p < ports_in (redundancy_of (length s.generators)) → (generator_at s p ev).fault ≡ None → (generator_at s p ev).edge ≡ ticks_of r ev
     → heard_at s r p ev ≡ [] → IsHealthyPort s r (Carry p r ∷ ev) p
 carried_is_healthy s r p ev low plain edge empty =
