@@ -1,9 +1,13 @@
 //! Devices for tests: one that breaks, and one that never ends.
 
-ghost use Rattle.std.specs.Prelude.{◌≡◌, ◌-◌, ◌↔◌, length, All, Ok, IsErr, IfErr, IfOk};
+ghost use types.Logic.{sem};
+ghost use Rattle.std.specs.Prelude.{◌≡◌, ◌-◌, ◌↔◌, ◌<◌, [], length, All, Ok, IsErr, IsOk, IfErr, IfOk, IfSome, None};
 ghost use Rattle.std.specs.IoError.{error_kind};
-ghost use Rattle.std.specs.Io.{ReadsAtMost, WritesAtMost};
+ghost use Rattle.std.specs.Io.{ReadsAtMost, StartsWith, WritesAtMost};
+ghost use Rattle.std.specs.Io.BufRead.{FillKeeps, Rests};
 ghost use Rattle.std.specs.Io.KnownBytes.{ReadConsumes, WriteAppends};
+ghost use Rattle.irig_device.specs.contracts.test_devices.Fuse.{the_row as fuse-row};
+ghost use Rattle.irig_device.specs.contracts.test_devices.Endless.{the_row as endless-row};
 ghost use Rattle.irig_device.specs.Fuse.{inner_of, calls_left, break_of, kind_of};
 
 use std::io::{BufRead, ErrorKind, Read, Write};
@@ -78,7 +82,17 @@ impl<T: BufRead> Read for Fuse<T> {
 impl<T: BufRead> BufRead for Fuse<T> {
     ghost consumable_len = { λ fuse. T.consumable_len (inner_of fuse) };
 
-    fn fill_buf(&mut self) -> io::Result<&[u8]> {
+    fn fill_buf(&mut self) -> io::Result<&[u8]>
+        ensures front { IfSome (T.remaining (inner_of self.old))
+            (λ xs. IfOk result (λ s. StartsWith xs s.now)) }
+        ensures end { IfSome (T.remaining (inner_of self.old))
+            (λ xs. IfOk result (λ s. length s.now ≡ 0 → xs ≡ [])) }
+        ensures* after_borrow { sem 𝓛 (Rests (fuse-row T.row) self.entry (λ new.
+            FillKeeps (T.remaining (inner_of self.old)) (T.remaining (inner_of new))
+            (T.consumable_len (inner_of new)) result
+            × (calls_left new ≡ calls_left self.old - 1))) }
+        ensures broken { calls_left self.old ≡ 0 → IsErr result }
+    {
         self.count_call()?;
         self.inner.fill_buf()
     }
@@ -127,7 +141,13 @@ impl Read for Endless {
 }
 
 impl BufRead for Endless {
-    fn fill_buf(&mut self) -> io::Result<&[u8]> {
+    fn fill_buf(&mut self) -> io::Result<&[u8]>
+        ensures* after_borrow { sem 𝓛 (Rests endless-row self.entry (λ new.
+            FillKeeps None None None result)) }
+        ensures some { IfOk result (λ bytes. 0 < length bytes.now) }
+        ensures byte { IfOk result (λ bytes. All (λ byte. byte ≡ self.old.0) bytes.now) }
+        ensures ok { IsOk result }
+    {
         Ok(slice::from_ref(&self.0))
     }
 

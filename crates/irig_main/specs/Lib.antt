@@ -1,3 +1,2 @@
 pub mod Status
-pub mod Letters
-pub mod Frame
+pub mod Serving

@@ -4,6 +4,8 @@ use Rattle.std.specs.Prelude.{◌≡◌, ℕ, ◌≤◌, ◌⊎◌, Result, Ok, 
 use Rattle.irig_scene.specs.declared.outcome.Outcome.{Outcome}
 use Rattle.irig_scene.specs.declared.fault.SceneFault.{SceneFault}
 use Rattle.irig_scene.specs.declared.fault.SceneFault.TheVariants as scene
+use Rattle.irig_frame_text.specs.declared.reading.ReadingFault.{ReadingFault}
+use Rattle.irig_frame_text.specs.declared.reading.ReadingFault.TheVariants as reading
 use Rattle.irig_main.specs.declared.fault.Fault.{Fault}
 use Rattle.irig_main.specs.declared.fault.Fault.TheVariants.{CommandLine, NotText, BadTime, BadFrameText, Refused, Read, Write, Memory}
 
@@ -26,15 +28,20 @@ fault_of scene.Read = Read
 fault_of scene.Write = Write
 fault_of scene.Memory = Memory
 
+-- the fault of the program by which the reading of a frame's text ended
+abbrev pub fault_of_reading : ReadingFault → Fault
+fault_of_reading reading.BadFrameText = BadFrameText
+fault_of_reading reading.Memory = Memory
+
 -- what the run of a scenario leaves for the program
 abbrev pub result_of : Result Outcome SceneFault → Result (Unit {0}) Fault
 result_of (Ok outcome) = Ok _
 result_of (Err fault) = Err (fault_of fault)
 
--- a run of a scenario that was done is 0
-abbrev pub status_of_answer : Result Outcome SceneFault → ℕ
-status_of_answer (Ok outcome) = 0
-status_of_answer (Err fault) = status_of (fault_of fault)
+-- what was done is 0
+abbrev pub status_of_answer : Result (Unit {0}) Fault → ℕ
+status_of_answer (Ok done) = 0
+status_of_answer (Err fault) = status_of fault
 
 -- 0 says that all was done; 1 is no status of the program
 abbrev pub IsStatus : ℕ → Type 0

@@ -1,9 +1,10 @@
 //! Why the program ends with another status than 0.
 
 ghost use Rattle.std.specs.Prelude.{◌≡◌};
-ghost use Rattle.irig_main.specs.declared.fault.Fault.TheVariants.{Memory};
-ghost use Rattle.irig_main.specs.Status.{fault_of, status_of};
+ghost use Rattle.irig_main.specs.declared.fault.Fault.TheVariants.{BadTime, Memory};
+ghost use Rattle.irig_main.specs.Status.{fault_of, fault_of_reading, status_of};
 
+use irig_frame_text::{BadTime, ReadingFault};
 use irig_scene::SceneFault;
 use std::alloc::AllocError;
 use std::fmt;
@@ -76,6 +77,25 @@ impl From<SceneFault> for Fault {
             SceneFault::Read => Fault::Read,
             SceneFault::Write => Fault::Write,
             SceneFault::Memory => Fault::Memory,
+        }
+    }
+}
+
+impl From<BadTime> for Fault {
+    ghost from_gives = { λ _ fault. fault ≡ BadTime };
+
+    fn from(_: BadTime) -> Fault {
+        Fault::BadTime
+    }
+}
+
+impl From<ReadingFault> for Fault {
+    ghost from_gives = { λ reading fault. fault ≡ fault_of_reading reading };
+
+    fn from(fault: ReadingFault) -> Fault {
+        match fault {
+            ReadingFault::BadFrameText => Fault::BadFrameText,
+            ReadingFault::Memory => Fault::Memory,
         }
     }
 }

@@ -3,9 +3,7 @@
 
 mod drive;
 mod fault;
-mod frame;
-mod read;
-mod told;
+mod serve;
 
 use drive::drive;
 use fault::{Fault, report};

@@ -18,12 +18,13 @@ use Rattle.irig_scenario.specs.declared.plant_shape.Version.{Version}
 use Rattle.irig_forms.specs.declared.refusal.Refusal.TheVariants as refusal
 use Rattle.irig_forms.specs.Json.{◌>>=◌, or_else, holds_or, json_of, whole_at}
 use Rattle.irig_scenario.specs.PlantShape.{version_of, is_plant}
-use Rattle.irig_scenario.specs.Names.{names_in}
+use Rattle.irig_scenario.specs.Names.{name_in, are_names, names_in}
 use Rattle.irig_scenario.specs.PlantLine.{refusal_of, timeline_refusal, generator_refusal, reader_refusal, values_refusal, first_of, setup_with, refused_or, setup_result, Plan, plan_in_line, plan_in_object}
 
--- its timeline has no fault
+-- its timeline has no fault, and its readers have names
 pub record IsSound (plan : Plan) : Type 0 where
   pub timeline : IsTimeline plan.setup.times
+  pub names : are_names plan.names ≡ true
 
 -- ---- what a timeline is refused for is never want of memory
 
@@ -65,33 +66,42 @@ timeline_named start leaps =
 
 -- ---- what a plant line gives
 
-sound_setup : (v : PlantValues) (names : List (List ℕ)) → values_refusal v ≡ None → IsSound (record { setup = setup_with v; names = names })
-sound_setup v names h =
+sound_setup : (v : PlantValues) (names : List (List ℕ)) → are_names names ≡ true → values_refusal v ≡ None → IsSound (record { setup = setup_with v; names = names })
+sound_setup v names named h =
     let first = neither_first (timeline_refusal v) (first_of (map generator_refusal v.generators ++ map reader_refusal v.readers)) h in
-    record { timeline = record { sound = timeline_named v.start v.leaps first } }
+    record { timeline = record { sound = timeline_named v.start v.leaps first }; names = named }
 
 -- ---- one step of a plant line after another
 
-with_setup : (v : PlantValues) (names : List (List ℕ)) (plan : Plan) (k : Option Refusal) → values_refusal v ≡ k
+with_setup : (v : PlantValues) (names : List (List ℕ)) (plan : Plan) (k : Option Refusal) → are_names names ≡ true → values_refusal v ≡ k
     → (refused_or k (setup_with v) >>= (λ setup. Ok (record { setup = setup; names = names }))) ≡ Ok plan → IsSound plan
-with_setup v names plan (Some k) e h = absurd cc
-with_setup v names plan None e h =
+with_setup v names plan (Some k) named e h = absurd cc
+with_setup v names plan None named e h =
     let same : ◌≡◌ {A = Plan} (record { setup = setup_with v; names = names }) plan = cc in
-    subst IsSound same (sound_setup v names e)
+    subst IsSound same (sound_setup v names named e)
 
 abbrev planned_by : PlantValues → List (List ℕ) → Result Plan Refusal
 planned_by v names = setup_result v >>= (λ setup. Ok (record { setup = setup; names = names }))
 
-with_names : (v : PlantValues) (plan : Plan) (o : Result (List (List ℕ)) Refusal) → (o >>= planned_by v) ≡ Ok plan → IsSound plan
-with_names v plan (Err k) h = absurd cc
-with_names v plan (Ok names) h = with_setup v names plan (values_refusal v) refl h
+-- names are given where they are names
+named_if : (b : Bool) (given names : List (List ℕ)) → are_names given ≡ b → cond b (Ok given) (Err refusal.Names) ≡ Ok names → are_names names ≡ true
+named_if true given names e h = let same : given ≡ names = cc in subst (λ names. are_names names ≡ true) same e
+named_if false given names e h = absurd cc
+
+named : (readers : List Data) (names : List (List ℕ)) → names_in readers ≡ Ok names → are_names names ≡ true
+unfolding names_in
+named readers names h = named_if (are_names (map name_in readers)) (map name_in readers) names refl h
+
+with_names : (v : PlantValues) (plan : Plan) (readers : List Data) (o : Result (List (List ℕ)) Refusal) → names_in readers ≡ o → (o >>= planned_by v) ≡ Ok plan → IsSound plan
+with_names v plan readers (Err k) e h = absurd cc
+with_names v plan readers (Ok names) e h = with_setup v names plan (values_refusal v) (named readers names e) refl h
 
 abbrev values_planned : Data → PlantValues → Result Plan Refusal
 values_planned d v = names_in (readers_in d) >>= planned_by v
 
 with_values : (d : Data) (plan : Plan) (o : Option PlantValues) → (or_else refusal.Value o >>= values_planned d) ≡ Ok plan → IsSound plan
 with_values d plan None h = absurd cc
-with_values d plan (Some v) h = with_names v plan (names_in (readers_in d)) h
+with_values d plan (Some v) h = with_names v plan (readers_in d) (names_in (readers_in d)) refl h
 
 abbrev shape_planned : Version → Data → Unit {0} → Result Plan Refusal
 shape_planned version d shaped = or_else refusal.Value (plant_values version d) >>= values_planned d

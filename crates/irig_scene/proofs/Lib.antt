@@ -5,6 +5,12 @@ pub mod StepLaws
 pub mod LineRunLaws
 pub mod LineLaws
 pub mod LastLaws
+pub mod ReadLaws
 pub mod RunLaws
+pub mod WordLaws
+pub mod LogLaws
+pub mod LastLines
 pub mod TrueLines
+pub mod WrittenLaws
+pub mod RunFacts
 pub mod StandardFacts

@@ -6,7 +6,7 @@ use Rattle.std.proofs.lemmas.Bool.Decides.{eqb_tells}
 use Rattle.irig_device.specs.Lines.{HasNoNewline}
 use Rattle.irig_scene.specs.Lines.{lines, onto_first, unlines}
 
-not_newline : (b : ℕ) → b ≢ 10 → (b == 10) ≡ false
+pub not_newline : (b : ℕ) → b ≢ 10 → (b == 10) ≡ false
 not_newline b h = elim (eqb_tells b 10) [ inl e ↦ absurd (h e.1) | inr e ↦ e.0 ]
 
 line_ends : (l : List ℕ) → AllByRecursion (λ b. b ≢ 10) l → (rest : List ℕ) → lines (l ++ 10 ∷ rest) ≡ l ∷ lines rest

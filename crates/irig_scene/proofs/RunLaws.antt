@@ -1,7 +1,8 @@
 -- What the loop over the lines has done so far, and what each way out of it tells.
-use Rattle.std.proofs.Common.{◌≡◌, ℕ, ◌+◌, ◌-◌, ◌<◌, Bool, true, false, List, [], ◌∷◌, ◌++◌, length, All, Option, Some, None, Result, Ok, Err, refl, ap, sym, subst, ◌∙◌, append_assoc, append-nil, length-append, arith, rules, nat_lt, cond}
+use Rattle.std.proofs.Common.{◌≡◌, ℕ, ◌+◌, ◌-◌, ◌<◌, ◌≤◌, Bool, true, false, List, [], ◌∷◌, ◌++◌, length, All, Option, Some, None, Result, Ok, Err, refl, ap, sym, subst, ◌∙◌, append_assoc, append-nil, length-append, arith, rules, nat_lt, cond, inl, inr}
+use Rattle.std.specs.Prelude.{⊤, IfSome}
 use Rattle.std.specs.Io.KnownBytes.{Appends, Consumes}
-use Rattle.std.proofs.KnownBytes.{Consumes-trans, Consumes-nil}
+use Rattle.std.proofs.KnownBytes.{Consumes-trans, Consumes-nil, Appends-trans, Appends-nil}
 use Rattle.std.proofs.lemmas.List.Elements.{All-push}
 use Rattle.std.proofs.lemmas.Grind.{flat_map-append}
 use Rattle.irig_port.specs.declared.port.Port.{Ghosts}
@@ -14,17 +15,18 @@ use Rattle.irig_scene.specs.declared.fault.SceneFault.TheVariants.{Refused, Read
 use Rattle.irig_forms.specs.declared.refusal.Refusal.{Refusal}
 use Rattle.irig_forms.specs.declared.refusal.Refusal.TheVariants as refusal
 use Rattle.irig_device.specs.Lines.{HasNoNewline, HasLength, spelling, GivesLine, GivesPart}
-use Rattle.irig_scene.specs.Lines.{lines, unlines, max_line, max_lines, limit_of}
+use Rattle.irig_scene.specs.Lines.{lines, unlines, max_line, max_lines, limit_of, shown_by}
 use Rattle.irig_device.specs.Watched.{AppendsPart}
-use Rattle.irig_scene.specs.Faults.{IsFaultOfReading}
+use Rattle.irig_scene.specs.Faults.{IsFaultOfReading, IsFaultOfWriting}
 use Rattle.irig_scene.specs.Scene.{Scene, Step, step_to, step, Meaning, meaning, refusal_at, meaning_from, meaning_of, meaning_at_end, log_text, text_of, output}
 use Rattle.irig_scene.specs.PlayerRuns.{Grew}
-use Rattle.irig_scene.specs.Run.{RanOn, Ran}
-use Rattle.irig_scene.specs.LineRuns.{IsAt, TakesFor, FailsIn, RanRest, WroteRefusal, too_long}
+use Rattle.irig_scene.specs.Run.{IsOfOneLine, StoppedInLine, read_of, RanOn, AreBytesOf, Ran}
+use Rattle.irig_scene.specs.LineRuns.{IsAt, TakesFor, FailsIn, RanRest, WrotePart, WroteRefusal, too_long}
 use Rattle.irig_scene.proofs.SecondsPlayed.{nothing_grew, grew_on}
 use Rattle.irig_scene.proofs.LineLaws.{line_first, no_line, lines_after, Opens, opens}
 use Rattle.irig_scene.proofs.StepLaws.{front_of_meaning, meaning_goes, meaning_stops, meaning_ends, step_many, step_long}
 use Rattle.irig_scene.proofs.LineRunLaws.{rest_on, refused_rest}
+use Rattle.irig_scene.proofs.ReadLaws.{shown_with_newline, shown_too_long, shown_at_end, refused_later}
 use Rattle.irig_scene.proofs.LastLaws.{line_stops, line_fails}
 
 -- the loop stands before line n: these whole lines were run, and their log was written
@@ -78,66 +80,24 @@ line_done all was is in0 in1 in2 out0 out1 out2 n limit l line end found run got
     goes_on all was is in0 in1 in2 out0 out1 out2 n l found run none took (subst HasNoNewline (sym same) got.whole)
     (subst (λ l. Consumes in1 in2 (l ++ 10 ∷ [])) (sym same) (as_newline end line in1 in2 ends got.taken))
 
+-- ---- the input, where it tells its bytes
+
+-- what a line took is followed by what is left, or by nothing where that is not told
+known_rest : (was left : Option (List ℕ)) (spelled : List ℕ) → Consumes was left spelled → (rest : List ℕ) × AreBytesOf was (spelled ++ rest)
+known_rest None left spelled took = ([], tt)
+known_rest (Some y) None spelled took = absurd took
+known_rest (Some y) (Some rest) spelled took = (rest, sym took)
+
+all_bytes : (in0 in1 : Option (List ℕ)) (front y : List ℕ) → Consumes in0 in1 front → AreBytesOf in1 y → AreBytesOf in0 (front ++ y)
+all_bytes None in1 front y took is = tt
+all_bytes (Some x) None front y took is = absurd took
+all_bytes (Some x) (Some z) front y took is = ap (λ y. front ++ y) is ∙ sym took
+
 -- ---- the ways out
 
-conclude : (r : Result Outcome SceneFault) (x : List ℕ) (all : Bool) (left old new : Option (List ℕ)) → RanRest r (meaning_of x) (length (lines x)) all None old new → RanOn r x all left old new
-conclude (Ok o) x all left old new h = (subst (Appends old new) (sym h.1.is) h.1.wrote, h.0)
-conclude (Err (Refused line number)) x all left old new h = (subst (Appends old new) (sym h.1.is) h.1.wrote, h.0)
-conclude (Err Read) x all left old new h = absurd h
-conclude (Err Write) x all left old new h = subst (AppendsPart old new) (sym h.is) h.wrote
-conclude (Err Memory) x all left old new h = subst (AppendsPart old new) (sym h.is) h.wrote
-
--- the lines that are left mean what all of them mean
-left_means : {P : Type 0} {g : Ghosts P} (x y : List ℕ) (all : Bool) (player : Option (Player P g)) (out0 out1 : Option (List ℕ)) (n : ℕ) (run : HasRun all player (Some x) (Some y) out0 out1 n) → meaning_of x ≡ meaning_from (lines y) n run.at
-left_means x y all player out0 out1 n run =
-    ap (λ ls. meaning_from ls 1 None) (ap lines run.took ∙ lines_after run.past y run.whole) ∙ run.means (lines y)
-
-left_count : {P : Type 0} {g : Ghosts P} (x y : List ℕ) (all : Bool) (player : Option (Player P g)) (out0 out1 : Option (List ℕ)) (n : ℕ) (run : HasRun all player (Some x) (Some y) out0 out1 n) → n - 1 + length (lines y) ≡ length (lines x)
-left_count x y all player out0 out1 n run =
-    let cut : lines x ≡ run.past ++ lines y = ap lines run.took ∙ lines_after run.past y run.whole in
-    let sum : length (lines x) ≡ length run.past + length (lines y) = ap length cut ∙ length-append run.past (lines y) in
-    omega (arith, run.count, sum)
-
-exit_known : {P : Type 0} {g : Ghosts P} (r : Result Outcome SceneFault) (x y : List ℕ) (all : Bool) (player : Option (Player P g)) (left out0 out1 out2 : Option (List ℕ)) (n : ℕ) (ls : List (List ℕ)) (run : HasRun all player (Some x) (Some y) out0 out1 n)
-    → lines y ≡ ls → RanRest r (meaning_from ls n run.at) (n - 1 + length ls) all run.at out1 out2 → RanOn r x all left out0 out2
-exit_known r x y all player left out0 out1 out2 n ls run is tells =
-    let here = subst (λ ls. RanRest r (meaning_from ls n run.at) (n - 1 + length ls) all run.at out1 out2) (sym is) tells in
-    let m = meaning_from (lines y) n run.at in
-    let whole = rest_on r m (n - 1 + length (lines y)) all None run.at out0 out1 out2 run.grew here in
-    conclude r x all left out0 out2
-    (subst (λ (w : Meaning). RanRest r w (length (lines x)) all None out0 out2) (sym (left_means x y all player out0 out1 n run))
-    (subst (λ k. RanRest r m k all None out0 out2) (left_count x y all player out0 out1 n run) whole))
-
--- ---- a line with its newline
-
-with_newline : (y line : List ℕ) (in2 : Option (List ℕ)) → HasNoNewline line → Consumes (Some y) in2 (line ++ 10 ∷ []) → (rest : List ℕ) × (lines y ≡ line ∷ lines rest)
-with_newline y line None h took = absurd took
-with_newline y line (Some rest) h took = (rest, ap lines took ∙ line_first line rest h)
-
-pub left_refused : {P : Type 0} {g : Ghosts P} (e : SceneFault) (all : Bool) (was is : Option (Player P g)) (in0 in1 in2 out0 out1 out2 out3 : Option (List ℕ)) (n limit : ℕ) (l line : List ℕ) (end : LineEnd) (found : Option Refusal) (k : Refusal) (run : HasRun all was in0 in1 out0 out1 n)
-    → GivesLine end limit line in1 in2 → end ≡ Newline → l ≡ line → found ≡ Some k → TakesFor (step n run.at l) all run.at is found out1 out2 → WroteRefusal e n k out2 out3
-    → Ran (Err e) all in0 in2 out0 out3
-left_refused e all was is None in1 in2 out0 out1 out2 out3 n limit l line end found k run got ends same some took tells = tt
-left_refused e all was is (Some x) None in2 out0 out1 out2 out3 n limit l line end found k run got ends same some took tells = absurd run.took
-left_refused e all was is (Some x) (Some y) in2 out0 out1 out2 out3 n limit l line end found k run got ends same some took tells =
-    let cut = with_newline y line in2 got.whole (as_newline end line (Some y) in2 ends got.taken) in
-    exit_known (Err e) x y all was in2 out0 out1 out3 n (l ∷ lines cut.0) run (cut.1 ∙ ap (λ first. first ∷ lines cut.0) (sym same))
-    (line_stops e l (lines cut.0) n (n - 1 + length (l ∷ lines cut.0)) all run.at is found k out1 out2 out3 some took tells)
-
-pub left_failed : {P : Type 0} {g : Ghosts P} (fault : SceneFault) (all : Bool) (was : Option (Player P g)) (in0 in1 in2 out0 out1 out2 : Option (List ℕ)) (n limit : ℕ) (l line : List ℕ) (end : LineEnd) (run : HasRun all was in0 in1 out0 out1 n)
-    → GivesLine end limit line in1 in2 → end ≡ Newline → l ≡ line → FailsIn (step n run.at l) all run.at fault out1 out2 → Ran (Err fault) all in0 in2 out0 out2
-left_failed fault all was None in1 in2 out0 out1 out2 n limit l line end run got ends same failed = tt
-left_failed fault all was (Some x) None in2 out0 out1 out2 n limit l line end run got ends same failed = absurd run.took
-left_failed fault all was (Some x) (Some y) in2 out0 out1 out2 n limit l line end run got ends same failed =
-    let cut = with_newline y line in2 got.whole (as_newline end line (Some y) in2 ends got.taken) in
-    exit_known (Err fault) x y all was in2 out0 out1 out2 n (l ∷ lines cut.0) run (cut.1 ∙ ap (λ first. first ∷ lines cut.0) (sym same))
-    (line_fails fault l (lines cut.0) n (n - 1 + length (l ∷ lines cut.0)) all run.at out1 out2 failed)
-
--- ---- a line that is too long
-
-opens_long : (y line : List ℕ) (in2 : Option (List ℕ)) → HasNoNewline line → 0 < length line → Consumes (Some y) in2 line → Opens y line
-opens_long y line None h some took = absurd took
-opens_long y line (Some rest) h some took = opens line rest y h some took
+ended_scene : (n : ℕ) (at : Option Scene) → (meaning_at_end n at).scene ≡ at
+ended_scene n None = refl
+ended_scene n (Some x) = refl
 
 stops_long : (n : ℕ) (at : Option Scene) (line more : List ℕ) → limit_of n < length line → step n at (line ++ more) ≡ step_to at (Some (too_long n))
 stops_long n at line more long = elim (nat_lt max_lines n) as (λ b. nat_lt max_lines n ≡ b → step n at (line ++ more) ≡ step_to at (Some (too_long n))) [
@@ -147,70 +107,203 @@ stops_long n at line more long = elim (nat_lt max_lines n) as (λ b. nat_lt max_
       step_long n at (line ++ more) (search rules) (omega (arith, limit, long, length-append line more)) ∙ ap (λ b. step_to at (Some (cond b refusal.TooManyLines refusal.TooLong))) (sym few)
 ] refl
 
-pub left_too_long : {P : Type 0} {g : Ghosts P} (e : SceneFault) (all : Bool) (was : Option (Player P g)) (in0 in1 in2 out0 out1 out2 : Option (List ℕ)) (n limit : ℕ) (line : List ℕ) (end : LineEnd) (k : Refusal) (run : HasRun all was in0 in1 out0 out1 n)
-    → GivesLine end limit line in1 in2 → end ≡ TooLong → limit ≡ limit_of n → k ≡ too_long n → WroteRefusal e n k out1 out2 → Ran (Err e) all in0 in2 out0 out2
-left_too_long e all was None in1 in2 out0 out1 out2 n limit line end k run got ends limited is tells = tt
-left_too_long e all was (Some x) None in2 out0 out1 out2 n limit line end k run got ends limited is tells = absurd run.took
-left_too_long e all was (Some x) (Some y) in2 out0 out1 out2 n limit line end k run got ends limited is tells =
-    let beyond : length line ≡ limit + 1 = subst (λ end. HasLength end limit line) ends got.has_length in
-    let long : limit_of n < length line = omega (arith, beyond, limited) in
-    let first = opens_long y line in2 got.whole (omega (arith, beyond)) (subst (λ end. Consumes (Some y) in2 (spelling end line)) ends got.taken) in
-    let l = line ++ first.more in
-    let stop : step n run.at l ≡ step_to run.at (Some k) = stops_long n run.at line first.more long ∙ ap (λ k. step_to run.at (Some k)) (sym is) in
-    let means : meaning_from (l ∷ first.others) n run.at ≡ meaning run.at (Some (refusal_at n k)) =
-    meaning_stops l first.others n run.at k (ap (λ (s : Step). s.refusal) stop) ∙ ap (λ (s : Step). meaning s.scene (Some (refusal_at n k))) stop in
-    exit_known (Err e) x y all was in2 out0 out1 out2 n (l ∷ first.others) run first.is
-    (refused_rest e all run.at (meaning_from (l ∷ first.others) n run.at) (n - 1 + length (l ∷ first.others)) n k out1 out2 means tells)
+-- what is read for an answer: as much as the bytes ask for, or a part of one line
+abbrev ReadsFor : Result Outcome SceneFault → List ℕ → List ℕ → List ℕ → Type 0
+ReadsFor (Ok o) x read spelled = read_of (meaning_of x).refused x ≡ read
+ReadsFor (Err (Refused line number)) x read spelled = read_of (meaning_of x).refused x ≡ read
+ReadsFor (Err Read) x read spelled = ⊤
+ReadsFor (Err Write) x read spelled = IsOfOneLine spelled
+ReadsFor (Err Memory) x read spelled = IsOfOneLine spelled
 
--- ---- the end of the input
+reads_refused : (e : SceneFault) (x read spelled : List ℕ) (n : ℕ) (k : Refusal) → (meaning_of x).refused ≡ Some (refusal_at n k) → shown_by n x ≡ read → IsOfOneLine spelled → ReadsFor (Err e) x read spelled
+reads_refused (Refused line number) x read spelled n k is shown one = ap (λ refused. read_of refused x) is ∙ shown
+reads_refused Read x read spelled n k is shown one = tt
+reads_refused Write x read spelled n k is shown one = one
+reads_refused Memory x read spelled n k is shown one = one
 
-pub left_last : {P : Type 0} {g : Ghosts P} (r : Result Outcome SceneFault) (all : Bool) (was : Option (Player P g)) (in0 in1 in2 out0 out1 out2 : Option (List ℕ)) (n limit : ℕ) (l line : List ℕ) (end : LineEnd) (run : HasRun all was in0 in1 out0 out1 n)
-    → GivesLine end limit line in1 in2 → end ≡ EndOfInput → l ≡ line → RanRest r (meaning_from (lines l) n run.at) (n - 1 + length (lines l)) all run.at out1 out2 → Ran r all in0 in2 out0 out2
-left_last r all was None in1 in2 out0 out1 out2 n limit l line end run got ends same tells = tt
-left_last r all was (Some x) None in2 out0 out1 out2 n limit l line end run got ends same tells = absurd run.took
-left_last r all was (Some x) (Some y) in2 out0 out1 out2 n limit l line end run got ends same tells =
-    exit_known r x y all was in2 out0 out1 out2 n (lines l) run (ap lines (got.at_end ends ∙ sym same)) tells
+reads_failed : (e : SceneFault) (x read spelled : List ℕ) → IsFaultOfWriting e → IsOfOneLine spelled → ReadsFor (Err e) x read spelled
+reads_failed (Refused line number) x read spelled kind one = absurd kind
+reads_failed Read x read spelled kind one = absurd kind
+reads_failed Write x read spelled kind one = one
+reads_failed Memory x read spelled kind one = one
 
--- ---- a failed read
-
-ended_scene : (n : ℕ) (at : Option Scene) → (meaning_at_end n at).scene ≡ at
-ended_scene n None = refl
-ended_scene n (Some x) = refl
-
-past_scene : {P : Type 0} {g : Ghosts P} (x y : List ℕ) (all : Bool) (player : Option (Player P g)) (out0 out1 : Option (List ℕ)) (n : ℕ) (run : HasRun all player (Some x) (Some y) out0 out1 n) → (meaning_of (unlines run.past)).scene ≡ run.at
-past_scene x y all player out0 out1 n run =
-    let cut : lines (unlines run.past) ≡ run.past ++ [] = ap lines (sym (append-nil (unlines run.past))) ∙ lines_after run.past [] run.whole ∙ ap (λ more. run.past ++ more) no_line in
-    ap (λ (m : Meaning). m.scene) (ap (λ ls. meaning_from ls 1 None) cut ∙ run.means [] ∙ meaning_ends n run.at) ∙ ended_scene n run.at
-
-written_part : {P : Type 0} {g : Ghosts P} (x y : List ℕ) (all : Bool) (player : Option (Player P g)) (out0 out1 : Option (List ℕ)) (n : ℕ) → HasRun all player (Some x) (Some y) out0 out1 n → AppendsPart out0 out1 (output x all)
-written_part x y all player out0 out1 n run =
-    let front = front_of_meaning all (lines y) n run.at in
+stopped_in_line : (x rest : List ℕ) (all : Bool) (was left out0 out1 out2 : Option (List ℕ)) (past : List (List ℕ)) (spelled : List ℕ) (at : Option Scene) (m : Meaning) → All HasNoNewline past → x ≡ (unlines past ++ spelled) ++ rest → Consumes was left (unlines past ++ spelled)
+    → Grew all None at out0 out1 → (meaning_of (unlines past)).scene ≡ at → WrotePart all at m out1 out2 → IsOfOneLine spelled → StoppedInLine x all was left out0 out2
+stopped_in_line x rest all was left out0 out1 out2 past spelled at m lined of_bytes took grew means here one =
     record {
-      front = run.grew.text;
-      rest = front.rest;
-      whole = ap (text_of all) (left_means x y all player out0 out1 n run) ∙ front.is ∙ ap (λ t. t ++ front.rest) run.grew.more;
-      wrote = run.grew.wrote;
+      whole = past;
+      part = spelled;
+      rest = rest;
+      lined = lined;
+      in_hand = one;
+      of_bytes = of_bytes;
+      read = took;
+      more = here.wrote.front;
+      wrote = Appends-trans out0 out1 out2 _ _ (subst (Appends out0 out1) (sym (ap (log_text all) means ∙ grew.more)) grew.wrote) here.wrote.wrote;
     }
 
-read_fails : {P : Type 0} {g : Ghosts P} (e : SceneFault) (x y : List ℕ) (all : Bool) (player : Option (Player P g)) (in2 out0 out1 : Option (List ℕ)) (n : ℕ) (part : List ℕ)
-    → HasRun all player (Some x) (Some y) out0 out1 n → IsFaultOfReading e → HasNoNewline part → Consumes (Some y) in2 part → RanOn (Err e) x all in2 out0 out1
-read_fails (Refused line number) x y all player in2 out0 out1 n part run kind h took = absurd kind
-read_fails Read x y all player in2 out0 out1 n part run kind h took = (
-  written_part x y all player out0 out1 n run,
-  record {
-    whole = run.past;
-    part = part;
-    lined = run.whole;
-    unlined = h;
-    read = Consumes-trans (Some x) (Some y) in2 _ _ run.took took;
-    wrote = subst (Appends out0 out1) (sym (ap (log_text all) (past_scene x y all player out0 out1 n run) ∙ run.grew.more)) run.grew.wrote;
-  },
-)
-read_fails Write x y all player in2 out0 out1 n part run kind h took = absurd kind
-read_fails Memory x y all player in2 out0 out1 n part run kind h took = written_part x y all player out0 out1 n run
+conclude : (r : Result Outcome SceneFault) (x rest : List ℕ) (all : Bool) (was left out0 out1 out2 : Option (List ℕ)) (past : List (List ℕ)) (spelled : List ℕ) (at : Option Scene) → All HasNoNewline past → x ≡ (unlines past ++ spelled) ++ rest → Consumes was left (unlines past ++ spelled)
+    → Grew all None at out0 out1 → (meaning_of (unlines past)).scene ≡ at → RanRest r (meaning_of x) (length (lines x)) all at out1 out2 → ReadsFor r x (unlines past ++ spelled) spelled → RanOn r x all was left out0 out2
+conclude (Ok o) x rest all was left out0 out1 out2 past spelled at lined of_bytes took grew means here reads =
+    let h = rest_on (Ok o) (meaning_of x) (length (lines x)) all None at out0 out1 out2 grew here in
+    (subst (Appends out0 out2) (sym h.1.is) h.1.wrote, h.0, subst (Consumes was left) (sym reads) took)
+conclude (Err (Refused line number)) x rest all was left out0 out1 out2 past spelled at lined of_bytes took grew means here reads =
+    let h = rest_on (Err (Refused line number)) (meaning_of x) (length (lines x)) all None at out0 out1 out2 grew here in
+    (subst (Appends out0 out2) (sym h.1.is) h.1.wrote, h.0, subst (Consumes was left) (sym reads) took)
+conclude (Err Read) x rest all was left out0 out1 out2 past spelled at lined of_bytes took grew means here reads = absurd here
+conclude (Err Write) x rest all was left out0 out1 out2 past spelled at lined of_bytes took grew means here reads =
+    let h = rest_on (Err Write) (meaning_of x) (length (lines x)) all None at out0 out1 out2 grew here in
+    (subst (AppendsPart out0 out2) (sym h.is) h.wrote, stopped_in_line x rest all was left out0 out1 out2 past spelled at (meaning_of x) lined of_bytes took grew means here reads)
+conclude (Err Memory) x rest all was left out0 out1 out2 past spelled at lined of_bytes took grew means here reads =
+    let h = rest_on (Err Memory) (meaning_of x) (length (lines x)) all None at out0 out1 out2 grew here in
+    (subst (AppendsPart out0 out2) (sym h.is) h.wrote, stopped_in_line x rest all was left out0 out1 out2 past spelled at (meaning_of x) lined of_bytes took grew means here reads)
 
-pub left_read : {P : Type 0} {g : Ghosts P} (e : SceneFault) (all : Bool) (player : Option (Player P g)) (in0 in1 in2 out0 out1 : Option (List ℕ)) (n : ℕ)
-    → HasRun all player in0 in1 out0 out1 n → IsFaultOfReading e → GivesPart in1 in2 → Ran (Err e) all in0 in2 out0 out1
-left_read e all player None in1 in2 out0 out1 n run kind got = tt
-left_read e all player (Some x) None in2 out0 out1 n run kind got = absurd run.took
-left_read e all player (Some x) (Some y) in2 out0 out1 n run kind got = read_fails e x y all player in2 out0 out1 n got.part run kind got.whole got.taken
+module _ {P : Type 0} {g : Ghosts P} (all : Bool) (player : Option (Player P g)) (in0 in1 out0 out1 : Option (List ℕ)) (n : ℕ) (run : HasRun all player in0 in1 out0 out1 n) where
+  -- the lines that are left mean what all of them mean
+  left_means : (y : List ℕ) → meaning_of (unlines run.past ++ y) ≡ meaning_from (lines y) n run.at
+  left_means y = ap (λ ls. meaning_from ls 1 None) (lines_after run.past y run.whole) ∙ run.means (lines y)
+
+  left_count : (y : List ℕ) → n - 1 + length (lines y) ≡ length (lines (unlines run.past ++ y))
+  left_count y =
+      let sum : length (lines (unlines run.past ++ y)) ≡ length run.past + length (lines y) = ap length (lines_after run.past y run.whole) ∙ length-append run.past (lines y) in
+      omega (arith, run.count, sum)
+
+  past_scene : (meaning_of (unlines run.past)).scene ≡ run.at
+  past_scene =
+      let cut : lines (unlines run.past) ≡ run.past ++ [] = ap lines (sym (append-nil (unlines run.past))) ∙ lines_after run.past [] run.whole ∙ ap (λ more. run.past ++ more) no_line in
+      ap (λ (m : Meaning). m.scene) (ap (λ ls. meaning_from ls 1 None) cut ∙ run.means [] ∙ meaning_ends n run.at) ∙ ended_scene n run.at
+
+  of_parts : (spelled rest y : List ℕ) → y ≡ spelled ++ rest → unlines run.past ++ y ≡ (unlines run.past ++ spelled) ++ rest
+  of_parts spelled rest y begins = ap (λ y. unlines run.past ++ y) begins ∙ sym (append_assoc (unlines run.past) spelled rest)
+
+  -- y is left, of which a part is read
+  exit : (r : Result Outcome SceneFault) (in2 out2 : Option (List ℕ)) (spelled rest y : List ℕ) (ls : List (List ℕ)) → y ≡ spelled ++ rest → Consumes in1 in2 spelled → AreBytesOf in1 y → lines y ≡ ls
+      → RanRest r (meaning_from ls n run.at) (n - 1 + length ls) all run.at out1 out2 → ReadsFor r (unlines run.past ++ y) (unlines run.past ++ spelled) spelled → Ran r all in0 in2 out0 out2
+  exit r in2 out2 spelled rest y ls begins took of_y is tells reads =
+      let x = unlines run.past ++ y in
+      let m = meaning_from (lines y) n run.at in
+      let here : RanRest r m (n - 1 + length (lines y)) all run.at out1 out2 = subst (λ ls. RanRest r (meaning_from ls n run.at) (n - 1 + length ls) all run.at out1 out2) (sym is) tells in
+      let counted : RanRest r m (length (lines x)) all run.at out1 out2 = subst (λ k. RanRest r m k all run.at out1 out2) (left_count y) here in
+      record {
+        bytes = x;
+        of_input = all_bytes in0 in1 (unlines run.past) y run.took of_y;
+        ran = conclude r x rest all in0 in2 out0 out1 out2 run.past spelled run.at run.whole (of_parts spelled rest y begins) (Consumes-trans in0 in1 in2 _ _ run.took took) run.grew past_scene
+            (subst (λ (w : Meaning). RanRest r w (length (lines x)) all run.at out1 out2) (sym (left_means y)) counted) reads;
+      }
+
+  -- line n is refused: what shows that
+  refused_at : (y : List ℕ) (l : List ℕ) (ls : List (List ℕ)) (k : Refusal) → lines y ≡ l ∷ ls → (step n run.at l).refusal ≡ Some k → (meaning_of (unlines run.past ++ y)).refused ≡ Some (refusal_at n k)
+  refused_at y l ls k is stops = ap (λ (m : Meaning). m.refused) (left_means y ∙ ap (λ ls. meaning_from ls n run.at) is ∙ meaning_stops l ls n run.at k stops)
+
+  -- ---- a line with its newline
+
+  pub left_refused : (e : SceneFault) (is : Option (Player P g)) (in2 out2 out3 : Option (List ℕ)) (limit : ℕ) (l line : List ℕ) (end : LineEnd) (found : Option Refusal) (k : Refusal)
+      → GivesLine end limit line in1 in2 → end ≡ Newline → l ≡ line → limit ≡ limit_of n → found ≡ Some k → TakesFor (step n run.at l) all run.at is found out1 out2 → WroteRefusal e n k out2 out3
+      → Ran (Err e) all in0 in2 out0 out3
+  left_refused e is in2 out2 out3 limit l line end found k got ends same limited some took tells =
+      let h : HasNoNewline l = subst HasNoNewline (sym same) got.whole in
+      let read : Consumes in1 in2 (l ++ 10 ∷ []) = subst (λ l. Consumes in1 in2 (l ++ 10 ∷ [])) (sym same) (as_newline end line in1 in2 ends got.taken) in
+      let short : length l ≤ limit_of n = omega (arith, ap length same, limited, subst (λ end. HasLength end limit line) ends got.has_length) in
+      let known = known_rest in1 in2 (l ++ 10 ∷ []) read in
+      let y = (l ++ 10 ∷ []) ++ known.0 in
+      exit (Err e) in2 out3 (l ++ 10 ∷ []) known.0 y (l ∷ lines known.0) refl read known.1 (line_first l known.0 h)
+      (line_stops e l (lines known.0) n (n - 1 + length (l ∷ lines known.0)) all run.at is found k out1 out2 out3 some took tells)
+      (reads_refused e (unlines run.past ++ y) _ _ n k (refused_at y l (lines known.0) k (line_first l known.0 h) (took.refused ∙ some))
+      (shown_with_newline run.past n l known.0 run.whole run.count h short) (record { line = l; unlined = h; is = inr refl }))
+
+  pub left_failed : (fault : SceneFault) (in2 out2 : Option (List ℕ)) (limit : ℕ) (l line : List ℕ) (end : LineEnd)
+      → GivesLine end limit line in1 in2 → end ≡ Newline → l ≡ line → FailsIn (step n run.at l) all run.at fault out1 out2 → Ran (Err fault) all in0 in2 out0 out2
+  left_failed fault in2 out2 limit l line end got ends same failed =
+      let h : HasNoNewline l = subst HasNoNewline (sym same) got.whole in
+      let read : Consumes in1 in2 (l ++ 10 ∷ []) = subst (λ l. Consumes in1 in2 (l ++ 10 ∷ [])) (sym same) (as_newline end line in1 in2 ends got.taken) in
+      let known = known_rest in1 in2 (l ++ 10 ∷ []) read in
+      exit (Err fault) in2 out2 (l ++ 10 ∷ []) known.0 ((l ++ 10 ∷ []) ++ known.0) (l ∷ lines known.0) refl read known.1 (line_first l known.0 h)
+      (line_fails fault l (lines known.0) n (n - 1 + length (l ∷ lines known.0)) all run.at out1 out2 failed)
+      (reads_failed fault _ _ _ failed.kind (record { line = l; unlined = h; is = inr refl }))
+
+  -- ---- a line that is too long
+
+  pub left_too_long : (e : SceneFault) (in2 out2 : Option (List ℕ)) (limit : ℕ) (line : List ℕ) (end : LineEnd) (k : Refusal)
+      → GivesLine end limit line in1 in2 → end ≡ TooLong → limit ≡ limit_of n → k ≡ too_long n → WroteRefusal e n k out1 out2 → Ran (Err e) all in0 in2 out0 out2
+  left_too_long e in2 out2 limit line end k got ends limited is tells =
+      let beyond : length line ≡ limit + 1 = subst (λ end. HasLength end limit line) ends got.has_length in
+      let long : limit_of n < length line = omega (arith, beyond, limited) in
+      let read : Consumes in1 in2 line = subst (λ end. Consumes in1 in2 (spelling end line)) ends got.taken in
+      let known = known_rest in1 in2 line read in
+      let y = line ++ known.0 in
+      let first : Opens y line = opens line known.0 y got.whole (omega (arith, beyond)) refl in
+      let l = line ++ first.more in
+      let stop : step n run.at l ≡ step_to run.at (Some k) = stops_long n run.at line first.more long ∙ ap (λ k. step_to run.at (Some k)) (sym is) in
+      let means : meaning_from (l ∷ first.others) n run.at ≡ meaning run.at (Some (refusal_at n k)) =
+      meaning_stops l first.others n run.at k (ap (λ (s : Step). s.refusal) stop) ∙ ap (λ (s : Step). meaning s.scene (Some (refusal_at n k))) stop in
+      exit (Err e) in2 out2 line known.0 y (l ∷ first.others) refl read known.1 first.is
+      (refused_rest e all run.at (meaning_from (l ∷ first.others) n run.at) (n - 1 + length (l ∷ first.others)) n k out1 out2 means tells)
+      (reads_refused e (unlines run.past ++ y) _ _ n k (refused_at y l first.others k first.is (ap (λ (s : Step). s.refusal) stop))
+      (shown_too_long run.past n line known.0 run.whole run.count got.whole (omega (arith, beyond, limited))) (record { line = line; unlined = got.whole; is = inl refl }))
+
+  -- ---- the end of the input
+
+  reads_last : (r : Result Outcome SceneFault) (l : List ℕ) (count : ℕ) (out2 : Option (List ℕ)) → HasNoNewline l → length l ≤ limit_of n → RanRest r (meaning_from (lines l) n run.at) count all run.at out1 out2 → ReadsFor r (unlines run.past ++ l) (unlines run.past ++ l) l
+  reads_last (Ok o) l count out2 h short tells = ap (λ refused. read_of refused (unlines run.past ++ l)) (ap (λ (m : Meaning). m.refused) (left_means l) ∙ tells.0.accepted)
+  reads_last (Err (Refused line number)) l count out2 h short tells =
+      ap (λ refused. read_of refused (unlines run.past ++ l)) (ap (λ (m : Meaning). m.refused) (left_means l) ∙ tells.0.first)
+      ∙ shown_at_end run.past n l line run.whole run.count h short (refused_later (lines l) n run.at line tells.0.refusal tells.0.first)
+  reads_last (Err Read) l count out2 h short tells = tt
+  reads_last (Err Write) l count out2 h short tells = record { line = l; unlined = h; is = inl refl }
+  reads_last (Err Memory) l count out2 h short tells = record { line = l; unlined = h; is = inl refl }
+
+  ended_bytes : (l line : List ℕ) → l ≡ line → IfSome in1 (λ left. left ≡ line) → AreBytesOf in1 l
+  ended_bytes l line same at_end = elim in1 as (λ in1. IfSome in1 (λ left. left ≡ line) → AreBytesOf in1 l) [
+    | None ↦ λ at_end. tt
+    | Some left ↦ λ at_end. same ∙ sym at_end
+  ] at_end
+
+  pub left_last : (r : Result Outcome SceneFault) (in2 out2 : Option (List ℕ)) (limit : ℕ) (l line : List ℕ) (end : LineEnd)
+      → GivesLine end limit line in1 in2 → end ≡ EndOfInput → l ≡ line → limit ≡ limit_of n → RanRest r (meaning_from (lines l) n run.at) (n - 1 + length (lines l)) all run.at out1 out2 → Ran r all in0 in2 out0 out2
+  left_last r in2 out2 limit l line end got ends same limited tells =
+      let h : HasNoNewline l = subst HasNoNewline (sym same) got.whole in
+      let read : Consumes in1 in2 l = subst (Consumes in1 in2) (sym same) (subst (λ end. Consumes in1 in2 (spelling end line)) ends got.taken) in
+      let short : length l ≤ limit_of n = omega (arith, ap length same, limited, subst (λ end. HasLength end limit line) ends got.has_length) in
+      exit r in2 out2 l [] l (lines l) (sym (append-nil l)) read (ended_bytes l line same (got.at_end ends)) refl tells (reads_last r l (n - 1 + length (lines l)) out2 h short tells)
+
+  -- ---- a failed read
+
+  written_part : (y : List ℕ) → AppendsPart out0 out1 (output (unlines run.past ++ y) all)
+  written_part y =
+      let front = front_of_meaning all (lines y) n run.at in
+      record {
+        front = run.grew.text;
+        rest = front.rest;
+        whole = ap (text_of all) (left_means y) ∙ front.is ∙ ap (λ t. t ++ front.rest) run.grew.more;
+        wrote = run.grew.wrote;
+      }
+
+  pub left_read : (e : SceneFault) (in2 : Option (List ℕ)) → IsFaultOfReading e → GivesPart in1 in2 → Ran (Err e) all in0 in2 out0 out1
+  left_read (Refused line number) in2 kind got = absurd kind
+  left_read Read in2 kind got =
+      let known = known_rest in1 in2 got.part got.taken in
+      record {
+        bytes = unlines run.past ++ (got.part ++ known.0);
+        of_input = all_bytes in0 in1 (unlines run.past) (got.part ++ known.0) run.took known.1;
+        ran = (
+          written_part (got.part ++ known.0),
+          record {
+            whole = run.past;
+            part = got.part;
+            rest = known.0;
+            lined = run.whole;
+            unlined = got.whole;
+            of_bytes = of_parts got.part known.0 (got.part ++ known.0) refl;
+            read = Consumes-trans in0 in1 in2 _ _ run.took got.taken;
+            wrote = subst (Appends out0 out1) (sym (ap (log_text all) past_scene ∙ run.grew.more)) run.grew.wrote;
+          },
+        );
+      }
+  left_read Write in2 kind got = absurd kind
+  left_read Memory in2 kind got =
+      let known = known_rest in1 in2 got.part got.taken in
+      let y = got.part ++ known.0 in
+      let front = front_of_meaning all (lines y) n run.at in
+      exit (Err Memory) in2 out1 got.part known.0 y (lines y) refl got.taken known.1 refl
+      (record { rest = front.rest; is = front.is; wrote = record { front = []; rest = front.rest; whole = refl; wrote = Appends-nil out1 } })
+      (record { line = got.part; unlined = got.whole; is = inl refl })

@@ -32,6 +32,18 @@ abbrev pub says_write : {A : Type 0} → Result A SceneFault → Bool
 says_write (Ok x) = false
 says_write (Err fault) = is_write_fault fault
 
+-- whether the input failed
+abbrev pub is_read_fault : SceneFault → Bool
+is_read_fault (Refused line number) = false
+is_read_fault Read = true
+is_read_fault Write = false
+is_read_fault Memory = false
+
+-- whether the answer says so
+abbrev pub says_read : {A : Type 0} → Result A SceneFault → Bool
+says_read (Ok x) = false
+says_read (Err fault) = is_read_fault fault
+
 -- the text was written, or a front of it before a fault
 abbrev pub WroteText : Result (Unit {0}) SceneFault → Bytes → Bytes → List ℕ → Type 0
 WroteText (Ok done) old new text = Appends old new text

@@ -4,4 +4,5 @@ pub mod Scene
 pub mod Faults
 pub mod PlayerRuns
 pub mod Run
+pub mod LogLines
 pub mod LineRuns

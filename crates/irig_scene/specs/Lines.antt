@@ -1,6 +1,6 @@
 -- The lines of some bytes, and their limits.
 -- Source: docs/SCENARIOS.md.
-use Rattle.std.specs.Prelude.{ℕ, ◌==◌, ◌||◌, Bool, List, [], ◌∷◌, ◌++◌, if◌then◌else◌, nat_lt}
+use Rattle.std.specs.Prelude.{ℕ, zero, suc, ◌+◌, ◌-◌, ◌==◌, ◌||◌, Bool, List, [], ◌∷◌, ◌++◌, if◌then◌else◌, nat_lt, take}
 use Rattle.std.specs.List.{flat_map, list_all}
 
 -- a byte in front of the first line
@@ -32,3 +32,24 @@ limit_of number = if nat_lt max_lines number then 0 else max_line
 -- blanks, tabs and carriage returns alone: such a line is skipped
 abbrev pub is_blank : List ℕ → Bool
 is_blank line = list_all (λ b. b == 32 || b == 9 || b == 13) line
+
+-- ---- how far lines are read
+
+-- the first lines, with their newlines, which the last may lack
+unfoldable pub first_lines : ℕ → List ℕ → List ℕ
+first_lines zero bs = []
+first_lines (suc n) [] = []
+first_lines (suc n) (b ∷ bs) =
+    b ∷ (if b == 10 then first_lines n bs else first_lines (suc n) bs)
+
+-- what comes after them
+unfoldable pub after_lines : ℕ → List ℕ → List ℕ
+after_lines zero bs = bs
+after_lines (suc n) [] = []
+after_lines (suc n) (b ∷ bs) = if b == 10 then after_lines n bs else after_lines (suc n) bs
+
+-- what shows that line n is refused: the lines before it, and it as far as it may be read, which is
+-- one byte more than its limit
+abbrev pub shown_by : ℕ → List ℕ → List ℕ
+shown_by n bs =
+    first_lines (n - 1) bs ++ take (limit_of n + 1) (first_lines 1 (after_lines (n - 1) bs))

@@ -1,8 +1,9 @@
 -- A plant that plays events: where it stands then, and by how much the output grew.
-use Rattle.std.specs.Prelude.{◌≡◌, ℕ, Bool, List, ◌++◌, length, Option, Some}
+use Rattle.std.specs.Prelude.{◌≡◌, ◌≤◌, ℕ, ◌+◌, Bool, List, [], ◌∷◌, ◌++◌, length, Option, Some}
 use Rattle.std.specs.Io.KnownBytes.{Appends}
 use Rattle.irig_port.specs.declared.port.Port.{Ghosts}
 use Rattle.irig_plant.specs.declared.event.Event.{Event}
+use Rattle.irig_plant.specs.declared.event.Event.TheVariants.{Tick}
 use Rattle.irig_plant.specs.declared.plant.Plant.{Plant}
 use Rattle.irig_plant.specs.Schedule.{log_of}
 use Rattle.irig_plant.specs.History.{PlantHistory, HasPlantHistory}
@@ -34,6 +35,12 @@ pub record GrewPart (all : Bool) (from to : Option Scene) (old new : Bytes) : Ty
   pub more : log_text all to ≡ log_text all from ++ text
   pub wrote : AppendsPart old new text
 
+-- how many of these events are ticks
+abbrev pub ticks_among : List Event → ℕ
+ticks_among [] = 0
+ticks_among (Tick r ∷ es) = ticks_among es + 1
+ticks_among (_ ∷ es) = ticks_among es
+
 -- the scene after events were played
 abbrev pub after_events : Scene → List Event → Scene
 after_events x events = scene x.plan (play x.plan.setup events x.events).events
@@ -42,11 +49,13 @@ after_events x events = scene x.plan (play x.plan.setup events x.events).events
 abbrev pub past_with_log : Scene → List Event → PlantHistory
 past_with_log x events = record (past x) { events = (play x.plan.setup events x.events).events }
 
--- a plant of this scene ran events, up to a refusal if there is one
+-- a plant of this scene ran events, up to a refusal if there is one; no more entries of its log
+-- stand then than there are ticks among the events
 pub record RunsFor {P : Type 0} {g : Ghosts P} (x : Scene) (events : List Event) (plant : Plant P g)
     (refusal : Option Refusal) : Type 0 where
   pub refused : (play x.plan.setup events x.events).refusal ≡ refusal
   pub stands : HasPlantHistory plant (past_with_log x events)
+  pub few : length plant.log.items ≤ ticks_among events
 
 -- whatever scene it is of
 abbrev pub Runs : {P : Type 0} {g : Ghosts P} → Plant P g → List Event → Plant P g → Option Refusal

@@ -1,6 +1,6 @@
--- A run: its answer, and by how much the output grew.
+-- A run: its answer, how much of the input was read, and by how much the output grew.
 -- Source: docs/OUTPUT.md; this project's profile.
-use Rattle.std.specs.Prelude.{◌≡◌, ℕ, Bool, List, ◌++◌, length, Some, None, Result, Ok, Err, ⊤, All}
+use Rattle.std.specs.Prelude.{◌≡◌, ℕ, Bool, List, [], ◌∷◌, ◌++◌, length, Option, Some, None, Result, Ok, Err, ⊤, ◌⊎◌, All}
 use Rattle.std.specs.Io.KnownBytes.{Appends, Consumes}
 use Rattle.irig_scene.specs.declared.outcome.Outcome.{Outcome}
 use Rattle.irig_scene.specs.declared.fault.SceneFault.{SceneFault}
@@ -9,8 +9,8 @@ use Rattle.irig_forms.specs.declared.refusal.Refusal.{Refusal}
 use Rattle.irig_forms.specs.Refusals.{number_of}
 use Rattle.irig_device.specs.Watched.{AppendsPart}
 use Rattle.irig_device.specs.Lines.{Bytes, HasNoNewline}
-use Rattle.irig_scene.specs.Lines.{lines, unlines}
-use Rattle.irig_scene.specs.Scene.{Scene, Meaning, meaning_of, log_text, output, audit_in, refusal_at}
+use Rattle.irig_scene.specs.Lines.{lines, unlines, shown_by}
+use Rattle.irig_scene.specs.Scene.{Scene, Meaning, Refused as RefusedLine, meaning_of, log_text, output, audit_in, refusal_at}
 
 -- ---- the whole run
 
@@ -28,27 +28,66 @@ pub record IsRefused (m : Meaning) (line number : ℕ) : Type 0 where
   pub first : m.refused ≡ Some (refusal_at line refusal)
   pub numbered : number ≡ number_of refusal
 
--- after a failed read: the whole lines before the failure, and the log of what they mean
-pub record StoppedReading (x : List ℕ) (all : Bool) (left old new : Bytes) : Type 0 where
+-- after a failed read: the whole lines of x before the failure, and the log of what they mean
+pub record StoppedReading (x : List ℕ) (all : Bool) (was left old new : Bytes) : Type 0 where
   pub whole : List (List ℕ)
   pub part : List ℕ
+  pub rest : List ℕ
   pub lined : All HasNoNewline whole
   pub unlined : HasNoNewline part
-  pub read : Consumes (Some x) left (unlines whole ++ part)
+  pub of_bytes : x ≡ (unlines whole ++ part) ++ rest
+  pub read : Consumes was left (unlines whole ++ part)
   pub wrote : Appends old new (log_text all (meaning_of (unlines whole)).scene)
 
--- the answer for the input x, of which `left` is left
-abbrev pub RanOn : Result Outcome SceneFault → List ℕ → Bool → Bytes → Bytes → Bytes → Type 0
-RanOn (Ok o) x all left old new =
-    Appends old new (output x all) × IsDone (meaning_of x) (length (lines x)) o
-RanOn (Err (Refused line number)) x all left old new =
-    Appends old new (output x all) × IsRefused (meaning_of x) line number
-RanOn (Err Read) x all left old new =
-    AppendsPart old new (output x all) × StoppedReading x all left old new
-RanOn (Err Write) x all left old new = AppendsPart old new (output x all)
-RanOn (Err Memory) x all left old new = AppendsPart old new (output x all)
+-- bytes of one line, with its newline or without
+pub record IsOfOneLine (part : List ℕ) : Type 0 where
+  pub line : List ℕ
+  pub unlined : HasNoNewline line
+  pub is : (part ≡ line) ⊎ (part ≡ line ++ 10 ∷ [])
 
--- the same, where the bytes of the input are known
-abbrev pub Ran : Result Outcome SceneFault → Bool → Bytes → Bytes → Bytes → Bytes → Type 0
-Ran r all None left old new = ⊤
-Ran r all (Some x) left old new = RanOn r x all left old new
+-- stopped in a line of x that is in hand: nothing after it was read, and the log of what the lines
+-- before it mean was written whole
+pub record StoppedInLine (x : List ℕ) (all : Bool) (was left old new : Bytes) : Type 0 where
+  pub whole : List (List ℕ)
+  pub part : List ℕ
+  pub rest : List ℕ
+  pub lined : All HasNoNewline whole
+  pub in_hand : IsOfOneLine part
+  pub of_bytes : x ≡ (unlines whole ++ part) ++ rest
+  pub read : Consumes was left (unlines whole ++ part)
+  pub more : List ℕ
+  pub wrote : Appends old new (log_text all (meaning_of (unlines whole)).scene ++ more)
+
+-- what is read of the bytes x: all of them, or where a line is refused what shows that
+abbrev pub read_of : Option RefusedLine → List ℕ → List ℕ
+read_of None x = x
+read_of (Some k) x = shown_by k.line x
+
+-- the answer for the input x: what it says, what was read, and what was written
+abbrev pub RanOn : Result Outcome SceneFault → List ℕ → Bool → Bytes → Bytes → Bytes → Bytes
+    → Type 0
+RanOn (Ok o) x all was left old new =
+    Appends old new (output x all) × IsDone (meaning_of x) (length (lines x)) o
+    × Consumes was left (read_of (meaning_of x).refused x)
+RanOn (Err (Refused line number)) x all was left old new =
+    Appends old new (output x all) × IsRefused (meaning_of x) line number
+    × Consumes was left (read_of (meaning_of x).refused x)
+RanOn (Err Read) x all was left old new =
+    AppendsPart old new (output x all) × StoppedReading x all was left old new
+RanOn (Err Write) x all was left old new =
+    AppendsPart old new (output x all) × StoppedInLine x all was left old new
+RanOn (Err Memory) x all was left old new =
+    AppendsPart old new (output x all) × StoppedInLine x all was left old new
+
+-- the bytes are those that the input had left, where it tells them
+abbrev pub AreBytesOf : Bytes → List ℕ → Type 0
+AreBytesOf None x = ⊤
+AreBytesOf (Some known) x = x ≡ known
+
+-- a run of some bytes: those of the input, and where it does not tell them, some for which this is
+-- the answer
+pub record Ran (r : Result Outcome SceneFault) (all : Bool) (was left old new : Bytes)
+    : Type 0 where
+  pub bytes : List ℕ
+  pub of_input : AreBytesOf was bytes
+  pub ran : RanOn r bytes all was left old new

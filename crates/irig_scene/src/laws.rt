@@ -1,16 +1,51 @@
 //! Laws of scenarios over their definitions. They have no code.
 
-ghost use Rattle.std.specs.Prelude.{◌≡◌, ℕ, Some, List, All};
+ghost use Rattle.std.specs.Prelude.{◌≡◌, ◌<◌, ◌^◌, ◌++◌, ℕ, Bool, Some, Option, List, All, codes, length, true};
 ghost use Rattle.irig_plant.specs.Premises.{IsKept};
 ghost use Rattle.irig_plant.specs.Truth.{IsTruthful};
 ghost use Rattle.irig_plant.specs.Schedule.{log_of};
-ghost use Rattle.irig_scene.specs.Scene.{Scene, meaning_of};
+ghost use Rattle.irig_scenario.specs.Names.{are_names};
+ghost use Rattle.irig_scenario.specs.WholeSecond.{second_of};
+ghost use Rattle.irig_scene.specs.Scene.{Scene, Refused, meaning_of, ending_text, output};
+ghost use Rattle.irig_scene.specs.PlayerRuns.{ticks_among};
+ghost use Rattle.irig_scene.specs.Text.{entry_text, time_shown_text};
+ghost use Rattle.irig_scene.specs.LogLines.{whole_lines, Shows, ShowsNothing, TellsTruth, VouchesForItself};
 
-/// The headline over bytes: where the premises hold for all readers and ticks of the events that
-/// the bytes give, each line that is written of an entry shows the true second of its edge, or
-/// none. What [`run_scene`](crate::run_scene) writes is in front of those lines and the last one.
-pub fn lines_are_true()
+use irig_plant::Entry;
+
+/// Where the premises hold for all readers and ticks of the events that the bytes give, each entry
+/// of their log announces the true second of its edge, or none.
+pub fn entries_are_true()
     ensures { (x : List ℕ) (scene : Scene) → (meaning_of x).scene ≡ Some scene
         → IsKept scene.plan.setup scene.events
         → All (IsTruthful scene.plan.setup.times) (log_of scene.plan.setup scene.events) }
+{}
+
+/// The headline over bytes, and that a log vouches for itself: of each front of the log that some
+/// bytes give, however early it was cut off.
+pub fn logs_are_true()
+    ensures truth { (x : List ℕ) (all : Bool) (written rest : List ℕ)
+        → output x all ≡ written ++ rest → TellsTruth x written }
+    ensures vouches { (x : List ℕ) (all : Bool) (written rest : List ℕ)
+        → output x all ≡ written ++ rest → VouchesForItself x written }
+{}
+
+/// The line of an entry shows its edge, reader and time, and nothing else; a last line shows
+/// nothing.
+pub fn lines_read_one_way()
+    ensures entry { (names : List (List ℕ)) (e : Entry) → are_names names ≡ true
+        → e.edge < 2 ^ 64 → e.reader < length names
+        → (line : List ℕ) × (entry_text names e ≡ line ++ codes "\n")
+        × Shows names line e.reader e.edge (time_shown_text e.report.announce) }
+    ensures one_way { (names : List (List ℕ)) (line : List ℕ) (r n q m : ℕ) (time other : List ℕ)
+        → are_names names ≡ true → Shows names line r n time → Shows names line q m other
+        → (r ≡ q) × (n ≡ m) × (time ≡ other) }
+    ensures last { (x : Scene) (refused : Option Refused) → are_names x.plan.names ≡ true
+        → All (ShowsNothing x.plan.names) (whole_lines (ending_text refused (Some x))) }
+{}
+
+/// In a whole second each reader ticks once; so of its log no more entries stand at a time than
+/// there are readers.
+pub fn a_second_has_a_tick_a_reader()
+    ensures { (generators readers : ℕ) → ticks_among (second_of generators readers) ≡ readers }
 {}

@@ -2,7 +2,7 @@
 
 ghost use Rattle.std.specs.Prelude.{◌≡◌, ◌≤◌, ◌<◌, ◌+◌, IfOk, IfErr, OnErr, None, Err, true, length, ◌||◌};
 ghost use Rattle.irig_device.specs.Watched.{device_of, has_failed};
-ghost use Rattle.irig_scene.specs.Faults.{IsFaultOfReading, says_write, is_write_fault};
+ghost use Rattle.irig_scene.specs.Faults.{IsFaultOfReading, says_read, says_write, is_write_fault};
 ghost use Rattle.irig_device.specs.Lines.{GivesLine, GivesPart, HasNoNewline};
 ghost use Rattle.irig_scene.specs.Lines.{is_blank, limit_of, max_line, max_lines};
 ghost use Rattle.irig_scene.specs.LineRuns.{
@@ -53,7 +53,7 @@ pub(crate) fn read_line<R: BufRead>(
     ensures part { OnErr result
         (GivesPart (R.remaining (device_of input.old)) (R.remaining (device_of input.new))) }
     ensures fault { IfErr result IsFaultOfReading }
-    ensures note { result ≡ Err SceneFault.Read → has_failed input.new ≡ true }
+    ensures note { has_failed input.new ≡ (has_failed input.old || says_read result) }
 {
     match input.read_line(limit, line) {
         Ok(end) => Ok(end),

@@ -1,8 +1,9 @@
 //! A scenario from its first line to its last.
 
-ghost use Rattle.std.specs.Prelude.{◌≡◌, ◌↔◌, Err, false, true};
+ghost use Rattle.std.specs.Prelude.{◌≡◌, ◌↔◌, Err, false, true, IfSome};
 ghost use Rattle.irig_device.specs.Watched.{device_of, has_failed};
 ghost use Rattle.irig_scene.specs.Run.{Ran};
+ghost use Rattle.irig_scene.specs.LogLines.{OfWritten, TellsTruth, VouchesForItself};
 
 use crate::fault::SceneFault;
 use crate::line::{limit_of, read_line, refuse, run_last, take_line, too_long};
@@ -19,7 +20,7 @@ use std::io::{BufRead, Write};
 /// With `all` the silent entries of the log are written too. Neither device may have failed before.
 /// `Refused` where a line is refused, or the input ends before the plant line; `Read` and `Write`
 /// where the input or the output failed; `Memory` where there was none. What was written until then
-/// stands.
+/// stands. A writer that holds bytes back is the caller's to flush.
 pub fn run_scene<R: BufRead, W: Write>(
     alloc: Global,
     input: &mut Watched<R>,
@@ -28,10 +29,16 @@ pub fn run_scene<R: BufRead, W: Write>(
 ) -> Result<Outcome, SceneFault>
     requires input_whole { has_failed input.old ≡ false }
     requires output_whole { has_failed output.old ≡ false }
-    ensures wrote { Ran result all
+    ensures vouches { IfSome (R.remaining (device_of input.old)) (λ x.
+        OfWritten (W.contents (device_of output.old)) (W.contents (device_of output.new))
+        (VouchesForItself x)) }
+    ensures truth { IfSome (R.remaining (device_of input.old)) (λ x.
+        OfWritten (W.contents (device_of output.old)) (W.contents (device_of output.new))
+        (TellsTruth x)) }
+    ensures ran { Ran result all
         (R.remaining (device_of input.old)) (R.remaining (device_of input.new))
         (W.contents (device_of output.old)) (W.contents (device_of output.new)) }
-    ensures read { result ≡ Err SceneFault.Read → has_failed input.new ≡ true }
+    ensures read { (result ≡ Err SceneFault.Read) ↔ (has_failed input.new ≡ true) }
     ensures write { (result ≡ Err SceneFault.Write) ↔ (has_failed output.new ≡ true) }
 {
     run_scene_over::<FlowPort, R, W>(alloc, input, output, all)
@@ -46,13 +53,36 @@ pub fn run_scene_over<P: Port, R: BufRead, W: Write>(
 ) -> Result<Outcome, SceneFault>
     requires input_whole { has_failed input.old ≡ false }
     requires output_whole { has_failed output.old ≡ false }
-    ensures wrote { Ran result all
+    ensures vouches { IfSome (R.remaining (device_of input.old)) (λ x.
+        OfWritten (W.contents (device_of output.old)) (W.contents (device_of output.new))
+        (VouchesForItself x)) }
+    ensures truth { IfSome (R.remaining (device_of input.old)) (λ x.
+        OfWritten (W.contents (device_of output.old)) (W.contents (device_of output.new))
+        (TellsTruth x)) }
+    ensures ran { Ran result all
         (R.remaining (device_of input.old)) (R.remaining (device_of input.new))
         (W.contents (device_of output.old)) (W.contents (device_of output.new)) }
-    ensures read { result ≡ Err SceneFault.Read → has_failed input.new ≡ true }
+    ensures read { (result ≡ Err SceneFault.Read) ↔ (has_failed input.new ≡ true) }
     ensures write { (result ≡ Err SceneFault.Write) ↔ (has_failed output.new ≡ true) }
 {
-    let log = LogWriter { alloc, all };
+    run_lines::<P, R, W>(input, output, LogWriter { alloc, all })
+}
+
+// Runs one line after another.
+fn run_lines<P: Port, R: BufRead, W: Write>(
+    input: &mut Watched<R>,
+    output: &mut Watched<W>,
+    log: LogWriter,
+) -> Result<Outcome, SceneFault>
+    requires input_whole { has_failed input.old ≡ false }
+    requires output_whole { has_failed output.old ≡ false }
+    ensures ran { Ran result log.all
+        (R.remaining (device_of input.old)) (R.remaining (device_of input.new))
+        (W.contents (device_of output.old)) (W.contents (device_of output.new)) }
+    ensures read { (result ≡ Err SceneFault.Read) ↔ (has_failed input.new ≡ true) }
+    ensures write { (result ≡ Err SceneFault.Write) ↔ (has_failed output.new ≡ true) }
+{
+    let alloc = log.alloc;
     let mut line = Vec::new(alloc);
     let mut player: Option<Player<P>> = None;
     let mut number = 1;

@@ -1,22 +1,28 @@
 use Rattle.std.proofs.Common.{rules, ap, sym, subst}
 use Rattle.irig_plant.specs.History.{HasPlantHistory}
-use Rattle.irig_scene.specs.Scene.{Play}
+use Rattle.irig_scene.specs.Scene.{Play, play}
 use Rattle.irig_scene.specs.PlayerRuns.{past}
-use Rattle.irig_scene.proofs.PlayLaws.{play_all, play_until}
+use Rattle.irig_scene.proofs.PlayLaws.{few_stand, play_all, play_until}
 use Rattle.irig_scene.proofs.player.run.Goals as goal
 
 pub returns-in-Ok-clause-runs : goal.returns-in-Ok-clause-runs
 returns-in-Ok-clause-runs g c = λ x h.
     let all = play_all x.plan.setup _ x.events (c.in-Ok.ensures.accepted (past x) h) in
+    let stands : HasPlantHistory c.run.new.self (record (past x) { events = (play x.plan.setup c.args.events.now x.events).events }) =
+    subst (λ (p : Play). HasPlantHistory c.run.new.self (record (past x) { events = p.events })) (sym all) (c.in-Ok.ensures.stands (past x) h) in
     record {
       refused = ap (λ (p : Play). p.refusal) all;
-      stands = subst (λ (p : Play). HasPlantHistory c.run.new.self (record (past x) { events = p.events })) (sym all) (c.in-Ok.ensures.stands (past x) h);
+      stands = stands;
+      few = few_stand x _ _ stands.log;
     }
 
 pub returns-in-Some-clause-runs : goal.returns-in-Some-clause-runs
 returns-in-Some-clause-runs g c = λ x h.
     let until = play_until x.plan.setup _ _ x.events _ _ c.in-Err.ensures.index (c.in-Err.ensures.accepted_before (past x) h) (c.in-Err.ensures.refused (past x) h) (search rules) in
+    let stands : HasPlantHistory c.run.new.self (record (past x) { events = (play x.plan.setup c.args.events.now x.events).events }) =
+    subst (λ (p : Play). HasPlantHistory c.run.new.self (record (past x) { events = p.events })) (sym until) (c.in-Err.ensures.stands_before (past x) h) in
     record {
       refused = ap (λ (p : Play). p.refusal) until;
-      stands = subst (λ (p : Play). HasPlantHistory c.run.new.self (record (past x) { events = p.events })) (sym until) (c.in-Err.ensures.stands_before (past x) h);
+      stands = stands;
+      few = few_stand x _ _ stands.log;
     }

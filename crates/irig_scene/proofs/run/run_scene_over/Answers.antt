@@ -1,46 +1,10 @@
-use Rattle.std.proofs.Common.{rules, arith}
-use Rattle.std.proofs.lemmas.Result.{err_from_is_err_and}
-use Rattle.irig_scene.proofs.RunLaws.{has_begun, line_done, left_read, left_failed, left_refused, left_too_long, left_last}
+use Rattle.irig_scene.specs.LogLines.{TellsTruth, VouchesForItself}
+use Rattle.irig_scene.proofs.TrueLines.{tells_truth, vouches_for_itself}
+use Rattle.irig_scene.proofs.WrittenLaws.{of_run}
 use Rattle.irig_scene.proofs.run.run_scene_over.Goals as goal
 
-pub loop-player-init : goal.loop-player-init
-loop-player-init g c = (omega arith, omega arith, c.requires.output_whole, has_begun _ _ _)
+pub returns-clause-vouches : goal.returns-clause-vouches
+returns-clause-vouches g c = of_run VouchesForItself _ _ _ _ _ _ (vouches_for_itself _) c.run_lines.ensures.ran
 
-pub returns-in_err-read_line-clause-wrote : goal.returns-in_err-read_line-clause-wrote
-returns-in_err-read_line-clause-wrote g c =
-    let p = err_from_is_err_and c.from_residual.result c.from_residual.ensures.1 in
-    rw (p.1, p.2) (left_read _ _ _ _ _ _ _ _ _ c.loop-player.invariant.3 c.in_err-read_line.ensures.fault c.in_err-read_line.ensures.part)
-
-pub returns-in_err-refusal-in-Newline-clause-wrote : goal.returns-in_err-refusal-in-Newline-clause-wrote
-returns-in_err-refusal-in-Newline-clause-wrote g c =
-    let p = err_from_is_err_and c.from_residual-in_err-refusal-in-Newline.result c.from_residual-in_err-refusal-in-Newline.ensures.1 in
-    let run = c.loop-player.invariant.3 in
-    rw (p.1, p.2) (left_failed _ _ _ _ _ _ _ _ _ _ _ _ _ _ run c.in_ok-read_line.ensures.line c.in-Newline.is c.deref.ensures.value
-    (c.in_err-refusal-in-Newline.ensures.fails run.at run.stands))
-
-pub returns-in-Some-clause-wrote : goal.returns-in-Some-clause-wrote
-returns-in-Some-clause-wrote g c =
-    let run = c.loop-player.invariant.3 in
-    left_refused _ _ _ _ _ _ _ _ _ _ _ _ _ _ _ _ _ _ run c.in_ok-read_line.ensures.line c.in-Newline.is c.deref.ensures.value c.in-Some.is
-    (c.in_ok-refusal-in-Newline.ensures.takes run.at run.stands) c.refuse.ensures.wrote
-
-pub loop-player-preserved : goal.loop-player-preserved
-loop-player-preserved g c =
-    let run = c.loop-player.invariant.3 in (
-      omega arith,
-      search rules,
-      search rules,
-      line_done _ _ _ _ _ _ _ _ _ _ _ _ _ _ _ run c.in_ok-read_line.ensures.line c.in-Newline.is c.deref.ensures.value c.in_default.is
-          (c.in_ok-refusal-in-Newline.ensures.takes run.at run.stands),
-    )
-
-pub returns-in-TooLong-clause-wrote : goal.returns-in-TooLong-clause-wrote
-returns-in-TooLong-clause-wrote g c =
-    left_too_long _ _ _ _ _ _ _ _ _ _ _ _ _ _ c.loop-player.invariant.3 c.in_ok-read_line.ensures.line c.in-TooLong.is c.limit_of.ensures
-    c.too_long.ensures c.refuse-in-TooLong.ensures.wrote
-
-pub returns-in-EndOfInput-clause-wrote : goal.returns-in-EndOfInput-clause-wrote
-returns-in-EndOfInput-clause-wrote g c =
-    let run = c.loop-player.invariant.3 in
-    left_last _ _ _ _ _ _ _ _ _ _ _ _ _ _ run c.in_ok-read_line.ensures.line c.in-EndOfInput.is c.deref-in-EndOfInput.ensures.value
-    (c.run_last.ensures.runs run.at run.stands)
+pub returns-clause-truth : goal.returns-clause-truth
+returns-clause-truth g c = of_run TellsTruth _ _ _ _ _ _ (tells_truth _) c.run_lines.ensures.ran

@@ -5,6 +5,7 @@ use Rattle.irig_uses.proofs.scenes.is_trusted.Goals as goal
 
 pub returns-in-Kept : goal.returns-in-Kept
 returns-in-Kept c is_trusted =
-    let done = c.in_ok-outcome.ensures.wrote.1 in
-    let left = ap (λ device. (meaning_of device.now).scene) (sym c.new-input.ensures.device) ∙ done.left in
+    let ran = c.in_ok-outcome.ensures.ran in
+    let done = ran.ran.1 in
+    let left = ap (λ device. (meaning_of device.now).scene) (sym c.new-input.ensures.device) ∙ ap (λ x. (meaning_of x).scene) (sym ran.of_input) ∙ done.left in
     (done.scene, left, (kept_is done.scene.plan.setup done.scene.events).0 (sym done.audit ∙ c.in-Kept.is))

@@ -1,0 +1,2 @@
+pub mod RestsLaws
+pub mod StandardFacts

@@ -1,0 +1,3 @@
+pub mod ReadLetters
+pub mod ReadingLaws
+pub mod StandardFacts

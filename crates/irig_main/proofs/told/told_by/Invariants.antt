@@ -1,8 +1,0 @@
-use Rattle.std.proofs.Common.{take}
-use Rattle.irig_time.specs.declared.rules.TheConstants.Rules.{PLAIN}
-use Rattle.irig_port.specs.Numbers.{Numbers}
-use Rattle.irig_main.proofs.told.told_by.Given as goal
-
--- the port stands for the symbols so far
-abbrev pub invariant-loop-symbol : goal.invariant-loop-symbol
-invariant-loop-symbol l = Numbers l.port PLAIN (take l.symbol-index l.symbols)

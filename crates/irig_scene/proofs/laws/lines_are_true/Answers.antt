@@ -1,5 +1,0 @@
-use Rattle.irig_scene.proofs.TrueLines.{lines_true}
-use Rattle.irig_scene.proofs.laws.lines_are_true.Goals as goal
-
-pub returns : goal.returns
-returns _ = lines_true

@@ -1,0 +1,15 @@
+use Rattle.std.proofs.Common.{◌≡◌, ◌≤◌, ◌-◌, false}
+use Rattle.irig_device.specs.Watched.{device_of, has_failed}
+use Rattle.irig_scene.proofs.RunLaws.{HasRun}
+use Rattle.irig_scene.proofs.run.run_lines.Given as goal
+
+abbrev pub invariant-loop-player : goal.invariant-loop-player
+invariant-loop-player g l =
+    (1 ≤ l.number)
+    × (l.number ≤ 1000001)
+    × (has_failed l.output ≡ false)
+    × (has_failed l.input ≡ false)
+    × HasRun l.log.all l.player (g.R.Read.remaining (device_of l.initial.input)) (g.R.Read.remaining (device_of l.input)) (g.W.Write.contents (device_of l.initial.output)) (g.W.Write.contents (device_of l.output)) l.number
+
+abbrev pub decreases-loop-player : goal.decreases-loop-player
+decreases-loop-player g l = 1000002 - l.number
