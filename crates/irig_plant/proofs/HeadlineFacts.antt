@@ -1,27 +1,30 @@
 -- Instances of the headline's records that hold, and instances that do not, so that none of their
 -- fields can be dropped or turned. Newest events come first.
 use Rattle.std.specs.Prelude.{◌==◌, ◌||◌, All}
-use Rattle.std.proofs.Common.{◌≡◌, ℕ, ◌+◌, ◌<◌, ◌≤◌, true, false, [], ◌∷◌, Option, Some, None, inl, inr, refl, sym, ap, subst, ◌∙◌, arith}
+use Rattle.std.proofs.Common.{◌≡◌, ℕ, ◌+◌, ◌<◌, ◌≤◌, true, false, List, [], ◌∷◌, Option, Some, None, inl, inr, refl, sym, ap, subst, ◌∙◌, arith}
 use Rattle.std.proofs.lemmas.Bool.{false≢true, cases_eq}
 use Rattle.std.proofs.lemmas.List.Elements.{All-nil, All-cons}
 use Rattle.irig_time.specs.declared.second.UtcSecond.{UtcSecond}
 use Rattle.irig_time.specs.declared.leap.Leap.TheVariants as leap
-use Rattle.irig_time.proofs.StandardFacts.{known_month_end}
+use Rattle.irig_time.proofs.StandardFacts.{known_month_end, known_first_end}
 use Rattle.irig_time.specs.Timelines.{TimelineValue, times, second_at}
 use Rattle.irig_time.specs.Tables.{TableValue, table}
 use Rattle.irig_hold.specs.Truth.{IsTrueTable}
 use Rattle.irig_reader.specs.declared.report.Lock.TheVariants as lock
 use Rattle.irig_reader.specs.declared.report.Cause.TheVariants as cause
 use Rattle.irig_reader.specs.declared.report.Report.{Report}
-use Rattle.irig_plant.specs.declared.event.Event.TheVariants.{Tick, Replay}
+use Rattle.irig_plant.specs.declared.event.Event.{Event}
+use Rattle.irig_plant.specs.declared.event.Event.TheVariants.{Tick, Replay, Restart}
 use Rattle.irig_plant.specs.declared.entry.Entry.{Entry}
 use Rattle.irig_plant.specs.declared.setup.ReaderSetup.{ReaderSetup}
 use Rattle.irig_plant.specs.Audits.{is_true_table, first_false, is_broken_now, place, first_broken}
-use Rattle.irig_plant.specs.Edges.{VotedEdges, voted_edges_of, IsGuard, HasVote, IsHeld, IsRun, IsLongestRun, IsLastVote}
+use Rattle.irig_plant.specs.Edges.{VotedEdges, is_voted_now, is_voted, IsVoted, IsRestarted, voted_edges_of, IsGuard, HasVote, IsHeld, IsRun, IsLongestRun, IsLastVote}
 use Rattle.irig_plant.specs.Ports.{AreRising, AtLeast, AtMost}
 use Rattle.irig_plant.specs.Premises.{IsKeptUpTo, HasPremises, IsKept}
 use Rattle.irig_plant.specs.Truth.{AnnouncesTruth, GivesNoFalseAlarm, IsTruthful, IsBefore}
-use Rattle.irig_plant.specs.Exactly.{announcement, silence, IsServed, AnnouncesWhenHeld, IsAnnouncement, HasAnnounced, IsSilence}
+use Rattle.irig_plant.specs.Exactly.{announcement, silence, IsServed, AnnouncesWhenHeld, IsAnnouncement, HasItsLock, HasAnnounced, WasHeld, IsSilence, HasItsCause}
+use Rattle.irig_plant.specs.Headline.{KeepsHeadline}
+use Rattle.irig_plant.proofs.CourseLaws.{voted_by_test, test_by_voted, test_by_restarted}
 use Rattle.irig_plant.proofs.Headline.{kept_now, harmless}
 use Rattle.irig_plant.proofs.KeptLaws.{empty_true}
 use Rattle.irig_plant.proofs.NoonPlants.{at, noon, plant, told_0, told_nothing, kept_none, kept_tick, kept_replay, two_stale, kept_first_of_3}
@@ -179,7 +182,74 @@ announced_unheld h = unheld ((h.exactly (at 43201) (served (holds_over 43201))).
 none_announced : ¬ HasAnnounced (plant 3) [] 0 0
 none_announced h = omega (arith, h.logged.1)
 
+-- who is silent has no lock to tell, and an edge that nobody voted is not locked
+silent_lock : HasItsLock (plant 3) [] (entry 1 (silence lock.Unlocked cause.NoVote))
+silent_lock = record { lock = λ v s says. absurd (false≢true says) }
+
+not_locked : ¬ HasItsLock (plant 3) [] (entry 1 (announcement (at 43201) lock.Locked cause.Voted))
+not_locked h =
+    let held = (h.lock (at 43201) (served (announcement (at 43201) lock.Locked cause.Voted)) refl).held refl in
+    let is : lock.Locked ≡ lock.Holdover held.age = ap (λ (r : Report). r.lock) held.report in
+    cc
+
+-- who never announced has not been held
+never_held : (n : ℕ) → ¬ WasHeld (plant 3) [] 0 n
+never_held n h = omega (arith, h.announced.logged.1)
+
+silent_cause : HasItsCause (plant 3) [] (entry 1 (silence lock.Unlocked cause.NoVote))
+silent_cause = record { cause = λ v s quiet. inr (inr (inr (record { unvoted = refl; unheld = never_held 1; report = refl }))) }
+
+not_expired : ¬ HasItsCause (plant 3) [] (entry 1 (silence lock.Unlocked cause.Expired))
+not_expired h = elim (h.cause (at 43201) (served (silence lock.Unlocked cause.Expired)) refl) [
+  | inl c ↦ false≢true c.voted
+  | inr (inl e) ↦ never_held 1 e.was_held
+  | inr (inr (inl g)) ↦ never_held 1 g.was_held
+  | inr (inr (inr w)) ↦ let is : cause.Expired ≡ cause.NoVote = ap (λ (r : Report). r.cause) w.report in cc
+]
+
+-- all of the headline at once
+silent_headline : KeepsHeadline (plant 3) [] (entry 1 (silence lock.Unlocked cause.NoVote))
+silent_headline = record { truth = record { second = λ p u e. absurd cc }; calm = calm; exactly = silent_unheld; lock = silent_lock; cause = silent_cause }
+
+false_headline : ¬ KeepsHeadline (plant 3) [] (entry 1 (holds_over 43202))
+false_headline h = false_hold h.truth
+
 -- ---- edges
+
+-- at the first tick two ports have heard the frame of edge 0
+abbrev two_true : List Event
+two_true = Replay 1 0 0 ∷ Replay 0 0 0 ∷ []
+
+voted_now : is_voted_now (plant 3) 0 two_true ≡ true
+unfolding second_at
+voted_now = rw (known_first_end, told_0, told_nothing) refl
+
+voted_at_1 : IsVoted (plant 3) 0 (Tick 0 ∷ two_true) 1
+voted_at_1 = voted_by_test (plant 3) 0 (Tick 0 ∷ two_true) 1 voted_now
+
+-- where no port heard a frame, or no tick came, it is not voted
+none_heard : is_voted (plant 3) 0 (Tick 0 ∷ []) 1 ≡ false
+unfolding second_at
+none_heard = rw (known_first_end, told_nothing) refl
+
+unvoted_at_1 : ¬ IsVoted (plant 3) 0 (Tick 0 ∷ []) 1
+unvoted_at_1 h = false≢true (sym none_heard ∙ test_by_voted (plant 3) 0 (Tick 0 ∷ []) 1 h)
+
+unticked_at_1 : ¬ IsVoted (plant 3) 0 two_true 1
+unticked_at_1 h = false≢true (test_by_voted (plant 3) 0 two_true 1 h)
+
+-- a restart between the first tick and the second
+abbrev restarted : List Event
+restarted = Tick 0 ∷ Restart 0 ∷ Tick 0 ∷ []
+
+restarted_after_1 : IsRestarted 0 restarted 1
+restarted_after_1 = record { later = Tick 0 ∷ []; earlier = Tick 0 ∷ []; restart = refl; edge = omega arith }
+
+not_restarted_after_2 : ¬ IsRestarted 0 restarted 2
+not_restarted_after_2 h = false≢true (test_by_restarted 0 restarted 2 h)
+
+other_not_restarted : ¬ IsRestarted 1 restarted 0
+other_not_restarted h = false≢true (test_by_restarted 1 restarted 0 h)
 
 -- a month's end that nobody spoke of, above the table
 abbrev old_year : TimelineValue
