@@ -44,8 +44,7 @@ pub fn lines_read_one_way()
         → All (ShowsNothing x.plan.names) (whole_lines (ending_text refused (Some x))) }
 {}
 
-/// In a whole second each reader ticks once; so of its log no more entries stand at a time than
-/// there are readers.
+/// A whole second has as many ticks as there are readers.
 pub fn a_second_has_a_tick_a_reader()
     ensures { (generators readers : ℕ) → ticks_among (second_of generators readers) ≡ readers }
 {}
