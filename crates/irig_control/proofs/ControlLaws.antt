@@ -218,7 +218,7 @@ packed w =
     ]
 
 -- the bits below the parity say all
-same_bits : (v w : ℕ) → v / 1 % 2 ≡ w / 1 % 2 → v / 2 % 2 ≡ w / 2 % 2 → v / 4 % 2 ≡ w / 4 % 2 → v / 8 % 2 ≡ w / 8 % 2 → v / 16 % 2 ≡ w / 16 % 2 → v / 32 % 16 ≡ w / 32 % 16 → v / 512 % 2 ≡ w / 512 % 2 → v / 1024 % 16 ≡ w / 1024 % 16 → control_of v ≡ control_of w
+pub same_bits : (v w : ℕ) → v / 1 % 2 ≡ w / 1 % 2 → v / 2 % 2 ≡ w / 2 % 2 → v / 4 % 2 ≡ w / 4 % 2 → v / 8 % 2 ≡ w / 8 % 2 → v / 16 % 2 ≡ w / 16 % 2 → v / 32 % 16 ≡ w / 32 % 16 → v / 512 % 2 ≡ w / 512 % 2 → v / 1024 % 16 ≡ w / 1024 % 16 → control_of v ≡ control_of w
 same_bits v w a b d e f g h i = rw (control_is v, control_is w, offset_is v, offset_is w, a, b, d, e, f, g, h, i) refl
 
 pub control_same : (w : ℕ) (b : Bool) → control_of (w + 2 ^ 14 * flag b) ≡ control_of w

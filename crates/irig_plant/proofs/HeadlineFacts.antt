@@ -18,7 +18,7 @@ use Rattle.irig_plant.specs.declared.event.Event.TheVariants.{Tick, Replay, Rest
 use Rattle.irig_plant.specs.declared.entry.Entry.{Entry}
 use Rattle.irig_plant.specs.declared.setup.ReaderSetup.{ReaderSetup}
 use Rattle.irig_plant.specs.Audits.{is_true_table, first_false, is_broken_now, place, first_broken}
-use Rattle.irig_plant.specs.Edges.{VotedEdges, is_voted_now, is_voted, IsVoted, IsRestarted, voted_edges_of, IsGuard, HasVote, IsHeld, IsRun, IsLongestRun, IsLastVote}
+use Rattle.irig_plant.specs.Edges.{VotedEdges, is_voted_now, is_voted, IsVoted, IsRestarted, voted_edges_of, IsGuard, HasVote, IsHeld, KeepsLock, IsRun, IsLongestRun, IsLastVote}
 use Rattle.irig_plant.specs.Ports.{AreRising, AtLeast, AtMost}
 use Rattle.irig_plant.specs.Premises.{IsKeptUpTo, HasPremises, IsKept}
 use Rattle.irig_plant.specs.Truth.{AnnouncesTruth, GivesNoFalseAlarm, IsTruthful, IsBefore}
@@ -280,6 +280,10 @@ not_in_table g =
     let same : ◌≡◌ {A = UtcSecond} (record { day = 6209; sod = 86398 }) g.second = cc in
     omega (arith, ap (λ (u : UtcSecond). u.day) same, g.above)
 
+-- no lock is kept over a guard edge
+not_kept_over_guard : ¬ KeepsLock (unheard 6208) 0 1
+not_kept_over_guard h = h.unguarded 1 (omega arith) (omega arith) guard
+
 -- a table that denies the leap of its last day is false, and one that ends before it is true
 abbrev leap_year : TimelineValue
 leap_year = times (record { day = 6209; sod = 86398 }) ((6209, leap.Insert) ∷ [])
@@ -334,6 +338,26 @@ module _ (t : TimelineValue) (table : TableValue) where
         | inl e ↦ false≢true (ap two_votes.voted (sym e) ∙ last.is)
         | inr other ↦ false≢true (ap two_votes.voted (let e : 4 ≡ last.edge = omega (arith, other, last.near, last.to) in e) ∙ last.is)
       ]
+
+  -- a lock at edge 2 is kept up to edge 3 and no further, and not over a restart
+  kept_to_3 : KeepsLock two_votes 2 3
+  kept_to_3 = record {
+    after = omega arith;
+    unbroken = λ i a b. refl;
+    fresh = vote_at_2;
+    unguarded = λ j a b g. false≢true (sym (g.unheard 2 (omega arith) a));
+  }
+
+  not_kept_to_4 : ¬ KeepsLock two_votes 2 4
+  not_kept_to_4 h =
+      let last : HasVote two_votes 2 4 1 = h.fresh 4 (omega arith) (omega arith) in
+      elim (cases_eq last.edge 3) [
+        | inl e ↦ false≢true (ap two_votes.voted (sym e) ∙ last.is)
+        | inr other ↦ false≢true (ap two_votes.voted (let e : 4 ≡ last.edge = omega (arith, other, last.near, last.to) in e) ∙ last.is)
+      ]
+
+  not_kept_over_restart : ¬ KeepsLock (record two_votes { restarted = λ i. i == 2 }) 2 3
+  not_kept_over_restart h = false≢true (sym (h.unbroken 2 (omega arith) (omega arith)))
 
   -- the last vote before edge 3 is that of edge 2, and not that of edge 1
   last_of_3 : IsLastVote two_votes 3 1

@@ -3,7 +3,7 @@
 use Rattle.std.specs.Prelude.{◌==◌, All, is_some}
 use Rattle.std.specs.List.{Contains}
 use Rattle.std.proofs.Common.{◌≡◌, ℕ, ◌+◌, ◌<◌, Bool, true, false, cond, List, [], ◌∷◌, length, get_or, Option, Some, None, inl, inr, refl, ap, subst, ◌∙◌, arith}
-use Rattle.std.proofs.lemmas.Bool.{eq-eqb}
+use Rattle.std.proofs.lemmas.Bool.{eq-eqb, cases_Bool, cases_lt}
 use Rattle.std.proofs.lemmas.List.Elements.{All-contains, All-weaker}
 use Rattle.irig_time.specs.declared.second.UtcSecond.{UtcSecond}
 use Rattle.irig_time.specs.declared.claim.Claim.{Claim}
@@ -21,16 +21,17 @@ use Rattle.irig_port.proofs.CarriesLaws.{carries_is_told}
 use Rattle.irig_vote.specs.Vote.{ports_in, redundancy_of}
 use Rattle.irig_reader.specs.declared.report.Lock.TheVariants as lock
 use Rattle.irig_reader.specs.declared.report.Cause.TheVariants as cause
+use Rattle.irig_reader.specs.declared.report.Report.{Report}
 use Rattle.irig_plant.specs.declared.event.Event.{Event}
 use Rattle.irig_plant.specs.declared.event.Event.TheVariants.{GenEdge, Carry, Fault, Repair}
 use Rattle.irig_plant.specs.declared.entry.Entry.{Entry}
 use Rattle.irig_plant.specs.Widths.{widths_of}
 use Rattle.irig_plant.specs.Schedule.{Setup, no_generator, setup_at, generator_at, heard_at, pulses_sent, pulses_sent_at, ticks_of, log_of}
-use Rattle.irig_plant.specs.Edges.{VotedEdges, voted_edges_of, is_voted_now, CanLock, IsHeld, IsRun}
+use Rattle.irig_plant.specs.Edges.{VotedEdges, voted_edges_of, is_voted_now, CanLock, IsHeld, IsRun, KeepsLock}
 use Rattle.irig_plant.specs.Ports.{AtLeast, f_in, IsTruePort}
 use Rattle.irig_plant.specs.Health.{HasGenerators, IsHealthyPort}
 use Rattle.irig_plant.specs.History.{IsNew}
-use Rattle.irig_plant.specs.Exactly.{announcement, IsServed, AnnouncesWhenHeld, HasItsLock}
+use Rattle.irig_plant.specs.Exactly.{announcement, IsServed, AnnouncesWhenHeld, IsAnnouncement, HasItsLock}
 use Rattle.irig_plant.proofs.PortLaws.{voted_by_ports}
 use Rattle.irig_plant.proofs.FrameLaws.{true_frame_told}
 use Rattle.irig_plant.proofs.ExactLaws.{log_when_held, log_tells_lock}
@@ -49,7 +50,7 @@ either : (P : GeneratorValue → Type 0) (b : Bool) (x y : GeneratorValue) → P
 either P true x y h k = h
 either P false x y h k = k
 
-frame_kept : (s : Setup) (g : ℕ) (ev : List Event) (n : ℕ) → frame_of None (generator_at s g ev) s.times n ≡ frame_of None (generator_at s g []) s.times n
+pub frame_kept : (s : Setup) (g : ℕ) (ev : List Event) (n : ℕ) → frame_of None (generator_at s g ev) s.times n ≡ frame_of None (generator_at s g []) s.times n
 frame_kept s g [] n = refl
 frame_kept s g (GenEdge k ∷ ev) n =
     let x = generator_at s g ev in
@@ -67,7 +68,7 @@ frame_kept s g (e ∷ ev) n = frame_kept s g ev n
 
 -- ---- healthy ports
 
-ports_are_generators : (s : Setup) → HasGenerators s → ports_in (redundancy_of (length s.generators)) ≡ length s.generators
+pub ports_are_generators : (s : Setup) → HasGenerators s → ports_in (redundancy_of (length s.generators)) ≡ length s.generators
 ports_are_generators s h = elim h.new.count [ inl three ↦ rw three refl | inr five ↦ rw five refl ]
 
 pub healthy_is_true : (s : Setup) (r : ℕ) (ev : List Event) (c : Claim) (p : ℕ) → IsTimeline s.times → HasGenerators s → truth_at s.times (ticks_of r ev) ≡ Some c → IsHealthyPort s r ev p → IsTruePort s r ev p
@@ -93,7 +94,7 @@ healthy_votes s r ev c line gens truth h =
       many = h.many;
     })
 
-sent_plain : (g : GeneratorValue) (t : TimelineValue) → g.fault ≡ None → sent_of g t ≡ frame_of None g t g.edge
+pub sent_plain : (g : GeneratorValue) (t : TimelineValue) → g.fault ≡ None → sent_of g t ≡ frame_of None g t g.edge
 unfolding sent_of
 sent_plain g t plain = rw plain refl
 
@@ -126,3 +127,32 @@ run_announces s ev e v sound ruled logged served run =
     let locked : HasItsLock s ev e = All-contains (HasItsLock s ev) (log_of s ev) e (log_tells_lock s ev sound ruled) logged in
     let says : is_some e.report.announce ≡ true = (exact.exactly v served).1 (held_by_run x e.edge run) in
     (locked.lock v served says).voted (run.votes e.edge (omega (arith, run.some)) (omega arith))
+
+-- ---- after a run
+
+held_later : (x : VotedEdges) (m n : ℕ) → IsRun x m x.own.lock_after → KeepsLock x m n → IsHeld x n
+held_later x m n run keeps = record {
+  lock = m;
+  enough = run.fits;
+  before = keeps.after;
+  votes = run.votes;
+  unbroken = λ i from to. elim (cases_lt i m) [ inl early ↦ run.unbroken i from early | inr late ↦ keeps.unbroken i late to ];
+  fresh = keeps.fresh;
+  unguarded = keeps.unguarded;
+}
+
+told_second : (x : VotedEdges) (n : ℕ) (v : UtcSecond) (said : Report) → IsAnnouncement x n v said → said.announce ≡ Some v
+told_second x n v said h =
+    elim (cases_Bool (x.voted n)) [
+      | inl voted ↦ ap (λ (r : Report). r.announce) (h.voted voted)
+      | inr unvoted ↦ ap (λ (r : Report). r.announce) (h.held unvoted).report
+    ]
+
+pub run_announces_later : (s : Setup) (ev : List Event) (e : Entry) (v : UtcSecond) (m : ℕ) → IsTimeline s.times → All CanLock s.readers → Contains (log_of s ev) e → IsServed s ev e v
+    → IsRun (voted_edges_of s e.reader ev) m (setup_at s.readers e.reader).rules.lock_after → KeepsLock (voted_edges_of s e.reader ev) m e.edge → e.report.announce ≡ Some v
+run_announces_later s ev e v m sound ruled logged served run keeps =
+    let x = voted_edges_of s e.reader ev in
+    let exact : AnnouncesWhenHeld s ev e = All-contains (AnnouncesWhenHeld s ev) (log_of s ev) e (log_when_held s ev sound ruled) logged in
+    let locked : HasItsLock s ev e = All-contains (HasItsLock s ev) (log_of s ev) e (log_tells_lock s ev sound ruled) logged in
+    let says : is_some e.report.announce ≡ true = (exact.exactly v served).1 (held_later x m e.edge run keeps) in
+    told_second x e.edge v e.report (locked.lock v served says)

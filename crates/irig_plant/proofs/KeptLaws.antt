@@ -20,7 +20,7 @@ served_start true c d h = absurd cc
 served_start false c d h = refl
 
 -- a timeline begins with day 1 at the earliest
-starts_late : (t : TimelineValue) → IsTimeline t → 1 ≤ t.start.day
+pub starts_late : (t : TimelineValue) → IsTimeline t → 1 ≤ t.start.day
 starts_late t h =
     let start = (neither (first_leap_fault [] t.leaps) (start_fault t.leaps t.start) h.sound).1 in
     let test : nat_lt t.start.day 1 ≡ false = served_start (nat_lt t.start.day 1) (nat_lt 36523 t.start.day) (nat_lt t.start.sod (day_length t.leaps t.start.day)) start in
@@ -30,7 +30,7 @@ starts_late t h =
 pub empty_true : (t : TimelineValue) → 1 ≤ t.start.day → IsTrueTable t (table 0 [])
 empty_true t late = record { leaps = λ day end from to. absurd (omega (arith, late, from, to)) }
 
-table_true : (t : TimelineValue) (readers : List ReaderSetup) (r : ℕ) → 1 ≤ t.start.day → All (HasTrueTable t) readers → IsTrueTable t (setup_at readers r).table
+pub table_true : (t : TimelineValue) (readers : List ReaderSetup) (r : ℕ) → 1 ≤ t.start.day → All (HasTrueTable t) readers → IsTrueTable t (setup_at readers r).table
 table_true t [] r late tables = empty_true t late
 table_true t (x ∷ xs) zero late tables = true_by_test t x.table (All-head (HasTrueTable t) x xs tables)
 table_true t (x ∷ xs) (suc r) late tables = table_true t xs r late (All-tail (HasTrueTable t) x xs tables)

@@ -17,11 +17,17 @@ pub mod CourseLaws
 pub mod Standing
 pub mod ExactLaws
 pub mod HealthLaws
+pub mod DamageLaws
 pub mod HearingLaws
 pub mod SteadyLaws
 pub mod RangeLaws
 pub mod StandardFacts
 pub mod HeadlineFacts
+pub mod DamageFacts
 pub mod NoonPlants
 pub mod LeapPlant
 pub mod KeptLaws
+pub mod SecondEvents
+pub mod HealthyTicks
+pub mod HealthyLaws
+mod HealthyFacts

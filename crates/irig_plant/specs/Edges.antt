@@ -126,6 +126,14 @@ pub record IsHeld (x : VotedEdges) (n : ℕ) : Type 0 where
   pub fresh : (j : ℕ) → lock ≤ j → j ≤ n → HasVote x lock j x.own.holdover
   pub unguarded : (j : ℕ) → lock < j → j ≤ n → ¬ IsGuard x j
 
+-- from a lock at edge m on nothing takes it away up to edge n: no restart, no holdover that is over,
+-- no guard edge
+pub record KeepsLock (x : VotedEdges) (m n : ℕ) : Type 0 where
+  pub after : m ≤ n
+  pub unbroken : (i : ℕ) → m ≤ i → i < n → x.restarted i ≡ false
+  pub fresh : (j : ℕ) → m ≤ j → j ≤ n → HasVote x m j x.own.holdover
+  pub unguarded : (j : ℕ) → m < j → j ≤ n → ¬ IsGuard x j
+
 -- the count edges up to n are all voted, and no restart falls between them
 pub record IsRun (x : VotedEdges) (n count : ℕ) : Type 0 where
   pub some : 1 ≤ count

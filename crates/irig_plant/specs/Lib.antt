@@ -12,6 +12,9 @@ pub mod Exactly
 pub mod Headline
 pub mod History
 pub mod Health
+pub mod Damage
 pub mod Hearing
 pub mod Steadiness
 pub mod Misled
+pub mod WholeSecond
+pub mod HealthyPlant

@@ -2,7 +2,7 @@
 
 ghost use Rattle.std.specs.Prelude.{◌≡◌, ◌+◌, ◌<◌, ◌≤◌, ◌↔◌, ◌⊎◌, true, false, ℕ, Some, None, List, [], ◌∷◌, ◌++◌, length, All, is_some};
 ghost use Rattle.std.specs.List.{Contains};
-ghost use Rattle.irig_time.specs.Timelines.{TimelineValue, truth_at};
+ghost use Rattle.irig_time.specs.Timelines.{TimelineValue, second_at, truth_at};
 ghost use Rattle.irig_time.specs.TimelineFaults.{IsTimeline};
 ghost use Rattle.irig_time.specs.Tables.{TableValue};
 ghost use Rattle.irig_gen.specs.Frames.{GeneratorValue, IsTrueFrame};
@@ -10,23 +10,27 @@ ghost use Rattle.irig_gen.specs.Refusals.{IsGenerator};
 ghost use Rattle.irig_gen.specs.Sent.{frame_of};
 ghost use Rattle.irig_port.specs.Heard.{symbols_of};
 ghost use Rattle.irig_port.specs.Told.{told_of, told_of_widths};
+ghost use Rattle.irig_port.specs.Damage.{IsFaultOr};
 ghost use Rattle.irig_hold.specs.Truth.{IsTrueTable};
 ghost use Rattle.irig_vote.specs.Vote.{ports_in, redundancy_of};
 ghost use Rattle.irig_reader.specs.History.{vote_at_tick};
 ghost use Rattle.irig_reader.specs.Rule.{state_of};
 ghost use Rattle.irig_plant.specs.Schedule.{Setup, setup_at, generator_at, heard_at, ticks_of, votes_of, history_of, entry_of, log_of};
 ghost use Rattle.irig_plant.specs.Audits.{is_true_table, is_broken_now, audit_of};
-ghost use Rattle.irig_plant.specs.Edges.{CanLock, is_voted_now, is_voted, is_restarted, IsVoted, IsRestarted, voted_edges_of, IsRun};
+ghost use Rattle.irig_plant.specs.Edges.{CanLock, is_voted_now, is_voted, is_restarted, IsVoted, IsRestarted, voted_edges_of, IsRun, KeepsLock};
 ghost use Rattle.irig_plant.specs.Ports.{AtLeast, AtMost, f_in, IsTruePort, IsUntruePort};
 ghost use Rattle.irig_plant.specs.Exactly.{announcement, IsServed, AnnouncesWhenHeld, HasItsLock, HasItsCause};
 ghost use Rattle.irig_plant.specs.Premises.{HasPremises, IsKeptUpTo, IsKept};
 ghost use Rattle.irig_plant.specs.Truth.{Announces, IsBefore, StandsAtTruth, AnnouncesTruth, GivesNoFalseAlarm, IsTruthful};
 ghost use Rattle.irig_plant.specs.Headline.{KeepsHeadline};
 ghost use Rattle.irig_plant.specs.Health.{HasGenerators, IsHealthyPort};
+ghost use Rattle.irig_plant.specs.HealthyPlant.{seconds_of, IsHealthyPlant, healthy_log};
+ghost use Rattle.irig_plant.specs.Runs.{events_after, AreAccepted};
+ghost use Rattle.irig_plant.specs.Damage.{IsDamagedPort};
 ghost use Rattle.irig_plant.specs.Hearing.{hearing_of, HearAlike};
 ghost use Rattle.irig_plant.specs.Steadiness.{FollowsByMark};
 ghost use Rattle.irig_plant.specs.Misled.{IsMisled, IsMisledByTable};
-ghost use Rattle.irig_plant.specs.Widths.{widths_of};
+ghost use Rattle.irig_plant.specs.Widths.{widths_of, with_damage};
 ghost use Rattle.irig_plant.specs.History.{PlantHistory, HasPlantHistory};
 
 use crate::audit::Audit;
@@ -207,13 +211,34 @@ pub fn healthy_carries_vote()
         → AtLeast (f_in s + 1) (IsHealthyPort s r ev) → is_voted_now s r ev ≡ true }
 {}
 
-/// A reader is available, and recovers: after as many voted edges in a row as it locks after, with
-/// no restart between, an entry announces under its premises, whatever came before.
+/// A reader is available, and recovers.
 pub fn runs_are_announced()
-    ensures { (s : Setup) (ev : List Event) (e : Entry) (v : UtcSecond) → IsTimeline s.times
+    // After as many voted edges in a row as it locks after, with no restart between, an entry
+    // announces under its premises, whatever came before.
+    ensures locked { (s : Setup) (ev : List Event) (e : Entry) (v : UtcSecond) → IsTimeline s.times
         → All CanLock s.readers → Contains (log_of s ev) e → IsServed s ev e v
         → IsRun (voted_edges_of s e.reader ev) e.edge (setup_at s.readers e.reader).rules.lock_after
         → e.report ≡ announcement v Lock.Locked Cause.Voted }
+    // After such a run up to edge m, an entry of a later edge announces T of it too, as long as
+    // nothing takes the lock away: no restart, no holdover that is over, no guard edge.
+    ensures later { (s : Setup) (ev : List Event) (e : Entry) (v : UtcSecond) (m : ℕ)
+        → IsTimeline s.times → All CanLock s.readers → Contains (log_of s ev) e → IsServed s ev e v
+        → IsRun (voted_edges_of s e.reader ev) m (setup_at s.readers e.reader).rules.lock_after
+        → KeepsLock (voted_edges_of s e.reader ev) m e.edge → e.report.announce ≡ Some v }
+{}
+
+/// A healthy plant announces: without faults, by whole seconds from its start, each reader is
+/// silent for one edge less than it locks after, and announces at each edge from then on.
+pub fn healthy_plants_announce()
+    // It takes whole seconds as long as the timeline has them.
+    ensures accepted { (s : Setup) (n : ℕ) → IsHealthyPlant s
+        → AreAccepted s (seconds_of s n) [] ↔ (is_some (second_at s.times n) ≡ true) }
+    // So its log shows, at each edge in turn, each reader counting or telling the second.
+    ensures log { (s : Setup) (n : ℕ) → IsHealthyPlant s → is_some (second_at s.times n) ≡ true
+        → log_of s (events_after (seconds_of s n) []) ≡ healthy_log s n }
+    // And all premises of the headline hold.
+    ensures kept { (s : Setup) (n : ℕ) → IsHealthyPlant s → is_some (second_at s.times n) ≡ true
+        → audit_of s (events_after (seconds_of s n) []) ≡ Audit.Kept }
 {}
 
 /// Equal hearing: two readers that are made alike, heard the same at each tick and were restarted
@@ -237,4 +262,24 @@ pub fn no_silent_step()
 /// The audit answers `Kept` exactly if the premises of the headline hold for all readers and ticks.
 pub fn audit_is_kept()
     ensures { (s : Setup) (ev : List Event) → (audit_of s ev ≡ Audit.Kept) ↔ IsKept s ev }
+{}
+
+/// One damaged pulse is never untrue: what is told of a true frame with one pulse of any other
+/// width is a fault or the true claim.
+pub fn damaged_pulses_are_never_untrue()
+    // What a generator without fault sends of an edge, with the pulse of any element of any width.
+    ensures told { (g : GeneratorValue) (t : TimelineValue) (edge i width : ℕ) (c : Claim)
+        → IsGenerator g → IsTimeline t → truth_at t edge ≡ Some c
+        → IsFaultOr c
+        (told_of_widths g.rules (with_damage i width (widths_of (frame_of None g t edge)))) }
+    // A port that heard just that since its reader's last tick is not untrue, whether or not the
+    // timeline has a second there.
+    ensures port { (s : Setup) (r : ℕ) (ev : List Event) (p : ℕ) → IsTimeline s.times
+        → HasGenerators s → IsDamagedPort s r ev p → ¬ IsUntruePort s r ev p }
+    // An event of damage makes an empty port such a one, where its generator has no fault and
+    // stands at the edge of the reader's last tick.
+    ensures damaged { (s : Setup) (r p : ℕ) (ev : List Event) (i width : ℕ)
+        → p < ports_in (redundancy_of (length s.generators))
+        → (generator_at s p ev).fault ≡ None → (generator_at s p ev).edge ≡ ticks_of r ev
+        → heard_at s r p ev ≡ [] → IsDamagedPort s r (Event.Damage p r i width ∷ ev) p }
 {}

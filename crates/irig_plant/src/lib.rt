@@ -25,11 +25,12 @@ pub use event::{Event, Widths};
 pub use fault::{PlantFault, Refused};
 pub use laws::{
     announcements_agree, announcements_are_true, announcements_tell_their_lock,
-    announces_exactly_when_held, audit_is_kept, broken_ports, edges_are_voted, equal_hearing,
-    equal_logs, harmless, healthy_carries_vote, kept_logs_are_true, logs_keep_the_headline,
-    no_false_alarms, no_silent_step, premises_are_needed, readers_keep_to_the_truth,
-    runs_are_announced, silences_tell_their_cause, true_frames_tell_the_truth, true_tables,
-    voted_ports, votes_are_at_voted_edges, votes_are_true,
+    announces_exactly_when_held, audit_is_kept, broken_ports, damaged_pulses_are_never_untrue,
+    edges_are_voted, equal_hearing, equal_logs, harmless, healthy_carries_vote,
+    healthy_plants_announce, kept_logs_are_true, logs_keep_the_headline, no_false_alarms,
+    no_silent_step, premises_are_needed, readers_keep_to_the_truth, runs_are_announced,
+    silences_tell_their_cause, true_frames_tell_the_truth, true_tables, voted_ports,
+    votes_are_at_voted_edges, votes_are_true,
 };
 pub use plant::Plant;
 pub use setup::ReaderSetup;

@@ -5,4 +5,5 @@ pub mod CarriesLaws
 pub mod SumLaws
 pub mod TableLaws
 pub mod NumberLaws
+pub mod DamageLaws
 pub mod StandardFacts

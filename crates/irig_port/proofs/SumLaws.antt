@@ -30,7 +30,7 @@ value-held (p ∷ ps) s =
       | inr off ↦ rw off (value-held ps s ∙ sym (zero-add (held ps s)))
     ]
 
-cond-same : (b : Bool) → ◌≡◌ {A = ℕ} (cond b 0 0) 0
+pub cond-same : (b : Bool) → ◌≡◌ {A = ℕ} (cond b 0 0) 0
 cond-same true = refl
 cond-same false = refl
 
@@ -42,7 +42,7 @@ place-push [] x (suc i) w = rw (eqb-suc-zero i, cond-same (is_one (Some x))) ref
 place-push (y ∷ s) x zero w = rw (eqb-zero-suc (length s), cond-same (is_one (Some x))) (sym (add-zero (cond (is_one (Some y)) w 0)))
 place-push (y ∷ s) x (suc i) w = rw (eqb-suc-suc i (length s)) (place-push s x i w)
 
-cond-add : (b : Bool) (a c : ℕ) → cond b (a + c) 0 ≡ cond b a 0 + cond b c 0
+pub cond-add : (b : Bool) (a c : ℕ) → cond b (a + c) 0 ≡ cond b a 0 + cond b c 0
 cond-add true a c = refl
 cond-add false a c = refl
 
@@ -117,7 +117,7 @@ counted-held (i ∷ is) s =
     let rest = counted-held is s in
     omega (arith, own, first, rest)
 
-ones-held : (s : List Symbol) → ones s ≡ held parity_places s
+pub ones-held : (s : List Symbol) → ones s ≡ held parity_places s
 unfolding ones parity_places
 ones-held s = counted-held (range_with_len 1 75) s
 

@@ -3,3 +3,4 @@ pub mod Told
 pub mod Early
 pub mod Sums
 pub mod Numbers
+pub mod Damage

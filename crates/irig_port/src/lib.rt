@@ -15,7 +15,7 @@ mod verdict;
 mod whole;
 
 pub use flow::FlowPort;
-pub use laws::{carries_is_told, cut_at_101, telling_of_reading};
+pub use laws::{carries_is_told, cut_at_101, one_damaged_pulse, telling_of_reading};
 pub use port::Port;
 pub use told::{PortFault, Told};
 pub use whole::WholePort;

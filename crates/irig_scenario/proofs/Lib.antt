@@ -3,5 +3,8 @@ pub mod NameLaws
 pub mod NameCounts
 pub mod BuildLaws
 pub mod SecondLaws
+pub mod ValueLaws
 pub mod SoundPlans
+pub mod BlankLines
+pub mod PlainLines
 pub mod StandardFacts

@@ -4,7 +4,7 @@ use Rattle.std.specs.List.{flat_map, range_with_len}
 use Rattle.std.proofs.lemmas.Grind.{flat_map-append}
 use Rattle.std.proofs.lemmas.List.FromFn.{map-range_with_len_more}
 use Rattle.irig_plant.specs.declared.event.Event.TheVariants.{GenEdge, Tick, Carry}
-use Rattle.irig_scenario.specs.WholeSecond.{carries_to, carries, ticks, steps}
+use Rattle.irig_plant.specs.WholeSecond.{carries_to, carries, ticks, steps}
 
 pub one_carry_more : (r n : ℕ) → carries_to (n + 1) r ≡ carries_to n r ++ Carry n r ∷ []
 one_carry_more r n = map-range_with_len_more (λ g. Carry g r) 0 n n (omega arith)

@@ -3,7 +3,7 @@ use Rattle.std.proofs.Common.{◌≡◌, true, false, [], ◌∷◌, map, refl}
 use Rattle.std.specs.Prelude.{codes}
 use Rattle.irig_plant.specs.declared.event.Event.TheVariants.{GenEdge, Tick, Carry}
 use Rattle.irig_scenario.specs.Names.{is_name, are_names}
-use Rattle.irig_scenario.specs.WholeSecond.{second_of}
+use Rattle.irig_plant.specs.WholeSecond.{second_of}
 
 -- ---- seconds
 

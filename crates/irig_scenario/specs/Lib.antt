@@ -4,4 +4,3 @@ pub mod Names
 pub mod PlantShape
 pub mod PlantValues
 pub mod PlantLine
-pub mod WholeSecond

@@ -1,7 +1,7 @@
 //! The events of a whole second.
 
 ghost use Rattle.std.specs.Prelude.{◌≡◌, ◌++◌, OnOk, IfOk};
-ghost use Rattle.irig_scenario.specs.WholeSecond.{carries_to, carries, ticks, steps, second_of};
+ghost use Rattle.irig_plant.specs.WholeSecond.{carries_to, carries, ticks, steps, second_of};
 
 use irig_plant::Event;
 use std::alloc::{AllocError, Global};

@@ -12,5 +12,7 @@ pub mod LogLaws
 pub mod LastLines
 pub mod TrueLines
 pub mod WrittenLaws
+pub mod HealthyRuns
+pub mod HealthyFacts
 pub mod RunFacts
 pub mod StandardFacts

@@ -160,16 +160,15 @@ no_blanks : (time : List ℕ) → IsWord time → All (λ b. b ≢ 32) time
 no_blanks time h = All-from_recursion (λ b. b ≢ 32) time (word_no_blank time h)
 
 -- the line of an entry shows it
+pub entry_line_shows : (names : List (List ℕ)) (e : Entry) → e.edge < 2 ^ 64 → e.reader < length names → Shows names (entry_line names e) e.reader e.edge (time_shown_text e.report.announce)
+entry_line_shows names e few known = record {
+  number = few;
+  named = known;
+  word = no_blanks (time_shown_text e.report.announce) (time_word e.report.announce);
+  more = lock_text e.report.lock ++ (32 ∷ cause_text e.report.cause);
+  is = refl;
+}
+
 pub entry_is_shown : (names : List (List ℕ)) (e : Entry) → AreNames names → e.edge < 2 ^ 64 → e.reader < length names
     → (line : List ℕ) × (entry_text names e ≡ line ++ 10 ∷ []) × Shows names line e.reader e.edge (time_shown_text e.report.announce)
-entry_is_shown names e h few known = (
-  entry_line names e,
-  sym (append-nil (entry_text names e)) ∙ line_of_entry names e [],
-  record {
-    number = few;
-    named = known;
-    word = no_blanks (time_shown_text e.report.announce) (time_word e.report.announce);
-    more = lock_text e.report.lock ++ (32 ∷ cause_text e.report.cause);
-    is = refl;
-  },
-)
+entry_is_shown names e h few known = (entry_line names e, sym (append-nil (entry_text names e)) ∙ line_of_entry names e [], entry_line_shows names e few known)

@@ -13,7 +13,7 @@ use Rattle.irig_plant.specs.Schedule.{Setup, log_of, entry_of}
 use Rattle.irig_plant.specs.Refusals.{refusal}
 use Rattle.irig_plant.specs.Runs.{events_after, AreAccepted, IsRefused}
 use Rattle.irig_forms.specs.declared.refusal.Refusal.{Refusal}
-use Rattle.irig_scenario.specs.WholeSecond.{carries, ticks, steps, second_of}
+use Rattle.irig_plant.specs.WholeSecond.{carries, ticks, steps, second_of}
 use Rattle.irig_scene.specs.Scene.{refusal_as}
 use Rattle.irig_scene.specs.Scene.{Play, play, play_by, unless_refused, Scene, log_text}
 use Rattle.std.specs.Io.KnownBytes.{Appends}

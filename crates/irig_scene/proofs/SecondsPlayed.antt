@@ -10,7 +10,7 @@ use Rattle.irig_plant.specs.declared.plant.Plant.{Plant}
 use Rattle.irig_plant.specs.History.{HasPlantHistory}
 use Rattle.irig_forms.specs.declared.refusal.Refusal.{Refusal}
 use Rattle.irig_scene.specs.Scene.{refusal_as}
-use Rattle.irig_scenario.specs.WholeSecond.{times}
+use Rattle.irig_plant.specs.WholeSecond.{times}
 use Rattle.irig_scene.specs.Scene.{Scene, scene, Play, play, unless_refused, log_text}
 use Rattle.irig_scene.specs.PlayerRuns.{past, after_events, Grew, GrewPart, PlaysFor}
 use Rattle.irig_scene.specs.Text.{entries_text}
@@ -65,7 +65,7 @@ commutes (suc n) es = ap (λ more. es ++ more) (commutes n es) ∙ sym (append_a
 pub one_time_more : (n : ℕ) (es : List Event) → times (n + 1) es ≡ times n es ++ es
 one_time_more n es = let next : n + 1 ≡ suc n = omega arith in ap (λ k. times k es) next ∙ commutes n es
 
-split_at : (i k : ℕ) (es : List Event) → times (i + k) es ≡ times i es ++ times k es
+pub split_at : (i k : ℕ) (es : List Event) → times (i + k) es ≡ times i es ++ times k es
 split_at zero k es = let same : 0 + k ≡ k = omega arith in ap (λ n. times n es) same
 split_at (suc i) k es =
     let next : suc i + k ≡ suc (i + k) = omega arith in

@@ -6,3 +6,4 @@ pub mod PlayerRuns
 pub mod Run
 pub mod LogLines
 pub mod LineRuns
+pub mod HealthyRun

@@ -23,7 +23,7 @@ use Rattle.irig_device.specs.Watched.{AppendsPart}
 use Rattle.irig_scene.specs.Faults.{IsFaultOfWriting}
 use Rattle.irig_scenario.specs.declared.event_line.Command.{Command}
 use Rattle.irig_scene.specs.PlayerRuns.{past, after_events, Grew, GrewPart}
-use Rattle.irig_scenario.specs.WholeSecond.{second_of}
+use Rattle.irig_plant.specs.WholeSecond.{second_of}
 use Rattle.irig_scenario.specs.PlantLine.{Plan, plan_in_line}
 use Rattle.irig_scene.specs.Scene.{Scene, scene, play, events_of, Step, step, step_of_command, Meaning, meaning_from, meaning_at_end, log_text, text_of}
 

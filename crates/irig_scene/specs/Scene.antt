@@ -14,7 +14,7 @@ use Rattle.irig_scenario.specs.declared.event_line.Command.TheVariants as comman
 use Rattle.irig_forms.specs.declared.refusal.Refusal.{Refusal}
 use Rattle.irig_forms.specs.declared.refusal.Refusal.TheVariants.{NoSuchReader, NoSuchGenerator, FutureReplay, EndOfYears, TooLong, NoPlant, TooManyLines}
 use Rattle.irig_scene.specs.Lines.{lines, is_blank, max_line, max_lines}
-use Rattle.irig_scenario.specs.WholeSecond.{second_of, times}
+use Rattle.irig_plant.specs.WholeSecond.{second_of, times}
 use Rattle.irig_scenario.specs.EventLine.{command_in_line}
 use Rattle.irig_scenario.specs.PlantLine.{Plan, plan_in_line}
 use Rattle.irig_scene.specs.Text.{entries_text, audit_text, refusal_text}

@@ -1,14 +1,19 @@
 //! Laws of scenarios over their definitions. They have no code.
 
-ghost use Rattle.std.specs.Prelude.{◌≡◌, ◌<◌, ◌^◌, ◌++◌, ℕ, Bool, Some, Option, List, All, codes, length, true};
+ghost use Rattle.std.specs.Prelude.{◌≡◌, ◌<◌, ◌≤◌, ◌^◌, ◌++◌, ℕ, Bool, Some, None, Option, is_some, List, [], All, codes, length, true};
+ghost use Rattle.irig_time.specs.Timelines.{second_at};
+ghost use Rattle.irig_plant.specs.HealthyPlant.{seconds_of, healthy_log};
 ghost use Rattle.irig_plant.specs.Premises.{IsKept};
+ghost use Rattle.irig_plant.specs.Runs.{events_after};
 ghost use Rattle.irig_plant.specs.Truth.{IsTruthful};
-ghost use Rattle.irig_plant.specs.Schedule.{log_of};
+ghost use Rattle.irig_plant.specs.Schedule.{setup_at, log_of};
 ghost use Rattle.irig_scenario.specs.Names.{are_names};
-ghost use Rattle.irig_scenario.specs.WholeSecond.{second_of};
-ghost use Rattle.irig_scene.specs.Scene.{Scene, Refused, meaning_of, ending_text, output};
+ghost use Rattle.irig_plant.specs.WholeSecond.{second_of};
+ghost use Rattle.irig_scenario.specs.PlantLine.{Plan};
+ghost use Rattle.irig_scene.specs.HealthyRun.{IsOfSeconds, IsHealthyRun, HasTimeLine};
+ghost use Rattle.irig_scene.specs.Scene.{Scene, scene, Refused, meaning, meaning_of, ending_text, output};
 ghost use Rattle.irig_scene.specs.PlayerRuns.{ticks_among};
-ghost use Rattle.irig_scene.specs.Text.{entry_text, time_shown_text};
+ghost use Rattle.irig_scene.specs.Text.{entry_text, entries_text, time_shown_text};
 ghost use Rattle.irig_scene.specs.LogLines.{whole_lines, Shows, ShowsNothing, TellsTruth, VouchesForItself};
 
 use irig_plant::Entry;
@@ -47,4 +52,23 @@ pub fn lines_read_one_way()
 /// A whole second has as many ticks as there are readers.
 pub fn a_second_has_a_tick_a_reader()
     ensures { (generators readers : ℕ) → ticks_among (second_of generators readers) ≡ readers }
+{}
+
+/// A healthy plant announces, over bytes: of a plant line and whole seconds that the timeline has,
+/// all that is written is known.
+pub fn healthy_scenarios_announce()
+    // No line is refused, and all the seconds are played.
+    ensures meaning { (x : List ℕ) (plan : Plan) (n : ℕ) → IsOfSeconds x plan n
+        → is_some (second_at plan.setup.times n) ≡ true
+        → meaning_of x
+        ≡ meaning (Some (scene plan (events_after (seconds_of plan.setup n) []))) None }
+    // If the tables are true, the log is that of the healthy plant, and ends with the premises kept.
+    ensures log { (x : List ℕ) (all : Bool) (plan : Plan) (n : ℕ) → IsHealthyRun x plan n
+        → output x all
+        ≡ entries_text plan.names all (healthy_log plan.setup n) ++ codes "premises kept\n" }
+    // So each reader has a line with T of each edge, from its lock_after-th on.
+    ensures lines { (x : List ℕ) (all : Bool) (plan : Plan) (n r k : ℕ) → IsHealthyRun x plan n
+        → r < length plan.setup.readers
+        → (setup_at plan.setup.readers r).rules.lock_after ≤ k → k ≤ n
+        → HasTimeLine plan (whole_lines (output x all)) r k }
 {}

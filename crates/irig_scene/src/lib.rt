@@ -11,6 +11,9 @@ mod run;
 mod text;
 
 pub use fault::SceneFault;
-pub use laws::{a_second_has_a_tick_a_reader, entries_are_true, lines_read_one_way, logs_are_true};
+pub use laws::{
+    a_second_has_a_tick_a_reader, entries_are_true, healthy_scenarios_announce, lines_read_one_way,
+    logs_are_true,
+};
 pub use outcome::Outcome;
 pub use run::{run_scene, run_scene_over};

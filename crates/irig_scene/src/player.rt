@@ -2,7 +2,7 @@
 
 ghost use Rattle.std.specs.Prelude.{◌≡◌, ◌≤◌, [], IfOk, IfErr, length, map, string_bytes, ◌||◌};
 ghost use Rattle.irig_device.specs.Watched.{device_of, has_failed};
-ghost use Rattle.irig_scenario.specs.WholeSecond.{times};
+ghost use Rattle.irig_plant.specs.WholeSecond.{times};
 ghost use Rattle.irig_scene.specs.Faults.{says_write};
 ghost use Rattle.irig_scene.specs.Scene.{refusal_as};
 ghost use Rattle.irig_scene.specs.PlayerRuns.{Runs, Plays, FailsPlaying};

@@ -1,5 +1,5 @@
 use Rattle.std.proofs.Common.{◌≡◌, ◌++◌}
-use Rattle.irig_scenario.specs.WholeSecond.{carries}
+use Rattle.irig_plant.specs.WholeSecond.{carries}
 use Rattle.irig_scenario.proofs.whole_second.push_carries.Given as goal
 
 abbrev pub invariant-loop-r : goal.invariant-loop-r

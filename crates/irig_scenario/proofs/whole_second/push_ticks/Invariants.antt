@@ -1,5 +1,5 @@
 use Rattle.std.proofs.Common.{◌≡◌, ◌++◌}
-use Rattle.irig_scenario.specs.WholeSecond.{ticks}
+use Rattle.irig_plant.specs.WholeSecond.{ticks}
 use Rattle.irig_scenario.proofs.whole_second.push_ticks.Given as goal
 
 abbrev pub invariant-loop-r : goal.invariant-loop-r

@@ -1,7 +1,7 @@
 use Rattle.std.proofs.Common.{rules}
 use Rattle.std.proofs.lemmas.Result.{err_from_is_err_and}
 use Rattle.irig_scene.specs.PlayerRuns.{after_events}
-use Rattle.irig_scenario.specs.WholeSecond.{times}
+use Rattle.irig_plant.specs.WholeSecond.{times}
 use Rattle.irig_scene.proofs.SecondsPlayed.{no_second, second_goes, second_stops, second_fails}
 use Rattle.irig_scene.proofs.player.play_seconds.Goals as goal
 

@@ -1,7 +1,7 @@
 use Rattle.std.proofs.Common.{◌≡◌, None, map, string_bytes}
 use Rattle.irig_device.specs.Watched.{device_of, has_failed}
 use Rattle.irig_plant.specs.History.{HasPlantHistory}
-use Rattle.irig_scenario.specs.WholeSecond.{times}
+use Rattle.irig_plant.specs.WholeSecond.{times}
 use Rattle.irig_scene.specs.Scene.{Scene}
 use Rattle.irig_scene.specs.PlayerRuns.{past, PlaysFor}
 use Rattle.irig_scene.proofs.player.play_seconds.Given as goal
