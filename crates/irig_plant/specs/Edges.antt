@@ -126,8 +126,8 @@ pub record IsHeld (x : VotedEdges) (n : ℕ) : Type 0 where
   pub fresh : (j : ℕ) → lock ≤ j → j ≤ n → HasVote x lock j x.own.holdover
   pub unguarded : (j : ℕ) → lock < j → j ≤ n → ¬ IsGuard x j
 
--- from a lock at edge m on nothing takes it away up to edge n: no restart, no holdover that is over,
--- no guard edge
+-- from a lock at edge m on nothing takes it away up to edge n: no restart, no holdover that ends, no
+-- guard edge
 pub record KeepsLock (x : VotedEdges) (m n : ℕ) : Type 0 where
   pub after : m ≤ n
   pub unbroken : (i : ℕ) → m ≤ i → i < n → x.restarted i ≡ false

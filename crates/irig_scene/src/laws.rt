@@ -62,7 +62,7 @@ pub fn healthy_scenarios_announce()
         → is_some (second_at plan.setup.times n) ≡ true
         → meaning_of x
         ≡ meaning (Some (scene plan (events_after (seconds_of plan.setup n) []))) None }
-    // If the tables are true, the log is that of the healthy plant, and ends with the premises kept.
+    // If the tables are true, the log is the healthy one, and ends with the premises kept.
     ensures log { (x : List ℕ) (all : Bool) (plan : Plan) (n : ℕ) → IsHealthyRun x plan n
         → output x all
         ≡ entries_text plan.names all (healthy_log plan.setup n) ++ codes "premises kept\n" }
