@@ -71,19 +71,21 @@ frame_kept s g (e ∷ ev) n = frame_kept s g ev n
 pub ports_are_generators : (s : Setup) → HasGenerators s → ports_in (redundancy_of (length s.generators)) ≡ length s.generators
 ports_are_generators s h = elim h.new.count [ inl three ↦ rw three refl | inr five ↦ rw five refl ]
 
-pub healthy_is_true : (s : Setup) (r : ℕ) (ev : List Event) (c : Claim) (p : ℕ) → IsTimeline s.times → HasGenerators s → truth_at s.times (ticks_of r ev) ≡ Some c → IsHealthyPort s r ev p → IsTruePort s r ev p
-healthy_is_true s r ev c p line gens truth h =
+pub healthy_tells : (s : Setup) (r p : ℕ) (ev : List Event) (c : Claim) → IsTimeline s.times → HasGenerators s → truth_at s.times (ticks_of r ev) ≡ Some c → IsHealthyPort s r ev p
+    → told_of_widths s.rules (heard_at s r p ev) ≡ tells.Claim c
+healthy_tells s r p ev c line gens truth h =
     let low : p < length s.generators = omega (arith, h.port, ports_are_generators s gens) in
     let made : GeneratorValue = get_or s.generators p no_generator in
     let first : IsNew s.rules made = gens.new.new p no_generator low in
     let told : told_of_widths made.rules (pulses_sent_at s p (ticks_of r ev) []) ≡ tells.Claim c = true_frame_told made s.times (ticks_of r ev) c (gens.zones p no_generator low) line truth in
-    let here : told_of_widths s.rules (heard_at s r p ev) ≡ tells.Claim c =
-    ap (told_of_widths s.rules) h.heard ∙ subst (λ (x : Rules). told_of_widths x (pulses_sent_at s p (ticks_of r ev) []) ≡ tells.Claim c) first.ruled told in
-    record {
-      claim = c;
-      heard = record { port = h.port; carries = (carries_is_told s.rules (symbols_of (heard_at s r p ev)) c).0 here };
-      is_true = (claim_is s.times (ticks_of r ev) c).0 truth;
-    }
+    ap (told_of_widths s.rules) h.heard ∙ subst (λ (x : Rules). told_of_widths x (pulses_sent_at s p (ticks_of r ev) []) ≡ tells.Claim c) first.ruled told
+
+pub healthy_is_true : (s : Setup) (r : ℕ) (ev : List Event) (c : Claim) (p : ℕ) → IsTimeline s.times → HasGenerators s → truth_at s.times (ticks_of r ev) ≡ Some c → IsHealthyPort s r ev p → IsTruePort s r ev p
+healthy_is_true s r ev c p line gens truth h = record {
+  claim = c;
+  heard = record { port = h.port; carries = (carries_is_told s.rules (symbols_of (heard_at s r p ev)) c).0 (healthy_tells s r p ev c line gens truth h) };
+  is_true = (claim_is s.times (ticks_of r ev) c).0 truth;
+}
 
 pub healthy_votes : (s : Setup) (r : ℕ) (ev : List Event) (c : Claim) → IsTimeline s.times → HasGenerators s → truth_at s.times (ticks_of r ev) ≡ Some c → AtLeast (f_in s + 1) (IsHealthyPort s r ev) → is_voted_now s r ev ≡ true
 healthy_votes s r ev c line gens truth h =

@@ -205,6 +205,10 @@ pub fn healthy_carries_vote()
         → p < ports_in (redundancy_of (length s.generators))
         → (generator_at s p ev).fault ≡ None → (generator_at s p ev).edge ≡ ticks_of r ev
         → heard_at s r p ev ≡ [] → IsHealthyPort s r (Event.Carry p r ∷ ev) p }
+    // A healthy port tells the true claim of that edge's second, if the timeline has one.
+    ensures told { (s : Setup) (r p : ℕ) (ev : List Event) (c : Claim) → IsTimeline s.times
+        → HasGenerators s → truth_at s.times (ticks_of r ev) ≡ Some c → IsHealthyPort s r ev p
+        → told_of_widths s.rules (heard_at s r p ev) ≡ Told.Claim c }
     // Where at least f + 1 ports are healthy and the timeline has a second, the edge is voted.
     ensures voted { (s : Setup) (r : ℕ) (ev : List Event) (c : Claim) → IsTimeline s.times
         → HasGenerators s → truth_at s.times (ticks_of r ev) ≡ Some c
