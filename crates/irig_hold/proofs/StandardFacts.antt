@@ -1,26 +1,20 @@
 -- Known steps of a hold, so that a wrong definition does not check.
 use Rattle.std.proofs.Common.{◌≡◌, ℕ, true, List, [], ◌∷◌, Option, Some, None, refl, arith}
 use Rattle.std.specs.Prelude.{Ok, Err}
-use Rattle.jiff_core.specs.Calendar.{days_from_civil, day_count, days_of_years, days_of_months}
 use Rattle.irig_time.proofs.NextLaws.{last_day}
+use Rattle.irig_time.proofs.StandardFacts.{known_month_end as december}
 use Rattle.irig_time.specs.declared.second.UtcSecond.{UtcSecond}
 use Rattle.irig_time.specs.declared.mark.Mark.{Mark}
 use Rattle.irig_time.specs.declared.mark.Mark.TheVariants.{Unspoken, NoLeap, Insert, Delete}
 use Rattle.irig_time.specs.declared.leap.Leap.{Leap}
 use Rattle.irig_time.specs.declared.leap.Leap.TheVariants as leap
 use Rattle.irig_time.specs.declared.claim.Claim.{Claim}
-use Rattle.irig_time.specs.Days.{is_month_end}
 use Rattle.irig_time.specs.Timelines.{times}
 use Rattle.irig_time.specs.Tables.{TableValue, table}
 use Rattle.irig_hold.specs.declared.hold.Turn.{Turn}
 use Rattle.irig_hold.specs.declared.hold.Turn.TheVariants.{LeapGuard, Expired, RangeEnd, Jump}
 use Rattle.irig_hold.specs.Steps.{HoldValue, hold_value, hold_start, Outcome, outcome_of, voted_by, alone_by}
 use Rattle.irig_hold.specs.Truth.{IsTrueTable}
-
--- 2016-12-31
-december : is_month_end 6209 ≡ true
-unfolding is_month_end days_from_civil day_count days_of_years days_of_months
-december = refl
 
 abbrev at : ℕ → ℕ → UtcSecond
 at day sod = record { day = day; sod = sod }

@@ -1,4 +1,3 @@
 pub mod VoteLaws
-pub mod HeardRules
 pub mod FedLaws
 pub mod StandardFacts

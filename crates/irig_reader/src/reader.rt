@@ -67,7 +67,6 @@ impl<P: Port> Reader<P> {
 
     /// A pulse at one of the ports, `width_us` microseconds wide. The port is 0 to 2 of three, 0 to
     /// 4 of five.
-    #[tactic(auto, using(crate::proofs::HeardRules::one_more_heard))]
     pub fn pulse(&mut self, port: u8, width_us: u32)
         requires { port < ports_in self.old.redundancy }
         ensures fed { Advances self.old self.new (λ h. after_pulse h port width_us) }
@@ -96,7 +95,6 @@ impl<P: Port> Reader<P> {
     /// All the pulses that another port heard, at one of the reader's ports, if that is empty: it
     /// takes them over at once. Answers whether it was; if not, nothing happens. The other port
     /// still tells what it did.
-    #[tactic(auto, using(crate::proofs::HeardRules::none_heard))]
     pub fn take_over(&mut self, port: u8, heard: &mut P) -> bool
         requires { port < ports_in self.old.redundancy }
         ensures answer { ForReaderHistory self.old (λ h.

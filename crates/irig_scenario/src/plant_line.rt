@@ -83,7 +83,6 @@ fn names_of(alloc: Global, value: &Value) -> Result<IndexSet<String>, LineFault>
     reader_names(readers_in(value), alloc)
 }
 
-#[tactic(auto, using(crate::proofs::BuildLaws::values_refused, crate::proofs::BuildLaws::are_generators, crate::proofs::BuildLaws::are_readers))]
 fn plant_with(
     alloc: Global,
     values: &PlantValues,

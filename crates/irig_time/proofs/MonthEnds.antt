@@ -19,6 +19,13 @@ any_here p a n k low high h =
     let at : get_or (range_with_len a n) (k - a) 0 ≡ k = get_or-range_with_len a n (k - a) 0 (omega arith) ∙ omega arith in
     list_any_at p (range_with_len a n) (k - a) 0 (omega (arith, length-range_with_len a n)) (ap p at ∙ h)
 
+-- a day on whose next a month served begins passes the test
+pub month_end_before : (day year month : ℕ) → 2000 ≤ year → year < 2100 → 1 ≤ month → month ≤ 12 → begins_on (day + 1) year month ≡ true → is_month_end day ≡ true
+unfolding is_month_end
+month_end_before day year month from to low high first =
+    any_here (λ y. list_any (begins_on (day + 1) y) (range_with_len 1 12)) 2000 100 year from (omega arith)
+    (any_here (begins_on (day + 1) year) 1 12 month low (omega arith) first)
+
 any_where : (p : ℕ → Bool) (a n : ℕ) → list_any p (range_with_len a n) ≡ true → (k : ℕ) × (a ≤ k) × (k < a + n) × (p k ≡ true)
 any_where p a zero h = absurd cc
 any_where p a (suc n) h =

@@ -9,7 +9,7 @@ use Rattle.irig_time.specs.declared.rules.SbsUse.TheVariants.{Check}
 use Rattle.irig_time.specs.declared.rules.TheConstants.Rules.{PLAIN}
 use Rattle.irig_time.specs.declared.second.TheConstants.{FIRST_DAY, LAST_DAY}
 use Rattle.irig_time.specs.Days.{day_number, year_length, IsMonthEnd, is_month_end}
-use Rattle.irig_time.proofs.MonthEnds.{month_end_served}
+use Rattle.irig_time.proofs.MonthEnds.{month_end_before, month_end_served}
 use Rattle.irig_time.specs.Seconds.{minute_of, second_of}
 use Rattle.irig_time.specs.Texts.{date_text, time_text}
 use Rattle.irig_control.specs.declared.control.Control.{Control}
@@ -57,8 +57,8 @@ month_end_6209 = (pos 2017, 1, (((omega arith, omega arith), (omega arith, omega
 -- the test says so, and so of 2000-01-31; it says of 2099-12-31, which isn't served, that it ends
 -- none
 pub known_month_end : is_month_end 6209 ≡ true
-unfolding is_month_end days_from_civil day_count days_of_years days_of_months
-known_month_end = refl
+unfolding days_from_civil day_count days_of_years days_of_months
+known_month_end = month_end_before 6209 2017 1 (omega arith) (omega arith) (omega arith) (omega arith) refl
 
 pub known_first_end : is_month_end 30 ≡ true
 unfolding is_month_end days_from_civil day_count days_of_years days_of_months

@@ -1,5 +1,6 @@
-use Rattle.std.proofs.Common.{rules}
+use Rattle.std.proofs.Common.{rules, arith}
 use Rattle.std.proofs.lemmas.Result.{err_from_is_err_and}
+use Rattle.std.proofs.lemmas.Grind.{common_steps}
 use Rattle.irig_scene.specs.PlayerRuns.{after_events}
 use Rattle.irig_plant.specs.WholeSecond.{times}
 use Rattle.irig_scene.proofs.SecondsPlayed.{no_second, second_goes, second_stops, second_fails}
@@ -30,3 +31,12 @@ loop-preserved g c = (
 
 pub loop-init : goal.loop-init
 loop-init g c = (search rules, λ x at names. no_second x c.args.second.now _ _ _ at)
+
+pub returns-in_err-refusal-clause-note : goal.returns-in_err-refusal-clause-note
+returns-in_err-refusal-clause-note g c = grind (arith, common_steps)
+
+pub returns-then-is_some-clause-note : goal.returns-then-is_some-clause-note
+returns-then-is_some-clause-note g c = grind (arith, common_steps)
+
+pub returns-clause-note : goal.returns-clause-note
+returns-clause-note g c = grind (arith, common_steps)

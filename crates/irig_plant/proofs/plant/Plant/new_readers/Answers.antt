@@ -1,6 +1,6 @@
-use Rattle.std.proofs.Common.{◌≡◌, refl, sym, ◌∙◌, subst, arith}
+use Rattle.std.proofs.Common.{◌≡◌, length, refl, sym, ◌∙◌, subst, arith}
 use Rattle.std.proofs.lemmas.List.{get_or_default}
-use Rattle.std.proofs.lemmas.List.Elements.{All-push}
+use Rattle.std.proofs.lemmas.List.Elements.{All-nil, All-push}
 use Rattle.irig_time.specs.Tables.{TableValue}
 use Rattle.irig_reader.specs.History.{new_history}
 use Rattle.irig_reader.specs.Readers.{HasReaderHistory}
@@ -9,6 +9,13 @@ use Rattle.irig_plant.specs.Schedule.{no_reader, setup_at}
 use Rattle.irig_plant.specs.History.{IsTickedReader}
 use Rattle.irig_plant.proofs.ListLaws.{each_push}
 use Rattle.irig_plant.proofs.plant.Plant.new_readers.Goals as goal
+
+pub loop-setup-init : goal.loop-setup-init
+loop-setup-init g c = record {
+  count = c.new-ticked.ensures.len;
+  new = λ r d none. absurd (omega arith);
+  wired = rw c.new-ticked.ensures.items (All-nil (λ x. x.reader.redundancy ≡ c.args.redundancy));
+}
 
 pub loop-setup-preserved : goal.loop-setup-preserved
 loop-setup-preserved g c =
@@ -26,3 +33,9 @@ loop-setup-preserved g c =
       wired = rw c.in_ok-push.ensures.items
           (All-push (λ x. x.reader.redundancy ≡ c.args.redundancy) l.ticked.items _ l.invariant.wired c.fresh-reader.ensures.ports);
     }
+
+pub returns : goal.returns
+returns g c =
+    let l = c.loop-setup in
+    let all : l.setup-index ≡ length c.args.readers.now = omega arith in
+    record { count = l.invariant.count ∙ all; new = rw all at l.invariant.new; wired = l.invariant.wired }

@@ -1,9 +1,12 @@
-use Rattle.std.proofs.Common.{get_or, sym, ◌∙◌, ap, subst, take}
-use Rattle.std.proofs.lemmas.List.{take_more}
+use Rattle.std.proofs.Common.{get_or, refl, sym, ◌∙◌, ap, subst, take, arith}
+use Rattle.std.proofs.lemmas.List.{take_all, take_more}
 use Rattle.irig_reader.specs.Readers.{HasReaderHistory}
 use Rattle.irig_reader.specs.History.{Fed, with_widths, after_pulses}
-use Rattle.irig_reader.proofs.FedLaws.{feed_all-push}
+use Rattle.irig_reader.proofs.FedLaws.{feed_all-nil, feed_all-push}
 use Rattle.irig_reader.proofs.reader.Reader.pulses.Goals as goal
+
+pub loop-width_us-init : goal.loop-width_us-init
+loop-width_us-init g c = record { fed = λ h s. rw (feed_all-nil h.fed c.args.port) s; ports = refl }
 
 pub loop-width_us-preserved : goal.loop-width_us-preserved
 loop-width_us-preserved g c =
@@ -17,3 +20,9 @@ loop-width_us-preserved g c =
           (c.pulse.ensures.fed (after_pulses history port (take l.width_us-index ws)) (l.invariant.fed history s));
       ports = c.pulse.ensures.ports ∙ l.invariant.ports;
     }
+
+pub returns : goal.returns
+returns g c =
+    let l = c.loop-width_us in
+    let all = take_all l.width_us-index c.args.widths_us.now (omega arith) in
+    record { fed = λ h s. rw all at (l.invariant.fed h s); ports = l.invariant.ports }
