@@ -3,6 +3,7 @@ pub mod FeedLaws
 pub mod StepLaws
 pub mod RunLaws
 pub mod SoundLaws
+pub mod ToldLaws
 pub mod TableLaws
 pub mod HeadlineVotes
 pub mod HeadlineRule

@@ -8,17 +8,18 @@ use Rattle.irig_time.specs.declared.rules.Rules.{Rules}
 use Rattle.irig_time.specs.declared.rules.Sense.TheVariants.{Add}
 use Rattle.irig_time.specs.declared.rules.SbsUse.TheVariants.{Ignore}
 use Rattle.irig_time.specs.declared.claim.Claim.{Claim}
-use Rattle.irig_time.specs.Timelines.{TimelineValue}
+use Rattle.irig_time.specs.Timelines.{TimelineValue, truth_at}
 use Rattle.irig_time.specs.Tables.{table}
 use Rattle.irig_gen.specs.declared.fault.GenFault.{GenFault}
 use Rattle.irig_gen.specs.Frames.{GeneratorValue, gen}
 use Rattle.irig_gen.specs.Sent.{frame_of, sent_of}
 use Rattle.irig_vote.specs.Vote.{redundancy_of}
-use Rattle.irig_reader.specs.History.{Fed, ReaderHistory, vote_at_tick, report_at_tick}
+use Rattle.irig_reader.specs.History.{Fed, ReaderHistory, told_at_tick, vote_at_tick, report_at_tick}
 use Rattle.irig_plant.specs.declared.event.Event.{Event}
 use Rattle.irig_plant.specs.declared.event.Event.TheVariants.{GenEdge, Tick, Carry, Damage, Replay, Raw, Fault, Repair, Restart}
 use Rattle.irig_plant.specs.declared.entry.Entry.{Entry}
 use Rattle.irig_plant.specs.declared.setup.ReaderSetup.{ReaderSetup}
+use Rattle.irig_plant.specs.declared.told_log.ToldEntry.{ToldEntry}
 use Rattle.irig_plant.specs.Widths.{widths_of, with_damage}
 
 -- what a plant is made of
@@ -180,3 +181,19 @@ abbrev pub log_of : Setup → List Event → List Entry
 log_of s [] = []
 log_of s (Tick r ∷ ev) = log_of s ev ++ entry_of s r ev ∷ []
 log_of s (_ ∷ ev) = log_of s ev
+
+-- ---- what ports told
+
+-- what the ports of r tell at a tick that comes now, and what they tell of a true frame
+abbrev pub told_entry_of : Setup → ℕ → List Event → ToldEntry
+told_entry_of s r ev = record {
+  redundancy = redundancy_of (length s.generators);
+  told = told_at_tick (history_of s r ev);
+  truth = truth_at s.times (ticks_of r ev);
+}
+
+-- so for each tick, the oldest first
+abbrev pub told_log_of : Setup → List Event → List ToldEntry
+told_log_of s [] = []
+told_log_of s (Tick r ∷ ev) = told_log_of s ev ++ told_entry_of s r ev ∷ []
+told_log_of s (_ ∷ ev) = told_log_of s ev

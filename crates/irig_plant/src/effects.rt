@@ -8,6 +8,7 @@ use crate::event::{Event, Widths};
 use crate::fault::PlantFault;
 use crate::plant::Plant;
 use crate::pulses::{pulses, with_damage};
+use crate::told_log::ToldEntry;
 use irig_gen::GenFault;
 use irig_port::Port;
 
@@ -29,7 +30,7 @@ impl<P: Port> Plant<P> {
         Ok(())
     }
 
-    // The room for the entry comes before the effect, so a tick that wants memory changes nothing.
+    // The room for what is kept comes before the effect: a tick that wants memory changes nothing.
     pub(crate) fn tick(&mut self, r: u8) -> Result<(), PlantFault>
         ensures accepted { OnOk result (Accepts self.old (Event.Tick r)) }
         ensures stands { OnOk result (Follows self.old (Event.Tick r) self.new) }
@@ -42,6 +43,7 @@ impl<P: Port> Plant<P> {
             return Err(PlantFault::EndOfYears);
         };
         self.log.reserve(1)?;
+        self.told.reserve()?;
         let edge = ticks + 1;
         let ticked_reader = &mut self.readers[r as usize];
         ticked_reader.ticks = edge;
@@ -51,6 +53,11 @@ impl<P: Port> Plant<P> {
             reader: r,
             edge,
             report,
+        });
+        self.told.push(ToldEntry {
+            redundancy: self.redundancy,
+            told: ticked.told,
+            truth: Some(truth),
         });
         self.audit = audit_after(self.audit, (r, edge), truth, &ticked.told, self.redundancy);
         Ok(())

@@ -18,6 +18,7 @@ mod plant;
 mod pulses;
 mod setup;
 mod ticked_reader;
+mod told_log;
 
 pub use audit::Audit;
 pub use entry::Entry;
@@ -34,3 +35,4 @@ pub use laws::{
 };
 pub use plant::Plant;
 pub use setup::ReaderSetup;
+pub use told_log::ToldEntry;

@@ -1,9 +1,9 @@
 //! A plant and its events.
 
-ghost use Rattle.std.specs.Prelude.{◌≡◌, ◌<◌, All, IfSome, IfOk, IfErr, OnOk, OnErr, length, take, drop, slice_get, vec_len, None};
+ghost use Rattle.std.specs.Prelude.{◌≡◌, ◌<◌, All, [], IfSome, IfOk, IfErr, OnOk, OnErr, length, take, drop, slice_get, vec_len, None, true, if◌then◌else◌, ℕ, slice_index_or};
 ghost use Rattle.irig_time.specs.TimelineFaults.{timeline_fault};
 ghost use Rattle.irig_vote.specs.Vote.{ports_in};
-ghost use Rattle.irig_plant.specs.Sound.{IsSound};
+ghost use Rattle.irig_plant.specs.Sound.{IsSound, IsToldSoundly};
 
 use crate::audit::{Audit, first_audit};
 use crate::entry::Entry;
@@ -11,6 +11,7 @@ use crate::event::Event;
 use crate::fault::{PlantFault, Refused};
 use crate::setup::ReaderSetup;
 use crate::ticked_reader::TickedReader;
+use crate::told_log::{ToldEntry, ToldLog};
 use irig_gen::Generator;
 use irig_port::Port;
 use irig_reader::Reader;
@@ -29,22 +30,25 @@ pub struct Plant<P: Port> {
     pub(crate) waves: Vec<Option<P>>,
     pub(crate) readers: Vec<TickedReader<P>>,
     pub(crate) log: Vec<Entry>,
+    pub(crate) told: ToldLog,
     pub(crate) audit: Audit,
     ghost fed: { vec_len generators ≡ ports_in redundancy },
     ghost carried: { vec_len waves ≡ vec_len generators },
     ghost wired: { All (λ x. x.reader.redundancy ≡ redundancy) readers.items },
     ghost timed: { timeline_fault timeline.start timeline.leaps ≡ None },
     ghost sound: { ∥ All IsSound log.items ∥₁ },
+    ghost claimed: { ∥ All IsToldSoundly told.entries.items ∥₁ },
     ghost known: { All (λ e. e.reader < vec_len readers) log.items },
 }
 
 impl<P: Port> Plant<P> {
-    ghost use Rattle.irig_plant.specs.Schedule.{setup, log_of};
+    ghost use Rattle.irig_gen.specs.Frames.{GeneratorValue};
+    ghost use Rattle.irig_plant.specs.Schedule.{setup, generator_at, log_of, told_log_of};
     ghost use Rattle.irig_plant.specs.Runs.{events_after, AreAccepted, IsRefused};
     ghost use Rattle.irig_plant.specs.Audits.{audit_of};
     ghost use Rattle.irig_plant.specs.Truth.{AnnouncesTruth, GivesNoFalseAlarm};
     ghost use Rattle.irig_plant.specs.Exactly.{AnnouncesWhenHeld, HasItsLock, HasItsCause};
-    ghost use Rattle.irig_plant.specs.History.{AreGenerators, AreReaders, AreNew, beginning, with_events, with_cleared_log, HasPlantHistory, ForHistory, ForEntries, Becomes, Accepts, Follows, RefusesAtLast, Keeps};
+    ghost use Rattle.irig_plant.specs.History.{AreGenerators, AreReaders, AreNew, beginning, with_events, with_cleared_log, with_told_kept, HasPlantHistory, ForHistory, ForEntries, Becomes, Accepts, Follows, RefusesAtLast, Keeps};
 
     /// A plant over this timeline, with these generators, all of whose readers read by the same
     /// rules.
@@ -77,6 +81,7 @@ impl<P: Port> Plant<P> {
             waves,
             readers: ticked,
             log: Vec::new(alloc),
+            told: ToldLog::new(alloc),
             audit,
         })
     }
@@ -175,11 +180,43 @@ impl<P: Port> Plant<P> {
         self.log.as_slice()
     }
 
-    /// Empties the log, and changes nothing else.
+    /// Empties the log, and from now on keeps beside each of its entries what the ports told.
+    pub fn keep_told(&mut self)
+        ensures { Becomes self.old self.new with_told_kept }
+    {
+        self.clear_log();
+        self.told.is_kept = true;
+    }
+
+    /// What the ports told at the tick of each entry of the log, once [`Plant::keep_told`] asked
+    /// for it; until then nothing. What they claimed are [`valid`](irig_time::valid) seconds.
+    pub fn told(&self) -> &[ToldEntry]
+        ensures told { ForHistory self.now (λ h. result.now
+            ≡ if h.keeps_told then drop h.shown (told_log_of h.setup h.events) else []) }
+        ensures count { ForHistory self.now (λ h. h.keeps_told ≡ true
+            → length result.now ≡ length (drop h.shown (log_of h.setup h.events))) }
+        ensures valid { All IsToldSoundly result.now }
+    {
+        self.told.entries.as_slice()
+    }
+
+    /// Empties the log, and what was kept beside it, and changes nothing else.
     pub fn clear_log(&mut self)
         ensures { Becomes self.old self.new with_cleared_log }
     {
         self.log.clear();
+        self.told.entries.clear();
+    }
+
+    /// The generators, as the events left them.
+    pub fn generators(&self) -> &[Generator]
+        ensures count { ForHistory self.now (λ h.
+            length result.now ≡ length h.setup.generators) }
+        ensures stand { ForHistory self.now (λ h. (g : ℕ) (other : GeneratorValue)
+            → g < length h.setup.generators
+            → slice_index_or result.now g other ≡ generator_at h.setup g h.events) }
+    {
+        self.generators.as_slice()
     }
 
     /// Whether the premises held so far, and if not the first place at which they broke.

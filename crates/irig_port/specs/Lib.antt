@@ -4,3 +4,4 @@ pub mod Early
 pub mod Sums
 pub mod Numbers
 pub mod Damage
+pub mod Words

@@ -13,9 +13,11 @@ mod table;
 mod told;
 mod verdict;
 mod whole;
+mod words;
 
 pub use flow::FlowPort;
 pub use laws::{carries_is_told, cut_at_101, one_damaged_pulse, telling_of_reading};
 pub use port::Port;
 pub use told::{PortFault, Told};
 pub use whole::WholePort;
+pub use words::{Detail, mark_word};

@@ -4,7 +4,7 @@ ghost use Rattle.std.specs.Prelude.{◌≡◌, ◌<◌, ◌==◌, IfSome, ℕ, L
 ghost use Rattle.irig_frame.specs.declared.symbol.Symbol.{Symbol};
 ghost use Rattle.irig_port.specs.Heard.{symbols_heard};
 ghost use Rattle.irig_time.specs.Seconds.{IsValid};
-ghost use Rattle.irig_vote.specs.Vote.{ports_in};
+ghost use Rattle.irig_vote.specs.Vote.{ports_in, AreOfUtc};
 ghost use Rattle.irig_reader.specs.Rule.{count_of};
 ghost use Rattle.irig_reader.specs.Rules.{IsReaderRules};
 
@@ -117,13 +117,15 @@ impl<P: Port> Reader<P> {
     }
 
     /// One edge: the vote over what the ports tell, and what the rule makes of it. The ports are
-    /// then empty. What is announced is a [`valid`](irig_time::valid) second.
+    /// then empty. What is announced, and what any port claims, is a [`valid`](irig_time::valid)
+    /// second.
     pub fn tick(&mut self) -> Ticked
         ensures told { ForReaderHistory self.old (λ h. result.told ≡ told_at_tick h) }
         ensures report { ForReaderHistory self.old (λ h. result.report ≡ report_at_tick h) }
         ensures after { Advances self.old self.new after_tick }
         ensures ports { self.new.redundancy ≡ self.old.redundancy }
         ensures valid { IfSome result.report.announce IsValid }
+        ensures claims { AreOfUtc result.told }
     {
         let told = Tells {
             a: self.a.edge(),

@@ -60,10 +60,10 @@ unfolding second_at
 healthy = record { bytes = two_seconds; second = refl; tables = All-from_recursion (HasTrueTable plan.setup.times) plan.setup.readers (true_table, tt) }
 
 -- T(2) of its timeline
-abbrev at_2 : UtcSecond
+abbrev pub at_2 : UtcSecond
 at_2 = record { day = 6209; sod = 43202 }
 
-text_2 : codes "2016-12-31T12:00:02Z" ≡ second_text at_2
+pub text_2 : codes "2016-12-31T12:00:02Z" ≡ second_text at_2
 text_2 =
     second_text_is at_2 (codes "2016-12-31T12:00:02Z") (record { day = (omega arith, omega arith); sod = inl (omega arith) })
     (record { year = 2016; month = 12; day_of_month = 31; date = (((omega arith, omega arith), (omega arith, omega arith), (omega arith, omega arith)), known_dates.1); text = refl })

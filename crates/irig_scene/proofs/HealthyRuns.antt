@@ -30,7 +30,7 @@ use Rattle.irig_scenario.specs.PlantLine.{Plan}
 use Rattle.irig_scenario.proofs.SoundPlans.{IsSound, plan_is_sound}
 use Rattle.irig_scene.specs.Lines.{max_line, max_lines}
 use Rattle.irig_scene.specs.Scene.{scene, after_play, Step, step, step_to, step_of_plan, step_of_command, meaning, meaning_from, meaning_of, text_of, output}
-use Rattle.irig_scene.specs.Text.{time_shown_text, entries_text, audit_text}
+use Rattle.irig_scene.specs.Text.{time_shown_text, entries_text, entries_alone, audit_text}
 use Rattle.irig_scene.specs.LogLines.{whole_lines, Shows}
 use Rattle.irig_scene.specs.HealthyRun.{AskSeconds, IsOfSeconds, IsHealthyRun, HasTimeLine}
 use Rattle.irig_scene.proofs.WordLaws.{are_names_named}
@@ -162,7 +162,7 @@ module _ (plan : Plan) where
   pub writes_healthy_log : (x : List ℕ) (all : Bool) (n : ℕ) → IsOfSeconds x plan n → IsAnnounced n → output x all ≡ entries_text plan.names all (healthy_log s n) ++ codes "premises kept\n"
   unfolding audit_text
   writes_healthy_log x all n h plant =
-      ap (text_of all) (means_seconds x n h plant.accepted)
+      ap (text_of (entries_alone all)) (means_seconds x n h plant.accepted)
       ∙ ap (λ es. entries_text plan.names all es ++ audit_text plan.names (audit_of s (after n))) plant.log
       ∙ ap (λ a. entries_text plan.names all (healthy_log s n) ++ audit_text plan.names a) plant.kept
 

@@ -1,5 +1,5 @@
 -- The last line of a log.
-use Rattle.std.proofs.Common.{◌≡◌, ◌≢◌, ℕ, ◌^◌, ◌<◌, Bool, true, false, List, [], ◌∷◌, ◌++◌, Option, Some, None, refl, ap, sym, subst, ◌∙◌, append_assoc, arith, codes, inl, inr}
+use Rattle.std.proofs.Common.{◌≡◌, ◌≢◌, ℕ, true, false, List, [], ◌∷◌, ◌++◌, Some, refl, ap, sym, subst, ◌∙◌, append_assoc, arith, codes, inl, inr}
 use Rattle.std.specs.Prelude.{slice_get, not, ◌==◌}
 use Rattle.std.specs.List.{AllByRecursion, list_all}
 use Rattle.std.proofs.lemmas.Bool.{and_parts, not-true, both_ways}
@@ -11,12 +11,11 @@ use Rattle.irig_forms.specs.Refusals.{number_of, name_of}
 use Rattle.irig_plant.specs.declared.audit.Audit.{Audit}
 use Rattle.irig_plant.specs.declared.audit.Audit.TheVariants.{Kept, Broken, FalseTable}
 use Rattle.irig_scene.specs.Text.{name_at, audit_text, refusal_text}
-use Rattle.irig_scene.specs.Scene.{Refused}
 use Rattle.irig_scene.specs.LogLines.{whole_lines, Shows}
 use Rattle.irig_scene.proofs.WordLaws.{AreNames, decimal_word, name_is_word}
 use Rattle.irig_scene.proofs.LogLaws.{NoNewline, all_join, word_line, one_whole, shows_digit}
 
-literal_line : (l : List ℕ) → list_all (λ b. not (b == 10)) l ≡ true → NoNewline l
+pub literal_line : (l : List ℕ) → list_all (λ b. not (b == 10)) l ≡ true → NoNewline l
 literal_line [] h = tt
 literal_line (b ∷ bs) h =
     let parts = and_parts (not (b == 10)) (list_all (λ b. not (b == 10)) bs) h in
@@ -26,7 +25,7 @@ literal_line (b ∷ bs) h =
 
 -- ---- a refusal
 
-refusal_line : ℕ → Refusal → List ℕ
+unfoldable pub refusal_line : ℕ → Refusal → List ℕ
 refusal_line n k = codes "refused: line " ++ (decimal n ++ (codes ": " ++ (decimal (number_of k) ++ (codes " " ++ name_of k))))
 
 refusal_name_line : (k : Refusal) → NoNewline (name_of k)
@@ -53,7 +52,7 @@ refusal_name_line refusal.TableLong = literal_line (codes "TableLong") refl
 refusal_name_line refusal.TableDay = literal_line (codes "TableDay") refl
 refusal_name_line refusal.TableTwice = literal_line (codes "TableTwice") refl
 
-decimal_line : (n : ℕ) → NoNewline (decimal n)
+pub decimal_line : (n : ℕ) → NoNewline (decimal n)
 decimal_line n = word_line (decimal n) (decimal_word n)
 
 refusal_line_whole : (n : ℕ) (k : Refusal) → NoNewline (refusal_line n k)
@@ -63,21 +62,21 @@ refusal_line_whole n k =
     (all_join _ (codes ": ") _ (literal_line (codes ": ") refl) (all_join _ (decimal (number_of k)) _ (decimal_line (number_of k))
     (all_join _ (codes " ") (name_of k) (literal_line (codes " ") refl) (refusal_name_line k)))))
 
-refusal_text_is : (n : ℕ) (k : Refusal) → refusal_text n k ≡ refusal_line n k ++ 10 ∷ []
+pub refusal_text_is : (n : ℕ) (k : Refusal) → refusal_text n k ≡ refusal_line n k ++ 10 ∷ []
 unfolding refusal_text refusal_line
 refusal_text_is n k = simp append_assoc
 
-refusal_lines : (n : ℕ) (k : Refusal) → whole_lines (refusal_text n k) ≡ refusal_line n k ∷ []
+pub refusal_lines : (n : ℕ) (k : Refusal) → whole_lines (refusal_text n k) ≡ refusal_line n k ∷ []
 refusal_lines n k = ap whole_lines (refusal_text_is n k) ∙ one_whole (refusal_line n k) (refusal_line_whole n k)
 
 -- ---- an audit
 
-audit_line : List (List ℕ) → Audit → List ℕ
+unfoldable pub audit_line : List (List ℕ) → Audit → List ℕ
 audit_line names Kept = codes "premises kept"
 audit_line names (Broken reader edge) = codes "premises broken: edge " ++ (decimal edge ++ (codes " reader " ++ name_at names reader))
 audit_line names (FalseTable reader) = codes "premises broken: table of reader " ++ name_at names reader
 
-name_line : (names : List (List ℕ)) (r : ℕ) → AreNames names → NoNewline (name_at names r)
+pub name_line : (names : List (List ℕ)) (r : ℕ) → AreNames names → NoNewline (name_at names r)
 name_line names r h = word_line (name_at names r) (name_is_word names r h)
 
 audit_line_whole : (names : List (List ℕ)) (a : Audit) → AreNames names → NoNewline (audit_line names a)
@@ -89,13 +88,13 @@ audit_line_whole names (Broken reader edge) h =
 audit_line_whole names (FalseTable reader) h =
     all_join _ (codes "premises broken: table of reader ") _ (literal_line (codes "premises broken: table of reader ") refl) (name_line names reader h)
 
-audit_text_is : (names : List (List ℕ)) (a : Audit) → audit_text names a ≡ audit_line names a ++ 10 ∷ []
+pub audit_text_is : (names : List (List ℕ)) (a : Audit) → audit_text names a ≡ audit_line names a ++ 10 ∷ []
 unfolding audit_text audit_line
 audit_text_is names Kept = refl
 audit_text_is names (Broken reader edge) = simp append_assoc
 audit_text_is names (FalseTable reader) = simp append_assoc
 
-audit_lines : (names : List (List ℕ)) (a : Audit) → AreNames names → whole_lines (audit_text names a) ≡ audit_line names a ∷ []
+pub audit_lines : (names : List (List ℕ)) (a : Audit) → AreNames names → whole_lines (audit_text names a) ≡ audit_line names a ∷ []
 audit_lines names a h = ap whole_lines (audit_text_is names a) ∙ one_whole (audit_line names a) (audit_line_whole names a h)
 
 -- ---- what they show

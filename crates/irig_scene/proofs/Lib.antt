@@ -10,9 +10,12 @@ pub mod RunLaws
 pub mod WordLaws
 pub mod LogLaws
 pub mod LastLines
+pub mod RowLaws
 pub mod TrueLines
 pub mod WrittenLaws
+pub mod PortLineLaws
 pub mod HealthyRuns
 pub mod HealthyFacts
 pub mod RunFacts
+pub mod PortFacts
 pub mod StandardFacts

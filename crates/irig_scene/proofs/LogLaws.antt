@@ -1,14 +1,13 @@
 -- The lines of a log, what they show, and that they tell the truth.
-use Rattle.std.proofs.Common.{◌≡◌, ◌≢◌, ℕ, zero, suc, ◌+◌, ◌^◌, ◌<◌, ◌==◌, Bool, true, false, cond, ◌||◌, List, [], ◌∷◌, ◌++◌, length, map, All, Option, Some, None, refl, ap, sym, subst, ◌∙◌, append_assoc, append-nil, arith, codes}
-use Rattle.std.specs.Prelude.{filter, is_some}
+use Rattle.std.proofs.Common.{◌≡◌, ◌≢◌, ℕ, ◌^◌, ◌<◌, ◌==◌, Bool, true, false, cond, List, [], ◌∷◌, ◌++◌, length, map, All, Option, Some, None, refl, ap, sym, ◌∙◌, append_assoc, append-nil, arith, codes}
+use Rattle.std.specs.Prelude.{filter}
 use Rattle.std.specs.List.{AllByRecursion, flat_map}
 use Rattle.std.specs.Fmt.{decimal}
 use Rattle.std.proofs.lemmas.List.Elements.{recursion_from_All, All-from_recursion}
 use Rattle.std.proofs.lemmas.Fmt.{decimal_injective, decimal_nonempty}
 use Rattle.irig_time.specs.declared.second.UtcSecond.{UtcSecond}
-use Rattle.irig_time.specs.TextValues.{second_text}
 use Rattle.irig_plant.specs.declared.entry.Entry.{Entry}
-use Rattle.irig_scene.specs.Text.{lock_text, cause_text, time_shown_text, name_at, report_text, entry_text, entries_text}
+use Rattle.irig_scene.specs.Text.{lock_text, cause_text, time_shown_text, name_at, entry_text}
 use Rattle.irig_scene.specs.LogLines.{before_first, whole_lines, Shows}
 use Rattle.irig_scene.proofs.LineLaws.{not_newline}
 use Rattle.irig_scene.proofs.WordLaws.{IsWord, IsNumber, AreNames, decimal_number, decimal_word, second_word, lock_word, cause_word, name_is_word, name_of_one, word_by_test}
@@ -82,7 +81,7 @@ abbrev pub entry_line : List (List ℕ) → Entry → List ℕ
 entry_line names e =
     decimal e.edge ++ (32 ∷ (name_at names e.reader ++ (32 ∷ (time_shown_text e.report.announce ++ (32 ∷ (lock_text e.report.lock ++ (32 ∷ cause_text e.report.cause)))))))
 
-line_of_entry : (names : List (List ℕ)) (e : Entry) (rest : List ℕ) → entry_text names e ++ rest ≡ entry_line names e ++ (10 ∷ rest)
+pub line_of_entry : (names : List (List ℕ)) (e : Entry) (rest : List ℕ) → entry_text names e ++ rest ≡ entry_line names e ++ (10 ∷ rest)
 unfolding entry_text
 line_of_entry names e rest = simp append_assoc
 
@@ -90,7 +89,7 @@ time_word : (o : Option UtcSecond) → IsWord (time_shown_text o)
 time_word None = word_by_test (codes "-") refl
 time_word (Some u) = second_word u
 
-entry_line_whole : (names : List (List ℕ)) (e : Entry) → AreNames names → NoNewline (entry_line names e)
+pub entry_line_whole : (names : List (List ℕ)) (e : Entry) → AreNames names → NoNewline (entry_line names e)
 entry_line_whole names e h =
     line_with (decimal e.edge) _ (decimal_word e.edge) (line_with (name_at names e.reader) _ (name_is_word names e.reader h)
     (line_with (time_shown_text e.report.announce) _ (time_word e.report.announce) (line_with (lock_text e.report.lock) _ (lock_word e.report.lock) (word_line (cause_text e.report.cause) (cause_word e.report.cause)))))
@@ -142,7 +141,7 @@ entry_shows names e r n time h few shows = shows_fields names (entry_line names 
 -- ---- lines that show nothing
 
 -- the line of an entry begins with a digit
-digit_first : (l rest : List ℕ) (b : ℕ) (bs : List ℕ) → 0 < length l → IsNumber l → b ∷ bs ≡ l ++ rest → b < 58
+pub digit_first : (l rest : List ℕ) (b : ℕ) (bs : List ℕ) → 0 < length l → IsNumber l → b ∷ bs ≡ l ++ rest → b < 58
 digit_first [] rest b bs some h e = absurd (omega (arith, some))
 digit_first (x ∷ xs) rest b bs some h e = let same : b ≡ x = cc in omega (arith, h.0.1, same)
 

@@ -1,5 +1,5 @@
 -- Events that are played, by what a plant says of them.
-use Rattle.std.proofs.Common.{◌≡◌, ℕ, zero, suc, ◌+◌, ◌-◌, ◌<◌, ◌≤◌, List, [], ◌∷◌, ◌++◌, take, length, Option, Some, None, refl, ap, sym, ◌∙◌, arith, inl, inr, slice_get, drop, append-nil, append_assoc, length-append, Bool, subst, map}
+use Rattle.std.proofs.Common.{◌≡◌, ℕ, zero, suc, ◌+◌, ◌-◌, ◌<◌, ◌≤◌, List, [], ◌∷◌, ◌++◌, take, length, Option, Some, None, true, false, refl, ap, sym, ◌∙◌, arith, inl, inr, slice_get, drop, append-nil, append_assoc, length-append, cond, subst, map}
 use Rattle.std.specs.Prelude.{IfSome, option_and_then}
 use Rattle.std.specs.List.{flat_map, range_with_len}
 use Rattle.std.proofs.lemmas.List.FromFn.{length-range_with_len}
@@ -8,23 +8,30 @@ use Rattle.std.proofs.lemmas.List.{length-drop}
 use Rattle.irig_plant.specs.declared.event.Event.{Event}
 use Rattle.irig_plant.specs.declared.event.Event.TheVariants.{GenEdge, Tick, Carry, Damage, Replay, Raw, Fault, Repair, Restart}
 use Rattle.irig_plant.specs.declared.entry.Entry.{Entry}
+use Rattle.irig_plant.specs.declared.told_log.ToldEntry.{ToldEntry}
 use Rattle.irig_plant.specs.declared.fault.PlantFault.{PlantFault}
-use Rattle.irig_plant.specs.Schedule.{Setup, log_of, entry_of}
+use Rattle.irig_port.specs.declared.port.Port.{Ghosts}
+use Rattle.irig_plant.specs.declared.plant.Plant.{Plant}
+use Rattle.irig_plant.specs.History.{HasPlantHistory, beginning, with_told_kept}
+use Rattle.irig_plant.specs.Schedule.{Setup, log_of, entry_of, told_log_of, told_entry_of}
 use Rattle.irig_plant.specs.Refusals.{refusal}
+use Rattle.irig_plant.proofs.ToldLaws.{told_length}
 use Rattle.irig_plant.specs.Runs.{events_after, AreAccepted, IsRefused}
 use Rattle.irig_forms.specs.declared.refusal.Refusal.{Refusal}
+use Rattle.irig_scenario.specs.PlantLine.{Plan}
 use Rattle.irig_plant.specs.WholeSecond.{carries, ticks, steps, second_of}
+use Rattle.irig_scene.specs.declared.shown.Shown.{Shown}
 use Rattle.irig_scene.specs.Scene.{refusal_as}
-use Rattle.irig_scene.specs.Scene.{Play, play, play_by, unless_refused, Scene, log_text}
+use Rattle.irig_scene.specs.Scene.{Play, play, play_by, unless_refused, Scene, scene, log_text}
 use Rattle.std.specs.Io.KnownBytes.{Appends}
 use Rattle.std.proofs.KnownBytes.{Appends-nil}
 use Rattle.irig_scene.specs.declared.fault.SceneFault.{SceneFault}
 use Rattle.irig_scene.specs.declared.fault.SceneFault.TheVariants.{Refused, Read, Write, Memory}
 use Rattle.irig_device.specs.Watched.{AppendsPart}
 use Rattle.irig_scene.specs.Faults.{IsFaultOfWriting}
-use Rattle.irig_scene.specs.PlayerRuns.{after_events, ticks_among, Grew, GrewPart}
-use Rattle.irig_scene.specs.Text.{entries_text}
-use Rattle.irig_scene.proofs.TextLaws.{entries_join}
+use Rattle.irig_scene.specs.PlayerRuns.{past, after_events, ticks_among, Grew, GrewPart}
+use Rattle.irig_scene.specs.Text.{lines_text}
+use Rattle.irig_scene.proofs.TextLaws.{lines_join, same_lines}
 
 one_accepted : (s : Setup) (e : Event) (es ev : List Event) → refusal s e ev ≡ None → play s (e ∷ es) ev ≡ play s es (e ∷ ev)
 one_accepted s e es ev h = ap (λ k. unless_refused (option_and_then refusal_as k) ev (play s es (e ∷ ev))) h
@@ -48,27 +55,37 @@ play_until s (suc i) (e ∷ es) ev fault k lt h stop named = one_accepted s e (e
 
 -- ---- the log grows
 
--- the log of what has come is in front of the log of what has come later
+-- the log of what has come is in front of the log of what has come later, and so is what ports told
 pub record LogGrows (s : Setup) (ev later : List Event) : Type 0 where
   pub more : List Entry
   pub is : log_of s later ≡ log_of s ev ++ more
+  pub told : List ToldEntry
+  pub told_is : told_log_of s later ≡ told_log_of s ev ++ told
 
 pub log_keeps : (s : Setup) (ev : List Event) → LogGrows s ev ev
-log_keeps s ev = record { more = []; is = sym (append-nil (log_of s ev)) }
+log_keeps s ev = record { more = []; is = sym (append-nil (log_of s ev)); told = []; told_is = sym (append-nil (told_log_of s ev)) }
+
+no_tick : (s : Setup) (ev later : List Event) → log_of s later ≡ log_of s ev → told_log_of s later ≡ told_log_of s ev → LogGrows s ev later
+no_tick s ev later e t = record { more = []; is = e ∙ sym (append-nil (log_of s ev)); told = []; told_is = t ∙ sym (append-nil (told_log_of s ev)) }
 
 grows_by : (s : Setup) (e : Event) (ev : List Event) → LogGrows s ev (e ∷ ev)
-grows_by s (Tick r) ev = record { more = entry_of s r ev ∷ []; is = refl }
-grows_by s (GenEdge g) ev = record { more = []; is = sym (append-nil (log_of s ev)) }
-grows_by s (Carry g r) ev = record { more = []; is = sym (append-nil (log_of s ev)) }
-grows_by s (Damage g r at width) ev = record { more = []; is = sym (append-nil (log_of s ev)) }
-grows_by s (Replay g r edge) ev = record { more = []; is = sym (append-nil (log_of s ev)) }
-grows_by s (Raw g r widths) ev = record { more = []; is = sym (append-nil (log_of s ev)) }
-grows_by s (Fault g kind) ev = record { more = []; is = sym (append-nil (log_of s ev)) }
-grows_by s (Repair g) ev = record { more = []; is = sym (append-nil (log_of s ev)) }
-grows_by s (Restart r) ev = record { more = []; is = sym (append-nil (log_of s ev)) }
+grows_by s (Tick r) ev = record { more = entry_of s r ev ∷ []; is = refl; told = told_entry_of s r ev ∷ []; told_is = refl }
+grows_by s (GenEdge g) ev = no_tick s ev (GenEdge g ∷ ev) refl refl
+grows_by s (Carry g r) ev = no_tick s ev (Carry g r ∷ ev) refl refl
+grows_by s (Damage g r at width) ev = no_tick s ev (Damage g r at width ∷ ev) refl refl
+grows_by s (Replay g r edge) ev = no_tick s ev (Replay g r edge ∷ ev) refl refl
+grows_by s (Raw g r widths) ev = no_tick s ev (Raw g r widths ∷ ev) refl refl
+grows_by s (Fault g kind) ev = no_tick s ev (Fault g kind ∷ ev) refl refl
+grows_by s (Repair g) ev = no_tick s ev (Repair g ∷ ev) refl refl
+grows_by s (Restart r) ev = no_tick s ev (Restart r ∷ ev) refl refl
 
 grows_on : (s : Setup) (a b c : List Event) → LogGrows s a b → LogGrows s b c → LogGrows s a c
-grows_on s a b c h k = record { more = h.more ++ k.more; is = k.is ∙ ap (λ l. l ++ k.more) h.is ∙ append_assoc (log_of s a) h.more k.more }
+grows_on s a b c h k = record {
+  more = h.more ++ k.more;
+  is = k.is ∙ ap (λ l. l ++ k.more) h.is ∙ append_assoc (log_of s a) h.more k.more;
+  told = h.told ++ k.told;
+  told_is = k.told_is ∙ ap (λ l. l ++ k.told) h.told_is ∙ append_assoc (told_log_of s a) h.told k.told;
+}
 
 grows_unless : (s : Setup) (k : Option Refusal) (ev : List Event) (rest : Play) → LogGrows s ev rest.events → LogGrows s ev (unless_refused k ev rest).events
 grows_unless s None ev rest h = h
@@ -112,50 +129,77 @@ few_stand x events entries e =
     omega (arith, left, few_by_play x.plan.setup events x.events)
 
 -- what a log has more is what is left of it past the other
-more_is : (a b more : List Entry) → b ≡ a ++ more → drop (length a) b ≡ more
+more_is : {X : Type 0} (a b more : List X) → b ≡ a ++ more → drop (length a) b ≡ more
 more_is a b more e = ap (drop (length a)) e ∙ drop-append_seam a more
 
--- the text grows by that of the entries that have yet to be shown
-pub text_grows : (x : Scene) (events : List Event) (all : Bool) (entries : List Entry)
-    → entries ≡ drop (length (log_of x.plan.setup x.events)) (log_of x.plan.setup (play x.plan.setup events x.events).events)
-    → log_text all (Some (after_events x events)) ≡ log_text all (Some x) ++ entries_text x.plan.names all entries
-text_grows x events all entries e =
+-- the text grows by that of what came since
+pub lines_grow : (x : Scene) (later : List Event) (shown : Shown) (grown : LogGrows x.plan.setup x.events later)
+    → log_text shown (Some (scene x.plan later)) ≡ log_text shown (Some x) ++ lines_text x.plan.names shown grown.more grown.told
+lines_grow x later shown grown =
     let s = x.plan.setup in
+    let names = x.plan.names in
+    ap (λ es. lines_text names shown es (told_log_of s later)) grown.is ∙ ap (λ ts. lines_text names shown (log_of s x.events ++ grown.more) ts) grown.told_is
+    ∙ lines_join names shown (log_of s x.events) grown.more (told_log_of s x.events) grown.told (sym (told_length s x.events))
+
+-- what has yet to be shown
+abbrev pub entries_left : Scene → List Event → List Entry
+entries_left x events = drop (length (log_of x.plan.setup x.events)) (log_of x.plan.setup (after_events x events).events)
+
+abbrev pub told_left : Shown → Scene → List Event → List ToldEntry
+told_left shown x events = cond shown.ports (drop (length (log_of x.plan.setup x.events)) (told_log_of x.plan.setup (after_events x events).events)) []
+
+text_grows : (x : Scene) (events : List Event) (shown : Shown) (entries : List Entry) (tolds : List ToldEntry) → entries ≡ entries_left x events → tolds ≡ told_left shown x events
+    → log_text shown (Some (after_events x events)) ≡ log_text shown (Some x) ++ lines_text x.plan.names shown entries tolds
+text_grows x events shown entries tolds e t =
+    let s = x.plan.setup in
+    let later = (after_events x events).events in
     let grown = grows_by_play s events x.events in
-    let same : entries ≡ grown.more = e ∙ more_is (log_of s x.events) (log_of s (play s events x.events).events) grown.more grown.is in
-    ap (entries_text x.plan.names all) (grown.is ∙ ap (λ more. log_of s x.events ++ more) (sym same)) ∙ entries_join x.plan.names all (log_of s x.events) entries
+    let same : entries ≡ grown.more = e ∙ more_is (log_of s x.events) (log_of s later) grown.more grown.is in
+    let told : drop (length (log_of s x.events)) (told_log_of s later) ≡ grown.told =
+    ap (λ n. drop n (told_log_of s later)) (sym (told_length s x.events)) ∙ more_is (told_log_of s x.events) (told_log_of s later) grown.told grown.told_is in
+    lines_grow x later shown grown ∙ ap (λ more. log_text shown (Some x) ++ more) (same_lines x.plan.names shown entries grown.more tolds _ grown.told same t told)
 
 -- ---- what was written
 
--- entries that a plant had yet to show, and their text
-pub shown : (x : Scene) (events : List Event) (all : Bool) (names : List (List ℕ)) (entries : List Entry) (old new : Option (List ℕ))
-    → names ≡ x.plan.names → entries ≡ drop (length (log_of x.plan.setup x.events)) (log_of x.plan.setup (after_events x events).events)
-    → Appends old new (entries_text names all entries) → Grew all (Some x) (Some (after_events x events)) old new
-shown x events all names entries old new same are wrote =
+-- what a plant had yet to show, and its text
+pub lines_shown : (x : Scene) (events : List Event) (shown : Shown) (names : List (List ℕ)) (entries : List Entry) (tolds : List ToldEntry) (old new : Option (List ℕ))
+    → names ≡ x.plan.names → entries ≡ entries_left x events → tolds ≡ told_left shown x events
+    → Appends old new (lines_text names shown entries tolds) → Grew shown (Some x) (Some (after_events x events)) old new
+lines_shown x events shown names entries tolds old new same are told wrote =
     record {
-      text = entries_text x.plan.names all entries;
-      more = text_grows x events all entries are;
-      wrote = subst (λ (n : List (List ℕ)). Appends old new (entries_text n all entries)) same wrote;
+      text = lines_text x.plan.names shown entries tolds;
+      more = text_grows x events shown entries tolds are told;
+      wrote = subst (λ (n : List (List ℕ)). Appends old new (lines_text n shown entries tolds)) same wrote;
     }
 
-pub shown_in_part : (x : Scene) (events : List Event) (all : Bool) (names : List (List ℕ)) (entries : List Entry) (old new : Option (List ℕ))
-    → names ≡ x.plan.names → entries ≡ drop (length (log_of x.plan.setup x.events)) (log_of x.plan.setup (after_events x events).events)
-    → AppendsPart old new (entries_text names all entries) → GrewPart all (Some x) (Some (after_events x events)) old new
-shown_in_part x events all names entries old new same are wrote =
+pub lines_shown_in_part : (x : Scene) (events : List Event) (shown : Shown) (names : List (List ℕ)) (entries : List Entry) (tolds : List ToldEntry) (old new : Option (List ℕ))
+    → names ≡ x.plan.names → entries ≡ entries_left x events → tolds ≡ told_left shown x events
+    → AppendsPart old new (lines_text names shown entries tolds) → GrewPart shown (Some x) (Some (after_events x events)) old new
+lines_shown_in_part x events shown names entries tolds old new same are told wrote =
     record {
-      text = entries_text x.plan.names all entries;
-      more = text_grows x events all entries are;
-      wrote = subst (λ (n : List (List ℕ)). AppendsPart old new (entries_text n all entries)) same wrote;
+      text = lines_text x.plan.names shown entries tolds;
+      more = text_grows x events shown entries tolds are told;
+      wrote = subst (λ (n : List (List ℕ)). AppendsPart old new (lines_text n shown entries tolds)) same wrote;
     }
 
-pub nothing_shown : (x : Scene) (events : List Event) (all : Bool) (out : Option (List ℕ)) → GrewPart all (Some x) (Some (after_events x events)) out out
-nothing_shown x events all out =
-    let entries = drop (length (log_of x.plan.setup x.events)) (log_of x.plan.setup (after_events x events).events) in
+pub nothing_shown : (x : Scene) (events : List Event) (shown : Shown) (out : Option (List ℕ)) → GrewPart shown (Some x) (Some (after_events x events)) out out
+nothing_shown x events shown out =
+    let entries = entries_left x events in
+    let tolds = told_left shown x events in
+    let text = lines_text x.plan.names shown entries tolds in
     record {
-      text = entries_text x.plan.names all entries;
-      more = text_grows x events all entries refl;
-      wrote = record { front = []; rest = entries_text x.plan.names all entries; whole = refl; wrote = Appends-nil out };
+      text = text;
+      more = text_grows x events shown entries tolds refl refl;
+      wrote = record { front = []; rest = text; whole = refl; wrote = Appends-nil out };
     }
+
+-- ---- a plant to which nothing has happened
+
+pub begun_with_ports : {P : Type 0} {g : Ghosts P} (p : Plant P g) (shown : Shown) (plan : Plan) → shown.ports ≡ true → HasPlantHistory p (with_told_kept (beginning plan.setup)) → HasPlantHistory p (past shown (scene plan []))
+begun_with_ports p shown plan e h = subst (λ b. HasPlantHistory p (record (past shown (scene plan [])) { keeps_told = b })) (sym e) h
+
+pub begun_without_ports : {P : Type 0} {g : Ghosts P} (p : Plant P g) (shown : Shown) (plan : Plan) → shown.ports ≡ false → HasPlantHistory p (beginning plan.setup) → HasPlantHistory p (past shown (scene plan []))
+begun_without_ports p shown plan e h = subst (λ b. HasPlantHistory p (record (past shown (scene plan [])) { keeps_told = b })) (sym e) h
 
 pub wants_memory : (fault : SceneFault) → fault ≡ Memory → IsFaultOfWriting fault
 wants_memory (Refused line number) e = absurd cc

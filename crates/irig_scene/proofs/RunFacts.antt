@@ -37,7 +37,7 @@ use Rattle.irig_scene.specs.Lines.{lines, unlines, first_lines, after_lines, sho
 use Rattle.irig_scene.specs.LogLines.{whole_lines, Shows, ShowsNothing, IsTimeOf, IsTrueLine, IsTrueLineIfKept, TellsTruth, IsTrueLog, VouchesForItself, OfWritten}
 use Rattle.irig_scene.specs.declared.outcome.Outcome.{Outcome}
 use Rattle.irig_scene.specs.declared.fault.SceneFault.TheVariants as fault
-use Rattle.irig_scene.specs.Text.{refusal_text}
+use Rattle.irig_scene.specs.Text.{entries_alone, refusal_text}
 use Rattle.irig_scene.specs.Scene.{Scene, scene, step, Refused, meaning, meaning_from, meaning_of, refusal_at, audit_in, log_text}
 use Rattle.irig_scene.specs.Run.{IsDone, IsRefused, StoppedReading, IsOfOneLine, StoppedInLine, AreBytesOf, read_of, Ran}
 use Rattle.irig_scene.proofs.LineLaws.{not_newline}
@@ -347,12 +347,12 @@ not_two_lines h = elim h.is [
 -- ---- stopped
 
 -- a read failed after two empty lines and a part: they say nothing, so nothing is written
-stopped : StoppedReading (codes "\n\n ") true (Some (codes "\n\n ")) (Some []) (Some (codes "a")) (Some (codes "a"))
+stopped : StoppedReading (codes "\n\n ") (entries_alone true) (Some (codes "\n\n ")) (Some []) (Some (codes "a")) (Some (codes "a"))
 unfolding meaning_from step lines
 stopped = record { whole = [] ∷ [] ∷ []; part = codes " "; lined = All-from_recursion HasNoNewline ([] ∷ [] ∷ []) (All-from_recursion (λ b. b ≢ 10) [] tt, (All-from_recursion (λ b. b ≢ 10) [] tt, tt)); unlined = All-from_recursion (λ b. b ≢ 10) (codes " ") (search arith); rest = []; of_bytes = refl; read = refl; wrote = refl }
 
 -- and stopped in the part, or in the second line
-stopped_in : StoppedInLine (codes "\n\n ") true (Some (codes "\n\n ")) (Some []) (Some (codes "a")) (Some (codes "a"))
+stopped_in : StoppedInLine (codes "\n\n ") (entries_alone true) (Some (codes "\n\n ")) (Some []) (Some (codes "a")) (Some (codes "a"))
 unfolding meaning_from step lines
 stopped_in = record { whole = [] ∷ [] ∷ []; part = codes " "; lined = All-from_recursion HasNoNewline ([] ∷ [] ∷ []) (All-from_recursion (λ b. b ≢ 10) [] tt, (All-from_recursion (λ b. b ≢ 10) [] tt, tt)); in_hand = record { line = codes " "; unlined = All-from_recursion (λ b. b ≢ 10) (codes " ") (search arith); is = inl refl }; rest = []; of_bytes = refl; read = refl; more = []; wrote = refl }
 
@@ -372,14 +372,14 @@ wholes ls rest h = go ls (recursion_from_All HasNoNewline ls h)
         ap whole_lines cut ∙ whole_along l (unlines ls ++ rest) (recursion_from_All (λ b. b ≢ 10) l h.0) ∙ ap (λ z. l ∷ z) (go ls h.1)
 
 -- where the log of a line is "a", it stands once the line was read
-module _ (l : List ℕ) (unlined : HasNoNewline l) (log : log_text true (meaning_of (l ++ 10 ∷ [])).scene ≡ codes "a") where
-  one : (ls : List (List ℕ)) → ls ≡ l ∷ [] → log_text true (meaning_of (unlines ls)).scene ≡ codes "a"
-  one ls e = ap (λ ks. log_text true (meaning_of (unlines ks)).scene) e ∙ ap (λ bs. log_text true (meaning_of bs).scene) (append-nil (l ++ 10 ∷ [])) ∙ log
+module _ (l : List ℕ) (unlined : HasNoNewline l) (log : log_text (entries_alone true) (meaning_of (l ++ 10 ∷ [])).scene ≡ codes "a") where
+  one : (ls : List (List ℕ)) → ls ≡ l ∷ [] → log_text (entries_alone true) (meaning_of (unlines ls)).scene ≡ codes "a"
+  one ls e = ap (λ ks. log_text (entries_alone true) (meaning_of (unlines ks)).scene) e ∙ ap (λ bs. log_text (entries_alone true) (meaning_of bs).scene) (append-nil (l ++ 10 ∷ [])) ∙ log
 
   line_whole : whole_lines (l ++ 10 ∷ []) ≡ l ∷ []
   line_whole = one_whole l (recursion_from_All (λ b. b ≢ 10) l unlined)
 
-  not_unwritten : ¬ StoppedReading (l ++ 10 ∷ []) true (Some (l ++ 10 ∷ [])) (Some []) (Some []) (Some [])
+  not_unwritten : ¬ StoppedReading (l ++ 10 ∷ []) (entries_alone true) (Some (l ++ 10 ∷ [])) (Some []) (Some []) (Some [])
   not_unwritten h =
       let bytes : unlines h.whole ++ h.part ≡ l ++ 10 ∷ [] = sym (h.read ∙ append-nil (unlines h.whole ++ h.part)) in
       let cut : h.whole ++ whole_lines h.part ≡ l ∷ [] = sym (wholes h.whole h.part h.lined) ∙ ap whole_lines bytes ∙ line_whole in
@@ -387,7 +387,7 @@ module _ (l : List ℕ) (unlined : HasNoNewline l) (log : log_text true (meaning
       omega (arith, ap length (h.wrote ∙ one h.whole whole))
 
   -- nothing of the next line was read before that
-  not_ahead : ¬ StoppedInLine (l ++ codes "\nb") true (Some (l ++ codes "\nb")) (Some []) (Some []) (Some [])
+  not_ahead : ¬ StoppedInLine (l ++ codes "\nb") (entries_alone true) (Some (l ++ codes "\nb")) (Some []) (Some []) (Some [])
   not_ahead h = elim h.in_hand.is [
     | inl e ↦ (
         let none : whole_lines h.part ≡ [] = ap whole_lines e ∙ no_whole h.in_hand.line (recursion_from_All (λ b. b ≢ 10) h.in_hand.line h.in_hand.unlined) in

@@ -1,11 +1,12 @@
 -- What the loop over the lines has done so far, and what each way out of it tells.
-use Rattle.std.proofs.Common.{◌≡◌, ℕ, ◌+◌, ◌-◌, ◌<◌, ◌≤◌, Bool, true, false, List, [], ◌∷◌, ◌++◌, length, All, Option, Some, None, Result, Ok, Err, refl, ap, sym, subst, ◌∙◌, append_assoc, append-nil, length-append, arith, rules, nat_lt, cond, inl, inr}
+use Rattle.std.proofs.Common.{◌≡◌, ℕ, ◌+◌, ◌-◌, ◌<◌, ◌≤◌, true, false, List, [], ◌∷◌, ◌++◌, length, All, Option, Some, None, Result, Ok, Err, refl, ap, sym, subst, ◌∙◌, append_assoc, append-nil, length-append, arith, rules, nat_lt, cond, inl, inr}
 use Rattle.std.specs.Prelude.{⊤, IfSome}
 use Rattle.std.specs.Io.KnownBytes.{Appends, Consumes}
 use Rattle.std.proofs.KnownBytes.{Consumes-trans, Consumes-nil, Appends-trans, Appends-nil}
 use Rattle.std.proofs.lemmas.List.Elements.{All-push}
 use Rattle.std.proofs.lemmas.Grind.{flat_map-append}
 use Rattle.irig_port.specs.declared.port.Port.{Ghosts}
+use Rattle.irig_scene.specs.declared.shown.Shown.{Shown}
 use Rattle.irig_scene.specs.declared.outcome.Outcome.{Outcome}
 use Rattle.irig_scene.specs.declared.player.Player.{Player}
 use Rattle.irig_device.specs.declared.line.LineEnd.{LineEnd}
@@ -18,9 +19,9 @@ use Rattle.irig_device.specs.Lines.{HasNoNewline, HasLength, spelling, GivesLine
 use Rattle.irig_scene.specs.Lines.{lines, unlines, max_line, max_lines, limit_of, shown_by}
 use Rattle.irig_device.specs.Watched.{AppendsPart}
 use Rattle.irig_scene.specs.Faults.{IsFaultOfReading, IsFaultOfWriting}
-use Rattle.irig_scene.specs.Scene.{Scene, Step, step_to, step, Meaning, meaning, refusal_at, meaning_from, meaning_of, meaning_at_end, log_text, text_of, output}
+use Rattle.irig_scene.specs.Scene.{Scene, Step, step_to, step, Meaning, meaning, refusal_at, meaning_from, meaning_of, meaning_at_end, log_text, text_of, output_shown}
 use Rattle.irig_scene.specs.PlayerRuns.{Grew}
-use Rattle.irig_scene.specs.Run.{IsOfOneLine, StoppedInLine, read_of, RanOn, AreBytesOf, Ran}
+use Rattle.irig_scene.specs.Run.{IsOfOneLine, StoppedInLine, read_of, RanOn, AreBytesOf, RanShown}
 use Rattle.irig_scene.specs.LineRuns.{IsAt, TakesFor, FailsIn, RanRest, WrotePart, WroteRefusal, too_long}
 use Rattle.irig_scene.proofs.SecondsPlayed.{nothing_grew, grew_on}
 use Rattle.irig_scene.proofs.LineLaws.{line_first, no_line, lines_after, Opens, opens}
@@ -30,18 +31,18 @@ use Rattle.irig_scene.proofs.ReadLaws.{shown_with_newline, shown_too_long, shown
 use Rattle.irig_scene.proofs.LastLaws.{line_stops, line_fails}
 
 -- the loop stands before line n: these whole lines were run, and their log was written
-pub record HasRun {P : Type 0} {g : Ghosts P} (all : Bool) (player : Option (Player P g)) (in0 in1 out0 out1 : Option (List ℕ)) (n : ℕ) : Type 0 where
+pub record HasRun {P : Type 0} {g : Ghosts P} (shown : Shown) (player : Option (Player P g)) (in0 in1 out0 out1 : Option (List ℕ)) (n : ℕ) : Type 0 where
   pub at : Option Scene
-  pub stands : IsAt player at
+  pub stands : IsAt shown player at
   pub past : List (List ℕ)
   pub whole : All HasNoNewline past
   pub took : Consumes in0 in1 (unlines past)
   pub count : n ≡ length past + 1
   pub means : (rest : List (List ℕ)) → meaning_from (past ++ rest) 1 None ≡ meaning_from rest n at
-  pub grew : Grew all None at out0 out1
+  pub grew : Grew shown None at out0 out1
 
-pub has_begun : {P : Type 0} {g : Ghosts P} (all : Bool) (in0 out0 : Option (List ℕ)) → HasRun {P = P} {g = g} all None in0 in0 out0 out0 1
-has_begun all in0 out0 =
+pub has_begun : {P : Type 0} {g : Ghosts P} (shown : Shown) (in0 out0 : Option (List ℕ)) → HasRun {P = P} {g = g} shown None in0 in0 out0 out0 1
+has_begun shown in0 out0 =
     record {
       at = None;
       stands = tt;
@@ -50,14 +51,14 @@ has_begun all in0 out0 =
       took = Consumes-nil in0;
       count = refl;
       means = λ rest. refl;
-      grew = nothing_grew all None out0;
+      grew = nothing_grew shown None out0;
     }
 
 -- ---- one line more
 
-goes_on : {P : Type 0} {g : Ghosts P} (all : Bool) (was is : Option (Player P g)) (in0 in1 in2 out0 out1 out2 : Option (List ℕ)) (n : ℕ) (l : List ℕ) (found : Option Refusal) (run : HasRun all was in0 in1 out0 out1 n)
-    → found ≡ None → TakesFor (step n run.at l) all run.at is found out1 out2 → HasNoNewline l → Consumes in1 in2 (l ++ 10 ∷ []) → HasRun all is in0 in2 out0 out2 (n + 1)
-goes_on all was is in0 in1 in2 out0 out1 out2 n l found run none took h read =
+goes_on : {P : Type 0} {g : Ghosts P} (shown : Shown) (was is : Option (Player P g)) (in0 in1 in2 out0 out1 out2 : Option (List ℕ)) (n : ℕ) (l : List ℕ) (found : Option Refusal) (run : HasRun shown was in0 in1 out0 out1 n)
+    → found ≡ None → TakesFor (step n run.at l) shown run.at is found out1 out2 → HasNoNewline l → Consumes in1 in2 (l ++ 10 ∷ []) → HasRun shown is in0 in2 out0 out2 (n + 1)
+goes_on shown was is in0 in1 in2 out0 out1 out2 n l found run none took h read =
     let grown : unlines (run.past ++ l ∷ []) ≡ unlines run.past ++ (l ++ 10 ∷ []) =
     flat_map-append (λ l. l ++ 10 ∷ []) run.past (l ∷ []) ∙ ap (λ more. unlines run.past ++ more) (append-nil (l ++ 10 ∷ [])) in
     record {
@@ -68,16 +69,16 @@ goes_on all was is in0 in1 in2 out0 out1 out2 n l found run none took h read =
       took = subst (Consumes in0 in2) (sym grown) (Consumes-trans in0 in1 in2 _ _ run.took read);
       count = omega (arith, run.count, length-append run.past (l ∷ []));
       means = λ rest. ap (λ ls. meaning_from ls 1 None) (append_assoc run.past (l ∷ []) rest) ∙ run.means (l ∷ rest) ∙ meaning_goes l rest n run.at (took.refused ∙ none);
-      grew = grew_on all None run.at (step n run.at l).scene out0 out1 out2 run.grew took.grew;
+      grew = grew_on shown None run.at (step n run.at l).scene out0 out1 out2 run.grew took.grew;
     }
 
 as_newline : (end : LineEnd) (line : List ℕ) (in1 in2 : Option (List ℕ)) → end ≡ Newline → Consumes in1 in2 (spelling end line) → Consumes in1 in2 (line ++ 10 ∷ [])
 as_newline end line in1 in2 is took = subst (λ end. Consumes in1 in2 (spelling end line)) is took
 
-pub line_done : {P : Type 0} {g : Ghosts P} (all : Bool) (was is : Option (Player P g)) (in0 in1 in2 out0 out1 out2 : Option (List ℕ)) (n limit : ℕ) (l line : List ℕ) (end : LineEnd) (found : Option Refusal) (run : HasRun all was in0 in1 out0 out1 n)
-    → GivesLine end limit line in1 in2 → end ≡ Newline → l ≡ line → found ≡ None → TakesFor (step n run.at l) all run.at is found out1 out2 → HasRun all is in0 in2 out0 out2 (n + 1)
-line_done all was is in0 in1 in2 out0 out1 out2 n limit l line end found run got ends same none took =
-    goes_on all was is in0 in1 in2 out0 out1 out2 n l found run none took (subst HasNoNewline (sym same) got.whole)
+pub line_done : {P : Type 0} {g : Ghosts P} (shown : Shown) (was is : Option (Player P g)) (in0 in1 in2 out0 out1 out2 : Option (List ℕ)) (n limit : ℕ) (l line : List ℕ) (end : LineEnd) (found : Option Refusal) (run : HasRun shown was in0 in1 out0 out1 n)
+    → GivesLine end limit line in1 in2 → end ≡ Newline → l ≡ line → found ≡ None → TakesFor (step n run.at l) shown run.at is found out1 out2 → HasRun shown is in0 in2 out0 out2 (n + 1)
+line_done shown was is in0 in1 in2 out0 out1 out2 n limit l line end found run got ends same none took =
+    goes_on shown was is in0 in1 in2 out0 out1 out2 n l found run none took (subst HasNoNewline (sym same) got.whole)
     (subst (λ l. Consumes in1 in2 (l ++ 10 ∷ [])) (sym same) (as_newline end line in1 in2 ends got.taken))
 
 -- ---- the input, where it tells its bytes
@@ -127,9 +128,9 @@ reads_failed Read x read spelled kind one = absurd kind
 reads_failed Write x read spelled kind one = one
 reads_failed Memory x read spelled kind one = one
 
-stopped_in_line : (x rest : List ℕ) (all : Bool) (was left out0 out1 out2 : Option (List ℕ)) (past : List (List ℕ)) (spelled : List ℕ) (at : Option Scene) (m : Meaning) → All HasNoNewline past → x ≡ (unlines past ++ spelled) ++ rest → Consumes was left (unlines past ++ spelled)
-    → Grew all None at out0 out1 → (meaning_of (unlines past)).scene ≡ at → WrotePart all at m out1 out2 → IsOfOneLine spelled → StoppedInLine x all was left out0 out2
-stopped_in_line x rest all was left out0 out1 out2 past spelled at m lined of_bytes took grew means here one =
+stopped_in_line : (x rest : List ℕ) (shown : Shown) (was left out0 out1 out2 : Option (List ℕ)) (past : List (List ℕ)) (spelled : List ℕ) (at : Option Scene) (m : Meaning) → All HasNoNewline past → x ≡ (unlines past ++ spelled) ++ rest → Consumes was left (unlines past ++ spelled)
+    → Grew shown None at out0 out1 → (meaning_of (unlines past)).scene ≡ at → WrotePart shown at m out1 out2 → IsOfOneLine spelled → StoppedInLine x shown was left out0 out2
+stopped_in_line x rest shown was left out0 out1 out2 past spelled at m lined of_bytes took grew means here one =
     record {
       whole = past;
       part = spelled;
@@ -139,26 +140,26 @@ stopped_in_line x rest all was left out0 out1 out2 past spelled at m lined of_by
       of_bytes = of_bytes;
       read = took;
       more = here.wrote.front;
-      wrote = Appends-trans out0 out1 out2 _ _ (subst (Appends out0 out1) (sym (ap (log_text all) means ∙ grew.more)) grew.wrote) here.wrote.wrote;
+      wrote = Appends-trans out0 out1 out2 _ _ (subst (Appends out0 out1) (sym (ap (log_text shown) means ∙ grew.more)) grew.wrote) here.wrote.wrote;
     }
 
-conclude : (r : Result Outcome SceneFault) (x rest : List ℕ) (all : Bool) (was left out0 out1 out2 : Option (List ℕ)) (past : List (List ℕ)) (spelled : List ℕ) (at : Option Scene) → All HasNoNewline past → x ≡ (unlines past ++ spelled) ++ rest → Consumes was left (unlines past ++ spelled)
-    → Grew all None at out0 out1 → (meaning_of (unlines past)).scene ≡ at → RanRest r (meaning_of x) (length (lines x)) all at out1 out2 → ReadsFor r x (unlines past ++ spelled) spelled → RanOn r x all was left out0 out2
-conclude (Ok o) x rest all was left out0 out1 out2 past spelled at lined of_bytes took grew means here reads =
-    let h = rest_on (Ok o) (meaning_of x) (length (lines x)) all None at out0 out1 out2 grew here in
+conclude : (r : Result Outcome SceneFault) (x rest : List ℕ) (shown : Shown) (was left out0 out1 out2 : Option (List ℕ)) (past : List (List ℕ)) (spelled : List ℕ) (at : Option Scene) → All HasNoNewline past → x ≡ (unlines past ++ spelled) ++ rest → Consumes was left (unlines past ++ spelled)
+    → Grew shown None at out0 out1 → (meaning_of (unlines past)).scene ≡ at → RanRest r (meaning_of x) (length (lines x)) shown at out1 out2 → ReadsFor r x (unlines past ++ spelled) spelled → RanOn r x shown was left out0 out2
+conclude (Ok o) x rest shown was left out0 out1 out2 past spelled at lined of_bytes took grew means here reads =
+    let h = rest_on (Ok o) (meaning_of x) (length (lines x)) shown None at out0 out1 out2 grew here in
     (subst (Appends out0 out2) (sym h.1.is) h.1.wrote, h.0, subst (Consumes was left) (sym reads) took)
-conclude (Err (Refused line number)) x rest all was left out0 out1 out2 past spelled at lined of_bytes took grew means here reads =
-    let h = rest_on (Err (Refused line number)) (meaning_of x) (length (lines x)) all None at out0 out1 out2 grew here in
+conclude (Err (Refused line number)) x rest shown was left out0 out1 out2 past spelled at lined of_bytes took grew means here reads =
+    let h = rest_on (Err (Refused line number)) (meaning_of x) (length (lines x)) shown None at out0 out1 out2 grew here in
     (subst (Appends out0 out2) (sym h.1.is) h.1.wrote, h.0, subst (Consumes was left) (sym reads) took)
-conclude (Err Read) x rest all was left out0 out1 out2 past spelled at lined of_bytes took grew means here reads = absurd here
-conclude (Err Write) x rest all was left out0 out1 out2 past spelled at lined of_bytes took grew means here reads =
-    let h = rest_on (Err Write) (meaning_of x) (length (lines x)) all None at out0 out1 out2 grew here in
-    (subst (AppendsPart out0 out2) (sym h.is) h.wrote, stopped_in_line x rest all was left out0 out1 out2 past spelled at (meaning_of x) lined of_bytes took grew means here reads)
-conclude (Err Memory) x rest all was left out0 out1 out2 past spelled at lined of_bytes took grew means here reads =
-    let h = rest_on (Err Memory) (meaning_of x) (length (lines x)) all None at out0 out1 out2 grew here in
-    (subst (AppendsPart out0 out2) (sym h.is) h.wrote, stopped_in_line x rest all was left out0 out1 out2 past spelled at (meaning_of x) lined of_bytes took grew means here reads)
+conclude (Err Read) x rest shown was left out0 out1 out2 past spelled at lined of_bytes took grew means here reads = absurd here
+conclude (Err Write) x rest shown was left out0 out1 out2 past spelled at lined of_bytes took grew means here reads =
+    let h = rest_on (Err Write) (meaning_of x) (length (lines x)) shown None at out0 out1 out2 grew here in
+    (subst (AppendsPart out0 out2) (sym h.is) h.wrote, stopped_in_line x rest shown was left out0 out1 out2 past spelled at (meaning_of x) lined of_bytes took grew means here reads)
+conclude (Err Memory) x rest shown was left out0 out1 out2 past spelled at lined of_bytes took grew means here reads =
+    let h = rest_on (Err Memory) (meaning_of x) (length (lines x)) shown None at out0 out1 out2 grew here in
+    (subst (AppendsPart out0 out2) (sym h.is) h.wrote, stopped_in_line x rest shown was left out0 out1 out2 past spelled at (meaning_of x) lined of_bytes took grew means here reads)
 
-module _ {P : Type 0} {g : Ghosts P} (all : Bool) (player : Option (Player P g)) (in0 in1 out0 out1 : Option (List ℕ)) (n : ℕ) (run : HasRun all player in0 in1 out0 out1 n) where
+module _ {P : Type 0} {g : Ghosts P} (shown : Shown) (player : Option (Player P g)) (in0 in1 out0 out1 : Option (List ℕ)) (n : ℕ) (run : HasRun shown player in0 in1 out0 out1 n) where
   -- the lines that are left mean what all of them mean
   left_means : (y : List ℕ) → meaning_of (unlines run.past ++ y) ≡ meaning_from (lines y) n run.at
   left_means y = ap (λ ls. meaning_from ls 1 None) (lines_after run.past y run.whole) ∙ run.means (lines y)
@@ -178,17 +179,17 @@ module _ {P : Type 0} {g : Ghosts P} (all : Bool) (player : Option (Player P g))
 
   -- y is left, of which a part is read
   exit : (r : Result Outcome SceneFault) (in2 out2 : Option (List ℕ)) (spelled rest y : List ℕ) (ls : List (List ℕ)) → y ≡ spelled ++ rest → Consumes in1 in2 spelled → AreBytesOf in1 y → lines y ≡ ls
-      → RanRest r (meaning_from ls n run.at) (n - 1 + length ls) all run.at out1 out2 → ReadsFor r (unlines run.past ++ y) (unlines run.past ++ spelled) spelled → Ran r all in0 in2 out0 out2
+      → RanRest r (meaning_from ls n run.at) (n - 1 + length ls) shown run.at out1 out2 → ReadsFor r (unlines run.past ++ y) (unlines run.past ++ spelled) spelled → RanShown r shown in0 in2 out0 out2
   exit r in2 out2 spelled rest y ls begins took of_y is tells reads =
       let x = unlines run.past ++ y in
       let m = meaning_from (lines y) n run.at in
-      let here : RanRest r m (n - 1 + length (lines y)) all run.at out1 out2 = subst (λ ls. RanRest r (meaning_from ls n run.at) (n - 1 + length ls) all run.at out1 out2) (sym is) tells in
-      let counted : RanRest r m (length (lines x)) all run.at out1 out2 = subst (λ k. RanRest r m k all run.at out1 out2) (left_count y) here in
+      let here : RanRest r m (n - 1 + length (lines y)) shown run.at out1 out2 = subst (λ ls. RanRest r (meaning_from ls n run.at) (n - 1 + length ls) shown run.at out1 out2) (sym is) tells in
+      let counted : RanRest r m (length (lines x)) shown run.at out1 out2 = subst (λ k. RanRest r m k shown run.at out1 out2) (left_count y) here in
       record {
         bytes = x;
         of_input = all_bytes in0 in1 (unlines run.past) y run.took of_y;
-        ran = conclude r x rest all in0 in2 out0 out1 out2 run.past spelled run.at run.whole (of_parts spelled rest y begins) (Consumes-trans in0 in1 in2 _ _ run.took took) run.grew past_scene
-            (subst (λ (w : Meaning). RanRest r w (length (lines x)) all run.at out1 out2) (sym (left_means y)) counted) reads;
+        ran = conclude r x rest shown in0 in2 out0 out1 out2 run.past spelled run.at run.whole (of_parts spelled rest y begins) (Consumes-trans in0 in1 in2 _ _ run.took took) run.grew past_scene
+            (subst (λ (w : Meaning). RanRest r w (length (lines x)) shown run.at out1 out2) (sym (left_means y)) counted) reads;
       }
 
   -- line n is refused: what shows that
@@ -198,8 +199,8 @@ module _ {P : Type 0} {g : Ghosts P} (all : Bool) (player : Option (Player P g))
   -- ---- a line with its newline
 
   pub left_refused : (e : SceneFault) (is : Option (Player P g)) (in2 out2 out3 : Option (List ℕ)) (limit : ℕ) (l line : List ℕ) (end : LineEnd) (found : Option Refusal) (k : Refusal)
-      → GivesLine end limit line in1 in2 → end ≡ Newline → l ≡ line → limit ≡ limit_of n → found ≡ Some k → TakesFor (step n run.at l) all run.at is found out1 out2 → WroteRefusal e n k out2 out3
-      → Ran (Err e) all in0 in2 out0 out3
+      → GivesLine end limit line in1 in2 → end ≡ Newline → l ≡ line → limit ≡ limit_of n → found ≡ Some k → TakesFor (step n run.at l) shown run.at is found out1 out2 → WroteRefusal e n k out2 out3
+      → RanShown (Err e) shown in0 in2 out0 out3
   left_refused e is in2 out2 out3 limit l line end found k got ends same limited some took tells =
       let h : HasNoNewline l = subst HasNoNewline (sym same) got.whole in
       let read : Consumes in1 in2 (l ++ 10 ∷ []) = subst (λ l. Consumes in1 in2 (l ++ 10 ∷ [])) (sym same) (as_newline end line in1 in2 ends got.taken) in
@@ -207,24 +208,24 @@ module _ {P : Type 0} {g : Ghosts P} (all : Bool) (player : Option (Player P g))
       let known = known_rest in1 in2 (l ++ 10 ∷ []) read in
       let y = (l ++ 10 ∷ []) ++ known.0 in
       exit (Err e) in2 out3 (l ++ 10 ∷ []) known.0 y (l ∷ lines known.0) refl read known.1 (line_first l known.0 h)
-      (line_stops e l (lines known.0) n (n - 1 + length (l ∷ lines known.0)) all run.at is found k out1 out2 out3 some took tells)
+      (line_stops e l (lines known.0) n (n - 1 + length (l ∷ lines known.0)) shown run.at is found k out1 out2 out3 some took tells)
       (reads_refused e (unlines run.past ++ y) _ _ n k (refused_at y l (lines known.0) k (line_first l known.0 h) (took.refused ∙ some))
       (shown_with_newline run.past n l known.0 run.whole run.count h short) (record { line = l; unlined = h; is = inr refl }))
 
   pub left_failed : (fault : SceneFault) (in2 out2 : Option (List ℕ)) (limit : ℕ) (l line : List ℕ) (end : LineEnd)
-      → GivesLine end limit line in1 in2 → end ≡ Newline → l ≡ line → FailsIn (step n run.at l) all run.at fault out1 out2 → Ran (Err fault) all in0 in2 out0 out2
+      → GivesLine end limit line in1 in2 → end ≡ Newline → l ≡ line → FailsIn (step n run.at l) shown run.at fault out1 out2 → RanShown (Err fault) shown in0 in2 out0 out2
   left_failed fault in2 out2 limit l line end got ends same failed =
       let h : HasNoNewline l = subst HasNoNewline (sym same) got.whole in
       let read : Consumes in1 in2 (l ++ 10 ∷ []) = subst (λ l. Consumes in1 in2 (l ++ 10 ∷ [])) (sym same) (as_newline end line in1 in2 ends got.taken) in
       let known = known_rest in1 in2 (l ++ 10 ∷ []) read in
       exit (Err fault) in2 out2 (l ++ 10 ∷ []) known.0 ((l ++ 10 ∷ []) ++ known.0) (l ∷ lines known.0) refl read known.1 (line_first l known.0 h)
-      (line_fails fault l (lines known.0) n (n - 1 + length (l ∷ lines known.0)) all run.at out1 out2 failed)
+      (line_fails fault l (lines known.0) n (n - 1 + length (l ∷ lines known.0)) shown run.at out1 out2 failed)
       (reads_failed fault _ _ _ failed.kind (record { line = l; unlined = h; is = inr refl }))
 
   -- ---- a line that is too long
 
   pub left_too_long : (e : SceneFault) (in2 out2 : Option (List ℕ)) (limit : ℕ) (line : List ℕ) (end : LineEnd) (k : Refusal)
-      → GivesLine end limit line in1 in2 → end ≡ TooLong → limit ≡ limit_of n → k ≡ too_long n → WroteRefusal e n k out1 out2 → Ran (Err e) all in0 in2 out0 out2
+      → GivesLine end limit line in1 in2 → end ≡ TooLong → limit ≡ limit_of n → k ≡ too_long n → WroteRefusal e n k out1 out2 → RanShown (Err e) shown in0 in2 out0 out2
   left_too_long e in2 out2 limit line end k got ends limited is tells =
       let beyond : length line ≡ limit + 1 = subst (λ end. HasLength end limit line) ends got.has_length in
       let long : limit_of n < length line = omega (arith, beyond, limited) in
@@ -237,13 +238,13 @@ module _ {P : Type 0} {g : Ghosts P} (all : Bool) (player : Option (Player P g))
       let means : meaning_from (l ∷ first.others) n run.at ≡ meaning run.at (Some (refusal_at n k)) =
       meaning_stops l first.others n run.at k (ap (λ (s : Step). s.refusal) stop) ∙ ap (λ (s : Step). meaning s.scene (Some (refusal_at n k))) stop in
       exit (Err e) in2 out2 line known.0 y (l ∷ first.others) refl read known.1 first.is
-      (refused_rest e all run.at (meaning_from (l ∷ first.others) n run.at) (n - 1 + length (l ∷ first.others)) n k out1 out2 means tells)
+      (refused_rest e shown run.at (meaning_from (l ∷ first.others) n run.at) (n - 1 + length (l ∷ first.others)) n k out1 out2 means tells)
       (reads_refused e (unlines run.past ++ y) _ _ n k (refused_at y l first.others k first.is (ap (λ (s : Step). s.refusal) stop))
       (shown_too_long run.past n line known.0 run.whole run.count got.whole (omega (arith, beyond, limited))) (record { line = line; unlined = got.whole; is = inl refl }))
 
   -- ---- the end of the input
 
-  reads_last : (r : Result Outcome SceneFault) (l : List ℕ) (count : ℕ) (out2 : Option (List ℕ)) → HasNoNewline l → length l ≤ limit_of n → RanRest r (meaning_from (lines l) n run.at) count all run.at out1 out2 → ReadsFor r (unlines run.past ++ l) (unlines run.past ++ l) l
+  reads_last : (r : Result Outcome SceneFault) (l : List ℕ) (count : ℕ) (out2 : Option (List ℕ)) → HasNoNewline l → length l ≤ limit_of n → RanRest r (meaning_from (lines l) n run.at) count shown run.at out1 out2 → ReadsFor r (unlines run.past ++ l) (unlines run.past ++ l) l
   reads_last (Ok o) l count out2 h short tells = ap (λ refused. read_of refused (unlines run.past ++ l)) (ap (λ (m : Meaning). m.refused) (left_means l) ∙ tells.0.accepted)
   reads_last (Err (Refused line number)) l count out2 h short tells =
       ap (λ refused. read_of refused (unlines run.past ++ l)) (ap (λ (m : Meaning). m.refused) (left_means l) ∙ tells.0.first)
@@ -259,7 +260,7 @@ module _ {P : Type 0} {g : Ghosts P} (all : Bool) (player : Option (Player P g))
   ] at_end
 
   pub left_last : (r : Result Outcome SceneFault) (in2 out2 : Option (List ℕ)) (limit : ℕ) (l line : List ℕ) (end : LineEnd)
-      → GivesLine end limit line in1 in2 → end ≡ EndOfInput → l ≡ line → limit ≡ limit_of n → RanRest r (meaning_from (lines l) n run.at) (n - 1 + length (lines l)) all run.at out1 out2 → Ran r all in0 in2 out0 out2
+      → GivesLine end limit line in1 in2 → end ≡ EndOfInput → l ≡ line → limit ≡ limit_of n → RanRest r (meaning_from (lines l) n run.at) (n - 1 + length (lines l)) shown run.at out1 out2 → RanShown r shown in0 in2 out0 out2
   left_last r in2 out2 limit l line end got ends same limited tells =
       let h : HasNoNewline l = subst HasNoNewline (sym same) got.whole in
       let read : Consumes in1 in2 l = subst (Consumes in1 in2) (sym same) (subst (λ end. Consumes in1 in2 (spelling end line)) ends got.taken) in
@@ -268,17 +269,17 @@ module _ {P : Type 0} {g : Ghosts P} (all : Bool) (player : Option (Player P g))
 
   -- ---- a failed read
 
-  written_part : (y : List ℕ) → AppendsPart out0 out1 (output (unlines run.past ++ y) all)
+  written_part : (y : List ℕ) → AppendsPart out0 out1 (output_shown (unlines run.past ++ y) shown)
   written_part y =
-      let front = front_of_meaning all (lines y) n run.at in
+      let front = front_of_meaning shown (lines y) n run.at in
       record {
         front = run.grew.text;
         rest = front.rest;
-        whole = ap (text_of all) (left_means y) ∙ front.is ∙ ap (λ t. t ++ front.rest) run.grew.more;
+        whole = ap (text_of shown) (left_means y) ∙ front.is ∙ ap (λ t. t ++ front.rest) run.grew.more;
         wrote = run.grew.wrote;
       }
 
-  pub left_read : (e : SceneFault) (in2 : Option (List ℕ)) → IsFaultOfReading e → GivesPart in1 in2 → Ran (Err e) all in0 in2 out0 out1
+  pub left_read : (e : SceneFault) (in2 : Option (List ℕ)) → IsFaultOfReading e → GivesPart in1 in2 → RanShown (Err e) shown in0 in2 out0 out1
   left_read (Refused line number) in2 kind got = absurd kind
   left_read Read in2 kind got =
       let known = known_rest in1 in2 got.part got.taken in
@@ -295,7 +296,7 @@ module _ {P : Type 0} {g : Ghosts P} (all : Bool) (player : Option (Player P g))
             unlined = got.whole;
             of_bytes = of_parts got.part known.0 (got.part ++ known.0) refl;
             read = Consumes-trans in0 in1 in2 _ _ run.took got.taken;
-            wrote = subst (Appends out0 out1) (sym (ap (log_text all) past_scene ∙ run.grew.more)) run.grew.wrote;
+            wrote = subst (Appends out0 out1) (sym (ap (log_text shown) past_scene ∙ run.grew.more)) run.grew.wrote;
           },
         );
       }
@@ -303,7 +304,7 @@ module _ {P : Type 0} {g : Ghosts P} (all : Bool) (player : Option (Player P g))
   left_read Memory in2 kind got =
       let known = known_rest in1 in2 got.part got.taken in
       let y = got.part ++ known.0 in
-      let front = front_of_meaning all (lines y) n run.at in
+      let front = front_of_meaning shown (lines y) n run.at in
       exit (Err Memory) in2 out1 got.part known.0 y (lines y) refl got.taken known.1 refl
       (record { rest = front.rest; is = front.is; wrote = record { front = []; rest = front.rest; whole = refl; wrote = Appends-nil out1 } })
       (record { line = got.part; unlined = got.whole; is = inl refl })

@@ -1,40 +1,40 @@
 -- Whole seconds, one after another.
-use Rattle.std.proofs.Common.{◌≡◌, ℕ, zero, suc, ◌+◌, ◌-◌, ◌<◌, Bool, List, [], ◌∷◌, ◌++◌, Option, Some, None, refl, ap, sym, subst, ◌∙◌, arith, append-nil, append_assoc, is_some, true, false}
+use Rattle.std.proofs.Common.{◌≡◌, ℕ, zero, suc, ◌+◌, ◌-◌, ◌<◌, List, [], ◌∷◌, ◌++◌, Option, Some, None, refl, ap, sym, subst, ◌∙◌, arith, append-nil, append_assoc, is_some, true, false}
 use Rattle.std.specs.Prelude.{option_and_then}
 use Rattle.std.proofs.KnownBytes.{Appends-trans, Appends-nil}
 use Rattle.irig_plant.specs.declared.event.Event.{Event}
-use Rattle.irig_plant.specs.Schedule.{Setup, log_of}
+use Rattle.irig_plant.specs.Schedule.{Setup}
 use Rattle.irig_plant.specs.Refusals.{refusal}
 use Rattle.irig_port.specs.declared.port.Port.{Ghosts}
 use Rattle.irig_plant.specs.declared.plant.Plant.{Plant}
 use Rattle.irig_plant.specs.History.{HasPlantHistory}
 use Rattle.irig_forms.specs.declared.refusal.Refusal.{Refusal}
+use Rattle.irig_scene.specs.declared.shown.Shown.{Shown}
 use Rattle.irig_scene.specs.Scene.{refusal_as}
 use Rattle.irig_plant.specs.WholeSecond.{times}
 use Rattle.irig_scene.specs.Scene.{Scene, scene, Play, play, unless_refused, log_text}
 use Rattle.irig_scene.specs.PlayerRuns.{past, after_events, Grew, GrewPart, PlaysFor}
-use Rattle.irig_scene.specs.Text.{entries_text}
-use Rattle.irig_scene.proofs.TextLaws.{entries_join}
-use Rattle.irig_scene.proofs.PlayLaws.{LogGrows, log_keeps, grows_by_play}
+use Rattle.irig_scene.specs.Text.{lines_text}
+use Rattle.irig_scene.proofs.PlayLaws.{LogGrows, log_keeps, grows_by_play, lines_grow}
 
 -- ---- the output
 
-pub nothing_grew : (all : Bool) (a : Option Scene) (out : Option (List ℕ)) → Grew all a a out out
-nothing_grew all a out = record { text = []; more = sym (append-nil (log_text all a)); wrote = Appends-nil out }
+pub nothing_grew : (shown : Shown) (a : Option Scene) (out : Option (List ℕ)) → Grew shown a a out out
+nothing_grew shown a out = record { text = []; more = sym (append-nil (log_text shown a)); wrote = Appends-nil out }
 
-pub grew_on : (all : Bool) (a b c : Option Scene) (o0 o1 o2 : Option (List ℕ)) → Grew all a b o0 o1 → Grew all b c o1 o2 → Grew all a c o0 o2
-grew_on all a b c o0 o1 o2 h k =
+pub grew_on : (shown : Shown) (a b c : Option Scene) (o0 o1 o2 : Option (List ℕ)) → Grew shown a b o0 o1 → Grew shown b c o1 o2 → Grew shown a c o0 o2
+grew_on shown a b c o0 o1 o2 h k =
     record {
       text = h.text ++ k.text;
-      more = k.more ∙ ap (λ t. t ++ k.text) h.more ∙ append_assoc (log_text all a) h.text k.text;
+      more = k.more ∙ ap (λ t. t ++ k.text) h.more ∙ append_assoc (log_text shown a) h.text k.text;
       wrote = Appends-trans o0 o1 o2 _ _ h.wrote k.wrote;
     }
 
-pub grew_then_part : (all : Bool) (a b c : Option Scene) (o0 o1 o2 : Option (List ℕ)) → Grew all a b o0 o1 → GrewPart all b c o1 o2 → GrewPart all a c o0 o2
-grew_then_part all a b c o0 o1 o2 h k =
+pub grew_then_part : (shown : Shown) (a b c : Option Scene) (o0 o1 o2 : Option (List ℕ)) → Grew shown a b o0 o1 → GrewPart shown b c o1 o2 → GrewPart shown a c o0 o2
+grew_then_part shown a b c o0 o1 o2 h k =
     record {
       text = h.text ++ k.text;
-      more = k.more ∙ ap (λ t. t ++ k.text) h.more ∙ append_assoc (log_text all a) h.text k.text;
+      more = k.more ∙ ap (λ t. t ++ k.text) h.more ∙ append_assoc (log_text shown a) h.text k.text;
       wrote = record {
         front = h.text ++ k.wrote.front;
         rest = k.wrote.rest;
@@ -43,11 +43,11 @@ grew_then_part all a b c o0 o1 o2 h k =
       };
     }
 
-pub part_of_more : (all : Bool) (a b c : Option Scene) (o0 o1 : Option (List ℕ)) (rest : List ℕ) → GrewPart all a b o0 o1 → log_text all c ≡ log_text all b ++ rest → GrewPart all a c o0 o1
-part_of_more all a b c o0 o1 rest h e =
+pub part_of_more : (shown : Shown) (a b c : Option Scene) (o0 o1 : Option (List ℕ)) (rest : List ℕ) → GrewPart shown a b o0 o1 → log_text shown c ≡ log_text shown b ++ rest → GrewPart shown a c o0 o1
+part_of_more shown a b c o0 o1 rest h e =
     record {
       text = h.text ++ rest;
-      more = e ∙ ap (λ t. t ++ rest) h.more ∙ append_assoc (log_text all a) h.text rest;
+      more = e ∙ ap (λ t. t ++ rest) h.more ∙ append_assoc (log_text shown a) h.text rest;
       wrote = record {
         front = h.wrote.front;
         rest = h.wrote.rest ++ rest;
@@ -107,73 +107,73 @@ grows_past s a b ev (Some r) h =
 
 -- ---- a plant
 
-plays_alike : {P : Type 0} {g : Ghosts P} (x : Scene) (a b : List Event) (all : Bool) (p : Plant P g) (k : Option Refusal) (o0 o1 : Option (List ℕ))
-    → play x.plan.setup a x.events ≡ play x.plan.setup b x.events → PlaysFor x a all p k o0 o1 → PlaysFor x b all p k o0 o1
-plays_alike x a b all p k o0 o1 e h =
+plays_alike : {P : Type 0} {g : Ghosts P} (x : Scene) (a b : List Event) (shown : Shown) (p : Plant P g) (k : Option Refusal) (o0 o1 : Option (List ℕ))
+    → play x.plan.setup a x.events ≡ play x.plan.setup b x.events → PlaysFor x a shown p k o0 o1 → PlaysFor x b shown p k o0 o1
+plays_alike x a b shown p k o0 o1 e h =
     record {
       refused = ap (λ (q : Play). q.refusal) (sym e) ∙ h.refused;
-      stands = subst (λ (q : Play). HasPlantHistory p (past (scene x.plan q.events))) e h.stands;
-      grew = subst (λ (q : Play). Grew all (Some x) (Some (scene x.plan q.events)) o0 o1) e h.grew;
+      stands = subst (λ (q : Play). HasPlantHistory p (past shown (scene x.plan q.events))) e h.stands;
+      grew = subst (λ (q : Play). Grew shown (Some x) (Some (scene x.plan q.events)) o0 o1) e h.grew;
     }
 
 -- and then others
-then_plays : {P : Type 0} {g : Ghosts P} (x : Scene) (a b : List Event) (all : Bool) (p q : Plant P g) (k : Option Refusal) (o0 o1 o2 : Option (List ℕ))
-    → PlaysFor x a all p None o0 o1 → PlaysFor (after_events x a) b all q k o1 o2 → PlaysFor x (a ++ b) all q k o0 o2
-then_plays x a b all p q k o0 o1 o2 h l =
+then_plays : {P : Type 0} {g : Ghosts P} (x : Scene) (a b : List Event) (shown : Shown) (p q : Plant P g) (k : Option Refusal) (o0 o1 o2 : Option (List ℕ))
+    → PlaysFor x a shown p None o0 o1 → PlaysFor (after_events x a) b shown q k o1 o2 → PlaysFor x (a ++ b) shown q k o0 o2
+then_plays x a b shown p q k o0 o1 o2 h l =
     let s = x.plan.setup in
     let e = sym (plays_on s a b x.events h.refused) in
     record {
       refused = ap (λ (r : Play). r.refusal) (sym e) ∙ l.refused;
-      stands = subst (λ (r : Play). HasPlantHistory q (past (scene x.plan r.events))) e l.stands;
-      grew = subst (λ (r : Play). Grew all (Some x) (Some (scene x.plan r.events)) o0 o2) e
-          (grew_on all (Some x) (Some (after_events x a)) (Some (after_events (after_events x a) b)) o0 o1 o2 h.grew l.grew);
+      stands = subst (λ (r : Play). HasPlantHistory q (past shown (scene x.plan r.events))) e l.stands;
+      grew = subst (λ (r : Play). Grew shown (Some x) (Some (scene x.plan r.events)) o0 o2) e
+          (grew_on shown (Some x) (Some (after_events x a)) (Some (after_events (after_events x a) b)) o0 o1 o2 h.grew l.grew);
     }
 
-fails_on : {P : Type 0} {g : Ghosts P} (x : Scene) (a b rest : List Event) (all : Bool) (p : Plant P g) (o0 o1 o2 : Option (List ℕ))
-    → PlaysFor x a all p None o0 o1 → GrewPart all (Some (after_events x a)) (Some (after_events (after_events x a) b)) o1 o2
-    → GrewPart all (Some x) (Some (after_events x ((a ++ b) ++ rest))) o0 o2
-fails_on x a b rest all p o0 o1 o2 h l =
+fails_on : {P : Type 0} {g : Ghosts P} (x : Scene) (a b rest : List Event) (shown : Shown) (p : Plant P g) (o0 o1 o2 : Option (List ℕ))
+    → PlaysFor x a shown p None o0 o1 → GrewPart shown (Some (after_events x a)) (Some (after_events (after_events x a) b)) o1 o2
+    → GrewPart shown (Some x) (Some (after_events x ((a ++ b) ++ rest))) o0 o2
+fails_on x a b rest shown p o0 o1 o2 h l =
     let s = x.plan.setup in
-    let part = grew_then_part all (Some x) (Some (after_events x a)) (Some (after_events (after_events x a) b)) o0 o1 o2 h.grew l in
-    let here = subst (λ (r : Play). GrewPart all (Some x) (Some (scene x.plan r.events)) o0 o2) (sym (plays_on s a b x.events h.refused)) part in
+    let part = grew_then_part shown (Some x) (Some (after_events x a)) (Some (after_events (after_events x a) b)) o0 o1 o2 h.grew l in
+    let here = subst (λ (r : Play). GrewPart shown (Some x) (Some (scene x.plan r.events)) o0 o2) (sym (plays_on s a b x.events h.refused)) part in
     let grown = grows_past s (a ++ b) rest x.events (play s (a ++ b) x.events).refusal refl in
-    part_of_more all (Some x) (Some (after_events x (a ++ b))) (Some (after_events x ((a ++ b) ++ rest))) o0 o2 (entries_text x.plan.names all grown.more) here
-    (ap (entries_text x.plan.names all) grown.is ∙ entries_join x.plan.names all (log_of s (play s (a ++ b) x.events).events) grown.more)
+    part_of_more shown (Some x) (Some (after_events x (a ++ b))) (Some (after_events x ((a ++ b) ++ rest))) o0 o2 (lines_text x.plan.names shown grown.more grown.told) here
+    (lines_grow (after_events x (a ++ b)) (after_events x ((a ++ b) ++ rest)).events shown grown)
 
 -- ---- whole seconds
 
-pub no_second : {P : Type 0} {g : Ghosts P} (x : Scene) (es : List Event) (all : Bool) (p : Plant P g) (out : Option (List ℕ)) → HasPlantHistory p (past x) → PlaysFor x (times 0 es) all p None out out
-no_second x es all p out h = record { refused = refl; stands = h; grew = nothing_grew all (Some x) out }
+pub no_second : {P : Type 0} {g : Ghosts P} (x : Scene) (es : List Event) (shown : Shown) (p : Plant P g) (out : Option (List ℕ)) → HasPlantHistory p (past shown x) → PlaysFor x (times 0 es) shown p None out out
+no_second x es shown p out h = record { refused = refl; stands = h; grew = nothing_grew shown (Some x) out }
 
-second_more : {P : Type 0} {g : Ghosts P} (x : Scene) (i : ℕ) (es : List Event) (all : Bool) (p q : Plant P g) (o0 o1 o2 : Option (List ℕ))
-    → PlaysFor x (times i es) all p None o0 o1 → PlaysFor (after_events x (times i es)) es all q None o1 o2 → PlaysFor x (times (i + 1) es) all q None o0 o2
-second_more x i es all p q o0 o1 o2 h l =
-    plays_alike x (times i es ++ es) (times (i + 1) es) all q None o0 o2
+second_more : {P : Type 0} {g : Ghosts P} (x : Scene) (i : ℕ) (es : List Event) (shown : Shown) (p q : Plant P g) (o0 o1 o2 : Option (List ℕ))
+    → PlaysFor x (times i es) shown p None o0 o1 → PlaysFor (after_events x (times i es)) es shown q None o1 o2 → PlaysFor x (times (i + 1) es) shown q None o0 o2
+second_more x i es shown p q o0 o1 o2 h l =
+    plays_alike x (times i es ++ es) (times (i + 1) es) shown q None o0 o2
     (ap (λ more. play x.plan.setup more x.events) (sym (one_time_more i es)))
-    (then_plays x (times i es) es all p q None o0 o1 o2 h l)
+    (then_plays x (times i es) es shown p q None o0 o1 o2 h l)
 
-stops_at : {P : Type 0} {g : Ghosts P} (x : Scene) (i n : ℕ) (es : List Event) (all : Bool) (p q : Plant P g) (r : Refusal) (o0 o1 o2 : Option (List ℕ)) → i < n
-    → PlaysFor x (times i es) all p None o0 o1 → PlaysFor (after_events x (times i es)) es all q (Some r) o1 o2 → PlaysFor x (times n es) all q (Some r) o0 o2
-stops_at x i n es all p q r o0 o1 o2 lt h l =
-    let both = then_plays x (times i es) es all p q (Some r) o0 o1 o2 h l in
-    plays_alike x (times i es ++ es) (times n es) all q (Some r) o0 o2
+stops_at : {P : Type 0} {g : Ghosts P} (x : Scene) (i n : ℕ) (es : List Event) (shown : Shown) (p q : Plant P g) (r : Refusal) (o0 o1 o2 : Option (List ℕ)) → i < n
+    → PlaysFor x (times i es) shown p None o0 o1 → PlaysFor (after_events x (times i es)) es shown q (Some r) o1 o2 → PlaysFor x (times n es) shown q (Some r) o0 o2
+stops_at x i n es shown p q r o0 o1 o2 lt h l =
+    let both = then_plays x (times i es) es shown p q (Some r) o0 o1 o2 h l in
+    plays_alike x (times i es ++ es) (times n es) shown q (Some r) o0 o2
     (sym (ap (λ more. play x.plan.setup more x.events) (times_left i n es lt) ∙ plays_no_further x.plan.setup (times i es ++ es) (times (n - (i + 1)) es) x.events r both.refused))
     both
 
-pub second_stops : {P : Type 0} {g : Ghosts P} (x : Scene) (i n : ℕ) (es : List Event) (all : Bool) (p q : Plant P g) (k : Option Refusal) (o0 o1 o2 : Option (List ℕ)) → i < n → is_some k ≡ true
-    → PlaysFor x (times i es) all p None o0 o1 → PlaysFor (after_events x (times i es)) es all q k o1 o2 → PlaysFor x (times n es) all q k o0 o2
-second_stops x i n es all p q None o0 o1 o2 lt some h l = absurd cc
-second_stops x i n es all p q (Some r) o0 o1 o2 lt some h l = stops_at x i n es all p q r o0 o1 o2 lt h l
+pub second_stops : {P : Type 0} {g : Ghosts P} (x : Scene) (i n : ℕ) (es : List Event) (shown : Shown) (p q : Plant P g) (k : Option Refusal) (o0 o1 o2 : Option (List ℕ)) → i < n → is_some k ≡ true
+    → PlaysFor x (times i es) shown p None o0 o1 → PlaysFor (after_events x (times i es)) es shown q k o1 o2 → PlaysFor x (times n es) shown q k o0 o2
+second_stops x i n es shown p q None o0 o1 o2 lt some h l = absurd cc
+second_stops x i n es shown p q (Some r) o0 o1 o2 lt some h l = stops_at x i n es shown p q r o0 o1 o2 lt h l
 
-pub second_goes : {P : Type 0} {g : Ghosts P} (x : Scene) (i : ℕ) (es : List Event) (all : Bool) (p q : Plant P g) (k : Option Refusal) (o0 o1 o2 : Option (List ℕ)) → is_some k ≡ false
-    → PlaysFor x (times i es) all p None o0 o1 → PlaysFor (after_events x (times i es)) es all q k o1 o2 → PlaysFor x (times (i + 1) es) all q None o0 o2
-second_goes x i es all p q None o0 o1 o2 none h l = second_more x i es all p q o0 o1 o2 h l
-second_goes x i es all p q (Some r) o0 o1 o2 none h l = absurd cc
+pub second_goes : {P : Type 0} {g : Ghosts P} (x : Scene) (i : ℕ) (es : List Event) (shown : Shown) (p q : Plant P g) (k : Option Refusal) (o0 o1 o2 : Option (List ℕ)) → is_some k ≡ false
+    → PlaysFor x (times i es) shown p None o0 o1 → PlaysFor (after_events x (times i es)) es shown q k o1 o2 → PlaysFor x (times (i + 1) es) shown q None o0 o2
+second_goes x i es shown p q None o0 o1 o2 none h l = second_more x i es shown p q o0 o1 o2 h l
+second_goes x i es shown p q (Some r) o0 o1 o2 none h l = absurd cc
 
-pub second_fails : {P : Type 0} {g : Ghosts P} (x : Scene) (i n : ℕ) (es : List Event) (all : Bool) (p : Plant P g) (o0 o1 o2 : Option (List ℕ)) → i < n
-    → PlaysFor x (times i es) all p None o0 o1
-    → GrewPart all (Some (after_events x (times i es))) (Some (after_events (after_events x (times i es)) es)) o1 o2
-    → GrewPart all (Some x) (Some (after_events x (times n es))) o0 o2
-second_fails x i n es all p o0 o1 o2 lt h part =
-    subst (λ more. GrewPart all (Some x) (Some (after_events x more)) o0 o2) (sym (times_left i n es lt))
-    (fails_on x (times i es) es (times (n - (i + 1)) es) all p o0 o1 o2 h part)
+pub second_fails : {P : Type 0} {g : Ghosts P} (x : Scene) (i n : ℕ) (es : List Event) (shown : Shown) (p : Plant P g) (o0 o1 o2 : Option (List ℕ)) → i < n
+    → PlaysFor x (times i es) shown p None o0 o1
+    → GrewPart shown (Some (after_events x (times i es))) (Some (after_events (after_events x (times i es)) es)) o1 o2
+    → GrewPart shown (Some x) (Some (after_events x (times n es))) o0 o2
+second_fails x i n es shown p o0 o1 o2 lt h part =
+    subst (λ more. GrewPart shown (Some x) (Some (after_events x more)) o0 o2) (sym (times_left i n es lt))
+    (fails_on x (times i es) es (times (n - (i + 1)) es) shown p o0 o1 o2 h part)

@@ -1,6 +1,6 @@
 -- What is written tells the truth, where the premises hold.
-use Rattle.std.proofs.Common.{◌≡◌, ◌≢◌, ℕ, ◌+◌, ◌^◌, ◌<◌, Bool, true, false, cond, List, [], ◌∷◌, ◌++◌, length, map, All, Option, Some, None, Result, Ok, Err, refl, ap, sym, subst, ◌∙◌, append_assoc, nat_lt, arith, codes}
-use Rattle.std.specs.Prelude.{⊤, option_and_then, is_some, filter, ◌||◌}
+use Rattle.std.proofs.Common.{◌≡◌, ◌≢◌, ℕ, ◌+◌, ◌^◌, ◌<◌, Bool, true, false, cond, List, [], ◌∷◌, ◌++◌, length, All, Option, Some, None, Result, Ok, Err, refl, ap, sym, subst, ◌∙◌, append_assoc, nat_lt, arith, codes}
+use Rattle.std.specs.Prelude.{⊤, option_and_then, is_some, slice_get}
 use Rattle.std.specs.List.{AllByRecursion}
 use Rattle.std.proofs.lemmas.List.Elements.{recursion_from_All, All-from_recursion}
 use Rattle.irig_time.specs.declared.second.UtcSecond.{UtcSecond}
@@ -10,28 +10,31 @@ use Rattle.irig_time.proofs.SecondAt.{second_is}
 use Rattle.irig_forms.specs.declared.refusal.Refusal.{Refusal}
 use Rattle.irig_plant.specs.declared.audit.Audit.TheVariants.{Kept}
 use Rattle.irig_plant.specs.declared.entry.Entry.{Entry}
+use Rattle.irig_plant.specs.declared.told_log.ToldEntry.{ToldEntry}
 use Rattle.irig_plant.specs.declared.event.Event.{Event}
 use Rattle.irig_plant.specs.declared.event.Event.TheVariants.{GenEdge, Tick, Carry, Damage, Replay, Raw, Fault, Repair, Restart}
 use Rattle.irig_plant.specs.declared.fault.PlantFault.TheVariants as plant
 use Rattle.irig_plant.specs.Refusals.{refusal}
 use Rattle.irig_hold.specs.Truth.{IsTrueTable}
-use Rattle.irig_plant.specs.Schedule.{Setup, setup_at, ticks_of, log_of}
-use Rattle.irig_plant.specs.Premises.{IsKeptUpTo, HasPremises, IsKept}
+use Rattle.irig_plant.specs.Schedule.{Setup, setup_at, ticks_of, log_of, told_log_of}
+use Rattle.irig_plant.specs.Premises.{IsKeptUpTo, IsKept}
 use Rattle.irig_plant.specs.Truth.{AnnouncesTruth, IsTruthful}
 use Rattle.irig_scenario.specs.declared.event_line.Command.{Command}
 use Rattle.irig_forms.specs.declared.refusal.Refusal.TheVariants as refusal
 use Rattle.irig_scenario.specs.EventLine.{command_in_line}
+use Rattle.irig_scene.specs.declared.shown.Shown.{Shown}
 use Rattle.irig_scene.specs.Lines.{lines, is_blank, max_line, max_lines}
-use Rattle.irig_scene.specs.Scene.{Scene, Play, play, unless_refused, refusal_as, events_of, step_to, step_of_plan, step_of_command, step_of_line, step, Meaning, Refused, unless_stopped, meaning_at_end, meaning_from, meaning_of, log_text, audit_in, ending_text, last_text, output}
-use Rattle.irig_scene.specs.Text.{time_shown_text, entry_text, entries_text, refusal_text}
-use Rattle.irig_scene.specs.LogLines.{whole_lines, Shows, ShowsNothing, IsTimeOf, IsTrueLine, IsTrueLineIfKept, TellsTruth, IsTrueLog, VouchesForItself}
+use Rattle.irig_scene.specs.Scene.{Scene, Play, play, unless_refused, refusal_as, events_of, step_to, step_of_plan, step_of_command, step_of_line, step, Meaning, Refused, unless_stopped, meaning_at_end, meaning_from, meaning_of, log_text, audit_in, ending_text, output_shown}
+use Rattle.irig_scene.specs.Text.{time_shown_text, refusal_text}
+use Rattle.irig_scene.specs.LogLines.{whole_lines, ShowsNothing, IsTimeOf, IsTrueLine, IsTrueLineIfKept, TellsTruth, IsTrueLog, VouchesForItself}
 use Rattle.irig_scenario.specs.PlantLine.{Plan, plan_in_line}
 use Rattle.irig_scenario.proofs.SoundPlans.{IsSound, plan_is_sound}
 use Rattle.irig_plant.proofs.Headline.{log_is_true}
 use Rattle.irig_plant.proofs.KeptLaws.{kept_log_is_true}
 use Rattle.irig_plant.proofs.AuditLaws.{kept_is}
 use Rattle.irig_scene.proofs.WordLaws.{AreNames, are_names_named}
-use Rattle.irig_scene.proofs.LogLaws.{all_left, all_at, all_join, all_map, all_filter, whole_front, entry_line, lines_of_entries, entry_shows, entry_digit}
+use Rattle.irig_scene.proofs.LogLaws.{all_left, all_at, all_join, whole_front, entry_line, entry_shows, entry_digit}
+use Rattle.irig_scene.proofs.RowLaws.{rows, lines_of_rows, each_row, port_row_shows_nothing}
 use Rattle.irig_scene.proofs.LastLines.{IsLastLine, refusal_last, audit_last}
 
 -- ---- events that were played
@@ -126,7 +129,7 @@ meaning_sound (l ∷ ls) n at h =
     let next = step_sound n at l h in
     unless_sound n (step n at l).scene (step n at l).refusal (meaning_from ls (n + 1) (step n at l).scene) next (meaning_sound ls (n + 1) (step n at l).scene next)
 
-scene_sound : (x : List ℕ) (at : Scene) → (meaning_of x).scene ≡ Some at → IsSoundAt at
+pub scene_sound : (x : List ℕ) (at : Scene) → (meaning_of x).scene ≡ Some at → IsSoundAt at
 scene_sound x at e = subst IsSoundScene e (meaning_sound (lines x) 1 None tt)
 
 pub lines_true : (x : List ℕ) (at : Scene) → (meaning_of x).scene ≡ Some at → IsKept at.plan.setup at.events → All (IsTruthful at.plan.setup.times) (log_of at.plan.setup at.events)
@@ -139,20 +142,23 @@ module _ (x : Scene) (names : AreNames x.plan.names) where
   abbrev log : List Entry
   log = log_of x.plan.setup x.events
 
-  log_lines : (all : Bool) (rest : List ℕ) → whole_lines (log_text all (Some x) ++ rest) ≡ map (entry_line x.plan.names) (filter (λ entry. all || is_some entry.report.announce) log) ++ whole_lines rest
-  unfolding entries_text
-  log_lines all rest = lines_of_entries x.plan.names (filter (λ entry. all || is_some entry.report.announce) log) rest names
+  abbrev told : List ToldEntry
+  told = told_log_of x.plan.setup x.events
+
+  log_lines : (shown : Shown) (rest : List ℕ) → whole_lines (log_text shown (Some x) ++ rest) ≡ rows x.plan.names shown log told ++ whole_lines rest
+  log_lines shown rest = lines_of_rows x.plan.names shown log told rest names
 
   last_is_last : (k : Option Refused) → AllByRecursion (IsLastLine x.plan.names (audit_in x ≡ Kept)) (whole_lines (ending_text k (Some x)))
   last_is_last (Some k) = refusal_last x.plan.names k.line k.refusal (audit_in x ≡ Kept)
   last_is_last None = audit_last x.plan.names (audit_in x) names
 
-  pub each_line : (all : Bool) (Fact : List ℕ → Type 0) (EntryFact : Entry → Type 0) (k : Option Refused) → ((e : Entry) → EntryFact e → Fact (entry_line x.plan.names e)) → ((l : List ℕ) → IsLastLine x.plan.names (audit_in x ≡ Kept) l → Fact l)
-      → AllByRecursion EntryFact log → AllByRecursion Fact (whole_lines (log_text all (Some x) ++ ending_text k (Some x)))
-  each_line all Fact EntryFact k entry last h =
-      subst (AllByRecursion Fact) (sym (log_lines all (ending_text k (Some x))))
-      (all_join Fact (map (entry_line x.plan.names) (filter (λ entry. all || is_some entry.report.announce) log)) (whole_lines (ending_text k (Some x)))
-      (all_map EntryFact Fact (entry_line x.plan.names) entry (filter (λ entry. all || is_some entry.report.announce) log) (all_filter EntryFact (λ entry. all || is_some entry.report.announce) log h))
+  pub each_line : (shown : Shown) (Fact : List ℕ → Type 0) (EntryFact : Entry → Type 0) (k : Option Refused) → ((e : Entry) → EntryFact e → Fact (entry_line x.plan.names e)) → ((l : List ℕ) → Fact (32 ∷ l))
+      → ((l : List ℕ) → IsLastLine x.plan.names (audit_in x ≡ Kept) l → Fact l)
+      → AllByRecursion EntryFact log → AllByRecursion Fact (whole_lines (log_text shown (Some x) ++ ending_text k (Some x)))
+  each_line shown Fact EntryFact k entry port last h =
+      subst (AllByRecursion Fact) (sym (log_lines shown (ending_text k (Some x))))
+      (all_join Fact (rows x.plan.names shown log told) (whole_lines (ending_text k (Some x)))
+      (each_row x.plan.names shown Fact EntryFact entry port log told h)
       (each_last (whole_lines (ending_text k (Some x))) (last_is_last k)))
     where
       each_last : (ls : List (List ℕ)) → AllByRecursion (IsLastLine x.plan.names (audit_in x ≡ Kept)) ls → AllByRecursion Fact ls
@@ -180,11 +186,11 @@ IsTrueTableAt x r = IsTrueTable x.plan.setup.times (setup_at x.plan.setup.reader
 
 -- ---- what was written
 
-output_of : (all : Bool) (x : List ℕ) (o : Option Scene) → (meaning_of x).scene ≡ o → output x all ≡ log_text all o ++ ending_text (meaning_of x).refused o
-output_of all x o e = ap (λ o. log_text all o ++ ending_text (meaning_of x).refused o) e
+pub output_of : (shown : Shown) (x : List ℕ) (o : Option Scene) → (meaning_of x).scene ≡ o → output_shown x shown ≡ log_text shown o ++ ending_text (meaning_of x).refused o
+output_of shown x o e = ap (λ o. log_text shown o ++ ending_text (meaning_of x).refused o) e
 
-pub tells_truth : (all : Bool) (x w rest : List ℕ) → output x all ≡ w ++ rest → TellsTruth x w
-tells_truth all x w rest is = λ at means.
+pub tells_truth : (shown : Shown) (x w rest : List ℕ) → output_shown x shown ≡ w ++ rest → TellsTruth x w
+tells_truth shown x w rest is = λ at means.
     let sound = scene_sound x at means in
     let names = are_names_named at.plan.names sound.plan.names in
     let s = at.plan.setup in
@@ -196,8 +202,8 @@ tells_truth all x w rest is = λ at means.
       kept = subst (λ r. IsKeptUpTo s r e.edge at.events) same.reader (subst (λ n. IsKeptUpTo s r n at.events) same.edge kept);
     }) u announces)) in
     let facts = both at names (AnnouncesTruth s at.events) (log_of s at.events) (recursion_from_All _ _ (log_is_true s at.events sound.plan.timeline)) (edges_few s at.events sound.played) in
-    let every : AllByRecursion (IsTrueLineIfKept at) (whole_lines (output x all)) = subst (λ t. AllByRecursion (IsTrueLineIfKept at) (whole_lines t)) (sym (output_of all x (Some at) means))
-    (each_line at names all (IsTrueLineIfKept at) (λ e. (e.edge < 2 ^ 64) × AnnouncesTruth s at.events e) (meaning_of x).refused true_entry (λ l last r n time shows full table kept. absurd (last.shows_nothing r n time shows)) facts) in
+    let every : AllByRecursion (IsTrueLineIfKept at) (whole_lines (output_shown x shown)) = subst (λ t. AllByRecursion (IsTrueLineIfKept at) (whole_lines t)) (sym (output_of shown x (Some at) means))
+    (each_line at names shown (IsTrueLineIfKept at) (λ e. (e.edge < 2 ^ 64) × AnnouncesTruth s at.events e) (meaning_of x).refused true_entry (λ l r n time shows full table kept. absurd (port_row_shows_nothing at.plan.names l r n time shows)) (λ l last r n time shows full table kept. absurd (last.shows_nothing r n time shows)) facts) in
     let front = whole_front w rest in
     All-from_recursion (IsTrueLineIfKept at) (whole_lines w) (all_left (IsTrueLineIfKept at) (whole_lines w) front.0 (subst (AllByRecursion (IsTrueLineIfKept at)) (ap whole_lines is ∙ front.1) every))
 
@@ -207,6 +213,11 @@ kept_line = codes "premises kept"
 
 no_entry_says : (names : List (List ℕ)) (e : Entry) → e.edge < 2 ^ 64 → entry_line names e ≢ codes "premises kept"
 no_entry_says names e small is = omega (arith, entry_digit names e 112 _ small is)
+
+no_port_row_says : (bs : List ℕ) → 32 ∷ bs ≢ codes "premises kept"
+no_port_row_says bs is =
+    let apart : Some 32 ≡ Some 112 = ap (λ (l : List ℕ). slice_get l 0) is in
+    absurd cc
 
 -- a log without a plant says no such thing
 none_says : (k : Option Refused) → AllByRecursion (λ l. l ≢ codes "premises kept") (whole_lines (ending_text k None))
@@ -218,31 +229,31 @@ none_says (Some k) = never (whole_lines (refusal_text k.line k.refusal)) (refusa
     never (l ∷ ls) h = (h.0.says_kept, never ls h.1)
 none_says None = tt
 
--- the lines of the whole output, where those that were written end so
-above_and_more : (all : Bool) (x w rest : List ℕ) (above : List (List ℕ)) → output x all ≡ w ++ rest → whole_lines w ≡ above ++ kept_line ∷ [] → whole_lines (output x all) ≡ above ++ kept_line ∷ (whole_front w rest).0
-above_and_more all x w rest above is ends =
+-- the lines of the whole output_shown, where those that were written end so
+above_and_more : (shown : Shown) (x w rest : List ℕ) (above : List (List ℕ)) → output_shown x shown ≡ w ++ rest → whole_lines w ≡ above ++ kept_line ∷ [] → whole_lines (output_shown x shown) ≡ above ++ kept_line ∷ (whole_front w rest).0
+above_and_more shown x w rest above is ends =
     ap whole_lines is ∙ (whole_front w rest).1 ∙ ap (λ ls. ls ++ (whole_front w rest).0) ends ∙ append_assoc above (kept_line ∷ []) (whole_front w rest).0
 
-vouched : (all : Bool) (x : List ℕ) (above more : List (List ℕ)) (o : Option Scene) → (meaning_of x).scene ≡ o → whole_lines (output x all) ≡ above ++ kept_line ∷ more → IsTrueLog x above
-vouched all x above more None means is =
-    absurd (all_at (λ l. l ≢ codes "premises kept") above kept_line more (subst (AllByRecursion (λ l. l ≢ codes "premises kept")) (sym (ap whole_lines (output_of all x None means)) ∙ is) (none_says (meaning_of x).refused)) refl)
-vouched all x above more (Some at) means is =
+vouched : (shown : Shown) (x : List ℕ) (above more : List (List ℕ)) (o : Option Scene) → (meaning_of x).scene ≡ o → whole_lines (output_shown x shown) ≡ above ++ kept_line ∷ more → IsTrueLog x above
+vouched shown x above more None means is =
+    absurd (all_at (λ l. l ≢ codes "premises kept") above kept_line more (subst (AllByRecursion (λ l. l ≢ codes "premises kept")) (sym (ap whole_lines (output_of shown x None means)) ∙ is) (none_says (meaning_of x).refused)) refl)
+vouched shown x above more (Some at) means is =
     let sound = scene_sound x at means in
     let names = are_names_named at.plan.names sound.plan.names in
     let s = at.plan.setup in
-    let lines_are = sym (ap whole_lines (output_of all x (Some at) means)) ∙ is in
+    let lines_are = sym (ap whole_lines (output_of shown x (Some at) means)) ∙ is in
     let few_edges = edges_few s at.events sound.played in
     let says : AllByRecursion (λ l. l ≡ kept_line → audit_in at ≡ Kept) (above ++ kept_line ∷ more) =
     subst (AllByRecursion (λ l. l ≡ kept_line → audit_in at ≡ Kept)) lines_are
-    (each_line at names all (λ l. l ≡ kept_line → audit_in at ≡ Kept) (λ e. e.edge < 2 ^ 64) (meaning_of x).refused (λ e small is. absurd (no_entry_says at.plan.names e small is)) (λ l last. last.says_kept) few_edges) in
+    (each_line at names shown (λ l. l ≡ kept_line → audit_in at ≡ Kept) (λ e. e.edge < 2 ^ 64) (meaning_of x).refused (λ e small is. absurd (no_entry_says at.plan.names e small is)) (λ l is. absurd (no_port_row_says l is)) (λ l last. last.says_kept) few_edges) in
     let kept : IsKept s at.events = (kept_is s at.events).0 (all_at (λ l. l ≡ kept_line → audit_in at ≡ Kept) above kept_line more says refl) in
     let true_entry : (e : Entry) → (e.edge < 2 ^ 64) × IsTruthful s.times e → IsTrueLine at (entry_line at.plan.names e) = λ e h r n time shows full.
     let same = entry_shows at.plan.names e r n time names h.0 shows in
     time_of s.times n e.report.announce time same.time_is full (λ u announces. subst (λ n. second_at s.times n ≡ Some u) (sym same.edge) (h.1.second u announces)) in
     let facts = both at names (IsTruthful s.times) (log_of s at.events) (recursion_from_All _ _ (lines_true x at means kept)) few_edges in
     let every : AllByRecursion (IsTrueLine at) (above ++ kept_line ∷ more) = subst (AllByRecursion (IsTrueLine at)) lines_are
-    (each_line at names all (IsTrueLine at) (λ e. (e.edge < 2 ^ 64) × IsTruthful s.times e) (meaning_of x).refused true_entry (λ l last r n time shows full. absurd (last.shows_nothing r n time shows)) facts) in
+    (each_line at names shown (IsTrueLine at) (λ e. (e.edge < 2 ^ 64) × IsTruthful s.times e) (meaning_of x).refused true_entry (λ l r n time shows full. absurd (port_row_shows_nothing at.plan.names l r n time shows)) (λ l last r n time shows full. absurd (last.shows_nothing r n time shows)) facts) in
     record { scene = at; means = means; lines = All-from_recursion (IsTrueLine at) above (all_left (IsTrueLine at) above (kept_line ∷ more) every) }
 
-pub vouches_for_itself : (all : Bool) (x w rest : List ℕ) → output x all ≡ w ++ rest → VouchesForItself x w
-vouches_for_itself all x w rest is = λ above ends. vouched all x above (whole_front w rest).0 (meaning_of x).scene refl (above_and_more all x w rest above is ends)
+pub vouches_for_itself : (shown : Shown) (x w rest : List ℕ) → output_shown x shown ≡ w ++ rest → VouchesForItself x w
+vouches_for_itself shown x w rest is = λ above ends. vouched shown x above (whole_front w rest).0 (meaning_of x).scene refl (above_and_more shown x w rest above is ends)

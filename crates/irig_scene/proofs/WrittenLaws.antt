@@ -1,25 +1,26 @@
 -- What a run wrote is a front of the log of the bytes that it read.
-use Rattle.std.proofs.Common.{◌≡◌, ℕ, Bool, List, [], ◌++◌, Option, Some, None, Result, Ok, Err, refl, ap, sym, subst, ◌∙◌, append-nil}
-use Rattle.std.specs.Prelude.{⊤, IfSome}
+use Rattle.std.proofs.Common.{◌≡◌, ℕ, List, [], ◌++◌, Option, Some, None, Result, Ok, Err, ap, sym, subst, ◌∙◌, append-nil}
+use Rattle.std.specs.Prelude.{IfSome}
 use Rattle.std.specs.Io.KnownBytes.{Appends}
 use Rattle.std.proofs.lemmas.List.{append_cancel_left}
 use Rattle.irig_device.specs.Watched.{AppendsPart}
+use Rattle.irig_scene.specs.declared.shown.Shown.{Shown}
 use Rattle.irig_scene.specs.declared.outcome.Outcome.{Outcome}
 use Rattle.irig_scene.specs.declared.fault.SceneFault.{SceneFault}
 use Rattle.irig_scene.specs.declared.fault.SceneFault.TheVariants.{Refused, Read, Write, Memory}
-use Rattle.irig_scene.specs.Scene.{output}
-use Rattle.irig_scene.specs.Run.{RanOn, Ran}
+use Rattle.irig_scene.specs.Scene.{output_shown}
+use Rattle.irig_scene.specs.Run.{RanOn, RanShown}
 use Rattle.irig_scene.specs.LogLines.{OfWritten}
 
 whole_part : (old new : Option (List ℕ)) (text : List ℕ) → Appends old new text → AppendsPart old new text
 whole_part old new text wrote = record { front = text; rest = []; whole = sym (append-nil text); wrote = wrote }
 
-front_written : (r : Result Outcome SceneFault) (x : List ℕ) (all : Bool) (was left old new : Option (List ℕ)) → RanOn r x all was left old new → AppendsPart old new (output x all)
-front_written (Ok o) x all was left old new ran = whole_part old new (output x all) ran.0
-front_written (Err (Refused line number)) x all was left old new ran = whole_part old new (output x all) ran.0
-front_written (Err Read) x all was left old new ran = ran.0
-front_written (Err Write) x all was left old new ran = ran.0
-front_written (Err Memory) x all was left old new ran = ran.0
+front_written : (r : Result Outcome SceneFault) (x : List ℕ) (shown : Shown) (was left old new : Option (List ℕ)) → RanOn r x shown was left old new → AppendsPart old new (output_shown x shown)
+front_written (Ok o) x shown was left old new ran = whole_part old new (output_shown x shown) ran.0
+front_written (Err (Refused line number)) x shown was left old new ran = whole_part old new (output_shown x shown) ran.0
+front_written (Err Read) x shown was left old new ran = ran.0
+front_written (Err Write) x shown was left old new ran = ran.0
+front_written (Err Memory) x shown was left old new ran = ran.0
 
 of_front : (Fact : List ℕ → Type 0) (text : List ℕ) → ((w rest : List ℕ) → text ≡ w ++ rest → Fact w) → (old new : Option (List ℕ)) → AppendsPart old new text → OfWritten old new Fact
 of_front Fact text fact None new part = tt
@@ -29,9 +30,9 @@ of_front Fact text fact (Some old) (Some new) part = λ written is.
     fact written part.rest (part.whole ∙ ap (λ w. w ++ part.rest) same)
 
 -- a fact of each front of the log of bytes is one of what was written for them
-pub of_run : (Fact : List ℕ → List ℕ → Type 0) (r : Result Outcome SceneFault) (all : Bool) (was left old new : Option (List ℕ)) → ((x w rest : List ℕ) → output x all ≡ w ++ rest → Fact x w)
-    → Ran r all was left old new → IfSome was (λ x. OfWritten old new (Fact x))
-of_run Fact r all None left old new fact ran = tt
-of_run Fact r all (Some known) left old new fact ran =
+pub of_run : (Fact : List ℕ → List ℕ → Type 0) (r : Result Outcome SceneFault) (shown : Shown) (was left old new : Option (List ℕ)) → ((x w rest : List ℕ) → output_shown x shown ≡ w ++ rest → Fact x w)
+    → RanShown r shown was left old new → IfSome was (λ x. OfWritten old new (Fact x))
+of_run Fact r shown None left old new fact ran = tt
+of_run Fact r shown (Some known) left old new fact ran =
     subst (λ x. OfWritten old new (Fact x)) ran.of_input
-    (of_front (Fact ran.bytes) (output ran.bytes all) (fact ran.bytes) old new (front_written r ran.bytes all (Some known) left old new ran.ran))
+    (of_front (Fact ran.bytes) (output_shown ran.bytes shown) (fact ran.bytes) old new (front_written r ran.bytes shown (Some known) left old new ran.ran))

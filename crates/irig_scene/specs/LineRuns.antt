@@ -1,6 +1,6 @@
 -- A line of a run, and the end of its lines: what stands after them, and by how much the output
 -- grew.
-use Rattle.std.specs.Prelude.{◌≡◌, ℕ, ◌+◌, Bool, List, [], ◌++◌, length, map, string_bytes, Option, Some, None, Result, Ok, Err, ⊤, ◌-◌, nat_lt, if◌then◌else◌}
+use Rattle.std.specs.Prelude.{◌≡◌, ℕ, ◌+◌, List, [], ◌++◌, length, map, string_bytes, Option, Some, None, Result, Ok, Err, ⊤, ◌-◌, nat_lt, if◌then◌else◌}
 use Rattle.std.specs.Io.KnownBytes.{Appends}
 use Rattle.irig_port.specs.declared.port.Port.{Ghosts}
 use Rattle.irig_plant.specs.declared.event.Event.{Event}
@@ -22,123 +22,127 @@ use Rattle.irig_scene.specs.Run.{IsDone, IsRefused}
 use Rattle.irig_device.specs.Watched.{AppendsPart}
 use Rattle.irig_scene.specs.Faults.{IsFaultOfWriting}
 use Rattle.irig_scenario.specs.declared.event_line.Command.{Command}
+use Rattle.irig_scene.specs.declared.shown.Shown.{Shown}
 use Rattle.irig_scene.specs.PlayerRuns.{past, after_events, Grew, GrewPart}
 use Rattle.irig_plant.specs.WholeSecond.{second_of}
 use Rattle.irig_scenario.specs.PlantLine.{Plan, plan_in_line}
 use Rattle.irig_scene.specs.Scene.{Scene, scene, play, events_of, Step, step, step_of_command, Meaning, meaning_from, meaning_at_end, log_text, text_of}
 
 -- a player is where a scene leaves it
-pub record IsPlayerAt {P : Type 0} {g : Ghosts P} (player : Player P g) (x : Scene) : Type 0 where
-  pub plant : HasPlantHistory player.plant (past x)
+pub record IsPlayerAt {P : Type 0} {g : Ghosts P} (shown : Shown) (player : Player P g)
+    (x : Scene) : Type 0 where
+  pub plant : HasPlantHistory player.plant (past shown x)
   pub names : map string_bytes player.names.keys ≡ x.plan.names
   pub second : player.second.items
       ≡ second_of (length x.plan.setup.generators) (length x.plan.setup.readers)
 
 -- the same, before the plant line too
-abbrev pub IsAt : {P : Type 0} {g : Ghosts P} → Option (Player P g) → Option Scene → Type 0
-IsAt None None = ⊤
-IsAt None (Some x) = ⊥
-IsAt (Some player) None = ⊥
-IsAt (Some player) (Some x) = IsPlayerAt player x
+abbrev pub IsAt : {P : Type 0} {g : Ghosts P} → Shown → Option (Player P g) → Option Scene → Type 0
+IsAt shown None None = ⊤
+IsAt shown None (Some x) = ⊥
+IsAt shown (Some player) None = ⊥
+IsAt shown (Some player) (Some x) = IsPlayerAt shown player x
 
 -- a player of this scene did what a line asks for
-pub record ActsFor {P : Type 0} {g : Ghosts P} (x : Scene) (events : List Event) (all : Bool)
+pub record ActsFor {P : Type 0} {g : Ghosts P} (x : Scene) (events : List Event) (shown : Shown)
     (player : Player P g) (refusal : Option Refusal) (old new : Bytes) : Type 0 where
   pub refused : (play x.plan.setup events x.events).refusal ≡ refusal
-  pub stands : IsPlayerAt player (after_events x events)
-  pub grew : Grew all (Some x) (Some (after_events x events)) old new
+  pub stands : IsPlayerAt shown player (after_events x events)
+  pub grew : Grew shown (Some x) (Some (after_events x events)) old new
 
 -- what a line asks for
-abbrev pub Acts : {P : Type 0} {g : Ghosts P} → Player P g → Command → Bool → Player P g
+abbrev pub Acts : {P : Type 0} {g : Ghosts P} → Player P g → Command → Shown → Player P g
     → Option Refusal → Bytes → Bytes → Type 0
-Acts was command all is refusal old new =
-    (x : Scene) → IsPlayerAt was x → ActsFor x (events_of x.plan command) all is refusal old new
+Acts was command shown is refusal old new =
+    (x : Scene) → IsPlayerAt shown was x
+    → ActsFor x (events_of x.plan command) shown is refusal old new
 
 -- the output failed, or memory was wanted, in the midst of these events
-abbrev pub FailsFor : Scene → List Event → Bool → SceneFault → Bytes → Bytes → Type 0
-FailsFor x events all fault old new =
-    IsFaultOfWriting fault × GrewPart all (Some x) (Some (after_events x events)) old new
+abbrev pub FailsFor : Scene → List Event → Shown → SceneFault → Bytes → Bytes → Type 0
+FailsFor x events shown fault old new =
+    IsFaultOfWriting fault × GrewPart shown (Some x) (Some (after_events x events)) old new
 
 -- whatever scene the player is of
-abbrev pub Fails : {P : Type 0} {g : Ghosts P} → Player P g → Command → Bool → SceneFault → Bytes
+abbrev pub Fails : {P : Type 0} {g : Ghosts P} → Player P g → Command → Shown → SceneFault → Bytes
     → Bytes → Type 0
-Fails was command all fault old new =
-    (x : Scene) → IsPlayerAt was x → FailsFor x (events_of x.plan command) all fault old new
+Fails was command shown fault old new =
+    (x : Scene) → IsPlayerAt shown was x → FailsFor x (events_of x.plan command) shown fault old new
 
 -- ---- lines
 
 -- a line was taken that does this: its refusal, what stands after it, and what was written
-pub record TakesFor {P : Type 0} {g : Ghosts P} (step : Step) (all : Bool) (from : Option Scene)
+pub record TakesFor {P : Type 0} {g : Ghosts P} (step : Step) (shown : Shown) (from : Option Scene)
     (player : Option (Player P g)) (refusal : Option Refusal) (old new : Bytes) : Type 0 where
   pub refused : step.refusal ≡ refusal
-  pub stands : IsAt player step.scene
-  pub grew : Grew all from step.scene old new
+  pub stands : IsAt shown player step.scene
+  pub grew : Grew shown from step.scene old new
 
 -- line n, whatever scene the player is of
-abbrev pub Takes : {P : Type 0} {g : Ghosts P} → Option (Player P g) → ℕ → List ℕ → Bool
+abbrev pub Takes : {P : Type 0} {g : Ghosts P} → Option (Player P g) → ℕ → List ℕ → Shown
     → Option (Player P g) → Option Refusal → Bytes → Bytes → Type 0
-Takes was n line all is refusal old new =
-    (at : Option Scene) → IsAt was at → TakesFor (step n at line) all at is refusal old new
+Takes was n line shown is refusal old new =
+    (at : Option Scene) → IsAt shown was at → TakesFor (step n at line) shown at is refusal old new
 
 -- the output failed, or memory was wanted, in the midst of a line that does this
-pub record FailsIn (step : Step) (all : Bool) (from : Option Scene) (fault : SceneFault)
+pub record FailsIn (step : Step) (shown : Shown) (from : Option Scene) (fault : SceneFault)
     (old new : Bytes) : Type 0 where
   pub kind : IsFaultOfWriting fault
-  pub grew : GrewPart all from step.scene old new
+  pub grew : GrewPart shown from step.scene old new
 
 -- line n, whatever scene the player is of
-abbrev pub FailsTaking : {P : Type 0} {g : Ghosts P} → Option (Player P g) → ℕ → List ℕ → Bool
+abbrev pub FailsTaking : {P : Type 0} {g : Ghosts P} → Option (Player P g) → ℕ → List ℕ → Shown
     → SceneFault → Bytes → Bytes → Type 0
-FailsTaking was n line all fault old new =
-    (at : Option Scene) → IsAt was at → FailsIn (step n at line) all at fault old new
+FailsTaking was n line shown fault old new =
+    (at : Option Scene) → IsAt shown was at → FailsIn (step n at line) shown at fault old new
 
 -- a line that isn't skipped, once there is a plant
-abbrev pub Follows : {P : Type 0} {g : Ghosts P} → Player P g → List ℕ → Bool → Player P g
+abbrev pub Follows : {P : Type 0} {g : Ghosts P} → Player P g → List ℕ → Shown → Player P g
     → Option Refusal → Bytes → Bytes → Type 0
-Follows was line all is refusal old new =
-    (x : Scene) → IsPlayerAt was x
-    → TakesFor (step_of_command x (command_in_line x.plan.names line)) all
+Follows was line shown is refusal old new =
+    (x : Scene) → IsPlayerAt shown was x
+    → TakesFor (step_of_command x (command_in_line x.plan.names line)) shown
     (Some x) (Some is) refusal old new
 
 -- the same where a line fails
-abbrev pub FailsFollowing : {P : Type 0} {g : Ghosts P} → Player P g → List ℕ → Bool → SceneFault
+abbrev pub FailsFollowing : {P : Type 0} {g : Ghosts P} → Player P g → List ℕ → Shown → SceneFault
     → Bytes → Bytes → Type 0
-FailsFollowing was line all fault old new =
-    (x : Scene) → IsPlayerAt was x
-    → FailsIn (step_of_command x (command_in_line x.plan.names line)) all (Some x) fault old new
+FailsFollowing was line shown fault old new =
+    (x : Scene) → IsPlayerAt shown was x
+    → FailsIn (step_of_command x (command_in_line x.plan.names line)) shown (Some x) fault old new
 
 -- the plant line gives a player, unless memory was wanted
-abbrev pub Begins : {P : Type 0} {g : Ghosts P} → List ℕ → Result (Player P g) LineFault → Type 0
-Begins line (Ok player) =
-    (plan : Plan) × (plan_in_line line ≡ Ok plan) × IsPlayerAt player (scene plan [])
-Begins line (Err (line_fault.Refused k)) = plan_in_line line ≡ Err k
-Begins line (Err line_fault.Memory) = ⊤
+abbrev pub Begins : {P : Type 0} {g : Ghosts P} → Shown → List ℕ → Result (Player P g) LineFault
+    → Type 0
+Begins shown line (Ok player) =
+    (plan : Plan) × (plan_in_line line ≡ Ok plan) × IsPlayerAt shown player (scene plan [])
+Begins shown line (Err (line_fault.Refused k)) = plan_in_line line ≡ Err k
+Begins shown line (Err line_fault.Memory) = ⊤
 
 -- ---- the rest of a run
 
 -- all that was still to be written, where a scene's log stands already
-pub record WroteRest (all : Bool) (from : Option Scene) (m : Meaning) (old new : Bytes)
+pub record WroteRest (shown : Shown) (from : Option Scene) (m : Meaning) (old new : Bytes)
     : Type 0 where
   pub rest : List ℕ
-  pub is : text_of all m ≡ log_text all from ++ rest
+  pub is : text_of shown m ≡ log_text shown from ++ rest
   pub wrote : Appends old new rest
 
 -- a front of it
-pub record WrotePart (all : Bool) (from : Option Scene) (m : Meaning) (old new : Bytes)
+pub record WrotePart (shown : Shown) (from : Option Scene) (m : Meaning) (old new : Bytes)
     : Type 0 where
   pub rest : List ℕ
-  pub is : text_of all m ≡ log_text all from ++ rest
+  pub is : text_of shown m ≡ log_text shown from ++ rest
   pub wrote : AppendsPart old new rest
 
 -- an answer for lines that mean this, so many with those before
-abbrev pub RanRest : Result Outcome SceneFault → Meaning → ℕ → Bool → Option Scene → Bytes → Bytes
+abbrev pub RanRest : Result Outcome SceneFault → Meaning → ℕ → Shown → Option Scene → Bytes → Bytes
     → Type 0
-RanRest (Ok o) m count all from old new = IsDone m count o × WroteRest all from m old new
-RanRest (Err (Refused line number)) m count all from old new =
-    IsRefused m line number × WroteRest all from m old new
-RanRest (Err Read) m count all from old new = ⊥
-RanRest (Err Write) m count all from old new = WrotePart all from m old new
-RanRest (Err Memory) m count all from old new = WrotePart all from m old new
+RanRest (Ok o) m count shown from old new = IsDone m count o × WroteRest shown from m old new
+RanRest (Err (Refused line number)) m count shown from old new =
+    IsRefused m line number × WroteRest shown from m old new
+RanRest (Err Read) m count shown from old new = ⊥
+RanRest (Err Write) m count shown from old new = WrotePart shown from m old new
+RanRest (Err Memory) m count shown from old new = WrotePart shown from m old new
 
 -- the line was refused, and that was written
 abbrev pub WroteRefusal : SceneFault → ℕ → Refusal → Bytes → Bytes → Type 0
@@ -149,18 +153,18 @@ WroteRefusal Write n k old new = AppendsPart old new (refusal_text n k)
 WroteRefusal Memory n k old new = AppendsPart old new (refusal_text n k)
 
 -- the input ended before line n
-abbrev pub Finishes : {P : Type 0} {g : Ghosts P} → Option (Player P g) → ℕ → Bool
+abbrev pub Finishes : {P : Type 0} {g : Ghosts P} → Option (Player P g) → ℕ → Shown
     → Result Outcome SceneFault → Bytes → Bytes → Type 0
-Finishes player n all answer old new =
-    (at : Option Scene) → IsAt player at
-    → RanRest answer (meaning_at_end n at) (n - 1) all at old new
+Finishes player n shown answer old new =
+    (at : Option Scene) → IsAt shown player at
+    → RanRest answer (meaning_at_end n at) (n - 1) shown at old new
 
 -- the input ended with line n, or before it where the line is empty
-abbrev pub RunsLast : {P : Type 0} {g : Ghosts P} → Option (Player P g) → ℕ → List ℕ → Bool
+abbrev pub RunsLast : {P : Type 0} {g : Ghosts P} → Option (Player P g) → ℕ → List ℕ → Shown
     → Result Outcome SceneFault → Bytes → Bytes → Type 0
-RunsLast player n line all answer old new =
-    (at : Option Scene) → IsAt player at
-    → RanRest answer (meaning_from (lines line) n at) (n - 1 + length (lines line)) all at old new
+RunsLast player n line shown answer old new =
+    (at : Option Scene) → IsAt shown player at
+    → RanRest answer (meaning_from (lines line) n at) (n - 1 + length (lines line)) shown at old new
 
 -- the refusal of line n where it is too long
 abbrev pub too_long : ℕ → Refusal

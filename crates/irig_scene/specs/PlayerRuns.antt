@@ -1,5 +1,5 @@
 -- A plant that plays events: where it stands then, and by how much the output grew.
-use Rattle.std.specs.Prelude.{◌≡◌, ◌≤◌, ℕ, ◌+◌, Bool, List, [], ◌∷◌, ◌++◌, length, Option, Some}
+use Rattle.std.specs.Prelude.{◌≡◌, ◌≤◌, ℕ, ◌+◌, List, [], ◌∷◌, ◌++◌, length, Option, Some}
 use Rattle.std.specs.Io.KnownBytes.{Appends}
 use Rattle.irig_port.specs.declared.port.Port.{Ghosts}
 use Rattle.irig_plant.specs.declared.event.Event.{Event}
@@ -12,27 +12,29 @@ use Rattle.irig_forms.specs.declared.refusal.Refusal.{Refusal}
 use Rattle.irig_device.specs.Lines.{Bytes}
 use Rattle.irig_device.specs.Watched.{AppendsPart}
 use Rattle.irig_scene.specs.Faults.{IsFaultOfWriting}
+use Rattle.irig_scene.specs.declared.shown.Shown.{Shown}
 use Rattle.irig_scene.specs.Scene.{Scene, scene, play, log_text}
 
--- all that the plant logged was shown
-abbrev pub past : Scene → PlantHistory
-past x =
+-- all that the plant logged was shown, and it keeps what ports told where that is shown too
+abbrev pub past : Shown → Scene → PlantHistory
+past shown x =
     record {
       setup = x.plan.setup;
       events = x.events;
       shown = length (log_of x.plan.setup x.events);
+      keeps_told = shown.ports;
     }
 
 -- the output grew by what the log of one scene has more than that of another
-pub record Grew (all : Bool) (from to : Option Scene) (old new : Bytes) : Type 0 where
+pub record Grew (shown : Shown) (from to : Option Scene) (old new : Bytes) : Type 0 where
   pub text : List ℕ
-  pub more : log_text all to ≡ log_text all from ++ text
+  pub more : log_text shown to ≡ log_text shown from ++ text
   pub wrote : Appends old new text
 
 -- it grew by a front of that
-pub record GrewPart (all : Bool) (from to : Option Scene) (old new : Bytes) : Type 0 where
+pub record GrewPart (shown : Shown) (from to : Option Scene) (old new : Bytes) : Type 0 where
   pub text : List ℕ
-  pub more : log_text all to ≡ log_text all from ++ text
+  pub more : log_text shown to ≡ log_text shown from ++ text
   pub wrote : AppendsPart old new text
 
 -- how many of these events are ticks
@@ -46,41 +48,43 @@ abbrev pub after_events : Scene → List Event → Scene
 after_events x events = scene x.plan (play x.plan.setup events x.events).events
 
 -- the past of a plant that has yet to show what these events gave
-abbrev pub past_with_log : Scene → List Event → PlantHistory
-past_with_log x events = record (past x) { events = (play x.plan.setup events x.events).events }
+abbrev pub past_with_log : Shown → Scene → List Event → PlantHistory
+past_with_log shown x events =
+    record (past shown x) { events = (play x.plan.setup events x.events).events }
 
 -- a plant of this scene ran events, up to a refusal if there is one; no more entries of its log
 -- stand then than there are ticks among the events
-pub record RunsFor {P : Type 0} {g : Ghosts P} (x : Scene) (events : List Event) (plant : Plant P g)
-    (refusal : Option Refusal) : Type 0 where
+pub record RunsFor {P : Type 0} {g : Ghosts P} (shown : Shown) (x : Scene) (events : List Event)
+    (plant : Plant P g) (refusal : Option Refusal) : Type 0 where
   pub refused : (play x.plan.setup events x.events).refusal ≡ refusal
-  pub stands : HasPlantHistory plant (past_with_log x events)
+  pub stands : HasPlantHistory plant (past_with_log shown x events)
   pub few : length plant.log.items ≤ ticks_among events
 
 -- whatever scene it is of
 abbrev pub Runs : {P : Type 0} {g : Ghosts P} → Plant P g → List Event → Plant P g → Option Refusal
     → Type 0
 Runs was events is refusal =
-    (x : Scene) → HasPlantHistory was (past x) → RunsFor x events is refusal
+    (shown : Shown) (x : Scene) → HasPlantHistory was (past shown x)
+    → RunsFor shown x events is refusal
 
 -- a plant of this scene played events, up to a refusal if there is one, and their entries were
 -- written
-pub record PlaysFor {P : Type 0} {g : Ghosts P} (x : Scene) (events : List Event) (all : Bool)
+pub record PlaysFor {P : Type 0} {g : Ghosts P} (x : Scene) (events : List Event) (shown : Shown)
     (plant : Plant P g) (refusal : Option Refusal) (old new : Bytes) : Type 0 where
   pub refused : (play x.plan.setup events x.events).refusal ≡ refusal
-  pub stands : HasPlantHistory plant (past (after_events x events))
-  pub grew : Grew all (Some x) (Some (after_events x events)) old new
+  pub stands : HasPlantHistory plant (past shown (after_events x events))
+  pub grew : Grew shown (Some x) (Some (after_events x events)) old new
 
 -- whatever scene it is of
-abbrev pub Plays : {P : Type 0} {g : Ghosts P} → Plant P g → List (List ℕ) → List Event → Bool
+abbrev pub Plays : {P : Type 0} {g : Ghosts P} → Plant P g → List (List ℕ) → List Event → Shown
     → Plant P g → Option Refusal → Bytes → Bytes → Type 0
-Plays was names events all is refusal old new =
-    (x : Scene) → HasPlantHistory was (past x) → names ≡ x.plan.names
-    → PlaysFor x events all is refusal old new
+Plays was names events shown is refusal old new =
+    (x : Scene) → HasPlantHistory was (past shown x) → names ≡ x.plan.names
+    → PlaysFor x events shown is refusal old new
 
 -- the output failed, or memory was wanted, in the midst of that
 abbrev pub FailsPlaying : {P : Type 0} {g : Ghosts P} → Plant P g → List (List ℕ) → List Event
-    → Bool → SceneFault → Bytes → Bytes → Type 0
-FailsPlaying was names events all fault old new =
-    (x : Scene) → HasPlantHistory was (past x) → names ≡ x.plan.names
-    → IsFaultOfWriting fault × GrewPart all (Some x) (Some (after_events x events)) old new
+    → Shown → SceneFault → Bytes → Bytes → Type 0
+FailsPlaying was names events shown fault old new =
+    (x : Scene) → HasPlantHistory was (past shown x) → names ≡ x.plan.names
+    → IsFaultOfWriting fault × GrewPart shown (Some x) (Some (after_events x events)) old new

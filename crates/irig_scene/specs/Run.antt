@@ -10,7 +10,9 @@ use Rattle.irig_forms.specs.Refusals.{number_of}
 use Rattle.irig_device.specs.Watched.{AppendsPart}
 use Rattle.irig_device.specs.Lines.{Bytes, HasNoNewline}
 use Rattle.irig_scene.specs.Lines.{lines, unlines, shown_by}
-use Rattle.irig_scene.specs.Scene.{Scene, Meaning, Refused as RefusedLine, meaning_of, log_text, output, audit_in, refusal_at}
+use Rattle.irig_scene.specs.declared.shown.Shown.{Shown}
+use Rattle.irig_scene.specs.Scene.{Scene, Meaning, Refused as RefusedLine, meaning_of, log_text, output_shown, audit_in, refusal_at}
+use Rattle.irig_scene.specs.Text.{entries_alone}
 
 -- ---- the whole run
 
@@ -29,7 +31,7 @@ pub record IsRefused (m : Meaning) (line number : ℕ) : Type 0 where
   pub numbered : number ≡ number_of refusal
 
 -- after a failed read: the whole lines of x before the failure, and the log of what they mean
-pub record StoppedReading (x : List ℕ) (all : Bool) (was left old new : Bytes) : Type 0 where
+pub record StoppedReading (x : List ℕ) (shown : Shown) (was left old new : Bytes) : Type 0 where
   pub whole : List (List ℕ)
   pub part : List ℕ
   pub rest : List ℕ
@@ -37,7 +39,7 @@ pub record StoppedReading (x : List ℕ) (all : Bool) (was left old new : Bytes)
   pub unlined : HasNoNewline part
   pub of_bytes : x ≡ (unlines whole ++ part) ++ rest
   pub read : Consumes was left (unlines whole ++ part)
-  pub wrote : Appends old new (log_text all (meaning_of (unlines whole)).scene)
+  pub wrote : Appends old new (log_text shown (meaning_of (unlines whole)).scene)
 
 -- bytes of one line, with its newline or without
 pub record IsOfOneLine (part : List ℕ) : Type 0 where
@@ -47,7 +49,7 @@ pub record IsOfOneLine (part : List ℕ) : Type 0 where
 
 -- stopped in a line of x that is in hand: nothing after it was read, and the log of what the lines
 -- before it mean was written whole
-pub record StoppedInLine (x : List ℕ) (all : Bool) (was left old new : Bytes) : Type 0 where
+pub record StoppedInLine (x : List ℕ) (shown : Shown) (was left old new : Bytes) : Type 0 where
   pub whole : List (List ℕ)
   pub part : List ℕ
   pub rest : List ℕ
@@ -56,7 +58,7 @@ pub record StoppedInLine (x : List ℕ) (all : Bool) (was left old new : Bytes) 
   pub of_bytes : x ≡ (unlines whole ++ part) ++ rest
   pub read : Consumes was left (unlines whole ++ part)
   pub more : List ℕ
-  pub wrote : Appends old new (log_text all (meaning_of (unlines whole)).scene ++ more)
+  pub wrote : Appends old new (log_text shown (meaning_of (unlines whole)).scene ++ more)
 
 -- what is read of the bytes x: all of them, or where a line is refused what shows that
 abbrev pub read_of : Option RefusedLine → List ℕ → List ℕ
@@ -64,20 +66,20 @@ read_of None x = x
 read_of (Some k) x = shown_by k.line x
 
 -- the answer for the input x: what it says, what was read, and what was written
-abbrev pub RanOn : Result Outcome SceneFault → List ℕ → Bool → Bytes → Bytes → Bytes → Bytes
+abbrev pub RanOn : Result Outcome SceneFault → List ℕ → Shown → Bytes → Bytes → Bytes → Bytes
     → Type 0
-RanOn (Ok o) x all was left old new =
-    Appends old new (output x all) × IsDone (meaning_of x) (length (lines x)) o
+RanOn (Ok o) x shown was left old new =
+    Appends old new (output_shown x shown) × IsDone (meaning_of x) (length (lines x)) o
     × Consumes was left (read_of (meaning_of x).refused x)
-RanOn (Err (Refused line number)) x all was left old new =
-    Appends old new (output x all) × IsRefused (meaning_of x) line number
+RanOn (Err (Refused line number)) x shown was left old new =
+    Appends old new (output_shown x shown) × IsRefused (meaning_of x) line number
     × Consumes was left (read_of (meaning_of x).refused x)
-RanOn (Err Read) x all was left old new =
-    AppendsPart old new (output x all) × StoppedReading x all was left old new
-RanOn (Err Write) x all was left old new =
-    AppendsPart old new (output x all) × StoppedInLine x all was left old new
-RanOn (Err Memory) x all was left old new =
-    AppendsPart old new (output x all) × StoppedInLine x all was left old new
+RanOn (Err Read) x shown was left old new =
+    AppendsPart old new (output_shown x shown) × StoppedReading x shown was left old new
+RanOn (Err Write) x shown was left old new =
+    AppendsPart old new (output_shown x shown) × StoppedInLine x shown was left old new
+RanOn (Err Memory) x shown was left old new =
+    AppendsPart old new (output_shown x shown) × StoppedInLine x shown was left old new
 
 -- the bytes are those that the input had left, where it tells them
 abbrev pub AreBytesOf : Bytes → List ℕ → Type 0
@@ -86,8 +88,12 @@ AreBytesOf (Some known) x = x ≡ known
 
 -- a run of some bytes: those of the input, and where it does not tell them, some for which this is
 -- the answer
-pub record Ran (r : Result Outcome SceneFault) (all : Bool) (was left old new : Bytes)
+pub record RanShown (r : Result Outcome SceneFault) (shown : Shown) (was left old new : Bytes)
     : Type 0 where
   pub bytes : List ℕ
   pub of_input : AreBytesOf was bytes
-  pub ran : RanOn r bytes all was left old new
+  pub ran : RanOn r bytes shown was left old new
+
+-- so of entries alone, the silent ones too where `all`
+abbrev pub Ran : Result Outcome SceneFault → Bool → Bytes → Bytes → Bytes → Bytes → Type 0
+Ran r all was left old new = RanShown r (entries_alone all) was left old new

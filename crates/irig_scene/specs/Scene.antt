@@ -6,7 +6,7 @@ use Rattle.irig_plant.specs.declared.audit.Audit.{Audit}
 use Rattle.irig_plant.specs.declared.event.Event.{Event}
 use Rattle.irig_plant.specs.declared.fault.PlantFault.{PlantFault}
 use Rattle.irig_plant.specs.declared.fault.PlantFault.TheVariants as plant
-use Rattle.irig_plant.specs.Schedule.{Setup, log_of}
+use Rattle.irig_plant.specs.Schedule.{Setup, log_of, told_log_of}
 use Rattle.irig_plant.specs.Refusals.{refusal}
 use Rattle.irig_plant.specs.Audits.{audit_of}
 use Rattle.irig_scenario.specs.declared.event_line.Command.{Command}
@@ -17,7 +17,8 @@ use Rattle.irig_scene.specs.Lines.{lines, is_blank, max_line, max_lines}
 use Rattle.irig_plant.specs.WholeSecond.{second_of, times}
 use Rattle.irig_scenario.specs.EventLine.{command_in_line}
 use Rattle.irig_scenario.specs.PlantLine.{Plan, plan_in_line}
-use Rattle.irig_scene.specs.Text.{entries_text, audit_text, refusal_text}
+use Rattle.irig_scene.specs.declared.shown.Shown.{Shown}
+use Rattle.irig_scene.specs.Text.{entries_alone, lines_text, audit_text, refusal_text}
 
 -- a plant with its readers' names, and the events that came, the newest first
 pub record Scene : Type 0 where
@@ -146,10 +147,12 @@ meaning_of x = meaning_from (lines x) 1 None
 
 -- ---- the text
 
--- the log of a scene, its silent entries too where `all`
-abbrev pub log_text : Bool → Option Scene → List ℕ
-log_text all None = []
-log_text all (Some x) = entries_text x.plan.names all (log_of x.plan.setup x.events)
+-- the log of a scene, and what its ports told where that is shown
+abbrev pub log_text : Shown → Option Scene → List ℕ
+log_text shown None = []
+log_text shown (Some x) =
+    lines_text x.plan.names shown (log_of x.plan.setup x.events)
+    (told_log_of x.plan.setup x.events)
 
 -- the audit of a scene's events
 abbrev pub audit_in : Scene → Audit
@@ -170,9 +173,13 @@ abbrev pub last_text : Meaning → List ℕ
 last_text m = ending_text m.refused m.scene
 
 -- the log and the last line
-abbrev pub text_of : Bool → Meaning → List ℕ
-text_of all m = log_text all m.scene ++ last_text m
+abbrev pub text_of : Shown → Meaning → List ℕ
+text_of shown m = log_text shown m.scene ++ last_text m
 
 -- all that is written for the bytes x
+abbrev pub output_shown : List ℕ → Shown → List ℕ
+output_shown x shown = text_of shown (meaning_of x)
+
+-- the same of entries alone, the silent ones too where `all`
 abbrev pub output : List ℕ → Bool → List ℕ
-output x all = text_of all (meaning_of x)
+output x all = output_shown x (entries_alone all)

@@ -1,6 +1,6 @@
 //! Laws of scenarios over their definitions. They have no code.
 
-ghost use Rattle.std.specs.Prelude.{◌≡◌, ◌<◌, ◌≤◌, ◌^◌, ◌++◌, ℕ, Bool, Some, None, Option, is_some, List, [], All, codes, length, true};
+ghost use Rattle.std.specs.Prelude.{◌≡◌, ◌<◌, ◌≤◌, ◌^◌, ◌++◌, ℕ, Bool, Some, None, Option, is_some, List, [], ◌∷◌, All, codes, length, true, false};
 ghost use Rattle.irig_time.specs.Timelines.{second_at};
 ghost use Rattle.irig_plant.specs.HealthyPlant.{seconds_of, healthy_log};
 ghost use Rattle.irig_plant.specs.Premises.{IsKept};
@@ -11,12 +11,13 @@ ghost use Rattle.irig_scenario.specs.Names.{are_names};
 ghost use Rattle.irig_plant.specs.WholeSecond.{second_of};
 ghost use Rattle.irig_scenario.specs.PlantLine.{Plan};
 ghost use Rattle.irig_scene.specs.HealthyRun.{IsOfSeconds, IsHealthyRun, HasTimeLine};
-ghost use Rattle.irig_scene.specs.Scene.{Scene, scene, Refused, meaning, meaning_of, ending_text, output};
+ghost use Rattle.irig_scene.specs.Scene.{Scene, scene, Refused, meaning, meaning_of, ending_text, output, output_shown};
 ghost use Rattle.irig_scene.specs.PlayerRuns.{ticks_among};
-ghost use Rattle.irig_scene.specs.Text.{entry_text, entries_text, time_shown_text};
+ghost use Rattle.irig_scene.specs.Text.{entry_text, entries_text, port_line, time_shown_text};
+ghost use Rattle.irig_scene.specs.PortLines.{is_port_line, without_port_lines, ports_too};
 ghost use Rattle.irig_scene.specs.LogLines.{whole_lines, Shows, ShowsNothing, TellsTruth, VouchesForItself};
 
-use irig_plant::Entry;
+use irig_plant::{Entry, ToldEntry};
 
 /// Where the premises hold for all readers and ticks of the events that the bytes give, each entry
 /// of their log announces the true second of its edge, or none.
@@ -47,6 +48,21 @@ pub fn lines_read_one_way()
         → (r ≡ q) × (n ≡ m) × (time ≡ other) }
     ensures last { (x : Scene) (refused : Option Refused) → are_names x.plan.names ≡ true
         → All (ShowsNothing x.plan.names) (whole_lines (ending_text refused (Some x))) }
+{}
+
+/// What ports told stands in lines of its own, which begin with a blank: what is proved of a log
+/// without them holds of one with them.
+pub fn port_lines_stand_apart()
+    // Without these lines a log is that of a run that does not show them.
+    ensures without { (x : List ℕ) (all : Bool)
+        → without_port_lines (output_shown x (ports_too all)) ≡ output x all }
+    // At a tick there is one, and it is no entry line.
+    ensures one { (names : List (List ℕ)) (e : Entry) (t : ToldEntry) → are_names names ≡ true
+        → (line : List ℕ) × (whole_lines (port_line names e t) ≡ line ∷ [])
+        × (is_port_line line ≡ true) × ShowsNothing names line }
+    // A last line is none.
+    ensures last { (x : Scene) (refused : Option Refused) → are_names x.plan.names ≡ true
+        → All (λ line. is_port_line line ≡ false) (whole_lines (ending_text refused (Some x))) }
 {}
 
 /// A whole second has as many ticks as there are readers.

@@ -21,6 +21,7 @@ use crate::fault::SceneFault;
 use crate::log_writer::LogWriter;
 use crate::outcome::Outcome;
 use crate::player::Player;
+use crate::shown::Shown;
 use irig_device::{LineEnd, ReadFault, Watched};
 use irig_forms::{LineFault, Refusal};
 use irig_port::Port;
@@ -74,9 +75,9 @@ pub(crate) fn take_line<P: Port, W: Write>(
 ) -> Result<Option<Refusal>, SceneFault>
     requires { length line.now ≤ max_line }
     ensures takes { IfOk result (λ refusal.
-        Takes player.old number line.now log.all player.new refusal
+        Takes player.old number line.now log.shown player.new refusal
         (W.contents (device_of output.old)) (W.contents (device_of output.new))) }
-    ensures fails { IfErr result (λ fault. FailsTaking player.old number line.now log.all fault
+    ensures fails { IfErr result (λ fault. FailsTaking player.old number line.now log.shown fault
         (W.contents (device_of output.old)) (W.contents (device_of output.new))) }
     ensures number { IfOk result (λ refusal. refusal ≡ None → number ≤ max_lines) }
     ensures note { has_failed output.new ≡ (has_failed output.old || says_write result) }
@@ -89,7 +90,7 @@ pub(crate) fn take_line<P: Port, W: Write>(
     }
     match player {
         Some(player) => follow(alloc, player, line, log, output),
-        None => match begin(alloc, line) {
+        None => match begin(alloc, line, log.shown) {
             Ok(begun) => {
                 *player = Some(begun);
                 Ok(None)
@@ -108,11 +109,11 @@ fn is_blank(line: &[u8]) -> bool
 }
 
 // The player that a plant line gives.
-fn begin<P: Port>(alloc: Global, line: &[u8]) -> Result<Player<P>, LineFault>
-    ensures { Begins line.now result }
+fn begin<P: Port>(alloc: Global, line: &[u8], shown: Shown) -> Result<Player<P>, LineFault>
+    ensures { Begins shown line.now result }
 {
     let plant = plant_of_line(alloc, line)?;
-    match Player::new(alloc, plant) {
+    match Player::new(alloc, plant, shown) {
         Ok(player) => Ok(player),
         Err(_) => Err(LineFault::Memory),
     }
@@ -127,9 +128,9 @@ fn follow<P: Port, W: Write>(
     output: &mut Watched<W>,
 ) -> Result<Option<Refusal>, SceneFault>
     ensures follows { IfOk result (λ refusal.
-        Follows player.old line.now log.all player.new refusal
+        Follows player.old line.now log.shown player.new refusal
         (W.contents (device_of output.old)) (W.contents (device_of output.new))) }
-    ensures fails { IfErr result (λ fault. FailsFollowing player.old line.now log.all fault
+    ensures fails { IfErr result (λ fault. FailsFollowing player.old line.now log.shown fault
         (W.contents (device_of output.old)) (W.contents (device_of output.new))) }
     ensures note { has_failed output.new ≡ (has_failed output.old || says_write result) }
 {
@@ -185,7 +186,7 @@ pub(crate) fn run_last<P: Port, W: Write>(
     requires whole { HasNoNewline line.now }
     requires number { 1 ≤ number }
     requires few { number ≤ max_lines + 1 }
-    ensures runs { RunsLast player.old number line.now log.all result
+    ensures runs { RunsLast player.old number line.now log.shown result
         (W.contents (device_of output.old)) (W.contents (device_of output.new)) }
     ensures note { has_failed output.new ≡ (has_failed output.old || says_write result) }
 {
@@ -206,7 +207,7 @@ fn finish<P: Port, W: Write>(
     output: &mut Watched<W>,
 ) -> Result<Outcome, SceneFault>
     requires number { 1 ≤ number }
-    ensures finishes { Finishes player.now number log.all result
+    ensures finishes { Finishes player.now number log.shown result
         (W.contents (device_of output.old)) (W.contents (device_of output.new)) }
     ensures note { has_failed output.new ≡ (has_failed output.old || says_write result) }
 {

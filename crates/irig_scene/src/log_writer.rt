@@ -4,14 +4,17 @@ ghost use Rattle.std.specs.Prelude.{◌≡◌, All, IfSome, map, string_bytes, �
 ghost use Rattle.irig_device.specs.Watched.{device_of, has_failed};
 ghost use Rattle.irig_time.specs.Seconds.{IsValid};
 ghost use Rattle.irig_scene.specs.Faults.{WroteText, says_write};
-ghost use Rattle.irig_scene.specs.Text.{entries_text, audit_text, refusal_text};
+ghost use Rattle.irig_vote.specs.Vote.{AreOfUtc};
+ghost use Rattle.irig_scene.specs.Text.{lines_text, audit_text, refusal_text};
 
 use crate::fault::SceneFault;
+use crate::port_text::push_ticks;
+use crate::shown::Shown;
 use crate::text::{ReportText, push_audit, push_entries, push_refusal};
 use indexmap::IndexSet;
 use irig_device::Watched;
 use irig_forms::Refusal;
-use irig_plant::{Audit, Entry};
+use irig_plant::{Audit, Entry, ToldEntry};
 use std::alloc::Global;
 use std::io::Write;
 
@@ -36,28 +39,35 @@ impl LogText {
 #[derive(Clone, Copy)]
 pub(crate) struct LogWriter {
     pub(crate) alloc: Global,
-    /// Whether silent entries are written too.
-    pub(crate) all: bool,
+    pub(crate) shown: Shown,
 }
 
 impl LogWriter {
-    /// Writes the lines of log entries.
-    pub(crate) fn write_entries<W: Write>(
+    /// Writes the lines of log entries, and of what ports told where that is shown.
+    pub(crate) fn write_log<W: Write>(
         self,
         text: &mut LogText,
         names: &IndexSet<String>,
         entries: &[Entry],
+        tolds: &[ToldEntry],
         output: &mut Watched<W>,
     ) -> Result<(), SceneFault>
-        requires { All (λ entry. IfSome entry.report.announce IsValid) entries.now }
+        requires entries { All (λ entry. IfSome entry.report.announce IsValid) entries.now }
+        requires tolds { All (λ entry. AreOfUtc entry.told) tolds.now }
         ensures wrote { WroteText result
             (W.contents (device_of output.old)) (W.contents (device_of output.new))
-            (entries_text (map string_bytes names.now.keys) self.all entries.now) }
+            (lines_text (map string_bytes names.now.keys) self.shown entries.now tolds.now) }
         ensures note { has_failed output.new ≡ (has_failed output.old || says_write result) }
     {
         let LogText { lines, last } = text;
         lines.clear();
-        if push_entries(lines, last, names, entries, self.all).is_err() {
+        let Shown { all, ports } = self.shown;
+        let pushed = if ports {
+            push_ticks(lines, last, names, entries, tolds, all)
+        } else {
+            push_entries(lines, last, names, entries, all)
+        };
+        if pushed.is_err() {
             return Err(SceneFault::Memory);
         }
         write(output, lines.as_str())

@@ -9,13 +9,16 @@ ghost use Rattle.irig_scene.specs.PlayerRuns.{Runs, Plays, FailsPlaying};
 
 use crate::fault::SceneFault;
 use crate::log_writer::{LogText, LogWriter};
+use crate::refused_line::RefusedLine;
+use crate::shown::Shown;
 use indexmap::IndexSet;
 use irig_device::Watched;
 use irig_forms::Refusal;
+use irig_gen::Generator;
 use irig_plant::{Audit, Event, Plant, PlantFault};
 use irig_port::Port;
 use irig_scenario::{BuiltPlant, Command, second_of};
-use std::alloc::Global;
+use std::alloc::{AllocError, Global};
 use std::io::Write;
 
 /// A plant, its readers' names, the events of a whole second of it, and the text of its log.
@@ -35,12 +38,16 @@ impl<P: Port> Player<P> {
     ghost use Rattle.irig_scene.specs.Scene.{Scene as SceneOf, scene, audit_in};
     ghost use Rattle.irig_scene.specs.LineRuns.{IsPlayerAt, Acts, Fails};
 
-    /// The player of a plant to which nothing has happened.
-    pub(crate) fn new(alloc: Global, line: BuiltPlant) -> Result<Player<P>, SceneFault>
+    /// The player of a plant to which nothing has happened, for what is to be shown.
+    pub(crate) fn new(
+        alloc: Global,
+        line: BuiltPlant,
+        shown: Shown,
+    ) -> Result<Player<P>, SceneFault>
         requires generators { AreGenerators line.rules line.generators.items }
         requires readers { AreReaders line.readers.items }
         requires names { length line.names.keys ≡ vec_len line.readers }
-        ensures stands { IfOk result (λ player. IsPlayerAt player (scene (plan_of line) [])) }
+        ensures stands { IfOk result (λ player. IsPlayerAt shown player (scene (plan_of line) [])) }
         ensures memory { IfErr result (λ fault. fault ≡ SceneFault.Memory) }
     {
         let BuiltPlant {
@@ -53,12 +60,17 @@ impl<P: Port> Player<P> {
         let second = second_of(alloc, generators.len() as u8, readers.len() as u8);
         let plant = Plant::new(alloc, timeline, generators, rules, &readers);
         match (plant, second) {
-            (Ok(plant), Ok(second)) => Ok(Player {
-                plant,
-                names,
-                second,
-                text: LogText::new(alloc),
-            }),
+            (Ok(mut plant), Ok(second)) => {
+                if shown.ports {
+                    plant.keep_told();
+                }
+                Ok(Player {
+                    plant,
+                    names,
+                    second,
+                    text: LogText::new(alloc),
+                })
+            }
             _ => Err(SceneFault::Memory),
         }
     }
@@ -73,9 +85,20 @@ impl<P: Port> Player<P> {
 
     /// The audit so far.
     pub(crate) fn audit(&self) -> Audit
-        ensures { (x : SceneOf) → IsPlayerAt self.now x → result ≡ audit_in x }
+        ensures { (shown : Shown) (x : SceneOf) → IsPlayerAt shown self.now x
+            → result ≡ audit_in x }
     {
         self.plant.audit()
+    }
+
+    /// What explains the refusal of this line.
+    pub(crate) fn refused(self, alloc: Global, line: Vec<u8>) -> RefusedLine {
+        let Player { plant, names, .. } = self;
+        let edges = match edges_of(alloc, plant.generators()) {
+            Ok(edges) => edges,
+            Err(_) => Vec::new(alloc),
+        };
+        RefusedLine { line, names, edges }
     }
 
     /// Does what a line asks for, up to an event that is refused, and writes what the readers said;
@@ -86,9 +109,9 @@ impl<P: Port> Player<P> {
         log: LogWriter,
         output: &mut Watched<W>,
     ) -> Result<Option<Refusal>, SceneFault>
-        ensures acts { IfOk result (λ refusal. Acts self.old command log.all self.new refusal
+        ensures acts { IfOk result (λ refusal. Acts self.old command log.shown self.new refusal
             (W.contents (device_of output.old)) (W.contents (device_of output.new))) }
-        ensures fails { IfErr result (λ fault. Fails self.old command log.all fault
+        ensures fails { IfErr result (λ fault. Fails self.old command log.shown fault
             (W.contents (device_of output.old)) (W.contents (device_of output.new))) }
         ensures note { has_failed output.new ≡ (has_failed output.old || says_write result) }
     {
@@ -112,6 +135,14 @@ impl<P: Port> Player<P> {
             ),
         }
     }
+}
+
+fn edges_of(alloc: Global, generators: &[Generator]) -> Result<Vec<u64>, AllocError> {
+    let mut edges = Vec::new(alloc);
+    for generator in generators {
+        edges.push(generator.edge())?;
+    }
+    Ok(edges)
 }
 
 // The refusal of an event; want of memory is none.
@@ -152,15 +183,15 @@ fn play<P: Port, W: Write>(
     output: &mut Watched<W>,
 ) -> Result<Option<Refusal>, SceneFault>
     ensures plays { IfOk result (λ refusal.
-        Plays plant.old (map string_bytes names.now.keys) events.now log.all plant.new refusal
+        Plays plant.old (map string_bytes names.now.keys) events.now log.shown plant.new refusal
         (W.contents (device_of output.old)) (W.contents (device_of output.new))) }
     ensures fails { IfErr result (λ fault.
-        FailsPlaying plant.old (map string_bytes names.now.keys) events.now log.all fault
+        FailsPlaying plant.old (map string_bytes names.now.keys) events.now log.shown fault
         (W.contents (device_of output.old)) (W.contents (device_of output.new))) }
     ensures note { has_failed output.new ≡ (has_failed output.old || says_write result) }
 {
     let refusal = run(plant, events)?;
-    log.write_entries(text, names, plant.log(), output)?;
+    log.write_log(text, names, plant.log(), plant.told(), output)?;
     plant.clear_log();
     Ok(refusal)
 }
@@ -178,11 +209,11 @@ fn play_seconds<P: Port, W: Write>(
 ) -> Result<Option<Refusal>, SceneFault>
     ensures plays { IfOk result (λ refusal.
         Plays plant.old (map string_bytes names.now.keys)
-        (times count second.now) log.all plant.new refusal
+        (times count second.now) log.shown plant.new refusal
         (W.contents (device_of output.old)) (W.contents (device_of output.new))) }
     ensures fails { IfErr result (λ fault.
         FailsPlaying plant.old (map string_bytes names.now.keys)
-        (times count second.now) log.all fault
+        (times count second.now) log.shown fault
         (W.contents (device_of output.old)) (W.contents (device_of output.new))) }
     ensures note { has_failed output.new ≡ (has_failed output.old || says_write result) }
 {

@@ -1,8 +1,8 @@
 //! A scenario from its first line to its last.
 
-ghost use Rattle.std.specs.Prelude.{◌≡◌, ◌↔◌, Err, false, true, IfSome};
+ghost use Rattle.std.specs.Prelude.{◌≡◌, ◌↔◌, Err, None, false, true, IfSome};
 ghost use Rattle.irig_device.specs.Watched.{device_of, has_failed};
-ghost use Rattle.irig_scene.specs.Run.{Ran};
+ghost use Rattle.irig_scene.specs.Run.{Ran, RanShown};
 ghost use Rattle.irig_scene.specs.LogLines.{OfWritten, TellsTruth, VouchesForItself};
 
 use crate::fault::SceneFault;
@@ -10,6 +10,8 @@ use crate::line::{limit_of, read_line, refuse, run_last, take_line, too_long};
 use crate::log_writer::LogWriter;
 use crate::outcome::Outcome;
 use crate::player::Player;
+use crate::refused_line::RefusedLine;
+use crate::shown::Shown;
 use irig_device::{LineEnd, Watched};
 use irig_port::{FlowPort, Port};
 use std::alloc::Global;
@@ -65,38 +67,96 @@ pub fn run_scene_over<P: Port, R: BufRead, W: Write>(
     ensures read { (result ≡ Err SceneFault.Read) ↔ (has_failed input.new ≡ true) }
     ensures write { (result ≡ Err SceneFault.Write) ↔ (has_failed output.new ≡ true) }
 {
-    run_lines::<P, R, W>(input, output, LogWriter { alloc, all })
+    let mut line = Vec::new(alloc);
+    let mut player: Option<Player<P>> = None;
+    let shown = Shown { all, ports: false };
+    let log = LogWriter { alloc, shown };
+    run_lines(&mut line, &mut player, input, output, log)
 }
 
-// Runs one line after another.
+/// What [`run_scene`] does, and with `ports` it is written after each tick what its ports told.
+///
+/// Where a line is refused, `refused` is then what explains it, and else it is left as it was.
+pub fn run_scene_shown<R: BufRead, W: Write>(
+    alloc: Global,
+    input: &mut Watched<R>,
+    output: &mut Watched<W>,
+    shown: Shown,
+    refused: &mut Option<RefusedLine>,
+) -> Result<Outcome, SceneFault>
+    requires input_whole { has_failed input.old ≡ false }
+    requires output_whole { has_failed output.old ≡ false }
+    ensures vouches { IfSome (R.remaining (device_of input.old)) (λ x.
+        OfWritten (W.contents (device_of output.old)) (W.contents (device_of output.new))
+        (VouchesForItself x)) }
+    ensures truth { IfSome (R.remaining (device_of input.old)) (λ x.
+        OfWritten (W.contents (device_of output.old)) (W.contents (device_of output.new))
+        (TellsTruth x)) }
+    ensures ran { RanShown result shown
+        (R.remaining (device_of input.old)) (R.remaining (device_of input.new))
+        (W.contents (device_of output.old)) (W.contents (device_of output.new)) }
+    ensures read { (result ≡ Err SceneFault.Read) ↔ (has_failed input.new ≡ true) }
+    ensures write { (result ≡ Err SceneFault.Write) ↔ (has_failed output.new ≡ true) }
+{
+    run_and_note(alloc, input, output, shown, refused)
+}
+
+// Runs the lines, and notes the one that is refused.
+fn run_and_note<R: BufRead, W: Write>(
+    alloc: Global,
+    input: &mut Watched<R>,
+    output: &mut Watched<W>,
+    shown: Shown,
+    refused: &mut Option<RefusedLine>,
+) -> Result<Outcome, SceneFault>
+    requires input_whole { has_failed input.old ≡ false }
+    requires output_whole { has_failed output.old ≡ false }
+    ensures ran { RanShown result shown
+        (R.remaining (device_of input.old)) (R.remaining (device_of input.new))
+        (W.contents (device_of output.old)) (W.contents (device_of output.new)) }
+    ensures read { (result ≡ Err SceneFault.Read) ↔ (has_failed input.new ≡ true) }
+    ensures write { (result ≡ Err SceneFault.Write) ↔ (has_failed output.new ≡ true) }
+{
+    let mut line = Vec::new(alloc);
+    let mut player: Option<Player<FlowPort>> = None;
+    let log = LogWriter { alloc, shown };
+    let result = run_lines(&mut line, &mut player, input, output, log);
+    if matches!(result, Err(SceneFault::Refused { .. })) {
+        *refused = Some(RefusedLine::of(alloc, line, player));
+    }
+    result
+}
+
+// Runs one line after another, each read into the same memory.
 fn run_lines<P: Port, R: BufRead, W: Write>(
+    line: &mut Vec<u8>,
+    player: &mut Option<Player<P>>,
     input: &mut Watched<R>,
     output: &mut Watched<W>,
     log: LogWriter,
 ) -> Result<Outcome, SceneFault>
+    requires none { player.old ≡ None }
     requires input_whole { has_failed input.old ≡ false }
     requires output_whole { has_failed output.old ≡ false }
-    ensures ran { Ran result log.all
+    ensures ran { RanShown result log.shown
         (R.remaining (device_of input.old)) (R.remaining (device_of input.new))
         (W.contents (device_of output.old)) (W.contents (device_of output.new)) }
     ensures read { (result ≡ Err SceneFault.Read) ↔ (has_failed input.new ≡ true) }
     ensures write { (result ≡ Err SceneFault.Write) ↔ (has_failed output.new ≡ true) }
 {
     let alloc = log.alloc;
-    let mut line = Vec::new(alloc);
-    let mut player: Option<Player<P>> = None;
     let mut number = 1;
     loop {
-        match read_line(input, limit_of(number), &mut line)? {
+        match read_line(input, limit_of(number), line)? {
             LineEnd::Newline => {
-                if let Some(refusal) = take_line(alloc, &mut player, number, &line, log, output)? {
+                if let Some(refusal) = take_line(alloc, player, number, line, log, output)? {
                     return Err(refuse(number, refusal, log, output));
                 }
                 number += 1;
             }
             LineEnd::TooLong => return Err(refuse(number, too_long(number), log, output)),
             LineEnd::EndOfInput => {
-                return run_last(alloc, &mut player, number, &line, log, output);
+                return run_last(alloc, player, number, line, log, output);
             }
         }
     }

@@ -4,6 +4,7 @@ ghost use Rattle.std.specs.Prelude.{◌≡◌, ◌++◌, ◌||◌, map, is_some,
 ghost use Rattle.std.specs.Option.{ForSome};
 ghost use Rattle.std.specs.Fmt.{decimal};
 ghost use Rattle.irig_time.specs.Seconds.{IsValid};
+ghost use Rattle.irig_time.specs.TextValues.{second_text};
 ghost use Rattle.irig_scene.specs.Text.{
   lock_text,
   cause_text,
@@ -119,7 +120,8 @@ fn push_entry(
     text.push_str(last.of(entry.report)?)
 }
 
-fn push_number(text: &mut String, number: u64) -> Result<(), AllocError>
+/// Adds a number in decimal.
+pub(crate) fn push_number(text: &mut String, number: u64) -> Result<(), AllocError>
     ensures { OnOk result (string_bytes text.new ≡ string_bytes text.old ++ decimal number) }
 {
     text.push_str(Buffer::new().format(number))
@@ -141,7 +143,7 @@ fn push_report(text: &mut String, report: Report) -> Result<(), AllocError>
 
 /// The name of a reader.
 #[tactic(auto, using(crate::proofs::TextLaws::name_in_texts))]
-fn name_at(names: &IndexSet<String>, reader: u8) -> &str
+pub(crate) fn name_at(names: &IndexSet<String>, reader: u8) -> &str
     ensures { result.now ≡ name_at (map string_bytes names.now.keys) reader }
 {
     names
@@ -156,9 +158,17 @@ fn push_time(text: &mut String, announce: Option<UtcSecond>) -> Result<(), Alloc
         ≡ string_bytes text.old ++ time_shown_text announce) }
 {
     match announce {
-        Some(second) => text.push_str(shown(&write_text(&second))),
+        Some(second) => push_second(text, second),
         None => text.push_str("-"),
     }
+}
+
+/// Adds a second.
+pub(crate) fn push_second(text: &mut String, second: UtcSecond) -> Result<(), AllocError>
+    requires { IsValid second }
+    ensures { OnOk result (string_bytes text.new ≡ string_bytes text.old ++ second_text second) }
+{
+    text.push_str(shown(&write_text(&second)))
 }
 
 /// ASCII as text.

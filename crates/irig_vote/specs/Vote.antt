@@ -3,8 +3,10 @@
 use Rattle.std.specs.Prelude.{ℕ, Bool, false, ◌==◌, not, nat_lt, if◌then◌else◌, List, [], ◌∷◌, count_by, Option, Some, None}
 use Rattle.irig_time.specs.declared.claim.Claim.{Claim}
 use Rattle.irig_time.specs.Claims.{same_claim}
+use Rattle.irig_time.specs.Seconds.{IsValid}
 use Rattle.irig_port.specs.declared.told.Told.{Told}
 use Rattle.irig_port.specs.declared.told.Told.TheVariants as tells
+use Rattle.irig_port.specs.Told.{IfClaim}
 use Rattle.irig_vote.specs.declared.redundancy.Redundancy.{Redundancy}
 use Rattle.irig_vote.specs.declared.redundancy.Redundancy.TheVariants.{Three, Five}
 use Rattle.irig_vote.specs.declared.votes.Tells.{Tells}
@@ -27,6 +29,18 @@ redundancy_of ports = if ports == 3 then Three else Five
 abbrev pub ports_of : Tells → Redundancy → List Told
 ports_of t Three = t.a ∷ t.b ∷ t.c ∷ []
 ports_of t Five = t.a ∷ t.b ∷ t.c ∷ t.d ∷ t.e ∷ []
+
+-- a claim, if the port tells one, is of a second of UTC
+abbrev pub IsOfUtc : Told → Type 0
+IsOfUtc told = IfClaim told (λ claim. IsValid claim.at)
+
+-- so of each port
+pub record AreOfUtc (t : Tells) : Type 0 where
+  pub a : IsOfUtc t.a
+  pub b : IsOfUtc t.b
+  pub c : IsOfUtc t.c
+  pub d : IsOfUtc t.d
+  pub e : IsOfUtc t.e
 
 -- whether a port tells this claim
 abbrev pub is_told : Claim → Told → Bool

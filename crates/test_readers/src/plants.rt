@@ -2,17 +2,21 @@ ghost use Rattle.std.specs.Prelude.{IfOk};
 ghost use Rattle.irig_plant.specs.History.{AreGenerators};
 
 use irig_frame::Symbol;
-use irig_gen::{Generator, Zone};
+use irig_gen::{GenFault, Generator, Zone};
 use irig_plant::*;
-use irig_port::{FlowPort, Port, WholePort};
+use irig_port::{FlowPort, Port, Told, WholePort};
 use irig_reader::{Cause, Lock, ReaderRules, Report};
-use irig_time::{LeapTable, Rules, Timeline, UtcSecond};
+use irig_time::{Claim, Leap, LeapTable, Mark, Rules, Timeline, UtcSecond};
+use irig_vote::{Redundancy, Tells};
 use std::alloc::Global;
 use std::process::Abort;
 use std::test::*;
 
 /// 2016-06-15.
 const JUNE: u32 = 6010;
+
+/// 2016-06-30.
+const JUNE_END: u32 = 6025;
 
 const RULES: Rules = Rules::PLAIN;
 
@@ -152,4 +156,86 @@ fn takes_raw<P: Port>(rt: &impl Abort, alloc: Global) -> Result<(), Fail> {
 fn raw_pulses_make_up_a_frame(rt: HostRuntime) -> Result<(), Fail> {
     takes_raw::<WholePort>(&rt, rt.alloc())?;
     takes_raw::<FlowPort>(&rt, rt.alloc())
+}
+
+/// The true claim of a second of the last minute of a month that has no leap.
+const fn true_claim(sod: u32) -> Claim {
+    Claim {
+        at: second(JUNE_END, sod),
+        mark: Mark::NoLeap,
+    }
+}
+
+/// What is kept of a tick at which generators 0 and 2 told the truth, and generator 1 this.
+const fn told_by_one(told: Told, truth: Claim) -> ToldEntry {
+    ToldEntry {
+        redundancy: Redundancy::Three,
+        told: Tells {
+            a: Told::Claim(truth),
+            b: told,
+            c: Told::Claim(truth),
+            d: Told::Silence,
+            e: Told::Silence,
+        },
+        truth: Some(truth),
+    }
+}
+
+/// A second at which generator 1 has a fault, and is outvoted.
+fn plays_with_fault<P: Port>(plant: &mut Plant<P>, kind: GenFault) -> Result<(), PlantFault> {
+    plant.apply(&Event::Fault { g: 1, kind })?;
+    plant.apply(&Event::Carry { g: 1, r: 0 })?;
+    match plant.run(&SECOND) {
+        Ok(()) => Ok(()),
+        Err(refused) => Err(refused.fault),
+    }
+}
+
+fn tells_who_lied<P: Port>(rt: &impl Abort, alloc: Global) -> Result<(), Fail> {
+    let mut plant = plant::<P>(alloc, second(JUNE_END, 86390))?;
+    assert!(rt; plant.run(&SECOND) == Ok(()));
+    assert!(rt; plant.told().is_empty());
+    plant.keep_told();
+    assert!(rt; plant.log().is_empty());
+    let faults = [
+        GenFault::WrongOffset(2),
+        GenFault::FalsePending(Leap::Insert),
+        GenFault::Silent,
+        GenFault::Quality(12),
+    ];
+    for kind in &faults {
+        assert!(rt; plays_with_fault(&mut plant, *kind) == Ok(()));
+    }
+    let an_hour_late = Claim {
+        at: second(JUNE_END + 1, 3591),
+        mark: Mark::Unspoken,
+    };
+    let with_a_leap = Claim {
+        mark: Mark::Insert,
+        ..true_claim(86392)
+    };
+    let expected = [
+        told_by_one(Told::Claim(an_hour_late), true_claim(86391)),
+        told_by_one(Told::Claim(with_a_leap), true_claim(86392)),
+        told_by_one(Told::Silence, true_claim(86393)),
+        told_by_one(Told::Poor(12), true_claim(86394)),
+    ];
+    assert!(rt; plant.told() == expected.as_slice());
+    assert!(rt; plant.log().len() == 4);
+    assert!(rt; plant.audit() == Audit::Kept);
+    assert!(rt;
+        plant
+            .generators()
+            .iter()
+            .all(|generator| generator.edge() == 5)
+    );
+    plant.clear_log();
+    assert!(rt; plant.told().is_empty());
+    Ok(())
+}
+
+#[test]
+fn a_plant_tells_which_generator_lied(rt: HostRuntime) -> Result<(), Fail> {
+    tells_who_lied::<WholePort>(&rt, rt.alloc())?;
+    tells_who_lied::<FlowPort>(&rt, rt.alloc())
 }

@@ -1,7 +1,7 @@
 use irig_device::{Break, Endless, Fuse, Watched};
 use irig_plant::Audit;
 use irig_port::WholePort;
-use irig_scene::{Outcome, SceneFault, run_scene, run_scene_over};
+use irig_scene::{Outcome, SceneFault, Shown, run_scene, run_scene_over, run_scene_shown};
 use std::alloc::Global;
 use std::io;
 use std::io::{BufRead, BufReader, Read, Write};
@@ -30,6 +30,25 @@ const AFTER_LINES: [&str; 4] = [
 const WHOLE: &str = "2 r1 2016-06-15T12:00:02Z locked voted
 3 r1 2016-06-15T12:00:03Z locked voted
 refused: line 4: 19 NoSuchReader
+";
+
+// Generator 1 is an hour late, silent and poor, and is outvoted.
+const LIES: &str = r#"
+{"do":"fault","g":1,"kind":"wrong_offset","by":2}
+{"do":"seconds","n":1}
+{"do":"fault","g":1,"kind":"silent"}
+{"do":"seconds","n":1}
+{"do":"fault","g":1,"kind":"quality","q":12}
+{"do":"seconds","n":1}
+{"do":"tick","r":"r9"}
+"#;
+
+const LIES_SHOWN: &str = " 1 r1 ok 2016-06-15T13:00:00Z ok
+2 r1 2016-06-15T12:00:02Z locked voted
+ 2 r1 ok silence ok
+3 r1 2016-06-15T12:00:03Z locked voted
+ 3 r1 ok poor:12 ok
+refused: line 8: 19 NoSuchReader
 ";
 
 const BREAKS: [Break; 3] = [Break::Fail, Break::Interrupt, Break::Nothing];
@@ -64,6 +83,50 @@ fn a_plain_minute_is_written_over_both_kinds_of_ports(rt: HostRuntime) -> Result
             "1 r1 - acquiring:1 acquiring\n2 r1 2016-06-15T12:00:02Z locked voted\npremises kept\n"
         );
     }
+    Ok(())
+}
+
+#[test]
+fn what_ports_told_stands_after_each_tick(rt: HostRuntime) -> Result<(), Fail> {
+    let scenario = format!(in rt.alloc(); "{PLAIN}{LIES}")?;
+    let mut input = Watched::new(scenario.as_bytes());
+    let mut output = Watched::new(Vec::new(rt.alloc()));
+    let shown = Shown {
+        all: false,
+        ports: true,
+    };
+    let mut refused = None;
+    let answer = run_scene_shown(rt.alloc(), &mut input, &mut output, shown, &mut refused);
+    let fault = SceneFault::Refused {
+        line: 8,
+        number: 19,
+    };
+    assert_eq!(rt; answer, Err(fault));
+    assert_eq!(rt; str::from_utf8(&output.into_inner())?, LIES_SHOWN);
+    let refused = refused.ok_or("no refused line")?;
+    assert_eq!(rt;
+        refused.line.as_slice(),
+        br#"{"do":"tick","r":"r9"}"#.as_slice()
+    );
+    assert!(rt; refused.names.contains("r1"));
+    assert_eq!(rt; refused.edges.as_slice(), [3, 3, 3].as_slice());
+    Ok(())
+}
+
+#[test]
+fn a_line_before_the_plant_is_refused_without_names(rt: HostRuntime) -> Result<(), Fail> {
+    let mut input = Watched::new(b"{}\nmore".as_slice());
+    let mut output = Watched::new(Vec::new(rt.alloc()));
+    let shown = Shown {
+        all: true,
+        ports: true,
+    };
+    let mut refused = None;
+    let answer = run_scene_shown(rt.alloc(), &mut input, &mut output, shown, &mut refused);
+    assert!(rt; answer.is_err());
+    let refused = refused.ok_or("no refused line")?;
+    assert_eq!(rt; refused.line.as_slice(), b"{}".as_slice());
+    assert!(rt; refused.names.is_empty() && refused.edges.is_empty());
     Ok(())
 }
 

@@ -1,8 +1,9 @@
+use Rattle.irig_scene.specs.Text.{entries_alone}
 use Rattle.irig_scene.proofs.TrueLines.{tells_truth, vouches_for_itself}
 use Rattle.irig_scene.proofs.laws.logs_are_true.Goals as goal
 
 pub returns-clause-truth : goal.returns-clause-truth
-returns-clause-truth _ = λ x all w rest is. tells_truth all x w rest is
+returns-clause-truth _ = λ x all w rest is. tells_truth (entries_alone all) x w rest is
 
 pub returns-clause-vouches : goal.returns-clause-vouches
-returns-clause-vouches _ = λ x all w rest is. vouches_for_itself all x w rest is
+returns-clause-vouches _ = λ x all w rest is. vouches_for_itself (entries_alone all) x w rest is

@@ -9,5 +9,5 @@ use Rattle.irig_scene.proofs.player.play_seconds.Given as goal
 abbrev pub invariant-loop : goal.invariant-loop
 invariant-loop g l =
     (has_failed l.output ≡ has_failed l.initial.output)
-    × ((x : Scene) → HasPlantHistory l.initial.plant (past x) → map string_bytes l.names.keys ≡ x.plan.names
-    → PlaysFor x (times l.counter l.second) l.log.all l.plant None (g.W.Write.contents (device_of l.initial.output)) (g.W.Write.contents (device_of l.output)))
+    × ((x : Scene) → HasPlantHistory l.initial.plant (past l.log.shown x) → map string_bytes l.names.keys ≡ x.plan.names
+    → PlaysFor x (times l.counter l.second) l.log.shown l.plant None (g.W.Write.contents (device_of l.initial.output)) (g.W.Write.contents (device_of l.output)))

@@ -4,7 +4,7 @@ use Rattle.irig_scene.proofs.RunLaws.{has_begun, line_done, left_read, left_fail
 use Rattle.irig_scene.proofs.run.run_lines.Goals as goal
 
 pub loop-player-init : goal.loop-player-init
-loop-player-init g c = (omega arith, omega arith, c.requires.output_whole, c.requires.input_whole, has_begun _ _ _)
+loop-player-init g c = (omega arith, omega arith, c.requires.output_whole, c.requires.input_whole, rw c.requires.none (has_begun _ _ _))
 
 pub returns-in_err-read_line-clause-ran : goal.returns-in_err-read_line-clause-ran
 returns-in_err-read_line-clause-ran g c =
