@@ -1,11 +1,14 @@
 -- What a command line asks for.
 use Rattle.std.specs.Prelude.{◌≤◌, ⊤, unsigned_abs}
 use Rattle.irig_command_line.specs.declared.request.Request.{Request}
-use Rattle.irig_command_line.specs.declared.request.Request.TheVariants.{Plain, Run, Frame, Read}
+use Rattle.irig_command_line.specs.declared.request.Request.TheVariants.{Plain, Input, Run, Frame, Read, Explain}
 
--- an offset is no more than 31 half hours, which its five bits can say
+-- an offset is no more than 31 half hours, which its five bits can say; the numbers of faults and
+-- refusals are 1 to 34
 abbrev pub IsRequest : Request → Type 0
 IsRequest Plain = ⊤
-IsRequest (Run file all) = ⊤
+IsRequest (Input all ports) = ⊤
+IsRequest (Run file all ports) = ⊤
 IsRequest (Frame time local pending) = unsigned_abs local ≤ 31
 IsRequest (Read frame) = ⊤
+IsRequest (Explain number) = (1 ≤ number) × (number ≤ 34)

@@ -6,6 +6,9 @@ pub const ABOUT: &str =
 writes and reads frames of that code (B004: pulse width, with the year, control functions and straight
 binary seconds).";
 
+/// How the program is called.
+pub const USAGE: &str = "irig [COMMAND]";
+
 /// What follows the commands and options of the program.
 pub const AFTER: &str =
     "Without a command it runs the scenario on standard input, as `irig run` runs one in a file.
@@ -15,11 +18,12 @@ Examples:
   $ irig run examples/two_liars.jsonl --all
   $ irig frame 2016-12-31T23:59:59Z --pending=insert
   $ irig read \"$(irig frame 2016-12-31T23:59:59Z)\"
+  $ irig explain 26
 
 Exit statuses:
   0  done; that a frame is faulty, or a premise broken, is an answer too
   2  the command line, TIME or FRAME is not understood
-  3  a line of the scenario is refused; the last line of the log says which, and why
+  3  a line of the scenario is refused; the last line of the log says which, standard error why
   4  FILE or standard input can't be read
   5  the output took no more
   6  out of memory";
@@ -31,6 +35,11 @@ second that a reader announces, and with --all for each tick of a reader:
   EDGE READER TIME LOCK CAUSE
 TIME is - where the reader announces nothing. The last line says whether the premises held under which each
 announced second is the true one, or which line is refused.
+
+With --ports the log has one more line for each tick, behind its other one:
+   EDGE READER WORD WORD WORD
+with a word for each port: ok, silence, poor:Q, fault:K:NAME with its place, or the second, or the word of a leap
+second, that it claimed untruly. Lines that do not begin with a blank stay as they are.
 
 Example:
   $ irig run examples/plain_minute.jsonl | tail -n 2
@@ -61,3 +70,14 @@ Example:
   $ irig read 'P10010101P 100100100P 101000000P 100000000P 000000000P 111001000P 100011010P 100001000P 111010101P 011001000P'
   coded 2017-001 05:29:59 control 17073 sbs 19799
   claim 2016-12-31T23:59:59Z insert";
+
+/// What follows the options of `explain`.
+pub const EXPLAIN_AFTER: &str =
+    "Faults of a frame are what `irig read` prints; refusals end a run. docs/FAULTS.md has them all.
+
+Example:
+  $ irig explain 27
+  27 Version
+  a version that this program does not know
+  for example: {\"version\":4}
+  what to do:  take 1, 2 or 3";

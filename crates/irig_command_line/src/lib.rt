@@ -4,6 +4,7 @@
 mod command;
 mod help;
 mod request;
+mod tip;
 
 pub use command::parse;
 pub use request::{NoRequest, Pending, Request};

@@ -5,11 +5,20 @@
 pub enum Request<'a> {
     /// The scenario on the input.
     Plain,
+    /// The scenario on the input, with options.
+    Input {
+        /// Whether the log shows silent ticks too.
+        all: bool,
+        /// Whether the log shows what each port told.
+        ports: bool,
+    },
     /// The scenario in a file.
     Run {
         file: &'a str,
         /// Whether the log shows silent ticks too.
         all: bool,
+        /// Whether the log shows what each port told.
+        ports: bool,
     },
     /// The frame of a UTC second.
     Frame {
@@ -23,6 +32,10 @@ pub enum Request<'a> {
     Read {
         frame: &'a str,
     },
+    /// What the number of a fault or a refusal means, 1 to 34.
+    Explain {
+        number: u8,
+    },
 }
 
 /// A leap second that is pending.
@@ -35,7 +48,7 @@ pub enum Pending {
 /// What comes in place of a request.
 #[derive(Debug, PartialEq, Eq, Drop)]
 pub enum NoRequest {
-    /// The help that the words ask for.
+    /// The help, or the version, that the words ask for.
     Help(String),
     /// What is wrong with the words, and what would be right.
     Fault(String),

@@ -65,7 +65,8 @@ fn are_named(members: &Map<String, Value>, named: &[Key]) -> bool
     members.keys().all(|key| is_named(key.as_str(), named))
 }
 
-fn is_named(key: &str, named: &[Key]) -> bool
+/// Whether a key of this name is among these.
+pub fn is_named(key: &str, named: &[Key]) -> bool
     ensures { result ≡ list_any (λ n. bytes_eq n.name.now key.now) named.now }
 {
     named.iter().any(|name| name.name == key)

@@ -22,7 +22,8 @@ pub fn value_of(alloc: Global, line: &[u8]) -> Result<Value, LineFault>
     }
 }
 
-pub(crate) fn whole_of(value: &Value) -> Option<i128>
+/// The whole number that a value is, from `i64::MIN` to `u64::MAX`; none where it is another value.
+pub fn whole_of(value: &Value) -> Option<i128>
     ensures { result ≡ whole_of (view value.now) }
 {
     match value.as_u64() {

@@ -30,6 +30,18 @@ pub enum Kind {
     Integer(i32, i32),
     /// The name of a reader.
     Reader,
+    /// A name that a reader is given.
+    Name,
+    /// A UTC second, as text.
+    Second,
+    /// A day, as text.
+    Day,
+    /// `even` or `odd`.
+    Parity,
+    /// `add` or `subtract`.
+    Sense,
+    /// `check` or `ignore`.
+    SbsUse,
     /// `insert` or `delete`.
     Leap,
     /// A list of at most so many whole numbers, each from 0 to the second.
@@ -71,11 +83,20 @@ macro_rules! optional_key {
     };
 }
 
-pub(crate) fn has_type(kind: Kind, value: &Value) -> bool
+/// Whether a value is of the type of a kind. Its range is not asked.
+pub fn has_type(kind: Kind, value: &Value) -> bool
     ensures { result ≡ has_type kind (view value.now) }
 {
     match kind {
-        Kind::Text | Kind::Reader | Kind::Leap => value.as_str().is_some(),
+        Kind::Text
+        | Kind::Reader
+        | Kind::Name
+        | Kind::Second
+        | Kind::Day
+        | Kind::Parity
+        | Kind::Sense
+        | Kind::SbsUse
+        | Kind::Leap => value.as_str().is_some(),
         Kind::Truth => value.as_bool().is_some(),
         Kind::List | Kind::Few(_) => value.as_array().is_some(),
         Kind::Object => value.as_object().is_some(),

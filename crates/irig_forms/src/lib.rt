@@ -8,8 +8,10 @@ mod key;
 mod keywords;
 mod refusal;
 
-pub use fields::{few_items, has_form, integer_at, leap_at, natural_at, naturals_at, reader_at};
-pub use json::{items_at, text_at, value_of, whole_at};
-pub use key::{Key, Kind};
+pub use fields::{
+    few_items, has_form, integer_at, is_named, leap_at, natural_at, naturals_at, reader_at,
+};
+pub use json::{items_at, text_at, value_of, whole_at, whole_of};
+pub use key::{Key, Kind, has_type};
 pub use keywords::{leap_named, parity_of, sbs_use_of, sense_of};
 pub use refusal::{LineFault, Refusal};

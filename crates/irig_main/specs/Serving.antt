@@ -1,7 +1,8 @@
 -- What is done for a request.
 -- Source: README.md, the commands; the exit statuses are those of Status.antt.
-use Rattle.std.specs.Prelude.{◌≡◌, ℕ, ◌≤◌, ◌↔◌, ◌⊎◌, Bool, false, List, Option, Some, None, Result, Ok, Err, string_bytes, ℤ}
+use Rattle.std.specs.Prelude.{◌≡◌, ℕ, ◌≤◌, ◌↔◌, ◌⊎◌, Bool, false, true, List, Option, Some, None, Result, Ok, Err, string_bytes, ℤ}
 use Rattle.std.specs.Io.KnownBytes.{Appends, Keeps}
+use Rattle.std.specs.declared.io.Error.{Error}
 use Rattle.irig_device.specs.Lines.{Bytes}
 use Rattle.irig_device.specs.Watched.{AppendsPart}
 use Rattle.irig_time.specs.declared.leap.Leap.{Leap}
@@ -11,9 +12,10 @@ use Rattle.irig_frame_text.specs.Letters.{ShowsNoSymbols}
 use Rattle.irig_frame_text.specs.Reading.{IsReadingOf}
 use Rattle.irig_scene.specs.declared.outcome.Outcome.{Outcome}
 use Rattle.irig_scene.specs.declared.fault.SceneFault.{SceneFault}
-use Rattle.irig_scene.specs.Run.{Ran}
+use Rattle.irig_scene.specs.declared.shown.Shown.{Shown}
+use Rattle.irig_scene.specs.Run.{RanShown}
 use Rattle.irig_command_line.specs.declared.request.Request.{Request}
-use Rattle.irig_command_line.specs.declared.request.Request.TheVariants.{Plain, Run, Frame, Read}
+use Rattle.irig_command_line.specs.declared.request.Request.TheVariants.{Plain, Input, Run, Frame, Read, Explain}
 use Rattle.irig_command_line.specs.declared.request.Pending.{Pending}
 use Rattle.irig_command_line.specs.declared.request.Pending.TheVariants.{Insert, Delete}
 use Rattle.irig_command_line.specs.declared.request.NoRequest.{NoRequest}
@@ -38,20 +40,21 @@ Wrote text (Err f) old new = (f ≡ fault.Write) × AppendsPart old new text
 -- ---- each request
 
 -- a run of the input, of which `left` is left
-pub record RunsScene (all : Bool) (answer : Answer) (input left old new : Bytes) : Type 0 where
+pub record RunsScene (shown : Shown) (answer : Answer) (input left old new : Bytes) : Type 0 where
   pub run : Result Outcome SceneFault
   pub answered : answer ≡ result_of run
-  pub ran : Ran run all input left old new
+  pub ran : RanShown run shown input left old new
 
 -- the bytes are those that some file has to give
 abbrev pub AreOfFile : {F : Type 0} → (F → Bytes) → Bytes → Type 0
 AreOfFile {F} remaining bytes = (file : F) × (bytes ≡ remaining file)
 
 -- a run of what a file gives; or it can't be opened, or there is no memory for it
-abbrev pub RunsFile : {F : Type 0} → (F → Bytes) → Bool → Answer → Bytes → Bytes → Type 0
-RunsFile remaining all answer old new =
-    ((input left : Bytes) × AreOfFile remaining input × RunsScene all answer input left old new)
-    ⊎ (Refuses fault.Read answer old new ⊎ Refuses fault.Memory answer old new)
+abbrev pub RunsFile : {F : Type 0} → (F → Bytes) → Shown → Answer → Bytes → Bytes → Type 0
+RunsFile remaining shown answer old new =
+    ((input left : Bytes) × AreOfFile remaining input × RunsScene shown answer input left old new)
+    ⊎ (((error : Error) × Refuses (fault.Open error) answer old new)
+    ⊎ Refuses fault.Memory answer old new)
 
 -- the frame of the second that the time names, if it names one
 abbrev pub ShowsFrame : List ℕ → ℤ → Option Leap → Answer → Bytes → Bytes → Type 0
@@ -66,7 +69,25 @@ ShowsReading text answer old new =
     ⊎ ((ShowsNoSymbols text × Refuses fault.BadFrameText answer old new)
     ⊎ Refuses fault.Memory answer old new)
 
+-- what a number means, if there is memory
+abbrev pub ShowsMeaning : Answer → Bytes → Bytes → Type 0
+ShowsMeaning answer old new =
+    ((text : List ℕ) × Wrote text answer old new) ⊎ Refuses fault.Memory answer old new
+
 -- ---- all requests
+
+-- what is shown of a run
+abbrev pub shown : Bool → Bool → Shown
+shown all ports = record { all = all; ports = ports }
+
+-- it is the input that is run
+abbrev pub reads_input : Request → Bool
+reads_input Plain = true
+reads_input (Input all ports) = true
+reads_input (Run file all ports) = false
+reads_input (Frame time local pending) = false
+reads_input (Read frame) = false
+reads_input (Explain number) = false
 
 -- the leap second that a word of the command line names, if one does
 abbrev pub leap_of : Option Pending → Option Leap
@@ -74,15 +95,19 @@ leap_of None = None
 leap_of (Some Insert) = Some leap.Insert
 leap_of (Some Delete) = Some leap.Delete
 
--- the request was served; what is left of the input is said of a plain run alone
+-- the request was served; what is left of the input is said of a run of it alone
 abbrev pub Serves : {F : Type 0} → (F → Bytes) → Request → Answer → Bytes → Bytes → Bytes → Bytes
     → Type 0
-Serves remaining Plain answer input left old new = RunsScene false answer input left old new
-Serves remaining (Run file all) answer input left old new =
-    RunsFile remaining all answer old new
+Serves remaining Plain answer input left old new =
+    RunsScene (shown false false) answer input left old new
+Serves remaining (Input all ports) answer input left old new =
+    RunsScene (shown all ports) answer input left old new
+Serves remaining (Run file all ports) answer input left old new =
+    RunsFile remaining (shown all ports) answer old new
 Serves remaining (Frame time local pending) answer input left old new =
     ShowsFrame time.now local (leap_of pending) answer old new
 Serves remaining (Read frame) answer input left old new = ShowsReading frame.now answer old new
+Serves remaining (Explain number) answer input left old new = ShowsMeaning answer old new
 
 -- the words ask for this, or for help, or for nothing that there is
 abbrev pub Answers : {F : Type 0} → (F → Bytes) → Result Request NoRequest → Answer → Bytes

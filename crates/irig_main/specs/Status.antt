@@ -7,7 +7,7 @@ use Rattle.irig_scene.specs.declared.fault.SceneFault.TheVariants as scene
 use Rattle.irig_frame_text.specs.declared.reading.ReadingFault.{ReadingFault}
 use Rattle.irig_frame_text.specs.declared.reading.ReadingFault.TheVariants as reading
 use Rattle.irig_main.specs.declared.fault.Fault.{Fault}
-use Rattle.irig_main.specs.declared.fault.Fault.TheVariants.{CommandLine, NotText, BadTime, BadFrameText, Refused, Read, Write, Memory}
+use Rattle.irig_main.specs.declared.fault.Fault.TheVariants.{CommandLine, NotText, BadTime, BadFrameText, Refused, Open, Read, Write, Memory}
 
 -- a fault of the words is 2, a refused scenario 3, a fault of the input 4, of the output 5, of the
 -- memory 6
@@ -17,6 +17,7 @@ status_of NotText = 2
 status_of BadTime = 2
 status_of BadFrameText = 2
 status_of Refused = 3
+status_of (Open error) = 4
 status_of Read = 4
 status_of Write = 5
 status_of Memory = 6

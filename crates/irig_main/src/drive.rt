@@ -4,9 +4,10 @@ ghost use Rattle.std.specs.Prelude.{◌≡◌, ◌↔◌, ◌≤◌, Err, IfOk, 
 ghost use Rattle.irig_command_line.specs.Requests.{IsRequest};
 ghost use Rattle.irig_command_line.specs.declared.request.Request.{Request};
 ghost use Rattle.irig_device.specs.Watched.{device_of, has_failed};
-ghost use Rattle.irig_main.specs.Serving.{Answer, Answers, Drove, RunsScene};
+ghost use Rattle.irig_main.specs.Serving.{Answer, Answers, Drove, RunsScene, shown};
 ghost use Rattle.irig_main.specs.Status.{IsStatus, status_of_answer};
 
+use crate::explain::tell_more;
 use crate::fault::{Fault, report};
 use crate::serve::{serve, write};
 use irig_command_line::{NoRequest, Request, parse};
@@ -28,7 +29,7 @@ pub fn drive<'a, R: Files + Eprint + AllocGlobal, I: BufRead, O: Write>(
         (I.remaining (device_of input.old)) (I.remaining (device_of input.new))
         (O.contents (device_of output.old)) (O.contents (device_of output.new)) }
     ensures plain { length words.entry.now ≤ 1 → (answer : Answer)
-        × (result ≡ status_of_answer answer) × RunsScene false answer
+        × (result ≡ status_of_answer answer) × RunsScene (shown false false) answer
         (I.remaining (device_of input.old)) (I.remaining (device_of input.new))
         (O.contents (device_of output.old)) (O.contents (device_of output.new)) }
     ensures status { IsStatus result }
@@ -37,14 +38,26 @@ pub fn drive<'a, R: Files + Eprint + AllocGlobal, I: BufRead, O: Write>(
         → (result ≡ 4) ↔ (has_failed input.new ≡ true) }
 {
     let asked = parse(rt.alloc(), words);
+    let request = request_in(&asked);
     match answer(rt, asked, input, output) {
         Ok(()) => 0,
-        Err(fault) => report(rt, &fault),
+        Err(fault) => {
+            let status = report(rt, &fault);
+            tell_more(rt, request, &fault);
+            status
+        }
+    }
+}
+
+fn request_in<'a>(asked: &Result<Request<'a>, NoRequest>) -> Option<Request<'a>> {
+    match asked {
+        Ok(request) => Some(*request),
+        Err(_) => None,
     }
 }
 
 // Serves a request, writes a help, or says why neither.
-fn answer<'a, R: Files + AllocGlobal, I: BufRead, O: Write>(
+fn answer<'a, R: Files + Eprint + AllocGlobal, I: BufRead, O: Write>(
     rt: &R,
     asked: Result<Request<'a>, NoRequest>,
     input: &mut Watched<I>,

@@ -8,6 +8,7 @@ use irig_frame_text::{BadTime, ReadingFault};
 use irig_scene::SceneFault;
 use std::alloc::AllocError;
 use std::fmt;
+use std::io::Error;
 
 /// What ends the program. Its text is the line on the standard error.
 #[derive(Debug, Drop)]
@@ -22,6 +23,8 @@ pub enum Fault {
     BadFrameText,
     /// A line of the scenario, which the log names.
     Refused,
+    /// FILE can't be opened.
+    Open(Error),
     /// FILE or the input can't be read.
     Read,
     /// The output took no more.
@@ -38,7 +41,7 @@ impl Fault {
         match self {
             Fault::CommandLine(_) | Fault::NotText | Fault::BadTime | Fault::BadFrameText => 2,
             Fault::Refused => 3,
-            Fault::Read => 4,
+            Fault::Open(_) | Fault::Read => 4,
             Fault::Write => 5,
             Fault::Memory => 6,
         }
@@ -53,7 +56,7 @@ impl fmt::Display for Fault {
             Fault::BadTime => "bad time",
             Fault::BadFrameText => "bad frame text",
             Fault::Refused => "scenario refused",
-            Fault::Read => "read failed",
+            Fault::Open(_) | Fault::Read => "read failed",
             Fault::Write => "write failed",
             Fault::Memory => "out of memory",
         })

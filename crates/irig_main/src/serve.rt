@@ -10,16 +10,20 @@ ghost use Rattle.irig_main.specs.Serving.{
   RunsScene,
   Serves,
   ShowsFrame,
+  ShowsMeaning,
   ShowsReading,
   Wrote,
   leap_of,
+  reads_input,
+  shown,
 };
 
+use crate::explain::{explanation, tell_refusal};
 use crate::fault::Fault;
 use irig_command_line::{Pending, Request};
 use irig_device::Watched;
 use irig_frame_text::{frame_lines, frame_text};
-use irig_scene::run_scene;
+use irig_scene::{Shown, run_scene_shown};
 use irig_time::Leap;
 use std::alloc::Global;
 use std::io::{BufRead, BufReader, Write};
@@ -29,10 +33,10 @@ use std::{fs, io};
 /// Does what is asked for. Neither device may have failed before.
 ///
 /// `BadTime` where TIME is the text of no second, `BadFrameText` where FRAME has a letter of no
-/// symbol, and then nothing is written; `Refused` where a line of the scenario is refused; `Read`
-/// where FILE can't be opened or a device of the scenario fails, `Write` where the output does;
-/// `Memory` where there was none.
-pub fn serve<'a, R: Files + AllocGlobal, I: BufRead, O: Write>(
+/// symbol, and then nothing is written; `Refused` where a line of the scenario is refused, which the
+/// standard error then explains; `Open` where FILE can't be opened, `Read` where the scenario can't
+/// be read to its end, `Write` where the output fails; `Memory` where there was none.
+pub fn serve<'a, R: Files + Eprint + AllocGlobal, I: BufRead, O: Write>(
     rt: &R,
     request: Request<'a>,
     input: &mut Watched<I>,
@@ -45,22 +49,30 @@ pub fn serve<'a, R: Files + AllocGlobal, I: BufRead, O: Write>(
         (I.remaining (device_of input.old)) (I.remaining (device_of input.new))
         (O.contents (device_of output.old)) (O.contents (device_of output.new)) }
     ensures write { (result ≡ Err Fault.Write) ↔ (has_failed output.new ≡ true) }
-    ensures read { request.entry ≡ Request.Plain
+    ensures read { reads_input request.entry ≡ true
         → (result ≡ Err Fault.Read) ↔ (has_failed input.new ≡ true) }
-    ensures unread { request.entry ≢ Request.Plain → input.new ≡ input.old }
+    ensures unread { reads_input request.entry ≡ false → input.new ≡ input.old }
     ensures unwritten { (result ≡ Err Fault.BadTime) ⊎ (result ≡ Err Fault.BadFrameText)
         → output.new ≡ output.old }
 {
     match request {
-        Request::Plain => run_input(rt.alloc(), input, output, false),
-        Request::Run { file, all } => run_file(rt, file, all, output),
+        Request::Plain => run_input(rt, input, output, shown(false, false)),
+        Request::Input { all, ports } => run_input(rt, input, output, shown(all, ports)),
+        Request::Run { file, all, ports } => run_file(rt, file, shown(all, ports), output),
         Request::Frame {
             time,
             local,
             pending,
         } => show_frame(time, local, leap_of(pending), output),
         Request::Read { frame } => show_reading(rt.alloc(), frame, output),
+        Request::Explain { number } => show_meaning(rt.alloc(), number, output),
     }
+}
+
+fn shown(all: bool, ports: bool) -> Shown
+    ensures { result ≡ shown all ports }
+{
+    Shown { all, ports }
 }
 
 fn leap_of(pending: Option<Pending>) -> Option<Leap>
@@ -73,41 +85,45 @@ fn leap_of(pending: Option<Pending>) -> Option<Leap>
     }
 }
 
-fn run_input<I: BufRead, O: Write>(
-    alloc: Global,
+fn run_input<R: Eprint + AllocGlobal, I: BufRead, O: Write>(
+    rt: &R,
     input: &mut Watched<I>,
     output: &mut Watched<O>,
-    all: bool,
+    shown: Shown,
 ) -> Result<(), Fault>
     requires input_whole { has_failed input.old ≡ false }
     requires output_whole { has_failed output.old ≡ false }
-    ensures ran { RunsScene all result
+    ensures ran { RunsScene shown result
         (I.remaining (device_of input.old)) (I.remaining (device_of input.new))
         (O.contents (device_of output.old)) (O.contents (device_of output.new)) }
     ensures write { (result ≡ Err Fault.Write) ↔ (has_failed output.new ≡ true) }
     ensures read { (result ≡ Err Fault.Read) ↔ (has_failed input.new ≡ true) }
 {
-    match run_scene(alloc, input, output, all) {
+    let mut refused = None;
+    match run_scene_shown(rt.alloc(), input, output, shown, &mut refused) {
         Ok(_) => Ok(()),
-        Err(fault) => Err(Fault::from(fault)),
+        Err(fault) => {
+            tell_refusal(rt, fault, &refused);
+            Err(Fault::from(fault))
+        }
     }
 }
 
-fn run_file<R: Files + AllocGlobal, O: Write>(
+fn run_file<R: Files + Eprint + AllocGlobal, O: Write>(
     rt: &R,
     path: &str,
-    all: bool,
+    shown: Shown,
     output: &mut Watched<O>,
 ) -> Result<(), Fault>
     requires { has_failed output.old ≡ false }
-    ensures ran { RunsFile R.File.remaining all result
+    ensures ran { RunsFile R.File.remaining shown result
         (O.contents (device_of output.old)) (O.contents (device_of output.new)) }
     ensures write { (result ≡ Err Fault.Write) ↔ (has_failed output.new ≡ true) }
 {
     match open(rt, path) {
-        Ok(mut input) => run_input(rt.alloc(), &mut input, output, all),
+        Ok(mut input) => run_input(rt, &mut input, output, shown),
         Err(error) if error.kind() == io::ErrorKind::OutOfMemory => Err(Fault::Memory),
-        Err(_) => Err(Fault::Read),
+        Err(error) => Err(Fault::Open(error)),
     }
 }
 
@@ -151,6 +167,20 @@ fn show_reading<O: Write>(alloc: Global, frame: &str, output: &mut Watched<O>) -
     match frame_lines(alloc, frame) {
         Ok(lines) => write(output, lines.as_str().as_bytes()),
         Err(fault) => Err(Fault::from(fault)),
+    }
+}
+
+fn show_meaning<O: Write>(alloc: Global, number: u8, output: &mut Watched<O>) -> Result<(), Fault>
+    requires { has_failed output.old ≡ false }
+    ensures shown { ShowsMeaning result
+        (O.contents (device_of output.old)) (O.contents (device_of output.new)) }
+    ensures write { (result ≡ Err Fault.Write) ↔ (has_failed output.new ≡ true) }
+    ensures time { result ≢ Err Fault.BadTime }
+    ensures frame { result ≢ Err Fault.BadFrameText }
+{
+    match explanation(alloc, number) {
+        Ok(text) => write(output, text.as_str().as_bytes()),
+        Err(_) => Err(Fault::Memory),
     }
 }
 

@@ -50,18 +50,18 @@ holdover = key (codes "holdover") (kind.Natural 0 1000000)
 abbrev pub plant_keys : List KeyValue
 plant_keys =
     key (codes "version") kind.Whole
-    ∷ key (codes "start") kind.Text
+    ∷ key (codes "start") kind.Second
     ∷ leaps
-    ∷ key (codes "parity") kind.Text
-    ∷ key (codes "sense") kind.Text
-    ∷ key (codes "sbs") kind.Text
+    ∷ key (codes "parity") kind.Parity
+    ∷ key (codes "sense") kind.Sense
+    ∷ key (codes "sbs") kind.SbsUse
     ∷ key (codes "generators") kind.List
     ∷ key (codes "readers") kind.List
     ∷ []
 
 -- of a leap, in a plant line or in a table
 abbrev pub leap_keys : List KeyValue
-leap_keys = key (codes "day") kind.Text ∷ leap_kind ∷ []
+leap_keys = key (codes "day") kind.Day ∷ leap_kind ∷ []
 
 -- of a generator
 abbrev pub generator_keys : List KeyValue
@@ -69,16 +69,16 @@ generator_keys = local ∷ optional_key (codes "dst") kind.Truth ∷ changes ∷
 
 -- of a change of a generator's zone
 abbrev pub change_keys : List KeyValue
-change_keys = key (codes "at") kind.Text ∷ local ∷ key (codes "dst") kind.Truth ∷ []
+change_keys = key (codes "at") kind.Second ∷ local ∷ key (codes "dst") kind.Truth ∷ []
 
 -- of a reader of the first version
 abbrev pub plain_reader_keys : List KeyValue
-plain_reader_keys = key (codes "name") kind.Text ∷ lock_after ∷ holdover ∷ []
+plain_reader_keys = key (codes "name") kind.Name ∷ lock_after ∷ holdover ∷ []
 
 -- of a reader of a later version, which may have a table
 abbrev pub later_reader_keys : List KeyValue
 later_reader_keys =
-    key (codes "name") kind.Text
+    key (codes "name") kind.Name
     ∷ lock_after
     ∷ holdover
     ∷ optional_key (codes "table") kind.Object
@@ -92,7 +92,7 @@ reader_keys Three = later_reader_keys
 
 -- of a table of leaps
 abbrev pub table_keys : List KeyValue
-table_keys = key (codes "until") kind.Text ∷ key (codes "leaps") kind.List ∷ []
+table_keys = key (codes "until") kind.Day ∷ key (codes "leaps") kind.List ∷ []
 
 -- ---- the objects, from the smallest
 

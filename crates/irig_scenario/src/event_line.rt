@@ -1,11 +1,11 @@
 //! Lines after the plant line.
 
-ghost use Rattle.std.specs.Prelude.{◌≡◌, ◌≤◌, IfOk, length};
+ghost use Rattle.std.specs.Prelude.{◌≡◌, ◌≤◌, IfOk, length, map, option_map};
 ghost use Rattle.serde_json.specs.View.{view};
 ghost use Rattle.irig_forms.specs.Fields.{natural_most};
 ghost use Rattle.irig_forms.specs.Keys.{key_value, texts_of};
 ghost use Rattle.irig_forms.specs.Refusals.{IsUnlessMemory};
-ghost use Rattle.irig_scenario.specs.Forms.{g};
+ghost use Rattle.irig_scenario.specs.Forms.{g, keys_of};
 ghost use Rattle.irig_scenario.specs.EventLine.{action_of, action_by, fault_action, natural_or_refusal, reader_in, fault_of_form, command_of_form, command_in_object, command_in_line};
 
 use crate::form::{
@@ -30,6 +30,15 @@ pub enum Command {
     /// So many whole seconds, 0 to 100,000, each with the events of
     /// [`second_of`](crate::second_of).
     Seconds(u32),
+}
+
+/// The keys of a line after the plant line, by its `do` and, of a fault, its `kind`; none where
+/// these are no words of docs/SCENARIOS.md.
+pub fn event_keys(value: &Value) -> Option<&'static [Key]>
+    ensures { option_map (λ keys. map key_value keys.now) result
+        ≡ option_map keys_of (action_of (view value.now)) }
+{
+    Some(keys_of(action_of(value)?))
 }
 
 #[tactic(auto, unfolding(crate::specs::EventLine::action_of))]

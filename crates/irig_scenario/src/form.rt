@@ -34,6 +34,22 @@ pub(crate) enum FaultKind {
     WrongOffset,
 }
 
+/// The words of `do`.
+pub const ACTION_WORDS: [&str; 10] = [
+    "step", "tick", "carry", "damage", "replay", "raw", "fault", "repair", "restart", "seconds",
+];
+
+/// The words of `kind` in the line of a fault.
+pub const FAULT_WORDS: [&str; 7] = [
+    "silent",
+    "stuck",
+    "skew",
+    "no_pending",
+    "false_pending",
+    "quality",
+    "wrong_offset",
+];
+
 pub(crate) fn action_named(word: &str) -> Option<Action>
     ensures { result ≡ action_named word.now }
 {

@@ -1,18 +1,19 @@
 //! The objects of a plant line, as tables: which keys stand in each, and what may stand at a key.
 
-ghost use Rattle.std.specs.Prelude.{◌≡◌, codes, map};
+ghost use Rattle.std.specs.Prelude.{◌≡◌, codes, map, option_and_then};
 ghost use Rattle.std.specs.List.{list_all};
 ghost use Rattle.serde_json.specs.View.{view};
 ghost use Rattle.irig_forms.specs.Keys.{key_value};
 ghost use Rattle.irig_forms.specs.Fields.{each_item};
+ghost use Rattle.irig_forms.specs.Json.{whole_at};
 ghost use Rattle.irig_scenario.specs.PlantShape.{version_of, plant_keys, leap_keys, generator_keys, change_keys, reader_keys, table_keys, is_leap, is_change, is_generator, is_table, is_reader, is_plant};
 
-use irig_forms::{Key, Kind, has_form, items_at, key, optional_key};
+use irig_forms::{Key, Kind, has_form, items_at, key, optional_key, whole_at};
 use serde_json::Value;
 
 /// A version of a plant line: the second adds tables of leaps, the third plants of five generators.
 #[derive(Clone, Copy, Debug, PartialEq, Eq)]
-pub(crate) enum Version {
+pub enum Version {
     /// Three generators, no tables.
     One,
     /// Three generators, and a reader may have a table.
@@ -32,6 +33,14 @@ pub(crate) fn version_of(number: i128) -> Option<Version>
     }
 }
 
+/// The version of the plant line that has this value; none of another number than 1 to 3.
+pub fn version_in(value: &Value) -> Option<Version>
+    ensures { result
+        ≡ option_and_then version_of (whole_at (codes "version") (view value.now)) }
+{
+    version_of(whole_at(value, "version")?)
+}
+
 pub(crate) const LEAPS: Key = key!("leaps": Kind::Few(1200));
 
 pub(crate) const LOCAL: Key = key!("local": Kind::Integer(-128, 127));
@@ -44,46 +53,51 @@ pub(crate) const LOCK_AFTER: Key = key!("lock_after": Kind::Natural(1, 60));
 
 pub(crate) const HOLDOVER: Key = key!("holdover": Kind::Natural(0, 1_000_000));
 
-fn plant_keys() -> &'static [Key]
+/// The keys of a plant line.
+pub fn plant_keys() -> &'static [Key]
     ensures { map key_value result.now ≡ plant_keys }
 {
     &[
         key!("version": Kind::Whole),
-        key!("start": Kind::Text),
+        key!("start": Kind::Second),
         LEAPS,
-        key!("parity": Kind::Text),
-        key!("sense": Kind::Text),
-        key!("sbs": Kind::Text),
+        key!("parity": Kind::Parity),
+        key!("sense": Kind::Sense),
+        key!("sbs": Kind::SbsUse),
         key!("generators": Kind::List),
         key!("readers": Kind::List),
     ]
 }
 
-fn leap_keys() -> &'static [Key]
+/// The keys of a leap, in a plant line and in a table.
+pub fn leap_keys() -> &'static [Key]
     ensures { map key_value result.now ≡ leap_keys }
 {
-    &[key!("day": Kind::Text), LEAP_KIND]
+    &[key!("day": Kind::Day), LEAP_KIND]
 }
 
-fn generator_keys() -> &'static [Key]
+/// The keys of a generator.
+pub fn generator_keys() -> &'static [Key]
     ensures { map key_value result.now ≡ generator_keys }
 {
     &[LOCAL, optional_key!("dst": Kind::Truth), CHANGES]
 }
 
-fn change_keys() -> &'static [Key]
+/// The keys of a change of a generator's zone.
+pub fn change_keys() -> &'static [Key]
     ensures { map key_value result.now ≡ change_keys }
 {
-    &[key!("at": Kind::Text), LOCAL, key!("dst": Kind::Truth)]
+    &[key!("at": Kind::Second), LOCAL, key!("dst": Kind::Truth)]
 }
 
-fn reader_keys(version: Version) -> &'static [Key]
+/// The keys of a reader.
+pub fn reader_keys(version: Version) -> &'static [Key]
     ensures { map key_value result.now ≡ reader_keys version }
 {
     match version {
-        Version::One => &[key!("name": Kind::Text), LOCK_AFTER, HOLDOVER],
+        Version::One => &[key!("name": Kind::Name), LOCK_AFTER, HOLDOVER],
         Version::Two | Version::Three => &[
-            key!("name": Kind::Text),
+            key!("name": Kind::Name),
             LOCK_AFTER,
             HOLDOVER,
             optional_key!("table": Kind::Object),
@@ -91,10 +105,11 @@ fn reader_keys(version: Version) -> &'static [Key]
     }
 }
 
-fn table_keys() -> &'static [Key]
+/// The keys of a table of leaps.
+pub fn table_keys() -> &'static [Key]
     ensures { map key_value result.now ≡ table_keys }
 {
-    &[key!("until": Kind::Text), key!("leaps": Kind::List)]
+    &[key!("until": Kind::Day), key!("leaps": Kind::List)]
 }
 
 fn is_leap(value: &Value) -> bool

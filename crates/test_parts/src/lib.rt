@@ -1,11 +1,9 @@
-//! What readers stand on, tried by its public calls: time code, time, generators, ports, devices, and
-//! the words of a command line.
+//! What readers stand on, tried by its public calls: time code, time, generators, ports, devices. The
+//! words of a command line are tried by cases.
 //!
 //! They stand apart from the crates that they try, which would be proved once more for them.
 #![tactic(auto)]
 
-#[cfg(test)]
-mod command_lines;
 #[cfg(test)]
 mod controls;
 #[cfg(test)]

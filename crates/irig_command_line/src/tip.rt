@@ -1,0 +1,76 @@
+//! What is wrong with words, with a tip where `clap` has none that helps.
+
+use clap::Error;
+use clap::error::ErrorKind;
+use std::alloc::{AllocError, Global};
+
+/// The text of a fault of the words, of which the first is the program's name.
+pub(crate) fn fault_with_tip(
+    alloc: Global,
+    error: &Error,
+    words: &[&str],
+) -> Result<String, AllocError> {
+    match error.kind() {
+        ErrorKind::UnknownArgument => unknown_argument(alloc, error, words),
+        ErrorKind::InvalidSubcommand => unknown_command(alloc, error, words),
+        ErrorKind::ValueValidation if is_word(words, 1, "frame") => format!(in alloc;
+            "{error}\n  tip: half hours are whole, -31 to 31; 5 hours 30 minutes are 11"
+        ),
+        ErrorKind::ValueValidation if is_word(words, 1, "explain") => format!(in alloc;
+            "{error}\n  tip: a number from 1 to 34, as 25 of `refused: line 3: 25 Shape`"
+        ),
+        _ => format!(in alloc; "{error}"),
+    }
+}
+
+// Of what `clap` says the first line alone, since its own tip is of no use where all is given.
+fn unknown_argument(alloc: Global, error: &Error, words: &[&str]) -> Result<String, AllocError> {
+    if let Some(number) = negative_local(words) {
+        return format!(in alloc;
+            "error: a number below 0 stands behind '=': --local={number}\n\nFor more information, try '--help'."
+        );
+    }
+    let text = format!(in alloc; "{error}")?;
+    let fault = text.as_str().lines().next().unwrap_or("");
+    let tip = tip_for(words);
+    format!(in alloc; "{fault}{tip}\n\nFor more information, try '--help'.")
+}
+
+fn tip_for(words: &[&str]) -> &'static str {
+    match words.get(1) {
+        Some(&"read") => {
+            "\n\n  tip: quotes hold the groups of a frame together: irig read 'P10.. 100.. ..'"
+        }
+        Some(&"frame") => "\n\n  tip: TIME is one word, as 2016-12-31T23:59:59Z",
+        _ => "",
+    }
+}
+
+// To a path `clap` would say that a command is similar.
+fn unknown_command(alloc: Global, error: &Error, words: &[&str]) -> Result<String, AllocError> {
+    match words.get(1) {
+        Some(word) if is_path(word) => format!(in alloc;
+            "error: '{word}' is no command\n\n  tip: to run the scenario in a file: irig run {word}\n\nFor more information, try '--help'."
+        ),
+        _ => format!(in alloc; "{error}"),
+    }
+}
+
+fn is_word(words: &[&str], place: usize, wanted: &str) -> bool {
+    words.get(place).is_some_and(|word| *word == wanted)
+}
+
+fn is_path(word: &str) -> bool {
+    word.bytes().any(|byte| byte == b'.' || byte == b'/')
+}
+
+// The number below 0 that stands behind `--local` as a word of its own.
+fn negative_local<'a>(words: &[&'a str]) -> Option<&'a str> {
+    let place = words.iter().position(|word| *word == "--local")?;
+    let number = words.get(place.checked_add(1)?)?;
+    if number.as_bytes().first() == Some(&b'-') {
+        Some(number)
+    } else {
+        None
+    }
+}

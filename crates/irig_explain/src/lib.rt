@@ -1,0 +1,17 @@
+//! What the program says of its numbers, and why a line is refused: the place in the line, what
+//! stands there and what may stand there, by the tables by which the line was read.
+#![tactic(auto)]
+
+mod event;
+mod found;
+mod kind;
+mod meaning;
+mod plant;
+mod refused;
+mod shape;
+mod value;
+mod words;
+
+pub use meaning::{Meaning, meaning_of};
+pub use refused::{Standing, why_refused};
+pub use words::{why_no_frame, why_no_time};

@@ -1,0 +1,118 @@
+//! What is wrong with the TIME or the FRAME of a command line.
+
+use crate::found::quoted;
+use irig_time::{month_end, read_day};
+use std::alloc::{AllocError, Global};
+
+/// Why a text names no UTC second of those that are served, in one line. Fails for want of memory
+/// alone.
+pub fn why_no_time(alloc: Global, text: &str) -> Result<String, AllocError> {
+    let stands = quoted(alloc, text)?;
+    let Some(time) = TimeText::of(text.as_bytes()) else {
+        return format!(in alloc;
+            "{stands} is not of the form YYYY-MM-DDTHH:MM:SSZ, as 2016-12-31T23:59:59Z"
+        );
+    };
+    let reason = time.reason();
+    format!(in alloc; "{stands}: {reason}")
+}
+
+/// Why a text is none of the seconds served.
+pub(crate) fn reason_of_time(text: &str) -> &'static str {
+    match TimeText::of(text.as_bytes()) {
+        Some(time) => time.reason(),
+        None => "its form is another",
+    }
+}
+
+/// Why a text is none of the days that can be named.
+pub(crate) fn reason_of_day(text: &str) -> &'static str {
+    let form = FORM.get(..10).unwrap_or(FORM);
+    let has_form = text.len() == 10 && text.bytes().zip(form).all(|(byte, form)| fits(byte, *form));
+    if has_form {
+        "there is no such day"
+    } else {
+        "its form is another"
+    }
+}
+
+/// The parts of a time that has its form, whatever they say.
+#[derive(Clone, Copy)]
+struct TimeText {
+    /// The day, counted from 2000-01-01; none where there is no such day in those years.
+    day: Option<u32>,
+    hour: u8,
+    minute: u8,
+    second: u8,
+}
+
+impl TimeText {
+    fn of(text: &[u8]) -> Option<TimeText> {
+        if text.len() != 20 || !text.iter().zip(FORM).all(|(byte, form)| fits(*byte, *form)) {
+            return None;
+        }
+        Some(TimeText {
+            day: read_day(text.get(..10)?),
+            hour: two_digits(text, 11)?,
+            minute: two_digits(text, 14)?,
+            second: two_digits(text, 17)?,
+        })
+    }
+
+    fn reason(&self) -> &'static str {
+        let Some(day) = self.day else {
+            return "there is no such day from 2000-01-02 to 2099-12-30";
+        };
+        if day < 1 || day > 36523 {
+            "the days from 2000-01-02 to 2099-12-30 are served"
+        } else if self.hour > 23 || self.minute > 59 || self.second > 60 {
+            "hours go to 23, minutes to 59 and seconds to 59"
+        } else if self.hour != 23 || self.minute != 59 {
+            "second 60 comes at 23:59 alone"
+        } else if !month_end(day) {
+            "this day has no second 60: it is not the last of a month"
+        } else {
+            "there is no such second"
+        }
+    }
+}
+
+static FORM: &[u8] = b"0000-00-00T00:00:00Z";
+
+// Whether a byte is a digit where a digit belongs, and else the byte that belongs there.
+fn fits(byte: u8, form: u8) -> bool {
+    if form == b'0' {
+        byte.is_ascii_digit()
+    } else {
+        byte == form
+    }
+}
+
+fn two_digits(text: &[u8], place: usize) -> Option<u8> {
+    let tens = text.get(place)?.checked_sub(b'0')?;
+    let units = text.get(place.checked_add(1)?)?.checked_sub(b'0')?;
+    tens.checked_mul(10)?.checked_add(units)
+}
+
+/// Which character of a text is no symbol of a frame, and at which place, in one line. Fails for
+/// want of memory alone.
+pub fn why_no_frame(alloc: Global, text: &str) -> Result<String, AllocError> {
+    match text
+        .chars()
+        .enumerate()
+        .find(|(_, letter)| !is_letter(*letter))
+    {
+        Some((place, letter)) => {
+            let place = place.saturating_add(1);
+            let letter = letter.escape_debug();
+            format!(in alloc;
+                "character {place} is '{letter}'; P, 0, 1, ? and blanks may stand there"
+            )
+        }
+        None => format!(in alloc; "P, 0, 1, ? and blanks may stand there"),
+    }
+}
+
+fn is_letter(letter: char) -> bool {
+    matches!(letter, 'P' | '0' | '1' | '?' | ' ')
+}
