@@ -1,63 +1,58 @@
 //! What may stand at a key, in words.
 
-use irig_forms::Kind;
-use std::alloc::{AllocError, Global};
+use crate::reason::Reason;
+use irig_forms::{Kind, Text};
 
-/// What may stand at a key of this kind.
-pub(crate) fn what_may_stand(alloc: Global, kind: Kind) -> Result<String, AllocError> {
-    match kind {
-        Kind::Natural(least, most) => format!(in alloc; "{least} to {most}"),
-        Kind::Integer(least, most) => format!(in alloc; "{least} to {most}"),
-        Kind::Few(count) => format!(in alloc; "a list of at most {count}"),
-        Kind::Naturals(count, most) => {
-            format!(in alloc; "a list of at most {count} whole numbers, each 0 to {most},")
+impl Reason {
+    /// What may stand at a key of this kind.
+    pub(crate) fn kind(&mut self, kind: Kind) {
+        match kind {
+            Kind::Natural(least, most) => self.range(i128::from(least), i128::from(most)),
+            Kind::Integer(least, most) => self.range(i128::from(least), i128::from(most)),
+            Kind::Few(count) => self.at_most(count),
+            Kind::Naturals(count, most) => {
+                self.at_most(count);
+                self.say(" whole numbers, each ");
+                self.range(0, i128::from(most));
+                self.say(",");
+            }
+            Kind::Text(text) => self.say(words_of(text)),
+            Kind::Whole => self.say("a whole number"),
+            Kind::Truth => self.say("true or false"),
+            Kind::List => self.say("a list"),
+            Kind::Object => self.say("an object"),
         }
-        _ => String::from_str(alloc, words_of(kind)),
+    }
+
+    fn at_most(&mut self, count: usize) {
+        self.say("a list of at most ");
+        self.number(count as i128);
+    }
+
+    /// The same where a value of another type stands there, or none.
+    pub(crate) fn kind_and_type(&mut self, kind: Kind) {
+        if matches!(kind, Kind::Natural(..) | Kind::Integer(..)) {
+            self.say("a whole number, ");
+            self.kind(kind);
+            self.say(",");
+        } else {
+            self.kind(kind);
+        }
     }
 }
 
-/// The same where a value of another type stands there.
-pub(crate) fn what_type_may_stand(alloc: Global, kind: Kind) -> Result<String, AllocError> {
-    let range = what_may_stand(alloc, kind)?;
-    match kind {
-        Kind::Natural(..) | Kind::Integer(..) => format!(in alloc; "a whole number, {range},"),
-        _ => Ok(range),
-    }
-}
-
-// What may stand at a key of a kind without numbers of its own.
-fn words_of(kind: Kind) -> &'static str {
-    match kind {
-        Kind::Whole => "a whole number",
-        Kind::Truth => "true or false",
-        Kind::List => "a list",
-        Kind::Object => "an object",
-        Kind::Reader => "the name of a reader",
-        Kind::Name => "1 to 16 of a to z, 0 to 9, _ and -",
-        Kind::Second => {
+fn words_of(text: Text) -> &'static str {
+    match text {
+        Text::Any => "a text",
+        Text::Reader => "the name of a reader",
+        Text::Name => "1 to 16 of a to z, 0 to 9, _ and -",
+        Text::Second => {
             "a UTC second, as \"2016-12-31T23:59:50Z\", from 2000-01-02 to 2099-12-30,"
         }
-        Kind::Day => "a day, as \"2016-12-31\", from 2000-01-01 to 2099-12-31,",
-        Kind::Parity => "\"even\" or \"odd\"",
-        Kind::Sense => "\"add\" or \"subtract\"",
-        Kind::SbsUse => "\"check\" or \"ignore\"",
-        Kind::Leap => "\"insert\" or \"delete\"",
-        _ => "a text",
+        Text::Day => "a day, as \"2016-12-31\", from 2000-01-01 to 2099-12-31,",
+        Text::Parity => "\"even\" or \"odd\"",
+        Text::Sense => "\"add\" or \"subtract\"",
+        Text::SbsUse => "\"check\" or \"ignore\"",
+        Text::Leap => "\"insert\" or \"delete\"",
     }
-}
-
-/// The words of a list, as `"a", "b"`.
-pub(crate) fn listed(alloc: Global, words: &[&str]) -> Result<String, AllocError> {
-    let mut text = String::new(alloc);
-    for word in words {
-        push_word(&mut text, word)?;
-    }
-    Ok(text)
-}
-
-/// Adds a word to such a list.
-pub(crate) fn push_word(text: &mut String, word: &str) -> Result<(), AllocError> {
-    text.push_str(if text.is_empty() { "\"" } else { ", \"" })?;
-    text.push_str(word)?;
-    text.push_str("\"")
 }

@@ -3,10 +3,10 @@
 #![tactic(auto)]
 
 mod event;
-mod found;
 mod kind;
 mod meaning;
 mod plant;
+mod reason;
 mod refused;
 mod shape;
 mod value;

@@ -18,7 +18,7 @@ pub struct Meaning {
     pub cure: &'static str,
 }
 
-const MEANINGS: [Meaning; 34] = [
+static MEANINGS: [Meaning; 34] = [
     // 1
     Meaning {
         name: "Short n",

@@ -1,6 +1,6 @@
 //! What is wrong with a plant line.
 
-use crate::found::{Stop, quoted, shown};
+use crate::reason::{Place, Reason};
 use crate::shape::find_in_shape;
 use crate::value::find_in_values;
 use irig_forms::{Key, items_at, text_at, whole_at};
@@ -10,7 +10,6 @@ use irig_scenario::{
 };
 use irig_time::{FIRST_DAY, LAST_DAY, month_end, read_day, read_text};
 use serde_json::Value;
-use std::alloc::{AllocError, Global};
 
 /// What is looked for in each object of a plant line.
 #[derive(Clone, Copy)]
@@ -19,150 +18,127 @@ enum Search {
     Values,
 }
 
-/// What is wrong with the plant line that has this value, by the number of its refusal.
-pub(crate) fn find_in_plant(alloc: Global, number: u8, value: &Value) -> Result<(), Stop> {
-    match number {
-        25 => {
-            find_version(alloc, value)?;
-            find_in_objects(alloc, Search::Shape, value)
+impl Search {
+    // Says nothing where something is said already: the first that is wrong is the reason.
+    fn look(self, reason: &mut Reason, place: Place, keys: &[Key], value: &Value) {
+        if !reason.is_empty() {
+            return;
         }
-        26 => {
-            find_in_objects(alloc, Search::Values, value)?;
-            find_count_of_generators(alloc, value)
+        match self {
+            Search::Shape => find_in_shape(reason, place, keys, value),
+            Search::Values => find_in_values(reason, place, keys, value),
         }
-        27 => Err(Stop::Found(strange_version(alloc, value)?)),
-        28 => find_in_names(alloc, items_at(value, "readers").unwrap_or(&[])),
-        11 => Err(Stop::Found(bad_start(alloc, value)?)),
-        12 | 13 | 14 => find_in_leaps(alloc, number, "", value),
-        15 | 16 => find_in_generators(alloc, number, value),
-        _ => find_in_tables(alloc, number, value),
     }
+}
+
+/// Says what is wrong with the plant line that has this value, by the number of its refusal.
+pub(crate) fn find_in_plant(reason: &mut Reason, number: u8, value: &Value) {
+    match number {
+        25 => find_in_shapes(reason, value),
+        26 => find_in_ranges(reason, value),
+        27 => reason.misfit(Place::Line, "version", value, "1, 2 or 3"),
+        28 => find_in_names(reason, value),
+        11 => find_start(reason, value),
+        12 | 13 | 14 => find_in_leaps(reason, number, None, value),
+        15 => find_in_offsets(reason, value),
+        16 => find_in_changes(reason, value),
+        _ => find_in_tables(reason, number, value),
+    }
+}
+
+fn items<'a>(value: &'a Value, key: &str) -> &'a [Value] {
+    items_at(value, key).unwrap_or(&[])
 }
 
 // ---- the forms of its objects
 
-fn find_version(alloc: Global, value: &Value) -> Result<(), Stop> {
+fn find_in_shapes(reason: &mut Reason, value: &Value) {
     if value.is_object() && whole_at(value, "version").is_some() {
-        return Ok(());
-    }
-    find_in_shape(alloc, "", plant_keys(), value)
-}
-
-fn find_in_object(
-    alloc: Global,
-    search: Search,
-    place: &str,
-    keys: &[Key],
-    value: &Value,
-) -> Result<(), Stop> {
-    match search {
-        Search::Shape => find_in_shape(alloc, place, keys, value),
-        Search::Values => find_in_values(alloc, place, keys, value),
+        find_in_objects(reason, Search::Shape, value);
+    } else {
+        find_in_shape(reason, Place::Line, plant_keys(), value);
     }
 }
 
-fn find_in_objects(alloc: Global, search: Search, value: &Value) -> Result<(), Stop> {
-    find_in_object(alloc, search, "", plant_keys(), value)?;
-    find_in_items(alloc, search, "", "leaps", leap_keys(), value)?;
-    find_in_items(alloc, search, "", "generators", generator_keys(), value)?;
-    for (at, generator) in items_at(value, "generators")
-        .unwrap_or(&[])
-        .iter()
-        .enumerate()
-    {
-        let place = format!(in alloc; "generators[{at}].")?;
-        find_in_items(
-            alloc,
-            search,
-            place.as_str(),
-            "changes",
-            change_keys(),
-            generator,
-        )?;
+fn find_in_ranges(reason: &mut Reason, value: &Value) {
+    find_in_objects(reason, Search::Values, value);
+    if reason.is_empty() {
+        let may = match version_in(value) {
+            Some(Version::Three) => "3 or 5",
+            _ => "3 (or, in version 3, 5)",
+        };
+        reason.misfit(Place::Line, "generators", value, may);
     }
-    find_in_readers(alloc, search, value)
 }
 
-fn find_in_items(
-    alloc: Global,
-    search: Search,
-    above: &str,
-    name: &str,
-    keys: &[Key],
-    value: &Value,
-) -> Result<(), Stop> {
-    for (at, item) in items_at(value, name).unwrap_or(&[]).iter().enumerate() {
-        let place = format!(in alloc; "{above}{name}[{at}]: ")?;
-        find_in_object(alloc, search, place.as_str(), keys, item)?;
+fn find_in_objects(reason: &mut Reason, search: Search, value: &Value) {
+    search.look(reason, Place::Line, plant_keys(), value);
+    for (at, leap) in items(value, "leaps").iter().enumerate() {
+        search.look(reason, Place::Leap(at), leap_keys(), leap);
     }
-    Ok(())
-}
-
-fn find_in_readers(alloc: Global, search: Search, value: &Value) -> Result<(), Stop> {
-    let version = version_in(value).unwrap_or(Version::Three);
-    for (at, reader) in items_at(value, "readers").unwrap_or(&[]).iter().enumerate() {
-        let place = format!(in alloc; "readers[{at}]: ")?;
-        if let Some(table) = reader.get("table") {
-            find_early_table(alloc, place.as_str(), version)?;
-            let place = format!(in alloc; "readers[{at}].table: ")?;
-            find_in_object(alloc, search, place.as_str(), table_keys(), table)?;
-            let above = format!(in alloc; "readers[{at}].table.")?;
-            find_in_items(alloc, search, above.as_str(), "leaps", leap_keys(), table)?;
+    for (at, generator) in items(value, "generators").iter().enumerate() {
+        search.look(reason, Place::Generator(at), generator_keys(), generator);
+    }
+    for (at, generator) in items(value, "generators").iter().enumerate() {
+        for (nth, change) in items(generator, "changes").iter().enumerate() {
+            search.look(reason, Place::Change(at, nth), change_keys(), change);
         }
-        find_in_object(alloc, search, place.as_str(), reader_keys(version), reader)?;
     }
-    Ok(())
+    let version = version_in(value).unwrap_or(Version::Three);
+    for (at, reader) in items(value, "readers").iter().enumerate() {
+        find_in_reader(reason, search, version, at, reader);
+    }
+}
+
+fn find_in_reader(
+    reason: &mut Reason,
+    search: Search,
+    version: Version,
+    at: usize,
+    reader: &Value,
+) {
+    if let Some(table) = reader.get("table") {
+        find_early_table(reason, version, at);
+        search.look(reason, Place::Table(at), table_keys(), table);
+        for (nth, leap) in items(table, "leaps").iter().enumerate() {
+            search.look(reason, Place::TableLeap(at, nth), leap_keys(), leap);
+        }
+    }
+    search.look(reason, Place::Reader(at), reader_keys(version), reader);
 }
 
 // A table in a version that has none.
-fn find_early_table(alloc: Global, place: &str, version: Version) -> Result<(), Stop> {
-    if version != Version::One {
-        return Ok(());
+fn find_early_table(reason: &mut Reason, version: Version, at: usize) {
+    if version == Version::One && reason.is_empty() {
+        reason.place(Place::Reader(at));
+        reason.say("\"table\" is no key of version 1; versions 2 and 3 have it");
     }
-    let text = format!(in alloc;
-        "{place}\"table\" is no key of version 1; versions 2 and 3 have it"
-    )?;
-    Err(Stop::Found(text))
-}
-
-fn find_count_of_generators(alloc: Global, value: &Value) -> Result<(), Stop> {
-    let count = items_at(value, "generators").unwrap_or(&[]).len();
-    let may = match version_in(value) {
-        Some(Version::Three) => "3 or 5",
-        _ => "3 (or, in version 3, 5)",
-    };
-    let text = format!(in alloc; "\"generators\" is a list of {count}; {may} may stand here")?;
-    Err(Stop::Found(text))
-}
-
-fn strange_version(alloc: Global, value: &Value) -> Result<String, AllocError> {
-    let number = whole_at(value, "version").unwrap_or(0);
-    format!(in alloc; "\"version\" is {number}; 1, 2 or 3 may stand here")
 }
 
 // ---- the names of its readers
 
-fn find_in_names(alloc: Global, readers: &[Value]) -> Result<(), Stop> {
+fn find_in_names(reason: &mut Reason, value: &Value) {
+    let readers = items(value, "readers");
     if readers.is_empty() || readers.len() > 16 {
-        let count = readers.len();
-        let text = format!(in alloc; "\"readers\" is a list of {count}; 1 to 16 may stand here")?;
-        return Err(Stop::Found(text));
+        reason.misfit(Place::Line, "readers", value, "1 to 16");
     }
     for (at, reader) in readers.iter().enumerate() {
-        let name = text_at(reader, "name").unwrap_or("");
-        let stands = quoted(alloc, name)?;
-        let may = if is_name_form(name) {
-            if !is_named_before(name, at, readers) {
-                continue;
-            }
-            "a name that no reader before it has"
-        } else {
-            "1 to 16 of a to z, 0 to 9, _ and -"
-        };
-        let text = format!(in alloc; "readers[{at}]: \"name\" is {stands}; {may} may stand here")?;
-        return Err(Stop::Found(text));
+        if let Some(may) = why_no_name(at, readers, text_at(reader, "name").unwrap_or(""))
+            && reason.is_empty()
+        {
+            reason.misfit(Place::Reader(at), "name", reader, may);
+        }
     }
-    Ok(())
+}
+
+fn why_no_name(at: usize, readers: &[Value], name: &str) -> Option<&'static str> {
+    if !is_name_form(name) {
+        Some("1 to 16 of a to z, 0 to 9, _ and -")
+    } else if is_named_before(name, at, readers) {
+        Some("a name that no reader before it has")
+    } else {
+        None
+    }
 }
 
 fn is_name_form(name: &str) -> bool {
@@ -179,39 +155,48 @@ fn is_named_before(name: &str, at: usize, readers: &[Value]) -> bool {
 
 // ---- its timeline
 
-fn bad_start(alloc: Global, value: &Value) -> Result<String, AllocError> {
-    let stands = quoted(alloc, text_at(value, "start").unwrap_or(""))?;
-    format!(in alloc;
-        "\"start\" is {stands}; a second that \"leaps\" gives its day may stand here: 23:59:60 needs an \"insert\" of that day, and a \"delete\" takes 23:59:59 away"
-    )
+static NO_START: &str =
+    "a second that \"leaps\" gives its day may stand here: 23:59:60 needs an \"insert\" of that day, and a \"delete\" takes 23:59:59 away";
+
+fn find_start(reason: &mut Reason, value: &Value) {
+    if let Some(item) = value.get("start") {
+        reason.stands(Place::Line, "start", item);
+        reason.say(NO_START);
+    }
 }
 
 fn day_in(leap: &Value) -> Option<u32> {
     read_day(text_at(leap, "day")?.as_bytes())
 }
 
-fn find_in_leaps(alloc: Global, number: u8, above: &str, value: &Value) -> Result<(), Stop> {
-    let leaps = items_at(value, "leaps").unwrap_or(&[]);
+// The leaps of the plant line, or of a reader's table.
+fn find_in_leaps(reason: &mut Reason, number: u8, reader: Option<usize>, value: &Value) {
+    let leaps = items(value, "leaps");
     let last = text_at(value, "until").and_then(|day| read_day(day.as_bytes()));
     for (at, leap) in leaps.iter().enumerate() {
-        let Some(day) = day_in(leap) else {
-            continue;
-        };
-        let may = match number {
-            14 if !is_served(day) => "2000-01-02 to 2099-12-30",
-            12 if !is_month_end(day) => "the last day of a month",
-            33 if !is_served(day) || !is_month_end(day) => "the last day of a month",
-            33 if last.is_some_and(|last| last < day) => "a day up to \"until\"",
-            13 | 34 if is_day_before(day, at, leaps) => "a day that no leap before it has",
-            _ => continue,
-        };
-        let stands = quoted(alloc, text_at(leap, "day").unwrap_or(""))?;
-        let text = format!(in alloc;
-            "{above}leaps[{at}]: \"day\" is {stands}; {may} may stand here"
-        )?;
-        return Err(Stop::Found(text));
+        if let Some(day) = day_in(leap)
+            && let Some(may) = why_no_leap(number, day, last, is_day_before(day, at, leaps))
+            && reason.is_empty()
+        {
+            let place = match reader {
+                Some(reader) => Place::TableLeap(reader, at),
+                None => Place::Leap(at),
+            };
+            reason.misfit(place, "day", leap, may);
+        }
     }
-    Ok(())
+}
+
+// What may stand in place of a day, if the refusal of this number is for it.
+fn why_no_leap(number: u8, day: u32, last: Option<u32>, is_again: bool) -> Option<&'static str> {
+    match number {
+        14 if !is_served(day) => Some("2000-01-02 to 2099-12-30"),
+        12 if !is_month_end(day) => Some("the last day of a month"),
+        33 if !is_served(day) || !is_month_end(day) => Some("the last day of a month"),
+        33 if last.is_some_and(|last| last < day) => Some("a day up to \"until\""),
+        13 | 34 if is_again => Some("a day that no leap before it has"),
+        _ => None,
+    }
 }
 
 fn is_served(day: u32) -> bool {
@@ -228,96 +213,66 @@ fn is_day_before(day: u32, at: usize, leaps: &[Value]) -> bool {
 
 // ---- its generators
 
-fn find_in_generators(alloc: Global, number: u8, value: &Value) -> Result<(), Stop> {
-    for (at, generator) in items_at(value, "generators")
-        .unwrap_or(&[])
-        .iter()
-        .enumerate()
-    {
-        let place = format!(in alloc; "generators[{at}]")?;
-        let changes = items_at(generator, "changes").unwrap_or(&[]);
-        if number == 15 {
-            find_in_offset(alloc, place.as_str(), generator)?;
-            find_in_offsets(alloc, place.as_str(), changes)?;
-        } else {
-            find_in_changes(alloc, place.as_str(), changes)?;
+fn find_in_offsets(reason: &mut Reason, value: &Value) {
+    for (at, generator) in items(value, "generators").iter().enumerate() {
+        find_offset(reason, Place::Generator(at), generator);
+        for (nth, change) in items(generator, "changes").iter().enumerate() {
+            find_offset(reason, Place::Change(at, nth), change);
         }
     }
-    Ok(())
 }
 
-fn find_in_offset(alloc: Global, place: &str, zone: &Value) -> Result<(), Stop> {
-    match whole_at(zone, "local") {
-        Some(local) if local < -31 || local > 31 => {
-            let text = format!(in alloc;
-                "{place}: \"local\" is {local}; -31 to 31 half hours may stand here"
-            )?;
-            Err(Stop::Found(text))
-        }
-        _ => Ok(()),
+fn find_offset(reason: &mut Reason, place: Place, zone: &Value) {
+    if whole_at(zone, "local").is_some_and(|local| local < -31 || local > 31) && reason.is_empty() {
+        reason.misfit(place, "local", zone, "-31 to 31 half hours");
     }
 }
 
-fn find_in_offsets(alloc: Global, place: &str, changes: &[Value]) -> Result<(), Stop> {
-    for (at, change) in changes.iter().enumerate() {
-        let place = format!(in alloc; "{place}.changes[{at}]")?;
-        find_in_offset(alloc, place.as_str(), change)?;
-    }
-    Ok(())
-}
-
-fn find_in_changes(alloc: Global, place: &str, changes: &[Value]) -> Result<(), Stop> {
-    let mut before = None;
-    for (at, change) in changes.iter().enumerate() {
-        let text = text_at(change, "at").unwrap_or("");
-        let second = read_text(text.as_bytes());
-        if let Some(second) = second {
-            let now = (second.day, second.sod);
-            let is_later = before.is_none_or(|before| before < now);
-            if second.sod % 60 != 0 || second.sod == 86400 || !is_later {
-                let stands = quoted(alloc, text)?;
-                let text = format!(in alloc;
-                    "{place}.changes[{at}]: \"at\" is {stands}; the first second of a minute, later than the change before, may stand here"
-                )?;
-                return Err(Stop::Found(text));
+fn find_in_changes(reason: &mut Reason, value: &Value) {
+    for (at, generator) in items(value, "generators").iter().enumerate() {
+        let changes = items(generator, "changes");
+        for (nth, change) in changes.iter().enumerate() {
+            if is_bad_change(nth, changes, change) && reason.is_empty() {
+                let may = "the first second of a minute, later than the change before,";
+                reason.misfit(Place::Change(at, nth), "at", change, may);
             }
-            before = Some(now);
         }
     }
-    Ok(())
+}
+
+// Whether a change is inside a minute, or not later than the one before.
+fn is_bad_change(at: usize, changes: &[Value], change: &Value) -> bool {
+    let Some((day, second)) = time_of(change) else {
+        return false;
+    };
+    let before = changes.get(at.wrapping_sub(1)).and_then(time_of);
+    second % 60 != 0 || second == 86400 || before.is_some_and(|before| (day, second) <= before)
+}
+
+fn time_of(change: &Value) -> Option<(u32, u32)> {
+    let second = read_text(text_at(change, "at")?.as_bytes())?;
+    Some((second.day, second.sod))
 }
 
 // ---- the tables of its readers
 
-fn find_in_tables(alloc: Global, number: u8, value: &Value) -> Result<(), Stop> {
-    for (at, reader) in items_at(value, "readers").unwrap_or(&[]).iter().enumerate() {
-        if let Some(table) = reader.get("table") {
-            let place = format!(in alloc; "readers[{at}].table")?;
-            find_in_table(alloc, number, place.as_str(), table)?;
+fn find_in_tables(reason: &mut Reason, number: u8, value: &Value) {
+    for (at, reader) in items(value, "readers").iter().enumerate() {
+        if let Some(table) = reader.get("table")
+            && reason.is_empty()
+        {
+            find_in_table(reason, number, at, table);
         }
     }
-    Ok(())
 }
 
-fn find_in_table(alloc: Global, number: u8, place: &str, table: &Value) -> Result<(), Stop> {
-    let leaps = items_at(table, "leaps").unwrap_or(&[]);
-    let until = text_at(table, "until").unwrap_or("");
-    if number == 31 && read_day(until.as_bytes()).is_some_and(|day| day > LAST_DAY) {
-        let stands = quoted(alloc, until)?;
-        let text = format!(in alloc;
-            "{place}: \"until\" is {stands}; a day up to 2099-12-30 may stand here"
-        )?;
-        return Err(Stop::Found(text));
+fn find_in_table(reason: &mut Reason, number: u8, at: usize, table: &Value) {
+    let until = text_at(table, "until").and_then(|day| read_day(day.as_bytes()));
+    if number == 31 && until.is_some_and(|day| day > LAST_DAY) {
+        reason.misfit(Place::Table(at), "until", table, "a day up to 2099-12-30");
+    } else if number == 32 && items(table, "leaps").len() > 64 {
+        reason.misfit(Place::Table(at), "leaps", table, "at most 64");
+    } else {
+        find_in_leaps(reason, number, Some(at), table);
     }
-    if number == 32 && leaps.len() > 64 {
-        let stands = shown_list(alloc, leaps)?;
-        let text = format!(in alloc; "{place}: \"leaps\" is {stands}; at most 64 may stand here")?;
-        return Err(Stop::Found(text));
-    }
-    let above = format!(in alloc; "{place}.")?;
-    find_in_leaps(alloc, number, above.as_str(), table)
-}
-
-fn shown_list(alloc: Global, items: &[Value]) -> Result<String, AllocError> {
-    format!(in alloc; "a list of {}", items.len())
 }

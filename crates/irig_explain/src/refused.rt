@@ -1,9 +1,9 @@
 //! Why a line is refused.
 
 use crate::event::find_in_event;
-use crate::found::Stop;
 use crate::meaning::meaning_of;
 use crate::plant::find_in_plant;
+use crate::reason::Reason;
 use indexmap::IndexSet;
 use serde_json::Value;
 use std::alloc::{AllocError, Global};
@@ -25,43 +25,40 @@ pub fn why_refused(
     line: &[u8],
     standing: &Standing<'_>,
 ) -> Result<String, AllocError> {
-    match find(alloc, number, line, standing) {
-        Err(Stop::Found(text)) => Ok(text),
-        Err(Stop::Memory) => Err(AllocError),
-        Ok(()) => {
-            let cause = meaning_of(number).map_or("", |meaning| meaning.cause);
-            String::from_str(alloc, cause)
-        }
+    let mut reason = Reason::new(alloc);
+    if !matches!(number, 22 | 23 | 29 | 30) {
+        find(&mut reason, alloc, number, line, standing);
     }
+    if reason.is_empty() {
+        reason.say(meaning_of(number).map_or("", |meaning| meaning.cause));
+    }
+    reason.end()
 }
 
-fn find(alloc: Global, number: u8, line: &[u8], standing: &Standing<'_>) -> Result<(), Stop> {
-    if matches!(number, 22 | 23 | 29 | 30) {
-        return Ok(());
-    }
+fn find(reason: &mut Reason, alloc: Global, number: u8, line: &[u8], standing: &Standing<'_>) {
     match Value::from_slice(alloc, line) {
-        Ok(value) if standing.names.is_empty() => find_in_plant(alloc, number, &value),
-        Ok(value) => find_in_event(alloc, number, &value, standing),
-        Err(error) if error.is_memory() => Err(Stop::Memory),
+        Ok(value) if standing.names.is_empty() => find_in_plant(reason, number, &value),
+        Ok(value) => find_in_event(reason, number, &value, standing),
+        Err(error) if error.is_memory() => reason.run_short(),
         Err(error) if error.is_eof() => {
-            let end = line.len();
-            let text = format!(in alloc;
-                "byte {end}: the line ends here, before its value does; each value stands on one line"
-            )?;
-            Err(Stop::Found(text))
+            reason.say("byte ");
+            reason.number(line.len() as i128);
+            reason.say(
+                ": the line ends here, before its value does; each value stands on one line",
+            );
         }
-        Err(error) => Err(Stop::Found(broken(alloc, error.column(), line)?)),
+        Err(error) => find_byte(reason, error.column(), line),
     }
 }
 
 // The place, counted from 1, at which a line stops being JSON.
-fn broken(alloc: Global, place: usize, line: &[u8]) -> Result<String, AllocError> {
-    let stands = match line.get(place.saturating_sub(1)) {
-        Some(byte) if byte.is_ascii_graphic() => format!(in alloc; "'{}'", char::from(*byte))?,
-        Some(byte) => format!(in alloc; "0x{byte:02x}")?,
-        None => String::from_str(alloc, "the end")?,
-    };
-    format!(in alloc;
-        "byte {place}: {stands} cannot stand here; a line is one JSON value in UTF-8, at most 127 deep"
-    )
+fn find_byte(reason: &mut Reason, place: usize, line: &[u8]) {
+    reason.say("byte ");
+    reason.number(place as i128);
+    reason.say(": ");
+    match line.get(place.saturating_sub(1)) {
+        Some(byte) => reason.byte(*byte),
+        None => reason.say("the end"),
+    }
+    reason.say(" cannot stand here; a line is one JSON value in UTF-8, at most 127 deep");
 }

@@ -1,68 +1,71 @@
 //! Where a value is of the right type, and outside its range or none of its words.
 
-use crate::found::{Stop, shown};
-use crate::kind::what_may_stand;
+use crate::reason::{Place, Reason};
 use crate::words::{reason_of_day, reason_of_time};
-use irig_forms::{Key, Kind, leap_named, parity_of, sbs_use_of, sense_of, whole_of};
+use irig_forms::{Key, Kind, Text, leap_named, parity_of, sbs_use_of, sense_of, whole_of};
 use irig_time::{read_day, read_text};
 use serde_json::Value;
-use std::alloc::Global;
 
-/// Looks for a value of an object that is outside the range of its key.
-pub(crate) fn find_in_values(
-    alloc: Global,
-    place: &str,
-    keys: &[Key],
-    value: &Value,
-) -> Result<(), Stop> {
-    for key in keys {
-        if let Some(item) = value.get(key.name) {
-            find_in_range(alloc, place, *key, item)?;
-        }
-    }
-    Ok(())
-}
-
-fn find_in_range(alloc: Global, place: &str, key: Key, item: &Value) -> Result<(), Stop> {
-    if let Kind::Naturals(count, most) = key.kind
-        && let Some(items) = item.as_array()
-        && items.len() <= count
+/// Says which value of an object is outside the range of its key, if one is.
+pub(crate) fn find_in_values(reason: &mut Reason, place: Place, keys: &[Key], value: &Value) {
+    if let Some(key) = keys.iter().find(|key| is_out_of_range(key, value))
+        && let Some(item) = value.get(key.name)
     {
-        return find_in_items(alloc, key.name, most, items.as_slice());
-    }
-    if is_in_range(key.kind, item) {
-        return Ok(());
-    }
-    let stands = shown(alloc, item)?;
-    let may = what_may_stand(alloc, key.kind)?;
-    let (colon, reason) = reason_of(key.kind, item.as_str().unwrap_or(""));
-    let text = format!(in alloc;
-        "{place}\"{}\" is {stands}; {may} may stand here{colon}{reason}",
-        key.name
-    )?;
-    Err(Stop::Found(text))
-}
-
-// Where a date is wrong, behind a colon.
-fn reason_of(kind: Kind, text: &str) -> (&'static str, &'static str) {
-    match kind {
-        Kind::Second => (": ", reason_of_time(text)),
-        Kind::Day => (": ", reason_of_day(text)),
-        _ => ("", ""),
+        find_in_range(reason, place, *key, item);
     }
 }
 
-fn find_in_items(alloc: Global, name: &str, most: u32, items: &[Value]) -> Result<(), Stop> {
-    for (place, item) in items.iter().enumerate() {
-        if !is_within(0, i128::from(most), item) {
-            let stands = shown(alloc, item)?;
-            let text = format!(in alloc;
-                "\"{name}\"[{place}] is {stands}; 0 to {most} may stand here"
-            )?;
-            return Err(Stop::Found(text));
+fn is_out_of_range(key: &Key, value: &Value) -> bool {
+    value
+        .get(key.name)
+        .is_some_and(|item| !is_in_range(key.kind, item))
+}
+
+fn find_in_range(reason: &mut Reason, place: Place, key: Key, item: &Value) {
+    match key.kind {
+        Kind::Naturals(count, most) if has_at_most(count, item) => {
+            find_in_items(reason, key.name, most, item);
+        }
+        kind => {
+            reason.stands(place, key.name, item);
+            reason.kind(kind);
+            reason.may_stand();
+            say_why_no_date(reason, kind, item.as_str().unwrap_or(""));
         }
     }
-    Ok(())
+}
+
+fn say_why_no_date(reason: &mut Reason, kind: Kind, text: &str) {
+    let why = match kind {
+        Kind::Text(Text::Second) => reason_of_time(text),
+        Kind::Text(Text::Day) => reason_of_day(text),
+        _ => return,
+    };
+    reason.say(": ");
+    reason.say(why);
+}
+
+fn find_in_items(reason: &mut Reason, name: &str, most: u32, list: &Value) {
+    let Some(items) = list.as_array() else {
+        return;
+    };
+    for (at, item) in items.as_slice().iter().enumerate() {
+        if !is_within(0, i128::from(most), item) {
+            find_in_item(reason, name, at, item);
+            reason.range(0, i128::from(most));
+            reason.may_stand();
+            return;
+        }
+    }
+}
+
+fn find_in_item(reason: &mut Reason, name: &str, at: usize, item: &Value) {
+    reason.word(name);
+    reason.say("[");
+    reason.number(at as i128);
+    reason.say("] is ");
+    reason.value(item);
+    reason.say("; ");
 }
 
 fn is_within(least: i128, most: i128, item: &Value) -> bool {
@@ -72,25 +75,38 @@ fn is_within(least: i128, most: i128, item: &Value) -> bool {
     }
 }
 
+fn has_at_most(count: usize, item: &Value) -> bool {
+    item.as_array().is_some_and(|items| items.len() <= count)
+}
+
+fn are_within(most: u32, list: &Value) -> bool {
+    match list.as_array() {
+        Some(items) => items
+            .iter()
+            .all(|item| is_within(0, i128::from(most), item)),
+        None => false,
+    }
+}
+
 fn is_in_range(kind: Kind, item: &Value) -> bool {
     match kind {
         Kind::Natural(least, most) => is_within(i128::from(least), i128::from(most), item),
         Kind::Integer(least, most) => is_within(i128::from(least), i128::from(most), item),
-        Kind::Few(count) | Kind::Naturals(count, _) => {
-            item.as_array().is_some_and(|items| items.len() <= count)
-        }
-        _ => item.as_str().is_none_or(|text| is_of_kind(kind, text)),
+        Kind::Few(count) => has_at_most(count, item),
+        Kind::Naturals(count, most) => has_at_most(count, item) && are_within(most, item),
+        Kind::Text(form) => item.as_str().is_none_or(|text| has_text_form(form, text)),
+        Kind::Whole | Kind::Truth | Kind::List | Kind::Object => true,
     }
 }
 
-fn is_of_kind(kind: Kind, text: &str) -> bool {
-    match kind {
-        Kind::Second => read_text(text.as_bytes()).is_some(),
-        Kind::Day => read_day(text.as_bytes()).is_some(),
-        Kind::Parity => parity_of(text).is_some(),
-        Kind::Sense => sense_of(text).is_some(),
-        Kind::SbsUse => sbs_use_of(text).is_some(),
-        Kind::Leap => leap_named(text).is_some(),
-        _ => true,
+fn has_text_form(form: Text, text: &str) -> bool {
+    match form {
+        Text::Second => read_text(text.as_bytes()).is_some(),
+        Text::Day => read_day(text.as_bytes()).is_some(),
+        Text::Parity => parity_of(text).is_some(),
+        Text::Sense => sense_of(text).is_some(),
+        Text::SbsUse => sbs_use_of(text).is_some(),
+        Text::Leap => leap_named(text).is_some(),
+        Text::Any | Text::Reader | Text::Name => true,
     }
 }

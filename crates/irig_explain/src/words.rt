@@ -1,20 +1,22 @@
 //! What is wrong with the TIME or the FRAME of a command line.
 
-use crate::found::quoted;
+use crate::reason::Reason;
 use irig_time::{month_end, read_day};
 use std::alloc::{AllocError, Global};
 
 /// Why a text names no UTC second of those that are served, in one line. Fails for want of memory
 /// alone.
 pub fn why_no_time(alloc: Global, text: &str) -> Result<String, AllocError> {
-    let stands = quoted(alloc, text)?;
-    let Some(time) = TimeText::of(text.as_bytes()) else {
-        return format!(in alloc;
-            "{stands} is not of the form YYYY-MM-DDTHH:MM:SSZ, as 2016-12-31T23:59:59Z"
-        );
-    };
-    let reason = time.reason();
-    format!(in alloc; "{stands}: {reason}")
+    let mut reason = Reason::new(alloc);
+    reason.quoted(text);
+    match TimeText::of(text.as_bytes()) {
+        Some(time) => {
+            reason.say(": ");
+            reason.say(time.reason());
+        }
+        None => reason.say(" is not of the form YYYY-MM-DDTHH:MM:SSZ, as 2016-12-31T23:59:59Z"),
+    }
+    reason.end()
 }
 
 /// Why a text is none of the seconds served.
@@ -97,20 +99,20 @@ fn two_digits(text: &[u8], place: usize) -> Option<u8> {
 /// Which character of a text is no symbol of a frame, and at which place, in one line. Fails for
 /// want of memory alone.
 pub fn why_no_frame(alloc: Global, text: &str) -> Result<String, AllocError> {
-    match text
+    let mut reason = Reason::new(alloc);
+    let wrong = text
         .chars()
         .enumerate()
-        .find(|(_, letter)| !is_letter(*letter))
-    {
-        Some((place, letter)) => {
-            let place = place.saturating_add(1);
-            let letter = letter.escape_debug();
-            format!(in alloc;
-                "character {place} is '{letter}'; P, 0, 1, ? and blanks may stand there"
-            )
-        }
-        None => format!(in alloc; "P, 0, 1, ? and blanks may stand there"),
+        .find(|(_, letter)| !is_letter(*letter));
+    if let Some((place, letter)) = wrong {
+        reason.say("character ");
+        reason.number(place.saturating_add(1) as i128);
+        reason.say(" is ");
+        reason.letter(letter);
+        reason.say("; ");
     }
+    reason.say("P, 0, 1, ? and blanks may stand there");
+    reason.end()
 }
 
 fn is_letter(letter: char) -> bool {

@@ -44,7 +44,7 @@ are_wholes ds = list_all (λ d. is_some (whole_of d)) ds
 
 -- a text, a number, a truth, a list or an object
 abbrev pub has_type : Kind → Data → Bool
-has_type kind.Text d = is_some (as_str d)
+has_type (kind.Text form) d = is_some (as_str d)
 has_type kind.Whole d = is_some (whole_of d)
 has_type kind.Truth d = is_some (as_bool d)
 has_type kind.List d = is_some (as_array d)
@@ -52,12 +52,4 @@ has_type (kind.Few count) d = is_some (as_array d)
 has_type kind.Object d = is_some (as_object d)
 has_type (kind.Natural least most) d = is_some (whole_of d)
 has_type (kind.Integer least most) d = is_some (whole_of d)
-has_type kind.Reader d = is_some (as_str d)
-has_type kind.Name d = is_some (as_str d)
-has_type kind.Second d = is_some (as_str d)
-has_type kind.Day d = is_some (as_str d)
-has_type kind.Parity d = is_some (as_str d)
-has_type kind.Sense d = is_some (as_str d)
-has_type kind.SbsUse d = is_some (as_str d)
-has_type kind.Leap d = is_some (as_str d)
 has_type (kind.Naturals count most) d = is_there are_wholes (items_in d)

@@ -12,8 +12,8 @@ use serde_json::Value;
 /// What may stand at a key: its type, and its range where it has one.
 #[derive(Clone, Copy)]
 pub enum Kind {
-    /// A text.
-    Text,
+    /// A text of this form.
+    Text(Text),
     /// A whole number.
     Whole,
     /// `true` or `false`.
@@ -28,13 +28,22 @@ pub enum Kind {
     Natural(u64, u64),
     /// A whole number, which may be negative, from the first to the second.
     Integer(i32, i32),
+    /// A list of at most so many whole numbers, each from 0 to the second.
+    Naturals(usize, u32),
+}
+
+/// The form of a text.
+#[derive(Clone, Copy)]
+pub enum Text {
+    /// Any text.
+    Any,
     /// The name of a reader.
     Reader,
     /// A name that a reader is given.
     Name,
-    /// A UTC second, as text.
+    /// A UTC second.
     Second,
-    /// A day, as text.
+    /// A day.
     Day,
     /// `even` or `odd`.
     Parity,
@@ -44,8 +53,6 @@ pub enum Kind {
     SbsUse,
     /// `insert` or `delete`.
     Leap,
-    /// A list of at most so many whole numbers, each from 0 to the second.
-    Naturals(usize, u32),
 }
 
 /// A key of an object, and what may stand there.
@@ -88,15 +95,7 @@ pub fn has_type(kind: Kind, value: &Value) -> bool
     ensures { result ≡ has_type kind (view value.now) }
 {
     match kind {
-        Kind::Text
-        | Kind::Reader
-        | Kind::Name
-        | Kind::Second
-        | Kind::Day
-        | Kind::Parity
-        | Kind::Sense
-        | Kind::SbsUse
-        | Kind::Leap => value.as_str().is_some(),
+        Kind::Text(_) => value.as_str().is_some(),
         Kind::Truth => value.as_bool().is_some(),
         Kind::List | Kind::Few(_) => value.as_array().is_some(),
         Kind::Object => value.as_object().is_some(),

@@ -12,6 +12,6 @@ pub use fields::{
     few_items, has_form, integer_at, is_named, leap_at, natural_at, naturals_at, reader_at,
 };
 pub use json::{items_at, text_at, value_of, whole_at, whole_of};
-pub use key::{Key, Kind, has_type};
+pub use key::{Key, Kind, Text, has_type};
 pub use keywords::{leap_named, parity_of, sbs_use_of, sense_of};
 pub use refusal::{LineFault, Refusal};

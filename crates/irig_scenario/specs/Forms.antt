@@ -3,6 +3,7 @@
 use Rattle.std.specs.Prelude.{ℕ, pos, neg_ℤ, List, [], ◌∷◌, codes, if◌then◌else◌, Option, Some, None}
 use Rattle.std.specs.Str.{bytes_eq}
 use Rattle.irig_forms.specs.declared.key.Kind.TheVariants as kind
+use Rattle.irig_forms.specs.declared.key.Text.TheVariants as text
 use Rattle.irig_scenario.specs.declared.form.Action.{Action}
 use Rattle.irig_scenario.specs.declared.form.Action.TheVariants as action
 use Rattle.irig_scenario.specs.declared.form.FaultKind.{FaultKind}
@@ -41,11 +42,11 @@ fault_named word =
 
 -- what happens
 abbrev pub action_key : KeyValue
-action_key = key (codes "do") kind.Text
+action_key = key (codes "do") (kind.Text text.Any)
 
 -- which fault it is
 abbrev pub kind_key : KeyValue
-kind_key = key (codes "kind") kind.Text
+kind_key = key (codes "kind") (kind.Text text.Any)
 
 -- a generator's number
 abbrev pub g : KeyValue
@@ -53,7 +54,7 @@ g = key (codes "g") (kind.Natural 0 255)
 
 -- a reader's name
 abbrev pub r : KeyValue
-r = key (codes "r") kind.Reader
+r = key (codes "r") (kind.Text text.Reader)
 
 -- an element of a frame
 abbrev pub at : KeyValue
@@ -85,7 +86,7 @@ half_hours_by = key (codes "by") (kind.Integer (neg_ℤ (pos 62)) (pos 62))
 
 -- `insert` or `delete`
 abbrev pub leap : KeyValue
-leap = key (codes "leap") kind.Leap
+leap = key (codes "leap") (kind.Text text.Leap)
 
 -- a time quality
 abbrev pub q : KeyValue

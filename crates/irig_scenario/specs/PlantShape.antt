@@ -6,6 +6,7 @@ use Rattle.serde_json.specs.Find.{get}
 use Rattle.irig_scenario.specs.declared.plant_shape.Version.{Version}
 use Rattle.irig_scenario.specs.declared.plant_shape.Version.TheVariants.{One, Two, Three}
 use Rattle.irig_forms.specs.declared.key.Kind.TheVariants as kind
+use Rattle.irig_forms.specs.declared.key.Text.TheVariants as text
 use Rattle.irig_forms.specs.Keys.{KeyValue, key, optional_key}
 use Rattle.irig_forms.specs.Fields.{has_form, each_item}
 
@@ -34,7 +35,7 @@ changes = optional_key (codes "changes") (kind.Few 400)
 
 -- insert or delete
 abbrev pub leap_kind : KeyValue
-leap_kind = key (codes "kind") kind.Leap
+leap_kind = key (codes "kind") (kind.Text text.Leap)
 
 -- after how many votes a reader locks, 1 to 60
 abbrev pub lock_after : KeyValue
@@ -50,18 +51,18 @@ holdover = key (codes "holdover") (kind.Natural 0 1000000)
 abbrev pub plant_keys : List KeyValue
 plant_keys =
     key (codes "version") kind.Whole
-    ∷ key (codes "start") kind.Second
+    ∷ key (codes "start") (kind.Text text.Second)
     ∷ leaps
-    ∷ key (codes "parity") kind.Parity
-    ∷ key (codes "sense") kind.Sense
-    ∷ key (codes "sbs") kind.SbsUse
+    ∷ key (codes "parity") (kind.Text text.Parity)
+    ∷ key (codes "sense") (kind.Text text.Sense)
+    ∷ key (codes "sbs") (kind.Text text.SbsUse)
     ∷ key (codes "generators") kind.List
     ∷ key (codes "readers") kind.List
     ∷ []
 
 -- of a leap, in a plant line or in a table
 abbrev pub leap_keys : List KeyValue
-leap_keys = key (codes "day") kind.Day ∷ leap_kind ∷ []
+leap_keys = key (codes "day") (kind.Text text.Day) ∷ leap_kind ∷ []
 
 -- of a generator
 abbrev pub generator_keys : List KeyValue
@@ -69,16 +70,16 @@ generator_keys = local ∷ optional_key (codes "dst") kind.Truth ∷ changes ∷
 
 -- of a change of a generator's zone
 abbrev pub change_keys : List KeyValue
-change_keys = key (codes "at") kind.Second ∷ local ∷ key (codes "dst") kind.Truth ∷ []
+change_keys = key (codes "at") (kind.Text text.Second) ∷ local ∷ key (codes "dst") kind.Truth ∷ []
 
 -- of a reader of the first version
 abbrev pub plain_reader_keys : List KeyValue
-plain_reader_keys = key (codes "name") kind.Name ∷ lock_after ∷ holdover ∷ []
+plain_reader_keys = key (codes "name") (kind.Text text.Name) ∷ lock_after ∷ holdover ∷ []
 
 -- of a reader of a later version, which may have a table
 abbrev pub later_reader_keys : List KeyValue
 later_reader_keys =
-    key (codes "name") kind.Name
+    key (codes "name") (kind.Text text.Name)
     ∷ lock_after
     ∷ holdover
     ∷ optional_key (codes "table") kind.Object
@@ -92,7 +93,7 @@ reader_keys Three = later_reader_keys
 
 -- of a table of leaps
 abbrev pub table_keys : List KeyValue
-table_keys = key (codes "until") kind.Day ∷ key (codes "leaps") kind.List ∷ []
+table_keys = key (codes "until") (kind.Text text.Day) ∷ key (codes "leaps") kind.List ∷ []
 
 -- ---- the objects, from the smallest
 

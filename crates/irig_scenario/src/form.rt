@@ -5,7 +5,7 @@ ghost use Rattle.std.specs.Prelude.{◌≡◌, map};
 ghost use Rattle.irig_forms.specs.Keys.{key_value};
 ghost use Rattle.irig_scenario.specs.Forms.{action_named, fault_named, keys_of, fault_keys_of};
 
-use irig_forms::{Key, Kind, key};
+use irig_forms::{Key, Kind, Text, key};
 
 /// What a line asks for, by its `do`.
 #[derive(Clone, Copy)]
@@ -82,13 +82,13 @@ pub(crate) fn fault_named(word: &str) -> Option<FaultKind>
     }
 }
 
-pub(crate) const DO: Key = key!("do": Kind::Text);
+pub(crate) const DO: Key = key!("do": Kind::Text(Text::Any));
 
-pub(crate) const KIND: Key = key!("kind": Kind::Text);
+pub(crate) const KIND: Key = key!("kind": Kind::Text(Text::Any));
 
 pub(crate) const G: Key = key!("g": Kind::Natural(0, 255));
 
-pub(crate) const R: Key = key!("r": Kind::Reader);
+pub(crate) const R: Key = key!("r": Kind::Text(Text::Reader));
 
 pub(crate) const AT: Key = key!("at": Kind::Natural(0, 99));
 
@@ -104,7 +104,7 @@ pub(crate) const EDGES_BY: Key = key!("by": Kind::Integer(i32::MIN, i32::MAX));
 
 pub(crate) const HALF_HOURS_BY: Key = key!("by": Kind::Integer(-62, 62));
 
-pub(crate) const LEAP: Key = key!("leap": Kind::Leap);
+pub(crate) const LEAP: Key = key!("leap": Kind::Text(Text::Leap));
 
 pub(crate) const Q: Key = key!("q": Kind::Natural(0, 15));
 

@@ -8,7 +8,7 @@ ghost use Rattle.irig_forms.specs.Fields.{each_item};
 ghost use Rattle.irig_forms.specs.Json.{whole_at};
 ghost use Rattle.irig_scenario.specs.PlantShape.{version_of, plant_keys, leap_keys, generator_keys, change_keys, reader_keys, table_keys, is_leap, is_change, is_generator, is_table, is_reader, is_plant};
 
-use irig_forms::{Key, Kind, has_form, items_at, key, optional_key, whole_at};
+use irig_forms::{Key, Kind, Text, has_form, items_at, key, optional_key, whole_at};
 use serde_json::Value;
 
 /// A version of a plant line: the second adds tables of leaps, the third plants of five generators.
@@ -47,7 +47,7 @@ pub(crate) const LOCAL: Key = key!("local": Kind::Integer(-128, 127));
 
 pub(crate) const CHANGES: Key = optional_key!("changes": Kind::Few(400));
 
-pub(crate) const LEAP_KIND: Key = key!("kind": Kind::Leap);
+pub(crate) const LEAP_KIND: Key = key!("kind": Kind::Text(Text::Leap));
 
 pub(crate) const LOCK_AFTER: Key = key!("lock_after": Kind::Natural(1, 60));
 
@@ -59,11 +59,11 @@ pub fn plant_keys() -> &'static [Key]
 {
     &[
         key!("version": Kind::Whole),
-        key!("start": Kind::Second),
+        key!("start": Kind::Text(Text::Second)),
         LEAPS,
-        key!("parity": Kind::Parity),
-        key!("sense": Kind::Sense),
-        key!("sbs": Kind::SbsUse),
+        key!("parity": Kind::Text(Text::Parity)),
+        key!("sense": Kind::Text(Text::Sense)),
+        key!("sbs": Kind::Text(Text::SbsUse)),
         key!("generators": Kind::List),
         key!("readers": Kind::List),
     ]
@@ -73,7 +73,7 @@ pub fn plant_keys() -> &'static [Key]
 pub fn leap_keys() -> &'static [Key]
     ensures { map key_value result.now ≡ leap_keys }
 {
-    &[key!("day": Kind::Day), LEAP_KIND]
+    &[key!("day": Kind::Text(Text::Day)), LEAP_KIND]
 }
 
 /// The keys of a generator.
@@ -87,7 +87,11 @@ pub fn generator_keys() -> &'static [Key]
 pub fn change_keys() -> &'static [Key]
     ensures { map key_value result.now ≡ change_keys }
 {
-    &[key!("at": Kind::Second), LOCAL, key!("dst": Kind::Truth)]
+    &[
+        key!("at": Kind::Text(Text::Second)),
+        LOCAL,
+        key!("dst": Kind::Truth),
+    ]
 }
 
 /// The keys of a reader.
@@ -95,9 +99,9 @@ pub fn reader_keys(version: Version) -> &'static [Key]
     ensures { map key_value result.now ≡ reader_keys version }
 {
     match version {
-        Version::One => &[key!("name": Kind::Name), LOCK_AFTER, HOLDOVER],
+        Version::One => &[key!("name": Kind::Text(Text::Name)), LOCK_AFTER, HOLDOVER],
         Version::Two | Version::Three => &[
-            key!("name": Kind::Name),
+            key!("name": Kind::Text(Text::Name)),
             LOCK_AFTER,
             HOLDOVER,
             optional_key!("table": Kind::Object),
@@ -109,7 +113,10 @@ pub fn reader_keys(version: Version) -> &'static [Key]
 pub fn table_keys() -> &'static [Key]
     ensures { map key_value result.now ≡ table_keys }
 {
-    &[key!("until": Kind::Day), key!("leaps": Kind::List)]
+    &[
+        key!("until": Kind::Text(Text::Day)),
+        key!("leaps": Kind::List),
+    ]
 }
 
 fn is_leap(value: &Value) -> bool

@@ -1,7 +1,7 @@
 use crate::two_names;
 use irig_control::Parity;
 use irig_forms::{
-    Key, Kind, LineFault, Refusal, few_items, has_form, integer_at, items_at, key, leap_at,
+    Key, Kind, LineFault, Refusal, Text, few_items, has_form, integer_at, items_at, key, leap_at,
     leap_named, natural_at, naturals_at, optional_key, parity_of, reader_at, sbs_use_of, sense_of,
     text_at, value_of, whole_at,
 };
@@ -11,11 +11,11 @@ use std::test::Fail;
 
 const G: Key = key!("g": Kind::Natural(1, 255));
 
-const R: Key = key!("r": Kind::Reader);
+const R: Key = key!("r": Kind::Text(Text::Reader));
 
 const BY: Key = key!("by": Kind::Integer(-62, 62));
 
-const LEAP: Key = key!("leap": Kind::Leap);
+const LEAP: Key = key!("leap": Kind::Text(Text::Leap));
 
 const FEW: Key = key!("l": Kind::Few(2));
 
