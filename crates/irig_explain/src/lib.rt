@@ -4,7 +4,6 @@
 
 mod event;
 mod kind;
-mod meaning;
 mod plant;
 mod reason;
 mod refused;
@@ -12,6 +11,6 @@ mod shape;
 mod value;
 mod words;
 
-pub use meaning::{Meaning, meaning_of};
+pub use irig_forms::{Meaning, meaning_of};
 pub use refused::{Standing, why_refused};
 pub use words::{why_no_frame, why_no_time};

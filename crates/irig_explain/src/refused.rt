@@ -1,10 +1,10 @@
 //! Why a line is refused.
 
 use crate::event::find_in_event;
-use crate::meaning::meaning_of;
 use crate::plant::find_in_plant;
 use crate::reason::Reason;
 use indexmap::IndexSet;
+use irig_forms::meaning_of;
 use serde_json::Value;
 use std::alloc::{AllocError, Global};
 

@@ -3,3 +3,4 @@ pub mod Json
 pub mod Keywords
 pub mod Keys
 pub mod Fields
+pub mod Numbers

@@ -6,6 +6,7 @@ mod fields;
 mod json;
 mod key;
 mod keywords;
+mod meaning;
 mod refusal;
 
 pub use fields::{
@@ -14,4 +15,5 @@ pub use fields::{
 pub use json::{items_at, text_at, value_of, whole_at, whole_of};
 pub use key::{Key, Kind, Text, has_type};
 pub use keywords::{leap_named, parity_of, sbs_use_of, sense_of};
+pub use meaning::{Meaning, meaning_of};
 pub use refusal::{LineFault, Refusal};

@@ -1,14 +1,8 @@
-//! The program: its commands, their texts and its exit statuses.
+//! The program: the words, the devices and the exit status of a run.
 #![tactic(auto)]
 
-mod drive;
-mod explain;
-mod fault;
-mod serve;
-
-use drive::drive;
-use fault::{Fault, report};
 use irig_device::Watched;
+use irig_service::{Fault, drive, report};
 use std::io::{BufReader, ErrorKind, IsTerminal};
 use std::process::ExitCode;
 use std::{env, io};

@@ -25,11 +25,12 @@ use Rattle.irig_scenario.proofs.BlankLines.{command_not_blank}
 use Rattle.irig_scenario.proofs.PlainLines.{seconds_line, asks_two, plant_line, plan, makes_plan}
 use Rattle.irig_scene.specs.Lines.{lines, is_blank, max_line}
 use Rattle.irig_scene.specs.Scene.{output}
-use Rattle.irig_scene.specs.Text.{entry_text, entries_text}
-use Rattle.irig_scene.specs.LogLines.{Shows}
+use Rattle.irig_log_text.specs.Text.{entry_text, entries_text}
+use Rattle.irig_log_text.specs.LogLines.{Shows}
 use Rattle.irig_scene.specs.HealthyRun.{AskSeconds, IsOfSeconds, IsHealthyRun, HasTimeLine}
-use Rattle.irig_scene.proofs.WordLaws.{AreNames, are_names_named}
-use Rattle.irig_scene.proofs.LogLaws.{shown_once}
+use Rattle.irig_log_text.proofs.WordLaws.{AreNames}
+use Rattle.irig_scene.proofs.NameLaws.{are_names_named}
+use Rattle.irig_log_text.proofs.LogLaws.{shown_once}
 use Rattle.irig_scene.proofs.HealthyRuns.{is_announced, writes_healthy_log}
 
 -- ---- the plant line, a blank line, and two seconds

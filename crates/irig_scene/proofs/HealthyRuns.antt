@@ -30,11 +30,11 @@ use Rattle.irig_scenario.specs.PlantLine.{Plan}
 use Rattle.irig_scenario.proofs.SoundPlans.{IsSound, plan_is_sound}
 use Rattle.irig_scene.specs.Lines.{max_line, max_lines}
 use Rattle.irig_scene.specs.Scene.{scene, after_play, Step, step, step_to, step_of_plan, step_of_command, meaning, meaning_from, meaning_of, text_of, output}
-use Rattle.irig_scene.specs.Text.{time_shown_text, entries_text, entries_alone, audit_text}
-use Rattle.irig_scene.specs.LogLines.{whole_lines, Shows}
+use Rattle.irig_log_text.specs.Text.{time_shown_text, entries_text, entries_alone, audit_text}
+use Rattle.irig_log_text.specs.LogLines.{whole_lines, Shows}
 use Rattle.irig_scene.specs.HealthyRun.{AskSeconds, IsOfSeconds, IsHealthyRun, HasTimeLine}
-use Rattle.irig_scene.proofs.WordLaws.{are_names_named}
-use Rattle.irig_scene.proofs.LogLaws.{entry_line, lines_of_entries, entry_line_shows}
+use Rattle.irig_scene.proofs.NameLaws.{are_names_named}
+use Rattle.irig_log_text.proofs.LogLaws.{entry_line, lines_of_entries, entry_line_shows}
 use Rattle.irig_scene.proofs.PlayLaws.{play_all}
 use Rattle.irig_scene.proofs.SecondsPlayed.{split_at}
 use Rattle.irig_scene.proofs.StepLaws.{step_blank, step_taken, meaning_goes, meaning_ends}

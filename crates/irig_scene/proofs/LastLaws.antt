@@ -1,14 +1,14 @@
 -- The end of a run, with a last line or without.
 use Rattle.std.proofs.Common.{◌≡◌, ℕ, ◌+◌, ◌-◌, ◌≤◌, ◌<◌, List, [], ◌∷◌, length, Option, Some, None, Result, Err, refl, ap, sym, subst, ◌∙◌, arith}
 use Rattle.irig_port.specs.declared.port.Port.{Ghosts}
-use Rattle.irig_scene.specs.declared.shown.Shown.{Shown}
+use Rattle.irig_log_text.specs.declared.shown.Shown.{Shown}
 use Rattle.irig_scene.specs.declared.outcome.Outcome.{Outcome}
 use Rattle.irig_scene.specs.declared.player.Player.{Player}
 use Rattle.irig_scene.specs.declared.fault.SceneFault.{SceneFault}
 use Rattle.irig_forms.specs.declared.refusal.Refusal.{Refusal}
 use Rattle.irig_device.specs.Lines.{HasNoNewline}
 use Rattle.irig_scene.specs.Lines.{lines}
-use Rattle.irig_scene.specs.Text.{refusal_text}
+use Rattle.irig_log_text.specs.Text.{refusal_text}
 use Rattle.irig_scene.specs.Scene.{Scene, step, Meaning, meaning_from, meaning_at_end, log_text, text_of}
 use Rattle.irig_scene.specs.LineRuns.{TakesFor, FailsIn, RanRest, WroteRefusal}
 use Rattle.irig_scene.proofs.LineLaws.{no_line, one_line}

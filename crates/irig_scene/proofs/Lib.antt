@@ -1,4 +1,3 @@
-pub mod TextLaws
 pub mod PlayLaws
 pub mod SecondsPlayed
 pub mod StepLaws
@@ -6,11 +5,8 @@ pub mod LineRunLaws
 pub mod LineLaws
 pub mod LastLaws
 pub mod ReadLaws
+pub mod NameLaws
 pub mod RunLaws
-pub mod WordLaws
-pub mod LogLaws
-pub mod LastLines
-pub mod RowLaws
 pub mod TrueLines
 pub mod WrittenLaws
 pub mod PortLineLaws

@@ -5,9 +5,7 @@ use Rattle.std.proofs.lemmas.List.Elements.{recursion_from_All}
 use Rattle.std.proofs.lemmas.Bool.Decides.{eqb_tells}
 use Rattle.irig_device.specs.Lines.{HasNoNewline}
 use Rattle.irig_scene.specs.Lines.{lines, onto_first, unlines}
-
-pub not_newline : (b : ℕ) → b ≢ 10 → (b == 10) ≡ false
-not_newline b h = elim (eqb_tells b 10) [ inl e ↦ absurd (h e.1) | inr e ↦ e.0 ]
+use Rattle.irig_log_text.proofs.LogLaws.{not_newline}
 
 line_ends : (l : List ℕ) → AllByRecursion (λ b. b ≢ 10) l → (rest : List ℕ) → lines (l ++ 10 ∷ rest) ≡ l ∷ lines rest
 unfolding lines

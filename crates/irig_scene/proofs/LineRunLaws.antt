@@ -2,7 +2,7 @@
 use Rattle.std.proofs.Common.{◌≡◌, ℕ, ◌≤◌, List, [], ◌++◌, length, Option, Some, None, Result, Ok, Err, refl, ap, sym, subst, ◌∙◌, append_assoc, false, IfErr, IfOk}
 use Rattle.std.proofs.KnownBytes.{Appends-trans, Appends-nil}
 use Rattle.irig_port.specs.declared.port.Port.{Ghosts}
-use Rattle.irig_scene.specs.declared.shown.Shown.{Shown}
+use Rattle.irig_log_text.specs.declared.shown.Shown.{Shown}
 use Rattle.irig_scene.specs.declared.outcome.Outcome.{Outcome}
 use Rattle.irig_scene.specs.declared.player.Player.{Player}
 use Rattle.irig_scene.specs.declared.fault.SceneFault.{SceneFault}
@@ -12,12 +12,12 @@ use Rattle.irig_forms.specs.declared.refusal.Refusal.TheVariants.{NoPlant}
 use Rattle.irig_scenario.specs.EventLine.{command_in_line}
 use Rattle.irig_scene.specs.Lines.{is_blank, max_line, max_lines}
 use Rattle.irig_scenario.specs.PlantLine.{Plan}
-use Rattle.irig_scene.specs.Text.{refusal_text}
+use Rattle.irig_log_text.specs.Text.{refusal_text}
 use Rattle.irig_device.specs.Watched.{AppendsPart}
 use Rattle.irig_scene.specs.Scene.{Scene, scene, Step, step_to, step_of_plan, step_of_line, step, step_of_command, Meaning, meaning, refusal_at, meaning_at_end, log_text, text_of}
 use Rattle.irig_scene.specs.PlayerRuns.{Grew, GrewPart}
 use Rattle.irig_scene.specs.LineRuns.{IsAt, TakesFor, Takes, FailsIn, FailsTaking, Follows, FailsFollowing, Begins, WroteRest, WrotePart, RanRest, WroteRefusal}
-use Rattle.irig_scene.proofs.TextLaws.{no_lines}
+use Rattle.irig_log_text.proofs.TextLaws.{no_lines}
 use Rattle.irig_scene.proofs.StepLaws.{IsFront, front_of_step, front_commanded, step_taken}
 
 -- ---- want of memory, before anything was written

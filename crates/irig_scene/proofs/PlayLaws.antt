@@ -20,7 +20,7 @@ use Rattle.irig_plant.specs.Runs.{events_after, AreAccepted, IsRefused}
 use Rattle.irig_forms.specs.declared.refusal.Refusal.{Refusal}
 use Rattle.irig_scenario.specs.PlantLine.{Plan}
 use Rattle.irig_plant.specs.WholeSecond.{carries, ticks, steps, second_of}
-use Rattle.irig_scene.specs.declared.shown.Shown.{Shown}
+use Rattle.irig_log_text.specs.declared.shown.Shown.{Shown}
 use Rattle.irig_scene.specs.Scene.{refusal_as}
 use Rattle.irig_scene.specs.Scene.{Play, play, play_by, unless_refused, Scene, scene, log_text}
 use Rattle.std.specs.Io.KnownBytes.{Appends}
@@ -30,8 +30,8 @@ use Rattle.irig_scene.specs.declared.fault.SceneFault.TheVariants.{Refused, Read
 use Rattle.irig_device.specs.Watched.{AppendsPart}
 use Rattle.irig_scene.specs.Faults.{IsFaultOfWriting}
 use Rattle.irig_scene.specs.PlayerRuns.{past, after_events, ticks_among, Grew, GrewPart}
-use Rattle.irig_scene.specs.Text.{lines_text}
-use Rattle.irig_scene.proofs.TextLaws.{lines_join, same_lines}
+use Rattle.irig_log_text.specs.Text.{lines_text}
+use Rattle.irig_log_text.proofs.TextLaws.{lines_join, same_lines}
 
 one_accepted : (s : Setup) (e : Event) (es ev : List Event) → refusal s e ev ≡ None → play s (e ∷ es) ev ≡ play s es (e ∷ ev)
 one_accepted s e es ev h = ap (λ k. unless_refused (option_and_then refusal_as k) ev (play s es (e ∷ ev))) h

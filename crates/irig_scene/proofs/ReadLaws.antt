@@ -9,7 +9,7 @@ use Rattle.irig_forms.specs.declared.refusal.Refusal.{Refusal}
 use Rattle.irig_device.specs.Lines.{HasNoNewline}
 use Rattle.irig_scene.specs.Lines.{unlines, first_lines, after_lines, limit_of, shown_by}
 use Rattle.irig_scene.specs.Scene.{Scene, step, Meaning, Refused, refusal_at, unless_stopped, meaning_at_end, meaning_from}
-use Rattle.irig_scene.proofs.LineLaws.{not_newline}
+use Rattle.irig_log_text.proofs.LogLaws.{not_newline}
 
 abbrev NoNewline : List ℕ → Type 0
 NoNewline l = AllByRecursion (λ b. b ≢ 10) l

@@ -34,15 +34,17 @@ use Rattle.irig_scenario.specs.Names.{are_names, is_name}
 use Rattle.irig_scenario.specs.PlantLine.{plan_in_line}
 use Rattle.irig_forms.specs.Json.{json_of}
 use Rattle.irig_scene.specs.Lines.{lines, unlines, first_lines, after_lines, shown_by}
-use Rattle.irig_scene.specs.LogLines.{whole_lines, Shows, ShowsNothing, IsTimeOf, IsTrueLine, IsTrueLineIfKept, TellsTruth, IsTrueLog, VouchesForItself, OfWritten}
+use Rattle.irig_log_text.specs.LogLines.{whole_lines, Shows, ShowsNothing}
+use Rattle.irig_scene.specs.LogLines.{IsTimeOf, IsTrueLine, IsTrueLineIfKept, TellsTruth, IsTrueLog, VouchesForItself, OfWritten}
 use Rattle.irig_scene.specs.declared.outcome.Outcome.{Outcome}
 use Rattle.irig_scene.specs.declared.fault.SceneFault.TheVariants as fault
-use Rattle.irig_scene.specs.Text.{entries_alone, refusal_text}
+use Rattle.irig_log_text.specs.Text.{entries_alone, refusal_text}
 use Rattle.irig_scene.specs.Scene.{Scene, scene, step, Refused, meaning, meaning_from, meaning_of, refusal_at, audit_in, log_text}
 use Rattle.irig_scene.specs.Run.{IsDone, IsRefused, StoppedReading, IsOfOneLine, StoppedInLine, AreBytesOf, read_of, Ran}
-use Rattle.irig_scene.proofs.LineLaws.{not_newline}
-use Rattle.irig_scene.proofs.LogLaws.{NoNewline, shows_digit, shown_once, one_whole, whole_along}
-use Rattle.irig_scene.proofs.WordLaws.{AreNames, are_names_named}
+use Rattle.irig_log_text.proofs.LogLaws.{not_newline}
+use Rattle.irig_log_text.proofs.LogLaws.{NoNewline, shows_digit, shown_once, one_whole, whole_along}
+use Rattle.irig_log_text.proofs.WordLaws.{AreNames}
+use Rattle.irig_scene.proofs.NameLaws.{are_names_named}
 
 -- ---- lines
 

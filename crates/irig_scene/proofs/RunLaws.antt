@@ -6,7 +6,7 @@ use Rattle.std.proofs.KnownBytes.{Consumes-trans, Consumes-nil, Appends-trans, A
 use Rattle.std.proofs.lemmas.List.Elements.{All-push}
 use Rattle.std.proofs.lemmas.Grind.{flat_map-append}
 use Rattle.irig_port.specs.declared.port.Port.{Ghosts}
-use Rattle.irig_scene.specs.declared.shown.Shown.{Shown}
+use Rattle.irig_log_text.specs.declared.shown.Shown.{Shown}
 use Rattle.irig_scene.specs.declared.outcome.Outcome.{Outcome}
 use Rattle.irig_scene.specs.declared.player.Player.{Player}
 use Rattle.irig_device.specs.declared.line.LineEnd.{LineEnd}

@@ -9,12 +9,12 @@ use Rattle.irig_port.specs.declared.port.Port.{Ghosts}
 use Rattle.irig_plant.specs.declared.plant.Plant.{Plant}
 use Rattle.irig_plant.specs.History.{HasPlantHistory}
 use Rattle.irig_forms.specs.declared.refusal.Refusal.{Refusal}
-use Rattle.irig_scene.specs.declared.shown.Shown.{Shown}
+use Rattle.irig_log_text.specs.declared.shown.Shown.{Shown}
 use Rattle.irig_scene.specs.Scene.{refusal_as}
 use Rattle.irig_plant.specs.WholeSecond.{times}
 use Rattle.irig_scene.specs.Scene.{Scene, scene, Play, play, unless_refused, log_text}
 use Rattle.irig_scene.specs.PlayerRuns.{past, after_events, Grew, GrewPart, PlaysFor}
-use Rattle.irig_scene.specs.Text.{lines_text}
+use Rattle.irig_log_text.specs.Text.{lines_text}
 use Rattle.irig_scene.proofs.PlayLaws.{LogGrows, log_keeps, grows_by_play, lines_grow}
 
 -- ---- the output

@@ -24,7 +24,7 @@ use Rattle.irig_scenario.specs.declared.event_line.Command.TheVariants as comman
 use Rattle.irig_forms.specs.declared.refusal.Refusal.TheVariants as refusal
 use Rattle.irig_scene.specs.Lines.{lines, unlines, is_blank, limit_of}
 use Rattle.irig_scenario.specs.PlantLine.{Plan}
-use Rattle.irig_scene.specs.Text.{entry_text, entries_text, audit_text, refusal_text}
+use Rattle.irig_log_text.specs.Text.{entry_text, entries_text, audit_text, refusal_text}
 use Rattle.irig_scene.specs.Scene.{Scene, scene, play, play_by, step_to, step_of_command, step, refusal_at, meaning, meaning_from, meaning_of, output}
 
 -- ---- lines

@@ -22,20 +22,22 @@ use Rattle.irig_plant.specs.Truth.{AnnouncesTruth, IsTruthful}
 use Rattle.irig_scenario.specs.declared.event_line.Command.{Command}
 use Rattle.irig_forms.specs.declared.refusal.Refusal.TheVariants as refusal
 use Rattle.irig_scenario.specs.EventLine.{command_in_line}
-use Rattle.irig_scene.specs.declared.shown.Shown.{Shown}
+use Rattle.irig_log_text.specs.declared.shown.Shown.{Shown}
 use Rattle.irig_scene.specs.Lines.{lines, is_blank, max_line, max_lines}
 use Rattle.irig_scene.specs.Scene.{Scene, Play, play, unless_refused, refusal_as, events_of, step_to, step_of_plan, step_of_command, step_of_line, step, Meaning, Refused, unless_stopped, meaning_at_end, meaning_from, meaning_of, log_text, audit_in, ending_text, output_shown}
-use Rattle.irig_scene.specs.Text.{time_shown_text, refusal_text}
-use Rattle.irig_scene.specs.LogLines.{whole_lines, ShowsNothing, IsTimeOf, IsTrueLine, IsTrueLineIfKept, TellsTruth, IsTrueLog, VouchesForItself}
+use Rattle.irig_log_text.specs.Text.{time_shown_text, refusal_text}
+use Rattle.irig_log_text.specs.LogLines.{whole_lines, ShowsNothing}
+use Rattle.irig_scene.specs.LogLines.{IsTimeOf, IsTrueLine, IsTrueLineIfKept, TellsTruth, IsTrueLog, VouchesForItself}
 use Rattle.irig_scenario.specs.PlantLine.{Plan, plan_in_line}
 use Rattle.irig_scenario.proofs.SoundPlans.{IsSound, plan_is_sound}
 use Rattle.irig_plant.proofs.Headline.{log_is_true}
 use Rattle.irig_plant.proofs.KeptLaws.{kept_log_is_true}
 use Rattle.irig_plant.proofs.AuditLaws.{kept_is}
-use Rattle.irig_scene.proofs.WordLaws.{AreNames, are_names_named}
-use Rattle.irig_scene.proofs.LogLaws.{all_left, all_at, all_join, whole_front, entry_line, entry_shows, entry_digit}
-use Rattle.irig_scene.proofs.RowLaws.{rows, lines_of_rows, each_row, port_row_shows_nothing}
-use Rattle.irig_scene.proofs.LastLines.{IsLastLine, refusal_last, audit_last}
+use Rattle.irig_log_text.proofs.WordLaws.{AreNames}
+use Rattle.irig_scene.proofs.NameLaws.{are_names_named}
+use Rattle.irig_log_text.proofs.LogLaws.{all_left, all_at, all_join, whole_front, entry_line, entry_shows, entry_digit}
+use Rattle.irig_log_text.proofs.RowLaws.{rows, lines_of_rows, each_row, port_row_shows_nothing}
+use Rattle.irig_log_text.proofs.LastLines.{IsLastLine, refusal_last, audit_last}
 
 -- ---- events that were played
 

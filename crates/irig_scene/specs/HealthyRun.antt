@@ -8,7 +8,8 @@ use Rattle.irig_scenario.specs.declared.event_line.Command.TheVariants.{Seconds}
 use Rattle.irig_scenario.specs.EventLine.{command_in_line}
 use Rattle.irig_scenario.specs.PlantLine.{Plan, plan_in_line}
 use Rattle.irig_scene.specs.Lines.{lines, is_blank, max_line, max_lines}
-use Rattle.irig_scene.specs.LogLines.{Shows, IsTimeOf}
+use Rattle.irig_log_text.specs.LogLines.{Shows}
+use Rattle.irig_scene.specs.LogLines.{IsTimeOf}
 
 -- the lines ask for n whole seconds in all, and for nothing else: each is blank, and skipped, or
 -- asks for k of them, and the rest for m

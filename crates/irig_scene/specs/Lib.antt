@@ -1,5 +1,4 @@
 pub mod Lines
-pub mod Text
 pub mod Scene
 pub mod Faults
 pub mod PlayerRuns

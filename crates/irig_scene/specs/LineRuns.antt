@@ -16,13 +16,13 @@ use Rattle.irig_forms.specs.declared.refusal.Refusal.TheVariants.{TooManyLines, 
 use Rattle.irig_forms.specs.Refusals.{number_of}
 use Rattle.irig_device.specs.Lines.{Bytes}
 use Rattle.irig_scene.specs.Lines.{lines, max_lines}
-use Rattle.irig_scene.specs.Text.{refusal_text}
+use Rattle.irig_log_text.specs.Text.{refusal_text}
 use Rattle.irig_scenario.specs.EventLine.{command_in_line}
 use Rattle.irig_scene.specs.Run.{IsDone, IsRefused}
 use Rattle.irig_device.specs.Watched.{AppendsPart}
 use Rattle.irig_scene.specs.Faults.{IsFaultOfWriting}
 use Rattle.irig_scenario.specs.declared.event_line.Command.{Command}
-use Rattle.irig_scene.specs.declared.shown.Shown.{Shown}
+use Rattle.irig_log_text.specs.declared.shown.Shown.{Shown}
 use Rattle.irig_scene.specs.PlayerRuns.{past, after_events, Grew, GrewPart}
 use Rattle.irig_plant.specs.WholeSecond.{second_of}
 use Rattle.irig_scenario.specs.PlantLine.{Plan, plan_in_line}

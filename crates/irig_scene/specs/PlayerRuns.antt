@@ -12,7 +12,7 @@ use Rattle.irig_forms.specs.declared.refusal.Refusal.{Refusal}
 use Rattle.irig_device.specs.Lines.{Bytes}
 use Rattle.irig_device.specs.Watched.{AppendsPart}
 use Rattle.irig_scene.specs.Faults.{IsFaultOfWriting}
-use Rattle.irig_scene.specs.declared.shown.Shown.{Shown}
+use Rattle.irig_log_text.specs.declared.shown.Shown.{Shown}
 use Rattle.irig_scene.specs.Scene.{Scene, scene, play, log_text}
 
 -- all that the plant logged was shown, and it keeps what ports told where that is shown too

@@ -10,9 +10,9 @@ use Rattle.irig_forms.specs.Refusals.{number_of}
 use Rattle.irig_device.specs.Watched.{AppendsPart}
 use Rattle.irig_device.specs.Lines.{Bytes, HasNoNewline}
 use Rattle.irig_scene.specs.Lines.{lines, unlines, shown_by}
-use Rattle.irig_scene.specs.declared.shown.Shown.{Shown}
+use Rattle.irig_log_text.specs.declared.shown.Shown.{Shown}
 use Rattle.irig_scene.specs.Scene.{Scene, Meaning, Refused as RefusedLine, meaning_of, log_text, output_shown, audit_in, refusal_at}
-use Rattle.irig_scene.specs.Text.{entries_alone}
+use Rattle.irig_log_text.specs.Text.{entries_alone}
 
 -- ---- the whole run
 

@@ -17,8 +17,8 @@ use Rattle.irig_scene.specs.Lines.{lines, is_blank, max_line, max_lines}
 use Rattle.irig_plant.specs.WholeSecond.{second_of, times}
 use Rattle.irig_scenario.specs.EventLine.{command_in_line}
 use Rattle.irig_scenario.specs.PlantLine.{Plan, plan_in_line}
-use Rattle.irig_scene.specs.declared.shown.Shown.{Shown}
-use Rattle.irig_scene.specs.Text.{entries_alone, lines_text, audit_text, refusal_text}
+use Rattle.irig_log_text.specs.declared.shown.Shown.{Shown}
+use Rattle.irig_log_text.specs.Text.{entries_alone, lines_text, audit_text, refusal_text}
 
 -- a plant with its readers' names, and the events that came, the newest first
 pub record Scene : Type 0 where

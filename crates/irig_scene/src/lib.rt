@@ -7,13 +7,11 @@ mod line;
 mod log_writer;
 mod outcome;
 mod player;
-mod port_text;
 mod refused_line;
 mod run;
-mod shown;
-mod text;
 
 pub use fault::SceneFault;
+pub use irig_log_text::Shown;
 pub use laws::{
     a_second_has_a_tick_a_reader, entries_are_true, healthy_scenarios_announce, lines_read_one_way,
     logs_are_true, port_lines_stand_apart,
@@ -21,4 +19,3 @@ pub use laws::{
 pub use outcome::Outcome;
 pub use refused_line::RefusedLine;
 pub use run::{run_scene, run_scene_over, run_scene_shown};
-pub use shown::Shown;

@@ -5,15 +5,13 @@ ghost use Rattle.irig_device.specs.Watched.{device_of, has_failed};
 ghost use Rattle.irig_time.specs.Seconds.{IsValid};
 ghost use Rattle.irig_scene.specs.Faults.{WroteText, says_write};
 ghost use Rattle.irig_vote.specs.Vote.{AreOfUtc};
-ghost use Rattle.irig_scene.specs.Text.{lines_text, audit_text, refusal_text};
+ghost use Rattle.irig_log_text.specs.Text.{lines_text, audit_text, refusal_text};
 
 use crate::fault::SceneFault;
-use crate::port_text::push_ticks;
-use crate::shown::Shown;
-use crate::text::{ReportText, push_audit, push_entries, push_refusal};
 use indexmap::IndexSet;
 use irig_device::Watched;
 use irig_forms::Refusal;
+use irig_log_text::{ReportText, Shown, push_audit, push_entries, push_refusal, push_ticks};
 use irig_plant::{Audit, Entry, ToldEntry};
 use std::alloc::Global;
 use std::io::Write;

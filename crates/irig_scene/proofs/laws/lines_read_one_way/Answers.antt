@@ -1,5 +1,5 @@
-use Rattle.irig_scene.proofs.WordLaws.{are_names_named}
-use Rattle.irig_scene.proofs.LogLaws.{entry_is_shown, shown_once}
+use Rattle.irig_scene.proofs.NameLaws.{are_names_named}
+use Rattle.irig_log_text.proofs.LogLaws.{entry_is_shown, shown_once}
 use Rattle.irig_scene.proofs.TrueLines.{last_shows_nothing}
 use Rattle.irig_scene.proofs.laws.lines_read_one_way.Goals as goal
 

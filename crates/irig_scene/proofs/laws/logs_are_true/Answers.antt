@@ -1,4 +1,4 @@
-use Rattle.irig_scene.specs.Text.{entries_alone}
+use Rattle.irig_log_text.specs.Text.{entries_alone}
 use Rattle.irig_scene.proofs.TrueLines.{tells_truth, vouches_for_itself}
 use Rattle.irig_scene.proofs.laws.logs_are_true.Goals as goal
 

@@ -1,4 +1,4 @@
-use Rattle.irig_scene.proofs.WordLaws.{are_names_named}
+use Rattle.irig_scene.proofs.NameLaws.{are_names_named}
 use Rattle.irig_scene.proofs.PortLineLaws.{without_ports, ports_are_one, last_is_none}
 use Rattle.irig_scene.proofs.laws.port_lines_stand_apart.Goals as goal
 

@@ -1,4 +1,4 @@
-use Rattle.irig_scene.specs.Text.{entries_alone}
+use Rattle.irig_log_text.specs.Text.{entries_alone}
 use Rattle.irig_scene.specs.LogLines.{TellsTruth, VouchesForItself}
 use Rattle.irig_scene.proofs.TrueLines.{tells_truth, vouches_for_itself}
 use Rattle.irig_scene.proofs.WrittenLaws.{of_run}

@@ -1,0 +1,5 @@
+pub mod TextLaws
+pub mod WordLaws
+pub mod LogLaws
+pub mod LastLines
+pub mod RowLaws

@@ -1,0 +1,10 @@
+//! The text of a log: the lines of its entries, of what ports told, and its last line.
+#![tactic(auto)]
+
+mod port_text;
+mod shown;
+mod text;
+
+pub use port_text::push_ticks;
+pub use shown::Shown;
+pub use text::{ReportText, push_audit, push_entries, push_refusal};

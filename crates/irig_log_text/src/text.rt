@@ -1,0 +1,248 @@
+//! The text of a log, and the last line of a run.
+
+ghost use Rattle.std.specs.Prelude.{◌≡◌, ◌++◌, ◌||◌, map, is_some, string_bytes, All, IfOk, IfSome, OnOk, IsAscii, IsTrue, Some};
+ghost use Rattle.std.specs.Option.{ForSome};
+ghost use Rattle.std.specs.Fmt.{decimal};
+ghost use Rattle.irig_time.specs.Seconds.{IsValid};
+ghost use Rattle.irig_time.specs.TextValues.{second_text};
+ghost use Rattle.irig_log_text.specs.Text.{
+  lock_text,
+  cause_text,
+  time_shown_text,
+  name_at,
+  report_text,
+  entry_text,
+  entries_text,
+  audit_text,
+  refusal_text,
+};
+
+use indexmap::IndexSet;
+use irig_forms::Refusal;
+use irig_plant::{Audit, Entry};
+use irig_reader::{Cause, Lock, Report};
+use irig_time::{UtcSecond, write_text};
+use itoa::Buffer;
+use std::alloc::{AllocError, Global};
+
+/// The text of the last report, since readers that tick together mostly say the same.
+#[derive(Drop)]
+pub struct ReportText {
+    report: Option<Report>,
+    text: String,
+    ghost exact: { ForSome report (λ report. string_bytes text ≡ report_text report) },
+}
+
+impl ReportText {
+    /// No report's text.
+    pub fn new(alloc: Global) -> ReportText {
+        ReportText {
+            report: None,
+            text: String::new(alloc),
+        }
+    }
+
+    // The text of this report.
+    fn of(&mut self, report: Report) -> Result<&str, AllocError>
+        requires { IfSome report.announce IsValid }
+        ensures { IfOk result (λ text. text.now ≡ report_text report) }
+    {
+        if is_kept(self.report, report) {
+            return Ok(self.text.as_str());
+        }
+        self.report = None;
+        self.text.clear();
+        push_report(&mut self.text, report)?;
+        self.report = Some(report);
+        Ok(self.text.as_str())
+    }
+}
+
+// The test of `==`, field by field.
+fn is_kept(kept: Option<Report>, report: Report) -> bool
+    ensures { IsTrue result → kept ≡ Some report }
+{
+    let Some(
+        Report {
+            announce,
+            lock,
+            cause,
+        },
+    ) = kept
+    else {
+        return false;
+    };
+    announce == report.announce && lock == report.lock && cause == report.cause
+}
+
+/// Adds a line for each entry with an announcement, or for each entry where all are wanted.
+pub fn push_entries(
+    text: &mut String,
+    last: &mut ReportText,
+    names: &IndexSet<String>,
+    entries: &[Entry],
+    all: bool,
+) -> Result<(), AllocError>
+    requires { All (λ entry. IfSome entry.report.announce IsValid) entries.now }
+    ensures { OnOk result (string_bytes text.new ≡ string_bytes text.old
+        ++ entries_text (map string_bytes names.now.keys) all entries.now) }
+{
+    for entry in entries {
+        if is_written(entry, all) {
+            push_entry(text, last, names, entry)?;
+        }
+    }
+    Ok(())
+}
+
+/// Whether an entry has a line.
+fn is_written(entry: &Entry, all: bool) -> bool
+    ensures { result ≡ (all || is_some entry.now.report.announce) }
+{
+    all || entry.report.announce.is_some()
+}
+
+/// Adds the line of one entry.
+#[tactic(auto, unfolding(crate::specs::Text::entry_text))]
+fn push_entry(
+    text: &mut String,
+    last: &mut ReportText,
+    names: &IndexSet<String>,
+    entry: &Entry,
+) -> Result<(), AllocError>
+    requires { IfSome entry.now.report.announce IsValid }
+    ensures { OnOk result (string_bytes text.new
+        ≡ string_bytes text.old ++ entry_text (map string_bytes names.now.keys) entry.now) }
+{
+    push_number(text, entry.edge)?;
+    text.push_str(" ")?;
+    text.push_str(name_at(names, entry.reader))?;
+    text.push_str(last.of(entry.report)?)
+}
+
+/// Adds a number in decimal.
+pub(crate) fn push_number(text: &mut String, number: u64) -> Result<(), AllocError>
+    ensures { OnOk result (string_bytes text.new ≡ string_bytes text.old ++ decimal number) }
+{
+    text.push_str(Buffer::new().format(number))
+}
+
+/// Adds what a reader says, after a blank.
+fn push_report(text: &mut String, report: Report) -> Result<(), AllocError>
+    requires { IfSome report.announce IsValid }
+    ensures { OnOk result (string_bytes text.new ≡ string_bytes text.old ++ report_text report) }
+{
+    text.push_str(" ")?;
+    push_time(text, report.announce)?;
+    text.push_str(" ")?;
+    push_lock(text, report.lock)?;
+    text.push_str(" ")?;
+    text.push_str(cause_word(report.cause))?;
+    text.push_str("\n")
+}
+
+/// The name of a reader.
+#[tactic(auto, using(crate::proofs::TextLaws::name_in_texts))]
+pub(crate) fn name_at(names: &IndexSet<String>, reader: u8) -> &str
+    ensures { result.now ≡ name_at (map string_bytes names.now.keys) reader }
+{
+    names
+        .get_index(usize::from(reader))
+        .map_or("", String::as_str)
+}
+
+/// Adds the second that is announced, or a dash.
+fn push_time(text: &mut String, announce: Option<UtcSecond>) -> Result<(), AllocError>
+    requires { IfSome announce IsValid }
+    ensures { OnOk result (string_bytes text.new
+        ≡ string_bytes text.old ++ time_shown_text announce) }
+{
+    match announce {
+        Some(second) => push_second(text, second),
+        None => text.push_str("-"),
+    }
+}
+
+/// Adds a second.
+pub(crate) fn push_second(text: &mut String, second: UtcSecond) -> Result<(), AllocError>
+    requires { IsValid second }
+    ensures { OnOk result (string_bytes text.new ≡ string_bytes text.old ++ second_text second) }
+{
+    text.push_str(shown(&write_text(&second)))
+}
+
+/// ASCII as text.
+fn shown(text: &[u8; 20]) -> &str
+    requires { IsAscii text.now }
+    ensures { result.now ≡ text.now }
+{
+    str::from_utf8(text).unwrap()
+}
+
+/// Adds whether a reader is locked.
+fn push_lock(text: &mut String, lock: Lock) -> Result<(), AllocError>
+    ensures { OnOk result (string_bytes text.new ≡ string_bytes text.old ++ lock_text lock) }
+{
+    match lock {
+        Lock::Unlocked => text.push_str("unlocked"),
+        Lock::Acquiring(votes) => {
+            text.push_str("acquiring:")?;
+            push_number(text, u64::from(votes))
+        }
+        Lock::Locked => text.push_str("locked"),
+        Lock::Holdover(age) => {
+            text.push_str("holdover:")?;
+            push_number(text, u64::from(age))
+        }
+    }
+}
+
+/// The word for a cause.
+fn cause_word(cause: Cause) -> &'static str
+    ensures { result.now ≡ cause_text cause }
+{
+    match cause {
+        Cause::Voted => "voted",
+        Cause::Held => "held",
+        Cause::Acquiring => "acquiring",
+        Cause::NoVote => "no-vote",
+        Cause::Expired => "expired",
+        Cause::LeapGuard => "leap-guard",
+        Cause::Jump => "jump",
+        Cause::RangeEnd => "range-end",
+    }
+}
+
+/// Adds the last line of a run that went to the end of its input.
+#[tactic(auto, unfolding(crate::specs::Text::audit_text))]
+pub fn push_audit(
+    text: &mut String,
+    names: &IndexSet<String>,
+    audit: Audit,
+) -> Result<(), AllocError>
+    ensures { OnOk result (string_bytes text.new
+        ≡ string_bytes text.old ++ audit_text (map string_bytes names.now.keys) audit) }
+{
+    match audit {
+        Audit::Kept => text.push_str("premises kept\n"),
+        Audit::Broken { reader, edge } => {
+            let name = name_at(names, reader);
+            write!(text, "premises broken: edge {edge} reader {name}\n")
+        }
+        Audit::FalseTable { reader } => {
+            let name = name_at(names, reader);
+            write!(text, "premises broken: table of reader {name}\n")
+        }
+    }
+}
+
+/// Adds the last line of a run that a line's refusal ended.
+#[tactic(auto, unfolding(crate::specs::Text::refusal_text))]
+pub fn push_refusal(text: &mut String, line: u64, refusal: Refusal) -> Result<(), AllocError>
+    ensures { OnOk result (string_bytes text.new
+        ≡ string_bytes text.old ++ refusal_text line refusal) }
+{
+    let number = refusal.number();
+    let name = refusal.name();
+    write!(text, "refused: line {line}: {number} {name}\n")
+}
