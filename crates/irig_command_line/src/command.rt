@@ -1,11 +1,12 @@
 //! The commands, and what words ask for by them.
 
-ghost use Rattle.std.specs.Prelude.{◌≡◌, ◌≢◌, ◌↔◌, ◌≤◌, IfOk, Ok, length, unsigned_abs};
+ghost use Rattle.std.specs.Prelude.{◌≡◌, ◌≢◌, ◌↔◌, ◌≤◌, IfOk, IfSome, Ok, Some, length, unsigned_abs};
 ghost use Rattle.irig_command_line.specs.Requests.{IsRequest};
 
 use crate::help::{ABOUT, AFTER, EXPLAIN_AFTER, FRAME_AFTER, READ_AFTER, RUN_AFTER, USAGE};
 use crate::request::{NoRequest, Pending, Request};
 use crate::tip::fault_with_tip;
+use clap::builder::ValueParser;
 use clap::error::ErrorKind;
 use clap::{Arg, ArgAction, ArgMatches, Command, Error};
 use std::alloc::{AllocError, Global};
@@ -36,22 +37,28 @@ fn request_of<'a>(alloc: Global, matches: &ArgMatches<'a>) -> Result<Request<'a>
     ensures not_plain { result ≢ Ok Request.Plain }
     ensures in_range { IfOk result IsRequest }
 {
-    Ok(match matches.subcommand() {
-        Some(("run", run)) => run_of(run),
-        Some(("frame", frame)) => Request::Frame {
-            time: value(frame, "TIME"),
-            local: local(frame),
-            pending: pending(frame),
-        },
-        Some(("read", read)) => Request::Read {
-            frame: value(read, "FRAME"),
-        },
-        Some(("explain", explain)) => Request::Explain {
-            number: number(explain),
-        },
+    let request = match matches.subcommand() {
+        Some((name, asked)) => request_by(name, asked),
+        None => None,
+    };
+    match request {
+        Some(request) => Ok(request),
         // `clap` lets no other command through.
-        _ => return Err(NoRequest::Fault(String::new(alloc))),
-    })
+        None => Err(NoRequest::Fault(String::new(alloc))),
+    }
+}
+
+fn request_by<'a>(name: &str, matches: &ArgMatches<'a>) -> Option<Request<'a>>
+    ensures not_plain { result ≢ Some Request.Plain }
+    ensures in_range { IfSome result IsRequest }
+{
+    match name {
+        "run" => Some(run_of(matches)),
+        "frame" => Some(frame_of(matches)),
+        "read" => Some(read_of(matches)),
+        "explain" => Some(explain_of(matches)),
+        _ => None,
+    }
 }
 
 fn run_of<'a>(matches: &ArgMatches<'a>) -> Request<'a>
@@ -63,6 +70,35 @@ fn run_of<'a>(matches: &ArgMatches<'a>) -> Request<'a>
     match value(matches, "FILE") {
         "-" => Request::Input { all, ports },
         file => Request::Run { file, all, ports },
+    }
+}
+
+fn frame_of<'a>(matches: &ArgMatches<'a>) -> Request<'a>
+    ensures not_plain { result ≢ Request.Plain }
+    ensures in_range { IsRequest result }
+{
+    Request::Frame {
+        time: value(matches, "TIME"),
+        local: local(matches),
+        pending: pending(matches),
+    }
+}
+
+fn read_of<'a>(matches: &ArgMatches<'a>) -> Request<'a>
+    ensures not_plain { result ≢ Request.Plain }
+    ensures in_range { IsRequest result }
+{
+    Request::Read {
+        frame: value(matches, "FRAME"),
+    }
+}
+
+fn explain_of<'a>(matches: &ArgMatches<'a>) -> Request<'a>
+    ensures not_plain { result ≢ Request.Plain }
+    ensures in_range { IsRequest result }
+{
+    Request::Explain {
+        number: number(matches),
     }
 }
 
@@ -106,23 +142,36 @@ fn pending(matches: &ArgMatches<'_>) -> Option<Pending> {
 }
 
 fn program<'a>(alloc: Global) -> Result<Command<'a>, AllocError> {
-    Command::new(alloc, "irig")
-        .bin_name("irig")?
+    let program = with_command(described_program(alloc), run_command(alloc));
+    let program = with_command(program, frame_command(alloc));
+    let program = with_command(program, read_command(alloc));
+    with_command(program, explain_command(alloc))
+}
+
+fn with_command<'a>(
+    program: Result<Command<'a>, AllocError>,
+    command: Result<Command<'a>, AllocError>,
+) -> Result<Command<'a>, AllocError> {
+    program?.subcommand(command?)
+}
+
+fn described_program<'a>(alloc: Global) -> Result<Command<'a>, AllocError> {
+    let program = described(alloc, "irig", ABOUT, AFTER)
         .version("1.0.0")
-        .about(ABOUT)
         .override_usage(USAGE)
-        .after_help(AFTER)
-        .subcommand_required(true)
-        .subcommand(run_command(alloc)?)?
-        .subcommand(frame_command(alloc)?)?
-        .subcommand(read_command(alloc)?)?
-        .subcommand(explain_command(alloc)?)
+        .subcommand_required(true);
+    program.bin_name("irig")
+}
+
+fn described<'a>(alloc: Global, name: &'a str, about: &'a str, after_help: &'a str) -> Command<'a> {
+    Command::new(alloc, name)
+        .about(about)
+        .after_help(after_help)
 }
 
 fn run_command<'a>(alloc: Global) -> Result<Command<'a>, AllocError> {
-    Command::new(alloc, "run")
-        .about("Runs a scenario and prints its log")
-        .after_help(RUN_AFTER)
+    let about = "Runs a scenario and prints its log";
+    described(alloc, "run", about, RUN_AFTER)
         .arg(file_argument(alloc))?
         .arg(all_option(alloc))?
         .arg(ports_option(alloc))
@@ -149,9 +198,8 @@ fn ports_option<'a>(alloc: Global) -> Arg<'a> {
 }
 
 fn frame_command<'a>(alloc: Global) -> Result<Command<'a>, AllocError> {
-    Command::new(alloc, "frame")
-        .about("Prints the frame of a UTC second")
-        .after_help(FRAME_AFTER)
+    let about = "Prints the frame of a UTC second";
+    described(alloc, "frame", about, FRAME_AFTER)
         .arg(time_argument(alloc))?
         .arg(local_option(alloc))?
         .arg(pending_option(alloc))
@@ -172,7 +220,7 @@ fn local_option<'a>(alloc: Global) -> Arg<'a> {
         .help(
             "The half hours that the coded time is ahead of UTC, -31 to 31; less than 0 as --local=-5",
         )
-        .value_parser(clap::value_parser!(i8).range(-31..=31))
+        .value_parser(ValueParser::signed(-31, 31))
         .default_value("0")
 }
 
@@ -185,10 +233,8 @@ fn pending_option<'a>(alloc: Global) -> Arg<'a> {
 }
 
 fn read_command<'a>(alloc: Global) -> Result<Command<'a>, AllocError> {
-    Command::new(alloc, "read")
-        .about("Prints what a frame says")
-        .after_help(READ_AFTER)
-        .arg(frame_argument(alloc))
+    let about = "Prints what a frame says";
+    described(alloc, "read", about, READ_AFTER).arg(frame_argument(alloc))
 }
 
 fn frame_argument<'a>(alloc: Global) -> Arg<'a> {
@@ -198,15 +244,13 @@ fn frame_argument<'a>(alloc: Global) -> Arg<'a> {
 }
 
 fn explain_command<'a>(alloc: Global) -> Result<Command<'a>, AllocError> {
-    Command::new(alloc, "explain")
-        .about("Prints what the number of a fault or of a refusal means")
-        .after_help(EXPLAIN_AFTER)
-        .arg(number_argument(alloc))
+    let about = "Prints what the number of a fault or of a refusal means";
+    described(alloc, "explain", about, EXPLAIN_AFTER).arg(number_argument(alloc))
 }
 
 fn number_argument<'a>(alloc: Global) -> Arg<'a> {
     Arg::new(alloc, "NUMBER")
         .help("1 to 10, 17 and 18 for the faults of a frame, the others to 34 for refusals")
-        .value_parser(clap::value_parser!(u8).range(1..=34))
+        .value_parser(ValueParser::signed(1, 34))
         .required(true)
 }

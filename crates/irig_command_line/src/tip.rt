@@ -67,8 +67,8 @@ fn is_path(word: &str) -> bool {
 // The number below 0 that stands behind `--local` as a word of its own.
 fn negative_local<'a>(words: &[&'a str]) -> Option<&'a str> {
     let place = words.iter().position(|word| *word == "--local")?;
-    let number = words.get(place.checked_add(1)?)?;
-    if number.as_bytes().first() == Some(&b'-') {
+    let number = words.get(place + 1)?;
+    if number.starts_with('-') {
         Some(number)
     } else {
         None

@@ -198,16 +198,16 @@ fn values_of(sums: &[u32; SUMS]) -> Result<Coded, FrameFault>
     ensures value { result ≡ values_from sums.now }
     ensures in_range { IfOk result IsCoded }
 {
-    let second = field_of(Field::Second, sums[SECOND_UNITS], sums[SECOND_TENS], 0)? as u8;
-    let minute = field_of(Field::Minute, sums[MINUTE_UNITS], sums[MINUTE_TENS], 0)? as u8;
-    let hour = field_of(Field::Hour, sums[HOUR_UNITS], sums[HOUR_TENS], 0)? as u8;
+    let second = byte_of(Field::Second, sums[SECOND_UNITS], sums[SECOND_TENS])?;
+    let minute = byte_of(Field::Minute, sums[MINUTE_UNITS], sums[MINUTE_TENS])?;
+    let hour = byte_of(Field::Hour, sums[HOUR_UNITS], sums[HOUR_TENS])?;
     let day = field_of(
         Field::Day,
         sums[DAY_UNITS],
         sums[DAY_TENS],
         sums[DAY_HUNDREDS],
     )? as u16;
-    let year = field_of(Field::Year, sums[YEAR_UNITS], sums[YEAR_TENS], 0)? as u8;
+    let year = byte_of(Field::Year, sums[YEAR_UNITS], sums[YEAR_TENS])?;
     Ok(Coded {
         second,
         minute,
@@ -218,6 +218,14 @@ fn values_of(sums: &[u32; SUMS]) -> Result<Coded, FrameFault>
         control: sums[CONTROL] % (1 << 18),
         sbs: sums[STRAIGHT_BINARY] % (1 << 17),
     })
+}
+
+fn byte_of(field: Field, units: u32, tens: u32) -> Result<u8, FrameFault>
+    requires { most field ≤ 255 }
+    ensures value { result ≡ field_from field units tens 0 }
+    ensures in_range { IfOk result (λ n. (least field ≤ n) × (n ≤ most field)) }
+{
+    Ok(field_of(field, units, tens, 0)? as u8)
 }
 
 fn field_of(field: Field, units: u32, tens: u32, hundreds: u32) -> Result<u64, FrameFault>
