@@ -1,0 +1,152 @@
+"""Drives Chromium without a window, for tests of pages: by its protocol for debuggers, over a pipe."""
+from __future__ import annotations
+
+import base64
+import fcntl
+import json
+import os
+import select
+import shutil
+import subprocess
+import tempfile
+import time
+from pathlib import Path
+
+NAMES = ("chromium", "chromium-browser", "google-chrome")
+PATIENCE = 60.0  # seconds for one answer
+
+
+def program() -> str | None:
+    """Where a browser is, if there is one."""
+    return next((found for name in NAMES if (found := shutil.which(name))), None)
+
+
+class Browser:
+    """One page in a browser of its own; `errors` are what its console says is wrong."""
+
+    def __init__(self) -> None:
+        self._folder = tempfile.TemporaryDirectory(ignore_cleanup_errors=True)
+        command_end, self._write = _pipe()
+        self._read, answer_end = _pipe(is_answer=True)
+        words = [
+            program(), "--headless", "--disable-gpu", "--disable-dev-shm-usage", "--no-first-run",
+            "--remote-debugging-pipe", f"--user-data-dir={self._folder.name}",
+        ]
+        if os.geteuid() == 0:
+            words.append("--no-sandbox")  # Chromium asks for that of root
+        moved = f'exec "$@" 3<&{command_end} 4>&{answer_end}'
+        self._process = subprocess.Popen(
+            ["bash", "-c", moved, "bash", *words], pass_fds=(command_end, answer_end),
+            stdout=subprocess.DEVNULL, stderr=subprocess.DEVNULL,
+        )
+        os.close(command_end)
+        os.close(answer_end)
+        self._bytes, self._last, self._session = b"", 0, None
+        self.errors: list[str] = []
+        self._events: list[dict] = []
+        page = self.call("Target.createTarget", url="about:blank")["targetId"]
+        attached = self.call("Target.attachToTarget", targetId=page, flatten=True)
+        self._session = attached["sessionId"]
+        for domain in ("Page", "Runtime", "Log"):
+            self.call(f"{domain}.enable")
+
+    def close(self) -> None:
+        os.close(self._write)
+        self._process.terminate()
+        self._process.wait(30)
+        os.close(self._read)
+        self._folder.cleanup()
+
+    def call(self, method: str, **params: object) -> dict:
+        """What the browser answers."""
+        self._last += 1
+        message = {"id": self._last, "method": method, "params": params}
+        if self._session:
+            message["sessionId"] = self._session
+        os.write(self._write, json.dumps(message).encode() + b"\0")
+        while True:
+            answer = self._next()
+            if answer.get("id") == self._last:
+                if "error" in answer:
+                    raise RuntimeError(f"{method}: {answer['error']}")
+                return answer["result"]
+            self._note(answer)
+
+    def _next(self) -> dict:
+        end = time.monotonic() + PATIENCE
+        while b"\0" not in self._bytes:
+            if not select.select([self._read], [], [], max(0.0, end - time.monotonic()))[0]:
+                raise TimeoutError("the browser does not answer")
+            part = os.read(self._read, 1 << 16)
+            if not part:
+                raise RuntimeError("the browser has ended")
+            self._bytes += part
+        message, _, self._bytes = self._bytes.partition(b"\0")
+        return json.loads(message)
+
+    def _note(self, event: dict) -> None:
+        self._events.append(event)
+        if event.get("method") == "Runtime.exceptionThrown":
+            self.errors.append(event["params"]["exceptionDetails"]["exception"]["description"])
+        elif event.get("method") == "Log.entryAdded" and event["params"]["entry"]["level"] == "error":
+            self.errors.append(event["params"]["entry"]["text"])
+
+    def open(self, path: Path) -> None:
+        """Opens a file, and waits until it has been loaded and drawn."""
+        self._events, self.errors = [], []
+        self.call("Page.navigate", url=path.as_uri())
+        while not any(event.get("method") == "Page.loadEventFired" for event in self._events):
+            self._note(self._next())
+        self.settle()
+
+    def settle(self) -> None:
+        """Waits until what was asked for is drawn."""
+        self.ask("new Promise(d => requestAnimationFrame(() => requestAnimationFrame(() => d(0))))")
+
+    def ask(self, expression: str) -> object:
+        """The value of an expression in the page."""
+        told = self.call(
+            "Runtime.evaluate", expression=expression, returnByValue=True, awaitPromise=True
+        )
+        if "exceptionDetails" in told:
+            raise RuntimeError(f"{expression}: {told['exceptionDetails']}")
+        return told["result"].get("value")
+
+    def press(self, *keys: str) -> None:
+        """Keys, each down and up."""
+        for key in keys:
+            text = {"text": key} if len(key) == 1 else {}
+            self.call("Input.dispatchKeyEvent", type="keyDown", key=key, **text)
+            self.call("Input.dispatchKeyEvent", type="keyUp", key=key)
+        self.settle()
+
+    def mouse(self, kind: str, x: float, y: float, **more: object) -> None:
+        self.call("Input.dispatchMouseEvent", type=kind, x=x, y=y, **more)
+
+    def click(self, x: float, y: float) -> None:
+        for kind in ("mousePressed", "mouseReleased"):
+            self.mouse(kind, x, y, button="left", clickCount=1)
+        self.settle()
+
+    def size(self, width: int, height: int) -> None:
+        self.call("Emulation.setDeviceMetricsOverride", width=width, height=height,
+                  deviceScaleFactor=1, mobile=False)
+        self.settle()
+
+    def scheme(self, name: str) -> None:
+        """`light` or `dark`."""
+        feature = {"name": "prefers-color-scheme", "value": name}
+        self.call("Emulation.setEmulatedMedia", features=[feature])
+        self.settle()
+
+    def picture(self, path: Path) -> None:
+        path.write_bytes(base64.b64decode(self.call("Page.captureScreenshot")["data"]))
+
+
+def _pipe(is_answer: bool = False) -> tuple[int, int]:
+    """A pipe's ends, reading and writing; that of the browser is none of 0 to 9, which bash moves."""
+    read, write = os.pipe()
+    theirs = write if is_answer else read
+    moved = fcntl.fcntl(theirs, fcntl.F_DUPFD, 10)
+    os.close(theirs)
+    return (read, moved) if is_answer else (moved, write)

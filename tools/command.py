@@ -1,0 +1,45 @@
+"""The manner of the commands that draw: help begins with an example, and what is wrong is said in one
+line on the standard error, with status 2."""
+from __future__ import annotations
+
+import argparse
+import sys
+from pathlib import Path
+from typing import NoReturn
+
+
+def fail(name: str, reason: object) -> NoReturn:
+    """Ends the command of this name."""
+    print(f"{name}: {reason}", file=sys.stderr)
+    sys.exit(2)
+
+
+class Command(argparse.ArgumentParser):
+    """The words of a command, with an example of its use."""
+
+    def __init__(self, name: str, example: str, description: str) -> None:
+        super().__init__(
+            prog=name,
+            description=description,
+            formatter_class=argparse.RawDescriptionHelpFormatter,
+        )
+        self.example = example
+
+    def format_help(self) -> str:
+        return f"for example:\n\n    {self.example}\n\n{super().format_help()}"
+
+    def error(self, message: str) -> NoReturn:
+        fail(self.prog, f"{message}; see {self.prog} --help")
+
+
+def read_text(name: str) -> str:
+    """The text of a file, of standard input if its name is `-`."""
+    source = sys.stdin.buffer.read() if name == "-" else Path(name).read_bytes()
+    return source.decode()
+
+
+def reason_of(error: OSError | ValueError) -> str:
+    """What is wrong, in words."""
+    if isinstance(error, UnicodeDecodeError):
+        return "it is no text"
+    return str(getattr(error, "strerror", None) or error)

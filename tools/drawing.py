@@ -1,0 +1,313 @@
+"""Draws the bars of a log with matplotlib: for tools/plot."""
+from __future__ import annotations
+
+from collections import Counter
+from collections.abc import Iterable
+from functools import lru_cache
+from pathlib import Path
+
+import matplotlib
+from matplotlib.axes import Axes
+from matplotlib.collections import PatchCollection
+from matplotlib.figure import Figure
+from matplotlib.patches import Patch, Rectangle
+from matplotlib.textpath import TextPath
+from matplotlib.ticker import MaxNLocator
+
+from bars import STATES, Bars, Lane, Run
+from layout import Label, Scale, chosen, ways
+
+matplotlib.rcdefaults()  # a picture is the same whatever the user's own settings are
+matplotlib.rcParams.update({"svg.hashsalt": "irig", "hatch.linewidth": 0.8})
+
+# Inches, but for the sizes of text, which are points.
+SMALL, NORMAL, LARGE = 8.0, 9.0, 12.0
+WIDTH = 7.6  # of the bars
+HIGH, LOW = 0.30, 0.13
+ABOVE, BELOW = 0.24, 0.05  # a bar: for marks, for labels
+ROW = 0.17
+NARROW = 0.02  # no bar is less wide
+PLAIN = 0.06  # less wide ones have no pattern
+BOLD = 1.15  # how much wider bold text is
+MOST_ROWS = 3
+MOST_LABELS = 100
+LIMITS = -0.2, WIDTH + 0.2  # of labels
+
+KINDS = {".svg": {"Date": None}, ".pdf": {"CreationDate": None}, ".png": {}}
+HATCHES = {"plain": "", "stripes": "////", "upright": "||||", "crosses": "xxxx"}
+MARKS = {
+    "leap second": "23:59:60 inserted",
+    "deleted second": "23:59:59 deleted",
+    "month end": "month ends",
+    "premise broken": "premise broken",
+}
+VERDICTS = {
+    "premises kept": "each second announced is the true one",
+    "premises broken: edge": "from there on that reader follows its votes, true or not",
+    "premises broken: table": "its leap table is not true of this plant",
+    "refused": "the lines of the scenario above it were played",
+}
+
+
+# ---- the axis
+
+
+def ticks_of(bars: Bars, scale: Scale) -> list[int]:
+    """The edges that have a number: even steps, or where something changes on a shortened axis."""
+    if scale.is_cut:
+        edges = [*(int(stretch.first + 0.5) for stretch in scale.stretches), bars.last]
+        return [int(label.text) for label, _ in chosen([[tick(edge, scale)] for edge in edges], 1)]
+    most = min(12, int(WIDTH / tick(bars.last, scale).width))
+    steps = MaxNLocator(nbins=most, integer=True, steps=[1, 2, 5, 10])
+    places = steps.tick_values(bars.first, bars.last)
+    even = [int(place) for place in places if bars.first <= place <= bars.last]
+    return even if len(even) > 1 else [bars.first]
+
+
+def tick(edge: int, scale: Scale) -> Label:
+    width = width_of(str(edge), NORMAL) + 0.1
+    return Label(str(edge), scale.place(edge), scale.place(edge) - width / 2, width)
+
+
+def draw_axis(axes: Axes, bars: Bars, scale: Scale) -> None:
+    ticks = ticks_of(bars, scale)
+    axes.set_xlim(0, WIDTH)
+    axes.set_xticks([scale.place(edge) for edge in ticks], [str(edge) for edge in ticks])
+    axes.set_yticks([])
+    axes.tick_params(labelsize=NORMAL)
+    label = "edge (one a second)"
+    if scale.is_cut:
+        label += "; at slanted lines nothing changes, and the axis is shortened"
+    silent = (run for lane in bars.lanes for run in lane.runs if not STATES[run.state].is_high)
+    if any(is_widened(run, scale) for run in silent):
+        label += "; short silences are drawn wider than they are"
+    axes.set_xlabel(label, size=NORMAL)
+    for side in ("left", "right", "top"):
+        axes.spines[side].set_visible(False)
+
+
+def draw_cuts(axes: Axes, scale: Scale, foot: float, top: float) -> None:
+    """A slanted gap through a bar or the axis at each stretch that is shortened."""
+    for stretch in scale.stretches:
+        if stretch.is_cut:
+            middle = stretch.left + stretch.width / 2
+            feet, tops = (middle - 0.08, middle), (middle, middle + 0.08)
+            axes.fill([*feet, *reversed(tops)], [foot, foot, top, top], "white", zorder=3,
+                      clip_on=False)
+            for left, right in zip(feet, tops):
+                axes.plot([left, right], [foot, top], "black", lw=0.8, zorder=3, clip_on=False)
+
+
+# ---- text
+
+
+@lru_cache(None)
+def _advance(letter: str, size: float) -> float:
+    """How wide a letter is, blanks beside it included."""
+    pair, without = (TextPath((0, 0), text, size) for text in (f"|{letter}|", "||"))
+    return (pair.get_extents().width - without.get_extents().width) / 72
+
+
+def width_of(text: str, size: float) -> float:
+    return sum(_advance(letter, size) for letter in text)
+
+
+def label(text: str, place: float, room: float = 0.0) -> list[Label]:
+    """How a small label may stand."""
+    return ways(text, place, width_of(text, SMALL) + 0.08, room, LIMITS)
+
+
+def write(axes: Axes, label: Label, height: float) -> None:
+    middle = label.left + label.width / 2
+    axes.text(middle, height, label.text, size=SMALL, ha="center", va="center")
+
+
+# ---- a reader
+
+
+def is_widened(run: Run, scale: Scale) -> bool:
+    return scale.place(run.last + 0.5) - scale.place(run.first - 0.5) < NARROW - 1e-9
+
+
+def ends_of(runs: Iterable[Run], scale: Scale) -> list[tuple[float, float]]:
+    """Where runs begin and end; narrow ones that touch are one, as no more can be seen."""
+    found: list[tuple[float, float]] = []
+    for run in runs:
+        left, right = scale.place(run.first - 0.5), scale.place(run.last + 0.5)
+        is_narrow = right - left < PLAIN
+        left = max(min(left, (left + right - NARROW) / 2), 0.0)
+        right = min(max(right, left + NARROW), WIDTH)
+        if is_narrow and found and left <= found[-1][1] + 1e-9:
+            found[-1] = (found[-1][0], max(right, found[-1][1]))
+        else:
+            found.append((left, right))
+    return found
+
+
+def look_of(name: str) -> dict:
+    """How a state is drawn, in bars and in the legend."""
+    is_dashed = name == "not announced"
+    return {
+        "facecolor": STATES[name].colour,
+        "edgecolor": "#555555" if is_dashed else "white",
+        "linestyle": (0, (3, 2)) if is_dashed else "solid",
+        "linewidth": 0.6,
+        "hatch": HATCHES[STATES[name].pattern],
+    }
+
+
+def draw_bars(axes: Axes, lane: Lane, scale: Scale, foot: float) -> None:
+    """High bars first, then low ones before white: a silence is a gap, however short."""
+    for name, state in STATES.items():
+        look, height = look_of(name), HIGH if state.is_high else LOW
+        ends = ends_of((run for run in lane.runs if run.state == name), scale)
+        if not state.is_high:
+            draw_boxes(axes, ends, foot, HIGH, {"facecolor": "white", "edgecolor": "white", "lw": 0.6})
+        narrow = [(left, right) for left, right in ends if right - left < PLAIN]
+        wide = [(left, right) for left, right in ends if right - left >= PLAIN]
+        draw_boxes(axes, narrow, foot, height, look | {"edgecolor": "none", "hatch": ""})
+        draw_boxes(axes, wide, foot, height, look)
+
+
+def draw_boxes(
+    axes: Axes, ends: list[tuple[float, float]], foot: float, height: float, look: dict
+) -> None:
+    boxes = [Rectangle((left, foot), right - left, height) for left, right in ends]
+    axes.add_collection(PatchCollection(boxes, **look))
+
+
+def draw_marks(axes: Axes, lane: Lane, scale: Scale, foot: float) -> None:
+    top = foot + HIGH + 0.1
+    for mark in lane.marks:
+        place = scale.place(mark.at)
+        if mark.kind == "month end":
+            axes.plot([place, place], [foot - 0.03, top], "white", lw=2.4)
+            axes.plot([place, place], [foot - 0.03, top], "black", lw=1, ls=(0, (3, 2)))
+        else:
+            axes.plot([place], [top - 0.02], "X" if mark.kind == "premise broken" else "v", ms=7,
+                      mfc="white" if mark.kind == "deleted second" else "black", mec="black", zorder=4)
+
+
+def causes_of(lane: Lane, scale: Scale) -> tuple[list[list[Label]], int]:
+    """Labels for silences, rare causes first, then long ones; and how many silences there are."""
+    silent = [run for run in lane.runs if not STATES[run.state].is_high]
+    counts = Counter(run.cause for run in silent)
+    silent.sort(key=lambda run: (counts[run.cause], run.first - run.last, run.first))
+    labels = []
+    for run in silent[:MOST_LABELS]:
+        edges = f"{run.first}" if run.first == run.last else f"{run.first} to {run.last}"
+        left, right = scale.place(run.first - 0.5), scale.place(run.last + 0.5)
+        labels.append(label(f"{edges}: {run.cause}", (left + right) / 2, right - left))
+    return labels, len(silent)
+
+
+def draw_causes(axes: Axes, lane: Lane, scale: Scale, top: float) -> float:
+    """Writes the causes of silences below a bar, and says where they end."""
+    labels, count = causes_of(lane, scale)
+    found = chosen(labels, MOST_ROWS)
+    for told, row in found:
+        height = top - ROW * (row + 0.5)
+        axes.plot([told.place] * 2, [top + BELOW, height + 0.06], "#888888", lw=0.6, zorder=0.6)
+        write(axes, told, height)
+    depth = max((row for _, row in found), default=-1) + 1
+    if len(found) < count:
+        (more,) = label(f"and {count - len(found)} more silences: zoom in by --edges", WIDTH, WIDTH)
+        write(axes, Label(more.text, WIDTH, WIDTH - more.width, more.width), top - ROW * (depth + 0.5))
+        depth += 1
+    return top - ROW * depth
+
+
+def draw_lane(axes: Axes, lane: Lane, scale: Scale, top: float) -> float:
+    """Draws a reader from this height down, and says where it ends."""
+    foot = top - ABOVE - HIGH
+    axes.text(-0.12, foot + HIGH / 2, lane.reader, size=NORMAL, ha="right", va="center")
+    axes.plot([0, WIDTH], [foot, foot], color="#BBBBBB", lw=0.6, zorder=0.5)
+    draw_bars(axes, lane, scale, foot)
+    draw_cuts(axes, scale, foot - 0.02, foot + HIGH + 0.04)
+    draw_marks(axes, lane, scale, foot)
+    return draw_causes(axes, lane, scale, foot - BELOW)
+
+
+# ---- the picture
+
+
+def draw_top(axes: Axes, bars: Bars, scale: Scale) -> float:
+    """Says above all lanes what the marks are; and how high that is."""
+    marks = {(mark.at, mark.kind): None for lane in bars.lanes for mark in lane.marks}
+    labels = [label(MARKS[kind], scale.place(at)) for at, kind in marks]
+    found = chosen(labels[:MOST_LABELS], MOST_ROWS)
+    for told, row in found:
+        axes.plot([told.place] * 2, [-0.1, ROW * (row + 0.5) - 0.06], "#888888", lw=0.6, zorder=0.6)
+        write(axes, told, ROW * (row + 0.5))
+    return ROW * (max((row for _, row in found), default=-1) + 1)
+
+
+def verdict_of(bars: Bars) -> tuple[str, str]:
+    """The last line of the log, and what it means."""
+    if bars.verdict is None:
+        return "no last line", "the run did not end, or the log was cut"
+    for beginning, meaning in VERDICTS.items():
+        if bars.verdict.startswith(beginning):
+            return bars.verdict, meaning
+    return bars.verdict, ""
+
+
+def draw_legend(figure: Figure, names: list[str], left: float, top: float) -> None:
+    """What the states are, three in a line from the left."""
+    patches = [Patch(label=f"{name}: {STATES[name].meaning}", **look_of(name)) for name in names]
+    in_lines = [patch for column in range(3) for patch in patches[column::3]]
+    figure.legend(handles=in_lines, loc="upper left", bbox_to_anchor=(left, top), ncol=3,
+                  fontsize=SMALL, frameon=False, borderaxespad=0, borderpad=0, labelspacing=0.6,
+                  handleheight=1.1, handlelength=2.4)
+
+
+def draw_words(figure: Figure, bars: Bars, title: str, left: float) -> None:
+    """The title, and the last line of the log."""
+    width, height = figure.get_size_inches()
+
+    def say(inches: float, text: str, size: float, **look: str) -> None:
+        figure.text(left / width, inches / height, text, size=size, va="center", **look)
+
+    heading = f"{title}: how each reader stood".replace("$", r"\$")  # no formula
+    wide = width_of(heading, LARGE) * BOLD
+    say(height - 0.28, heading, LARGE * min(1.0, WIDTH / wide), weight="bold")
+    told = "no second is announced"
+    if bars.announced:
+        ends = bars.announced[0], bars.announced[-1]
+        first, last = (f"{entry.time} at edge {entry.edge}" for entry in ends)
+        told = f"first announced: {first}; last: {last}"
+    say(height - 0.52, told, SMALL, color="#444444")
+    verdict, meaning = verdict_of(bars)
+    sign = "\N{CHECK MARK}" if verdict == "premises kept" else "\N{BALLOT X}"
+    say(0.42, f"{sign} {verdict}", NORMAL, weight="bold")
+    say(0.2, meaning, SMALL, color="#444444")
+
+
+def picture_of(bars: Bars, title: str) -> Figure:
+    scale = Scale(bars, WIDTH)
+    figure = Figure()
+    axes = figure.add_axes([0, 0, 1, 1])
+    top, foot = draw_top(axes, bars, scale), 0.0
+    axes.text(-0.12, -0.06, "reader", size=SMALL, color="#444444", ha="right", va="center")
+    for lane in bars.lanes:
+        foot = draw_lane(axes, lane, scale, foot)
+    foot -= 0.12
+    draw_cuts(axes, scale, foot - 0.06, foot + 0.06)
+    shown = {run.state for lane in bars.lanes for run in lane.runs}
+    names = [name for name in STATES if name in shown]
+    below = 1.16 + 0.22 * (1 + (len(names) > 3))  # the axis, the legend, the last line of the log
+    left = max(width_of(lane.reader, NORMAL) for lane in bars.lanes) + 0.3
+    width, height = max(left, 0.7) + WIDTH + 0.3, top - foot + below + 0.75
+    figure.set_size_inches(width, height)
+    axes.set_position([left / width, below / height, WIDTH / width, (top - foot) / height])
+    axes.set_ylim(foot, top)
+    draw_axis(axes, bars, scale)
+    draw_legend(figure, names, left / width, (below - 0.5) / height)
+    draw_words(figure, bars, title, left)
+    return figure
+
+
+def draw(bars: Bars, title: str, path: Path) -> None:
+    """Writes a picture, without what differs from run to run."""
+    figure = picture_of(bars, title)
+    figure.savefig(path, dpi=150, metadata=KINDS[path.suffix])

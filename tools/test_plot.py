@@ -1,0 +1,358 @@
+#!/usr/bin/env python3
+"""Tests of plot: what it draws of logs, where it puts labels, what it says of files that are no logs, and
+that the pictures of docs/gallery are what it draws now. Needs matplotlib for the pictures."""
+import os
+import re
+import subprocess
+import tempfile
+import time
+import unittest
+from itertools import combinations
+from pathlib import Path
+
+from bars import STATES, Bars, Lane, Mark, Run, bars_of, checked
+from layout import Label, Scale, chosen, rows_of, ways
+
+ROOT = Path(__file__).resolve().parent.parent
+PLOT = ROOT / "tools/plot"
+PROGRAM = ROOT / "crates/irig_main/out/irig_main"
+ONE_EDGE = "1 relay 2016-06-15T12:00:01Z locked voted\npremises kept\n"
+
+
+def example(name: str) -> list[str]:
+    return (ROOT / f"examples/{name}.log").read_text().splitlines()
+
+
+def lane_of(lines: list[str]) -> Lane:
+    (lane,) = bars_of(lines).lanes
+    return lane
+
+
+def plot(text: str, *options: str, name: str = "a.svg") -> tuple[subprocess.CompletedProcess, str]:
+    """What plot says of a log on standard input, and the picture."""
+    with tempfile.TemporaryDirectory() as folder:
+        file = Path(folder) / name
+        ran = subprocess.run(
+            [PLOT, "-", "-o", file, *options], input=text, capture_output=True, text=True, timeout=60
+        )
+        return ran, file.read_text(errors="ignore") if file.exists() else ""
+
+
+def texts(picture: str) -> list[str]:
+    """The texts of a picture: matplotlib writes each beside its outlines."""
+    return re.findall(r"<!-- (.*?) -->", picture)
+
+
+def why_not() -> str:
+    """Why pictures can't be drawn here, if so."""
+    ran, _ = plot(ONE_EDGE)
+    return ran.stderr.strip() if "matplotlib is missing" in ran.stderr else ""
+
+
+class Runs(unittest.TestCase):
+    """Runs of a log; what is expected is said of these examples in examples/README.md."""
+
+    def test_not_announced(self) -> None:
+        self.assertEqual(
+            lane_of(example("dark_hour")).runs,
+            [
+                Run(1, 4, "not announced", "not announced"),
+                Run(5, 8, "locked", "voted"),
+                Run(9, 18, "holdover", "held"),
+                Run(19, 3612, "not announced", "not announced"),
+                Run(3613, 3616, "locked", "voted"),
+            ],
+        )
+
+    def test_silent_lines(self) -> None:
+        runs = lane_of(example("replay_attack")).runs
+        self.assertEqual(
+            [(run.first, run.last, run.cause) for run in runs],
+            [(1, 1, "acquiring"), (2, 9, "voted"), (10, 10, "jump"), (11, 11, "acquiring"),
+             (12, 13, "voted")],
+        )
+
+    def test_a_reader_that_falls_silent_for_ever(self) -> None:
+        bars = bars_of(
+            [
+                "2 relay 2016-06-15T12:00:02Z locked voted",
+                "2 meter 2016-06-15T12:00:02Z locked voted",
+                "3 meter 2016-06-15T12:00:03Z locked voted",
+            ]
+        )
+        relay, meter = bars.lanes
+        self.assertEqual(relay.runs[-1], Run(3, 3, "not announced", "not announced"))
+        self.assertEqual(meter.runs[-1], Run(2, 3, "locked", "voted"))
+        self.assertIsNone(bars.verdict)
+
+    def test_lines_of_ports_are_left_out(self) -> None:
+        lines = example("month_end_guard")
+        told = [text for line in lines for text in (line, " 1 relay ok silence ok")]
+        self.assertEqual(bars_of(told), bars_of(lines))
+
+    def test_a_part(self) -> None:
+        part = bars_of(example("dark_hour")).part(10, 20)
+        self.assertEqual(
+            part.lanes[0].runs,
+            [Run(10, 18, "holdover", "held"), Run(19, 20, "not announced", "not announced")],
+        )
+
+    def test_lines_that_are_none(self) -> None:
+        edge = "2 relay 2016-06-15T12:00:02Z locked voted"
+        for lines, says in (
+            (["2 relay locked voted"], "line 1 is no line of a log"),
+            ([edge, edge], "line 2: edge 2 of relay comes after edge 2"),
+            (["0 relay - unlocked no-vote"], "line 1: edge 0 of relay comes before edge 1"),
+            (["premises kept", edge], "line 2 stands below the last line"),
+            (['{"version":1'], "line 1 is of a scenario"),
+        ):
+            with self.subTest(says), self.assertRaisesRegex(ValueError, says):
+                list(checked(lines))
+
+
+class Marks(unittest.TestCase):
+    """Marks of the examples; an edge and a half is between two edges."""
+
+    def marks(self, name: str) -> list[Mark]:
+        return bars_of(example(name)).lanes[0].marks
+
+    def test_leap_seconds(self) -> None:
+        self.assertEqual(
+            self.marks("leap_inserted"), [Mark(10, "leap second"), Mark(10.5, "month end")]
+        )
+        self.assertEqual(
+            self.marks("leap_deleted"), [Mark(8.5, "deleted second"), Mark(8.5, "month end")]
+        )
+
+    def test_month_ends(self) -> None:
+        self.assertEqual(self.marks("month_end_with_table"), [Mark(61.5, "month end")])
+        with self.subTest("in a silence, from 23:59:58 at edge 60 on"):
+            self.assertEqual(self.marks("month_end_guard"), [Mark(61.5, "month end")])
+        with self.subTest("a minute's end is none"):
+            self.assertEqual(self.marks("plain_minute"), [])
+
+    def test_a_month_end_in_a_silence_of_days(self) -> None:
+        lane = lane_of(
+            [
+                "10 relay 2016-06-30T23:59:59Z locked voted",
+                "86416 relay 2016-07-02T00:00:05Z locked voted",
+            ]
+        )
+        self.assertEqual(lane.marks, [Mark(10.5, "month end")])
+
+    def test_a_silent_second_is_not_deleted(self) -> None:
+        lane = lane_of(
+            [
+                "5 relay 2016-06-30T23:59:58Z locked voted",
+                "7 relay 2016-07-01T00:00:00Z locked voted",
+            ]
+        )
+        self.assertEqual(lane.marks, [Mark(6.5, "month end")])
+
+    def test_a_jump_to_another_month_is_no_month_end(self) -> None:
+        lane = lane_of(
+            [
+                "2 relay 2016-06-15T12:00:02Z locked voted",
+                "3 relay - unlocked jump",
+                "4 relay 2016-07-15T12:00:04Z locked voted",
+            ]
+        )
+        self.assertEqual(lane.marks, [])
+
+    def test_broken_premises(self) -> None:
+        self.assertEqual(self.marks("two_liars"), [Mark(5, "premise broken")])
+        self.assertEqual(self.marks("misled_by_table"), [Mark(59.5, "month end")])
+
+
+class Look(unittest.TestCase):
+    """Who sees no colours tells states apart."""
+
+    def test_states(self) -> None:
+        def grey(state: str) -> float:
+            parts = [int(STATES[state].colour[at:at + 2], 16) for at in (1, 3, 5)]
+            return sum(part * weight for part, weight in zip(parts, (0.299, 0.587, 0.114)))
+
+        for one, other in combinations(STATES, 2):
+            if STATES[one].is_high == STATES[other].is_high:
+                with self.subTest(one=one, other=other):
+                    self.assertGreater(abs(grey(one) - grey(other)), 25)
+                    self.assertNotEqual(STATES[one].pattern, STATES[other].pattern)
+
+
+class Layout(unittest.TestCase):
+    """Places on the axis, and labels."""
+
+    def test_an_even_axis(self) -> None:
+        scale = Scale(Bars([Lane("relay", [Run(1, 5, "locked", "voted")])], 1, 10, None, []), 10.0)
+        self.assertFalse(scale.is_cut)
+        self.assertEqual([scale.place(edge) for edge in (0.5, 1, 10.5)], [0.0, 0.5, 10.0])
+
+    def test_a_shortened_axis(self) -> None:
+        scale = Scale(bars_of(example("dark_hour")), 7.6)
+        self.assertTrue(scale.is_cut)
+        places = [scale.place(edge) for edge in (0.5, 4.5, 8.5, 18.5, 3612.5, 3616.5)]
+        self.assertEqual(places, sorted(places))
+        self.assertEqual((places[0], round(places[-1], 9)), (0.0, 7.6))
+        with self.subTest("edges that are not cut are equally wide"):
+            self.assertAlmostEqual((places[2] - places[1]) / 4, (places[3] - places[2]) / 10)
+            self.assertGreater((places[2] - places[1]) / 4, 0.03)
+
+    def test_labels_cross_nothing(self) -> None:
+        wanted = [ways(str(place), place, 1.0, 0.0, (0.0, 7.6)) for place in (6.9, 7.1, 7.4, 0.2, 0.3)]
+        found = chosen(wanted, 3)
+        self.assertEqual(len(found), 5)
+        for (one, row), (other, below) in combinations(sorted(found, key=lambda each: each[1]), 2):
+            with self.subTest(one=one, other=other):
+                meet = one.left < other.right and other.left < one.right
+                self.assertFalse(meet and row == below, "two texts")
+                self.assertFalse(one.left < other.place < one.right and row < below, "a line")
+
+    def test_no_room(self) -> None:
+        crowd = [Label(str(number), 1.0, 0.5, 1.0) for number in range(4)]
+        self.assertIsNone(rows_of(crowd[:2], 3))
+        self.assertEqual(chosen([[label] for label in crowd], 3), [(crowd[0], 0)])
+
+
+class Gallery(unittest.TestCase):
+    def test_each_example_is_shown(self) -> None:
+        shown = re.findall(r"\]\(gallery/(\w+)\.svg\)", (ROOT / "docs/GALLERY.md").read_text())
+        self.assertEqual(sorted(shown), sorted(path.stem for path in ROOT.glob("examples/*.jsonl")))
+
+
+class Pictures(unittest.TestCase):
+    """Pictures, and what is said where there is none."""
+
+    @classmethod
+    def setUpClass(cls) -> None:
+        if why := why_not():
+            print(f"skipped: pictures are not drawn: {why}")
+            raise unittest.SkipTest(why)
+
+    def test_what_is_written(self) -> None:
+        ran, picture = plot("\n".join(example("month_end_guard")), "--title", "a <month> end")
+        self.assertEqual((ran.returncode, ran.stderr), (0, ""))
+        found = texts(picture)
+        for text in ("61: leap-guard", "62 to 64: no-vote", "month ends", "edge (one a second)", "relay",
+                     "holdover: announces, counting alone"):
+            self.assertIn(text, found)
+        self.assertTrue(any("premises kept" in text for text in found))
+
+    def test_a_title_is_no_formula(self) -> None:
+        ran, picture = plot(ONE_EDGE, "--title", "$x^2$ " * 30)
+        self.assertEqual(ran.stderr, "")
+        self.assertTrue(any("$x^2$ $x^2$" in text for text in texts(picture)))
+
+    def test_last_lines(self) -> None:
+        edge = ONE_EDGE.splitlines()[0]
+        for last in ("premises broken: edge 1 reader relay", "premises broken: table of reader relay",
+                     "refused: line 2: 25 Shape"):
+            with self.subTest(last):
+                self.assertTrue(any(last in text for text in texts(plot(f"{edge}\n{last}\n")[1])))
+        self.assertTrue(any("no last line" in text for text in texts(plot(f"{edge}\n")[1])))
+
+    def test_many_readers_with_long_names(self) -> None:
+        names = [f"protection_no_{number:02}" for number in range(16)]
+        ran, picture = plot("".join(f"1 {name} - unlocked no-vote\n" for name in names))
+        self.assertEqual(ran.stderr, "")
+        self.assertTrue(set(names) <= set(texts(picture)))
+
+    def test_a_part(self) -> None:
+        log = "\n".join(example("month_end_guard"))
+        found = texts(plot(log, "--edges", "50-68")[1])
+        self.assertIn("61: leap-guard", found)
+        seconds = "2017-03-31T23:59:48Z at edge 50; last: 2017-04-01T00:00:06Z at edge 68"
+        self.assertIn(f"first announced: {seconds}", found)
+        self.assertNotIn("61: leap-guard", texts(plot(log, "--edges", "1-60")[1]))
+
+    def test_other_endings(self) -> None:
+        for name, begins in (("a.png", "PNG"), ("a.pdf", "%PDF")):
+            self.assertIn(begins, plot(ONE_EDGE, name=name)[1][:8])
+
+    def test_a_hundred_thousand_lines(self) -> None:
+        for name, lock, is_crowded in (
+            ("alike", "unlocked no-vote", False), ("alternating", "acquiring:1 acquiring", True)
+        ):
+            locks = ("unlocked no-vote", lock)
+            lines = [f"{edge} relay - {locks[edge % 2]}" for edge in range(1, 100_001)]
+            begun = time.monotonic()
+            ran, picture = plot("\n".join(lines))
+            with self.subTest(name):
+                self.assertEqual(ran.stderr, "")
+                self.assertLess(time.monotonic() - begun, 20)
+                self.assertLess(len(picture), 1_000_000)
+                for says in ("more silences: zoom in", "short silences are drawn wider than they are"):
+                    self.assertEqual(any(says in text for text in texts(picture)), is_crowded)
+
+    def test_the_same_bytes(self) -> None:
+        log = "\n".join(example("leap_inserted"))
+        self.assertEqual(plot(log)[1], plot(log)[1])
+
+    def test_the_gallery(self) -> None:
+        def version(picture: str) -> str:
+            return re.findall(r"Matplotlib v([\d.]+)", picture)[0]
+
+        with tempfile.TemporaryDirectory() as folder:
+            program = {**os.environ, "IRIG": str(PROGRAM)}
+            subprocess.run([ROOT / "tools/gallery", folder], check=True, timeout=300, env=program)
+            drawn = {path.name: path.read_text() for path in Path(folder).iterdir()}
+        kept = {path.name: path.read_text() for path in (ROOT / "docs/gallery").iterdir()}
+        self.assertEqual(set(drawn), set(kept), "tools/gallery draws one for each example")
+        (here,), (there,) = ({version(text) for text in texts.values()} for texts in (drawn, kept))
+        if here != there:
+            why = f"docs/gallery was drawn by matplotlib {there}, and here is {here}"
+            print(f"skipped: {why}")
+            self.skipTest(why)
+        for name, picture in kept.items():
+            self.assertTrue(picture == drawn[name], f"{name} is not what tools/gallery draws")
+
+
+class Refusals(unittest.TestCase):
+    """One line for each mistake, status 2, and no picture."""
+
+    @classmethod
+    def setUpClass(cls) -> None:
+        if why := why_not():
+            raise unittest.SkipTest(why)
+
+    def test_logs(self) -> None:
+        for text, says in (
+            ("", "plot: -: no edges to draw: it is empty"),
+            ("premises kept\n", "silent edges have lines if it is made with --all"),
+            ("refused: line 1: 25 Shape\n", "it says 'refused: line 1: 25 Shape' alone"),
+            ("9 relay\n", "line 1 is no line of a log: '9 relay'"),
+        ):
+            with self.subTest(text):
+                self.says(says, *plot(text))
+
+    def test_words(self) -> None:
+        for options, says in (
+            (["--edges", "5"], "'5' is not of the form FROM-TO"),
+            (["--edges", "2-9"], "it has no edges 2-9; it goes from 1 to 1"),
+            (["-o", "/no/such/folder/a.svg"], "No such file or directory"),
+            (["-o", "a.gif"], "ends with none of .svg, .png, .pdf"),
+            (["--wide"], "unrecognized arguments: --wide"),
+        ):
+            with self.subTest(says):
+                self.says(says, *plot(ONE_EDGE, *options))
+
+    def test_files(self) -> None:
+        for name, says in (("no_such.log", "No such file"), (str(ROOT), "Is a directory"),
+                           ("/bin/true", "it is no text")):
+            with self.subTest(name):
+                ran = subprocess.run([PLOT, name, "-o", "a.svg"], capture_output=True, text=True)
+                self.says(says, ran, "")
+
+    def says(self, text: str, ran: subprocess.CompletedProcess, picture: str) -> None:
+        self.assertEqual((ran.returncode, ran.stdout, picture), (2, "", ""))
+        self.assertIn(text, ran.stderr)
+        self.assertEqual(ran.stderr.count("\n"), 1)
+
+
+class Help(unittest.TestCase):
+    def test_it_begins_with_an_example(self) -> None:
+        ran = subprocess.run([PLOT, "--help"], capture_output=True, text=True)
+        self.assertTrue(ran.stdout.startswith("for example:\n\n    ./irig run "))
+
+
+if __name__ == "__main__":
+    unittest.main()

@@ -1,0 +1,424 @@
+#!/usr/bin/env python3
+"""Tests of view: what its page has in it, which line of a scenario made which edge, what it says of wrong
+words; and, if there is a Chromium, what the page does when keys are pressed and the mouse is moved."""
+import base64
+import hashlib
+import http.server
+import json
+import os
+import re
+import subprocess
+import tempfile
+import threading
+import unittest
+from importlib.machinery import SourceFileLoader
+from importlib.util import module_from_spec, spec_from_loader
+from pathlib import Path
+
+import browser
+from bars import STATES
+
+ROOT = Path(__file__).resolve().parent.parent
+VIEW = ROOT / "tools/view"
+PROGRAM = ROOT / "crates/irig_main/out/irig_main"
+
+PLANT = '{"version":1}'
+# Two readers over twelve edges, as the rule of a reader has them: lost frames, a jump, a restart.
+SCENARIO = f"""{PLANT}
+{{"do":"seconds","n":10}}
+{{"do":"tick","r":"meter"}}
+{{"do":"tick","r":"relay"}}
+{{"do":"fault","g":0,"kind":"silent"}}
+
+{{"do":"seconds","n":1}}
+{{"do":"tick","r":"</script><b>&amp;"}}
+"""
+RELAY = ["- acquiring:1 acquiring", "2016-12-31T23:59:52Z locked voted", "- unlocked jump",
+         "- acquiring:1 acquiring", "2016-12-31T23:59:55Z locked voted",
+         "2016-12-31T23:59:56Z locked voted", "2016-12-31T23:59:57Z holdover:1 held",
+         "2016-12-31T23:59:58Z holdover:2 held", "2016-12-31T23:59:59Z locked voted",
+         "2016-12-31T23:59:60Z locked voted", "2017-01-01T00:00:00Z locked voted",
+         "2017-01-01T00:00:01Z locked voted"]
+METER = ["- unlocked no-vote"] * 12
+EDGES = enumerate(zip(RELAY, METER), 1)
+LOG = "".join(f"{edge} relay {relay}\n{edge} meter {meter}\n" for edge, (relay, meter) in EDGES)
+LOG += "premises broken: edge 3 reader relay\n"
+
+
+def loaded():
+    """The tool as a module."""
+    loader = SourceFileLoader("view", str(VIEW))
+    module = module_from_spec(spec_from_loader("view", loader))
+    loader.exec_module(module)
+    return module
+
+
+def run(folder: str, scenario: str, *options: object, log: str | None = None):
+    """Makes a page in a folder; what the tool says, and the page."""
+    files = {"plant.jsonl": scenario, "plant.log": log}
+    for name, text in files.items():
+        if text is not None:
+            (Path(folder) / name).write_text(text)
+    page = Path(folder) / "page.html"
+    words = [VIEW, f"{folder}/plant.jsonl", "-o", page, *options]
+    words += ["--log", f"{folder}/plant.log"] if log is not None else []
+    return subprocess.run(words, capture_output=True, text=True, timeout=120), page
+
+
+def data_in(page: Path) -> dict:
+    text = page.read_text()
+    return json.loads(re.search(r'<script type="application/json" id="data">(.*?)</script>', text)[1])
+
+
+class Page(unittest.TestCase):
+    """What stands in a page, without a browser."""
+
+    def setUp(self) -> None:
+        folder = tempfile.TemporaryDirectory()
+        self.addCleanup(folder.cleanup)
+        self.folder = folder.name
+
+    def made(self, scenario: str, log: str) -> Path:
+        ran, page = run(self.folder, scenario, log=log)
+        self.assertEqual((ran.returncode, ran.stdout, ran.stderr), (0, "", ""))
+        return page
+
+    def test_data(self) -> None:
+        data = data_in(self.made(SCENARIO, LOG))
+        self.assertEqual("\n".join(data["scenario"]) + "\n", SCENARIO)
+        self.assertEqual("\n".join(data["log"]) + "\n", LOG)
+        self.assertEqual(data["verdict"], "premises broken: edge 3 reader relay")
+        relay, meter = data["lanes"]
+        self.assertEqual(meter["runs"], [[1, 12, "unlocked", "no-vote"]])
+        self.assertEqual(
+            relay["marks"], [[10, "leap second"], [10.5, "month end"], [3, "premise broken"]]
+        )
+
+    def test_nothing_ends_the_data(self) -> None:
+        text = self.made(SCENARIO + '{"x":"<!--<script></script>"}\n', LOG).read_text()
+        self.assertEqual(text.count("</script>"), 2)
+        self.assertEqual(text.count("<!--"), 0)
+
+    def test_the_title_is_no_markup(self) -> None:
+        view = loaded()
+        self.assertIn("<title>a&lt;b&gt;&amp;</title>", view.page_of("a<b>&", view.data_of("", LOG)))
+
+    def test_braces_in_data_are_no_places(self) -> None:
+        view = loaded()
+        data = {"x": "{{script}} }} {{"}
+        self.assertIn(json.dumps(data, separators=(",", ":")), view.page_of("a", data))
+
+    def test_the_policy_knows_script_and_style(self) -> None:
+        text = self.made(SCENARIO, LOG).read_text()
+        policy = re.search(r'Content-Security-Policy" content="(.*?)"', text)[1]
+        self.assertTrue(policy.startswith("default-src 'none';"))
+        for kind, tag in (("script-src", "<script>"), ("style-src", "<style>")):
+            inside = text.split(tag)[1].split(f"</{tag[1:]}")[0]
+            digest = base64.b64encode(hashlib.sha256(inside.encode()).digest()).decode()
+            self.assertIn(f"{kind} 'sha256-{digest}';", policy)
+        self.assertNotIn("unsafe", policy)
+
+    def test_which_line_made_an_edge(self) -> None:
+        ticks = loaded().ticks_of(SCENARIO.splitlines(), ["relay", "meter"])
+        self.assertEqual(ticks["relay"], [[10, 2], [11, 4], [12, 7]])
+        self.assertEqual(ticks["meter"], [[10, 2], [11, 3], [12, 7]])
+
+    def test_lines_that_give_no_edges(self) -> None:
+        lines = ['{"do":"seconds","n":0}', '{"do":"seconds","n":"3"}', '{"do":"tick","r":"no"}', '"tick"',
+                 '["tick"', '{"do":"tick","r":["relay"]}', '{"do":"carry","g":0,"r":"relay"}']
+        self.assertEqual(loaded().ticks_of(lines, ["relay"]), {"relay": []})
+
+    def test_a_run_of_the_program(self) -> None:
+        if not PROGRAM.exists():
+            self.skipTest("the program is not built")
+        scenario = (ROOT / "examples/month_end_guard.jsonl").read_text()
+        ran, page = run(self.folder, scenario, "--program", PROGRAM)
+        self.assertEqual((ran.returncode, ran.stderr), (0, ""))
+        log = (ROOT / "examples/month_end_guard.log").read_text()
+        self.assertEqual(data_in(page)["log"], log.splitlines())
+        with self.subTest("a refused line"):
+            ran, page = run(self.folder, scenario + "[]\n", "--program", PROGRAM)
+            self.assertEqual(ran.returncode, 0)
+            refused = f"line {scenario.count(chr(10)) + 1}: 25 Shape"
+            self.assertTrue(ran.stderr.startswith(refused), ran.stderr)
+            self.assertEqual(data_in(page)["verdict"], f"refused: {refused}")
+        with self.subTest("with what each port told"):
+            ran, page = run(self.folder, scenario, "--program", PROGRAM, "--ports")
+            self.assertIn(" 1 relay ok ok ok", data_in(page)["log"])
+
+    def test_mistakes(self) -> None:
+        for options, log, says in (
+            ((), "9 relay\n", "plant.log: line 1 is no line of a log: '9 relay'"),
+            ((), "", "plant.log: the log is empty"),
+            (("--program", "/no/such"), None, "No such file or directory"),
+            (("--program", "/bin/false"), None, "/bin/false ended with status 1"),
+            (("-o", "/no/such/page.html"), LOG, "/no/such/page.html: No such file or directory"),
+            (("--wide",), LOG, "unrecognized arguments: --wide"),
+        ):
+            with self.subTest(says):
+                ran, page = run(self.folder, SCENARIO, *options, log=log)
+                self.assertEqual((ran.returncode, ran.stdout, page.exists()), (2, "", False))
+                self.assertIn(says, ran.stderr)
+                self.assertEqual(ran.stderr.count("\n"), 1)
+                (Path(self.folder) / "plant.log").unlink(missing_ok=True)
+
+    def test_help_begins_with_an_example(self) -> None:
+        ran = subprocess.run([VIEW, "--help"], capture_output=True, text=True)
+        self.assertTrue(ran.stdout.startswith("for example:\n\n    tools/view examples/"))
+
+
+class InBrowser(unittest.TestCase):
+    """What a page does."""
+
+    @classmethod
+    def setUpClass(cls) -> None:
+        cls.page = cls.opened()
+        cls.addClassCleanup(cls.page.close)
+        cls.folder = tempfile.TemporaryDirectory()
+        cls.addClassCleanup(cls.folder.cleanup)
+        cls.page.size(1200, 800)
+
+    @staticmethod
+    def opened() -> browser.Browser:
+        why = "chromium is missing, a package of Debian"
+        try:
+            if browser.program():
+                return browser.Browser()
+        except (OSError, RuntimeError, TimeoutError) as error:
+            why = f"{browser.program()} does not start: {error}"
+        print(f"skipped: pages are not opened: {why}")
+        raise unittest.SkipTest(why)
+
+    def setUp(self) -> None:
+        self.page.scheme("light")
+        self.open(SCENARIO, LOG)
+
+    def tearDown(self) -> None:
+        self.assertEqual(self.page.errors, [])
+
+    def open(self, scenario: str, log: str) -> None:
+        ran, page = run(self.folder.name, scenario, log=log)
+        self.assertEqual(ran.stderr, "")
+        self.page.open(page)
+
+    def text(self, name: str) -> str:
+        return str(self.page.ask(f"document.getElementById('{name}').textContent"))
+
+    def set(self, name: str, value: str) -> None:
+        """What a hand would choose or write."""
+        self.page.ask(
+            f"(() => {{ const it = document.getElementById('{name}'); it.value = {json.dumps(value)};"
+            " it.dispatchEvent(new Event('change', { bubbles: true })); })()"
+        )
+        self.page.settle()
+
+    def place(self, name: str) -> dict:
+        found = self.page.ask(f"document.getElementById('{name}').getBoundingClientRect().toJSON()")
+        assert isinstance(found, dict)
+        return found
+
+    def press(self, name: str, *keys: str) -> None:
+        self.page.ask(f"document.getElementById('{name}').focus()")
+        self.page.press(*keys)
+
+    def push(self, name: str) -> None:
+        box = self.place(name)
+        self.page.click(box["x"] + box["width"] / 2, box["y"] + box["height"] / 2)
+
+    def on_edge(self, edge: float, lane: int) -> tuple[float, float]:
+        """Where an edge of a lane is on the screen."""
+        box = self.place("canvas")
+        x = float(str(self.page.ask(f"x_of({edge})")))
+        return box["x"] + x, box["y"] + 14 + 46 * lane + 18
+
+    def test_what_it_shows(self) -> None:
+        self.assertIn("premises broken: edge 3 reader relay", self.text("verdict"))
+        self.assertEqual(self.text("range"), "edges 1 to 12 of 1 to 12")
+        self.assertIn('{"do":"tick","r":"</script><b>&amp;"}', self.text("scenario"))
+        self.assertEqual(self.page.ask("document.querySelectorAll('b').length"), 0)
+        self.assertEqual(self.page.ask("document.title"), "plant.jsonl")
+
+    def test_keys(self) -> None:
+        self.press("canvas", "End")
+        self.assertTrue(self.text("line").startswith("12 relay 2017-01-01T00:00:01Z locked voted"))
+        self.press("canvas", "ArrowLeft", "ArrowLeft")
+        self.assertTrue(self.text("line").startswith("10 relay 2016-12-31T23:59:60Z"))
+        self.press("canvas", "ArrowDown")
+        self.assertTrue(self.text("line").startswith("10 meter - unlocked no-vote"))
+        self.press("canvas", "Home", "ArrowUp", "ArrowLeft")
+        self.assertTrue(self.text("line").startswith("1 relay - acquiring:1"))
+
+    def test_the_lists_follow(self) -> None:
+        self.press("canvas", "End")
+        for name, number in (("log", "22"), ("scenario", "6")):
+            chosen = f"document.querySelector('#{name} [aria-selected=true]').dataset.number"
+            self.assertEqual(self.page.ask(chosen), number)
+
+    def test_a_short_silence_is_a_gap(self) -> None:
+        lines = [f"{edge} relay 2016-06-15T12:00:00Z locked voted" for edge in range(1, 20_001)]
+        lines[9_999] = "10000 relay - unlocked no-vote"
+        self.open(PLANT, "\n".join(lines))
+        self.press("canvas", "Home")
+        found = []
+        for edge in (5_000, 10_000):
+            at = f"Math.floor(x_of({edge})), top_of(0) + 3, 1, 1"
+            found.append(self.page.ask(f"Array.from(brush.getImageData({at}).data.slice(0, 3))"))
+        self.assertEqual(found[0], [0x00, 0x72, 0xB2])
+        self.assertEqual(found[1], [0xF4, 0xF4, 0xF4], "the ground of the chosen reader")
+
+    def test_zoom_by_keys(self) -> None:
+        self.press("canvas", "Home", "+")
+        self.assertEqual(self.text("range"), "edges 1 to 6 of 1 to 12")
+        self.press("canvas", "+", "+", "+")
+        self.assertEqual(self.text("range"), "edges 1 to 4 of 1 to 12")
+        self.press("canvas", "End")
+        self.assertIn("to 12 of", self.text("range"))
+        self.press("canvas", "0")
+        self.assertEqual(self.text("range"), "edges 1 to 12 of 1 to 12")
+
+    def test_zoom_by_the_wheel(self) -> None:
+        x, y = self.on_edge(12, 0)
+        self.page.mouse("mouseWheel", x, y, deltaX=0, deltaY=-400)
+        self.page.settle()
+        first = int(re.match(r"edges (\d+) to 12 of", self.text("range"))[1])
+        self.assertGreater(first, 4)
+        self.page.mouse("mouseWheel", x, y, deltaX=0, deltaY=4000)
+        self.page.settle()
+        self.assertEqual(self.text("range"), "edges 1 to 12 of 1 to 12")
+
+    def test_drag(self) -> None:
+        self.press("canvas", "Home", "+")
+        x, y = self.on_edge(5, 0)
+        left, _ = self.on_edge(2, 0)
+        self.page.mouse("mousePressed", x, y, button="left", clickCount=1)
+        self.page.mouse("mouseMoved", left, y, button="left", buttons=1)
+        self.page.mouse("mouseReleased", left, y, button="left", clickCount=1)
+        self.page.settle()
+        self.assertEqual(self.text("range"), "edges 4 to 9 of 1 to 12")
+        self.assertTrue(self.text("line").startswith("1 relay"))
+
+    def test_hover_and_click(self) -> None:
+        self.page.mouse("mouseMoved", *self.on_edge(8, 0))
+        self.assertEqual(
+            self.text("hover"),
+            '8 relay 2016-12-31T23:59:58Z holdover:2 held\nscenario line 2: {"do":"seconds","n":10}',
+        )
+        self.page.click(*self.on_edge(11, 1))
+        self.assertTrue(self.text("line").startswith("11 meter - unlocked no-vote"))
+        self.assertIn('scenario line 3: {"do":"tick","r":"meter"}', self.text("line"))
+
+    def test_search_by_cause(self) -> None:
+        self.set("cause", "jump")
+        self.assertEqual(self.text("found"), "jump: 1")
+        self.push("next")
+        self.assertTrue(self.text("line").startswith("3 relay - unlocked jump"))
+        self.set("cause", "acquiring")
+        self.press("canvas", "Home", "n")
+        self.assertTrue(self.text("line").startswith("4 relay - acquiring:1"))
+        self.press("canvas", "n")
+        self.assertTrue(self.text("line").startswith("1 relay - acquiring:1"), "and round")
+        self.set("reader", "meter")
+        self.assertEqual(self.text("found"), "no acquiring")
+
+    def test_an_edge_and_a_text(self) -> None:
+        self.set("edge", "7")
+        self.assertTrue(self.text("line").startswith("7 relay"))
+        self.set("text", "23:59:60")
+        self.press("text", "Enter")
+        self.assertTrue(self.text("line").startswith("10 relay 2016-12-31T23:59:60Z"))
+
+    def test_lists(self) -> None:
+        self.press("log", "End")
+        self.assertEqual(self.text("line"), "premises broken: edge 3 reader relay")
+        self.press("log", "ArrowUp")
+        self.assertTrue(self.text("line").startswith("12 meter"))
+        self.press("scenario", "End", "ArrowUp")
+        self.assertTrue(self.text("line").startswith("12 relay"), "its first edge")
+        selected = "document.querySelector('#scenario [aria-selected=true]').dataset.number"
+        self.assertEqual(self.page.ask(selected), "6")
+
+    def test_the_last_line_leads_to_its_edge(self) -> None:
+        self.press("canvas", "End")
+        self.push("to-verdict")
+        self.assertTrue(self.text("line").startswith("3 relay - unlocked jump"))
+        self.open(SCENARIO, "refused: line 5: 25 Shape\n")
+        self.assertEqual(self.text("to-verdict"), "go to line 5")
+        self.push("to-verdict")
+        self.assertEqual(self.text("line"), "scenario line 5 gives no reader an edge")
+
+    def test_colours_are_those_of_plot(self) -> None:
+        box = self.place("canvas")
+        for edge, state in ((5, "locked"), (7, "holdover"), (4, "acquiring"), (3, "unlocked")):
+            x, y = self.on_edge(edge, 0)
+            at = f"{x - box['x']}, {y - box['y']}"
+            points = self.page.ask(f"Array.from(brush.getImageData({at}, 8, 6).data)")
+            assert isinstance(points, list)
+            found = {bytes(points[place:place + 3]).hex() for place in range(0, len(points), 4)}
+            with self.subTest(state):
+                self.assertIn(STATES[state].colour[1:].lower(), found)
+
+    def test_dark_and_light(self) -> None:
+        ground = "getComputedStyle(document.body).backgroundColor"
+        light = self.page.ask(ground)
+        self.page.scheme("dark")
+        self.assertEqual((light, self.page.ask(ground)), ("rgb(255, 255, 255)", "rgb(22, 22, 22)"))
+
+    def test_no_network(self) -> None:
+        asked: list[str] = []
+
+        class Server(http.server.BaseHTTPRequestHandler):
+            def do_GET(self) -> None:
+                asked.append(self.path)
+                self.send_response(200)
+                self.end_headers()
+
+        server = http.server.HTTPServer(("127.0.0.1", 0), Server)
+        threading.Thread(target=server.serve_forever, daemon=True).start()
+        self.addCleanup(server.server_close)
+        self.addCleanup(server.shutdown)
+        url = f"http://127.0.0.1:{server.server_port}"
+        fetched = f"fetch('{url}/fetched', {{ mode: 'no-cors' }}).then(() => 1, () => 0)"
+        self.assertEqual(self.page.ask(fetched), 0)
+        self.page.ask(f"(() => {{ new Image().src = '{url}/image'; }})()")
+        self.page.ask(
+            "(() => { const it = document.createElement('script'); it.textContent = 'window.ran = 1';"
+            " document.body.append(it); })()"
+        )
+        self.page.settle()
+        self.assertEqual((self.page.ask("window.ran || 0"), asked), (0, []))
+        for refused in (f"{url}/fetched", f"{url}/image", "inline script"):
+            self.assertTrue(any(refused in error for error in self.page.errors), refused)
+        self.page.errors.clear()
+
+    def test_a_hundred_thousand_lines(self) -> None:
+        causes = ("expired", "no-vote")
+        lines = [f"{edge} relay - unlocked {causes[edge % 2]}" for edge in range(1, 100_001)]
+        self.open('{"version":1}\n{"do":"seconds","n":100000}\n', "\n".join(lines))
+        self.assertIn("no last line", self.text("verdict"))
+        options = "document.querySelectorAll('[role=option]').length"
+        self.assertLess(self.page.ask(options), 200)
+        self.press("log", "End")
+        self.assertTrue(self.text("line").startswith("100000 relay - unlocked expired"))
+        self.assertLess(self.page.ask(options), 200)
+        drawn = "(() => { const t = performance.now(); draw(); return performance.now() - t; })()"
+        self.assertLess(min(float(str(self.page.ask(drawn))) for _ in range(5)), 50, "milliseconds")
+
+    def test_more_lines_than_an_element_is_high(self) -> None:
+        self.open(PLANT + "\n" * 600_000, LOG)
+        self.press("scenario", "End")
+        self.assertEqual(self.text("line"), "scenario line 600000 gives no reader an edge")
+        seen = (
+            "(() => { const list = document.getElementById('scenario').getBoundingClientRect();"
+            " const line = document.getElementById('scenario-599999').getBoundingClientRect();"
+            " return line.top >= list.top && line.bottom <= list.bottom + 1; })()"
+        )
+        self.assertTrue(self.page.ask(seen))
+
+    def test_ports(self) -> None:
+        self.open(SCENARIO, LOG.replace("\n1 meter", "\n 1 relay ok silence poor:12\n1 meter", 1))
+        told = self.text("line").splitlines()
+        self.assertEqual(told[:2], ["1 relay - acquiring:1 acquiring", "ports: ok silence poor:12"])
+
+
+if __name__ == "__main__":
+    unittest.main()
