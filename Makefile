@@ -1,0 +1,36 @@
+# Builds the program by ./irig, installs it, and makes a Debian package of it.
+#
+#     make                        proves and builds the program, if a source is newer
+#     make install PREFIX=/usr    the program, its manual and completion, the pages and the examples
+#     make uninstall PREFIX=/usr  takes them away again
+#     make deb                    out/irig_VERSION_ARCHITECTURE.deb, by Debian's package dpkg-dev
+#
+# DESTDIR stands before PREFIX where files are put, and in no file.
+
+PREFIX = /usr/local
+DESTDIR =
+
+to = $(DESTDIR)$(PREFIX)
+program = crates/irig_main/out/irig_main
+manual = share/man/man1/irig.1
+completion = share/bash-completion/completions/irig
+doc = share/doc/irig
+
+.PHONY: all install uninstall deb
+
+all:
+	@./irig --version
+
+install: all
+	install -D -m 755 $(program) "$(to)/bin/irig"
+	install -D -m 644 docs/irig.1 "$(to)/$(manual)"
+	install -D -m 644 docs/irig.bash "$(to)/$(completion)"
+	find README.md CHANGELOG.md LICENSE-* docs examples -type f ! -name 'irig.*' \
+		-exec install -D -m 644 {} "$(to)/$(doc)/{}" \;
+
+uninstall:
+	rm -f "$(to)/bin/irig" "$(to)/$(manual)" "$(to)/$(completion)"
+	rm -rf "$(to)/$(doc)"
+
+deb: all
+	packaging/deb

@@ -1,0 +1,144 @@
+#!/usr/bin/env python3
+"""Tests of `make install`, `make uninstall` and `make deb`: which files stand where, and that what was
+put there runs with an empty environment, as on a machine without the toolchain."""
+import gzip
+import os
+import shutil
+import subprocess
+import tempfile
+import unittest
+from pathlib import Path
+
+ROOT = Path(__file__).resolve().parent.parent
+
+# docs/QUICKSTART.md: the first frame of the page.
+FRAME = (
+    "P10010101P 100101010P 000000000P 100000000P 000000000P 111001000P 100011000P 000000000P 111100000P"
+    " 111000000P\n"
+)
+
+
+def files_below(folder: Path) -> set[str]:
+    return {str(path.relative_to(folder)) for path in folder.rglob("*") if not path.is_dir()}
+
+
+def make(*words: str) -> str:
+    ran = subprocess.run(["make", "-s", *words], cwd=ROOT, capture_output=True, text=True, timeout=600)
+    if ran.returncode:
+        raise AssertionError(f"make {' '.join(words)}: {ran.stdout}{ran.stderr}")
+    return ran.stdout
+
+
+class Installed(unittest.TestCase):
+    """What is put somewhere, and looked at there."""
+
+    def setUp(self) -> None:
+        self.need("make", "make", "what `make` installs")
+        folder = tempfile.TemporaryDirectory()
+        self.addCleanup(folder.cleanup)
+        self.folder = Path(folder.name)
+
+    def need(self, command: str, package: str, what: str) -> None:
+        if not shutil.which(command):
+            print(f"skipped: {what}; Debian's package {package} is missing")
+            self.skipTest(package)
+
+    def runs(self, program: Path) -> None:
+        """The program writes the frame of the page, with nothing in its environment."""
+        words = [program, "frame", "2016-12-31T23:59:59Z", "--local=2", "--pending=insert"]
+        ran = subprocess.run(words, cwd="/", env={}, capture_output=True, text=True, timeout=60)
+        self.assertEqual((ran.returncode, ran.stdout, ran.stderr), (0, FRAME, ""))
+
+    def plays(self, program: Path, examples: Path) -> None:
+        """An installed example has the log beside it."""
+        words = [program, "run", examples / "leap_inserted.jsonl"]
+        ran = subprocess.run(words, env={}, capture_output=True, text=True, timeout=60)
+        self.assertEqual(ran.stdout, (examples / "leap_inserted.log").read_text())
+
+    def test_install(self) -> None:
+        make("install", f"DESTDIR={self.folder}", "PREFIX=/opt/my irig")
+        top = self.folder / "opt/my irig"
+        doc = top / "share/doc/irig"
+        self.runs(top / "bin/irig")
+        self.plays(top / "bin/irig", doc / "examples")
+        found = files_below(self.folder)
+        self.assertEqual({name for name in found if "/share/doc/" not in name}, {
+            "opt/my irig/bin/irig",
+            "opt/my irig/share/man/man1/irig.1",
+            "opt/my irig/share/bash-completion/completions/irig",
+        })
+        wanted = {"README.md", "CHANGELOG.md", "LICENSE-APACHE", "LICENSE-MIT", "docs/SCENARIOS.md"}
+        self.assertLessEqual(wanted, files_below(doc))
+        self.assertEqual(
+            files_below(doc / "examples"), {path.name for path in (ROOT / "examples").iterdir()}
+        )
+        for name in found:
+            self.assertEqual(os.access(self.folder / name, os.X_OK), "/bin/" in name, name)
+
+    def test_uninstall(self) -> None:
+        (self.folder / "usr/local/bin").mkdir(parents=True)
+        (self.folder / "usr/local/bin/another").touch()
+        make("install", f"DESTDIR={self.folder}")
+        self.assertIn("usr/local/bin/irig", files_below(self.folder))
+        make("uninstall", f"DESTDIR={self.folder}")
+        self.assertEqual(files_below(self.folder), {"usr/local/bin/another"})
+
+    def test_completion(self) -> None:
+        make("install", f"DESTDIR={self.folder}", "PREFIX=")
+        words = f"source {self.folder}/share/bash-completion/completions/irig; complete -p irig"
+        ran = subprocess.run(["bash", "-c", words], capture_output=True, text=True)
+        self.assertEqual(ran.stdout, "complete -F _irig irig\n")
+
+    def package(self) -> Path:
+        self.need("dpkg-shlibdeps", "dpkg-dev", "the Debian package")
+        subprocess.run(
+            [ROOT / "packaging/deb", self.folder], check=True, stdout=subprocess.DEVNULL, timeout=600
+        )
+        (package,) = self.folder.glob("irig_*.deb")
+        return package
+
+    def test_deb(self) -> None:
+        package, top = self.package(), self.folder / "unpacked"
+        subprocess.run(["dpkg-deb", "-x", package, top], check=True)
+        self.runs(top / "usr/bin/irig")
+        self.plays(top / "usr/bin/irig", top / "usr/share/doc/irig/examples")
+        built = ROOT / "crates/irig_main/out/irig_main"
+        self.assertEqual(self.code(top / "usr/bin/irig"), self.code(built))
+        manual = top / "usr/share/man/man1/irig.1.gz"
+        self.assertEqual(gzip.decompress(manual.read_bytes()), (ROOT / "docs/irig.1").read_bytes())
+        notice = (top / "usr/share/doc/irig/copyright").read_text()
+        granted = (ROOT / "LICENSE-MIT").read_text().split("\n\n")[1].split()
+        self.assertIn(" ".join(granted), " ".join(notice.split()))
+
+    def said(self, *words: str | Path) -> str:
+        return subprocess.run(words, capture_output=True, text=True, check=True).stdout
+
+    def code(self, program: Path) -> bytes:
+        """What a program executes, which is the same without the names of symbols."""
+        file = self.folder / "code"
+        words = ["objcopy", "-O", "binary", "--only-section=.text", program, file]
+        subprocess.run(words, check=True)
+        self.assertGreater(file.stat().st_size, 100_000)
+        return file.read_bytes()
+
+    def test_fields_of_the_deb(self) -> None:
+        package = self.package()
+        says = self.said(ROOT / "irig", "--version")
+
+        def field(name: str) -> str:
+            return self.said("dpkg-deb", "-f", package, name).strip()
+
+        self.assertEqual(says, f"irig {field('Version')}\n")
+        self.assertEqual(package.name, f"irig_{field('Version')}_{field('Architecture')}.deb")
+        self.assertRegex(field("Depends"), r"^libc6 \(>= 2\.\d+\)$")
+        listed = self.said("dpkg-deb", "-c", package).splitlines()
+        self.assertEqual({line.split()[1] for line in listed}, {"root/root"})
+        self.assertNotIn("@", "".join(map(field, ("Installed-Size", "Depends", "Description"))))
+
+    def test_the_same_package_each_time(self) -> None:
+        first = self.package().read_bytes()
+        self.assertEqual(self.package().read_bytes(), first)
+
+
+if __name__ == "__main__":
+    unittest.main()

@@ -1,0 +1,302 @@
+#!/usr/bin/env python3
+"""Tests of docs/scenario.schema.json: the lines of every case and example, the limits that
+docs/SCENARIOS.md has, and lines that are changed at one place, of which the program that was built
+says if they are refused."""
+import json
+import re
+import subprocess
+import unittest
+from collections.abc import Iterator
+from pathlib import Path
+
+ROOT = Path(__file__).resolve().parent.parent
+PROGRAM = ROOT / "crates/irig_main/out/irig_main"
+SCHEMA = json.loads((ROOT / "docs/scenario.schema.json").read_text())
+
+# The refused lines of cases that a schema has to accept, by what it cannot say.
+UNSAID = {
+    "how a number is written": {
+        "event_minus_zero", "event_number_with_a_point", "plant_version_is_no_whole_number",
+    },
+    "that a second or a day agrees with another one": {
+        "plant_start_past_a_day_of_common_length", "plant_changes_out_of_order",
+        "table_with_a_leap_after_its_end",
+    },
+    "that two items of a list have the same name or day": {
+        "plant_leap_twice", "reader_name_twice", "table_with_a_leap_twice",
+    },
+    "what other lines say, and how far the plant has come": {
+        "tick_of_an_unknown_reader", "event_reader_before_replay", "step_of_generator_3",
+        "ports_before_a_refusal", "skipped_lines_count", "replay_of_a_future_edge", "end_of_the_years",
+    },
+}
+UNSAID_CASES = set().union(*UNSAID.values())
+
+# Refusals for which a schema may accept a line: those of the reasons above. Of a changed line no number
+# is written with a point.
+UNSAID_NUMBERS = {11, 13, 16, 19, 20, 21, 22, 28, 33, 34}
+
+# Refusals of a line that has no JSON value of its own.
+NO_VALUE = {23, 24, 29, 30}
+
+
+# ---- the part of JSON Schema that the schema uses
+
+TYPES = {
+    "object": dict, "array": list, "string": str, "boolean": bool, "integer": int, "null": type(None),
+}
+NOTES = {"$schema", "$defs", "title", "description", "patternErrorMessage"}
+
+
+def defined(reference: str) -> dict:
+    return SCHEMA["$defs"][reference.removeprefix("#/$defs/")]
+
+
+def is_type(name: str, value: object) -> bool:
+    if name == "integer" and isinstance(value, float):
+        return value.is_integer()
+    return isinstance(value, TYPES[name]) and not (name == "integer" and isinstance(value, bool))
+
+
+def is_same(value: object, other: object) -> bool:
+    return value == other and isinstance(value, bool) == isinstance(other, bool)
+
+
+def is_number(value: object) -> bool:
+    return isinstance(value, (int, float)) and not isinstance(value, bool)
+
+
+def accepts(schema: dict | bool, value: object) -> bool:
+    """Whether a schema, or a part of it, accepts a value."""
+    if isinstance(schema, bool):
+        return schema
+    return all(keeps(schema, key, value) for key in schema.keys() - NOTES)
+
+
+def keeps(schema: dict, key: str, value: object) -> bool:
+    """Whether a value is as one keyword of a schema wants it."""
+    wanted = schema[key]
+    match key:
+        case "$ref":
+            return accepts(defined(wanted), value)
+        case "type":
+            return is_type(wanted, value)
+        case "enum":
+            return any(is_same(value, one) for one in wanted)
+        case "const":
+            return is_same(value, wanted)
+        case "allOf":
+            return all(accepts(part, value) for part in wanted)
+        case "anyOf":
+            return any(accepts(part, value) for part in wanted)
+        case "not":
+            return not accepts(wanted, value)
+        case "if":
+            return accepts(schema.get("then" if accepts(wanted, value) else "else", True), value)
+        case "then" | "else":
+            return True  # `if` has asked
+        case "minimum" | "maximum":
+            return not is_number(value) or (value >= wanted if key == "minimum" else value <= wanted)
+        case "pattern":  # `$` is the end of a text in a schema, and in Python an end of a line too
+            return not isinstance(value, str) or bool(re.search(wanted.replace("$", r"\Z"), value))
+        case "items" | "minItems" | "maxItems":
+            return not isinstance(value, list) or keeps_of_list(key, wanted, value)
+        case "properties" | "required" | "additionalProperties":
+            return not isinstance(value, dict) or keeps_of_object(schema, key, value)
+    raise ValueError(f"the schema has a keyword that this test does not know: {key}")
+
+
+def keeps_of_list(key: str, wanted: dict | int, value: list) -> bool:
+    if key == "items":
+        return all(accepts(wanted, item) for item in value)
+    return len(value) >= wanted if key == "minItems" else len(value) <= wanted
+
+
+def keeps_of_object(schema: dict, key: str, value: dict) -> bool:
+    if key == "required":
+        return all(name in value for name in schema[key])
+    named = schema.get("properties", {})
+    if key == "properties":
+        return all(accepts(part, value[name]) for name, part in named.items() if name in value)
+    return all(accepts(schema[key], item) for name, item in value.items() if name not in named)
+
+
+# ---- lines
+
+
+def lines_of(path: Path) -> Iterator[tuple[int, bytes]]:
+    """The lines of a scenario that are not skipped, with their numbers from 1."""
+    for number, line in enumerate(path.read_bytes().split(b"\n"), 1):
+        if line.strip(b" \t\r"):
+            yield number, line
+
+
+def refusal_in(log: str) -> tuple[int, int] | None:
+    """The line and the number of a refusal, if a log ends in one."""
+    match = re.search(r"^refused: line (\d+): (\d+) \w+\n\Z", log, re.M)
+    return (int(match[1]), int(match[2])) if match else None
+
+
+def plant(version: int = 3, **keys: object) -> dict:
+    line = {
+        "version": version, "start": "2016-06-15T12:00:00Z", "leaps": [], "parity": "even",
+        "sense": "add", "sbs": "check", "generators": [{"local": 0}] * 3,
+        "readers": [{"name": "relay", "lock_after": 2, "holdover": 3600}],
+    }
+    return {**line, **keys}
+
+
+LEAPS = [{"day": "2016-12-31", "kind": "insert"}, {"day": "2029-06-30", "kind": "delete"}]
+TABLE = {"until": "2029-06-30", "leaps": LEAPS}
+ZONES = {"local": 2, "dst": True, "changes": [{"at": "2016-10-30T01:00:00Z", "local": 2, "dst": False}]}
+RICH = plant(
+    leaps=LEAPS, generators=[ZONES] * 5,
+    readers=[{"name": "relay", "lock_after": 1, "holdover": 0, "table": TABLE}],
+)
+EVENTS: list[dict] = [
+    {"do": "step", "g": 0},
+    {"do": "tick", "r": "relay"},
+    {"do": "carry", "g": 0, "r": "relay"},
+    {"do": "damage", "g": 0, "r": "relay", "at": 5, "width": 2000},
+    {"do": "replay", "g": 0, "r": "relay", "edge": 0},
+    {"do": "raw", "g": 0, "r": "relay", "widths": [2000, 5000]},
+    *({"do": "fault", "g": 0, "kind": kind} for kind in ("silent", "stuck", "no_pending")),
+    {"do": "fault", "g": 0, "kind": "skew", "by": 1},
+    {"do": "fault", "g": 0, "kind": "false_pending", "leap": "insert"},
+    {"do": "fault", "g": 0, "kind": "quality", "q": 10},
+    {"do": "fault", "g": 0, "kind": "wrong_offset", "by": 1},
+    {"do": "repair", "g": 0},
+    {"do": "restart", "r": "relay"},
+    {"do": "seconds", "n": 1},
+]
+
+STRANGE = [
+    None, True, 0, 1, -1, 4, 5, 16, 32, 62, 100, 256, 2**32, 2**64, "", "x", "skew", "quality", "Relay",
+    "2016-12-31", "2016-12-30", "2017-02-29", "2016-02-29", "2099-12-31", "2000-01-01", "2016-06-31",
+    "2016-06-15T12:00:60Z", "2016-06-30T23:59:60Z", "2016-06-15T24:00:00Z", "2016-06-15T12:01:00Z",
+    "2016-06-15T12:01:30Z", "2016-06-15t12:00:00Z", "2099-12-31T00:00:00Z", [], [0], {}, {"day": "x"},
+]
+
+
+def changed(value: object) -> Iterator[object]:
+    """Each value that differs from this one at one place."""
+    if isinstance(value, dict):
+        yield {**value, "more": 0}
+        for key, item in value.items():
+            yield {name: other for name, other in value.items() if name != key}
+            yield from ({**value, key: other} for other in changed(item))
+    elif isinstance(value, list) and value:
+        yield value[1:]
+        yield value + value[:1]
+        yield from ([other, *value[1:]] for other in changed(value[0]))
+    yield from (other for other in STRANGE if not is_same(other, value))
+
+
+def refused(values: list[object]) -> int | None:
+    """The number with which the program refuses the last of these lines, none if it takes them all."""
+    text = "".join(f"{json.dumps(value)}\n" for value in values)
+    ran = subprocess.run([PROGRAM], input=text, capture_output=True, text=True, timeout=60)
+    found = refusal_in(ran.stdout)
+    if found and found[0] != len(values):
+        raise AssertionError(f"line {found[0]} of {text}")
+    return found[1] if found else None
+
+
+class Schema(unittest.TestCase):
+    def test_cases_and_examples(self) -> None:
+        judged = 0
+        for log in [*ROOT.glob("cases/*/stdout"), *ROOT.glob("examples/*.log")]:
+            names = (log.with_suffix(".jsonl"), log.parent / "scenario.jsonl", log.parent / "stdin")
+            for path in [name for name in names if name.exists()][:1]:
+                judged += self.judge(path, refusal_in(log.read_text()))
+        self.assertGreater(judged, 500)
+
+    def judge(self, path: Path, refusal: tuple[int, int] | None) -> int:
+        """Compares each line of a scenario that the program read, and says how many they are."""
+        last, reason = refusal or (None, None)
+        judged = 0
+        for number, line in lines_of(path):
+            if number == last and reason in NO_VALUE:
+                break
+            is_accepted = accepts(SCHEMA, json.loads(line))
+            wanted = number != last or path.parent.name in UNSAID_CASES
+            self.assertEqual(is_accepted, wanted, f"{path}, line {number}: {line[:500]!r}")
+            judged += 1
+            if number == last:
+                break
+        return judged
+
+    def test_limits_of_the_page(self) -> None:
+        reader, event = RICH["readers"][0], {event["do"]: event for event in EVENTS}
+        for line, key, least, most in (
+            (reader, "lock_after", 1, 60), (reader, "holdover", 0, 1_000_000), (ZONES, "local", -31, 31),
+            (event["step"], "g", 0, 4), (event["seconds"], "n", 0, 100_000),
+            (event["damage"], "at", 0, 99), (event["damage"], "width", 0, 2**32 - 1),
+            (event["replay"], "edge", 0, 2**64 - 1),
+            (EVENTS[9], "by", -2**31, 2**31 - 1), (EVENTS[11], "q", 0, 15), (EVENTS[12], "by", -62, 62),
+        ):
+            for number in (least - 1, least, most, most + 1):
+                value = {**line, key: number}
+                if line is reader:
+                    value = plant(readers=[value])
+                elif line is ZONES:
+                    value = plant(generators=[value] * 3)
+                with self.subTest(key, number=number):
+                    self.assertEqual(accepts(SCHEMA, value), least <= number <= most)
+
+    def test_lengths_of_the_page(self) -> None:
+        leap, change, reader = LEAPS[0], ZONES["changes"][0], plant()["readers"][0]
+
+        def with_table(length: int) -> dict:
+            return plant(readers=[{**reader, "table": {**TABLE, "leaps": [leap] * length}}])
+
+        for most, line in (
+            (1200, lambda n: plant(leaps=[leap] * n)),
+            (400, lambda n: plant(generators=[{"local": 0, "changes": [change] * n}] * 3)),
+            (64, with_table),
+            (16, lambda n: plant(readers=[reader] * n)),
+            (16, lambda n: plant(readers=[{**reader, "name": "r" * n}])),
+            (1000, lambda n: {**EVENTS[5], "widths": [2000] * n}),
+        ):
+            self.assertTrue(accepts(SCHEMA, line(most)), most)
+            self.assertFalse(accepts(SCHEMA, line(most + 1)), most + 1)
+
+    def test_versions(self) -> None:
+        table = {"readers": [{**plant()["readers"][0], "table": TABLE}]}
+        five = {"generators": [{"local": 0}] * 5}
+        for keys, versions in (({}, {1, 2, 3}), (table, {2, 3}), (five, {3})):
+            for version in range(5):
+                self.assertEqual(accepts(SCHEMA, plant(version, **keys)), version in versions)
+
+    def test_each_key_has_a_description(self) -> None:
+        def look(part: object) -> None:
+            if isinstance(part, dict) and part.get("additionalProperties") is False:
+                for name, item in part["properties"].items():
+                    with self.subTest(name):
+                        self.assertTrue(name in ("do", "kind") or is_told(item))
+            if isinstance(part, (dict, list)):
+                for item in part.values() if isinstance(part, dict) else part:
+                    look(item)
+
+        def is_told(part: dict) -> bool:
+            return "description" in part or is_told(defined(part["$ref"]))
+
+        look(SCHEMA)
+
+    def test_changed_lines(self) -> None:
+        counts = {True: 0, False: 0}
+        for first, lines in (([], [RICH, plant(1), plant(2)]), ([RICH], EVENTS)):
+            for value in (other for line in lines for other in [line, *changed(line)]):
+                number, is_accepted = refused([*first, value]), accepts(SCHEMA, value)
+                if is_accepted:
+                    self.assertIn(number, {None, *UNSAID_NUMBERS}, json.dumps(value))
+                elif first and isinstance(value, dict) and "do" not in value:
+                    self.assertEqual(number, 25)
+                else:
+                    self.assertIsNotNone(number, json.dumps(value))
+                counts[is_accepted] += 1
+        self.assertGreater(min(counts.values()), 50)
+
+
+if __name__ == "__main__":
+    unittest.main()
