@@ -1,5 +1,5 @@
-//! JSON objects by their forms: which keys stand in an object, what may stand at a key, and why a
-//! line is refused.
+//! JSON objects by their forms: which keys stand in an object, what may stand at a key, why a line
+//! is refused, and what the numbers of faults and refusals mean.
 #![tactic(auto)]
 
 mod fields;

@@ -86,7 +86,12 @@ pub(crate) fn control_with_fault(fault: Option<GenFault>, control: Control) -> C
 fn limited_offset(offset: i8, by: i8) -> i8
     ensures { result ≡ limited_offset (offset +ℤ by) }
 {
-    let sum = i16::from(offset) + i16::from(by);
+    limited(i16::from(offset) + i16::from(by))
+}
+
+fn limited(sum: i16) -> i8
+    ensures { result ≡ limited_offset sum }
+{
     if sum < -31 {
         return -31;
     }

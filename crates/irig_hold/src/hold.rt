@@ -5,7 +5,7 @@ ghost use Rattle.irig_time.specs.Seconds.{IsValid};
 ghost use Rattle.irig_time.specs.declared.second.TheConstants.{LAST_DAY};
 ghost use Rattle.irig_time.specs.Tables.{spoken_mark};
 ghost use Rattle.irig_hold.specs.Turns.{IfNow, OnStop};
-ghost use Rattle.irig_hold.specs.Steps.{hold_step, hold_start, outcome_of, voted_by, alone_by};
+ghost use Rattle.irig_hold.specs.Steps.{hold_step, hold_start, mark_or, outcome_of, voted_by, alone_by};
 
 use irig_time::{Claim, LAST_DAY, LeapTable, Mark, UtcSecond, next};
 use std::marker::Model;
@@ -74,10 +74,7 @@ impl Hold {
         if claim.at != self.last {
             return Turn::Jump;
         }
-        let heard = match claim.mark {
-            Mark::Unspoken => self.heard,
-            mark => mark,
-        };
+        let heard = mark_or(claim.mark, self.heard);
         self.take(step(self.last, 0, heard, table))
     }
 
@@ -123,6 +120,15 @@ impl Hold {
             }
             Err(stop) => stop,
         }
+    }
+}
+
+fn mark_or(mark: Mark, heard: Mark) -> Mark
+    ensures { result ≡ mark_or mark heard }
+{
+    match mark {
+        Mark::Unspoken => heard,
+        _ => mark,
     }
 }
 

@@ -3,7 +3,7 @@
 ghost use Rattle.std.specs.Prelude.{◌≡◌, [], All, IfSome, OnOk};
 ghost use Rattle.irig_plant.specs.Premises.{IsKept};
 ghost use Rattle.irig_plant.specs.Truth.{AnnouncesTruth};
-ghost use Rattle.irig_plant.specs.History.{AreGenerators, AreReaders, PlantHistory, HasPlantHistory, with_cleared_log, with_events};
+ghost use Rattle.irig_plant.specs.History.{AreGenerators, AreReaders, PlantHistory, HasPlantHistory, IsNew, with_cleared_log, with_events};
 
 use irig_gen::{Generator, Zone};
 use irig_plant::{Audit, Entry, Event, Plant, ReaderSetup, Refused};
@@ -29,16 +29,21 @@ pub fn plain_plant<P: Port>(
 fn three_generators(alloc: Global, rules: Rules) -> Option<Vec<Generator>>
     ensures { IfSome result (λ generators. AreGenerators rules generators.items) }
 {
+    let mut generators = Vec::new(alloc);
+    for _ in 0..3usize {
+        generators.push(plain_generator(alloc, rules)?).ok()?;
+    }
+    Some(generators)
+}
+
+fn plain_generator(alloc: Global, rules: Rules) -> Option<Generator>
+    ensures { IfSome result (IsNew rules) }
+{
     let zone = Zone {
         half_hours: 0,
         dst: false,
     };
-    let mut generators = Vec::new(alloc);
-    for _ in 0..3usize {
-        let generator = Generator::new(alloc, zone, &[], rules).ok()?;
-        generators.push(generator).ok()?;
-    }
-    Some(generators)
+    Generator::new(alloc, zone, &[], rules).ok()
 }
 
 /// The log, if the premises of the headline held so far: each second in it is then the true one.
