@@ -87,12 +87,21 @@ class Leaps(unittest.TestCase):
         }.items():
             with self.subTest(name):
                 ran = run(text)
-                self.assertEqual((ran.returncode, ran.stdout), (1, ""))
+                self.assertEqual((ran.returncode, ran.stdout), (2, ""))
                 self.assertIn("newer: ", ran.stderr)
+
+    def test_no_day(self) -> None:
+        ran = subprocess.run([ROOT / "tools/leaps", "--since", "June"], capture_output=True, text=True)
+        self.assertEqual((ran.returncode, ran.stdout), (2, ""))
+        self.assertIn("'June' is no day", ran.stderr)
+
+    def test_help_begins_with_an_example(self) -> None:
+        ran = subprocess.run([ROOT / "tools/leaps", "--help"], capture_output=True, text=True)
+        self.assertTrue(ran.stdout.startswith("for example:\n\n    tools/leaps --since "))
 
     def test_no_file(self) -> None:
         ran = subprocess.run([ROOT / "tools/leaps", "no_such.list"], capture_output=True, text=True)
-        self.assertEqual(ran.returncode, 1)
+        self.assertEqual(ran.returncode, 2)
         self.assertIn("No such file", ran.stderr)
 
     def test_the_program_takes_them(self) -> None:

@@ -51,8 +51,23 @@ class Command(unittest.TestCase):
     def test_a_word_that_is_none(self) -> None:
         command = [sys.executable, ROOT / "tools/scenario.py", "hours:1"]
         ran = subprocess.run(command, capture_output=True, text=True)
-        self.assertEqual(ran.returncode, 1)
-        self.assertIn("'hours:1' is none of", ran.stderr)
+        self.assertEqual((ran.returncode, ran.stdout), (2, ""))
+        self.assertIn("hours:1: it is none of", ran.stderr)
+
+    def test_what_is_wrong_is_one_line_with_the_word(self) -> None:
+        for word in ("dark:90:0,2", "dark", "repair", "fault:0", "until:noon", "seconds:x", "lose:1:a"):
+            with self.subTest(word):
+                command = [sys.executable, ROOT / "tools/scenario.py", "seconds:1", word]
+                ran = subprocess.run(command, capture_output=True, text=True)
+                self.assertEqual((ran.returncode, ran.stdout), (2, ""))
+                self.assertRegex(ran.stderr, rf"\Ascenario.py: {word}: [^\n]+\n\Z")
+
+    def test_help_begins_with_an_example(self) -> None:
+        first, example = self.printed("--help").split("\n\n")[:2]
+        self.assertEqual(first, "for example:")
+        # The plant, a line of seconds, three faults, seconds, three repairs, and seconds.
+        made = self.printed(*example.split()[1:])
+        self.assertEqual(len(made.splitlines()), 10)
 
 
 class Seconds(unittest.TestCase):
