@@ -56,16 +56,16 @@ class Installed(unittest.TestCase):
         self.assertEqual(ran.stdout, (examples / "leap_inserted.log").read_text())
 
     def test_install(self) -> None:
-        make("install", f"DESTDIR={self.folder}", "PREFIX=/opt/my irig")
-        top = self.folder / "opt/my irig"
+        make("install", f"DESTDIR={self.folder}", "PREFIX=/usr/my irig")
+        top = self.folder / "usr/my irig"
         doc = top / "share/doc/irig"
         self.runs(top / "bin/irig")
         self.plays(top / "bin/irig", doc / "examples")
         found = files_below(self.folder)
         self.assertEqual({name for name in found if "/share/doc/" not in name}, {
-            "opt/my irig/bin/irig",
-            "opt/my irig/share/man/man1/irig.1",
-            "opt/my irig/share/bash-completion/completions/irig",
+            "usr/my irig/bin/irig",
+            "usr/my irig/share/man/man1/irig.1",
+            "usr/my irig/share/bash-completion/completions/irig",
         })
         wanted = {"README.md", "CHANGELOG.md", "LICENSE-APACHE", "LICENSE-MIT", "docs/SCENARIOS.md"}
         self.assertLessEqual(wanted, files_below(doc))
