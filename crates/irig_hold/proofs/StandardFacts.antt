@@ -1,5 +1,5 @@
 -- Known steps of a hold, so that a wrong definition does not check.
-use Rattle.std.proofs.Common.{◌≡◌, ℕ, true, List, [], ◌∷◌, Option, Some, None, refl, arith}
+use Rattle.std.proofs.Common.{◌≡◌, ℕ, List, [], ◌∷◌, Option, Some, None, refl, arith}
 use Rattle.std.specs.Prelude.{Ok, Err}
 use Rattle.irig_time.proofs.NextLaws.{last_day}
 use Rattle.irig_time.proofs.StandardFacts.{known_month_end as december}

@@ -5,9 +5,9 @@ ghost use Rattle.irig_time.specs.Seconds.{IsValid};
 ghost use Rattle.irig_time.specs.declared.second.TheConstants.{LAST_DAY};
 ghost use Rattle.irig_time.specs.Tables.{spoken_mark};
 ghost use Rattle.irig_hold.specs.Turns.{IfNow, OnStop};
-ghost use Rattle.irig_hold.specs.Steps.{hold_step, hold_start, mark_or, outcome_of, voted_by, alone_by};
+ghost use Rattle.irig_hold.specs.Steps.{hold_value, hold_step, hold_start, mark_or, outcome_of, voted_by, alone_by};
 
-use irig_time::{Claim, LAST_DAY, LeapTable, Mark, UtcSecond, next};
+use irig_time::{Claim, LAST_DAY, Leaps, Mark, UtcSecond, next};
 use std::marker::Model;
 
 /// What a hold answers: the second that it has come to, or why it stays.
@@ -54,9 +54,9 @@ impl Hold {
     /// next one, by what the claim says of a leap or else the table.
     ///
     /// `LeapGuard` or `RangeEnd` where there is no next one.
-    pub fn start(claim: Claim, table: &LeapTable) -> Result<Hold, Turn>
+    pub fn start<T: Leaps>(claim: Claim, table: &T) -> Result<Hold, Turn>
         requires { IsValid claim.at }
-        ensures { result ≡ hold_start table.now claim }
+        ensures { result ≡ hold_start (T.says table.now) claim }
     {
         step(claim.at, 0, claim.mark, table)
     }
@@ -65,9 +65,9 @@ impl Hold {
     ///
     /// It keeps what the vote says of a leap, if it says something. `Jump` where the vote is for
     /// another second, then `LeapGuard` or `RangeEnd`; these leave it as it was.
-    pub fn voted(&mut self, claim: Claim, table: &LeapTable) -> Turn
-        ensures answer { result ≡ (voted_by table.now self.old claim).answer }
-        ensures new { self.new ≡ (voted_by table.now self.old claim).new }
+    pub fn voted<T: Leaps>(&mut self, claim: Claim, table: &T) -> Turn
+        ensures answer { result ≡ (voted_by (T.says table.now) self.old claim).answer }
+        ensures new { self.new ≡ (voted_by (T.says table.now) self.old claim).new }
         ensures valid { IfNow result IsValid }
         ensures stays { OnStop result (self.new ≡ self.old) }
     {
@@ -81,9 +81,9 @@ impl Hold {
     /// One second on without a vote, where it has gone fewer than `limit` seconds alone.
     ///
     /// `Expired` where it has not, then `LeapGuard` or `RangeEnd`; these leave it as it was.
-    pub fn alone(&mut self, limit: u32, table: &LeapTable) -> Turn
-        ensures answer { result ≡ (alone_by table.now self.old limit).answer }
-        ensures new { self.new ≡ (alone_by table.now self.old limit).new }
+    pub fn alone<T: Leaps>(&mut self, limit: u32, table: &T) -> Turn
+        ensures answer { result ≡ (alone_by (T.says table.now) self.old limit).answer }
+        ensures new { self.new ≡ (alone_by (T.says table.now) self.old limit).new }
         ensures valid { IfNow result IsValid }
         ensures stays { OnStop result (self.new ≡ self.old) }
     {
@@ -91,6 +91,22 @@ impl Hold {
             return Turn::Expired;
         }
         self.take(step(self.last, self.age + 1, self.heard, table))
+    }
+
+    /// The hold that stands at this [`valid`](irig_time::valid) second, has gone `age` seconds
+    /// alone, and heard this of the leap at the end of that day.
+    pub fn of(last: UtcSecond, age: u32, heard: Mark) -> Hold
+        requires { IsValid last }
+        ensures { result ≡ hold_value last age heard }
+    {
+        Hold { last, age, heard }
+    }
+
+    /// What it heard of the leap at the end of its day.
+    pub fn heard(&self) -> Mark
+        ensures { result ≡ self.now.heard }
+    {
+        self.heard
     }
 
     /// The second that it stands at.
@@ -132,9 +148,9 @@ fn mark_or(mark: Mark, heard: Mark) -> Mark
     }
 }
 
-fn step(from: UtcSecond, age: u32, heard: Mark, table: &LeapTable) -> Result<Hold, Turn>
+fn step<T: Leaps>(from: UtcSecond, age: u32, heard: Mark, table: &T) -> Result<Hold, Turn>
     requires { IsValid from }
-    ensures { result ≡ hold_step table.now from age heard }
+    ensures { result ≡ hold_step (T.says table.now) from age heard }
 {
     match next(from, spoken(heard, table, from.day)) {
         Some(last) => Ok(Hold {
@@ -152,9 +168,9 @@ fn step(from: UtcSecond, age: u32, heard: Mark, table: &LeapTable) -> Result<Hol
     }
 }
 
-fn spoken(heard: Mark, table: &LeapTable, day: u32) -> Mark
+fn spoken<T: Leaps>(heard: Mark, table: &T, day: u32) -> Mark
     requires { day ≤ LAST_DAY }
-    ensures { result ≡ spoken_mark table.now heard day }
+    ensures { result ≡ spoken_mark (T.says table.now) heard day }
 {
     match heard {
         Mark::Unspoken => table.mark(day),

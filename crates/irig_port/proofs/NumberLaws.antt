@@ -2,12 +2,14 @@
 use Rattle.std.proofs.Common.{◌≡◌, ℕ, zero, suc, ◌+◌, ◌<◌, ◌≤◌, ◌%◌, min, Bool, true, false, ◌&&◌, cond, eqb, nat_lt, List, [], ◌∷◌, ◌++◌, length, Option, Some, None, slice_set, slice_index, refl, sym, zero-add, ap, ◌∙◌, arith, inl, inr, length-append, subst}
 use Rattle.std.specs.Option.{option_or}
 use Rattle.std.specs.List.{range_with_len}
-use Rattle.std.proofs.lemmas.Bool.{cases_lt, and_parts, eqb-true, ltb-true}
+use Rattle.std.specs.Prelude.{◌==◌}
+use Rattle.std.proofs.lemmas.Bool.{cases_Bool, cases_lt, and_parts, eqb-true, ltb-true, lt-ltb}
 use Rattle.std.proofs.lemmas.List.Sums.{sum_by-cons, count_by-le-length}
 use Rattle.irig_frame.specs.declared.symbol.Symbol.{Symbol}
 use Rattle.irig_frame.specs.declared.layout.Field.{Field}
 use Rattle.irig_frame.specs.declared.layout.Field.TheVariants.{Second, Minute, Hour, Day, Year}
 use Rattle.irig_frame.specs.declared.fault.FrameFault.{FrameFault}
+use Rattle.irig_frame.specs.declared.fault.FrameFault.TheVariants as frame_fault
 use Rattle.irig_frame.specs.FieldTable.{TableEntry, units_of, tens_of, hundreds_of, places_of, control_places, straight_binary_places}
 use Rattle.irig_frame.specs.Values.{is_one, is_one_at, value, weights}
 use Rattle.irig_frame.specs.Faults.{element_fault, first_wrong, field_at, values_of}
@@ -16,7 +18,11 @@ use Rattle.irig_time.specs.declared.rules.Rules.{Rules}
 use Rattle.irig_port.specs.Heard.{with_symbol}
 use Rattle.irig_port.specs.Told.{told_of, frame_told}
 use Rattle.irig_port.specs.Sums.{tables, sums_over, sums_of, parity_places, weight_at, adds_none, adds_to, is_row, field_from, values_from, frame_from, IsOf}
-use Rattle.irig_port.proofs.ToldLaws.{whole_told}
+use Rattle.irig_port.specs.declared.told.PortFault.TheVariants as fault
+use Rattle.irig_port.specs.declared.told.Told.TheVariants as tells
+use Rattle.irig_port.specs.declared.tally.Tally.{Tally}
+use Rattle.irig_port.specs.Tallies.{fault_in, tally_told, IsTallyOf}
+use Rattle.irig_port.proofs.ToldLaws.{none_told, short_told, long_told, whole_told}
 use Rattle.irig_port.proofs.SumLaws.{held, value-held, value-push, sums-push, first_wrong-push, ones-push}
 
 -- ---- no sum wraps
@@ -170,3 +176,29 @@ frame-from rules s count parity wrong sums h full =
 pub whole_told-from : (rules : Rules) (s : List Symbol) (count parity : ℕ) (wrong : Option FrameFault) (sums : List ℕ)
     → IsOf count parity wrong sums s → length s ≡ 100 → frame_from rules wrong parity sums ≡ told_of rules s
 whole_told-from rules s count parity wrong sums h full = frame-from rules s count parity wrong sums h full ∙ sym (whole_told rules s full)
+
+-- what the numbers of some symbols tell is what the symbols tell
+pub tally_tells : (rules : Rules) (t : Tally) (s : List Symbol) → IsTallyOf t s → tally_told rules t ≡ told_of rules s
+tally_tells rules t s h =
+    elim (cases_lt t.count 100) [
+      | inl low ↦ elim (cases_Bool (t.count == 0)) [
+        | inl none ↦
+            let is : t.count ≡ 0 = eqb-true t.count 0 none in
+            rw none (sym (none_told rules s (omega (arith, h.counted, is))))
+        | inr some ↦
+            let is : t.count ≡ 0 → ⊥ = λ e. absurd cc in
+            rw (some, lt-ltb t.count 100 low) (sym (short_told rules s t.count h.counted is low))
+      ]
+      | inr high ↦ elim (cases_lt 100 t.count) [
+        | inl long ↦ tally_long rules t long ∙ sym (long_told rules s (omega (arith, h.counted)))
+        | inr whole ↦
+            let is : t.count ≡ 100 = omega arith in
+            tally_whole rules t is ∙ whole_told-from rules s t.count t.ones (fault_in t.wrong) t.sums h (omega (arith, h.counted))
+      ]
+    ]
+  where
+    tally_long : (rules : Rules) (t : Tally) → 100 < t.count → tally_told rules t ≡ tells.Fault (fault.Frame frame_fault.Long)
+    tally_long rules t h = grind arith
+
+    tally_whole : (rules : Rules) (t : Tally) → t.count ≡ 100 → tally_told rules t ≡ frame_from rules (fault_in t.wrong) t.ones t.sums
+    tally_whole rules t h = rw h refl

@@ -2,6 +2,7 @@ pub mod Heard
 pub mod Told
 pub mod Early
 pub mod Sums
+pub mod Tallies
 pub mod Numbers
 pub mod Damage
 pub mod Words

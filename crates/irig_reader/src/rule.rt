@@ -9,7 +9,7 @@ ghost use Rattle.irig_reader.specs.Rule as rule;
 use crate::report::{Cause, Lock, Report};
 use crate::rules::ReaderRules;
 use irig_hold::{Hold, Turn};
-use irig_time::{Claim, LeapTable, UtcSecond};
+use irig_time::{Claim, Leaps, UtcSecond};
 
 /// Where a reader stands between two edges.
 #[derive(Debug, Drop)]
@@ -29,11 +29,16 @@ pub struct Step {
     pub report: Report,
 }
 
+/// The reader's rule: from where a reader stands and the vote of an edge, if there is one, where it
+/// then stands and what it says there.
+///
+/// The rules are [`in_range`](crate::in_range), the vote is for a [`valid`](irig_time::valid)
+/// second, and a reader that is acquiring had fewer votes than it locks after.
 #[tactic(auto, unfolding(crate::specs::Rule::step_of))]
-pub(crate) fn act(own: ReaderRules, table: &LeapTable, state: State, vote: Option<Claim>) -> Step
+pub fn act<T: Leaps>(own: ReaderRules, table: &T, state: State, vote: Option<Claim>) -> Step
     requires valid { IfSome vote (λ claim. IsValid claim.at) }
     requires counting { rule.count_of state < own.lock_after }
-    ensures step { result ≡ rule.step_of own table.now state vote }
+    ensures step { result ≡ rule.step_of own (T.says table.now) state vote }
     ensures counting { rule.count_of result.state < own.lock_after }
     ensures valid { IfSome result.report.announce IsValid }
 {
@@ -46,10 +51,10 @@ pub(crate) fn act(own: ReaderRules, table: &LeapTable, state: State, vote: Optio
     }
 }
 
-fn begin(own: ReaderRules, table: &LeapTable, claim: Claim) -> Step
+fn begin<T: Leaps>(own: ReaderRules, table: &T, claim: Claim) -> Step
     requires valid { IsValid claim.at }
     requires some { 0 < own.lock_after }
-    ensures step { result ≡ rule.first_vote_step own (hold_start table.now claim) }
+    ensures step { result ≡ rule.first_vote_step own (hold_start (T.says table.now) claim) }
     ensures counting { rule.count_of result.state < own.lock_after }
     ensures valid { IfSome result.report.announce IsValid }
 {
@@ -62,10 +67,10 @@ fn begin(own: ReaderRules, table: &LeapTable, claim: Claim) -> Step
 }
 
 /// A further vote before it is locked. One for another second begins anew.
-fn join(own: ReaderRules, table: &LeapTable, mut hold: Hold, count: u8, claim: Claim) -> Step
+fn join<T: Leaps>(own: ReaderRules, table: &T, mut hold: Hold, count: u8, claim: Claim) -> Step
     requires valid { IsValid claim.at }
     requires counting { count < own.lock_after }
-    ensures step { result ≡ rule.later_vote_step own table.now hold count claim }
+    ensures step { result ≡ rule.later_vote_step own (T.says table.now) hold count claim }
     ensures counting { rule.count_of result.state < own.lock_after }
     ensures valid { IfSome result.report.announce IsValid }
 {
@@ -78,8 +83,8 @@ fn join(own: ReaderRules, table: &LeapTable, mut hold: Hold, count: u8, claim: C
     }
 }
 
-fn follow(table: &LeapTable, mut hold: Hold, claim: Claim) -> Step
-    ensures step { result ≡ rule.locked_vote_step (voted_by table.now hold claim) }
+fn follow<T: Leaps>(table: &T, mut hold: Hold, claim: Claim) -> Step
+    ensures step { result ≡ rule.locked_vote_step (voted_by (T.says table.now) hold claim) }
     ensures counting { rule.count_of result.state ≡ 0 }
     ensures valid { IfSome result.report.announce IsValid }
 {
@@ -87,8 +92,8 @@ fn follow(table: &LeapTable, mut hold: Hold, claim: Claim) -> Step
     goes_on(turn, hold, Lock::Locked, Cause::Voted)
 }
 
-fn hold_over(own: ReaderRules, table: &LeapTable, mut hold: Hold) -> Step
-    ensures step { result ≡ rule.holdover_step (alone_by table.now hold own.holdover) }
+fn hold_over<T: Leaps>(own: ReaderRules, table: &T, mut hold: Hold) -> Step
+    ensures step { result ≡ rule.holdover_step (alone_by (T.says table.now) hold own.holdover) }
     ensures counting { rule.count_of result.state ≡ 0 }
     ensures valid { IfSome result.report.announce IsValid }
 {

@@ -2,7 +2,7 @@
 
 ghost use Rattle.std.specs.Prelude.{◌≡◌, ◌≤◌, [], Some, None, length, MatchResult};
 ghost use Rattle.irig_time.specs.declared.second.TheConstants.{LAST_DAY};
-ghost use Rattle.irig_time.specs.Tables.{table, table_mark, entry_fault, first_entry_fault, table_fault};
+ghost use Rattle.irig_time.specs.Tables.{TableValue, table, table_mark, entry_fault, first_entry_fault, table_fault};
 
 use crate::calendar::month_end;
 use crate::leap::{Leap, leap_on, mark_with};
@@ -10,6 +10,20 @@ use crate::mark::Mark;
 use crate::second::{FIRST_DAY, LAST_DAY};
 use arrayvec::ArrayVec;
 use std::marker::Model;
+
+/// Leaps that are known beforehand, at month ends up to some day.
+///
+/// A [`LeapTable`] is one; whoever keeps a table in another way says here what it says.
+pub trait Leaps {
+    // The table that it stands for.
+    ghost says: { Self → TableValue };
+
+    /// What is known of the leap at the end of the day, at most [`LAST_DAY`]: unspoken where it is
+    /// not a month's last or lies past the table's end.
+    fn mark(&self, day: u32) -> Mark
+        requires { day ≤ LAST_DAY }
+        ensures { result ≡ table_mark (says self.now) day };
+}
 
 /// Why there is no such table, in the order in which faults are answered.
 #[derive(Clone, Copy, Debug, PartialEq, Eq)]
@@ -100,6 +114,14 @@ impl LeapTable {
             return Mark::Unspoken;
         }
         mark_with(leap_on(&self.leaps, day))
+    }
+}
+
+impl Leaps for LeapTable {
+    ghost says = { λ t. t };
+
+    fn mark(&self, day: u32) -> Mark {
+        LeapTable::mark(self, day)
     }
 }
 

@@ -1,0 +1,49 @@
+/* One reader over the leap second of 2016: frames of 23:59:56 to 23:59:58, and then silence. It
+ * prints what `irig run leap_second.jsonl --all` prints of the same events, but the last line. */
+#include "irig.h"
+
+#include <stdio.h>
+
+static const uint32_t width_us[] = {2000, 5000, 8000, 0};
+static const char *const lock[] = {"unlocked", "acquiring", "locked", "holdover"};
+static const char *const cause[] = {"voted",   "held",       "acquiring", "no-vote",
+                                    "expired", "leap-guard", "jump",      "range-end"};
+
+/* Feeds all three ports the frame of a second of 2016-12-31, an insertion pending. */
+static void feed(irig_reader *reader, irig_utc second) {
+    irig_control control = {.leap_pending = 1};
+    irig_coded coded;
+    uint8_t symbols[100];
+    irig_coded_of(&second, 0, &coded);
+    irig_control_pack(&control, &coded.control);
+    irig_encode(&coded, symbols);
+    irig_set_parity(symbols, IRIG_EVEN);
+    for (uint8_t port = 0; port < 3; port++)
+        for (int element = 0; element < 100; element++)
+            irig_reader_pulse(reader, port, width_us[symbols[element]]);
+}
+
+int main(void) {
+    irig_setup setup = {.lock_after = 2, .holdover = 3600};
+    irig_table table = {0};
+    irig_utc second;
+    irig_reader reader;
+    const char start[] = "2016-12-31T23:59:56Z";
+    if (irig_second_read(start, sizeof start - 1, &second) != IRIG_DONE) return 1;
+    if (irig_reader_init(&reader, &setup, &table) != IRIG_DONE) return 1;
+    for (int edge = 1; edge <= 6; edge++) {
+        irig_report report;
+        if (edge <= 3) feed(&reader, second);
+        second.sod++;
+        if (irig_reader_tick(&reader, &report) != IRIG_DONE) return 1;
+        char text[21] = "-";
+        char count[12] = "";
+        if (report.announces)
+            irig_second_write(&(irig_utc){report.day, report.sod}, text);
+        if (report.lock_count > 0)
+            snprintf(count, sizeof count, ":%u", report.lock_count);
+        printf("%d relay %s %s%s %s\n", edge, text, lock[report.lock], count,
+               cause[report.cause]);
+    }
+    return 0;
+}

@@ -1,0 +1,267 @@
+/* irig.h: the proved IRIG-B codec and reader, for C11 and C++.
+ *
+ * IRIG Standard 200-16, format B, code B004, with the control bits of IEEE 1344-1995. Link with
+ * libirig_c.a (`rt lib` in crates/irig_c). It asks for no memory, keeps nothing between calls, and
+ * needs of the C library `memcpy` and `memset` alone.
+ *
+ * Pointers. A pointer must lead to one whole object that no other call reads or writes meanwhile,
+ * and is never null. What a structure holds is no duty of the caller: any numbers may lie in it,
+ * each call returns, and what is announced is a valid second.
+ *
+ * Answers. 0 is done. Any other answer is the number of a fault, and nothing was changed; those of
+ * a frame have more beside it: `IRIG_FAULT(answer)` is the number, `IRIG_DETAIL(answer)` what it
+ * says beside (docs/FAULTS.md has all; `irig explain NUMBER` prints them).
+ *
+ * Threads. Calls on different objects may run at the same time.
+ *
+ * Days are counted from 2000-01-01 as day 0; `sod` is the second of the day, and 86400 is 23:59:60.
+ */
+#ifndef IRIG_H
+#define IRIG_H
+
+#include <stdbool.h>
+#include <stddef.h>
+#include <stdint.h>
+
+#ifdef __cplusplus
+extern "C" {
+#define IRIG_ASSERT(fact) static_assert(fact, "the layout that the library was built for")
+#else
+#define IRIG_ASSERT(fact) _Static_assert(fact, "the layout that the library was built for")
+#endif
+
+/* ---- answers */
+
+#define IRIG_FAULT(answer) ((answer) & 255u)
+#define IRIG_DETAIL(answer) ((answer) >> 8)
+
+enum {
+    IRIG_DONE = 0,
+    IRIG_SHORT = 1,           /* fewer than 100 symbols; beside it, how many */
+    IRIG_LONG = 2,            /* more than 100 symbols */
+    IRIG_PULSE = 3,           /* a bad pulse; beside it, the element */
+    IRIG_MARKER_FAULT = 4,    /* a marker where data belongs, or data for a marker; the element */
+    IRIG_DIGIT = 5,           /* a decimal digit above 9; the field, as IRIG_SECOND .. */
+    IRIG_RANGE = 6,           /* a field out of its range; the field */
+    IRIG_NO_SUCH_DAY = 7,     /* day 366 of a year that has 365 */
+    IRIG_OUT_OF_YEARS = 8,    /* before 2000-01-02 or after 2099-12-30 */
+    IRIG_SECOND_60 = 9,       /* second 60 elsewhere than at the end of a month */
+    IRIG_DELETED_SECOND = 10, /* the second that the frame says is deleted */
+    IRIG_PARITY = 17,         /* not the parity of the setup */
+    IRIG_SBS = 18,            /* the straight binary seconds are another second's */
+    IRIG_VALUE = 26,          /* a value is out of its range, or there is no such port */
+    IRIG_TABLE_END = 31,      /* a table goes beyond 2099-12-30 */
+    IRIG_TABLE_LONG = 32,     /* a table with more than 64 leaps */
+    IRIG_TABLE_DAY = 33,      /* a leap on a day that is no month's last, or after `until` */
+    IRIG_TABLE_TWICE = 34     /* a day is listed twice */
+};
+
+enum { IRIG_SECOND, IRIG_MINUTE, IRIG_HOUR, IRIG_DAY, IRIG_YEAR };
+
+/* ---- frames */
+
+/* A symbol is a byte; any other than these counts as IRIG_BAD. */
+enum { IRIG_ZERO = 0, IRIG_ONE = 1, IRIG_MARKER = 2, IRIG_BAD = 3 };
+
+/* What a frame codes. */
+typedef struct irig_coded {
+    uint8_t second;   /* 0 to 60; 60 is an inserted leap second */
+    uint8_t minute;   /* 0 to 59 */
+    uint8_t hour;     /* 0 to 23 */
+    uint16_t day;     /* day of the year, 1 to 366 */
+    uint8_t year;     /* of the century, 0 to 99, for 2000 to 2099 */
+    uint32_t control; /* the 18 control bits, bit 0 from element 60 */
+    uint32_t sbs;     /* the straight binary seconds, below 2^17 */
+} irig_coded;
+IRIG_ASSERT(sizeof(irig_coded) == 16 && offsetof(irig_coded, day) == 4 &&
+            offsetof(irig_coded, year) == 6 && offsetof(irig_coded, control) == 8 &&
+            offsetof(irig_coded, sbs) == 12);
+
+/* What control bits say. Of a flag 0 is no, any other yes. */
+typedef struct irig_control {
+    uint8_t leap_pending;
+    uint8_t leap_delete; /* the pending leap second is deleted, not inserted */
+    uint8_t dst_pending;
+    uint8_t dst;
+    int8_t offset_half_hours; /* -31 to 31 */
+    uint8_t quality;          /* 0, locked, to 15, failed */
+} irig_control;
+IRIG_ASSERT(sizeof(irig_control) == 6);
+
+/* ---- seconds */
+
+typedef struct irig_utc {
+    uint32_t day; /* 1 to 36523, 2000-01-02 to 2099-12-30 */
+    uint32_t sod; /* 0 to 86399; 86400 at the end of a month */
+} irig_utc;
+IRIG_ASSERT(sizeof(irig_utc) == 8 && offsetof(irig_utc, sod) == 4);
+
+/* What is said of the leap at the end of a day. */
+enum { IRIG_UNSPOKEN = 0, IRIG_NO_LEAP = 1, IRIG_INSERT = 2, IRIG_DELETE = 3 };
+
+typedef struct irig_claim {
+    irig_utc at;  /* the second that begins with the frame */
+    uint8_t mark; /* IRIG_UNSPOKEN but in seconds 1 to 59 of the last minute of a month */
+} irig_claim;
+IRIG_ASSERT(sizeof(irig_claim) == 12 && offsetof(irig_claim, mark) == 8);
+
+/* ---- readers */
+
+enum { IRIG_EVEN = 0, IRIG_ODD = 1 };
+enum { IRIG_ADD = 0, IRIG_SUBTRACT = 1 };
+enum { IRIG_CHECK = 0, IRIG_IGNORE = 1 };
+enum { IRIG_THREE_PORTS = 0, IRIG_FIVE_PORTS = 1 };
+
+typedef struct irig_setup {
+    uint8_t parity;     /* IRIG_EVEN, any other IRIG_ODD */
+    uint8_t sense;      /* IRIG_ADD: the offset is added to the coded time; any other, subtracted */
+    uint8_t sbs;        /* IRIG_CHECK, any other IRIG_IGNORE */
+    uint8_t redundancy; /* IRIG_THREE_PORTS, any other IRIG_FIVE_PORTS */
+    uint8_t lock_after; /* votes before it announces, 1 to 60 */
+    uint32_t holdover;  /* edges without a vote at which it goes on, 0 to 1,000,000 */
+} irig_setup;
+IRIG_ASSERT(sizeof(irig_setup) == 12 && offsetof(irig_setup, holdover) == 8);
+
+typedef struct irig_leap {
+    uint32_t day;  /* a month's last day */
+    uint32_t kind; /* 0 is inserted, any other deleted */
+} irig_leap;
+
+/* The leaps at all month ends up to a day: of the others up to `until` it says that there is none.
+ * Of a table of zeros nothing is known. */
+typedef struct irig_table {
+    uint32_t until; /* the last day of which it speaks */
+    uint32_t len;   /* how many leaps count, 64 at most */
+    irig_leap leaps[64];
+} irig_table;
+IRIG_ASSERT(sizeof(irig_table) == 520 && offsetof(irig_table, leaps) == 8);
+
+/* Where a reader stands between two edges. */
+typedef struct irig_state {
+    uint8_t kind;  /* 0 idle, 1 acquiring, any other locked */
+    uint8_t count; /* votes so far */
+    uint8_t heard; /* IRIG_UNSPOKEN .. */
+    uint32_t day;
+    uint32_t sod;
+    uint32_t age; /* edges since the last vote */
+} irig_state;
+IRIG_ASSERT(sizeof(irig_state) == 16 && offsetof(irig_state, day) == 4);
+
+/* What a port heard since the last edge: no symbol is kept. */
+typedef struct irig_tally {
+    uint32_t count; /* how many symbols, 101 at most */
+    uint32_t ones;
+    uint32_t sums[13];
+    uint8_t wrong_kind; /* 0 none, 3 a bad pulse, any other a marker fault */
+    uint8_t wrong_element;
+} irig_tally;
+IRIG_ASSERT(sizeof(irig_tally) == 64 && offsetof(irig_tally, wrong_kind) == 60);
+
+/* A reader. It may be copied, kept in a file of the same machine and taken up again. */
+typedef struct irig_reader {
+    irig_setup setup;
+    irig_table table;
+    irig_state state;
+    irig_tally ports[5]; /* of three ports the last two are fed nothing */
+} irig_reader;
+IRIG_ASSERT(sizeof(irig_reader) == 868 && offsetof(irig_reader, table) == 12 &&
+            offsetof(irig_reader, state) == 532 && offsetof(irig_reader, ports) == 548);
+
+enum { IRIG_UNLOCKED = 0, IRIG_ACQUIRING = 1, IRIG_LOCKED = 2, IRIG_HOLDOVER = 3 };
+enum {
+    IRIG_VOTED = 0,
+    IRIG_HELD = 1,
+    IRIG_NEEDS_VOTES = 2,
+    IRIG_NO_VOTE = 3,
+    IRIG_EXPIRED = 4,
+    IRIG_LEAP_GUARD = 5,
+    IRIG_JUMP = 6,
+    IRIG_RANGE_END = 7
+};
+
+/* What a reader says at an edge. */
+typedef struct irig_report {
+    uint8_t announces;   /* 1 if it announces the second that begins, 0 if it is silent */
+    uint8_t lock;        /* IRIG_UNLOCKED .. */
+    uint8_t cause;       /* IRIG_VOTED .. */
+    uint32_t lock_count; /* votes while acquiring, edges in holdover */
+    uint32_t day;        /* the second, or zeros */
+    uint32_t sod;
+} irig_report;
+IRIG_ASSERT(sizeof(irig_report) == 16 && offsetof(irig_report, lock_count) == 4);
+
+enum { IRIG_SILENCE = 0, IRIG_FAULTY = 1, IRIG_POOR = 2, IRIG_CLAIM = 3 };
+
+/* What a port tells. */
+typedef struct irig_told {
+    uint8_t kind;     /* IRIG_SILENCE .. */
+    uint8_t quality;  /* 10 to 15 of IRIG_POOR, else 0 */
+    uint32_t fault;   /* of IRIG_FAULTY, as a call answers it, else 0 */
+    irig_claim claim; /* of IRIG_CLAIM, else zeros */
+} irig_told;
+IRIG_ASSERT(sizeof(irig_told) == 20 && offsetof(irig_told, fault) == 4 &&
+            offsetof(irig_told, claim) == 8);
+
+/* ---- calls */
+
+/* The symbol of a pulse of this width in microseconds. */
+uint8_t irig_classify(uint32_t width_us);
+
+/* Writes the frame of a coded time, the elements without a field 0. IRIG_VALUE. */
+uint32_t irig_encode(const irig_coded *coded, uint8_t symbols[100]);
+
+/* Reads `count` symbols as a frame. IRIG_SHORT to IRIG_RANGE, the first that applies; parity and
+ * straight binary seconds are not compared. */
+uint32_t irig_decode(const uint8_t *symbols, size_t count, irig_coded *coded);
+
+/* Whether the ones at elements 1 to 75 have the parity. */
+bool irig_has_parity(const uint8_t symbols[100], uint8_t parity);
+
+/* Gives them the parity, by element 75. */
+void irig_set_parity(uint8_t symbols[100], uint8_t parity);
+
+/* Makes the number of the control bits. IRIG_VALUE. */
+uint32_t irig_control_pack(const irig_control *control, uint32_t *word);
+
+/* Says what a number below 2^18 of control bits means. IRIG_VALUE. */
+uint32_t irig_control_unpack(uint32_t word, irig_control *control);
+
+/* Gives the second after a second, by what is said of the leap. IRIG_VALUE, also if none is known
+ * to follow. */
+uint32_t irig_second_next(const irig_utc *second, uint8_t mark, irig_utc *following);
+
+/* Writes YYYY-MM-DDTHH:MM:SSZ, 20 characters and no 0 behind them. IRIG_VALUE. */
+uint32_t irig_second_write(const irig_utc *second, char text[20]);
+
+/* Reads such a text of `count` characters. IRIG_VALUE. */
+uint32_t irig_second_read(const char *text, size_t count, irig_utc *second);
+
+/* Gives the coded time of a second, -31 to 31 half hours from UTC, control bits 0. IRIG_VALUE. */
+uint32_t irig_coded_of(const irig_utc *second, int8_t local_half_hours, irig_coded *coded);
+
+/* Says which second a coded time claims with these control bits. IRIG_VALUE, IRIG_NO_SUCH_DAY to
+ * IRIG_DELETED_SECOND. */
+uint32_t irig_claim_of(const irig_coded *coded, const irig_control *control, uint8_t sense,
+                       irig_claim *claim);
+
+/* Makes a reader to which nothing has happened. IRIG_VALUE, IRIG_TABLE_END to IRIG_TABLE_TWICE. */
+uint32_t irig_reader_init(irig_reader *reader, const irig_setup *setup, const irig_table *table);
+
+/* A pulse at port 0 to 2 of three, 0 to 4 of five. IRIG_VALUE. */
+uint32_t irig_reader_pulse(irig_reader *reader, uint8_t port, uint32_t width_us);
+
+/* An edge: what the reader says by what its ports heard; they are then empty. IRIG_VALUE if the
+ * numbers are none of a reader. */
+uint32_t irig_reader_tick(irig_reader *reader, irig_report *report);
+
+/* Clears the ports, and forgets what was voted. */
+void irig_reader_restart(irig_reader *reader);
+
+/* Says what a port would tell if the edge came now. IRIG_VALUE. */
+uint32_t irig_reader_port(const irig_reader *reader, uint8_t port, irig_told *told);
+
+#ifdef __cplusplus
+}
+#endif
+
+#endif

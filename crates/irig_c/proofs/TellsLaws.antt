@@ -1,0 +1,20 @@
+-- What the ports of a reader tell.
+use Rattle.std.proofs.Common.{◌≡◌, ℕ, List, ◌∙◌, refl}
+use Rattle.irig_time.specs.declared.rules.Rules.{Rules}
+use Rattle.irig_port.specs.Heard.{symbols_heard}
+use Rattle.irig_port.specs.Told.{told_of_widths}
+use Rattle.irig_port.specs.declared.tally.Tally.{Tally}
+use Rattle.irig_port.specs.Tallies.{IsTallyOf, tally_told}
+use Rattle.irig_port.proofs.HeardLaws.{told_of-heard}
+use Rattle.irig_port.proofs.NumberLaws.{tally_tells}
+use Rattle.irig_reader.specs.History.{ReaderHistory, told_at_tick}
+use Rattle.irig_c.specs.declared.reader.IrigReader.{IrigReader}
+use Rattle.irig_c.specs.Readers.{IsReaderOf, tells_in}
+
+heard_tells : (rules : Rules) (t : Tally) (widths : List ℕ) → IsTallyOf t (symbols_heard widths) → tally_told rules t ≡ told_of_widths rules widths
+heard_tells rules t widths h = tally_tells rules t (symbols_heard widths) h ∙ told_of-heard rules widths
+
+pub tells_are : (r : IrigReader) (h : ReaderHistory) → IsReaderOf r h → tells_in r ≡ told_at_tick h
+tells_are r h s =
+    rw (s.rules, heard_tells h.rules r.a h.fed.a s.a, heard_tells h.rules r.b h.fed.b s.b, heard_tells h.rules r.c h.fed.c s.c, heard_tells h.rules r.d h.fed.d s.d, heard_tells h.rules r.e h.fed.e s.e)
+    refl

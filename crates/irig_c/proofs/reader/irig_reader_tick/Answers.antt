@@ -1,0 +1,65 @@
+use Rattle.std.proofs.Common.{◌≡◌, ◌∙◌, Bool, true, false, sym, ap, subst}
+use Rattle.irig_reader.specs.Rule.{state_of}
+use Rattle.irig_reader.specs.History.{after_tick, told_at_tick, vote_at_tick}
+use Rattle.irig_reader.proofs.VoteLaws.{vote_valid}
+use Rattle.irig_reader.specs.Rules.{IsReaderRules}
+use Rattle.irig_reader.specs.declared.rules.ReaderRules.{ReaderRules}
+use Rattle.irig_c.specs.declared.table.IrigTable.{IrigTable}
+use Rattle.irig_c.specs.LeapTables.{table_in}
+use Rattle.irig_c.specs.declared.setup.IrigSetup.{IrigSetup}
+use Rattle.irig_c.specs.Setups.{rules_in, own_in, redundancy_in}
+use Rattle.irig_c.specs.States.{IsState}
+use Rattle.irig_c.proofs.TellsLaws.{tells_are}
+use Rattle.irig_c.proofs.reader.irig_reader_tick.Goals as goal
+
+never : ◌≡◌ {A = Bool} false true → ⊥
+never h = absurd cc
+
+pub returns-in_default-clause-after : goal.returns-in_default-clause-after
+returns-in_default-clause-after c h s =
+    absurd (never (c.in_default.ensures.there (subst (λ (o : ReaderRules). IsState o.lock_after c.args.reader.now.state) (sym c.own_of-own.ensures) s.is_state)))
+
+pub act-step-requires-clause-valid : goal.act-step-requires-clause-valid
+act-step-requires-clause-valid c =
+    let claims = c.tells_of.ensures.claims in
+    vote_valid _ _ c.vote-vote.result claims.a claims.b claims.c claims.d claims.e c.vote-vote.ensures.value
+
+pub returns-clause-report : goal.returns-clause-report
+returns-clause-report c h s =
+    let told : c.tells_of.result ≡ told_at_tick h = c.tells_of.ensures.told ∙ tells_are c.args.reader.now h s in
+    let vote : c.vote-vote.result ≡ vote_at_tick h = cc in
+    let own : c.own_of-own.result ≡ h.own = c.own_of-own.ensures ∙ s.own in
+    let state : c.in-Some.state ≡ state_of h.own h.table h.votes = c.in-Some.ensures.is ∙ s.state in
+    let table : table_in c.args.reader.now.table ≡ h.table = s.table in
+    let step = c.act-step.ensures.step in
+    let for_c = c.report_for_c.ensures in
+    cc
+
+pub returns-clause-after : goal.returns-clause-after
+returns-clause-after c h s =
+    let told : c.tells_of.result ≡ told_at_tick h = c.tells_of.ensures.told ∙ tells_are c.args.reader.now h s in
+    let vote : c.vote-vote.result ≡ vote_at_tick h = cc in
+    let own : c.own_of-own.result ≡ h.own = c.own_of-own.ensures ∙ s.own in
+    let state : c.in-Some.state ≡ state_of h.own h.table h.votes = c.in-Some.ensures.is ∙ s.state in
+    let table : table_in c.args.reader.now.table ≡ h.table = s.table in
+    let step = c.act-step.ensures.step in
+    let after : c.act-step.result.state ≡ state_of h.own h.table (after_tick h).votes = cc in
+    let setup = c.empty.ensures.setup in
+    let kept = c.empty.ensures.table in
+    let ports = c.empty.ensures.ports in
+    record {
+      rules = ap (λ (x : IrigSetup). rules_in x) setup ∙ s.rules;
+      own = ap (λ (x : IrigSetup). own_in x) setup ∙ s.own;
+      table = ap (λ (x : IrigTable). table_in x) kept ∙ s.table;
+      redundancy = ap (λ (x : IrigSetup). redundancy_in x) setup ∙ s.redundancy;
+      a = ports.a;
+      b = ports.b;
+      c = ports.c;
+      d = ports.d;
+      e = ports.e;
+      state = c.state_for_c-reader.ensures.is ∙ after;
+      in_range = subst (λ (x : IrigSetup). IsReaderRules (own_in x)) (sym setup) s.in_range;
+      is_state = subst (λ (x : IrigSetup). IsState x.lock_after c.state_for_c-reader.result) (sym setup)
+          (subst (λ (o : ReaderRules). IsState o.lock_after c.state_for_c-reader.result) c.own_of-own.ensures
+          (c.state_for_c-reader.ensures.state c.own_of-own.result.lock_after c.act-step.ensures.counting));
+    }

@@ -1,0 +1,7 @@
+pub mod Numbers
+pub mod Controls
+pub mod Setups
+pub mod LeapTables
+pub mod States
+pub mod Reports
+pub mod Readers

@@ -1,0 +1,25 @@
+-- The rules that a setup gives.
+use Rattle.std.specs.Prelude.{◌==◌, if◌then◌else◌}
+use Rattle.irig_time.specs.declared.rules.Rules.{Rules}
+use Rattle.irig_time.specs.declared.rules.SbsUse.TheVariants as sbs
+use Rattle.irig_vote.specs.declared.redundancy.Redundancy.{Redundancy}
+use Rattle.irig_vote.specs.declared.redundancy.Redundancy.TheVariants.{Three, Five}
+use Rattle.irig_reader.specs.declared.rules.ReaderRules.{ReaderRules}
+use Rattle.irig_c.specs.declared.setup.IrigSetup.{IrigSetup}
+use Rattle.irig_c.specs.Numbers.{parity_in, sense_in}
+
+-- the rules by which frames are read
+abbrev pub rules_in : IrigSetup → Rules
+rules_in s = record {
+  parity = parity_in s.parity;
+  sense = sense_in s.sense;
+  sbs = if s.sbs == 0 then sbs.Check else sbs.Ignore;
+}
+
+-- the rules of the reader
+abbrev pub own_in : IrigSetup → ReaderRules
+own_in s = record { lock_after = s.lock_after; holdover = s.holdover }
+
+-- how many ports it has
+abbrev pub redundancy_in : IrigSetup → Redundancy
+redundancy_in s = if s.redundancy == 0 then Three else Five

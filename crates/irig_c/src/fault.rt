@@ -1,0 +1,53 @@
+//! Faults as numbers.
+
+ghost use Rattle.std.specs.Prelude.{◌≡◌, ◌<◌};
+ghost use Rattle.irig_c.specs.Numbers.{number_of_field, number_of_detail, code_of, number_of_table_fault};
+
+use irig_frame::Field;
+use irig_port::{Detail, PortFault};
+use irig_time::TableFault;
+
+/// A value is out of its range.
+pub(crate) const OUT_OF_RANGE: u32 = 26;
+
+/// The number of a fault, and 256 times what it says beside.
+pub(crate) fn code(fault: PortFault) -> u32
+    ensures value { result ≡ code_of fault }
+    ensures some { 0 < result }
+{
+    u32::from(fault.number()) + 256 * u32::from(detail_number(fault.detail()))
+}
+
+fn detail_number(detail: Option<Detail>) -> u8
+    ensures { result ≡ number_of_detail detail }
+{
+    match detail {
+        None => 0,
+        Some(Detail::Symbols(number) | Detail::Element(number)) => number,
+        Some(Detail::Field(field)) => field_number(field),
+    }
+}
+
+fn field_number(field: Field) -> u8
+    ensures { result ≡ number_of_field field }
+{
+    match field {
+        Field::Second => 0,
+        Field::Minute => 1,
+        Field::Hour => 2,
+        Field::Day => 3,
+        Field::Year => 4,
+    }
+}
+
+pub(crate) fn table_code(fault: TableFault) -> u32
+    ensures value { result ≡ number_of_table_fault fault }
+    ensures some { 0 < result }
+{
+    match fault {
+        TableFault::TableEnd => 31,
+        TableFault::TableLong => 32,
+        TableFault::TableDay => 33,
+        TableFault::TableTwice => 34,
+    }
+}

@@ -1,0 +1,204 @@
+//! A reader that C holds.
+
+ghost use Rattle.std.specs.Prelude.{◌≡◌, ◌↔◌, ◌<◌, ℕ, List, [], IfSome};
+ghost use Rattle.irig_time.specs.Seconds.{IsValid};
+ghost use Rattle.irig_vote.specs.Vote.{ports_in, vote_of, AreOfUtc};
+ghost use Rattle.irig_reader.specs.Rule.{step_of};
+ghost use Rattle.irig_reader.specs.Rules.{IsReaderRules};
+ghost use Rattle.irig_reader.specs.History.{ReaderHistory, new_history, after_pulse, after_pulses, after_tick, after_restart, report_at_tick};
+ghost use Rattle.irig_c.specs.Setups.{rules_in, own_in, redundancy_in};
+ghost use Rattle.irig_c.specs.LeapTables.{table_in, IsTable, code_of_table};
+ghost use Rattle.irig_c.specs.States.{state_in, IsState};
+ghost use Rattle.irig_c.specs.Reports.{report_in, told_in};
+ghost use Rattle.irig_c.specs.Readers.{IsReaderOf, IsSilent, tally_at, tells_in, told_at, step_in};
+
+use crate::fault::OUT_OF_RANGE;
+use crate::report::{IrigReport, IrigTold, report_for_c, told_for_c};
+use crate::setup::{IrigSetup, own_of, redundancy_of, rules_of};
+use crate::state::{IDLE, IrigState, state_for_c, state_of};
+use crate::table::{IrigTable, table_fault};
+use irig_port::Tally;
+use irig_reader::{act, in_range};
+use irig_vote::{Tells, vote};
+
+/// A reader, all of it plain numbers. It may be copied, kept and taken up again.
+#[repr(C)]
+#[derive(Clone, Copy, Drop)]
+pub struct IrigReader {
+    /// How it is set up.
+    pub setup: IrigSetup,
+    /// The leaps that it knows beforehand.
+    pub table: IrigTable,
+    /// Where it stands.
+    pub state: IrigState,
+    /// What port 0 heard since the last edge.
+    pub a: Tally,
+    /// What port 1 heard.
+    pub b: Tally,
+    /// What port 2 heard.
+    pub c: Tally,
+    /// What port 3 heard, of five.
+    pub d: Tally,
+    /// What port 4 heard, of five.
+    pub e: Tally,
+}
+
+/// Makes a reader to which nothing has happened. 26 if a rule of the setup is out of its range; 31
+/// to 34 for the first fault of the table.
+#[unsafe(no_mangle)]
+pub extern "C" fn irig_reader_init(
+    reader: &mut IrigReader,
+    setup: &IrigSetup,
+    table: &IrigTable,
+) -> u32
+    ensures answer { (result ≡ 0) ↔ (IsReaderRules (own_in setup.now) × IsTable table.now) }
+    ensures fault { IsReaderRules (own_in setup.now) → result ≡ code_of_table table.now }
+    ensures refused { (result ≡ 0 → ⊥) → reader.new ≡ reader.old }
+    ensures fresh { result ≡ 0 → IsReaderOf reader.new (new_history (rules_in setup.now)
+        (own_in setup.now) (table_in table.now) (redundancy_in setup.now)) }
+{
+    if !in_range(&own_of(setup)) {
+        return OUT_OF_RANGE;
+    }
+    let fault = table_fault(table);
+    if fault != 0 {
+        return fault;
+    }
+    *reader = IrigReader {
+        setup: *setup,
+        table: *table,
+        state: IDLE,
+        a: Tally::none(),
+        b: Tally::none(),
+        c: Tally::none(),
+        d: Tally::none(),
+        e: Tally::none(),
+    };
+    0
+}
+
+/// A pulse at a port, `width_us` microseconds wide. 26 if there is no such port.
+#[unsafe(no_mangle)]
+pub extern "C" fn irig_reader_pulse(reader: &mut IrigReader, port: u8, width_us: u32) -> u32
+    ensures answer { (result ≡ 0) ↔ (port < ports_in (redundancy_in reader.old.setup)) }
+    ensures refused { (result ≡ 0 → ⊥) → reader.new ≡ reader.old }
+    ensures fed { result ≡ 0 → (h : ReaderHistory) → IsReaderOf reader.old h
+        → IsReaderOf reader.new (after_pulse h port width_us) }
+{
+    if port >= redundancy_of(&reader.setup).ports() {
+        return OUT_OF_RANGE;
+    }
+    feed(reader, port, width_us);
+    0
+}
+
+/// A pulse at one of five ports.
+fn feed(reader: &mut IrigReader, port: u8, width_us: u32)
+    requires { port < 5 }
+    ensures { (h : ReaderHistory) → IsReaderOf reader.old h
+        → IsReaderOf reader.new (after_pulse h port width_us) }
+{
+    match port {
+        0 => reader.a.add(width_us),
+        1 => reader.b.add(width_us),
+        2 => reader.c.add(width_us),
+        3 => reader.d.add(width_us),
+        _ => reader.e.add(width_us),
+    }
+}
+
+/// An edge: what the reader says, by what its ports heard since the last one. They are then empty.
+/// 26 if the numbers are none that a reader has.
+#[unsafe(no_mangle)]
+pub extern "C" fn irig_reader_tick(reader: &mut IrigReader, report: &mut IrigReport) -> u32
+    ensures refused { (result ≡ 0 → ⊥) → (reader.new ≡ reader.old) × (report.new ≡ report.old) }
+    ensures valid { result ≡ 0 → IfSome (report_in report.new).announce IsValid }
+    ensures answered { (h : ReaderHistory) → IsReaderOf reader.old h → result ≡ 0 }
+    ensures report { (h : ReaderHistory) → IsReaderOf reader.old h
+        → report_in report.new ≡ report_at_tick h }
+    ensures after { (h : ReaderHistory) → IsReaderOf reader.old h
+        → IsReaderOf reader.new (after_tick h) }
+    ensures said { result ≡ 0 → report_in report.new ≡ (step_in reader.old).report }
+    ensures stands { result ≡ 0 → state_in reader.new.state ≡ (step_in reader.old).state }
+{
+    let own = own_of(&reader.setup);
+    if !in_range(&own) {
+        return OUT_OF_RANGE;
+    }
+    let Some(state) = state_of(&reader.state, own.lock_after) else {
+        return OUT_OF_RANGE;
+    };
+    let vote = vote(&tells_of(reader), redundancy_of(&reader.setup));
+    let step = act(own, &reader.table, state, vote);
+    *report = report_for_c(&step.report);
+    empty(reader);
+    reader.state = state_for_c(&step.state);
+    0
+}
+
+/// What the ports tell. Each claim is of a valid second.
+fn tells_of(reader: &IrigReader) -> Tells
+    ensures told { result ≡ tells_in reader.now }
+    ensures claims { AreOfUtc result }
+{
+    let rules = rules_of(&reader.setup);
+    Tells {
+        a: reader.a.tell(&rules),
+        b: reader.b.tell(&rules),
+        c: reader.c.tell(&rules),
+        d: reader.d.tell(&rules),
+        e: reader.e.tell(&rules),
+    }
+}
+
+/// Clears the ports.
+fn empty(reader: &mut IrigReader)
+    ensures setup { reader.new.setup ≡ reader.old.setup }
+    ensures table { reader.new.table ≡ reader.old.table }
+    ensures state { reader.new.state ≡ reader.old.state }
+    ensures ports { IsSilent reader.new }
+{
+    reader.a = Tally::none();
+    reader.b = Tally::none();
+    reader.c = Tally::none();
+    reader.d = Tally::none();
+    reader.e = Tally::none();
+}
+
+/// Clears the ports, and forgets what was voted.
+#[unsafe(no_mangle)]
+pub extern "C" fn irig_reader_restart(reader: &mut IrigReader)
+    ensures { (h : ReaderHistory) → IsReaderOf reader.old h
+        → IsReaderOf reader.new (after_restart h) }
+{
+    empty(reader);
+    reader.state = IDLE;
+}
+
+/// Says what a port would tell if the edge came now. 26 if there is no such port.
+#[unsafe(no_mangle)]
+pub extern "C" fn irig_reader_port(reader: &IrigReader, port: u8, told: &mut IrigTold) -> u32
+    ensures answer { (result ≡ 0) ↔ (port < ports_in (redundancy_in reader.now.setup)) }
+    ensures told { result ≡ 0 → told.new ≡ told_in (told_at reader.now port) }
+    ensures refused { (result ≡ 0 → ⊥) → told.new ≡ told.old }
+{
+    if port >= redundancy_of(&reader.setup).ports() {
+        return OUT_OF_RANGE;
+    }
+    let rules = rules_of(&reader.setup);
+    *told = told_for_c(&tally_of(reader, port).tell(&rules));
+    0
+}
+
+/// What a port heard.
+fn tally_of(reader: &IrigReader, port: u8) -> &Tally
+    ensures { result.now ≡ tally_at reader.now port }
+{
+    match port {
+        0 => &reader.a,
+        1 => &reader.b,
+        2 => &reader.c,
+        3 => &reader.d,
+        _ => &reader.e,
+    }
+}

@@ -1,0 +1,116 @@
+//! The leaps that a reader knows beforehand.
+
+ghost use Rattle.std.specs.Prelude.{◌≡◌, ◌↔◌, ◌≤◌, ◌<◌, length, map};
+ghost use Rattle.irig_time.specs.Timelines.{leap_of, mark_by};
+ghost use Rattle.irig_c.specs.LeapTables.{leap_in, table_in, IsTable, code_of_table};
+
+use crate::fault::table_code;
+use arrayvec::ArrayVec;
+use irig_time::{LAST_DAY, Leap, LeapTable, Leaps, Mark, TableFault, month_end};
+
+/// A leap second at the end of a day.
+#[repr(C)]
+#[derive(Clone, Copy, Drop)]
+pub struct IrigLeap {
+    /// The day, counted from 2000-01-01 as day 0.
+    pub day: u32,
+    /// 0 is inserted, any other deleted.
+    pub kind: u32,
+}
+
+/// The leaps at all month ends up to a day.
+#[repr(C)]
+#[derive(Clone, Copy, Drop)]
+pub struct IrigTable {
+    /// The last day of which it speaks.
+    pub until: u32,
+    /// How many leaps count, 64 at most.
+    pub len: u32,
+    /// The leaps, the first ones first.
+    pub leaps: [IrigLeap; 64],
+}
+
+impl Leaps for IrigTable {
+    ghost use Rattle.irig_c.specs.LeapTables.{table_in};
+
+    ghost says = { table_in };
+
+    fn mark(&self, day: u32) -> Mark {
+        if day > self.until {
+            return Mark::Unspoken;
+        }
+        if !month_end(day) {
+            return Mark::Unspoken;
+        }
+        mark_with(leap_on(self.listed(), day))
+    }
+}
+
+impl IrigTable {
+    // The leaps that count.
+    fn listed(&self) -> &[IrigLeap]
+        ensures leaps { map leap_in result.now ≡ (table_in self.now).leaps }
+        ensures few { length result.now ≤ 64 }
+    {
+        let count = (self.len as usize).min(64);
+        &self.leaps[..count]
+    }
+}
+
+fn leap_on(leaps: &[IrigLeap], day: u32) -> Option<Leap>
+    ensures { result ≡ leap_of (map leap_in leaps.now) day }
+{
+    for leap in leaps {
+        if leap.day == day {
+            return Some(kind_of(*leap));
+        }
+    }
+    None
+}
+
+fn kind_of(leap: IrigLeap) -> Leap
+    ensures { result ≡ (leap_in leap).1 }
+{
+    match leap.kind {
+        0 => Leap::Insert,
+        _ => Leap::Delete,
+    }
+}
+
+fn mark_with(leap: Option<Leap>) -> Mark
+    ensures { result ≡ mark_by leap }
+{
+    match leap {
+        None => Mark::NoLeap,
+        Some(Leap::Insert) => Mark::Insert,
+        Some(Leap::Delete) => Mark::Delete,
+    }
+}
+
+/// 0, or the number of the table's first fault.
+pub(crate) fn table_fault(table: &IrigTable) -> u32
+    ensures answer { result ≡ code_of_table table.now }
+    ensures table { (result ≡ 0) ↔ IsTable table.now }
+{
+    if table.until > LAST_DAY {
+        return table_code(TableFault::TableEnd);
+    }
+    if table.len > 64 {
+        return table_code(TableFault::TableLong);
+    }
+    match LeapTable::new(table.until, &pairs(table.listed())) {
+        Ok(_) => 0,
+        Err(fault) => table_code(fault),
+    }
+}
+
+fn pairs(leaps: &[IrigLeap]) -> ArrayVec<(u32, Leap), 64>
+    requires { length leaps.now ≤ 64 }
+    ensures { result.items ≡ map leap_in leaps.now }
+{
+    let mut pairs = ArrayVec::new();
+    for leap in leaps {
+        pairs.push((leap.day, kind_of(*leap)));
+    }
+    pairs
+}
