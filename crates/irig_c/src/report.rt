@@ -17,7 +17,7 @@ pub struct IrigReport {
     pub announces: u8,
     /// 0 unlocked, 1 acquiring, 2 locked, 3 holdover.
     pub lock: u8,
-    /// 0 voted, 1 held, 2 acquiring, 3 no vote, 4 expired, 5 leap guard, 6 jump, 7 end of the years.
+    /// 0 voted, 1 held, 2 acquiring, 3 no vote, 4 expired, 5 leap guard, 6 jump, 7 range end.
     pub cause: u8,
     /// The votes so far while it is acquiring, the edges since the last vote in holdover, else 0.
     pub lock_count: u32,
