@@ -14,10 +14,11 @@ use Rattle.irig_time.specs.declared.rules.Sense.TheVariants as sense
 use Rattle.irig_time.specs.declared.mark.Mark.{Mark}
 use Rattle.irig_time.specs.declared.mark.Mark.TheVariants as mark
 use Rattle.irig_time.specs.declared.claim.Claim.{Claim}
+use Rattle.irig_time.specs.declared.claim.TimeFault.{TimeFault}
 use Rattle.irig_time.specs.declared.table.TableFault.{TableFault}
 use Rattle.irig_time.specs.declared.table.TableFault.TheVariants as table
 use Rattle.irig_port.specs.declared.told.PortFault.{PortFault}
-use Rattle.irig_port.specs.declared.told.PortFault.TheVariants.{Frame}
+use Rattle.irig_port.specs.declared.told.PortFault.TheVariants.{Frame, Time}
 use Rattle.irig_port.specs.declared.words.Detail.{Detail}
 use Rattle.irig_port.specs.declared.words.Detail.TheVariants as detail
 use Rattle.irig_port.specs.Words.{number_of, detail_of}
@@ -57,6 +58,11 @@ code_of fault = number_of fault + 256 * number_of_detail (detail_of fault)
 abbrev pub code_of_frame : Result Coded FrameFault → ℕ
 code_of_frame (Ok _) = 0
 code_of_frame (Err fault) = code_of (Frame fault)
+
+-- 0, or the number of the fault of a time
+abbrev pub code_of_claim : Result Claim TimeFault → ℕ
+code_of_claim (Ok _) = 0
+code_of_claim (Err fault) = code_of (Time fault)
 
 -- the number of the fault of a leap table
 abbrev pub number_of_table_fault : TableFault → ℕ

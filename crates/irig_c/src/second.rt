@@ -8,7 +8,7 @@ ghost use Rattle.irig_time.specs.Next.{next_of};
 ghost use Rattle.irig_time.specs.CodedTime.{IsCodedOf};
 ghost use Rattle.irig_time.specs.Claims.{claim_by};
 ghost use Rattle.irig_time.specs.Texts.{IsText};
-ghost use Rattle.irig_c.specs.Numbers.{mark_in, sense_in, claim_in, claim_for};
+ghost use Rattle.irig_c.specs.Numbers.{mark_in, sense_in, claim_in, claim_for, code_of_claim};
 ghost use Rattle.irig_c.specs.Controls.{control_in};
 
 use crate::control::{IrigControl, control_of_c};
@@ -125,6 +125,8 @@ pub extern "C" fn irig_claim_of(
     sense: u8,
     claim: &mut IrigClaim,
 ) -> u32
+    ensures answer { IsCoded coded.now → IsControl (control_in control.now)
+        → result ≡ code_of_claim (claim_by (sense_in sense) coded.now (control_in control.now)) }
     ensures claim { result ≡ 0 → (IsCoded coded.now × IsControl (control_in control.now))
         × (claim_by (sense_in sense) coded.now (control_in control.now) ≡ Ok (claim_in claim.new)) }
     ensures refused { (result ≡ 0 → ⊥) → claim.new ≡ claim.old }
