@@ -2,7 +2,7 @@
  *
  * IRIG Standard 200-16, format B, code B004, with the control bits of IEEE 1344-1995. Link with
  * libirig_c.a (`rt lib` in crates/irig_c). It asks for no memory, keeps nothing between calls, and
- * needs of the C library `memcpy` and `memset` alone.
+ * needs `memcpy` and `memset` of the C library and `__udivti3`, which compilers bring along.
  *
  * Pointers. A pointer must lead to one whole object that no other call reads or writes meanwhile,
  * and is never null. What a structure holds is no duty of the caller: any numbers may lie in it,
