@@ -3,6 +3,7 @@ pub mod HeardLaws
 pub mod EarlyLaws
 pub mod CarriesLaws
 pub mod SumLaws
+pub mod BitLaws
 pub mod TableLaws
 pub mod NumberLaws
 pub mod DamageLaws

@@ -1,5 +1,5 @@
 -- The numbers of a port, after one more symbol and at an edge.
-use Rattle.std.proofs.Common.{◌≡◌, ℕ, zero, suc, ◌+◌, ◌<◌, ◌≤◌, ◌%◌, min, Bool, true, false, ◌&&◌, cond, eqb, nat_lt, List, [], ◌∷◌, ◌++◌, length, Option, Some, None, slice_set, slice_index, refl, sym, zero-add, ap, ◌∙◌, arith, inl, inr, length-append, subst}
+use Rattle.std.proofs.Common.{◌≡◌, ℕ, zero, suc, ◌+◌, ◌-◌, ◌*◌, ◌^◌, ◌<◌, ◌≤◌, ◌%◌, Bool, true, false, ◌&&◌, cond, eqb, nat_lt, List, [], ◌∷◌, ◌++◌, length, Option, Some, None, refl, sym, zero-add, ap, ◌∙◌, arith, inl, inr, length-append, subst}
 use Rattle.std.specs.Option.{option_or}
 use Rattle.std.specs.List.{range_with_len}
 use Rattle.std.specs.Prelude.{◌==◌}
@@ -17,57 +17,16 @@ use Rattle.irig_control.specs.Parity.{ones, is_counted}
 use Rattle.irig_time.specs.declared.rules.Rules.{Rules}
 use Rattle.irig_port.specs.Heard.{with_symbol}
 use Rattle.irig_port.specs.Told.{told_of, frame_told}
-use Rattle.irig_port.specs.Sums.{tables, sums_over, sums_of, parity_places, weight_at, adds_none, adds_to, is_row, field_from, values_from, frame_from, IsOf}
+use Rattle.irig_port.specs.Sums.{time_bits, control_bits, bits_at, parity_places, weight_at, field_from, values_from, frame_from, IsOf}
 use Rattle.irig_port.specs.declared.told.PortFault.TheVariants as fault
 use Rattle.irig_port.specs.declared.told.Told.TheVariants as tells
 use Rattle.irig_port.specs.declared.tally.Tally.{Tally}
 use Rattle.irig_port.specs.Tallies.{fault_in, tally_told, IsTallyOf}
 use Rattle.irig_port.proofs.ToldLaws.{none_told, short_told, long_told, whole_told}
-use Rattle.irig_port.proofs.SumLaws.{held, value-held, value-push, sums-push, first_wrong-push, ones-push}
+use Rattle.irig_port.proofs.SumLaws.{held, value-held, first_wrong-push, ones-push}
+use Rattle.irig_port.proofs.BitLaws.{doubling, time-push, time-kept, control-push, control-kept, time-digit, control-digit}
 
--- ---- no sum wraps
-
-cond-le : (b : Bool) (w : ℕ) → cond b w 0 ≤ w
-cond-le true w = omega arith
-cond-le false w = omega arith
-
-held_le : (ps : List TableEntry) (s : List Symbol) → held ps s ≤ weights ps
-held_le [] s = omega arith
-held_le (p ∷ ps) s = omega (arith, sum_by-cons (λ (q : TableEntry). q.weight) p ps, cond-le (is_one_at s p) p.weight, held_le ps s)
-
-value_le : (ps : List TableEntry) (s : List Symbol) → value ps s ≤ weights ps
-value_le ps s = omega (arith, value-held ps s, held_le ps s)
-
--- each table's weights fit a u32
-abbrev all_fit : List (List TableEntry) → Bool
-all_fit [] = true
-all_fit (t ∷ ts) = nat_lt (weights t) 4294967296 && all_fit ts
-
--- the sum after one more symbol, which does not wrap
-sum-fits : (ts : List (List TableEntry)) (s : List Symbol) (x : Symbol) (j w : ℕ) → all_fit ts ≡ true → adds_to ts (length s) j w ≡ true
-    → (slice_index (sums_over ts s) j + cond (is_one (Some x)) w 0) < 4294967296
-sum-fits [] s x j w f h = absurd cc
-sum-fits (t ∷ ts) s x zero w f h =
-    let parts = and_parts (eqb (weight_at t (length s)) w) (adds_none ts (length s)) h in
-    let own : weight_at t (length s) ≡ w = eqb-true _ _ parts.0 in
-    let here : value t (s ++ x ∷ []) ≡ value t s + cond (is_one (Some x)) w 0 = value-push t s x ∙ (rw own refl) in
-    let small = ltb-true _ _ (and_parts (nat_lt (weights t) 4294967296) (all_fit ts) f).0 in
-    let fits = value_le t (s ++ x ∷ []) in
-    omega (arith, here, small, fits)
-sum-fits (t ∷ ts) s x (suc j) w f h =
-    let parts = and_parts (eqb (weight_at t (length s)) 0) (adds_to ts (length s) j w) h in
-    sum-fits ts s x j w (and_parts (nat_lt (weights t) 4294967296) (all_fit ts) f).1 parts.1
-
-small_rest : (n : ℕ) → n < 4294967296 → n % 4294967296 ≡ n
-small_rest n h = omega arith
-
-pub sums_of-push : (s : List Symbol) (x : Symbol) (j w : ℕ) → is_row (length s) j w ≡ true
-    → slice_set (sums_of s) j ((slice_index (sums_of s) j + cond (is_one (Some x)) w 0) % 4294967296) ≡ sums_of (s ++ x ∷ [])
-unfolding sums_of is_row
-sums_of-push s x j w h =
-    let fits = sum-fits tables s x j w refl h in
-    let small : (slice_index (sums_over tables s) j + cond (is_one (Some x)) w 0) % 4294967296 ≡ slice_index (sums_over tables s) j + cond (is_one (Some x)) w 0 = small_rest _ fits in
-    ap (λ (n : ℕ). slice_set (sums_over tables s) j n) small ∙ sym (sums-push tables s x j w h)
+-- ---- no number wraps
 
 ones_le : (s : List Symbol) → ones s ≤ 75
 unfolding ones
@@ -87,34 +46,51 @@ added-full s x h = grind arith
 length-push : (s : List Symbol) (x : Symbol) → length (s ++ x ∷ []) ≡ length s + 1
 length-push s x = length-append s (x ∷ [])
 
-pub numbers-push : (count parity : ℕ) (wrong after : Option FrameFault) (sums : List ℕ) (s : List Symbol) (x : Symbol) (j w counts : ℕ)
-    → IsOf count parity wrong sums s
-    → (count < 100 → is_row count j w ≡ true)
+-- the bits of the new symbol go into the one number or the other
+pub record IsBitAdded (count time control time_after control_after : ℕ) (is_set : Bool) : Type 0 where
+  pub low : count < 60 → time_after ≡ (time + cond is_set (2 ^ count) 0) % 18446744073709551616
+  pub low_kept : count < 60 → control_after ≡ control
+  pub high : 60 ≤ count → control_after ≡ (control + cond is_set (2 ^ (count - 60)) 0) % 18446744073709551616
+  pub high_kept : 60 ≤ count → time_after ≡ time
+
+time-after : (s : List Symbol) (x : Symbol) (count time control time_after control_after : ℕ)
+    → count ≡ length s → time ≡ time_bits s → IsBitAdded count time control time_after control_after (is_one (Some x)) → time_after ≡ time_bits (s ++ x ∷ [])
+time-after s x count time control time_after control_after same before h =
+    elim (cases_lt count 60) [
+      | inl low ↦
+          let own = h.low low in
+          let grown = time-push s x (omega (arith, same, low)) in
+          cc
+      | inr high ↦
+          let own = h.high_kept high in
+          let kept = time-kept s x (omega (arith, same, high)) in
+          cc
+    ]
+
+control-after : (s : List Symbol) (x : Symbol) (count time control time_after control_after : ℕ)
+    → count ≡ length s → length s < 100 → control ≡ control_bits s → IsBitAdded count time control time_after control_after (is_one (Some x)) → control_after ≡ control_bits (s ++ x ∷ [])
+control-after s x count time control time_after control_after same short before h =
+    elim (cases_lt count 60) [
+      | inl low ↦
+          let own = h.low_kept low in
+          let kept = control-kept s x (omega (arith, same, low)) in
+          cc
+      | inr high ↦
+          let own = h.high high in
+          let grown = control-push s x (count - 60) (omega (arith, same, high)) (omega (arith, same, short)) in
+          cc
+    ]
+
+pub numbers-push : (count parity time control time_after control_after : ℕ) (wrong after : Option FrameFault) (s : List Symbol) (x : Symbol) (counts : ℕ)
+    → IsOf count parity time control wrong s → count ≤ 100
+    → IsBitAdded count time control time_after control_after (is_one (Some x))
     → (count < 100 → weight_at parity_places count ≡ counts)
     → (count < 100 → after ≡ option_or wrong (element_fault count x))
-    → IsOf (min (count + 1) 101) ((parity + cond (is_one (Some x)) counts 0) % 4294967296) after
-    (slice_set sums j ((slice_index sums j + cond (is_one (Some x)) w 0) % 4294967296)) (with_symbol s x)
-numbers-push count parity wrong after sums s x j w counts h row counted found =
-    elim (cases_lt (length s) 101) [
-      | inl low ↦ rw (added-room s x low) (grown low)
-      | inr full ↦ rw (added-full s x full) (same full)
-    ]
-  where
-    same : 101 ≤ length s → IsOf (min (count + 1) 101) ((parity + cond (is_one (Some x)) counts 0) % 4294967296) after
-        (slice_set sums j ((slice_index sums j + cond (is_one (Some x)) w 0) % 4294967296)) s
-    same full = record {
-      counted = omega (arith, h.counted, h.few);
-      few = h.few;
-      parity = λ short. absurd (omega arith);
-      lowest = λ short. absurd (omega arith);
-      held = λ short. absurd (omega arith);
-    }
-
-    grown : length s < 101 → IsOf (min (count + 1) 101) ((parity + cond (is_one (Some x)) counts 0) % 4294967296) after
-        (slice_set sums j ((slice_index sums j + cond (is_one (Some x)) w 0) % 4294967296)) (s ++ x ∷ [])
-    grown low = record {
+    → IsOf (count + 1) ((parity + cond (is_one (Some x)) counts 0) % 4294967296) time_after control_after after (with_symbol s x)
+numbers-push count parity time control time_after control_after wrong after s x counts h in_frame bits counted found =
+    rw (added-room s x (omega (arith, h.counted, in_frame))) (record {
       counted = omega (arith, h.counted, length-push s x);
-      few = omega (arith, length-push s x);
+      few = omega (arith, h.counted, in_frame, length-push s x);
       parity = λ short.
           let lt : count < 100 = omega (arith, h.counted, length-push s x) in
           let same_count : count ≡ length s = h.counted in
@@ -122,6 +98,8 @@ numbers-push count parity wrong after sums s x j w counts h row counted found =
           let adds : weight_at parity_places count ≡ counts = counted lt in
           let whole = ones_of-push s x in
           cc;
+      timed = λ short. time-after s x count time control time_after control_after h.counted (h.timed (omega (arith, length-push s x))) bits;
+      controlled = λ short. control-after s x count time control time_after control_after h.counted (omega (arith, length-push s x)) (h.controlled (omega (arith, length-push s x))) bits;
       lowest = λ short.
           let lt : count < 100 = omega (arith, h.counted, length-push s x) in
           let same_count : count ≡ length s = h.counted in
@@ -130,19 +108,26 @@ numbers-push count parity wrong after sums s x j w counts h row counted found =
           let zero : 0 + length s ≡ length s = omega arith in
           let whole = first_wrong-push 0 s x in
           cc;
-      held = λ short.
-          let lt : count < 100 = omega (arith, h.counted, length-push s x) in
-          let same_count : count ≡ length s = h.counted in
-          let before : sums ≡ sums_of s = h.held (omega (arith, length-push s x)) in
-          let row_here : is_row (length s) j w ≡ true = subst (λ (k : ℕ). is_row k j w ≡ true) same_count (row lt) in
-          rw before (sums_of-push s x j w row_here);
-    }
+    })
+
+-- past the frame nothing counts but that there are too many
+pub numbers-past : (count parity time control : ℕ) (wrong : Option FrameFault) (s : List Symbol) (x : Symbol)
+    → IsOf count parity time control wrong s → 100 < count → IsOf 101 parity time control wrong (with_symbol s x)
+numbers-past count parity time control wrong s x h past =
+    rw (added-full s x (omega (arith, h.counted, past))) (record {
+      counted = omega (arith, h.counted, h.few, past);
+      few = h.few;
+      parity = h.parity;
+      timed = h.timed;
+      controlled = h.controlled;
+      lowest = h.lowest;
+    })
 
 -- ---- no symbol yet
 
-pub none_yet : IsOf 0 0 None (0 ∷ 0 ∷ 0 ∷ 0 ∷ 0 ∷ 0 ∷ 0 ∷ 0 ∷ 0 ∷ 0 ∷ 0 ∷ 0 ∷ 0 ∷ []) []
-unfolding sums_of ones
-none_yet = record { counted = refl; few = omega arith; parity = λ h. refl; lowest = λ h. refl; held = λ h. refl }
+pub none_yet : IsOf 0 0 0 0 None []
+unfolding ones time_bits control_bits
+none_yet = record { counted = refl; few = omega arith; parity = λ h. refl; timed = λ h. refl; controlled = λ h. refl; lowest = λ h. refl }
 
 -- ---- at an edge
 
@@ -160,22 +145,42 @@ field-from : (s : List Symbol) (f : Field) → field_at s f ≡ field_from f (va
 unfolding field_at
 field-from s f = rw (value-places s f) refl
 
-values-from : (s : List Symbol) → values_from (sums_of s) ≡ values_of s
-unfolding values_from values_of sums_of
+one-times : (a b : ℕ) → a ≡ 1 * b → a ≡ b
+one-times a b h = omega (arith, h)
+
+units : (s : List Symbol) (p k n : ℕ) → 60 ≡ p + (k + n) → value (doubling p 1 k) s ≡ bits_at (time_bits s) p k
+units s p k n total = one-times _ _ (time-digit s p k n 1 total)
+
+-- a field of two digits
+two-digits : (s : List Symbol) (f : Field) (p q k : ℕ) → hundreds_of f ≡ [] → units_of f ≡ doubling p 1 4 → tens_of f ≡ doubling q 10 k
+    → p ≤ 56 → q + k ≤ 60
+    → field_at s f ≡ field_from f (bits_at (time_bits s) p 4) (10 * bits_at (time_bits s) q k) 0
+two-digits s f p q k none ones tens low high =
+    field-from s f ∙ rw (none, ones, tens, units s p 4 (56 - p) (omega (arith, low)), time-digit s q k (60 - (q + k)) 10 (omega (arith, high))) refl
+
+day-digits : (s : List Symbol) → field_at s Day ≡ field_from Day (bits_at (time_bits s) 30 4) (10 * bits_at (time_bits s) 35 4) (100 * bits_at (time_bits s) 40 2)
+day-digits s = field-from s Day ∙ rw (units s 30 4 26 refl, time-digit s 35 4 21 10 refl, time-digit s 40 2 18 100 refl) refl
+
+control-from : (s : List Symbol) → value control_places s ≡ bits_at (control_bits s) 0 9 + 512 * bits_at (control_bits s) 10 9
+control-from s = omega (arith, value-append (doubling 60 1 9) (doubling 70 512 9) s, control-digit s 0 9 31 1 refl, control-digit s 10 9 21 512 refl)
+
+sbs-from : (s : List Symbol) → value straight_binary_places s ≡ bits_at (control_bits s) 20 9 + 512 * bits_at (control_bits s) 30 8
+sbs-from s = omega (arith, value-append (doubling 80 1 9) (doubling 90 512 8) s, control-digit s 20 9 11 1 refl, control-digit s 30 8 2 512 refl)
+
+values-from : (s : List Symbol) → values_from (time_bits s) (control_bits s) ≡ values_of s
+unfolding values_from values_of
 values-from s =
-    let control : value control_places s % 262144 ≡ value control_places s = omega (arith, value_le control_places s) in
-    let sbs : value straight_binary_places s % 131072 ≡ value straight_binary_places s = omega (arith, value_le straight_binary_places s) in
-    rw (field-from s Second, field-from s Minute, field-from s Hour, field-from s Day, field-from s Year, control, sbs) refl
+    rw (two-digits s Second 1 6 3 refl refl refl (omega arith) (omega arith), two-digits s Minute 10 15 3 refl refl refl (omega arith) (omega arith), two-digits s Hour 20 25 2 refl refl refl (omega arith) (omega arith), day-digits s, two-digits s Year 50 55 4 refl refl refl (omega arith) (omega arith), control-from s, sbs-from s) refl
 
-frame-from : (rules : Rules) (s : List Symbol) (count parity : ℕ) (wrong : Option FrameFault) (sums : List ℕ)
-    → IsOf count parity wrong sums s → length s ≡ 100 → frame_from rules wrong parity sums ≡ frame_told rules s
+frame-from : (rules : Rules) (s : List Symbol) (count parity time control : ℕ) (wrong : Option FrameFault)
+    → IsOf count parity time control wrong s → length s ≡ 100 → frame_from rules wrong parity time control ≡ frame_told rules s
 unfolding frame_from frame_told
-frame-from rules s count parity wrong sums h full =
-    rw (h.parity (omega arith), h.lowest (omega arith), h.held (omega arith), values-from s) refl
+frame-from rules s count parity time control wrong h full =
+    rw (h.parity (omega arith), h.lowest (omega arith), h.timed (omega arith), h.controlled (omega arith), values-from s) refl
 
-pub whole_told-from : (rules : Rules) (s : List Symbol) (count parity : ℕ) (wrong : Option FrameFault) (sums : List ℕ)
-    → IsOf count parity wrong sums s → length s ≡ 100 → frame_from rules wrong parity sums ≡ told_of rules s
-whole_told-from rules s count parity wrong sums h full = frame-from rules s count parity wrong sums h full ∙ sym (whole_told rules s full)
+pub whole_told-from : (rules : Rules) (s : List Symbol) (count parity time control : ℕ) (wrong : Option FrameFault)
+    → IsOf count parity time control wrong s → length s ≡ 100 → frame_from rules wrong parity time control ≡ told_of rules s
+whole_told-from rules s count parity time control wrong h full = frame-from rules s count parity time control wrong h full ∙ sym (whole_told rules s full)
 
 -- what the numbers of some symbols tell is what the symbols tell
 pub tally_tells : (rules : Rules) (t : Tally) (s : List Symbol) → IsTallyOf t s → tally_told rules t ≡ told_of rules s
@@ -193,12 +198,12 @@ tally_tells rules t s h =
         | inl long ↦ tally_long rules t long ∙ sym (long_told rules s (omega (arith, h.counted)))
         | inr whole ↦
             let is : t.count ≡ 100 = omega arith in
-            tally_whole rules t is ∙ whole_told-from rules s t.count t.ones (fault_in t.wrong) t.sums h (omega (arith, h.counted))
+            tally_whole rules t is ∙ whole_told-from rules s t.count t.ones t.time t.control (fault_in t.wrong) h (omega (arith, h.counted))
       ]
     ]
   where
     tally_long : (rules : Rules) (t : Tally) → 100 < t.count → tally_told rules t ≡ tells.Fault (fault.Frame frame_fault.Long)
     tally_long rules t h = grind arith
 
-    tally_whole : (rules : Rules) (t : Tally) → t.count ≡ 100 → tally_told rules t ≡ frame_from rules (fault_in t.wrong) t.ones t.sums
+    tally_whole : (rules : Rules) (t : Tally) → t.count ≡ 100 → tally_told rules t ≡ frame_from rules (fault_in t.wrong) t.ones t.time t.control
     tally_whole rules t h = rw h refl

@@ -11,7 +11,7 @@ use Rattle.irig_frame.specs.FieldTable.{TableEntry, is_marker_place}
 use Rattle.irig_frame.specs.Values.{is_one, is_one_at, value}
 use Rattle.irig_frame.specs.Faults.{element_fault, first_wrong}
 use Rattle.irig_control.specs.Parity.{ones, is_counted}
-use Rattle.irig_port.specs.Sums.{sums_over, parity_place, parity_places, weight_at, adds_none, adds_to}
+use Rattle.irig_port.specs.Sums.{parity_place, parity_places, weight_at}
 
 -- ---- the sum over some places, by recursion
 
@@ -35,7 +35,7 @@ cond-same true = refl
 cond-same false = refl
 
 -- a place of the list with one more symbol
-place-push : (s : List Symbol) (x : Symbol) (i w : ℕ)
+pub place-push : (s : List Symbol) (x : Symbol) (i w : ℕ)
     → cond (is_one (slice_get (s ++ x ∷ []) i)) w 0 ≡ cond (is_one (slice_get s i)) w 0 + cond (is_one (Some x)) (cond (eqb i (length s)) w 0) 0
 place-push [] x zero w = sym (zero-add (cond (is_one (Some x)) w 0))
 place-push [] x (suc i) w = rw (eqb-suc-zero i, cond-same (is_one (Some x))) refl
@@ -57,32 +57,6 @@ held-push (p ∷ ps) s x =
 -- a one more symbol adds the weight of its place
 pub value-push : (ps : List TableEntry) (s : List Symbol) (x : Symbol) → value ps (s ++ x ∷ []) ≡ value ps s + cond (is_one (Some x)) (weight_at ps (length s)) 0
 value-push ps s x = rw (value-held ps (s ++ x ∷ []), value-held ps s) (held-push ps s x)
-
--- ---- all sums
-
-none-push : (ts : List (List TableEntry)) (s : List Symbol) (x : Symbol) → adds_none ts (length s) ≡ true → sums_over ts (s ++ x ∷ []) ≡ sums_over ts s
-none-push [] s x h = refl
-none-push (t ∷ ts) s x h =
-    let parts = and_parts (eqb (weight_at t (length s)) 0) (adds_none ts (length s)) h in
-    let none : weight_at t (length s) ≡ 0 = eqb-true _ _ parts.0 in
-    let here : value t (s ++ x ∷ []) ≡ value t s = value-push t s x ∙ (rw (none, cond-same (is_one (Some x))) (add-zero (value t s))) in
-    let rest = none-push ts s x parts.1 in
-    rw (here, rest) refl
-
--- one more symbol changes one sum
-pub sums-push : (ts : List (List TableEntry)) (s : List Symbol) (x : Symbol) (j w : ℕ) → adds_to ts (length s) j w ≡ true
-    → sums_over ts (s ++ x ∷ []) ≡ slice_set (sums_over ts s) j (slice_index_or (sums_over ts s) j 0 + cond (is_one (Some x)) w 0)
-sums-push [] s x j w h = absurd cc
-sums-push (t ∷ ts) s x zero w h =
-    let parts = and_parts (eqb (weight_at t (length s)) w) (adds_none ts (length s)) h in
-    let own : weight_at t (length s) ≡ w = eqb-true _ _ parts.0 in
-    let here : value t (s ++ x ∷ []) ≡ value t s + cond (is_one (Some x)) w 0 = value-push t s x ∙ (rw own refl) in
-    rw (here, none-push ts s x parts.1) refl
-sums-push (t ∷ ts) s x (suc j) w h =
-    let parts = and_parts (eqb (weight_at t (length s)) 0) (adds_to ts (length s) j w) h in
-    let none : weight_at t (length s) ≡ 0 = eqb-true _ _ parts.0 in
-    let here : value t (s ++ x ∷ []) ≡ value t s = value-push t s x ∙ (rw (none, cond-same (is_one (Some x))) (add-zero (value t s))) in
-    rw (here, sums-push ts s x j w parts.1) refl
 
 -- ---- the lowest wrong element
 

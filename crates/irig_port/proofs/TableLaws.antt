@@ -1,25 +1,13 @@
--- The table of the code against the field table, the marker places and the parity rule, element by
--- element.
+-- The table of the code against the marker places and the parity rule, element by element.
 use Rattle.std.proofs.Common.{◌≡◌, ℕ, ◌<◌, true, eqb, nat_lt, slice_index_or, refl, sym, subst}
 use Rattle.std.proofs.lemmas.Bool.{agree_below_at, eqb-true, ltb-true}
 use Rattle.irig_frame.specs.FieldTable.{is_marker_place}
 use Rattle.irig_port.specs.declared.table.Row.{Row}
 use Rattle.irig_port.specs.declared.table.TheConstants.{ROWS}
-use Rattle.irig_port.specs.Sums.{is_row, weight_at, parity_places}
+use Rattle.irig_port.specs.Sums.{weight_at, parity_places}
 
 abbrev row_at : Row → ℕ → Row
 row_at r i = slice_index_or ROWS i r
-
-pub low_sum : (r : Row) (i : ℕ) → i < 102 → r ≡ row_at r i → r.sum < 13
-low_sum r i h is =
-    let low : nat_lt (row_at r i).sum 13 ≡ true = agree_below_at (λ k. nat_lt (row_at r k).sum 13) (λ _. true) 102 i refl h in
-    ltb-true _ _ (subst (λ (k : Row). nat_lt k.sum 13 ≡ true) (sym is) low)
-
-pub right_sum : (r : Row) (i : ℕ) → i < 100 → r ≡ row_at r i → is_row i r.sum r.weight ≡ true
-unfolding is_row
-right_sum r i h is =
-    let right : is_row i (row_at r i).sum (row_at r i).weight ≡ true = agree_below_at (λ k. is_row k (row_at r k).sum (row_at r k).weight) (λ _. true) 100 i refl h in
-    subst (λ (k : Row). is_row i k.sum k.weight ≡ true) (sym is) right
 
 pub right_marker : (r : Row) (i : ℕ) → i < 100 → r ≡ row_at r i → is_marker_place i ≡ r.is_marker_place
 right_marker r i h is =

@@ -25,8 +25,8 @@ tally_told rules t =
     if t.count == 0 then tells.Silence
     else (if nat_lt t.count 100 then tells.Fault (fault.Frame (frame_fault.Short t.count))
     else (if nat_lt 100 t.count then tells.Fault (fault.Frame frame_fault.Long)
-    else frame_from rules (fault_in t.wrong) t.ones t.sums))
+    else frame_from rules (fault_in t.wrong) t.ones t.time t.control))
 
 -- the numbers are those of these symbols
 abbrev pub IsTallyOf : Tally → List Symbol → Type 0
-IsTallyOf t s = IsOf t.count t.ones (fault_in t.wrong) t.sums s
+IsTallyOf t s = IsOf t.count t.ones t.time t.control (fault_in t.wrong) s

@@ -44,7 +44,7 @@ impl Port for FlowPort {
         if self.heard.count == 100 {
             self.known = None;
         }
-        self.heard.add_to_few(width_us);
+        self.heard.add(width_us);
     }
 
     fn edge(&mut self) -> Told {

@@ -3,7 +3,7 @@
 //! What a port tells is the first of eight lines that applies to the symbols since it was last
 //! empty; they stand once, in `specs/Told.antt`. A [`Port`] is any type that keeps to that.
 //! [`WholePort`] is the plain one: it keeps the symbols, and reads them at the edge. [`FlowPort`]
-//! keeps running sums and no symbol, under the same contract.
+//! keeps a bit of each symbol, under the same contract.
 #![tactic(auto)]
 
 mod flow;

@@ -1,6 +1,6 @@
 //! What a port keeps of the symbols that it heard: plain numbers, and no symbol.
 
-ghost use Rattle.std.specs.Prelude.{◌≡◌, ◌≤◌, ◌+◌, min, List, [], IfOk, if◌then◌else◌};
+ghost use Rattle.std.specs.Prelude.{◌≡◌, ◌≤◌, ◌<◌, ◌*◌, ◌^◌, ◌++◌, ℕ, List, [], IfOk, if◌then◌else◌};
 ghost use Rattle.std.specs.Option.{option_or};
 ghost use Rattle.irig_frame.specs.declared.symbol.Symbol.{Symbol};
 ghost use Rattle.irig_frame.specs.FieldTable.{is_marker_place};
@@ -8,15 +8,12 @@ ghost use Rattle.irig_frame.specs.Symbols.{symbol_of};
 ghost use Rattle.irig_frame.specs.Decoder.{least, most, IsCoded};
 ghost use Rattle.irig_frame.specs.Faults.{element_fault};
 ghost use Rattle.irig_time.specs.Seconds.{IsValid};
-ghost use Rattle.irig_port.specs.Heard.{with_symbol};
+ghost use Rattle.irig_port.specs.Heard.{with_symbol, symbols_heard};
 ghost use Rattle.irig_port.specs.Told.{told_of, IfClaim};
-ghost use Rattle.irig_port.specs.Sums.{field_from, values_from, frame_from};
+ghost use Rattle.irig_port.specs.Sums.{bits_at, field_from, values_from, frame_from};
 ghost use Rattle.irig_port.specs.Tallies.{fault_in, tally_told, IsTallyOf};
 
-use crate::table::{
-    CONTROL, DAY_HUNDREDS, DAY_TENS, DAY_UNITS, HOUR_TENS, HOUR_UNITS, MINUTE_TENS, MINUTE_UNITS,
-    SECOND_TENS, SECOND_UNITS, STRAIGHT_BINARY, SUMS, YEAR_TENS, YEAR_UNITS, row_of,
-};
+use crate::table::row_of;
 use crate::told::{PortFault, Told};
 use crate::verdict::tell_values;
 use irig_frame::{
@@ -40,8 +37,8 @@ const NO_FAULT: FirstFault = FirstFault {
     element: 0,
 };
 
-/// What a port keeps of the symbols that it heard since it was last empty: their number, what the
-/// ones among them add up to, and the lowest wrong element.
+/// What a port keeps of the symbols that it heard since it was last empty: their number, which of
+/// them were ones, and the lowest wrong element.
 ///
 /// They are plain numbers, so a tally may be kept anywhere. Any numbers may stand in it: each call
 /// returns, and what is claimed is a valid second.
@@ -52,9 +49,10 @@ pub struct Tally {
     pub count: u32,
     /// How many of the ones the parity counts.
     pub ones: u32,
-    /// The sums, in the order of the frame: units and tens of second, minute and hour; units, tens
-    /// and hundreds of the day; units and tens of the year; control bits; straight binary seconds.
-    pub sums: [u32; SUMS],
+    /// Bit i is a one at element i, 0 to 59: the time of day, the day and the year.
+    pub time: u64,
+    /// Bit i is a one at element 60 + i: the control bits and the straight binary seconds.
+    pub control: u64,
     /// The lowest wrong element.
     pub wrong: FirstFault,
 }
@@ -68,7 +66,8 @@ impl Tally {
         Tally {
             count: 0,
             ones: 0,
-            sums: [0; SUMS],
+            time: 0,
+            control: 0,
             wrong: NO_FAULT,
         }
     }
@@ -81,27 +80,46 @@ impl Tally {
             → IsTallyOf self.new (with_symbol s (symbol_of width_us)) }
         ensures few { self.new.count ≤ 101 }
     {
-        self.count = self.count.min(101);
-        self.add_to_few(width_us);
+        if self.count > 100 {
+            self.count = 101;
+        } else {
+            self.add_in_frame(width_us);
+        }
     }
 
-    // The same where there are at most 101 symbols. The innermost loop of a plant: nothing branches
-    // on the data but the note of a first fault. No sum wraps while the tally is of symbols.
+    /// Pulses, each of a width in microseconds, in their order.
+    pub fn add_all(&mut self, widths_us: &[u32])
+        ensures added { (w : List ℕ) → IsTallyOf self.old (symbols_heard w)
+            → IsTallyOf self.new (symbols_heard (w ++ widths_us.now)) }
+    {
+        // a copy, which registers can hold
+        let mut tally = *self;
+        for &width_us in widths_us {
+            tally.add(width_us);
+        }
+        *self = tally;
+    }
+
+    // The same as `add` where there are at most 100 symbols. The innermost loop of a plant: nothing
+    // branches on the data but the note of a first fault.
     #[inline]
-    pub(crate) fn add_to_few(&mut self, width_us: u32)
-        requires { self.old.count ≤ 101 }
+    fn add_in_frame(&mut self, width_us: u32)
+        requires { self.old.count ≤ 100 }
         ensures added { (s : List Symbol) → IsTallyOf self.old s
             → IsTallyOf self.new (with_symbol s (symbol_of width_us)) }
         ensures few { self.new.count ≤ 101 }
     {
-        let row = row_of(self.count as usize);
+        let element = self.count;
+        let row = row_of(element as usize);
         let is_one = is_one_width(width_us);
-        let sum = row.sum as usize;
-        self.sums[sum] = self.sums[sum].wrapping_add(weight_if(is_one, row.weight));
-        self.ones = self.ones.wrapping_add(weight_if(is_one, row.parity as u32));
-        let element = self.count as u8;
-        note(&mut self.wrong, element, row.is_marker_place, width_us);
-        self.count = one_more(self.count);
+        if element < 60 {
+            self.time = self.time.wrapping_add(bit_if(is_one, element));
+        } else {
+            self.control = self.control.wrapping_add(bit_if(is_one, element - 60));
+        }
+        self.ones = self.ones.wrapping_add(one_if(is_one, row.parity));
+        note(&mut self.wrong, element as u8, row.is_marker_place, width_us);
+        self.count = element + 1;
     }
 
     /// What the symbols tell, by the rules. A claim is of a [`valid`](irig_time::valid) second.
@@ -128,7 +146,7 @@ impl Tally {
         if self.count > 100 {
             return Told::Fault(PortFault::Frame(FrameFault::Long));
         }
-        tell_frame(rules, fault_of(self.wrong), self.ones, &self.sums)
+        tell_frame(rules, self)
     }
 }
 
@@ -143,10 +161,18 @@ fn fault_of(wrong: FirstFault) -> Option<FrameFault>
 }
 
 #[inline]
-fn weight_if(is_one: bool, weight: u32) -> u32
-    ensures { result ≡ (if is_one then weight else 0) }
+fn bit_if(is_one: bool, bit: u32) -> u64
+    requires { bit < 60 }
+    ensures { result ≡ (if is_one then 2 ^ bit else 0) }
 {
-    if is_one { weight } else { 0 }
+    u64::from(is_one) << bit
+}
+
+#[inline]
+fn one_if(is_one: bool, parity: u8) -> u32
+    ensures { result ≡ (if is_one then parity else 0) }
+{
+    if is_one { u32::from(parity) } else { 0 }
 }
 
 #[inline]
@@ -176,73 +202,79 @@ fn first_fault(element: u8, symbol: Symbol) -> FirstFault
     }
 }
 
-#[inline]
-fn one_more(count: u32) -> u32
-    requires { count ≤ 101 }
-    ensures { result ≡ min (count + 1) 101 }
-{
-    count + u32::from(count < 101)
-}
-
 #[tactic(auto, unfolding(crate::specs::Sums::frame_from))]
-fn tell_frame(rules: &Rules, wrong: Option<FrameFault>, ones: u32, sums: &[u32; SUMS]) -> Told
-    ensures told { result ≡ frame_from rules.now wrong ones sums.now }
+fn tell_frame(rules: &Rules, tally: &Tally) -> Told
+    ensures told { result ≡ frame_from rules.now (fault_in tally.now.wrong) tally.now.ones
+        tally.now.time tally.now.control }
     ensures valid { IfClaim result (λ claim. IsValid claim.at) }
 {
-    if let Some(fault) = wrong {
+    if let Some(fault) = fault_of(tally.wrong) {
         return Told::Fault(PortFault::Frame(fault));
     }
-    if ones % 2 != u32::from(rules.parity.remainder()) {
+    if tally.ones % 2 != u32::from(rules.parity.remainder()) {
         return Told::Fault(PortFault::Parity);
     }
-    tell_values(rules, values_of(sums))
+    tell_values(rules, values_of(tally.time, tally.control))
 }
 
+// Where the bits of each digit stand, IRIG Standard 200-16, format B.
 #[tactic(auto, unfolding(crate::specs::Sums::values_from))]
-fn values_of(sums: &[u32; SUMS]) -> Result<Coded, FrameFault>
-    ensures value { result ≡ values_from sums.now }
+fn values_of(time: u64, control: u64) -> Result<Coded, FrameFault>
+    ensures value { result ≡ values_from time control }
     ensures in_range { IfOk result IsCoded }
 {
-    let second = byte_of(Field::Second, sums[SECOND_UNITS], sums[SECOND_TENS])?;
-    let minute = byte_of(Field::Minute, sums[MINUTE_UNITS], sums[MINUTE_TENS])?;
-    let hour = byte_of(Field::Hour, sums[HOUR_UNITS], sums[HOUR_TENS])?;
+    let second = byte_of(Field::Second, bits_at(time, 1, 4), bits_at(time, 6, 3))?;
+    let minute = byte_of(Field::Minute, bits_at(time, 10, 4), bits_at(time, 15, 3))?;
+    let hour = byte_of(Field::Hour, bits_at(time, 20, 4), bits_at(time, 25, 2))?;
     let day = field_of(
         Field::Day,
-        sums[DAY_UNITS],
-        sums[DAY_TENS],
-        sums[DAY_HUNDREDS],
+        bits_at(time, 30, 4),
+        bits_at(time, 35, 4),
+        bits_at(time, 40, 2),
     )? as u16;
-    let year = byte_of(Field::Year, sums[YEAR_UNITS], sums[YEAR_TENS])?;
+    let year = byte_of(Field::Year, bits_at(time, 50, 4), bits_at(time, 55, 4))?;
     Ok(Coded {
         second,
         minute,
         hour,
         day,
         year,
-        // no sum passes these bounds where the port stands for symbols
-        control: sums[CONTROL] % (1 << 18),
-        sbs: sums[STRAIGHT_BINARY] % (1 << 17),
+        control: bits_at(control, 0, 9) + 512 * bits_at(control, 10, 9),
+        sbs: bits_at(control, 20, 9) + 512 * bits_at(control, 30, 8),
     })
 }
 
+/// `count` bits of a number, from bit `from` on.
+#[inline]
+fn bits_at(number: u64, from: u32, count: u32) -> u32
+    requires inside { from < 60 }
+    requires few { count ≤ 9 }
+    ensures exact { result ≡ bits_at number from count }
+    ensures few { result < 2 ^ count }
+{
+    ((number >> from) % (1 << count)) as u32
+}
+
 fn byte_of(field: Field, units: u32, tens: u32) -> Result<u8, FrameFault>
-    requires { most field ≤ 255 }
-    ensures value { result ≡ field_from field units tens 0 }
+    requires byte { most field ≤ 255 }
+    requires small { (units < 16) × (tens < 16) }
+    ensures value { result ≡ field_from field units (10 * tens) 0 }
     ensures in_range { IfOk result (λ n. (least field ≤ n) × (n ≤ most field)) }
 {
     Ok(field_of(field, units, tens, 0)? as u8)
 }
 
-fn field_of(field: Field, units: u32, tens: u32, hundreds: u32) -> Result<u64, FrameFault>
-    ensures value { result ≡ field_from field units tens hundreds }
+fn field_of(field: Field, units: u32, tens: u32, hundreds: u32) -> Result<u32, FrameFault>
+    requires { (units < 16) × (tens < 16) × (hundreds < 4) }
+    ensures value { result ≡ field_from field units (10 * tens) (100 * hundreds) }
     ensures in_range { IfOk result (λ n. (least field ≤ n) × (n ≤ most field)) }
 {
-    if units > 9 || tens > 90 {
+    if units > 9 || tens > 9 {
         return Err(FrameFault::Digit(field));
     }
-    let value = u64::from(units) + u64::from(tens) + u64::from(hundreds);
+    let value = units + 10 * tens + 100 * hundreds;
     let (least, most) = field.bounds();
-    if value < u64::from(least) || value > u64::from(most) {
+    if value < least || value > most {
         return Err(FrameFault::Range(field));
     }
     Ok(value)

@@ -1,11 +1,5 @@
-use Rattle.irig_port.proofs.TableLaws.{low_sum, right_sum, right_parity, right_marker}
+use Rattle.irig_port.proofs.TableLaws.{right_parity, right_marker}
 use Rattle.irig_port.proofs.table.row_of.Goals as goal
-
-pub returns-clause-sum : goal.returns-clause-sum
-returns-clause-sum c = low_sum c.table_row.result c.args.element c.requires c.table_row.ensures
-
-pub returns-clause-adds : goal.returns-clause-adds
-returns-clause-adds c h = right_sum c.table_row.result c.args.element h c.table_row.ensures
 
 pub returns-clause-parity : goal.returns-clause-parity
 returns-clause-parity c h = right_parity c.table_row.result c.args.element h c.table_row.ensures
