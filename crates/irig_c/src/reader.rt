@@ -107,6 +107,41 @@ fn feed(reader: &mut IrigReader, port: u8, width_us: u32)
     }
 }
 
+/// Pulses at a port, one after another, each of a width in microseconds. 26 if there is no such
+/// port.
+#[unsafe(no_mangle)]
+pub extern "C" fn irig_reader_pulses(
+    reader: &mut IrigReader,
+    port: u8,
+    widths_us: &[u32],
+) -> u32
+    ensures answer { (result ≡ 0) ↔ (port < ports_in (redundancy_in reader.old.setup)) }
+    ensures refused { (result ≡ 0 → ⊥) → reader.new ≡ reader.old }
+    ensures fed { result ≡ 0 → (h : ReaderHistory) → IsReaderOf reader.old h
+        → IsReaderOf reader.new (after_pulses h port widths_us.now) }
+{
+    if port >= redundancy_of(&reader.setup).ports() {
+        return OUT_OF_RANGE;
+    }
+    feed_all(reader, port, widths_us);
+    0
+}
+
+/// Pulses at one of five ports.
+fn feed_all(reader: &mut IrigReader, port: u8, widths_us: &[u32])
+    requires { port < 5 }
+    ensures { (h : ReaderHistory) → IsReaderOf reader.old h
+        → IsReaderOf reader.new (after_pulses h port widths_us.now) }
+{
+    match port {
+        0 => reader.a.add_all(widths_us),
+        1 => reader.b.add_all(widths_us),
+        2 => reader.c.add_all(widths_us),
+        3 => reader.d.add_all(widths_us),
+        _ => reader.e.add_all(widths_us),
+    }
+}
+
 /// An edge: what the reader says, by what its ports heard since the last one. They are then empty.
 /// 26 if the numbers are none that a reader has.
 #[unsafe(no_mangle)]

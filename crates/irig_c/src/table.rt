@@ -6,7 +6,7 @@ ghost use Rattle.irig_c.specs.LeapTables.{leap_in, table_in, IsTable, code_of_ta
 
 use crate::fault::table_code;
 use arrayvec::ArrayVec;
-use irig_time::{LAST_DAY, Leap, LeapTable, Leaps, Mark, TableFault, month_end};
+use irig_time::{LAST_DAY, Leap, Leaps, Mark, TableFault, month_end};
 
 /// A leap second at the end of a day.
 #[repr(C)]
@@ -98,9 +98,9 @@ pub(crate) fn table_fault(table: &IrigTable) -> u32
     if table.len > 64 {
         return table_code(TableFault::TableLong);
     }
-    match LeapTable::new(table.until, &pairs(table.listed())) {
-        Ok(_) => 0,
-        Err(fault) => table_code(fault),
+    match irig_time::table_fault(table.until, &pairs(table.listed())) {
+        None => 0,
+        Some(fault) => table_code(fault),
     }
 }
 

@@ -141,7 +141,10 @@ value-doubling n i w s = value-held (doubling i w n) s ∙ held-doubling n i w s
 
 pub time-digit : (s : List Symbol) (p k n w : ℕ) → 60 ≡ p + (k + n) → value (doubling p w k) s ≡ w * bits_at (time_bits s) p k
 unfolding time_bits
-time-digit s p k n w total = value-doubling k p w s ∙ ap (λ (x : ℕ). w * x) (sym (rw (← zero-add p) (digit p k n 60 0 s total)))
+time-digit s p k n w total = value-doubling k p w s ∙ ap (λ (x : ℕ). w * x) (sym there)
+  where
+    there : bits_at (bits_from 0 60 s) p k ≡ bits_from p k s
+    there = digit p k n 60 0 s total ∙ rw (zero-add p) refl
 
 pub control-digit : (s : List Symbol) (p k n w : ℕ) → 40 ≡ p + (k + n) → value (doubling (60 + p) w k) s ≡ w * bits_at (control_bits s) p k
 unfolding control_bits

@@ -28,6 +28,6 @@ pub use leap::Leap;
 pub use mark::Mark;
 pub use rules::{Rules, SbsUse, Sense};
 pub use second::{FIRST_DAY, LAST_DAY, UtcSecond, next, valid};
-pub use table::{LeapTable, Leaps, TableFault};
+pub use table::{LeapTable, Leaps, TableFault, table_fault};
 pub use text::{read_day, read_text, write_text};
 pub use timeline::{Timeline, TimelineFault};

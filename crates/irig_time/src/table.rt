@@ -66,13 +66,7 @@ impl LeapTable {
             (λ t. (table_fault until leaps.now ≡ None) × (t ≡ table until leaps.now))
             (λ e. table_fault until leaps.now ≡ Some e) }
     {
-        if until > LAST_DAY {
-            return Err(TableFault::TableEnd);
-        }
-        if leaps.len() > 64 {
-            return Err(TableFault::TableLong);
-        }
-        if let Some(fault) = first_entry_fault(until, leaps) {
+        if let Some(fault) = table_fault(until, leaps) {
             return Err(fault);
         }
         Ok(LeapTable {
@@ -123,6 +117,19 @@ impl Leaps for LeapTable {
     fn mark(&self, day: u32) -> Mark {
         LeapTable::mark(self, day)
     }
+}
+
+/// The fault that [`LeapTable::new`] answers of these, if any.
+pub fn table_fault(until: u32, leaps: &[(u32, Leap)]) -> Option<TableFault>
+    ensures { result ≡ table_fault until leaps.now }
+{
+    if until > LAST_DAY {
+        return Some(TableFault::TableEnd);
+    }
+    if leaps.len() > 64 {
+        return Some(TableFault::TableLong);
+    }
+    first_entry_fault(until, leaps)
 }
 
 fn first_entry_fault(until: u32, leaps: &[(u32, Leap)]) -> Option<TableFault>
