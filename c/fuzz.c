@@ -25,6 +25,11 @@ static int try_reader(int is_near) {
     }
     for (int i = 0; i < 20; i++)
         irig_reader_pulse(reader, (uint8_t)(rand() % 8), (uint32_t)(rand() % 12000));
+    size_t count = (size_t)(rand() % 130);
+    uint32_t *widths_us = malloc((count ? count : 1) * sizeof *widths_us);
+    for (size_t i = 0; i < count; i++) widths_us[i] = (uint32_t)(rand() % 12000);
+    irig_reader_pulses(reader, (uint8_t)(rand() % 8), widths_us, count);
+    free(widths_us);
     for (uint8_t port = 0; port < 6; port++) irig_reader_port(reader, port, told);
     int announced = irig_reader_tick(reader, report) == IRIG_DONE && report->announces;
     if (announced && (report->day < 1 || report->day > 36523 || report->sod > 86400)) abort();

@@ -4,9 +4,10 @@
  * libirig_c.a (`rt lib` in crates/irig_c). It asks for no memory, keeps nothing between calls, and
  * needs `memcpy` and `memset` of the C library and `__udivti3`, which compilers bring along.
  *
- * Pointers. A pointer must lead to one whole object that no other call reads or writes meanwhile,
- * and is never null. What a structure holds is no duty of the caller: any numbers may lie in it,
- * each call returns, and what is announced is a valid second.
+ * Pointers. A pointer must lead to one whole, aligned object that no other call reads or writes
+ * meanwhile. A null pointer is answered with IRIG_VALUE (see IRIG_NO_NULL_TESTS at the end). What a
+ * structure holds is no duty of the caller: any numbers may lie in it, each call returns, and what
+ * is announced is a valid second.
  *
  * Answers. 0 is done. Any other answer is the number of a fault, and nothing was changed; those of
  * a frame have more beside it: `IRIG_FAULT(answer)` is the number, `IRIG_DETAIL(answer)` what it
@@ -147,15 +148,17 @@ typedef struct irig_state {
 } irig_state;
 IRIG_ASSERT(sizeof(irig_state) == 16 && offsetof(irig_state, day) == 4);
 
-/* What a port heard since the last edge: no symbol is kept. */
+/* What a port heard since the last edge: a bit for each symbol. */
 typedef struct irig_tally {
-    uint32_t count; /* how many symbols, 101 at most */
-    uint32_t ones;
-    uint32_t sums[13];
+    uint32_t count;   /* how many symbols, 101 at most */
+    uint32_t ones;    /* how many of the ones the parity counts */
+    uint64_t time;    /* bit i is a one at element i, 0 to 59 */
+    uint64_t control; /* bit i is a one at element 60 + i */
     uint8_t wrong_kind; /* 0 none, 3 a bad pulse, any other a marker fault */
     uint8_t wrong_element;
 } irig_tally;
-IRIG_ASSERT(sizeof(irig_tally) == 64 && offsetof(irig_tally, wrong_kind) == 60);
+IRIG_ASSERT(sizeof(irig_tally) == 32 && offsetof(irig_tally, time) == 8 &&
+            offsetof(irig_tally, control) == 16 && offsetof(irig_tally, wrong_kind) == 24);
 
 /* A reader. It may be copied, kept in a file of the same machine and taken up again. */
 typedef struct irig_reader {
@@ -164,8 +167,8 @@ typedef struct irig_reader {
     irig_state state;
     irig_tally ports[5]; /* of three ports the last two are fed nothing */
 } irig_reader;
-IRIG_ASSERT(sizeof(irig_reader) == 868 && offsetof(irig_reader, table) == 12 &&
-            offsetof(irig_reader, state) == 532 && offsetof(irig_reader, ports) == 548);
+IRIG_ASSERT(sizeof(irig_reader) == 712 && offsetof(irig_reader, table) == 12 &&
+            offsetof(irig_reader, state) == 532 && offsetof(irig_reader, ports) == 552);
 
 enum { IRIG_UNLOCKED = 0, IRIG_ACQUIRING = 1, IRIG_LOCKED = 2, IRIG_HOLDOVER = 3 };
 enum {
@@ -250,6 +253,10 @@ uint32_t irig_reader_init(irig_reader *reader, const irig_setup *setup, const ir
 /* A pulse at port 0 to 2 of three, 0 to 4 of five. IRIG_VALUE. */
 uint32_t irig_reader_pulse(irig_reader *reader, uint8_t port, uint32_t width_us);
 
+/* Pulses at a port, one after another, as many as `count` says. IRIG_VALUE. */
+uint32_t irig_reader_pulses(irig_reader *reader, uint8_t port, const uint32_t *widths_us,
+                            size_t count);
+
 /* An edge: what the reader says by what its ports heard; they are then empty. IRIG_VALUE if the
  * numbers are none of a reader. */
 uint32_t irig_reader_tick(irig_reader *reader, irig_report *report);
@@ -259,6 +266,109 @@ void irig_reader_restart(irig_reader *reader);
 
 /* Says what a port would tell if the edge came now. IRIG_VALUE. */
 uint32_t irig_reader_port(const irig_reader *reader, uint8_t port, irig_told *told);
+
+#ifndef IRIG_NO_NULL_TESTS
+
+/* Each call again, by which a null pointer is answered with IRIG_VALUE; by `irig_has_parity` with
+ * no, and nothing happens where nothing is answered. IRIG_NO_NULL_TESTS leaves them out. */
+
+static inline uint32_t irig_tested_encode(const irig_coded *coded, uint8_t *symbols) {
+    return coded && symbols ? irig_encode(coded, symbols) : (uint32_t)IRIG_VALUE;
+}
+
+static inline uint32_t irig_tested_decode(const uint8_t *symbols, size_t count,
+                                          irig_coded *coded) {
+    return symbols && coded ? irig_decode(symbols, count, coded) : (uint32_t)IRIG_VALUE;
+}
+
+static inline bool irig_tested_has_parity(const uint8_t *symbols, uint8_t parity) {
+    return symbols && irig_has_parity(symbols, parity);
+}
+
+static inline void irig_tested_set_parity(uint8_t *symbols, uint8_t parity) {
+    if (symbols) irig_set_parity(symbols, parity);
+}
+
+static inline uint32_t irig_tested_control_pack(const irig_control *control, uint32_t *word) {
+    return control && word ? irig_control_pack(control, word) : (uint32_t)IRIG_VALUE;
+}
+
+static inline uint32_t irig_tested_control_unpack(uint32_t word, irig_control *control) {
+    return control ? irig_control_unpack(word, control) : (uint32_t)IRIG_VALUE;
+}
+
+static inline uint32_t irig_tested_second_next(const irig_utc *second, uint8_t mark,
+                                               irig_utc *following) {
+    return second && following ? irig_second_next(second, mark, following) : (uint32_t)IRIG_VALUE;
+}
+
+static inline uint32_t irig_tested_second_write(const irig_utc *second, char *text) {
+    return second && text ? irig_second_write(second, text) : (uint32_t)IRIG_VALUE;
+}
+
+static inline uint32_t irig_tested_second_read(const char *text, size_t count, irig_utc *second) {
+    return text && second ? irig_second_read(text, count, second) : (uint32_t)IRIG_VALUE;
+}
+
+static inline uint32_t irig_tested_coded_of(const irig_utc *second, int8_t local_half_hours,
+                                            irig_coded *coded) {
+    return second && coded ? irig_coded_of(second, local_half_hours, coded) : (uint32_t)IRIG_VALUE;
+}
+
+static inline uint32_t irig_tested_claim_of(const irig_coded *coded, const irig_control *control,
+                                            uint8_t sense, irig_claim *claim) {
+    return coded && control && claim ? irig_claim_of(coded, control, sense, claim)
+                                     : (uint32_t)IRIG_VALUE;
+}
+
+static inline uint32_t irig_tested_reader_init(irig_reader *reader, const irig_setup *setup,
+                                               const irig_table *table) {
+    return reader && setup && table ? irig_reader_init(reader, setup, table) : (uint32_t)IRIG_VALUE;
+}
+
+static inline uint32_t irig_tested_reader_pulse(irig_reader *reader, uint8_t port,
+                                                uint32_t width_us) {
+    return reader ? irig_reader_pulse(reader, port, width_us) : (uint32_t)IRIG_VALUE;
+}
+
+static inline uint32_t irig_tested_reader_pulses(irig_reader *reader, uint8_t port,
+                                                 const uint32_t *widths_us, size_t count) {
+    return reader && widths_us ? irig_reader_pulses(reader, port, widths_us, count)
+                               : (uint32_t)IRIG_VALUE;
+}
+
+static inline uint32_t irig_tested_reader_tick(irig_reader *reader, irig_report *report) {
+    return reader && report ? irig_reader_tick(reader, report) : (uint32_t)IRIG_VALUE;
+}
+
+static inline void irig_tested_reader_restart(irig_reader *reader) {
+    if (reader) irig_reader_restart(reader);
+}
+
+static inline uint32_t irig_tested_reader_port(const irig_reader *reader, uint8_t port,
+                                               irig_told *told) {
+    return reader && told ? irig_reader_port(reader, port, told) : (uint32_t)IRIG_VALUE;
+}
+
+#define irig_encode irig_tested_encode
+#define irig_decode irig_tested_decode
+#define irig_has_parity irig_tested_has_parity
+#define irig_set_parity irig_tested_set_parity
+#define irig_control_pack irig_tested_control_pack
+#define irig_control_unpack irig_tested_control_unpack
+#define irig_second_next irig_tested_second_next
+#define irig_second_write irig_tested_second_write
+#define irig_second_read irig_tested_second_read
+#define irig_coded_of irig_tested_coded_of
+#define irig_claim_of irig_tested_claim_of
+#define irig_reader_init irig_tested_reader_init
+#define irig_reader_pulse irig_tested_reader_pulse
+#define irig_reader_pulses irig_tested_reader_pulses
+#define irig_reader_tick irig_tested_reader_tick
+#define irig_reader_restart irig_tested_reader_restart
+#define irig_reader_port irig_tested_reader_port
+
+#endif
 
 #ifdef __cplusplus
 }

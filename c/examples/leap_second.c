@@ -18,9 +18,10 @@ static void feed(irig_reader *reader, irig_utc second) {
     irig_control_pack(&control, &coded.control);
     irig_encode(&coded, symbols);
     irig_set_parity(symbols, IRIG_EVEN);
-    for (uint8_t port = 0; port < 3; port++)
-        for (int element = 0; element < 100; element++)
-            irig_reader_pulse(reader, port, width_us[symbols[element]]);
+    uint32_t widths_us[100];
+    for (int element = 0; element < 100; element++)
+        widths_us[element] = width_us[symbols[element]];
+    for (uint8_t port = 0; port < 3; port++) irig_reader_pulses(reader, port, widths_us, 100);
 }
 
 int main(void) {

@@ -64,16 +64,10 @@ pub extern "C" fn irig_reader_init(
     if fault != 0 {
         return fault;
     }
-    *reader = IrigReader {
-        setup: *setup,
-        table: *table,
-        state: IDLE,
-        a: Tally::none(),
-        b: Tally::none(),
-        c: Tally::none(),
-        d: Tally::none(),
-        e: Tally::none(),
-    };
+    reader.setup = *setup;
+    reader.table = *table;
+    reader.state = IDLE;
+    empty(reader);
     0
 }
 
@@ -110,11 +104,7 @@ fn feed(reader: &mut IrigReader, port: u8, width_us: u32)
 /// Pulses at a port, one after another, each of a width in microseconds. 26 if there is no such
 /// port.
 #[unsafe(no_mangle)]
-pub extern "C" fn irig_reader_pulses(
-    reader: &mut IrigReader,
-    port: u8,
-    widths_us: &[u32],
-) -> u32
+pub extern "C" fn irig_reader_pulses(reader: &mut IrigReader, port: u8, widths_us: &[u32]) -> u32
     ensures answer { (result ≡ 0) ↔ (port < ports_in (redundancy_in reader.old.setup)) }
     ensures refused { (result ≡ 0 → ⊥) → reader.new ≡ reader.old }
     ensures fed { result ≡ 0 → (h : ReaderHistory) → IsReaderOf reader.old h

@@ -23,4 +23,4 @@ pub use encoder::encode;
 pub use fault::FrameFault;
 pub use laws::{one_frame, one_reading, round_trip, written_reads};
 pub use layout::{Field, is_marker_place};
-pub use symbol::{Symbol, classify, is_one_width, is_right_width};
+pub use symbol::{Symbol, classify, is_one_width};

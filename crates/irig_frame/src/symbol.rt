@@ -1,9 +1,7 @@
 //! The symbols of a frame, the pulse widths that send them, and their letters.
 
-ghost use Rattle.std.specs.Prelude.{◌≡◌, ◌↔◌, ℕ, IsTrue, Some, None};
+ghost use Rattle.std.specs.Prelude.{◌≡◌, ◌↔◌, Some};
 ghost use Rattle.irig_frame.specs.Symbols.{letter_of, symbol_of, width_of};
-ghost use Rattle.irig_frame.specs.FieldTable.{is_marker_place};
-ghost use Rattle.irig_frame.specs.Faults.{element_fault};
 ghost use Rattle.irig_frame.specs.Values.{is_one};
 
 // The least width of each symbol, and of what is too wide, in microseconds.
@@ -93,14 +91,4 @@ pub fn is_one_width(width_us: u32) -> bool
     ensures { result ≡ is_one (Some (symbol_of width_us)) }
 {
     (LEAST_ONE..LEAST_MARKER).contains(&width_us)
-}
-
-/// Whether a pulse of this width is right at an element: a marker at a marker place, and a 0 or a 1
-/// at any other.
-#[inline]
-pub fn is_right_width(width_us: u32, at_marker_place: bool) -> bool
-    ensures { (i : ℕ) → is_marker_place i ≡ at_marker_place
-        → IsTrue result ↔ (element_fault i (symbol_of width_us) ≡ None) }
-{
-    (LEAST_ZERO..TOO_WIDE).contains(&width_us) && (width_us >= LEAST_MARKER) == at_marker_place
 }

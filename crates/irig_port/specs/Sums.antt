@@ -82,7 +82,7 @@ unfoldable pub frame_from : Rules → Option FrameFault → ℕ → ℕ → ℕ 
 frame_from rules wrong ones time control =
     told_unless wrong
     (if ones % 2 == Parity.remainder_of rules.parity
-        then values_told rules (values_from time control)
+    then values_told rules (values_from time control)
     else tells.Fault fault.Parity)
 
 -- the numbers of some symbols; past 100 nothing counts but how many there are

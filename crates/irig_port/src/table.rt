@@ -1,34 +1,37 @@
-//! What the parity counts and where the markers stand, element by element, since a pulse looks up
-//! its element.
+//! What the parity counts and which widths are right, element by element, since a pulse looks up its
+//! element.
 //!
 //! Source: IRIG Standard 200-16, format B, code B004. The crate's proof compares the table with the
 //! marker places and the places that the parity counts.
 
-ghost use Rattle.std.specs.Prelude.{◌≡◌, ◌<◌, slice_index_or};
+ghost use Rattle.std.specs.Prelude.{◌≡◌, ◌<◌, if◌then◌else◌, slice_index_or};
 ghost use Rattle.irig_frame.specs.FieldTable.{is_marker_place};
 ghost use Rattle.irig_port.specs.Sums.{weight_at, parity_places};
 
-/// What the table says of an element: what a one adds to those that the parity counts, and whether
-/// a marker stands there.
+/// What the table says of an element: what a one adds to those that the parity counts, the least
+/// width of a pulse that is right there, and how many widths are, in microseconds.
 #[derive(Clone, Copy)]
 pub struct Row {
-    pub parity: u8,
-    pub is_marker_place: bool,
+    pub parity: u32,
+    pub least_us: u16,
+    pub count_us: u16,
 }
 
-/// A marker place.
+/// A marker place, where a marker is right.
 const P: Row = Row {
     parity: 0,
-    is_marker_place: true,
+    least_us: 6500,
+    count_us: 3000,
 };
 
-/// An array of rows. A line is a marker, and for each element that follows 1 where the parity counts
-/// it, else 0.
+/// An array of rows. A line is a marker, and for each element that follows, where a 0 or a 1 is
+/// right, 1 if the parity counts it, else 0.
 macro_rules! rows {
     ($($($marker:ident)? $($parity:literal)+);+ $(;)?) => {
         [$($($marker,)? $(Row {
             parity: $parity,
-            is_marker_place: false,
+            least_us: 500,
+            count_us: 6000,
         }),+),+]
     };
 }
@@ -52,7 +55,10 @@ static ROWS: [Row; 101] = rows![
 pub(crate) fn row_of(element: usize) -> Row
     requires { element < 101 }
     ensures parity { element < 100 → weight_at parity_places element ≡ result.parity }
-    ensures marker { element < 100 → is_marker_place element ≡ result.is_marker_place }
+    ensures least { element < 100
+        → result.least_us ≡ (if is_marker_place element then 6500 else 500) }
+    ensures count { element < 100
+        → result.count_us ≡ (if is_marker_place element then 3000 else 6000) }
 {
     table_row(element)
 }

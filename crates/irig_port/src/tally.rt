@@ -1,6 +1,6 @@
 //! What a port keeps of the symbols that it heard: plain numbers, and no symbol.
 
-ghost use Rattle.std.specs.Prelude.{◌≡◌, ◌≤◌, ◌<◌, ◌*◌, ◌^◌, ◌++◌, ℕ, List, [], IfOk, if◌then◌else◌};
+ghost use Rattle.std.specs.Prelude.{◌≡◌, ◌↔◌, ◌≤◌, ◌<◌, ◌*◌, ◌^◌, ◌++◌, ℕ, List, [], IsTrue, None, IfOk, if◌then◌else◌};
 ghost use Rattle.std.specs.Option.{option_or};
 ghost use Rattle.irig_frame.specs.declared.symbol.Symbol.{Symbol};
 ghost use Rattle.irig_frame.specs.FieldTable.{is_marker_place};
@@ -13,12 +13,10 @@ ghost use Rattle.irig_port.specs.Told.{told_of, IfClaim};
 ghost use Rattle.irig_port.specs.Sums.{bits_at, field_from, values_from, frame_from};
 ghost use Rattle.irig_port.specs.Tallies.{fault_in, tally_told, IsTallyOf};
 
-use crate::table::row_of;
+use crate::table::{Row, row_of};
 use crate::told::{PortFault, Told};
 use crate::verdict::tell_values;
-use irig_frame::{
-    Coded, Field, FrameFault, Symbol, classify, fault_at, is_one_width, is_right_width,
-};
+use irig_frame::{Coded, Field, FrameFault, Symbol, classify, fault_at, is_one_width};
 use irig_time::Rules;
 
 /// What is wrong with the lowest wrong element.
@@ -118,7 +116,7 @@ impl Tally {
             self.control = self.control.wrapping_add(bit_if(is_one, element - 60));
         }
         self.ones = self.ones.wrapping_add(one_if(is_one, row.parity));
-        note(&mut self.wrong, element as u8, row.is_marker_place, width_us);
+        note(&mut self.wrong, element as u8, row, width_us);
         self.count = element + 1;
     }
 
@@ -169,21 +167,44 @@ fn bit_if(is_one: bool, bit: u32) -> u64
 }
 
 #[inline]
-fn one_if(is_one: bool, parity: u8) -> u32
+fn one_if(is_one: bool, parity: u32) -> u32
     ensures { result ≡ (if is_one then parity else 0) }
 {
-    if is_one { u32::from(parity) } else { 0 }
+    if is_one { parity } else { 0 }
 }
 
 #[inline]
-fn note(wrong: &mut FirstFault, element: u8, at_marker_place: bool, width_us: u32)
-    ensures { is_marker_place element ≡ at_marker_place
+fn note(wrong: &mut FirstFault, element: u8, row: Row, width_us: u32)
+    ensures { row.least_us ≡ (if is_marker_place element then 6500 else 500)
+        → row.count_us ≡ (if is_marker_place element then 3000 else 6000)
         → fault_in wrong.new
         ≡ option_or (fault_in wrong.old) (element_fault element (symbol_of width_us)) }
 {
-    if !is_right_width(width_us, at_marker_place) && wrong.kind == 0 {
+    if !is_right(row, width_us) {
+        note_wrong(wrong, element, width_us);
+    }
+}
+
+// Apart from `note`, so that this stays out of the loop.
+#[cold]
+#[inline(never)]
+fn note_wrong(wrong: &mut FirstFault, element: u8, width_us: u32)
+    ensures { fault_in wrong.new
+        ≡ option_or (fault_in wrong.old) (element_fault element (symbol_of width_us)) }
+{
+    if wrong.kind == 0 {
         *wrong = first_fault(element, classify(width_us));
     }
+}
+
+/// Whether a pulse of this width is right where the row stands.
+#[inline]
+fn is_right(row: Row, width_us: u32) -> bool
+    ensures { (i : ℕ) → row.least_us ≡ (if is_marker_place i then 6500 else 500)
+        → row.count_us ≡ (if is_marker_place i then 3000 else 6000)
+        → IsTrue result ↔ (element_fault i (symbol_of width_us) ≡ None) }
+{
+    width_us.wrapping_sub(u32::from(row.least_us)) < u32::from(row.count_us)
 }
 
 fn first_fault(element: u8, symbol: Symbol) -> FirstFault

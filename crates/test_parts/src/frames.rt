@@ -47,9 +47,6 @@ fn a_width_is_its_symbol_up_to_the_bounds(rt: HostRuntime) {
 #[test]
 fn a_marker_is_right_at_marker_places_alone(rt: HostRuntime) {
     assert!(rt; is_marker_place(0) && is_marker_place(99) && !is_marker_place(75));
-    assert!(rt; is_right_width(8000, true) && !is_right_width(8000, false));
-    assert!(rt; is_right_width(2000, false) && !is_right_width(2000, true));
-    assert!(rt; !is_right_width(499, true) && !is_right_width(9500, false));
     assert!(rt; fault_at(75, Symbol::Marker) == Some(FrameFault::Marker(75)));
     assert!(rt; fault_at(99, Symbol::Marker) == None);
     assert!(rt; fault_at(99, Symbol::Bad) == Some(FrameFault::Pulse(99)));

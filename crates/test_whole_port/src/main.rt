@@ -1,4 +1,4 @@
-//! A scenario over ports that keep each symbol, in place of those that keep running sums.
+//! A scenario over ports that keep each symbol, in place of those that keep a bit of each.
 //!
 //! It runs the scenario on standard input and writes its log to standard output; with a word on the
 //! command line it shows silent entries too. What it writes has to be what the program `irig`

@@ -11,7 +11,7 @@ loop-width_us-preserved c =
     let ws = c.args.widths_us.now in
     let i = l.width_us-index in
     let more : (w : List ℕ) → symbols_heard (w ++ take (i + 1) ws) ≡ with_symbol (symbols_heard (w ++ take i ws)) (symbol_of (get_or ws i 0)) =
-        (λ w. ap (λ (rest : List ℕ). symbols_heard (w ++ rest)) (take_more ws i 0 c.loop-width_us-test.true) ∙ (ap symbols_heard (sym (append_assoc w (take i ws) (get_or ws i 0 ∷ []))) ∙ heard-push (w ++ take i ws) (get_or ws i 0))) in
+    (λ w. ap (λ (rest : List ℕ). symbols_heard (w ++ rest)) (take_more ws i 0 c.loop-width_us-test.true) ∙ (ap symbols_heard (sym (append_assoc w (take i ws) (get_or ws i 0 ∷ []))) ∙ heard-push (w ++ take i ws) (get_or ws i 0))) in
     record {
       added = λ w s. rw (more w) (c.add.ensures.added (symbols_heard (w ++ take i ws)) (l.invariant.added w s));
     }

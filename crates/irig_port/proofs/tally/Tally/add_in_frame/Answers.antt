@@ -21,7 +21,7 @@ returns-clause-added c s h =
             low_kept = λ low. rw w.self-is refl;
             high = λ high. absurd (omega (arith, high, w.if-element-lt60.true));
             high_kept = λ high. absurd (omega (arith, high, w.if-element-lt60.true));
-          }) row.ensures.parity (λ low. rw wrong (c.note.ensures (row.ensures.marker low))))
+          }) row.ensures.parity (λ low. rw wrong (c.note.ensures (row.ensures.least low) (row.ensures.count low))))
       | else-element-lt60 w ↦
           let ones : after.ones ≡ now.ones = rw w.self-is refl in
           let wrong : ◌≡◌ {A = FirstFault} now.wrong after.wrong = rw w.self-is refl in
@@ -31,5 +31,5 @@ returns-clause-added c s h =
             low_kept = λ low. absurd (omega (arith, low, w.if-element-lt60.false));
             high = λ high. rw (w.self-is, w.bit_if-else-element-lt60.ensures, c.is_one_width-is_one.ensures) refl;
             high_kept = λ high. rw w.self-is refl;
-          }) row.ensures.parity (λ low. rw wrong (c.note.ensures (row.ensures.marker low))))
+          }) row.ensures.parity (λ low. rw wrong (c.note.ensures (row.ensures.least low) (row.ensures.count low))))
     ]
