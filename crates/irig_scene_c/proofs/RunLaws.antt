@@ -11,13 +11,9 @@ use Rattle.irig_scene.specs.declared.fault.SceneFault.TheVariants.{Refused, Read
 use Rattle.irig_scene.specs.LogLines.{TellsTruth, VouchesForItself}
 use Rattle.irig_scene.specs.Run.{Ran}
 use Rattle.irig_scene.specs.Scene.{output}
+use Rattle.irig_scene.proofs.StepLaws.{IsFront}
 use Rattle.irig_scene.proofs.TrueLines.{tells_truth, vouches_for_itself}
 use Rattle.irig_scene_c.specs.Runs.{IsRun, written_over}
-
--- a text is in front of another
-pub record IsFront (front whole : List ℕ) : Type 0 where
-  pub rest : List ℕ
-  pub is : whole ≡ front ++ rest
 
 all_of : (front whole : List ℕ) → front ≡ whole → IsFront front whole
 all_of front whole e = record { rest = []; is = sym e ∙ sym (append-nil front) }
@@ -49,7 +45,7 @@ front_over old bytes = elim (cases_lt (length old) (length bytes)) [
       let over : written_over old bytes ≡ bytes ++ drop (length bytes) old = ap (λ b. b ++ drop (length bytes) old) (take_all (length old) bytes fits) in
       all_of (take (length bytes) (written_over old bytes)) bytes
       (ap (λ m. take (length bytes) m) over ∙ take-append_seam bytes (drop (length bytes) old))
-  ]
+]
 
 -- what a run leaves in memory, as far as it says, is a front of the log
 front_left : (x : List ℕ) (all : Bool) (status : ℕ) (log old : List ℕ) → IsRun x all status log → IsFront (take (length log) (written_over old log)) (output x all)

@@ -14,13 +14,13 @@ mod run;
 
 use std::alloc::Global;
 
-/// Runs a scenario, the silent edges too with `all`, and writes as much of its log into `log` as
-/// that has room for; `whole` is how many bytes the log has.
+/// Runs a scenario, and writes as much of its log into `log` as that has room for; with `all` the
+/// silent entries too. `whole` is then how many bytes the log has.
 ///
-/// 0 where the run was done; 3 where a line is refused, which the log's last line says; 5 where
-/// there was no memory for the log, and 6 where there was none for the run. Then `whole` is how
-/// many bytes there were until then, and these are the first of the log. (4, a failed read, has no
-/// cause where the text is in memory.)
+/// 0 where the run was done, and 3 where a line is refused, as the log's last line says. 5 where
+/// there was no memory for the log, and 6 where there was none for the run: `whole` is then how
+/// many bytes there were until then, which are the first of the log. (4 is a failed read, of which
+/// a text in memory has none.)
 #[unsafe(no_mangle)]
 pub extern "C" fn irig_run(
     alloc: Global,
