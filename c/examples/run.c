@@ -25,32 +25,36 @@ static uint8_t *bytes_of(const char *path, size_t *count) {
     return NULL;
 }
 
-/* Prints as much of a log as there was room for; says so where memory was wanting. */
-static int print(uint8_t status, const uint8_t *log, size_t size) {
-    if (fwrite(log, 1, size, stdout) < size || fflush(stdout)) return 5;
+/* Prints as much of a log as its room has, and answers the exit status. */
+static int print(uint8_t status, const uint8_t *log, size_t room, size_t whole) {
+    size_t size = whole < room ? whole : room;
     if (status > IRIG_RUN_REFUSED) fputs("out of memory\n", stderr);
-    return status;
+    return fwrite(log, 1, size, stdout) < size || fflush(stdout) ? 5 : status;
+}
+
+/* Little room at first, enough for the log of a short run; then as much as the log is long. */
+static int run(const uint8_t *text, size_t count, bool all) {
+    uint8_t few[64];
+    size_t room = sizeof few, whole;
+    uint8_t status = irig_run(text, count, all, few, room, &whole);
+    if (status > IRIG_RUN_REFUSED || whole <= room) return print(status, few, room, whole);
+
+    room = whole;
+    uint8_t *log = malloc(room);
+    if (!log) return print(IRIG_RUN_NO_LOG, few, sizeof few, whole);
+    status = irig_run(text, count, all, log, room, &whole);
+    int answer = print(status, log, room, whole);
+    free(log);
+    return answer;
 }
 
 int main(int argc, char **argv) {
-    size_t count, whole;
+    size_t count;
     bool all = argc == 3 && strcmp(argv[2], "--all") == 0;
     if (argc != 2 && !all) return fputs("usage: run FILE [--all]\n", stderr), 2;
     uint8_t *text = bytes_of(argv[1], &count);
     if (!text) return perror(argv[1]), 4;
-
-    /* Little room at first: the call says how long the log is. */
-    uint8_t few[64], *log = few;
-    uint8_t status = irig_run(text, count, all, few, sizeof few, &whole);
-    if (whole > sizeof few) {
-        log = malloc(whole);
-        if (!log) return print(IRIG_RUN_NO_LOG, few, sizeof few);
-        size_t room = whole;
-        status = irig_run(text, count, all, log, room, &whole);
-        if (whole > room) whole = room;
-    }
-    status = (uint8_t)print(status, log, whole);
-    if (log != few) free(log);
+    int status = run(text, count, all);
     free(text);
     return status;
 }
