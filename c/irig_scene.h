@@ -1,0 +1,67 @@
+/* irig_scene.h: the proved runner of scenarios, for C11 and C++.
+ *
+ * From the text of a scenario to the text of its log, both in memory: what `irig run` prints of the
+ * same text, byte for byte. docs/SCENARIOS.md says how a scenario is written, docs/OUTPUT.md what a
+ * log says. Link with libirig_scene_c.a (`rt lib` in crates/irig_scene_c) and irig_heap.c, by which
+ * a run asks `malloc`, `realloc` and `free` for memory. It gives all of it back, keeps nothing
+ * between calls, and needs `memcpy`, `memmove` and `memset` of the C library and `__udivti3`, which
+ * compilers bring along.
+ *
+ * Pointers. `text` leads to `count` bytes that no other call writes meanwhile, `log` to `room` bytes
+ * and `whole` to one object that no other call reads or writes; the three do not overlap. Of no
+ * bytes a pointer may be null; any other null pointer is answered with IRIG_RUN_NULL (see
+ * IRIG_NO_NULL_TESTS at the end). What the text says is no duty of the caller: any bytes are a
+ * scenario, or are refused.
+ *
+ * Threads. Calls on different objects may run at the same time, as `malloc` lets them.
+ */
+#ifndef IRIG_SCENE_H
+#define IRIG_SCENE_H
+
+#include <stdbool.h>
+#include <stddef.h>
+#include <stdint.h>
+
+#ifdef __cplusplus
+extern "C" {
+#endif
+
+enum {
+    IRIG_RUN_DONE = 0,     /* the log's last line is the audit */
+    IRIG_RUN_NULL = 2,     /* a null pointer where bytes belong; nothing was run or written */
+    IRIG_RUN_REFUSED = 3,  /* a line is refused, and the log's last line says which */
+    IRIG_RUN_NO_LOG = 5,   /* no memory for the log */
+    IRIG_RUN_NO_MEMORY = 6 /* no memory for the run */
+};
+
+/* Runs a scenario of `count` bytes, with `all` the silent edges too, and writes as much of its log
+ * to `log` as `room` bytes hold, with no 0 behind it; the bytes of `log` after that stay as they
+ * were. `*whole` is how many bytes the log has. Where that is more than `room`, nothing is lost but
+ * time: call again with so many bytes. A `room` of 0 only asks how many they are.
+ *
+ * After IRIG_RUN_NO_LOG and IRIG_RUN_NO_MEMORY `*whole` is how many bytes there were until then, and
+ * these are the first of the log. A run holds its log in memory of its own too, up to three times
+ * as much while it grows. */
+uint8_t irig_run(const uint8_t *text, size_t count, bool all, uint8_t *log, size_t room,
+                 size_t *whole);
+
+#ifndef IRIG_NO_NULL_TESTS
+
+/* The same call, for which null pointers are as above. IRIG_NO_NULL_TESTS leaves it out: no pointer
+ * may then be null. */
+static inline uint8_t irig_tested_run(const uint8_t *text, size_t count, bool all, uint8_t *log,
+                                      size_t room, size_t *whole) {
+    const uint8_t no_text = 0;
+    uint8_t no_log = 0;
+    if (!whole || (!text && count) || (!log && room)) return IRIG_RUN_NULL;
+    return irig_run(text ? text : &no_text, count, all, log ? log : &no_log, room, whole);
+}
+#define irig_run irig_tested_run
+
+#endif
+
+#ifdef __cplusplus
+}
+#endif
+
+#endif
