@@ -8,7 +8,7 @@ ghost use Rattle.irig_c.specs.Numbers.{symbol_in, parity_in, code_of_frame};
 
 use crate::fault::{OUT_OF_RANGE, code};
 use crate::setup::parity_of;
-use crate::symbols::{numbers_of, symbols_of};
+use crate::symbols::{number, numbers_of, symbols_of};
 use irig_control::{parity_ok, set_parity};
 use irig_frame::{Coded, FrameFault, decode, encode, in_range};
 use irig_port::PortFault;
@@ -85,5 +85,5 @@ pub extern "C" fn irig_set_parity(symbols: &mut [u8; 100], parity: u8)
 {
     let mut frame = symbols_of(symbols);
     set_parity(&mut frame, parity_of(parity));
-    *symbols = numbers_of(&frame);
+    symbols[75] = number(frame[75]);
 }

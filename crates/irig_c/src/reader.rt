@@ -6,6 +6,7 @@ ghost use Rattle.irig_vote.specs.Vote.{ports_in, vote_of, AreOfUtc};
 ghost use Rattle.irig_reader.specs.Rule.{step_of};
 ghost use Rattle.irig_reader.specs.Rules.{IsReaderRules};
 ghost use Rattle.irig_reader.specs.History.{ReaderHistory, new_history, after_pulse, after_pulses, after_tick, after_restart, report_at_tick};
+ghost use Rattle.irig_c.specs.declared.state.TheConstants.{IDLE};
 ghost use Rattle.irig_c.specs.Setups.{rules_in, own_in, redundancy_in};
 ghost use Rattle.irig_c.specs.LeapTables.{table_in, IsTable, code_of_table};
 ghost use Rattle.irig_c.specs.States.{state_in, IsState};
@@ -66,8 +67,7 @@ pub extern "C" fn irig_reader_init(
     }
     reader.setup = *setup;
     reader.table = *table;
-    reader.state = IDLE;
-    empty(reader);
+    forget(reader);
     0
 }
 
@@ -195,6 +195,15 @@ fn empty(reader: &mut IrigReader)
 pub extern "C" fn irig_reader_restart(reader: &mut IrigReader)
     ensures { (h : ReaderHistory) → IsReaderOf reader.old h
         → IsReaderOf reader.new (after_restart h) }
+{
+    forget(reader);
+}
+
+fn forget(reader: &mut IrigReader)
+    ensures setup { reader.new.setup ≡ reader.old.setup }
+    ensures table { reader.new.table ≡ reader.old.table }
+    ensures state { reader.new.state ≡ IDLE }
+    ensures ports { IsSilent reader.new }
 {
     empty(reader);
     reader.state = IDLE;

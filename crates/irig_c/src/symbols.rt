@@ -26,7 +26,7 @@ pub(crate) fn symbol_of(number: u8) -> Symbol
     }
 }
 
-fn number(symbol: Symbol) -> u8
+pub(crate) fn number(symbol: Symbol) -> u8
     ensures { result ≡ number_of_symbol symbol }
 {
     match symbol {

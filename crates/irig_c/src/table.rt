@@ -1,6 +1,6 @@
 //! The leaps that a reader knows beforehand.
 
-ghost use Rattle.std.specs.Prelude.{◌≡◌, ◌↔◌, ◌≤◌, ◌<◌, length, map};
+ghost use Rattle.std.specs.Prelude.{◌≡◌, ◌↔◌, ◌≤◌, ◌<◌, [], length, map};
 ghost use Rattle.irig_time.specs.Timelines.{leap_of, mark_by};
 ghost use Rattle.irig_c.specs.LeapTables.{leap_in, table_in, IsTable, code_of_table};
 
@@ -98,19 +98,21 @@ pub(crate) fn table_fault(table: &IrigTable) -> u32
     if table.len > 64 {
         return table_code(TableFault::TableLong);
     }
-    match irig_time::table_fault(table.until, &pairs(table.listed())) {
+    let mut pairs = ArrayVec::new();
+    list(&mut pairs, table.listed());
+    match irig_time::table_fault(table.until, &pairs) {
         None => 0,
         Some(fault) => table_code(fault),
     }
 }
 
-fn pairs(leaps: &[IrigLeap]) -> ArrayVec<(u32, Leap), 64>
-    requires { length leaps.now ≤ 64 }
-    ensures { result.items ≡ map leap_in leaps.now }
+// Into a list that lies with the caller, for the sake of the stack.
+fn list(pairs: &mut ArrayVec<(u32, Leap), 64>, leaps: &[IrigLeap])
+    requires empty { pairs.old.items ≡ [] }
+    requires few { length leaps.now ≤ 64 }
+    ensures { pairs.new.items ≡ map leap_in leaps.now }
 {
-    let mut pairs = ArrayVec::new();
     for leap in leaps {
         pairs.push((leap.day, kind_of(*leap)));
     }
-    pairs
 }
