@@ -223,7 +223,7 @@ def run(text: Union[str, bytes], all: bool = False) -> Log:
 
     Raises Refused where a line is refused, and MemoryError.
     """
-    held = text.encode(errors="surrogatepass") if isinstance(text, str) else bytes(text)
+    held = text.encode(errors="surrogatepass") if isinstance(text, str) else bytes(memoryview(text))
     status, whole, log = _run(held, all, ROOM)
     if status in (DONE, REFUSED) and whole > ROOM:
         status, whole, log = _run(held, all, whole)
