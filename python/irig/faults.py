@@ -1,7 +1,10 @@
 """Faults and refusals, by their numbers in docs/FAULTS.md."""
 from __future__ import annotations
 
-from typing import Any, Dict, NamedTuple, Optional, Tuple, Union
+import ctypes
+from typing import Any, Dict, NamedTuple, Optional, Tuple, Type, TypeVar, Union
+
+Held = TypeVar("Held", bound=ctypes.Structure)
 
 Detail = Union[int, str, None]
 
@@ -129,7 +132,7 @@ def fitting(kind: Any, value: int, what: str) -> Any:
     return held
 
 
-def filled(structure: Any, **values: int) -> Any:
+def filled(structure: Type[Held], **values: int) -> Held:
     """A structure with these numbers, none of them cut to size."""
-    kinds = dict(structure._fields_)
+    kinds: Dict[str, Any] = {name: kind for name, kind, *_ in structure._fields_}
     return structure(**{name: fitting(kinds[name], value, name) for name, value in values.items()})

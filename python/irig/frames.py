@@ -82,8 +82,14 @@ class Control:
         """What a number of control bits says, below 2^18."""
         held = c.Control()
         check(c.control_unpack(fitting(ctypes.c_uint32, word, "the number"), held))
-        flags = (held.leap_pending, held.leap_delete, held.dst_pending, held.dst)
-        return cls(*map(bool, flags), held.offset_half_hours, held.quality)
+        return cls(
+            leap_pending=bool(held.leap_pending),
+            leap_delete=bool(held.leap_delete),
+            dst_pending=bool(held.dst_pending),
+            dst=bool(held.dst),
+            offset_half_hours=held.offset_half_hours,
+            quality=held.quality,
+        )
 
     def held(self) -> c.Control:
         """The control bits as C holds them."""

@@ -23,25 +23,16 @@ Word = TypeVar("Word", bound=str)
 
 
 @dataclass(frozen=True)
-class Entry:
-    """A line of a log about a tick of a reader.
+class Announced:
+    """At its tick `edge`, counted from 1, a reader announced the second that then began.
 
-    edge: the number of the reader's tick, from 1
     reader: its name
-    """
-
-    edge: int
-    reader: str
-
-
-@dataclass(frozen=True)
-class Announced(Entry):
-    """The reader announced the second that began at this edge.
-
     lock: "locked" or "holdover"; with the latter `count` is the edges since the last vote
     cause: "voted" or "held"
     """
 
+    edge: int
+    reader: str
     second: Second
     lock: Lock
     count: int
@@ -52,13 +43,16 @@ class Announced(Entry):
 
 
 @dataclass(frozen=True)
-class Silent(Entry):
-    """The reader announced nothing at this edge, which stands in a log with `all`.
+class Silent:
+    """At its tick `edge` a reader announced nothing; a log with `all` has these.
 
+    reader: its name
     lock: "unlocked" or "acquiring"; with the latter `count` is the votes so far
     cause: "acquiring", "no-vote", "expired", "leap-guard", "jump" or "range-end"
     """
 
+    edge: int
+    reader: str
     lock: Lock
     count: int
     cause: Cause
@@ -68,13 +62,19 @@ class Silent(Entry):
 
 
 @dataclass(frozen=True)
-class Ports(Entry):
-    """What each port told, in the words of docs/OUTPUT.md; `irig run --ports` writes such lines."""
+class Ports:
+    """What each port of a reader told at its tick `edge`, in the words of docs/OUTPUT.md. The program
+    writes such lines with --ports."""
 
+    edge: int
+    reader: str
     words: Tuple[str, ...]
 
     def __str__(self) -> str:
         return f" {self.edge} {self.reader} {' '.join(self.words)}"
+
+
+Entry = Union[Announced, Silent, Ports]
 
 
 @dataclass(frozen=True)
