@@ -1,5 +1,5 @@
-"""Builds the package by the hooks of PEP 517 and PEP 660, out of a checkout of the repository: `make -C c`
-makes shared libraries of the proved static ones, and the wheel takes them along."""
+"""Builds the package by the hooks of PEP 517 and PEP 660, out of a checkout of the repository:
+`make -C c` makes shared libraries of the proved static ones, and the wheel takes them along."""
 from __future__ import annotations
 
 import hashlib
@@ -33,14 +33,14 @@ def shared_libraries() -> List[Path]:
         static = f"crates/{name}_c/out/lib{name}_c.a"
         if not (ROOT / static).exists():
             sys.exit(
-                f"{static} is missing. `make -C c` at the top of the repository proves and builds it, by"
-                " the command rt of the Rattle kit; then install this package again."
+                f"{static} is missing. `make -C c` at the top of the repository proves and builds"
+                " it, by the command rt of the Rattle kit; then install this package again."
             )
     try:
         words = ["make", "-C", str(ROOT / "c"), *(f"out/{file.name}" for file in made)]
         subprocess.run(words, check=True, stdout=sys.stderr)
     except (OSError, subprocess.CalledProcessError) as error:
-        sys.exit(f"the shared libraries could not be made, for which make and cc are needed: {error}")
+        sys.exit(f"the shared libraries are not made, for which make and cc are needed: {error}")
     return made
 
 
@@ -48,7 +48,12 @@ def metadata() -> Dict[str, bytes]:
     """The files that say what the package is."""
     platform = re.sub(r"[-.]", "_", sysconfig.get_platform())
     fields = (HERE / "METADATA.in").read_text().replace("@VERSION@", version())
-    wheel = f"Wheel-Version: 1.0\nGenerator: irig\nRoot-Is-Purelib: false\nTag: py3-none-{platform}\n"
+    wheel = (
+        "Wheel-Version: 1.0\n"
+        "Generator: irig\n"
+        "Root-Is-Purelib: false\n"
+        f"Tag: py3-none-{platform}\n"
+    )
     files = {
         "METADATA": (fields + (ROOT / "docs/PYTHON.md").read_text()).encode(),
         "WHEEL": wheel.encode(),
@@ -114,4 +119,4 @@ def build_editable(
 
 
 def build_sdist(sdist_directory: str, config_settings: object = None) -> str:
-    raise UnsupportedOperation("the package is built out of a checkout; `pip wheel ./python` makes a wheel")
+    raise UnsupportedOperation("it is built out of a checkout: `pip wheel ./python` makes a wheel")

@@ -18,7 +18,7 @@ except ImportError:
 
 
 def rows(log: irig.Log) -> Iterator[Dict[str, Any]]:
-    """The ticks. `utc` is no time in a silence, and none in a leap second: `second` has its text."""
+    """The ticks. In a leap second `utc` is no time, as in a silence; `second` has its text."""
     for entry in log:
         if isinstance(entry, irig.Ports):
             continue
@@ -42,7 +42,7 @@ def print_table(log: irig.Log) -> None:
 
 
 def print_counts(log: irig.Log) -> None:
-    print("pandas is missing, `pip install pandas` gets it; without it, how often each cause stands:")
+    print("pandas is missing (pip install pandas); without it, how often each cause stands:")
     counts = Counter((row["reader"], row["cause"]) for row in rows(log))
     for (reader, cause), count in sorted(counts.items()):
         print(reader, cause, count)

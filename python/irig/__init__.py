@@ -1,5 +1,5 @@
-"""IRIG-B time code (code B004 of IRIG Standard 200-16, control bits of IEEE 1344): the proved codec,
-the proved reader, and the proved runner of scenarios.
+"""IRIG-B time code (code B004 of IRIG Standard 200-16, control bits of IEEE 1344): the proved
+codec, the proved reader, and the proved runner of scenarios.
 
     frame, read                 the frame of a second; what a port tells of one
     encode, decode, coded       frames and what they code: Coded, with Control

@@ -2,7 +2,8 @@
 from __future__ import annotations
 
 import ctypes
-from ctypes import Structure, c_bool, c_char_p, c_int8, c_size_t, c_uint8, c_uint16, c_uint32, c_uint64
+from ctypes import Structure, c_bool, c_char_p, c_int8, c_size_t
+from ctypes import c_uint8, c_uint16, c_uint32, c_uint64
 from pathlib import Path
 from typing import Any, Type
 

@@ -26,12 +26,13 @@ def symbols(frame: Frame) -> bytes:
     if not isinstance(frame, str):
         numbers = bytes(frame)
         if any(number > 3 for number in numbers):
-            raise ValueError("bad frame numbers: 0 to 3 may stand there; letters are given as a str")
+            raise ValueError("bad frame numbers: 0 to 3 may stand there; letters come as a str")
         return numbers
     for place, letter in enumerate(frame, 1):
         if letter != " " and letter not in LETTERS:
             raise ValueError(
-                f"bad frame text: character {place} is {letter!r}; P, 0, 1, ? and blanks may stand there"
+                f"bad frame text: character {place} is {letter!r};"
+                " P, 0, 1, ? and blanks may stand there"
             )
     return bytes(LETTERS.index(letter) for letter in frame if letter != " ")
 
@@ -119,7 +120,8 @@ class Coded:
 
     def __str__(self) -> str:
         clock = f"{self.hour:02}:{self.minute:02}:{self.second:02}"
-        return f"coded {2000 + self.year}-{self.day:03} {clock} control {self.control} sbs {self.sbs}"
+        date = f"{2000 + self.year}-{self.day:03}"
+        return f"coded {date} {clock} control {self.control} sbs {self.sbs}"
 
     def held(self) -> c.Coded:
         """The coded time as C holds it."""
@@ -131,8 +133,8 @@ def _coded_held(held: c.Coded) -> Coded:
 
 
 def encode(time: Union[Coded, Time]) -> str:
-    """The frame of a coded time, its elements without a field 0. Of a second, its frame by a clock in
-    UTC, as `irig frame TIME` prints it."""
+    """The frame of a coded time, its elements without a field 0. Of a second, its frame by a clock
+    in UTC, as `irig frame TIME` prints it."""
     if not isinstance(time, Coded):
         return frame(time)
     held = c.Symbols()
@@ -141,16 +143,16 @@ def encode(time: Union[Coded, Time]) -> str:
 
 
 def decode(frame: Frame) -> Coded:
-    """What a frame codes, or its first fault, `Short` to `Range`. Parity and straight binary seconds
-    are not compared: `read` does that."""
+    """What a frame codes, or its first fault, `Short` to `Range`. Parity and straight binary
+    seconds are not compared: `read` does that."""
     numbers, held = symbols(frame), c.Coded()
     check(c.decode(numbers, len(numbers), held))
     return _coded_held(held)
 
 
 def coded(time: Time, local: int = 0, control: Control = Control()) -> Coded:
-    """The coded time of a second by a clock that is `local` half hours ahead of UTC, -31 to 31, with
-    these control bits."""
+    """The coded time of a second by a clock that is `local` half hours ahead of UTC, -31 to 31,
+    with these control bits."""
     held = c.Coded()
     check(c.coded_of(Second.of(time).held(), fitting(ctypes.c_int8, local, "local"), held))
     held.control = control.pack()
@@ -182,8 +184,8 @@ def frame(
 
 
 def claim(coded: Coded, control: Optional[Control] = None, sense: Sense = "add") -> Claim:
-    """Which second a coded time claims by these control bits, without them by its own; or its fault,
-    `NoSuchDay` to `DeletedSecond`."""
+    """Which second a coded time claims by these control bits, without them by its own; or its
+    fault, `NoSuchDay` to `DeletedSecond`."""
     bits = Control.unpack(coded.control) if control is None else control
     held = c.Claim()
     check(c.claim_of(coded.held(), bits.held(), number_of(sense, Sense, "sense"), held))

@@ -63,8 +63,8 @@ class Silent:
 
 @dataclass(frozen=True)
 class Ports:
-    """What each port of a reader told at its tick `edge`, in the words of docs/OUTPUT.md. The program
-    writes such lines with --ports."""
+    """What each port of a reader told at its tick `edge`, in the words of docs/OUTPUT.md. The
+    program writes such lines with --ports."""
 
     edge: int
     reader: str

@@ -95,8 +95,8 @@ class Second:
 
 @dataclass(frozen=True)
 class Claim:
-    """What a frame claims: the second that began with it, and what it says of the leap second at the
-    end of that day: "insert", "delete", "no-leap", or "unspoken" where nothing is said."""
+    """What a frame claims: the second that began with it, and what it says of the leap second at
+    the end of that day: "insert", "delete", "no-leap", or "unspoken" where nothing is said."""
 
     second: Second
     mark: Mark = "unspoken"

@@ -158,14 +158,17 @@ class Bits(unittest.TestCase):
         self.assertRaises(irig.Fault, irig.encode, irig.Coded(61, 0, 0, 1, 0))
         self.assertRaises(irig.Fault, irig.encode, irig.Coded(256, 0, 0, 1, 0))
         self.assertRaises(irig.Fault, irig.encode, irig.Coded(0, 0, 0, 65537, 0))
-        self.assertEqual(str(irig.coded(PLAIN, local=2)), "coded 2017-001 00:59:59 control 0 sbs 3599")
+        coded = irig.coded(PLAIN, local=2)
+        self.assertEqual(str(coded), "coded 2017-001 00:59:59 control 0 sbs 3599")
 
     def test_widths(self) -> None:
-        bounds = {499: "?", 500: "0", 3499: "0", 3500: "1", 6499: "1", 6500: "P", 9499: "P", 9500: "?"}
-        self.assertEqual({width: irig.classify(width) for width in bounds}, bounds)
+        firsts = {0: "?", 500: "0", 3500: "1", 6500: "P", 9500: "?"}
+        self.assertEqual({width: irig.classify(width) for width in firsts}, firsts)
+        lasts = {499: "?", 3499: "0", 6499: "1", 9499: "P", (1 << 32) - 1: "?"}
+        self.assertEqual({width: irig.classify(width) for width in lasts}, lasts)
         self.assertRaises(irig.Fault, irig.classify, (1 << 32) + 2000)
         self.assertEqual(irig.widths("P01"), [8000, 2000, 5000])
-        self.assertEqual([irig.classify(width) for width in irig.widths("?P01")], ["?", "P", "0", "1"])
+        self.assertEqual("".join(map(irig.classify, irig.widths("?P01"))), "?P01")
 
 
 if __name__ == "__main__":

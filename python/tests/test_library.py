@@ -2,6 +2,7 @@
 from __future__ import annotations
 
 import ctypes
+import re
 import subprocess
 import tempfile
 import unittest
@@ -39,7 +40,8 @@ def laid_out_by_c() -> list[str]:
         program = Path(folder) / "layout"
         words = ["cc", "-DIRIG_NO_NULL_TESTS", f"-I{ROOT}/c", "-x", "c", "-", "-o", program]
         subprocess.run(words, input=source, text=True, check=True)
-        return subprocess.run([program], capture_output=True, text=True, check=True).stdout.splitlines()
+        ran = subprocess.run([program], capture_output=True, text=True, check=True)
+    return ran.stdout.splitlines()
 
 
 def laid_out_by_python() -> list[str]:
@@ -58,8 +60,7 @@ class Layout(unittest.TestCase):
 
     def test_no_structure_is_left_out(self) -> None:
         header = (ROOT / "c/irig.h").read_text()
-        named = {line.split()[2] for line in header.splitlines() if line.startswith("typedef struct")}
-        self.assertEqual(named, set(STRUCTURES))
+        self.assertEqual(set(re.findall(r"^typedef struct (\w+)", header, re.M)), set(STRUCTURES))
 
 
 if __name__ == "__main__":

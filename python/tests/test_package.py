@@ -15,6 +15,12 @@ from program import ROOT, printed
 
 HOOK = "import backend, sys; print(backend.{}(sys.argv[1]))"
 
+# Runs a program where there is no pandas.
+ALONE = """import runpy, sys
+sys.modules["pandas"] = None
+runpy.run_path(sys.argv[1], run_name="__main__")
+"""
+
 
 class Package(unittest.TestCase):
     """Wheels, as `pip` asks for them."""
@@ -40,8 +46,9 @@ class Package(unittest.TestCase):
         with zipfile.ZipFile(wheel) as opened:
             names = set(opened.namelist())
             about = f"irig-{version}.dist-info"
-            self.assertLessEqual({"irig/libirig.so.1", "irig/libirig_scene.so.1", "irig/py.typed"}, names)
-            self.assertLessEqual({f"irig/{path.name}" for path in (ROOT / "python/irig").glob("*.py")}, names)
+            sources = {path.name for path in (ROOT / "python/irig").glob("*.py")}
+            others = {"libirig.so.1", "libirig_scene.so.1", "py.typed"}
+            self.assertLessEqual({f"irig/{name}" for name in sources | others}, names)
             self.assertIn(f"Version: {version}\n", opened.read(f"{about}/METADATA").decode())
             listed = opened.read(f"{about}/RECORD").decode().splitlines()
             self.assertEqual({line.split(",")[0] for line in listed}, names)
@@ -72,15 +79,15 @@ class Example(unittest.TestCase):
     """python/examples/log_to_pandas.py where there is no pandas."""
 
     def ran(self, log: str) -> subprocess.CompletedProcess[str]:
-        code = "import sys, runpy; sys.modules['pandas'] = None; runpy.run_path(sys.argv[1], run_name='__main__')"
-        words = [sys.executable, "-c", code, ROOT / "python/examples/log_to_pandas.py"]
+        words = [sys.executable, "-c", ALONE, ROOT / "python/examples/log_to_pandas.py"]
         return subprocess.run(words, input=log, capture_output=True, text=True)
 
     def test_counts(self) -> None:
         ran = self.ran(printed("run", str(ROOT / "examples/dark_hour.jsonl"), "--all"))
         # docs/OUTPUT.md counts the same log.
-        wanted = ["relay acquiring 8", "relay expired 1", "relay held 10", "relay no-vote 3589", "relay voted 8"]
-        self.assertEqual(ran.stdout.splitlines()[1:], [*wanted, "premises kept"])
+        counts = ("acquiring 8", "expired 1", "held 10", "no-vote 3589", "voted 8")
+        wanted = [*(f"relay {count}" for count in counts), "premises kept"]
+        self.assertEqual(ran.stdout.splitlines()[1:], wanted)
         self.assertRegex(ran.stdout, "^pandas is missing")
 
     def test_no_log(self) -> None:

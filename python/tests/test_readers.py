@@ -149,7 +149,8 @@ class Calls(unittest.TestCase):
             self.assertEqual(caught.exception.number, 26)
 
     def test_tables(self) -> None:
-        Reader(until=date(2099, 12, 30), leaps=[Leap(date(2016, 12, 31)), Leap("2029-06-30", "delete")])
+        known = [Leap(date(2016, 12, 31)), Leap("2029-06-30", "delete")]
+        Reader(until=date(2099, 12, 30), leaps=known)
         ends = [date(2017 + month // 12, month % 12 + 1, 1) for month in range(66)]
         many = [Leap(date.fromordinal(day.toordinal() - 1)) for day in ends]
         Reader(until="2030-01-01", leaps=many[:64])
