@@ -16,6 +16,8 @@ try:
 except ImportError:
     pandas = None
 
+COLUMNS = ["edge", "reader", "second", "utc", "lock", "count", "cause"]
+
 
 def rows(log: irig.Log) -> Iterator[Dict[str, Any]]:
     """The ticks. In a leap second `utc` is no time, as in a silence; `second` has its text."""
@@ -35,7 +37,7 @@ def rows(log: irig.Log) -> Iterator[Dict[str, Any]]:
 
 
 def print_table(log: irig.Log) -> None:
-    table = pandas.DataFrame(rows(log))
+    table = pandas.DataFrame(list(rows(log)), columns=COLUMNS)
     table["utc"] = pandas.to_datetime(table["utc"], utc=True)
     print(table.head(20).to_string(index=False))
     print(table.groupby(["reader", "cause"])["edge"].agg(["count", "min", "max"]))

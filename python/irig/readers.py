@@ -153,7 +153,7 @@ class Reader:
     def pulses(self, port: int, widths_us: Iterable[int]) -> None:
         """Pulses at a port, one after another: the same as `pulse` for each, and faster."""
         try:
-            held = array("I", widths_us)
+            held = array("I", iter(widths_us))  # of bytes too, number by number
         except OverflowError as error:
             raise Fault(VALUE, reason=f"a width is out of its range: {error}") from None
         count = len(held)

@@ -198,7 +198,9 @@ def _verdict(line: str) -> Verdict:
 
 
 def read_log(text: str) -> Log:
-    """The log of this text, as the program prints it. Raises what `run` raises of such a log."""
+    """The log of this text, as the program prints it; its last newline may be missing. Raises what
+    `run` raises of such a log."""
+    text = text if text.endswith("\n") else text + "\n"
     before, _, last = text[:-1].rpartition("\n")
     refusal = REFUSAL.fullmatch(last)
     if refusal:

@@ -103,7 +103,7 @@ class Read(unittest.TestCase):
         frame = irig.frame(PLAIN)
         for form in (frame.replace(" ", ""), irig.symbols(frame), list(irig.symbols(frame))):
             self.assertEqual(irig.decode(form), irig.decode(frame))
-        with self.assertRaises(ValueError):
+        with self.assertRaisesRegex(ValueError, "bad frame numbers"):
             irig.decode(frame.encode())
 
     def test_faults_say_where(self) -> None:

@@ -50,6 +50,9 @@ class Package(unittest.TestCase):
             others = {"libirig.so.1", "libirig_scene.so.1", "py.typed"}
             self.assertLessEqual({f"irig/{name}" for name in sources | others}, names)
             self.assertIn(f"Version: {version}\n", opened.read(f"{about}/METADATA").decode())
+            licences = {path.name for path in ROOT.glob("LICENSE-*")}
+            self.assertLessEqual({f"{about}/{name}" for name in licences}, names)
+            self.assertEqual(len(licences), 2)
             listed = opened.read(f"{about}/RECORD").decode().splitlines()
             self.assertEqual({line.split(",")[0] for line in listed}, names)
             for line in listed[:-1]:

@@ -95,6 +95,16 @@ class BesideTheProgram(unittest.TestCase):
         reader = Reader(1, 100, until="2017-06-30", leaps=[Leap("2016-12-31")])
         self.compare(3, setup, {}, reader)
 
+    def test_a_deleted_second(self) -> None:
+        """Nothing is heard of it: the table alone says that 23:59:59 does not come."""
+        reader = Reader(1, 100, until="2029-06-30", leaps=[Leap("2029-06-30", "delete")])
+        for port in range(3):
+            reader.hear(port, irig.frame("2029-06-30T23:59:00Z"))
+        said = [str(reader.tick()) for _ in range(59)]
+        self.assertEqual(said[-2:], [
+            "2029-06-30T23:59:58Z holdover:57 held", "2029-07-01T00:00:00Z holdover:58 held",
+        ])
+
     def test_the_example_in_c(self) -> None:
         """c/examples/leap_second.c in Python."""
         reader = Reader(lock_after=2, holdover=3600)

@@ -116,7 +116,8 @@ class Refusals(unittest.TestCase):
         self.assertEqual((again.line, again.log), (3, refused.log))
 
     def test_texts_of_bytes(self) -> None:
-        for text in (b"\xff", "\ud800", "{"):
+        surrogate = example("plain_minute") + '{"do":"tick","r":"\ud800"}'
+        for text in (b"\xff", surrogate, "{"):
             with self.subTest(text), self.assertRaises(irig.Refused) as caught:
                 irig.run(text)
             self.assertEqual(caught.exception.name, "Json")
