@@ -2,8 +2,8 @@
  *
  * From the text of a scenario to the text of its log, both in memory: byte for byte what `irig run`
  * writes to standard output. docs/SCENARIOS.md says how a scenario is written, docs/OUTPUT.md what
- * a log says. Link with libirig_scene_c.a (`rt lib` in crates/irig_scene_c) and irig_heap.c, by which
- * a run asks `malloc`, `realloc` and `free` for memory. It gives all of it back, keeps nothing
+ * a log says. Link with libirig_scene_c.a (`rt lib` in crates/irig_scene_c) and irig_heap.c, by
+ * which a run asks `malloc`, `realloc` and `free` for memory. It gives all of it back, keeps nothing
  * between calls, and needs `memcpy`, `memmove` and `memset` of the C library and `__udivti3`, which
  * compilers bring along.
  *
@@ -14,7 +14,7 @@
  * scenario, or are refused.
  *
  * Threads. Calls on different objects may run at the same time, as `malloc` lets them. A line whose
- * JSON is nested as deep as is read, 127, takes 140 KB of stack: give a thread 256 KB.
+ * JSON is nested as deep as is read, 127, takes up to 170 KB of stack: give a thread 256 KB.
  */
 #ifndef IRIG_SCENE_H
 #define IRIG_SCENE_H
