@@ -18,7 +18,7 @@ tried rattle_alloc(size_t size, size_t align);
 tried rattle_realloc(void *block, size_t kept, size_t size, size_t align);
 void rattle_dealloc(void *block);
 
-/* The alignment is 16 at most, which `malloc` gives; of no bytes it asks for as many. */
+/* The alignment is 16 at most, which `malloc` gives. For a size of 0 it asks for as many bytes. */
 tried rattle_alloc(size_t size, size_t align) { return answer(malloc(size ? size : align)); }
 
 tried rattle_realloc(void *block, size_t kept, size_t size, size_t align) {

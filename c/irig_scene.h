@@ -1,19 +1,20 @@
 /* irig_scene.h: the proved runner of scenarios, for C11 and C++.
  *
- * From the text of a scenario to the text of its log, both in memory: what `irig run` prints of the
- * same text, byte for byte. docs/SCENARIOS.md says how a scenario is written, docs/OUTPUT.md what a
- * log says. Link with libirig_scene_c.a (`rt lib` in crates/irig_scene_c) and irig_heap.c, by which
- * a run asks `malloc`, `realloc` and `free` for memory. It gives all of it back, keeps nothing
- * between calls, and needs `memcpy`, `memmove` and `memset` of the C library and `__udivti3`, which
- * compilers bring along.
+ * From the text of a scenario to the text of its log, both in memory: byte for byte what `irig run`
+ * writes to standard output. docs/SCENARIOS.md says how a scenario is written, docs/OUTPUT.md what
+ * a log says. Link with libirig_scene_c.a (`rt lib` in crates/irig_scene_c) and irig_heap.c, by
+ * which a run asks `malloc`, `realloc` and `free` for memory. It gives all of it back, keeps
+ * nothing between calls, and needs `memcpy`, `memmove` and `memset` of the C library and
+ * `__udivti3`, which compilers bring along.
  *
- * Pointers. `text` leads to `count` bytes that no other call writes meanwhile, `log` to `room` bytes
- * and `whole` to one object that no other call reads or writes; the three do not overlap. Of no
- * bytes a pointer may be null; any other null pointer is answered with IRIG_RUN_NULL (see
+ * Pointers. `text` leads to `count` bytes that no other call writes meanwhile, `log` to `room`
+ * bytes and `whole` to one object that no other call reads or writes; the three do not overlap. Of
+ * no bytes a pointer may be null; any other null pointer is answered with IRIG_RUN_NULL (see
  * IRIG_NO_NULL_TESTS at the end). What the text says is no duty of the caller: any bytes are a
  * scenario, or are refused.
  *
- * Threads. Calls on different objects may run at the same time, as `malloc` lets them.
+ * Threads. Calls on different objects may run at the same time, as `malloc` lets them. A line whose
+ * JSON is nested as deep as is read, 127, takes up to 170 KB of stack: give a thread 256 KB.
  */
 #ifndef IRIG_SCENE_H
 #define IRIG_SCENE_H
@@ -39,9 +40,9 @@ enum {
  * were. `*whole` is how many bytes the log has. Where that is more than `room`, nothing is lost but
  * time: call again with so many bytes. A `room` of 0 only asks how many they are.
  *
- * After IRIG_RUN_NO_LOG and IRIG_RUN_NO_MEMORY `*whole` is how many bytes there were until then, and
- * these are the first of the log. A run holds its log in memory of its own too, up to three times
- * as much while it grows. */
+ * After IRIG_RUN_NO_LOG and IRIG_RUN_NO_MEMORY `*whole` is how many bytes there were until then,
+ * and these are the first of the log. A run holds its log in memory of its own too, up to three
+ * times as much while it grows. */
 uint8_t irig_run(const uint8_t *text, size_t count, bool all, uint8_t *log, size_t room,
                  size_t *whole);
 

@@ -1,0 +1,75 @@
+/* Each call of irig.h with each of its pointers null: it answers IRIG_VALUE, or nothing happens. */
+#include "irig.h"
+
+#include <stdio.h>
+#include <stdlib.h>
+
+static irig_coded coded;
+static irig_control control;
+static irig_utc second = {6209, 0};
+static irig_claim claim;
+static irig_setup setup = {.lock_after = 1};
+static irig_table table;
+static irig_reader reader;
+static irig_report report;
+static irig_told told;
+static uint8_t symbols[100];
+static uint32_t word, widths_us[1];
+static char text[20] = "2016-12-31T00:00:00Z";
+
+static void refused(uint32_t answer, const char *call) {
+    if (answer == IRIG_VALUE) return;
+    fprintf(stderr, "%s answers %u\n", call, answer);
+    exit(1);
+}
+
+#define REFUSED(call) refused(call, #call)
+
+static void try_codec(void) {
+    REFUSED(irig_encode(NULL, symbols));
+    REFUSED(irig_encode(&coded, NULL));
+    REFUSED(irig_decode(NULL, 100, &coded));
+    REFUSED(irig_decode(symbols, 100, NULL));
+    REFUSED(irig_control_pack(NULL, &word));
+    REFUSED(irig_control_pack(&control, NULL));
+    REFUSED(irig_control_unpack(0, NULL));
+    if (irig_has_parity(NULL, IRIG_EVEN)) exit(1);
+    irig_set_parity(NULL, IRIG_EVEN);
+}
+
+static void try_seconds(void) {
+    REFUSED(irig_second_next(NULL, IRIG_NO_LEAP, &second));
+    REFUSED(irig_second_next(&second, IRIG_NO_LEAP, NULL));
+    REFUSED(irig_second_write(NULL, text));
+    REFUSED(irig_second_write(&second, NULL));
+    REFUSED(irig_second_read(NULL, 20, &second));
+    REFUSED(irig_second_read(text, 20, NULL));
+    REFUSED(irig_coded_of(NULL, 0, &coded));
+    REFUSED(irig_coded_of(&second, 0, NULL));
+    REFUSED(irig_claim_of(NULL, &control, IRIG_ADD, &claim));
+    REFUSED(irig_claim_of(&coded, NULL, IRIG_ADD, &claim));
+    REFUSED(irig_claim_of(&coded, &control, IRIG_ADD, NULL));
+}
+
+static void try_reader(void) {
+    REFUSED(irig_reader_init(NULL, &setup, &table));
+    REFUSED(irig_reader_init(&reader, NULL, &table));
+    REFUSED(irig_reader_init(&reader, &setup, NULL));
+    REFUSED(irig_reader_pulse(NULL, 0, 2000));
+    REFUSED(irig_reader_pulses(NULL, 0, widths_us, 1));
+    REFUSED(irig_reader_pulses(&reader, 0, NULL, 1));
+    REFUSED(irig_reader_tick(NULL, &report));
+    REFUSED(irig_reader_tick(&reader, NULL));
+    REFUSED(irig_reader_port(NULL, 0, &told));
+    REFUSED(irig_reader_port(&reader, 0, NULL));
+    irig_reader_restart(NULL);
+}
+
+int main(void) {
+    /* Without a null pointer the same calls are done. */
+    if (irig_coded_of(&second, 0, &coded) || irig_reader_init(&reader, &setup, &table)) return 1;
+    try_codec();
+    try_seconds();
+    try_reader();
+    return 0;
+}

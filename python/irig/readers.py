@@ -1,0 +1,219 @@
+"""Readers: the vote over three or five ports, and the counter that holds over."""
+from __future__ import annotations
+
+import ctypes
+from array import array
+from dataclasses import dataclass
+from typing import Iterable, Literal, Optional, Tuple, Union
+
+from . import _library as c
+from .faults import Detail, Fault, MEANINGS, VALUE, check, detail_of, filled, fitting, words_of
+from .frames import Frame, widths
+from .seconds import Claim, Day, Second, claim_held, day_number
+from .words import CAUSES, LOCKS, Cause, Kind, Lock, Parity, Sbs, Sense, number_of
+
+# What a reader's state begins with: another form of its numbers is another word.
+FORM = "irig reader 1"
+
+
+@dataclass(frozen=True)
+class Leap:
+    """A leap second at the end of a month's last day, as a date or a text like 2016-12-31."""
+
+    day: Day
+    kind: Kind = "insert"
+
+
+@dataclass(frozen=True)
+class Report:
+    """What a reader says at an edge. As a text it is the end of a log's line.
+
+    second: the UTC second that begins at this edge; None if the reader is silent
+    lock: "unlocked", "acquiring", "locked" or "holdover"
+    count: the votes so far while it is acquiring, the edges since the last vote in holdover; else 0
+    cause: "voted", "held", "acquiring", "no-vote", "expired", "leap-guard", "jump" or "range-end"
+    """
+
+    second: Optional[Second]
+    lock: Lock
+    count: int
+    cause: Cause
+
+    def __str__(self) -> str:
+        count = f":{self.count}" if self.count else ""
+        return f"{self.second or '-'} {self.lock}{count} {self.cause}"
+
+
+@dataclass(frozen=True)
+class Silence:
+    """A port heard nothing."""
+
+    def __str__(self) -> str:
+        return "silence"
+
+
+@dataclass(frozen=True)
+class Faulty:
+    """A port heard a frame with this fault, by its number in docs/FAULTS.md."""
+
+    number: int
+    detail: Detail = None
+
+    @property
+    def name(self) -> str:
+        """The number's name, as "Parity"."""
+        return MEANINGS[self.number].name
+
+    def __str__(self) -> str:
+        return f"fault {words_of(self.number, self.detail)}"
+
+
+@dataclass(frozen=True)
+class Poor:
+    """A port heard a frame of a quality, 10 to 15, that has no vote."""
+
+    quality: int
+
+    def __str__(self) -> str:
+        return f"poor {self.quality}"
+
+
+# What a port tells. As a text it is the last line of `irig read`.
+Told = Union[Silence, Faulty, Poor, Claim]
+
+
+def _told_held(held: c.Told) -> Told:
+    if held.kind == 0:
+        return Silence()
+    if held.kind == 1:
+        return Faulty(*detail_of(held.fault))
+    return Poor(held.quality) if held.kind == 2 else claim_held(held.claim)
+
+
+def _table(until: Optional[Day], leaps: Iterable[Leap]) -> c.Table:
+    """A leap table as C holds it."""
+    table = c.Table(until=0 if until is None else day_number(until))
+    for leap in leaps:
+        if table.len == len(table.leaps):
+            raise Fault(32)
+        kind = number_of(leap.kind, Kind, "the kind of a leap")
+        table.leaps[table.len] = c.Leap(day_number(leap.day), kind)
+        table.len += 1
+    return table
+
+
+class Reader:
+    """A reader of IRIG-B: frames come to its ports, and at each edge it announces the second that
+    begins, or is silent. While at most one of three ports, or two of five, makes a false claim at
+    an edge, and the leap table is true, each second that it announces is the true one.
+
+    lock_after: votes in a row before it announces, 1 to 60
+    holdover: edges without a vote at which it goes on, 0 to 1,000,000
+    ports: 3 or 5
+    parity: "even" or "odd"
+    sense: "add" or "subtract": what is done with the offset to come from coded time to UTC
+    sbs: "check" or "ignore" the straight binary seconds
+    until: the last day of which `leaps` speaks: up to it there is no other leap second
+    leaps: the leap seconds that it knows beforehand, 64 at most
+
+    It is its numbers and no more: it can be copied and pickled, and goes on from there.
+    """
+
+    def __init__(
+        self,
+        lock_after: int = 2,
+        holdover: int = 3600,
+        *,
+        ports: Literal[3, 5] = 3,
+        parity: Parity = "even",
+        sense: Sense = "add",
+        sbs: Sbs = "check",
+        until: Optional[Day] = None,
+        leaps: Iterable[Leap] = (),
+    ) -> None:
+        if ports not in (3, 5):
+            raise Fault(VALUE, reason=f"ports is {ports!r}; it may be 3 or 5")
+        setup = filled(
+            c.Setup,
+            parity=number_of(parity, Parity, "parity"),
+            sense=number_of(sense, Sense, "sense"),
+            sbs=number_of(sbs, Sbs, "sbs"),
+            redundancy=(3, 5).index(ports),
+            lock_after=lock_after,
+            holdover=holdover,
+        )
+        self._held = c.Reader()
+        check(c.reader_init(self._held, setup, _table(until, leaps)))
+
+    def pulse(self, port: int, width_us: int) -> None:
+        """A pulse at a port, 0 to 2 of three, 0 to 4 of five, so many microseconds wide."""
+        width = fitting(ctypes.c_uint32, width_us, "the width")
+        check(c.reader_pulse(self._held, fitting(ctypes.c_uint8, port, "the port"), width))
+
+    def pulses(self, port: int, widths_us: Iterable[int]) -> None:
+        """Pulses at a port, one after another: the same as `pulse` for each, and faster."""
+        try:
+            held = array("I", iter(widths_us))  # of bytes too, number by number
+        except OverflowError as error:
+            raise Fault(VALUE, reason=f"a width is out of its range: {error}") from None
+        count = len(held)
+        place = (ctypes.c_uint32 * count).from_buffer(held) if count else (ctypes.c_uint32 * 1)()
+        check(c.reader_pulses(self._held, fitting(ctypes.c_uint8, port, "the port"), place, count))
+
+    def hear(self, port: int, frame: Frame) -> None:
+        """The pulses of a frame at a port."""
+        self.pulses(port, widths(frame))
+
+    def tick(self) -> Report:
+        """The edge: what the reader says by what its ports heard since the last. They are then
+        empty."""
+        held = c.Report()
+        check(c.reader_tick(self._held, held))
+        second = Second(held.day, held.sod) if held.announces else None
+        return Report(second, LOCKS[held.lock], held.lock_count, CAUSES[held.cause])
+
+    def port(self, port: int) -> Told:
+        """What a port would tell if the edge came now."""
+        held = c.Told()
+        check(c.reader_port(self._held, fitting(ctypes.c_uint8, port, "the port"), held))
+        return _told_held(held)
+
+    def restart(self) -> None:
+        """Empties the ports, and forgets what was voted."""
+        c.reader_restart(self._held)
+
+    @property
+    def lock_after(self) -> int:
+        """The votes in a row before it announces."""
+        return int(self._held.setup.lock_after)
+
+    @property
+    def holdover(self) -> int:
+        """The edges without a vote at which it goes on."""
+        return int(self._held.setup.holdover)
+
+    @property
+    def ports(self) -> int:
+        """How many ports it has."""
+        return 5 if self._held.setup.redundancy else 3
+
+    def __repr__(self) -> str:
+        return f"Reader(lock_after={self.lock_after}, holdover={self.holdover}, ports={self.ports})"
+
+    def __getstate__(self) -> Tuple[str, bytes]:
+        return FORM, bytes(self._held)
+
+    def __setstate__(self, state: Tuple[str, bytes]) -> None:
+        form, numbers = state
+        if form != FORM or len(numbers) != ctypes.sizeof(c.Reader):
+            raise Fault(VALUE, reason="these are the numbers of a reader of another version")
+        self._held = c.Reader.from_buffer_copy(numbers)
+
+
+def read(
+    frame: Frame, parity: Parity = "even", sense: Sense = "add", sbs: Sbs = "check"
+) -> Told:
+    """What a port tells of a frame: its claim, its fault, or that its quality is poor."""
+    reader = Reader(parity=parity, sense=sense, sbs=sbs)
+    reader.hear(0, frame)
+    return reader.port(0)

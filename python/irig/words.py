@@ -1,0 +1,28 @@
+"""The words of scenarios and logs. Each stands at the place of the number by which C knows it."""
+from __future__ import annotations
+
+from typing import Any, Literal, Sequence, Tuple, get_args
+
+from .faults import VALUE, Fault
+
+Parity = Literal["even", "odd"]
+Sense = Literal["add", "subtract"]
+Sbs = Literal["check", "ignore"]
+Kind = Literal["insert", "delete"]
+Mark = Literal["unspoken", "no-leap", "insert", "delete"]
+Lock = Literal["unlocked", "acquiring", "locked", "holdover"]
+Cause = Literal[
+    "voted", "held", "acquiring", "no-vote", "expired", "leap-guard", "jump", "range-end"
+]
+
+MARKS: Tuple[Mark, ...] = get_args(Mark)
+LOCKS: Tuple[Lock, ...] = get_args(Lock)
+CAUSES: Tuple[Cause, ...] = get_args(Cause)
+
+
+def number_of(word: str, words: Any, what: str) -> int:
+    """The number of a word, where `words` is the type that has it."""
+    known: Sequence[str] = get_args(words)
+    if word not in known:
+        raise Fault(VALUE, reason=f"{what} is {word!r}; it may be {', '.join(known)}")
+    return known.index(word)

@@ -1,0 +1,67 @@
+"""The structures, beside those of c/irig.h as a C compiler lays them out."""
+from __future__ import annotations
+
+import ctypes
+import re
+import subprocess
+import tempfile
+import unittest
+from pathlib import Path
+
+from irig import _library
+from program import ROOT
+
+STRUCTURES = {
+    "irig_coded": _library.Coded,
+    "irig_control": _library.Control,
+    "irig_utc": _library.Utc,
+    "irig_claim": _library.Claim,
+    "irig_setup": _library.Setup,
+    "irig_leap": _library.Leap,
+    "irig_table": _library.Table,
+    "irig_state": _library.State,
+    "irig_tally": _library.Tally,
+    "irig_reader": _library.Reader,
+    "irig_report": _library.Report,
+    "irig_told": _library.Told,
+}
+
+
+def laid_out_by_c() -> list[str]:
+    """The size of each structure, and place and size of each field."""
+    lines = []
+    for name, structure in STRUCTURES.items():
+        lines.append(f'printf("{name} %zu\\n", sizeof({name}));')
+        for field, *_ in structure._fields_:
+            value = f"offsetof({name}, {field}), sizeof((({name} *)0)->{field})"
+            lines.append(f'printf("{name} {field} %zu %zu\\n", {value});')
+    source = '#include "irig.h"\n#include <stdio.h>\nint main(void) {' + "\n".join(lines) + "}\n"
+    with tempfile.TemporaryDirectory() as folder:
+        program = Path(folder) / "layout"
+        words = ["cc", "-DIRIG_NO_NULL_TESTS", f"-I{ROOT}/c", "-x", "c", "-", "-o", program]
+        subprocess.run(words, input=source, text=True, check=True)
+        ran = subprocess.run([program], capture_output=True, text=True, check=True)
+    return ran.stdout.splitlines()
+
+
+def laid_out_by_python() -> list[str]:
+    lines = []
+    for name, structure in STRUCTURES.items():
+        lines.append(f"{name} {ctypes.sizeof(structure)}")
+        for field, *_ in structure._fields_:
+            place = getattr(structure, field)
+            lines.append(f"{name} {field} {place.offset} {place.size}")
+    return lines
+
+
+class Layout(unittest.TestCase):
+    def test_layout(self) -> None:
+        self.assertEqual(laid_out_by_python(), laid_out_by_c())
+
+    def test_no_structure_is_left_out(self) -> None:
+        header = (ROOT / "c/irig.h").read_text()
+        self.assertEqual(set(re.findall(r"^typedef struct (\w+)", header, re.M)), set(STRUCTURES))
+
+
+if __name__ == "__main__":
+    unittest.main()

@@ -1,0 +1,103 @@
+"""The builder of the package, and its example."""
+from __future__ import annotations
+
+import base64
+import hashlib
+import shutil
+import subprocess
+import sys
+import tempfile
+import unittest
+import zipfile
+from pathlib import Path
+
+from program import ROOT, printed
+
+HOOK = "import backend, sys; print(backend.{}(sys.argv[1]))"
+
+# Runs a program where there is no pandas.
+ALONE = """import runpy, sys
+sys.modules["pandas"] = None
+runpy.run_path(sys.argv[1], run_name="__main__")
+"""
+
+
+class Package(unittest.TestCase):
+    """Wheels, as `pip` asks for them."""
+
+    def setUp(self) -> None:
+        folder = tempfile.TemporaryDirectory()
+        self.addCleanup(folder.cleanup)
+        self.folder = Path(folder.name)
+
+    def hook(self, name: str, folder: Path, root: Path = ROOT) -> subprocess.CompletedProcess[str]:
+        words = [sys.executable, "-c", HOOK.format(name), str(folder)]
+        return subprocess.run(words, cwd=root / "python", capture_output=True, text=True)
+
+    def wheel(self, name: str) -> Path:
+        ran = self.hook(name, self.folder)
+        self.assertEqual(ran.returncode, 0, ran.stderr)
+        return self.folder / ran.stdout.splitlines()[-1]
+
+    def test_wheel(self) -> None:
+        wheel = self.wheel("build_wheel")
+        version = printed("--version").split()[1]
+        self.assertRegex(wheel.name, rf"^irig-{version}-py3-none-linux_\w+\.whl$")
+        with zipfile.ZipFile(wheel) as opened:
+            names = set(opened.namelist())
+            about = f"irig-{version}.dist-info"
+            sources = {path.name for path in (ROOT / "python/irig").glob("*.py")}
+            others = {"libirig.so.1", "libirig_scene.so.1", "py.typed"}
+            self.assertLessEqual({f"irig/{name}" for name in sources | others}, names)
+            self.assertIn(f"Version: {version}\n", opened.read(f"{about}/METADATA").decode())
+            licences = {path.name for path in ROOT.glob("LICENSE-*")}
+            self.assertLessEqual({f"{about}/{name}" for name in licences}, names)
+            self.assertEqual(len(licences), 2)
+            listed = opened.read(f"{about}/RECORD").decode().splitlines()
+            self.assertEqual({line.split(",")[0] for line in listed}, names)
+            for line in listed[:-1]:
+                name, digest, size = line.split(",")
+                data = opened.read(name)
+                wanted = base64.urlsafe_b64decode(digest.partition("=")[2] + "=")
+                self.assertEqual((hashlib.sha256(data).digest(), len(data)), (wanted, int(size)))
+
+    def test_the_same_wheel_each_time(self) -> None:
+        first = self.wheel("build_wheel").read_bytes()
+        self.assertEqual(self.wheel("build_wheel").read_bytes(), first)
+
+    def test_editable(self) -> None:
+        with zipfile.ZipFile(self.wheel("build_editable")) as opened:
+            self.assertEqual(opened.read("irig.pth").decode(), f"{ROOT / 'python'}\n")
+
+    def test_a_library_that_is_missing(self) -> None:
+        for name in ("python", "docs", "c"):
+            ignored = shutil.ignore_patterns("out", "__pycache__")
+            shutil.copytree(ROOT / name, self.folder / name, ignore=ignored)
+        ran = self.hook("build_wheel", self.folder, self.folder)
+        self.assertEqual((ran.returncode, ran.stdout), (1, ""))
+        self.assertRegex(ran.stderr, r"^crates/irig_c/out/libirig_c.a is missing. `make -C c`")
+
+
+class Example(unittest.TestCase):
+    """python/examples/log_to_pandas.py where there is no pandas."""
+
+    def ran(self, log: str) -> subprocess.CompletedProcess[str]:
+        words = [sys.executable, "-c", ALONE, ROOT / "python/examples/log_to_pandas.py"]
+        return subprocess.run(words, input=log, capture_output=True, text=True)
+
+    def test_counts(self) -> None:
+        ran = self.ran(printed("run", str(ROOT / "examples/dark_hour.jsonl"), "--all"))
+        # docs/OUTPUT.md counts the same log.
+        counts = ("acquiring 8", "expired 1", "held 10", "no-vote 3589", "voted 8")
+        wanted = [*(f"relay {count}" for count in counts), "premises kept"]
+        self.assertEqual(ran.stdout.splitlines()[1:], wanted)
+        self.assertRegex(ran.stdout, "^pandas is missing")
+
+    def test_no_log(self) -> None:
+        ran = self.ran("nothing\n")
+        self.assertEqual((ran.returncode, ran.stdout), (1, ""))
+        self.assertRegex(ran.stderr, r"\Alog_to_pandas: [^\n]+\n\Z")
+
+
+if __name__ == "__main__":
+    unittest.main()

@@ -1,0 +1,213 @@
+"""Readers, beside those of the program: the same pulses give the same log."""
+from __future__ import annotations
+
+import copy
+import json
+import pickle
+import random
+import unittest
+from datetime import date
+
+import irig
+from irig import Leap, Reader, Second
+from program import ROOT, printed
+
+LEAPS = [{"day": "2016-12-31", "kind": "insert"}]
+
+
+def plant(reader: dict, ports: int = 3, **words: str) -> dict:
+    """The plant line of a scenario with this reader."""
+    return {
+        "version": 3,
+        "start": "2016-12-31T23:58:00Z",
+        "leaps": LEAPS,
+        "parity": "even",
+        "sense": "add",
+        "sbs": "check",
+        "generators": [{"local": 0}] * ports,
+        "readers": [{"name": "relay", "lock_after": 2, "holdover": 20, **reader}],
+        **words,
+    }
+
+
+def seconds_from(second: Second, count: int) -> list[Second]:
+    """So many seconds in a row, over the leap second of 2016."""
+    found = [second]
+    while len(found) < count:
+        following = found[-1].next("insert" if found[-1].day == 6209 else "no-leap")
+        assert following is not None
+        found.append(following)
+    return found
+
+
+class BesideTheProgram(unittest.TestCase):
+    """What a reader hears is random: true frames, none, old ones, and damaged ones."""
+
+    def pulses(self, source: random.Random, second: Second, **words: str) -> list[int]:
+        """The widths that come to a port in a second, mostly those of its frame."""
+        if source.random() < 0.2:
+            return []
+        if source.random() < 0.1:
+            second = Second(second.day, source.randrange(86_340))
+        pending = "insert" if str(second)[:17] == "2016-12-31T23:59:" else None
+        widths = irig.widths(irig.frame(second, source.choice((0, 2, -7)), pending, **words))
+        if source.random() < 0.2:
+            widths[source.randrange(100)] = source.randrange(12_000)
+        return widths[: source.randrange(102)] if source.random() < 0.05 else widths
+
+    def compare(self, seed: int, setup: dict, words: dict, reader: Reader) -> None:
+        """The log of a plant and the reports of a reader, for the same pulses."""
+        source = random.Random(seed)
+        lines: list[dict] = [plant(setup, reader.ports, **words)]
+        told = []
+        parity, sense = words.get("parity", "even"), words.get("sense", "add")
+        for edge, second in enumerate(seconds_from(Second.read("2016-12-31T23:58:00Z"), 150), 1):
+            for port in range(reader.ports):
+                widths = self.pulses(source, second, parity=parity, sense=sense)
+                lines.append({"do": "raw", "g": port, "r": "relay", "widths": widths})
+                reader.pulses(port, widths)
+            lines.append({"do": "tick", "r": "relay"})
+            told.append(f"{edge} relay {reader.tick()}")
+        log = printed("run", "-", "--all", text="\n".join(map(json.dumps, lines)))
+        self.assertEqual(told, log.splitlines()[:-1])
+        causes = {line.split()[-1] for line in told}
+        self.assertLessEqual({"voted", "held"}, causes)
+
+    def test_three_ports(self) -> None:
+        for seed in range(10):
+            with self.subTest(seed):
+                self.compare(seed, {}, {}, Reader(2, 20))
+
+    def test_five_ports(self) -> None:
+        for seed in range(5):
+            with self.subTest(seed):
+                setup = {"lock_after": 3, "holdover": 1}
+                self.compare(seed, setup, {}, Reader(3, 1, ports=5))
+
+    def test_profiles(self) -> None:
+        words = {"parity": "odd", "sense": "subtract", "sbs": "ignore"}
+        for seed in range(3):
+            with self.subTest(seed):
+                self.compare(seed, {"lock_after": 1}, words, Reader(1, 20, **words))
+
+    def test_tables(self) -> None:
+        setup = {"lock_after": 1, "holdover": 100, "table": {"until": "2017-06-30", "leaps": LEAPS}}
+        reader = Reader(1, 100, until="2017-06-30", leaps=[Leap("2016-12-31")])
+        self.compare(3, setup, {}, reader)
+
+    def test_a_deleted_second(self) -> None:
+        """Nothing is heard of it: the table alone says that 23:59:59 does not come."""
+        reader = Reader(1, 100, until="2029-06-30", leaps=[Leap("2029-06-30", "delete")])
+        for port in range(3):
+            reader.hear(port, irig.frame("2029-06-30T23:59:00Z"))
+        said = [str(reader.tick()) for _ in range(59)]
+        self.assertEqual(said[-2:], [
+            "2029-06-30T23:59:58Z holdover:57 held", "2029-07-01T00:00:00Z holdover:58 held",
+        ])
+
+    def test_the_example_in_c(self) -> None:
+        """c/examples/leap_second.c in Python."""
+        reader = Reader(lock_after=2, holdover=3600)
+        said = []
+        for edge, second in enumerate(seconds_from(Second.read("2016-12-31T23:59:56Z"), 6), 1):
+            for port in range(3 if edge <= 3 else 0):
+                reader.hear(port, irig.frame(second, pending="insert"))
+            said.append(f"{edge} relay {reader.tick()}\n")
+        log = printed("run", str(ROOT / "c/examples/leap_second.jsonl"), "--all")
+        self.assertEqual("".join(said), log.replace("premises kept\n", ""))
+        self.assertIn("4 relay 2016-12-31T23:59:60Z holdover:1 held\n", said)
+
+
+class Calls(unittest.TestCase):
+    """What a reader takes, and what it is."""
+
+    def test_pulse_by_pulse(self) -> None:
+        frame = irig.frame("2020-02-29T12:00:00Z")
+        one, all_at_once = Reader(), Reader()
+        for width in irig.widths(frame):
+            one.pulse(1, width)
+        all_at_once.pulses(1, irig.widths(frame))
+        self.assertEqual(one.port(1), irig.read(frame))
+        self.assertEqual(all_at_once.port(1), irig.Claim(Second.read("2020-02-29T12:00:00Z")))
+        self.assertEqual(one.port(0), irig.Silence())
+        one.restart()
+        self.assertEqual(one.port(1), irig.Silence())
+
+    def test_what_is_out_of_range(self) -> None:
+        reader = Reader()
+        for port in (3, -1, 256):
+            with self.subTest(port):
+                self.assertRaises(irig.Fault, reader.pulse, port, 2000)
+                self.assertRaises(irig.Fault, reader.pulses, port, [2000])
+                self.assertRaises(irig.Fault, reader.pulses, port, [])
+                self.assertRaises(irig.Fault, reader.port, port)
+        for width in (-1, 1 << 32):
+            self.assertRaises(irig.Fault, reader.pulse, 0, width)
+            self.assertRaises(irig.Fault, reader.pulses, 0, [width])
+        self.assertEqual([reader.port(port) for port in range(3)], [irig.Silence()] * 3)
+
+    def test_setups(self) -> None:
+        self.assertEqual(repr(Reader(60, 1_000_000, ports=5)),
+                         "Reader(lock_after=60, holdover=1000000, ports=5)")
+        for words in (
+            {"lock_after": 0}, {"lock_after": 61}, {"lock_after": 258}, {"holdover": 1_000_001},
+            {"holdover": -1}, {"holdover": 1 << 32}, {"ports": 4}, {"parity": "none"},
+            {"sense": "plus"}, {"sbs": "no"},
+        ):
+            with self.subTest(words), self.assertRaises(irig.Fault) as caught:
+                Reader(**words)
+            self.assertEqual(caught.exception.number, 26)
+
+    def test_tables(self) -> None:
+        known = [Leap(date(2016, 12, 31)), Leap("2029-06-30", "delete")]
+        Reader(until=date(2099, 12, 30), leaps=known)
+        ends = [date(2017 + month // 12, month % 12 + 1, 1) for month in range(66)]
+        many = [Leap(date.fromordinal(day.toordinal() - 1)) for day in ends]
+        Reader(until="2030-01-01", leaps=many[:64])
+        for number, until, leaps in (
+            (31, "2099-12-31", []),
+            (32, "2030-01-01", many[:65]),
+            (33, "2030-01-01", [Leap("2016-12-30")]),
+            (33, "2016-12-30", [Leap("2016-12-31")]),
+            (33, None, [Leap("2016-12-31")]),
+            (34, "2030-01-01", [Leap("2016-12-31"), Leap("2016-12-31", "delete")]),
+            (26, "1999-12-31", []),
+        ):
+            with self.subTest(number), self.assertRaises(irig.Fault) as caught:
+                Reader(until=until, leaps=leaps)
+            self.assertEqual(caught.exception.number, number)
+
+
+class Copies(unittest.TestCase):
+    """A reader is its numbers."""
+
+    def locked(self) -> Reader:
+        """A reader that announced 12:00:02, and heard two ports since."""
+        reader = Reader()
+        for second in seconds_from(Second.read("2020-02-29T12:00:00Z"), 3):
+            for port in range(3):
+                reader.hear(port, irig.frame(second))
+            if second.sod < 43_202:
+                reader.tick()
+        return reader
+
+    def test_copies_go_on_alone(self) -> None:
+        reader = self.locked()
+        twins = [copy.copy(reader), copy.deepcopy(reader), pickle.loads(pickle.dumps(reader))]
+        reader.restart()
+        self.assertIsNone(reader.tick().second)
+        for twin in twins:
+            self.assertEqual(str(twin.tick()), "2020-02-29T12:00:03Z locked voted")
+            self.assertEqual(repr(twin), repr(reader))
+
+    def test_numbers_of_no_reader(self) -> None:
+        form, numbers = self.locked().__getstate__()
+        reader = Reader()
+        self.assertRaises(irig.Fault, reader.__setstate__, ("another", numbers))
+        self.assertRaises(irig.Fault, reader.__setstate__, (form, numbers[:-1]))
+        reader.__setstate__((form, bytes([255]) * len(numbers)))
+        self.assertRaises(irig.Fault, reader.tick)
+
+
+if __name__ == "__main__":
+    unittest.main()
