@@ -2,7 +2,8 @@
  *
  * IRIG Standard 200-16, format B, code B004, with the control bits of IEEE 1344-1995. Link with
  * libirig_c.a (`rt lib` in crates/irig_c). It asks for no memory, keeps nothing between calls, and
- * needs `memcpy` and `memset` of the C library and `__udivti3`, which compilers bring along.
+ * needs `memcpy`, `memmove` and `memset` of the C library and `__udivti3`, which compilers bring
+ * along. A call takes less than 2 KB of stack.
  *
  * Pointers. A pointer must lead to one whole, aligned object that no other call reads or writes
  * meanwhile. A null pointer is answered with IRIG_VALUE (see IRIG_NO_NULL_TESTS at the end). What a
