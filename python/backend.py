@@ -21,8 +21,8 @@ def version() -> str:
     """The version, which the manual has."""
     if not (ROOT / "docs/irig.1").exists():
         sys.exit(
-            f"{HERE} is not in a checkout of irig. Before its version 21.3 `pip` copies the folder away"
-            " first: `pip install --upgrade pip`, then install this package again."
+            f"{HERE} is not in a checkout of irig. Before its version 21.3 `pip` copies the folder"
+            " away first: `pip install --upgrade pip`, then install this package again."
         )
     manual = (ROOT / "docs/irig.1").read_text()
     found = re.search(r'^\.TH .*"irig ([0-9.]+)"', manual, re.MULTILINE)

@@ -198,9 +198,10 @@ def _verdict(line: str) -> Verdict:
 
 
 def read_log(text: str) -> Log:
-    """The log of this text, as the program prints it; its last newline may be missing. Raises what
-    `run` raises of such a log."""
-    text = text if text.endswith("\n") else text + "\n"
+    """The log of this text, as the program prints it, whole. Raises what `run` raises of such a
+    log."""
+    if not text.endswith("\n"):
+        raise ValueError("this is no whole log: its last line has no end")
     before, _, last = text[:-1].rpartition("\n")
     refusal = REFUSAL.fullmatch(last)
     if refusal:

@@ -77,6 +77,13 @@ class Package(unittest.TestCase):
         self.assertEqual((ran.returncode, ran.stdout), (1, ""))
         self.assertRegex(ran.stderr, r"^crates/irig_c/out/libirig_c.a is missing. `make -C c`")
 
+    def test_a_folder_alone(self) -> None:
+        ignored = shutil.ignore_patterns("__pycache__")
+        shutil.copytree(ROOT / "python", self.folder / "python", ignore=ignored)
+        ran = self.hook("build_wheel", self.folder, self.folder)
+        self.assertEqual((ran.returncode, ran.stdout), (1, ""))
+        self.assertRegex(ran.stderr, "is not in a checkout of irig")
+
 
 class Example(unittest.TestCase):
     """python/examples/log_to_pandas.py where there is no pandas."""

@@ -130,6 +130,8 @@ class Calls(unittest.TestCase):
         self.assertEqual(one.port(1), irig.read(frame))
         self.assertEqual(all_at_once.port(1), irig.Claim(Second.read("2020-02-29T12:00:00Z")))
         self.assertEqual(one.port(0), irig.Silence())
+        one.pulses(0, bytes([200] * 4))  # four widths, not one of four bytes
+        self.assertEqual(one.port(0), irig.Faulty(1, 4))
         one.restart()
         self.assertEqual(one.port(1), irig.Silence())
 

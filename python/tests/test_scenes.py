@@ -91,7 +91,8 @@ class Logs(unittest.TestCase):
         self.assertIn(Ports(9, "relay", ("ok", "insert", "ok")), log.entries)
 
     def test_texts_that_are_no_log(self) -> None:
-        for text in ("", "1 relay - unlocked no-vote\n", "premises\n"):
+        broken = "premises broken: edge 5 reader rel"  # ay, and the end of the line
+        for text in ("", "1 relay - unlocked no-vote\n", "premises\n", "premises kept", broken):
             with self.subTest(text):
                 self.assertRaises(ValueError, irig.read_log, text)
         for line in ("1 relay", "1 relay -", "1 relay - open no-vote", "1 relay - unlocked no"):
