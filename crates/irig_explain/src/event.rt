@@ -65,9 +65,11 @@ fn find_reader(reason: &mut Reason, value: &Value, standing: &Standing<'_>) {
 }
 
 fn find_generator(reason: &mut Reason, value: &Value, standing: &Standing<'_>) {
-    if let Some(item) = value.get("g") {
+    if let Some(last) = standing.edges.len().checked_sub(1)
+        && let Some(item) = value.get("g")
+    {
         reason.stands(Place::Line, "g", item);
-        reason.range(0, standing.edges.len().saturating_sub(1) as i128);
+        reason.range(0, last as i128);
         reason.may_stand();
     }
 }
