@@ -10,7 +10,7 @@
 #include <string.h>
 #include <unistd.h>
 
-enum { RUNS, REQUESTS, REFUSED, MEMORY, WHOLE, FAILED };
+enum { RUNS, REQUESTS, REFUSED, MEMORY, WHOLE, FAILED = COUNTS - 1 };
 
 static const char *object;
 static const char *scratch;

@@ -40,7 +40,7 @@ int is_front(struct bytes front, struct bytes whole);
 // Says that a run was not as it has to be, with a word on what was made of it.
 void fail(const struct run *run, const char *what, const struct outcome *outcome);
 
-enum { COUNTS = 6 };
+enum { COUNTS = 9 };
 
 // What a sweep counts; the last is how many runs failed.
 extern unsigned long counts[COUNTS];
