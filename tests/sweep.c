@@ -3,10 +3,12 @@
 
 #include <errno.h>
 #include <fcntl.h>
+#include <signal.h>
 #include <stdio.h>
 #include <stdlib.h>
 #include <string.h>
 #include <sys/mman.h>
+#include <sys/prctl.h>
 #include <sys/wait.h>
 #include <unistd.h>
 
@@ -131,6 +133,7 @@ static int next_run(FILE *runs, struct run *run) {
 
 static void work(char *program, int job, int result, void (*judge)(const struct run *)) {
     FILE *runs = fopen("/dev/stdin", "r");
+    prctl(PR_SET_PDEATHSIG, SIGKILL);
     struct run run = {.words = {program}};
     if (runs == NULL) {
         stop("the runs");
