@@ -151,15 +151,14 @@ IRIG_ASSERT(sizeof(irig_state) == 16 && offsetof(irig_state, day) == 4);
 
 /* What a port heard since the last edge: a bit for each symbol. */
 typedef struct irig_tally {
-    uint32_t count;   /* how many symbols, 101 at most */
-    uint32_t ones;    /* how many of the ones the parity counts */
-    uint64_t time;    /* bit i is a one at element i, 0 to 59 */
-    uint64_t control; /* bit i is a one at element 60 + i */
+    uint32_t count;     /* how many symbols, 101 at most */
     uint8_t wrong_kind; /* 0 none, 3 a bad pulse, any other a marker fault */
     uint8_t wrong_element;
+    uint64_t time;    /* bit i is a one at element i, 0 to 59 */
+    uint64_t control; /* bit i is a one at element 60 + i */
 } irig_tally;
-IRIG_ASSERT(sizeof(irig_tally) == 32 && offsetof(irig_tally, time) == 8 &&
-            offsetof(irig_tally, control) == 16 && offsetof(irig_tally, wrong_kind) == 24);
+IRIG_ASSERT(sizeof(irig_tally) == 24 && offsetof(irig_tally, wrong_kind) == 4 &&
+            offsetof(irig_tally, time) == 8 && offsetof(irig_tally, control) == 16);
 
 /* A reader. It may be copied, kept in a file of the same machine and taken up again. */
 typedef struct irig_reader {
@@ -168,7 +167,7 @@ typedef struct irig_reader {
     irig_state state;
     irig_tally ports[5]; /* of three ports the last two are fed nothing */
 } irig_reader;
-IRIG_ASSERT(sizeof(irig_reader) == 712 && offsetof(irig_reader, table) == 12 &&
+IRIG_ASSERT(sizeof(irig_reader) == 672 && offsetof(irig_reader, table) == 12 &&
             offsetof(irig_reader, state) == 532 && offsetof(irig_reader, ports) == 552);
 
 enum { IRIG_UNLOCKED = 0, IRIG_ACQUIRING = 1, IRIG_LOCKED = 2, IRIG_HOLDOVER = 3 };

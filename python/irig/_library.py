@@ -77,11 +77,10 @@ class State(Structure):
 class Tally(Structure):
     _fields_ = [
         ("count", c_uint32),
-        ("ones", c_uint32),
-        ("time", c_uint64),
-        ("control", c_uint64),
         ("wrong_kind", c_uint8),
         ("wrong_element", c_uint8),
+        ("time", c_uint64),
+        ("control", c_uint64),
     ]
 
 

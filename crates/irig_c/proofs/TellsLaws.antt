@@ -1,5 +1,5 @@
 -- What the ports of a reader tell.
-use Rattle.std.proofs.Common.{◌≡◌, ℕ, List, ◌∙◌, refl}
+use Rattle.std.proofs.Common.{◌≡◌, ℕ, List, ◌∙◌, refl, arith}
 use Rattle.irig_time.specs.declared.rules.Rules.{Rules}
 use Rattle.irig_port.specs.Heard.{symbols_heard}
 use Rattle.irig_port.specs.Told.{told_of_widths}
@@ -9,12 +9,12 @@ use Rattle.irig_port.proofs.HeardLaws.{told_of-heard}
 use Rattle.irig_port.proofs.NumberLaws.{tally_tells}
 use Rattle.irig_reader.specs.History.{ReaderHistory, told_at_tick}
 use Rattle.irig_c.specs.declared.reader.IrigReader.{IrigReader}
-use Rattle.irig_c.specs.Readers.{IsReaderOf, tells_in}
+use Rattle.irig_c.specs.Readers.{IsReaderOf, tally_at, tells_in}
 
 heard_tells : (rules : Rules) (t : Tally) (widths : List ℕ) → IsTallyOf t (symbols_heard widths) → tally_told rules t ≡ told_of_widths rules widths
 heard_tells rules t widths h = tally_tells rules t (symbols_heard widths) h ∙ told_of-heard rules widths
 
 pub tells_are : (r : IrigReader) (h : ReaderHistory) → IsReaderOf r h → tells_in r ≡ told_at_tick h
 tells_are r h s =
-    rw (s.rules, heard_tells h.rules r.a h.fed.a s.a, heard_tells h.rules r.b h.fed.b s.b, heard_tells h.rules r.c h.fed.c s.c, heard_tells h.rules r.d h.fed.d s.d, heard_tells h.rules r.e h.fed.e s.e)
+    rw (s.rules, heard_tells h.rules (tally_at r.ports 0) h.fed.a (s.heard 0 (omega arith)), heard_tells h.rules (tally_at r.ports 1) h.fed.b (s.heard 1 (omega arith)), heard_tells h.rules (tally_at r.ports 2) h.fed.c (s.heard 2 (omega arith)), heard_tells h.rules (tally_at r.ports 3) h.fed.d (s.heard 3 (omega arith)), heard_tells h.rules (tally_at r.ports 4) h.fed.e (s.heard 4 (omega arith)))
     refl

@@ -5,17 +5,17 @@ ghost use Rattle.irig_time.specs.Seconds.{IsValid};
 ghost use Rattle.irig_vote.specs.Vote.{ports_in, vote_of, AreOfUtc};
 ghost use Rattle.irig_reader.specs.Rule.{step_of};
 ghost use Rattle.irig_reader.specs.Rules.{IsReaderRules};
-ghost use Rattle.irig_reader.specs.History.{ReaderHistory, new_history, after_pulse, after_pulses, after_tick, after_restart, report_at_tick};
+ghost use Rattle.irig_reader.specs.History.{Fed, no_pulses, with_width, with_widths, ReaderHistory, new_history, after_pulse, after_pulses, after_tick, after_restart, report_at_tick};
 ghost use Rattle.irig_c.specs.declared.state.TheConstants.{IDLE};
 ghost use Rattle.irig_c.specs.Setups.{rules_in, own_in, redundancy_in};
 ghost use Rattle.irig_c.specs.LeapTables.{table_in, IsTable, code_of_table};
 ghost use Rattle.irig_c.specs.States.{state_in, IsState};
 ghost use Rattle.irig_c.specs.Reports.{report_in, told_in};
-ghost use Rattle.irig_c.specs.Readers.{IsReaderOf, IsSilent, tally_at, tells_in, told_at, step_in};
+ghost use Rattle.irig_c.specs.Readers.{IsReaderOf, HaveHeard, tells_in, told_at, step_in};
 
 use crate::fault::OUT_OF_RANGE;
 use crate::report::{IrigReport, IrigTold, report_for_c, told_for_c};
-use crate::setup::{IrigSetup, own_of, redundancy_of, rules_of};
+use crate::setup::{IrigSetup, is_port, own_of, redundancy_of, rules_of};
 use crate::state::{IDLE, IrigState, state_for_c, state_of};
 use crate::table::{IrigTable, table_fault};
 use irig_port::Tally;
@@ -32,16 +32,8 @@ pub struct IrigReader {
     pub table: IrigTable,
     /// Where it stands.
     pub state: IrigState,
-    /// What port 0 heard since the last edge.
-    pub a: Tally,
-    /// What port 1 heard.
-    pub b: Tally,
-    /// What port 2 heard.
-    pub c: Tally,
-    /// What port 3 heard, of five.
-    pub d: Tally,
-    /// What port 4 heard, of five.
-    pub e: Tally,
+    /// What each port heard since the last edge, of three ports the first three.
+    pub ports: [Tally; 5],
 }
 
 /// Makes a reader to which nothing has happened. 26 if a rule of the setup is out of its range; 31
@@ -79,26 +71,20 @@ pub extern "C" fn irig_reader_pulse(reader: &mut IrigReader, port: u8, width_us:
     ensures fed { result ≡ 0 → (h : ReaderHistory) → IsReaderOf reader.old h
         → IsReaderOf reader.new (after_pulse h port width_us) }
 {
-    if port >= redundancy_of(&reader.setup).ports() {
+    if !is_port(&reader.setup, port) {
         return OUT_OF_RANGE;
     }
-    feed(reader, port, width_us);
+    feed(&mut reader.ports, port, width_us);
     0
 }
 
 /// A pulse at one of five ports.
-fn feed(reader: &mut IrigReader, port: u8, width_us: u32)
+fn feed(ports: &mut [Tally; 5], port: u8, width_us: u32)
     requires { port < 5 }
-    ensures { (h : ReaderHistory) → IsReaderOf reader.old h
-        → IsReaderOf reader.new (after_pulse h port width_us) }
+    ensures { (fed : Fed) → HaveHeard ports.old fed
+        → HaveHeard ports.new (with_width fed port width_us) }
 {
-    match port {
-        0 => reader.a.add(width_us),
-        1 => reader.b.add(width_us),
-        2 => reader.c.add(width_us),
-        3 => reader.d.add(width_us),
-        _ => reader.e.add(width_us),
-    }
+    ports[usize::from(port)].add(width_us);
 }
 
 /// Pulses at a port, one after another, each of a width in microseconds. 26 if there is no such
@@ -110,26 +96,20 @@ pub extern "C" fn irig_reader_pulses(reader: &mut IrigReader, port: u8, widths_u
     ensures fed { result ≡ 0 → (h : ReaderHistory) → IsReaderOf reader.old h
         → IsReaderOf reader.new (after_pulses h port widths_us.now) }
 {
-    if port >= redundancy_of(&reader.setup).ports() {
+    if !is_port(&reader.setup, port) {
         return OUT_OF_RANGE;
     }
-    feed_all(reader, port, widths_us);
+    feed_all(&mut reader.ports, port, widths_us);
     0
 }
 
 /// Pulses at one of five ports.
-fn feed_all(reader: &mut IrigReader, port: u8, widths_us: &[u32])
+fn feed_all(ports: &mut [Tally; 5], port: u8, widths_us: &[u32])
     requires { port < 5 }
-    ensures { (h : ReaderHistory) → IsReaderOf reader.old h
-        → IsReaderOf reader.new (after_pulses h port widths_us.now) }
+    ensures { (fed : Fed) → HaveHeard ports.old fed
+        → HaveHeard ports.new (with_widths fed port widths_us.now) }
 {
-    match port {
-        0 => reader.a.add_all(widths_us),
-        1 => reader.b.add_all(widths_us),
-        2 => reader.c.add_all(widths_us),
-        3 => reader.d.add_all(widths_us),
-        _ => reader.e.add_all(widths_us),
-    }
+    ports[usize::from(port)].add_all(widths_us);
 }
 
 /// An edge: what the reader says, by what its ports heard since the last one. They are then empty.
@@ -168,11 +148,11 @@ fn tells_of(reader: &IrigReader) -> Tells
 {
     let rules = rules_of(&reader.setup);
     Tells {
-        a: reader.a.tell(&rules),
-        b: reader.b.tell(&rules),
-        c: reader.c.tell(&rules),
-        d: reader.d.tell(&rules),
-        e: reader.e.tell(&rules),
+        a: reader.ports[0].tell(&rules),
+        b: reader.ports[1].tell(&rules),
+        c: reader.ports[2].tell(&rules),
+        d: reader.ports[3].tell(&rules),
+        e: reader.ports[4].tell(&rules),
     }
 }
 
@@ -181,13 +161,9 @@ fn empty(reader: &mut IrigReader)
     ensures setup { reader.new.setup ≡ reader.old.setup }
     ensures table { reader.new.table ≡ reader.old.table }
     ensures state { reader.new.state ≡ reader.old.state }
-    ensures ports { IsSilent reader.new }
+    ensures ports { HaveHeard reader.new.ports no_pulses }
 {
-    reader.a = Tally::none();
-    reader.b = Tally::none();
-    reader.c = Tally::none();
-    reader.d = Tally::none();
-    reader.e = Tally::none();
+    reader.ports = [Tally::none(); 5];
 }
 
 /// Clears the ports, and forgets what was voted.
@@ -203,7 +179,7 @@ fn forget(reader: &mut IrigReader)
     ensures setup { reader.new.setup ≡ reader.old.setup }
     ensures table { reader.new.table ≡ reader.old.table }
     ensures state { reader.new.state ≡ IDLE }
-    ensures ports { IsSilent reader.new }
+    ensures ports { HaveHeard reader.new.ports no_pulses }
 {
     empty(reader);
     reader.state = IDLE;
@@ -216,23 +192,10 @@ pub extern "C" fn irig_reader_port(reader: &IrigReader, port: u8, told: &mut Iri
     ensures told { result ≡ 0 → told.new ≡ told_in (told_at reader.now port) }
     ensures refused { (result ≡ 0 → ⊥) → told.new ≡ told.old }
 {
-    if port >= redundancy_of(&reader.setup).ports() {
+    if !is_port(&reader.setup, port) {
         return OUT_OF_RANGE;
     }
     let rules = rules_of(&reader.setup);
-    *told = told_for_c(&tally_of(reader, port).tell(&rules));
+    *told = told_for_c(&reader.ports[usize::from(port)].tell(&rules));
     0
-}
-
-/// What a port heard.
-fn tally_of(reader: &IrigReader, port: u8) -> &Tally
-    ensures { result.now ≡ tally_at reader.now port }
-{
-    match port {
-        0 => &reader.a,
-        1 => &reader.b,
-        2 => &reader.c,
-        3 => &reader.d,
-        _ => &reader.e,
-    }
 }

@@ -1,6 +1,7 @@
 //! How a reader is set up.
 
-ghost use Rattle.std.specs.Prelude.{◌≡◌};
+ghost use Rattle.std.specs.Prelude.{◌≡◌, ◌↔◌, ◌<◌, IsTrue};
+ghost use Rattle.irig_vote.specs.Vote.{ports_in};
 ghost use Rattle.irig_c.specs.Numbers.{parity_in, sense_in};
 ghost use Rattle.irig_c.specs.Setups.{rules_in, own_in, redundancy_in};
 
@@ -75,4 +76,12 @@ pub(crate) fn redundancy_of(setup: &IrigSetup) -> Redundancy
         0 => Redundancy::Three,
         _ => Redundancy::Five,
     }
+}
+
+/// Whether there is such a port.
+#[inline]
+pub(crate) fn is_port(setup: &IrigSetup, port: u8) -> bool
+    ensures { IsTrue result ↔ (port < ports_in (redundancy_in setup.now)) }
+{
+    port < 3 || (port < 5 && setup.redundancy != 0)
 }

@@ -1,12 +1,22 @@
 -- The bits of some symbols: with one more symbol, and where a digit stands in them.
-use Rattle.std.proofs.Common.{◌≡◌, ℕ, zero, suc, ◌+◌, ◌*◌, ◌/◌, ◌%◌, ◌^◌, ◌<◌, ◌≤◌, Bool, true, false, cond, eqb, List, [], ◌∷◌, ◌++◌, length, Option, Some, None, slice_get, refl, sym, zero-add, add-zero, ap, ◌∙◌, arith, subst}
+use Rattle.std.proofs.Common.{◌≡◌, ℕ, zero, suc, ◌+◌, ◌*◌, ◌/◌, ◌%◌, ◌^◌, ◌<◌, ◌≤◌, Bool, true, false, cond, eqb, List, [], ◌∷◌, ◌++◌, length, Option, Some, None, slice_get, refl, sym, zero-add, add-zero, ap, ◌∙◌, arith, subst, inl, inr}
 use Rattle.std.proofs.Math.Nat.{mul-add, mul_assoc, mul_comm, pow-succ'}
-use Rattle.std.proofs.lemmas.Bool.{ne_eqb}
-use Rattle.std.proofs.lemmas.Nat.{shr-shr, mod-pow-add}
+use Rattle.std.specs.Option.{option_or}
+use Rattle.std.specs.List.{range_with_len}
+use Rattle.std.specs.Prelude.{count_ones, count_by}
+use Rattle.std.proofs.lemmas.Bool.{ne_eqb, cases_Bool, eqb-true}
+use Rattle.std.proofs.lemmas.List.Sums.{sum_by-cons}
+use Rattle.std.proofs.lemmas.Option.{none-some}
+use Rattle.std.proofs.lemmas.Nat.{shr-shr, mod-pow-add, ones_cat, ones_le_self, zero_from_ones}
 use Rattle.irig_frame.specs.declared.symbol.Symbol.{Symbol}
-use Rattle.irig_frame.specs.FieldTable.{TableEntry, at}
+use Rattle.irig_frame.specs.declared.symbol.Symbol.TheVariants.{Zero, One, Marker, Bad}
+use Rattle.irig_frame.specs.declared.fault.FrameFault.{FrameFault}
+use Rattle.irig_frame.specs.declared.fault.FrameFault.TheVariants as fault
+use Rattle.irig_frame.specs.FieldTable.{TableEntry, at, is_marker_place}
+use Rattle.irig_frame.specs.Faults.{element_fault, first_wrong}
+use Rattle.irig_control.specs.Parity.{ones, is_counted}
 use Rattle.irig_frame.specs.Values.{is_one, value}
-use Rattle.irig_port.specs.Sums.{bits_from, time_bits, control_bits, bits_at}
+use Rattle.irig_port.specs.Bits.{bits_from, time_bits, control_bits, bits_at, counted_ones}
 use Rattle.irig_port.proofs.SumLaws.{held, value-held, place-push, cond-same}
 
 abbrev bit_of : List Symbol → ℕ → ℕ
@@ -59,7 +69,7 @@ bits-push (suc k) i (suc n) s x at_k h =
     let twice : cond (is_one (Some x)) (2 ^ suc k) 0 ≡ 2 * cond (is_one (Some x)) (2 ^ k) 0 = rw (pow-succ' 2 k) (cond-double (is_one (Some x)) (2 ^ k)) in
     omega (arith, here, rest, twice)
 
-bits-lt : (i n : ℕ) (s : List Symbol) → bits_from i n s < 2 ^ n
+pub bits-lt : (i n : ℕ) (s : List Symbol) → bits_from i n s < 2 ^ n
 bits-lt i zero s = omega arith
 bits-lt i (suc n) s = omega (arith, cond-le-one (is_one (slice_get s i)), bits-lt (i + 1) n s, pow-succ' 2 n)
 
@@ -149,3 +159,91 @@ time-digit s p k n w total = value-doubling k p w s ∙ ap (λ (x : ℕ). w * x)
 pub control-digit : (s : List Symbol) (p k n w : ℕ) → 40 ≡ p + (k + n) → value (doubling (60 + p) w k) s ≡ w * bits_at (control_bits s) p k
 unfolding control_bits
 control-digit s p k n w total = value-doubling k (60 + p) w s ∙ ap (λ (x : ℕ). w * x) (sym (digit p k n 40 60 s total))
+
+-- ---- how many bits are ones
+
+-- how many of n elements from i on are ones
+abbrev ones_from : ℕ → ℕ → List Symbol → ℕ
+ones_from i zero s = 0
+ones_from i (suc n) s = bit_of s i + ones_from (i + 1) n s
+
+ones-bit : (b : Bool) → count_ones (cond b 1 0) ≡ cond b 1 0
+ones-bit true =
+    elim (cases_Bool (eqb (count_ones 1) 0)) [
+      | inl none ↦ absurd (omega (arith, zero_from_ones 1 (eqb-true (count_ones 1) 0 none)))
+      | inr some ↦
+          let is : count_ones 1 ≡ 0 → ⊥ = λ e. absurd cc in
+          omega (arith, ones_le_self 1, is)
+    ]
+ones-bit false = omega (arith, ones_le_self 0)
+
+ones-bits : (i n : ℕ) (s : List Symbol) → count_ones (bits_from i n s) ≡ ones_from i n s
+ones-bits i zero s = omega (arith, ones_le_self 0)
+ones-bits i (suc n) s =
+    let rest = ones-bits (i + 1) n s in
+    let apart : bits_from i (suc n) s ≡ bits_from (i + 1) n s * 2 ^ 1 + bit_of s i = omega arith in
+    let sum = ones_cat 1 (bits_from (i + 1) n s) (bit_of s i) (omega (arith, cond-le-one (is_one (slice_get s i)))) in
+    let here = ones-bit (is_one (slice_get s i)) in
+    ap count_ones apart ∙ (sum ∙ omega (arith, rest, here))
+
+ones-split : (k n i : ℕ) (s : List Symbol) → ones_from i (k + n) s ≡ ones_from i k s + ones_from (i + k) n s
+ones-split zero n i s =
+    let there : i + 0 ≡ i = add-zero i in
+    rw there (ap (λ (k : ℕ). ones_from i k s) (zero-add n) ∙ sym (zero-add (ones_from i n s)))
+ones-split (suc k) n i s =
+    let there : i + 1 + k ≡ i + suc k = omega arith in
+    let rest = ones-split k n (i + 1) s ∙ ap (λ (j : ℕ). ones_from (i + 1) k s + ones_from j n s) there in
+    let more : suc k + n ≡ suc (k + n) = omega arith in
+    ap (λ (m : ℕ). ones_from i m s) more ∙ omega (arith, rest)
+
+-- no marker place holds a one
+abbrev HasRightMarkers : List Symbol → Type 0
+HasRightMarkers s = (i : ℕ) → is_marker_place i ≡ true → is_one (slice_get s i) ≡ false
+
+-- a marker place where nothing is wrong holds no one
+right-marker : (i : ℕ) (x : Symbol) → element_fault i x ≡ None → is_marker_place i ≡ true → is_one (Some x) ≡ false
+right-marker i Zero h m = refl
+right-marker i One h m = absurd (none-some (fault.Marker i) (sym h ∙ rw m refl))
+right-marker i Marker h m = refl
+right-marker i Bad h m = refl
+
+pub first-none : (a b : Option FrameFault) → option_or a b ≡ None → (a ≡ None) × (b ≡ None)
+first-none None b h = (refl, h)
+first-none (Some f) b h = absurd (none-some f (sym h))
+
+markers-from : (k : ℕ) (s : List Symbol) → first_wrong k s ≡ None → (i : ℕ) → is_marker_place (k + i) ≡ true → is_one (slice_get s i) ≡ false
+markers-from k [] h i m = refl
+markers-from k (x ∷ s) h zero m =
+    right-marker k x (first-none (element_fault k x) (first_wrong (k + 1) s) h).0 (subst (λ (j : ℕ). is_marker_place j ≡ true) (add-zero k) m)
+markers-from k (x ∷ s) h (suc i) m =
+    let there : k + suc i ≡ k + 1 + i = omega arith in
+    markers-from (k + 1) s (first-none (element_fault k x) (first_wrong (k + 1) s) h).1 i (subst (λ (j : ℕ). is_marker_place j ≡ true) there m)
+
+right-markers : (s : List Symbol) → first_wrong 0 s ≡ None → HasRightMarkers s
+right-markers s h i m = markers-from 0 s h i (subst (λ (j : ℕ). is_marker_place j ≡ true) (sym (zero-add i)) m)
+
+counted-bit : (s : List Symbol) → HasRightMarkers s → (i : ℕ) → cond (is_counted s i) 1 0 ≡ bit_of s i
+counted-bit s h i =
+    elim (cases_Bool (is_marker_place i)) [
+      | inl on ↦ rw (on, h i on) refl
+      | inr off ↦ rw off refl
+    ]
+
+counted-from : (n i : ℕ) (s : List Symbol) → HasRightMarkers s → count_by (is_counted s) (range_with_len i n) ≡ ones_from i n s
+counted-from zero i s h = refl
+counted-from (suc n) i s h =
+    let first = sum_by-cons (λ k. cond (is_counted s k) 1 0) i (range_with_len (i + 1) n) in
+    let rest = counted-from n (i + 1) s h in
+    omega (arith, first, rest, counted-bit s h i)
+
+-- the ones that the parity counts of a frame without a wrong element
+pub ones-counted : (s : List Symbol) → first_wrong 0 s ≡ None → counted_ones (time_bits s) (control_bits s) ≡ ones s
+unfolding time_bits control_bits ones
+ones-counted s h =
+    let right = right-markers s h in
+    let low = ones-bits 0 60 s in
+    let high : count_ones (bits_from 60 40 s % 2 ^ 16) ≡ ones_from 60 16 s = ap count_ones (cut 16 40 60 24 s refl) ∙ ones-bits 60 16 s in
+    let whole : ones_from 0 76 s ≡ ones_from 0 60 s + ones_from 60 16 s = ones-split 60 16 0 s in
+    let first : bit_of s 0 ≡ 0 = rw (right 0 refl) refl in
+    let counted : count_by (is_counted s) (range_with_len 1 75) ≡ ones_from 1 75 s = counted-from 75 1 s right in
+    omega (arith, low, high, whole, first, counted)

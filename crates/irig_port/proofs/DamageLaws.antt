@@ -42,11 +42,10 @@ use Rattle.irig_port.specs.declared.told.PortFault.TheVariants as fault
 use Rattle.irig_port.specs.declared.told.Told.{Told}
 use Rattle.irig_port.specs.declared.told.Told.TheVariants as tells
 use Rattle.irig_port.specs.Told.{is_sbs_wrong, coded_told, told_of, frame_told}
-use Rattle.irig_port.specs.Sums.{weight_at, parity_places}
 use Rattle.irig_port.specs.Damage.{IsFaultOr, IsOtherBit, compares_seconds, unread_places}
 use Rattle.irig_port.proofs.ToldLaws.{parity_told}
 use Rattle.irig_port.proofs.CarriesLaws.{told_of_reading, carries_is_told}
-use Rattle.irig_port.proofs.SumLaws.{held, value-held, ones-held, cond-same, cond-add}
+use Rattle.irig_port.proofs.SumLaws.{weight_at, parity_places, held, value-held, ones-held, cond-same, cond-add}
 
 -- ---- elements
 

@@ -6,5 +6,6 @@ pub mod SumLaws
 pub mod BitLaws
 pub mod TableLaws
 pub mod NumberLaws
+pub mod FrameLaws
 pub mod DamageLaws
 pub mod StandardFacts

@@ -1,39 +1,28 @@
 -- The numbers of a port, after one more symbol and at an edge.
-use Rattle.std.proofs.Common.{◌≡◌, ℕ, zero, suc, ◌+◌, ◌-◌, ◌*◌, ◌^◌, ◌<◌, ◌≤◌, ◌%◌, Bool, true, false, ◌&&◌, cond, eqb, nat_lt, List, [], ◌∷◌, ◌++◌, length, Option, Some, None, refl, sym, zero-add, ap, ◌∙◌, arith, inl, inr, length-append, subst}
+use Rattle.std.proofs.Common.{◌≡◌, ℕ, ◌+◌, ◌-◌, ◌*◌, ◌^◌, ◌<◌, ◌≤◌, ◌%◌, Bool, cond, List, [], ◌∷◌, ◌++◌, length, Option, Some, None, refl, sym, zero-add, ◌∙◌, arith, inl, inr, length-append}
 use Rattle.std.specs.Option.{option_or}
-use Rattle.std.specs.List.{range_with_len}
 use Rattle.std.specs.Prelude.{◌==◌}
-use Rattle.std.proofs.lemmas.Bool.{cases_Bool, cases_lt, and_parts, eqb-true, ltb-true, lt-ltb}
-use Rattle.std.proofs.lemmas.List.Sums.{sum_by-cons, count_by-le-length}
+use Rattle.std.proofs.lemmas.Bool.{cases_Bool, cases_lt, eqb-true, lt-ltb}
 use Rattle.irig_frame.specs.declared.symbol.Symbol.{Symbol}
 use Rattle.irig_frame.specs.declared.layout.Field.{Field}
 use Rattle.irig_frame.specs.declared.layout.Field.TheVariants.{Second, Minute, Hour, Day, Year}
 use Rattle.irig_frame.specs.declared.fault.FrameFault.{FrameFault}
 use Rattle.irig_frame.specs.declared.fault.FrameFault.TheVariants as frame_fault
 use Rattle.irig_frame.specs.FieldTable.{TableEntry, units_of, tens_of, hundreds_of, places_of, control_places, straight_binary_places}
-use Rattle.irig_frame.specs.Values.{is_one, is_one_at, value, weights}
+use Rattle.irig_frame.specs.Values.{is_one, value}
 use Rattle.irig_frame.specs.Faults.{element_fault, first_wrong, field_at, values_of}
-use Rattle.irig_control.specs.Parity.{ones, is_counted}
 use Rattle.irig_time.specs.declared.rules.Rules.{Rules}
 use Rattle.irig_port.specs.Heard.{with_symbol}
-use Rattle.irig_port.specs.Told.{told_of, frame_told}
-use Rattle.irig_port.specs.Sums.{time_bits, control_bits, bits_at, parity_places, weight_at, field_from, values_from, frame_from, IsOf}
+use Rattle.irig_port.specs.declared.told.Told.{Told}
+use Rattle.irig_port.specs.Told.{told_of, frame_told, told_unless}
+use Rattle.irig_port.specs.Bits.{time_bits, control_bits, bits_at, field_from, values_from, frame_from, IsOf}
 use Rattle.irig_port.specs.declared.told.PortFault.TheVariants as fault
 use Rattle.irig_port.specs.declared.told.Told.TheVariants as tells
 use Rattle.irig_port.specs.declared.tally.Tally.{Tally}
 use Rattle.irig_port.specs.Tallies.{fault_in, tally_told, IsTallyOf}
 use Rattle.irig_port.proofs.ToldLaws.{none_told, short_told, long_told, whole_told}
-use Rattle.irig_port.proofs.SumLaws.{held, value-held, first_wrong-push, ones-push}
-use Rattle.irig_port.proofs.BitLaws.{doubling, time-push, time-kept, control-push, control-kept, time-digit, control-digit}
-
--- ---- no number wraps
-
-ones_le : (s : List Symbol) → ones s ≤ 75
-unfolding ones
-ones_le s = count_by-le-length (is_counted s) (range_with_len 1 75)
-
-pub ones_of-push : (s : List Symbol) (x : Symbol) → (ones s + cond (is_one (Some x)) (weight_at parity_places (length s)) 0) % 4294967296 ≡ ones (s ++ x ∷ [])
-ones_of-push s x = omega (arith, ones-push s x, ones_le (s ++ x ∷ []))
+use Rattle.irig_port.proofs.SumLaws.{held, value-held, first_wrong-push}
+use Rattle.irig_port.proofs.BitLaws.{doubling, time-push, time-kept, control-push, control-kept, time-digit, control-digit, ones-counted}
 
 -- ---- one more symbol
 
@@ -81,23 +70,15 @@ control-after s x count time control time_after control_after same short before 
           cc
     ]
 
-pub numbers-push : (count parity time control time_after control_after : ℕ) (wrong after : Option FrameFault) (s : List Symbol) (x : Symbol) (counts : ℕ)
-    → IsOf count parity time control wrong s → count ≤ 100
+pub numbers-push : (count time control time_after control_after : ℕ) (wrong after : Option FrameFault) (s : List Symbol) (x : Symbol)
+    → IsOf count time control wrong s → count ≤ 100
     → IsBitAdded count time control time_after control_after (is_one (Some x))
-    → (count < 100 → weight_at parity_places count ≡ counts)
     → (count < 100 → after ≡ option_or wrong (element_fault count x))
-    → IsOf (count + 1) ((parity + cond (is_one (Some x)) counts 0) % 4294967296) time_after control_after after (with_symbol s x)
-numbers-push count parity time control time_after control_after wrong after s x counts h in_frame bits counted found =
+    → IsOf (count + 1) time_after control_after after (with_symbol s x)
+numbers-push count time control time_after control_after wrong after s x h in_frame bits found =
     rw (added-room s x (omega (arith, h.counted, in_frame))) (record {
       counted = omega (arith, h.counted, length-push s x);
       few = omega (arith, h.counted, in_frame, length-push s x);
-      parity = λ short.
-          let lt : count < 100 = omega (arith, h.counted, length-push s x) in
-          let same_count : count ≡ length s = h.counted in
-          let before : parity ≡ ones s = h.parity (omega (arith, length-push s x)) in
-          let adds : weight_at parity_places count ≡ counts = counted lt in
-          let whole = ones_of-push s x in
-          cc;
       timed = λ short. time-after s x count time control time_after control_after h.counted (h.timed (omega (arith, length-push s x))) bits;
       controlled = λ short. control-after s x count time control time_after control_after h.counted (omega (arith, length-push s x)) (h.controlled (omega (arith, length-push s x))) bits;
       lowest = λ short.
@@ -111,13 +92,12 @@ numbers-push count parity time control time_after control_after wrong after s x 
     })
 
 -- past the frame nothing counts but that there are too many
-pub numbers-past : (count parity time control : ℕ) (wrong : Option FrameFault) (s : List Symbol) (x : Symbol)
-    → IsOf count parity time control wrong s → 100 < count → IsOf 101 parity time control wrong (with_symbol s x)
-numbers-past count parity time control wrong s x h past =
+pub numbers-past : (count time control : ℕ) (wrong : Option FrameFault) (s : List Symbol) (x : Symbol)
+    → IsOf count time control wrong s → 100 < count → IsOf 101 time control wrong (with_symbol s x)
+numbers-past count time control wrong s x h past =
     rw (added-full s x (omega (arith, h.counted, past))) (record {
       counted = omega (arith, h.counted, h.few, past);
       few = h.few;
-      parity = h.parity;
       timed = h.timed;
       controlled = h.controlled;
       lowest = h.lowest;
@@ -125,9 +105,9 @@ numbers-past count parity time control wrong s x h past =
 
 -- ---- no symbol yet
 
-pub none_yet : IsOf 0 0 0 0 None []
-unfolding ones time_bits control_bits
-none_yet = record { counted = refl; few = omega arith; parity = λ h. refl; timed = λ h. refl; controlled = λ h. refl; lowest = λ h. refl }
+pub none_yet : IsOf 0 0 0 None []
+unfolding time_bits control_bits
+none_yet = record { counted = refl; few = omega arith; timed = λ h. refl; controlled = λ h. refl; lowest = λ h. refl }
 
 -- ---- at an edge
 
@@ -172,15 +152,21 @@ unfolding values_from values_of
 values-from s =
     rw (two-digits s Second 1 6 3 refl refl refl (omega arith) (omega arith), two-digits s Minute 10 15 3 refl refl refl (omega arith) (omega arith), two-digits s Hour 20 25 2 refl refl refl (omega arith) (omega arith), day-digits s, two-digits s Year 50 55 4 refl refl refl (omega arith) (omega arith), control-from s, sbs-from s) refl
 
-frame-from : (rules : Rules) (s : List Symbol) (count parity time control : ℕ) (wrong : Option FrameFault)
-    → IsOf count parity time control wrong s → length s ≡ 100 → frame_from rules wrong parity time control ≡ frame_told rules s
-unfolding frame_from frame_told
-frame-from rules s count parity time control wrong h full =
-    rw (h.parity (omega arith), h.lowest (omega arith), h.timed (omega arith), h.controlled (omega arith), values-from s) refl
+-- the parity is looked at where no element is wrong
+told-alike : (wrong : Option FrameFault) (a b : Told) → (wrong ≡ None → a ≡ b) → told_unless wrong a ≡ told_unless wrong b
+told-alike (Some f) a b h = refl
+told-alike None a b h = h refl
 
-pub whole_told-from : (rules : Rules) (s : List Symbol) (count parity time control : ℕ) (wrong : Option FrameFault)
-    → IsOf count parity time control wrong s → length s ≡ 100 → frame_from rules wrong parity time control ≡ told_of rules s
-whole_told-from rules s count parity time control wrong h full = frame-from rules s count parity time control wrong h full ∙ sym (whole_told rules s full)
+frame-from : (rules : Rules) (s : List Symbol) (count time control : ℕ) (wrong : Option FrameFault)
+    → IsOf count time control wrong s → length s ≡ 100 → frame_from rules wrong time control ≡ frame_told rules s
+unfolding frame_from frame_told
+frame-from rules s count time control wrong h full =
+    rw (h.lowest (omega arith), h.timed (omega arith), h.controlled (omega arith), values-from s)
+    (told-alike (first_wrong 0 s) _ _ (λ right. rw (ones-counted s right) refl))
+
+pub whole_told-from : (rules : Rules) (s : List Symbol) (count time control : ℕ) (wrong : Option FrameFault)
+    → IsOf count time control wrong s → length s ≡ 100 → frame_from rules wrong time control ≡ told_of rules s
+whole_told-from rules s count time control wrong h full = frame-from rules s count time control wrong h full ∙ sym (whole_told rules s full)
 
 -- what the numbers of some symbols tell is what the symbols tell
 pub tally_tells : (rules : Rules) (t : Tally) (s : List Symbol) → IsTallyOf t s → tally_told rules t ≡ told_of rules s
@@ -198,12 +184,12 @@ tally_tells rules t s h =
         | inl long ↦ tally_long rules t long ∙ sym (long_told rules s (omega (arith, h.counted)))
         | inr whole ↦
             let is : t.count ≡ 100 = omega arith in
-            tally_whole rules t is ∙ whole_told-from rules s t.count t.ones t.time t.control (fault_in t.wrong) h (omega (arith, h.counted))
+            tally_whole rules t is ∙ whole_told-from rules s t.count t.time t.control (fault_in t.wrong) h (omega (arith, h.counted))
       ]
     ]
   where
     tally_long : (rules : Rules) (t : Tally) → 100 < t.count → tally_told rules t ≡ tells.Fault (fault.Frame frame_fault.Long)
     tally_long rules t h = grind arith
 
-    tally_whole : (rules : Rules) (t : Tally) → t.count ≡ 100 → tally_told rules t ≡ frame_from rules (fault_in t.wrong) t.ones t.time t.control
+    tally_whole : (rules : Rules) (t : Tally) → t.count ≡ 100 → tally_told rules t ≡ frame_from rules (fault_in t.wrong) t.time t.control
     tally_whole rules t h = rw h refl

@@ -1,17 +1,31 @@
 -- What one more symbol adds to the numbers of a port.
-use Rattle.std.proofs.Common.{◌≡◌, ℕ, zero, suc, ◌+◌, Bool, true, false, not, ◌&&◌, cond, eqb, List, [], ◌∷◌, ◌++◌, length, Option, Some, None, slice_get, slice_set, slice_index_or, refl, sym, zero-add, add-zero, sum, map, filter, ap, ◌∙◌, arith, inl, inr, count_by}
+use Rattle.std.proofs.Common.{◌≡◌, ℕ, zero, suc, ◌+◌, Bool, true, false, not, ◌&&◌, cond, eqb, List, [], ◌∷◌, ◌++◌, length, Option, Some, None, slice_get, refl, sym, zero-add, add-zero, sum, map, filter, ap, ◌∙◌, arith, inl, inr, count_by}
 use Rattle.std.specs.Option.{option_or}
 use Rattle.std.specs.List.{range_with_len}
 use Rattle.std.proofs.Math.Dec.{eqb-suc-zero, eqb-zero-suc, eqb-suc-suc}
-use Rattle.std.proofs.lemmas.Bool.{and_parts, cases_Bool, eqb-true}
+use Rattle.std.proofs.lemmas.Bool.{cases_Bool}
 use Rattle.std.proofs.lemmas.List.Sums.{sum_by-cons}
 use Rattle.irig_frame.specs.declared.symbol.Symbol.{Symbol}
 use Rattle.irig_frame.specs.declared.fault.FrameFault.{FrameFault}
-use Rattle.irig_frame.specs.FieldTable.{TableEntry, is_marker_place}
+use Rattle.irig_frame.specs.FieldTable.{TableEntry, at, is_marker_place}
 use Rattle.irig_frame.specs.Values.{is_one, is_one_at, value}
 use Rattle.irig_frame.specs.Faults.{element_fault, first_wrong}
 use Rattle.irig_control.specs.Parity.{ones, is_counted}
-use Rattle.irig_port.specs.Sums.{parity_place, parity_places, weight_at}
+
+-- ---- the places that the parity counts
+
+-- an element with what a one there adds to the ones that the parity counts
+abbrev pub parity_place : ℕ → TableEntry
+parity_place i = at i (cond (not (is_marker_place i)) 1 0)
+
+-- the elements 1 to 75
+unfoldable pub parity_places : List TableEntry
+parity_places = map parity_place (range_with_len 1 75)
+
+-- what a one at the element adds to the sum over the places
+abbrev pub weight_at : List TableEntry → ℕ → ℕ
+weight_at [] i = 0
+weight_at (p ∷ ps) i = cond (eqb p.element i) p.weight 0 + weight_at ps i
 
 -- ---- the sum over some places, by recursion
 
@@ -45,18 +59,6 @@ place-push (y ∷ s) x (suc i) w = rw (eqb-suc-suc i (length s)) (place-push s x
 pub cond-add : (b : Bool) (a c : ℕ) → cond b (a + c) 0 ≡ cond b a 0 + cond b c 0
 cond-add true a c = refl
 cond-add false a c = refl
-
-held-push : (ps : List TableEntry) (s : List Symbol) (x : Symbol) → held ps (s ++ x ∷ []) ≡ held ps s + cond (is_one (Some x)) (weight_at ps (length s)) 0
-held-push [] s x = rw (cond-same (is_one (Some x))) refl
-held-push (p ∷ ps) s x =
-    let here = place-push s x p.element p.weight in
-    let rest = held-push ps s x in
-    let both = cond-add (is_one (Some x)) (cond (eqb p.element (length s)) p.weight 0) (weight_at ps (length s)) in
-    omega (arith, here, rest, both)
-
--- a one more symbol adds the weight of its place
-pub value-push : (ps : List TableEntry) (s : List Symbol) (x : Symbol) → value ps (s ++ x ∷ []) ≡ value ps s + cond (is_one (Some x)) (weight_at ps (length s)) 0
-value-push ps s x = rw (value-held ps (s ++ x ∷ []), value-held ps s) (held-push ps s x)
 
 -- ---- the lowest wrong element
 
@@ -94,6 +96,3 @@ counted-held (i ∷ is) s =
 pub ones-held : (s : List Symbol) → ones s ≡ held parity_places s
 unfolding ones parity_places
 ones-held s = counted-held (range_with_len 1 75) s
-
-pub ones-push : (s : List Symbol) (x : Symbol) → ones (s ++ x ∷ []) ≡ ones s + cond (is_one (Some x)) (weight_at parity_places (length s)) 0
-ones-push s x = rw (ones-held (s ++ x ∷ []), ones-held s) (held-push parity_places s x)

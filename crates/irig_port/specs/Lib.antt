@@ -1,7 +1,7 @@
 pub mod Heard
 pub mod Told
 pub mod Early
-pub mod Sums
+pub mod Bits
 pub mod Tallies
 pub mod Numbers
 pub mod Damage

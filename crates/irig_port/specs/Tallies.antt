@@ -10,7 +10,7 @@ use Rattle.irig_port.specs.declared.told.Told.{Told}
 use Rattle.irig_port.specs.declared.told.Told.TheVariants as tells
 use Rattle.irig_port.specs.declared.tally.FirstFault.{FirstFault}
 use Rattle.irig_port.specs.declared.tally.Tally.{Tally}
-use Rattle.irig_port.specs.Sums.{frame_from, IsOf}
+use Rattle.irig_port.specs.Bits.{frame_from, IsOf}
 
 -- the fault of the lowest wrong element, if one is wrong
 abbrev pub fault_in : FirstFault → Option FrameFault
@@ -25,8 +25,8 @@ tally_told rules t =
     if t.count == 0 then tells.Silence
     else (if nat_lt t.count 100 then tells.Fault (fault.Frame (frame_fault.Short t.count))
     else (if nat_lt 100 t.count then tells.Fault (fault.Frame frame_fault.Long)
-    else frame_from rules (fault_in t.wrong) t.ones t.time t.control))
+    else frame_from rules (fault_in t.wrong) t.time t.control))
 
 -- the numbers are those of these symbols
 abbrev pub IsTallyOf : Tally → List Symbol → Type 0
-IsTallyOf t s = IsOf t.count t.ones t.time t.control (fault_in t.wrong) s
+IsTallyOf t s = IsOf t.count t.time t.control (fault_in t.wrong) s

@@ -1,19 +1,19 @@
 //! What a port keeps of the symbols that it heard: plain numbers, and no symbol.
 
-ghost use Rattle.std.specs.Prelude.{◌≡◌, ◌↔◌, ◌≤◌, ◌<◌, ◌*◌, ◌^◌, ◌++◌, ℕ, List, [], IsTrue, None, IfOk, if◌then◌else◌};
+ghost use Rattle.std.specs.Prelude.{◌≡◌, ◌↔◌, ◌≤◌, ◌<◌, ◌-◌, ◌*◌, ◌^◌, ◌++◌, ℕ, List, [], IsTrue, None, IfOk, length, if◌then◌else◌};
 ghost use Rattle.std.specs.Option.{option_or};
 ghost use Rattle.irig_frame.specs.declared.symbol.Symbol.{Symbol};
 ghost use Rattle.irig_frame.specs.FieldTable.{is_marker_place};
 ghost use Rattle.irig_frame.specs.Symbols.{symbol_of};
 ghost use Rattle.irig_frame.specs.Decoder.{least, most, IsCoded};
-ghost use Rattle.irig_frame.specs.Faults.{element_fault};
+ghost use Rattle.irig_frame.specs.Faults.{element_fault, first_wrong};
 ghost use Rattle.irig_time.specs.Seconds.{IsValid};
-ghost use Rattle.irig_port.specs.Heard.{with_symbol, symbols_heard};
+ghost use Rattle.irig_port.specs.Heard.{with_symbol, symbols_of, symbols_heard};
 ghost use Rattle.irig_port.specs.Told.{told_of, IfClaim};
-ghost use Rattle.irig_port.specs.Sums.{bits_at, field_from, values_from, frame_from};
+ghost use Rattle.irig_port.specs.Bits.{bits_at, bits_from, counted_ones, field_from, values_from, frame_from};
 ghost use Rattle.irig_port.specs.Tallies.{fault_in, tally_told, IsTallyOf};
 
-use crate::table::{Row, row_of};
+use crate::table::{Widths, widths_of};
 use crate::told::{PortFault, Told};
 use crate::verdict::tell_values;
 use irig_frame::{Coded, Field, FrameFault, Symbol, classify, fault_at, is_one_width};
@@ -35,8 +35,8 @@ const NO_FAULT: FirstFault = FirstFault {
     element: 0,
 };
 
-/// What a port keeps of the symbols that it heard since it was last empty: their number, which of
-/// them were ones, and the lowest wrong element.
+/// What a port keeps of the symbols that it heard since it was last empty: their number, the lowest
+/// wrong element, and which of them were ones.
 ///
 /// They are plain numbers, so a tally may be kept anywhere. Any numbers may stand in it: each call
 /// returns, and what is claimed is a valid second.
@@ -45,14 +45,12 @@ const NO_FAULT: FirstFault = FirstFault {
 pub struct Tally {
     /// How many symbols there were, 101 at most; past 100 nothing else counts.
     pub count: u32,
-    /// How many of the ones the parity counts.
-    pub ones: u32,
+    /// The lowest wrong element.
+    pub wrong: FirstFault,
     /// Bit i is a one at element i, 0 to 59: the time of day, the day and the year.
     pub time: u64,
     /// Bit i is a one at element 60 + i: the control bits and the straight binary seconds.
     pub control: u64,
-    /// The lowest wrong element.
-    pub wrong: FirstFault,
 }
 
 impl Tally {
@@ -63,10 +61,9 @@ impl Tally {
     {
         Tally {
             count: 0,
-            ones: 0,
+            wrong: NO_FAULT,
             time: 0,
             control: 0,
-            wrong: NO_FAULT,
         }
     }
 
@@ -90,12 +87,38 @@ impl Tally {
         ensures added { (w : List ℕ) → IsTallyOf self.old (symbols_heard w)
             → IsTallyOf self.new (symbols_heard (w ++ widths_us.now)) }
     {
+        // what a port hears as a rule; three short loops take half the time of the one
+        if self.count == 0 && is_right_frame(widths_us) {
+            *self = Tally::of_frame(widths_us);
+        } else {
+            self.add_each(widths_us);
+        }
+    }
+
+    fn add_each(&mut self, widths_us: &[u32])
+        ensures { (w : List ℕ) → IsTallyOf self.old (symbols_heard w)
+            → IsTallyOf self.new (symbols_heard (w ++ widths_us.now)) }
+    {
         // a copy, which registers can hold
         let mut tally = *self;
         for &width_us in widths_us {
             tally.add(width_us);
         }
         *self = tally;
+    }
+
+    // Of a frame without a wrong element.
+    fn of_frame(widths_us: &[u32]) -> Tally
+        requires whole { length widths_us.now ≡ 100 }
+        requires right { first_wrong 0 (symbols_of widths_us.now) ≡ None }
+        ensures { IsTallyOf result (symbols_of widths_us.now) }
+    {
+        Tally {
+            count: 100,
+            wrong: NO_FAULT,
+            time: bits_of(widths_us, 0, 60),
+            control: bits_of(widths_us, 60, 100),
+        }
     }
 
     // The same as `add` where there are at most 100 symbols. The innermost loop of a plant: nothing
@@ -108,16 +131,19 @@ impl Tally {
         ensures few { self.new.count ≤ 101 }
     {
         let element = self.count;
-        let row = row_of(element as usize);
         let is_one = is_one_width(width_us);
         if element < 60 {
             self.time = self.time.wrapping_add(bit_if(is_one, element));
         } else {
             self.control = self.control.wrapping_add(bit_if(is_one, element - 60));
         }
-        self.ones = self.ones.wrapping_add(one_if(is_one, row.parity));
-        note(&mut self.wrong, element as u8, row, width_us);
         self.count = element + 1;
+        note(
+            &mut self.wrong,
+            element as u8,
+            widths_of(element as usize),
+            width_us,
+        );
     }
 
     /// What the symbols tell, by the rules. A claim is of a [`valid`](irig_time::valid) second.
@@ -166,28 +192,52 @@ fn bit_if(is_one: bool, bit: u32) -> u64
     u64::from(is_one) << bit
 }
 
-#[inline]
-fn one_if(is_one: bool, parity: u32) -> u32
-    ensures { result ≡ (if is_one then parity else 0) }
+/// Whether there are 100 pulses, each of them right at its element.
+fn is_right_frame(widths_us: &[u32]) -> bool
+    ensures { IsTrue result ↔ ((length widths_us.now ≡ 100)
+        × (first_wrong 0 (symbols_of widths_us.now) ≡ None)) }
 {
-    if is_one { parity } else { 0 }
+    widths_us.len() == 100 && are_right(widths_us)
+}
+
+// Asks of each of them, as many at once as the machine can.
+fn are_right(widths_us: &[u32]) -> bool
+    requires { length widths_us.now ≡ 100 }
+    ensures { IsTrue result ↔ (first_wrong 0 (symbols_of widths_us.now) ≡ None) }
+{
+    let mut are_right = true;
+    for element in 0..100 {
+        are_right &= is_right(widths_of(element), widths_us[element]);
+    }
+    are_right
+}
+
+/// The number of the bits that these elements are, the first its lowest.
+fn bits_of(widths_us: &[u32], first: usize, end: usize) -> u64
+    requires inside { end ≤ length widths_us.now }
+    requires some { first ≤ end }
+    requires few { end - first ≤ 60 }
+    ensures { result ≡ bits_from first (end - first) (symbols_of widths_us.now) }
+{
+    let mut bits = 0;
+    for element in (first..end).rev() {
+        bits = 2 * bits + bit_if(is_one_width(widths_us[element]), 0);
+    }
+    bits
 }
 
 #[inline]
-fn note(wrong: &mut FirstFault, element: u8, row: Row, width_us: u32)
-    ensures { row.least_us ≡ (if is_marker_place element then 6500 else 500)
-        → row.count_us ≡ (if is_marker_place element then 3000 else 6000)
+fn note(wrong: &mut FirstFault, element: u8, right: &Widths, width_us: u32)
+    ensures { right.now.least_us ≡ (if is_marker_place element then 6500 else 500)
+        → right.now.count_us ≡ (if is_marker_place element then 3000 else 6000)
         → fault_in wrong.new
         ≡ option_or (fault_in wrong.old) (element_fault element (symbol_of width_us)) }
 {
-    if !is_right(row, width_us) {
+    if !is_right(right, width_us) {
         note_wrong(wrong, element, width_us);
     }
 }
 
-// Apart from `note`, so that this stays out of the loop.
-#[cold]
-#[inline(never)]
 fn note_wrong(wrong: &mut FirstFault, element: u8, width_us: u32)
     ensures { fault_in wrong.new
         ≡ option_or (fault_in wrong.old) (element_fault element (symbol_of width_us)) }
@@ -197,14 +247,13 @@ fn note_wrong(wrong: &mut FirstFault, element: u8, width_us: u32)
     }
 }
 
-/// Whether a pulse of this width is right where the row stands.
 #[inline]
-fn is_right(row: Row, width_us: u32) -> bool
-    ensures { (i : ℕ) → row.least_us ≡ (if is_marker_place i then 6500 else 500)
-        → row.count_us ≡ (if is_marker_place i then 3000 else 6000)
+fn is_right(right: &Widths, width_us: u32) -> bool
+    ensures { (i : ℕ) → right.now.least_us ≡ (if is_marker_place i then 6500 else 500)
+        → right.now.count_us ≡ (if is_marker_place i then 3000 else 6000)
         → IsTrue result ↔ (element_fault i (symbol_of width_us) ≡ None) }
 {
-    width_us.wrapping_sub(u32::from(row.least_us)) < u32::from(row.count_us)
+    width_us.wrapping_sub(right.least_us) < right.count_us
 }
 
 fn first_fault(element: u8, symbol: Symbol) -> FirstFault
@@ -223,23 +272,31 @@ fn first_fault(element: u8, symbol: Symbol) -> FirstFault
     }
 }
 
-#[tactic(auto, unfolding(crate::specs::Sums::frame_from))]
+#[tactic(auto, unfolding(crate::specs::Bits::frame_from))]
 fn tell_frame(rules: &Rules, tally: &Tally) -> Told
-    ensures told { result ≡ frame_from rules.now (fault_in tally.now.wrong) tally.now.ones
-        tally.now.time tally.now.control }
+    ensures told { result ≡ frame_from rules.now (fault_in tally.now.wrong) tally.now.time
+        tally.now.control }
     ensures valid { IfClaim result (λ claim. IsValid claim.at) }
 {
     if let Some(fault) = fault_of(tally.wrong) {
         return Told::Fault(PortFault::Frame(fault));
     }
-    if tally.ones % 2 != u32::from(rules.parity.remainder()) {
+    if ones_in(tally) % 2 != u32::from(rules.parity.remainder()) {
         return Told::Fault(PortFault::Parity);
     }
     tell_values(rules, values_of(tally.time, tally.control))
 }
 
+/// How many ones the parity counts, which are those at the elements 0 to 75.
+fn ones_in(tally: &Tally) -> u32
+    ensures exact { result ≡ counted_ones tally.now.time tally.now.control }
+    ensures few { result ≤ 128 }
+{
+    tally.time.count_ones() + (tally.control % 65_536).count_ones()
+}
+
 // Where the bits of each digit stand, IRIG Standard 200-16, format B.
-#[tactic(auto, unfolding(crate::specs::Sums::values_from))]
+#[tactic(auto, unfolding(crate::specs::Bits::values_from))]
 fn values_of(time: u64, control: u64) -> Result<Coded, FrameFault>
     ensures value { result ≡ values_from time control }
     ensures in_range { IfOk result IsCoded }

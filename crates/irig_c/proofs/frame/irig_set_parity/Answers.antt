@@ -1,8 +1,7 @@
-use Rattle.std.proofs.Common.{◌≡◌, ◌∙◌, ap, sym, subst, arith, map, slice_set}
-use Rattle.irig_frame.specs.declared.symbol.Symbol.{Symbol}
+use Rattle.std.proofs.Common.{◌≡◌, ◌∙◌, arith, map, slice_set}
 use Rattle.irig_frame.specs.declared.symbol.Symbol.TheVariants.{Zero}
-use Rattle.irig_control.specs.Parity.{HasParity, data_symbol}
-use Rattle.irig_c.specs.Numbers.{symbol_in, parity_in}
+use Rattle.irig_control.specs.Parity.{data_symbol}
+use Rattle.irig_c.specs.Numbers.{symbol_in}
 use Rattle.irig_c.proofs.SymbolsBack.{set_back}
 use Rattle.irig_c.proofs.frame.irig_set_parity.Goals as goal
 

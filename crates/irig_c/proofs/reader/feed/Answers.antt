@@ -1,28 +1,16 @@
-use Rattle.std.proofs.Common.{◌≡◌, arith}
+use Rattle.std.proofs.Common.{List, [], ◌∷◌, sym, subst}
+use Rattle.irig_frame.specs.declared.symbol.Symbol.{Symbol}
+use Rattle.irig_port.specs.Tallies.{IsTallyOf}
+use Rattle.irig_port.specs.Heard.{symbols_heard}
 use Rattle.irig_port.proofs.HeardLaws.{heard-push}
+use Rattle.irig_reader.specs.History.{fed_to}
+use Rattle.irig_c.specs.Readers.{tally_at}
+use Rattle.irig_c.proofs.PortLaws.{heard-more}
 use Rattle.irig_c.proofs.reader.feed.Goals as goal
 
-pub returns-in-0 : goal.returns-in-0
-returns-in-0 c h s =
-    let at : c.args.port ≡ 0 = omega arith in
-    rw at (record { rules = s.rules; own = s.own; table = s.table; redundancy = s.redundancy; a = rw (heard-push h.fed.a c.args.width_us) (c.add.ensures.added _ s.a); b = s.b; c = s.c; d = s.d; e = s.e; state = s.state; in_range = s.in_range; is_state = s.is_state })
-
-pub returns-in-1 : goal.returns-in-1
-returns-in-1 c h s =
-    let at : c.args.port ≡ 1 = omega arith in
-    rw at (record { rules = s.rules; own = s.own; table = s.table; redundancy = s.redundancy; a = s.a; b = rw (heard-push h.fed.b c.args.width_us) (c.add-in-1.ensures.added _ s.b); c = s.c; d = s.d; e = s.e; state = s.state; in_range = s.in_range; is_state = s.is_state })
-
-pub returns-in-2 : goal.returns-in-2
-returns-in-2 c h s =
-    let at : c.args.port ≡ 2 = omega arith in
-    rw at (record { rules = s.rules; own = s.own; table = s.table; redundancy = s.redundancy; a = s.a; b = s.b; c = rw (heard-push h.fed.c c.args.width_us) (c.add-in-2.ensures.added _ s.c); d = s.d; e = s.e; state = s.state; in_range = s.in_range; is_state = s.is_state })
-
-pub returns-in-3 : goal.returns-in-3
-returns-in-3 c h s =
-    let at : c.args.port ≡ 3 = omega arith in
-    rw at (record { rules = s.rules; own = s.own; table = s.table; redundancy = s.redundancy; a = s.a; b = s.b; c = s.c; d = rw (heard-push h.fed.d c.args.width_us) (c.add-in-3.ensures.added _ s.d); e = s.e; state = s.state; in_range = s.in_range; is_state = s.is_state })
-
-pub returns-in_default : goal.returns-in_default
-returns-in_default c h s =
-    let at : c.args.port ≡ 4 = omega (arith, c.requires) in
-    rw at (record { rules = s.rules; own = s.own; table = s.table; redundancy = s.redundancy; a = s.a; b = s.b; c = s.c; d = s.d; e = rw (heard-push h.fed.e c.args.width_us) (c.add-in_default.ensures.added _ s.e); state = s.state; in_range = s.in_range; is_state = s.is_state })
+pub returns : goal.returns
+returns c fed h =
+    let at = c.from.ensures in
+    let own : IsTallyOf (tally_at c.args.ports.now c.from.result) (symbols_heard (fed_to fed c.args.port)) = rw at (h c.args.port c.requires) in
+    heard-more c.args.ports.now fed c.args.port c.from.result (c.args.width_us ∷ []) c.add.new.self c.told-ports at c.requires h
+    (subst (λ (s : List Symbol). IsTallyOf c.add.new.self s) (sym (heard-push (fed_to fed c.args.port) c.args.width_us)) (c.add.ensures.added _ own))

@@ -1,7 +1,7 @@
 use Rattle.std.proofs.Common.{ℕ, List, ◌++◌, take}
 use Rattle.irig_port.specs.Heard.{symbols_heard}
 use Rattle.irig_port.specs.Tallies.{IsTallyOf}
-use Rattle.irig_port.proofs.tally.Tally.add_all.Given as goal
+use Rattle.irig_port.proofs.tally.Tally.add_each.Given as goal
 
 abbrev pub invariant-loop-width_us : goal.invariant-loop-width_us
 invariant-loop-width_us l = record {

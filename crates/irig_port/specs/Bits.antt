@@ -1,18 +1,16 @@
 -- The numbers that a port keeps of its symbols, and what they say.
 -- Source: IRIG Standard 200-16, format B, code B004: the bits of a digit stand one after another.
-use Rattle.std.specs.Prelude.{◌≡◌, ℕ, zero, suc, ◌+◌, ◌*◌, ◌/◌, ◌%◌, ◌^◌, ◌≤◌, not, ◌==◌, nat_lt, if◌then◌else◌, List, [], ◌∷◌, map, length, slice_get, Option, Result, Ok, Err}
-use Rattle.std.specs.List.{range_with_len}
+use Rattle.std.specs.Prelude.{◌≡◌, ℕ, zero, suc, ◌+◌, ◌*◌, ◌/◌, ◌%◌, ◌^◌, ◌≤◌, ◌==◌, nat_lt, count_ones, if◌then◌else◌, List, length, slice_get, Option, Result, Ok, Err}
 use Rattle.irig_frame.specs.declared.symbol.Symbol.{Symbol}
 use Rattle.irig_frame.specs.declared.layout.Field.{Field}
 use Rattle.irig_frame.specs.declared.layout.Field.TheVariants.{Second, Minute, Hour, Day, Year}
 use Rattle.irig_frame.specs.declared.coded.Coded.{Coded}
 use Rattle.irig_frame.specs.declared.fault.FrameFault.{FrameFault}
 use Rattle.irig_frame.specs.declared.fault.FrameFault.TheVariants as frame_fault
-use Rattle.irig_frame.specs.FieldTable.{TableEntry, at, is_marker_place}
 use Rattle.irig_frame.specs.Values.{is_one}
 use Rattle.irig_frame.specs.Decoder.{least, most}
 use Rattle.irig_frame.specs.Faults.{◌>>=◌, first_wrong}
-use Rattle.irig_control.specs.Parity
+use Rattle.irig_control.specs.Parity.{remainder_of}
 use Rattle.irig_time.specs.declared.rules.Rules.{Rules}
 use Rattle.irig_port.specs.declared.told.PortFault.TheVariants as fault
 use Rattle.irig_port.specs.declared.told.Told.{Told}
@@ -37,18 +35,10 @@ control_bits s = bits_from 60 40 s
 abbrev pub bits_at : ℕ → ℕ → ℕ → ℕ
 bits_at number p k = number / 2 ^ p % 2 ^ k
 
--- an element with what a one there adds to the ones that the parity counts
-abbrev pub parity_place : ℕ → TableEntry
-parity_place i = at i (if not (is_marker_place i) then 1 else 0)
-
--- the elements 1 to 75
-unfoldable pub parity_places : List TableEntry
-parity_places = map parity_place (range_with_len 1 75)
-
--- what a one at the element adds to the sum over the places
-abbrev pub weight_at : List TableEntry → ℕ → ℕ
-weight_at [] i = 0
-weight_at (p ∷ ps) i = (if p.element == i then p.weight else 0) + weight_at ps i
+-- how many ones the parity counts of a frame without a wrong element: those at the elements 0 to 75,
+-- as no marker is a one
+abbrev pub counted_ones : ℕ → ℕ → ℕ
+counted_ones time control = count_ones time + count_ones (control % 2 ^ 16)
 
 -- the value of a field with these digits, or its fault
 abbrev pub field_from : Field → ℕ → ℕ → ℕ → Result ℕ FrameFault
@@ -78,18 +68,17 @@ values_from time control = do
   })
 
 -- what 100 symbols with these numbers tell
-unfoldable pub frame_from : Rules → Option FrameFault → ℕ → ℕ → ℕ → Told
-frame_from rules wrong ones time control =
+unfoldable pub frame_from : Rules → Option FrameFault → ℕ → ℕ → Told
+frame_from rules wrong time control =
     told_unless wrong
-    (if ones % 2 == Parity.remainder_of rules.parity
+    (if counted_ones time control % 2 == remainder_of rules.parity
     then values_told rules (values_from time control)
     else tells.Fault fault.Parity)
 
 -- the numbers of some symbols; past 100 nothing counts but how many there are
-pub record IsOf (count ones time control : ℕ) (wrong : Option FrameFault) (s : List Symbol) : Type 0 where
+pub record IsOf (count time control : ℕ) (wrong : Option FrameFault) (s : List Symbol) : Type 0 where
   pub counted : count ≡ length s
   pub few : length s ≤ 101
-  pub parity : length s ≤ 100 → ones ≡ Parity.ones s
   pub timed : length s ≤ 100 → time ≡ time_bits s
   pub controlled : length s ≤ 100 → control ≡ control_bits s
   pub lowest : length s ≤ 100 → wrong ≡ first_wrong 0 s
