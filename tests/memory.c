@@ -71,13 +71,16 @@ static long requests_of(const struct run *run) {
     snprintf(file, sizeof file, "%s.%d", scratch, getpid());
     snprintf(path, sizeof path, "ALLOCATIONS=%s", file);
     struct outcome outcome = make(run, (const char *[]){preload, path, NULL});
-    release(&outcome);
     FILE *counted = fopen(file, "r");
     long requests = 0;
     if (counted == NULL || fscanf(counted, "%ld", &requests) != 1) {
         fail(run, "its requests could not be counted", &outcome);
     }
-    fclose(counted);
+    if (counted != NULL) {
+        fclose(counted);
+    }
+    unlink(file);
+    release(&outcome);
     return requests;
 }
 
