@@ -147,20 +147,20 @@ set_generator s ev ev' xs i x y n l h v other here =
 pub step_other : (s : Setup) (ev : List Event) (i k : ℕ) → k ≢ i → generator_at s k (GenEdge i ∷ ev) ≡ generator_at s k ev
 step_other s ev i k q = rw (apart i k (λ e. q (sym e))) refl
 
-pub step_here : (s : Setup) (ev : List Event) (i : ℕ) (x : GeneratorValue) → x ≡ generator_at s i ev → generator_at_next_edge x ≡ generator_at s i (GenEdge i ∷ ev)
-step_here s ev i x h = rw (eq-eqb i i refl) (ap generator_at_next_edge h)
+pub step_here : (s : Setup) (ev : List Event) (i : ℕ) (x y : GeneratorValue) → y ≡ generator_at_next_edge x → x ≡ generator_at s i ev → y ≡ generator_at s i (GenEdge i ∷ ev)
+step_here s ev i x y next h = rw (eq-eqb i i refl) (next ∙ ap generator_at_next_edge h)
 
 pub fault_other : (s : Setup) (ev : List Event) (i k : ℕ) (kind : GenFault) → k ≢ i → generator_at s k (Fault i kind ∷ ev) ≡ generator_at s k ev
 fault_other s ev i k kind q = rw (apart i k (λ e. q (sym e))) refl
 
-pub fault_here : (s : Setup) (ev : List Event) (i : ℕ) (kind : GenFault) (x : GeneratorValue) → x ≡ generator_at s i ev → generator_with_fault kind x ≡ generator_at s i (Fault i kind ∷ ev)
-fault_here s ev i kind x h = rw (eq-eqb i i refl) (ap (generator_with_fault kind) h)
+pub fault_here : (s : Setup) (ev : List Event) (i : ℕ) (kind : GenFault) (x y : GeneratorValue) → y ≡ generator_with_fault kind x → x ≡ generator_at s i ev → y ≡ generator_at s i (Fault i kind ∷ ev)
+fault_here s ev i kind x y faulty h = rw (eq-eqb i i refl) (faulty ∙ ap (generator_with_fault kind) h)
 
 pub repair_other : (s : Setup) (ev : List Event) (i k : ℕ) → k ≢ i → generator_at s k (Repair i ∷ ev) ≡ generator_at s k ev
 repair_other s ev i k q = rw (apart i k (λ e. q (sym e))) refl
 
-pub repair_here : (s : Setup) (ev : List Event) (i : ℕ) (x : GeneratorValue) → x ≡ generator_at s i ev → generator_without_fault x ≡ generator_at s i (Repair i ∷ ev)
-repair_here s ev i x h = rw (eq-eqb i i refl) (ap generator_without_fault h)
+pub repair_here : (s : Setup) (ev : List Event) (i : ℕ) (x y : GeneratorValue) → y ≡ generator_without_fault x → x ≡ generator_at s i ev → y ≡ generator_at s i (Repair i ∷ ev)
+repair_here s ev i x y whole h = rw (eq-eqb i i refl) (whole ∙ ap generator_without_fault h)
 
 -- ---- waves
 

@@ -1,9 +1,10 @@
-use Rattle.std.proofs.Common.{rules, ◌≡◌, ◌+◌, ◌<◌, ◌^◌, ◌-◌, ℕ, false, min, is_some, length, sym, ◌∙◌, ap, arith}
+use Rattle.std.proofs.Common.{rules, ◌≡◌, ◌+◌, ◌<◌, ◌∷◌, ◌^◌, ◌-◌, ℕ, false, min, is_some, length, sym, ◌∙◌, ap, arith}
 use Rattle.irig_gen.specs.Frames.{GeneratorValue}
 use Rattle.irig_time.specs.Timelines.{TimelineValue, second_at}
 use Rattle.irig_plant.specs.Schedule.{generator_at}
 use Rattle.irig_plant.specs.Refusals.{unless_second}
-use Rattle.irig_plant.proofs.StepLaws.{a_generator, no_second}
+use Rattle.irig_plant.specs.declared.event.Event.TheVariants.{GenEdge}
+use Rattle.irig_plant.proofs.StepLaws.{a_generator, no_second, set_generator, set_wave, step_other, step_here}
 use Rattle.irig_plant.proofs.plant.Plant.step.Goals as goal
 
 pub returns-then-is_none : goal.returns-then-is_none
@@ -22,5 +23,37 @@ returns-then-is_none g c = record {
       let none : is_some (second_at s.times (min ((generator_at s k ev).edge + 1) (2 ^ 64 - 1))) ≡ false =
       sym (ap is_some (c.at.ensures.value ∙ ap (λ (t : TimelineValue). second_at t c.saturating_add-next.result) p.timeline ∙ ap (second_at s.times) next)) ∙ c.if-is_none.ensures in
       a_generator s k (unless_second s ((generator_at s k ev).edge + 1)) low ∙ no_second s ((generator_at s k ev).edge + 1) none;
+  unchanged = search rules;
+}
+
+pub returns : goal.returns
+returns g c = record {
+  accepted = search rules;
+  stands = λ h p.
+      let s = h.setup in
+      let ev = h.events in
+      let k = c.args.g in
+      let self = c.args.self.now in
+      let low : k < length s.generators = omega (arith, c.in_ok-has_generator.ensures.ok, p.generator_count) in
+      record {
+        timeline = p.timeline;
+        rules = p.rules;
+        redundancy = p.redundancy;
+        generator_count = p.generator_count;
+        generators = set_generator s ev (GenEdge k ∷ ev) self.generators.items k c.index_mut-generator.result.now c.step.new.self
+            (sym self.generators.ok.0 ∙ p.generator_count) low p.generators c.index_mut-generator.ensures.value
+            (λ i. step_other s ev k i) (step_here s ev k c.index_mut-generator.result.now c.step.new.self c.step.ensures);
+        waves = set_wave g.P.Port s ev (GenEdge k ∷ ev) self.waves.items k _
+            (omega (arith, low, p.generator_count, self.carried, self.waves.ok.0))
+            p.waves (λ i. step_other s ev k i) tt;
+        reader_count = p.reader_count;
+        readers = p.readers;
+        log = p.log;
+        few = p.few;
+        is_kept = p.is_kept;
+        told = p.told;
+        audit = p.audit;
+      };
+  refused = search rules;
   unchanged = search rules;
 }
