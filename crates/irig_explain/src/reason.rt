@@ -1,5 +1,6 @@
 //! What is wrong with a line, written part by part.
 
+use irig_forms::start_of;
 use serde_json::Value;
 use std::alloc::{AllocError, Global};
 
@@ -137,9 +138,9 @@ impl Reason {
     }
 
     fn cut(&mut self, text: &str) {
-        match text.char_indices().nth(MOST_SHOWN) {
-            Some((end, _)) => {
-                self.say(text.get(..end).unwrap_or(""));
+        match start_of(text, MOST_SHOWN) {
+            Some(start) => {
+                self.say(start);
                 self.say("..");
             }
             None => self.say(text),

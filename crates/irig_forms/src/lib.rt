@@ -8,6 +8,7 @@ mod key;
 mod keywords;
 mod meaning;
 mod refusal;
+mod words;
 
 pub use fields::{
     few_items, has_form, integer_at, is_named, leap_at, natural_at, naturals_at, reader_at,
@@ -17,3 +18,4 @@ pub use key::{Key, Kind, Text, has_type};
 pub use keywords::{leap_named, parity_of, sbs_use_of, sense_of};
 pub use meaning::{Meaning, meaning_of};
 pub use refusal::{LineFault, Refusal};
+pub use words::start_of;
