@@ -1,12 +1,13 @@
 -- What the values of a plant line keep to: how many there are, and the ranges of a reader's rules.
-use Rattle.std.proofs.Common.{◌≡◌, ◌≤◌, ◌⊎◌, ℕ, ℤ, pos, negsuc, Bool, true, false, cond, List, [], ◌∷◌, length, All, Option, Some, None, refl, ap, sym, subst, rules, inl, inr, suc, codes}
+use Rattle.std.proofs.Common.{◌≡◌, ◌≤◌, ◌⊎◌, ℕ, ℤ, pos, negsuc, Bool, true, false, cond, List, [], ◌∷◌, length, All, Option, Some, None, Ok, refl, ap, sym, subst, rules, inl, inr, suc, codes}
 use Rattle.std.specs.Prelude.{option_map, nat_le, ◌&&◌, ◌==◌}
 use Rattle.std.proofs.lemmas.Bool.{and_parts, or_cases}
 use Rattle.std.proofs.lemmas.Option.{option_and_then_some}
 use Rattle.std.proofs.lemmas.List.Elements.{All-nil, All-cons}
 use Rattle.serde_json.specs.Data.{Data}
 use Rattle.serde_json.specs.Find.{get}
-use Rattle.irig_forms.specs.Json.{all_of, natural_within, whole_at, items_at}
+use Rattle.irig_forms.specs.declared.refusal.Refusal.TheVariants.{Value}
+use Rattle.irig_forms.specs.Json.{all_of, natural_within, whole_at, items_at, or_else}
 use Rattle.irig_forms.specs.Fields.{natural_at}
 use Rattle.irig_reader.specs.declared.rules.ReaderRules.{ReaderRules}
 use Rattle.irig_reader.specs.Rules.{IsReaderRules}
@@ -106,3 +107,11 @@ values_in_range version d v e =
     option_and_then_some _ (all_of reader_of (readers_in d)) v e4 (λ readers read made.
     let are = all_are_of reader_of (λ x. IsReaderRules x.rules) reader_in_range (readers_in d) readers read in
     subst (AreInRange d) (same_some _ v made) (record { generators = generators_count version d generators generated; readers = are.count; range = are.facts }))))))
+
+found_is : {A : Type 0} (o : Option A) (x : A) → or_else Value o ≡ Ok x → o ≡ Some x
+found_is None x e = absurd cc
+found_is (Some y) x e = cc
+
+-- so for the values that a line's object has, where there are any
+pub found_in_range : (version : Version) (d : Data) (v : PlantValues) → or_else Value (plant_values version d) ≡ Ok v → AreInRange d v
+found_in_range version d v e = values_in_range version d v (found_is (plant_values version d) v e)

@@ -1,6 +1,6 @@
 //! The generators of a plant line.
 
-ghost use Rattle.std.specs.Prelude.{◌≡◌, ◌⊎◌, IfOk, length, map, vec_len};
+ghost use Rattle.std.specs.Prelude.{◌≡◌, length, map};
 ghost use Rattle.serde_json.specs.View.{view};
 ghost use Rattle.irig_forms.specs.Json.{all_of};
 ghost use Rattle.irig_forms.specs.Refusals.{FoundUnlessMemory};
@@ -37,9 +37,7 @@ pub(crate) fn generators_of(
     version: Version,
     value: &Value,
 ) -> Result<Vec<GeneratorValues>, LineFault>
-    ensures found { FoundUnlessMemory (λ v. v.items)
-        (generators_of version (view value.now)) result }
-    ensures count { IfOk result (λ v. (vec_len v ≡ 3) ⊎ (vec_len v ≡ 5)) }
+    ensures { FoundUnlessMemory (λ v. v.items) (generators_of version (view value.now)) result }
 {
     let items = items_at(value, "generators").ok_or(Refusal::Value)?;
     if is_count(version, items.len()) {
@@ -59,9 +57,7 @@ fn is_count(version: Version, generators: usize) -> bool
 }
 
 fn all_generators(alloc: Global, values: &[Value]) -> Result<Vec<GeneratorValues>, LineFault>
-    ensures found { FoundUnlessMemory (λ v. v.items)
-        (all_of generator_of (map view values.now)) result }
-    ensures count { IfOk result (λ v. vec_len v ≡ length values.now) }
+    ensures { FoundUnlessMemory (λ v. v.items) (all_of generator_of (map view values.now)) result }
 {
     let mut generators = Vec::new(alloc);
     for value in values {

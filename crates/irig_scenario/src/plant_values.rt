@@ -1,8 +1,7 @@
 //! The values of a plant line.
 
-ghost use Rattle.std.specs.Prelude.{◌≡◌, ◌⊎◌, All, IfOk, length, map};
+ghost use Rattle.std.specs.Prelude.{◌≡◌, map};
 ghost use Rattle.serde_json.specs.View.{view};
-ghost use Rattle.irig_reader.specs.Rules.{IsReaderRules};
 ghost use Rattle.irig_forms.specs.Refusals.{FoundUnlessMemory};
 ghost use Rattle.irig_scenario.specs.PlantValues.{start_of, rules_of, readers_in, plant_values};
 
@@ -51,11 +50,7 @@ pub(crate) fn plant_values(
     version: Version,
     value: &Value,
 ) -> Result<PlantValues, LineFault>
-    ensures found { FoundUnlessMemory (λ v. v) (plant_values version (view value.now)) result }
-    ensures generators { IfOk result (λ v.
-        (length v.generators ≡ 3) ⊎ (length v.generators ≡ 5)) }
-    ensures readers { IfOk result (λ v. All (λ x. IsReaderRules x.rules) v.readers) }
-    ensures count { IfOk result (λ v. length v.readers ≡ length (readers_in (view value.now))) }
+    ensures { FoundUnlessMemory (λ v. v) (plant_values version (view value.now)) result }
 {
     let start = start_of(value).ok_or(Refusal::Value)?;
     let leaps = leaps_of(alloc, value)?;

@@ -1,8 +1,7 @@
 //! The readers of a plant line.
 
-ghost use Rattle.std.specs.Prelude.{◌≡◌, All, IfOk, IfSome, length, map, vec_len, option_map};
+ghost use Rattle.std.specs.Prelude.{◌≡◌, map, option_map};
 ghost use Rattle.serde_json.specs.View.{view};
-ghost use Rattle.irig_reader.specs.Rules.{IsReaderRules};
 ghost use Rattle.irig_forms.specs.Json.{all_of};
 ghost use Rattle.irig_forms.specs.Refusals.{FoundUnlessMemory};
 ghost use Rattle.irig_scenario.specs.PlantValues.{reader_rules_of, table_of, table_if, reader_of};
@@ -36,10 +35,7 @@ impl Model for ReaderValues {
 }
 
 pub(crate) fn all_readers(alloc: Global, values: &[Value]) -> Result<Vec<ReaderValues>, LineFault>
-    ensures found { FoundUnlessMemory (λ v. v.items)
-        (all_of reader_of (map view values.now)) result }
-    ensures count { IfOk result (λ v. vec_len v ≡ length values.now) }
-    ensures range { IfOk result (λ v. All (λ x. IsReaderRules x.rules) v.items) }
+    ensures { FoundUnlessMemory (λ v. v.items) (all_of reader_of (map view values.now)) result }
 {
     let mut readers = Vec::new(alloc);
     for value in values {
@@ -50,8 +46,7 @@ pub(crate) fn all_readers(alloc: Global, values: &[Value]) -> Result<Vec<ReaderV
 
 #[tactic(auto, unfolding(crate::specs::PlantValues::reader_of))]
 fn reader_of(alloc: Global, value: &Value) -> Result<ReaderValues, LineFault>
-    ensures found { FoundUnlessMemory (λ r. r) (reader_of (view value.now)) result }
-    ensures range { IfOk result (λ r. IsReaderRules r.rules) }
+    ensures { FoundUnlessMemory (λ r. r) (reader_of (view value.now)) result }
 {
     let rules = reader_rules_of(value).ok_or(Refusal::Value)?;
     let (until, leaps) = table_if(alloc, value.get("table"))?;
@@ -64,8 +59,7 @@ fn reader_of(alloc: Global, value: &Value) -> Result<ReaderValues, LineFault>
 
 #[tactic(auto, unfolding(crate::specs::PlantValues::reader_rules_of))]
 fn reader_rules_of(value: &Value) -> Option<ReaderRules>
-    ensures value { result ≡ reader_rules_of (view value.now) }
-    ensures range { IfSome result IsReaderRules }
+    ensures { result ≡ reader_rules_of (view value.now) }
 {
     Some(ReaderRules {
         lock_after: natural_at(LOCK_AFTER, value)? as u8,

@@ -1,13 +1,8 @@
-use Rattle.std.proofs.Common.{◌≡◌, All, drop, length}
-use Rattle.irig_reader.specs.Rules.{IsReaderRules}
+use Rattle.std.proofs.Common.{drop}
 use Rattle.irig_scenario.specs.PlantValues.{reader_of}
 use Rattle.irig_forms.proofs.ListLaws.{Found}
 use Rattle.irig_scenario.proofs.reader_values.all_readers.Given as goal
 
 abbrev pub invariant-loop-value : goal.invariant-loop-value
 invariant-loop-value l =
-    record {
-      stands : Found reader_of l.readers.items (drop l.value-index l.values) l.values;
-      count : length l.readers.items ≡ l.value-index;
-      range : All (λ x. IsReaderRules x.rules) l.readers.items;
-    }
+    Found reader_of l.readers.items (drop l.value-index l.values) l.values

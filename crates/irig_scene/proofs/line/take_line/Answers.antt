@@ -1,4 +1,5 @@
-use Rattle.std.proofs.Common.{rules, ◌≡◌, ◌∙◌, ◌||◌, Bool, true, false, refl, sym}
+use Rattle.std.proofs.Common.{rules, ◌≡◌, ◌≤◌, ◌∙◌, ◌||◌, ℕ, Bool, true, false, None, Result, Ok, Err, IfOk, refl, sym}
+use Rattle.irig_scene.specs.Lines.{max_lines}
 use Rattle.irig_scene.proofs.LineRunLaws.{following_takes, following_fails, beginning_takes, memory_taking}
 use Rattle.irig_scene.proofs.line.take_line.Goals as goal
 
@@ -23,3 +24,10 @@ nothing_failed false = refl
 
 pub returns-in-Ok-clause-note : goal.returns-in-Ok-clause-note
 returns-in-Ok-clause-note g c = nothing_failed _
+
+numbered : {A E : Type 0} (result : Result A E) (Q : A → Type 0) (number : ℕ) → number ≤ max_lines → IfOk result (λ x. Q x → number ≤ max_lines)
+numbered (Ok x) Q number few = λ _. few
+numbered (Err fault) Q number few = tt
+
+pub returns-in-Some-clause-number : goal.returns-in-Some-clause-number
+returns-in-Some-clause-number g c = numbered c.follow.result (λ refusal. refusal ≡ None) c.args.number (search rules)

@@ -1,7 +1,8 @@
-use Rattle.std.proofs.Common.{rules, arith}
+use Rattle.std.proofs.Common.{rules, ◌≡◌, None, subst, arith}
 use Rattle.std.proofs.lemmas.Result.{err_from_is_err_and}
 use Rattle.std.proofs.lemmas.Grind.{common_steps}
-use Rattle.irig_scene.specs.PlayerRuns.{after_events}
+use Rattle.irig_device.specs.Watched.{device_of}
+use Rattle.irig_scene.specs.PlayerRuns.{after_events, PlaysFor}
 use Rattle.irig_plant.specs.WholeSecond.{times}
 use Rattle.irig_scene.proofs.SecondsPlayed.{no_second, second_goes, second_stops, second_fails}
 use Rattle.irig_scene.proofs.player.play_seconds.Goals as goal
@@ -40,3 +41,9 @@ returns-then-is_some-clause-note g c = grind (arith, common_steps)
 
 pub returns-clause-note : goal.returns-clause-note
 returns-clause-note g c = grind (arith, common_steps)
+
+pub returns-clause-plays : goal.returns-clause-plays
+returns-clause-plays g c = λ x at names.
+    let all : c.loop.counter ≡ c.args.count = omega (arith, c.loop-test.false, c.loop.auto.counter-end) in
+    subst (λ n. PlaysFor x (times n c.args.second.now) c.args.log.shown c.loop.plant None (g.W.Write.contents (device_of c.args.output.now)) (g.W.Write.contents (device_of c.loop.output))) all
+    (c.loop.invariant.1 x at names)

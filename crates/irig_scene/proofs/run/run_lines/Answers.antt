@@ -1,5 +1,6 @@
 use Rattle.std.proofs.Common.{rules, arith}
 use Rattle.std.proofs.lemmas.Result.{err_from_is_err_and}
+use Rattle.std.proofs.lemmas.Grind.{common_steps}
 use Rattle.irig_scene.proofs.RunLaws.{has_begun, line_done, left_read, left_failed, left_refused, left_too_long, left_last}
 use Rattle.irig_scene.proofs.run.run_lines.Goals as goal
 
@@ -45,3 +46,33 @@ returns-in-EndOfInput-clause-ran g c =
     let run = c.loop-player.invariant.4 in
     left_last _ _ _ _ _ _ _ run _ _ _ _ _ _ _ c.in_ok-read_line.ensures.line c.in-EndOfInput.is c.deref-in-EndOfInput.ensures.value c.limit_of.ensures
     (c.run_last.ensures.runs run.at run.stands)
+
+pub returns-in-Some-clause-read : goal.returns-in-Some-clause-read
+returns-in-Some-clause-read g c = grind (arith, common_steps)
+
+pub returns-in-Some-clause-write : goal.returns-in-Some-clause-write
+returns-in-Some-clause-write g c = grind (arith, common_steps)
+
+pub returns-in-TooLong-clause-read : goal.returns-in-TooLong-clause-read
+returns-in-TooLong-clause-read g c = grind (arith, common_steps)
+
+pub returns-in-TooLong-clause-write : goal.returns-in-TooLong-clause-write
+returns-in-TooLong-clause-write g c = grind (arith, common_steps)
+
+pub returns-in-EndOfInput-clause-read : goal.returns-in-EndOfInput-clause-read
+returns-in-EndOfInput-clause-read g c = grind (arith, common_steps)
+
+pub returns-in-EndOfInput-clause-write : goal.returns-in-EndOfInput-clause-write
+returns-in-EndOfInput-clause-write g c = grind (arith, common_steps)
+
+pub returns-in_err-read_line-clause-read : goal.returns-in_err-read_line-clause-read
+returns-in_err-read_line-clause-read g c = grind (arith, common_steps)
+
+pub returns-in_err-read_line-clause-write : goal.returns-in_err-read_line-clause-write
+returns-in_err-read_line-clause-write g c = grind (arith, common_steps)
+
+pub returns-in_err-refusal-in-Newline-clause-read : goal.returns-in_err-refusal-in-Newline-clause-read
+returns-in_err-refusal-in-Newline-clause-read g c = grind (arith, common_steps)
+
+pub returns-in_err-refusal-in-Newline-clause-write : goal.returns-in_err-refusal-in-Newline-clause-write
+returns-in_err-refusal-in-Newline-clause-write g c = grind (arith, common_steps)
