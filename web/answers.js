@@ -1,0 +1,42 @@
+// What web/compare.py asks of the page's modules, in node and in a browser. A request is a scenario, a second
+// whose frame is to be made, or a frame to be read; of a scenario the answer is status and hash of its log.
+
+const bytes_of = (text) => Uint8Array.from(atob(text), (letter) => letter.charCodeAt(0));
+
+async function hash_of(bytes) {
+  const digest = new Uint8Array(await crypto.subtle.digest("SHA-256", bytes));
+  return Array.from(digest, (byte) => byte.toString(16).padStart(2, "0")).join("");
+}
+
+// How the page stood each reader, as tools/bars.py and tools/view have it.
+function lanes_of({ lanes, causes, first, last, verdict }) {
+  const runs_of = ({ firsts, lasts, states, causes: of_runs }) =>
+    Array.from(firsts, (from, place) => [from, lasts[place], states[place], causes[of_runs[place]]]);
+  const ticks_of = ({ ends, makers }) => Array.from(ends, (edge, place) => [edge, makers[place] + 1]);
+  const shown = lanes.map((lane) => [lane.reader, runs_of(lane), lane.marks, ticks_of(lane)]);
+  return { lanes: shown, first, last, verdict };
+}
+
+function frame_of({ time, ...wanted }, { codec, frame_text }) {
+  const symbols = codec.frame(time, wanted);
+  return symbols && frame_text(symbols);
+}
+
+function reading_of_text(text, { codec, symbols_of, reading_of }) {
+  const { symbols } = symbols_of(text);
+  return symbols ? reading_of(codec, symbols).join("\n") : null;
+}
+
+async function answer_of(request, calls) {
+  if (request.time !== undefined) return frame_of(request, calls);
+  if (request.frame !== undefined) return reading_of_text(request.frame, calls);
+  const result = await calls.run(bytes_of(request.text), request.all);
+  const answer = [result.status, await hash_of(result.log)];
+  return request.lanes ? [...answer, lanes_of(result)] : answer;
+}
+
+async function answers_of(requests, calls) {
+  const answers = [];
+  for (const request of requests) answers.push(await answer_of(request, calls));
+  return answers;
+}

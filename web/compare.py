@@ -1,0 +1,222 @@
+#!/usr/bin/env python3
+"""Compares the page with the program, `compare.py PAGE PROGRAM`: in node and in Chromium, status and bytes
+of each case and example, of 3,000 scenarios made by chance, and frames that are made and read. How the page
+stands the readers is compared with tools/bars.py and tools/view."""
+from __future__ import annotations
+
+import base64
+import hashlib
+import json
+import random
+import subprocess
+import sys
+from collections.abc import Iterator
+from concurrent.futures import ThreadPoolExecutor
+from importlib.machinery import SourceFileLoader
+from importlib.util import module_from_spec, spec_from_loader
+from pathlib import Path
+from types import ModuleType
+
+WEB = Path(__file__).resolve().parent
+ROOT = WEB.parent
+sys.path.insert(0, str(ROOT / "tools"))
+
+import browser  # noqa: E402
+from bars import STATES, bars_of  # noqa: E402
+
+BY_CHANCE, FRAMES = 3000, 400
+MOST_SECONDS = 5_000  # of a scenario made by chance, so that all end soon
+BATCH = 100
+NAMES = list(STATES)
+LETTERS = "01P?"
+FORMS = [], ["run", "SCENARIO"], ["run", "-"]  # of the words of a case that is a run, without options
+
+
+def loaded(name: str, path: Path) -> ModuleType:
+    """A command of Python as a module."""
+    spec = spec_from_loader(name, SourceFileLoader(name, str(path)))
+    assert spec and spec.loader
+    module = module_from_spec(spec)
+    spec.loader.exec_module(module)
+    return module
+
+
+FUZZ = loaded("fuzz", ROOT / "tests/fuzz")
+VIEW = loaded("view", ROOT / "tools/view")
+
+
+# ---- what is asked, and what the program says of it
+
+
+def ran(program: Path, *words: str, text: bytes = b"") -> tuple[int, bytes]:
+    done = subprocess.run([program, *words], input=text, capture_output=True, timeout=120)
+    return done.returncode, done.stdout
+
+
+def scenario(text: bytes, has_all: bool, has_lanes: bool) -> dict:
+    return {"text": base64.b64encode(text).decode(), "all": has_all, "lanes": has_lanes}
+
+
+def told_scenario(program: Path, request: dict) -> list:
+    text = base64.b64decode(request["text"])
+    status, log = ran(program, "run", "-", *["--all"] * request["all"], text=text)
+    answer = [status, hashlib.sha256(log).hexdigest()]
+    return [*answer, lanes_of(text.decode(errors="replace"), log.decode())] if request["lanes"] else answer
+
+
+def lanes_of(text: str, log: str) -> dict:
+    """How the readers stood, by the tools; nothing where there is nothing to draw."""
+    lines = log.splitlines()
+    verdict = lines[-1] if lines and not lines[-1][:1].isdigit() else None
+    if not lines or not lines[0][0].isdigit():
+        return {"lanes": [], "first": 1, "last": 1, "verdict": verdict}
+    bars = bars_of(lines)
+    ticks = VIEW.ticks_of(text.split("\n"), [lane.reader for lane in bars.lanes])
+    lanes = [
+        [
+            lane.reader,
+            [[run.first, run.last, NAMES.index(run.state), run.cause] for run in lane.runs],
+            [[mark.at, mark.kind] for mark in lane.marks],
+            ticks[lane.reader],
+        ]
+        for lane in bars.lanes
+    ]
+    return {"lanes": lanes, "first": bars.first, "last": bars.last, "verdict": verdict}
+
+
+def files() -> Iterator[bytes]:
+    """The scenario of each case that is one, and of each example."""
+    for folder in sorted((ROOT / "cases").iterdir()):
+        words = (folder / "args").read_text(errors="replace").split()
+        words = [word for word in words if word not in ("--all", "--ports")]
+        name = "scenario.jsonl" if "SCENARIO" in words else "stdin"
+        if words in FORMS and (folder / name).exists():
+            yield (folder / name).read_bytes()
+    for path in sorted((ROOT / "examples").glob("*.jsonl")):
+        yield path.read_bytes()
+
+
+def by_chance() -> Iterator[bytes]:
+    FUZZ.MOST_SECONDS = MOST_SECONDS
+    for number in range(BY_CHANCE):
+        yield FUZZ.scenario(random.Random(f"web:{number}"))
+
+
+def second(chance: random.Random) -> str:
+    """A second of the years served, or some other text."""
+    if chance.random() < 0.1:
+        return chance.choice(["2016-12-31", "2017-12-31T23:59:61Z", "2016-02-30T00:00:00Z", "now"])
+    month = chance.choice(["01-31", "06-30", "12-31", "02-28", "02-29", "07-04", "09-30"])
+    clock = chance.choice(["00:00:00", "23:59:58", "23:59:59", "23:59:60", "12:34:56", "22:30:01"])
+    return f"{chance.randrange(1999, 2101)}-{month}T{clock}Z"
+
+
+def frame(chance: random.Random) -> dict:
+    return {
+        "time": second(chance), "local": chance.choice([0, 0, *range(-31, 32)]),
+        "pending": chance.choice(["", "insert", "delete"]), "dst": False, "dst_pending": False,
+        "quality": 0, "is_odd": False,
+    }
+
+
+def told_frame(program: Path, request: dict) -> str | None:
+    words = [request["time"], f"--local={request['local']}"]
+    words += [f"--pending={request['pending']}"] if request["pending"] else []
+    status, text = ran(program, "frame", *words)
+    return text.decode().rstrip("\n") if status == 0 else None
+
+
+def damaged(chance: random.Random, text: str) -> str:
+    """A frame of which some letters are others, too few or too many."""
+    letters = list(text)
+    for _ in range(chance.choice([0, 1, 1, 1, 2, 5, 40])):
+        at = chance.randrange(len(letters))
+        letters[at : at + 1] = chance.choice([*LETTERS, *LETTERS, "", "01", "x", " "])
+    return "".join(letters)
+
+
+def told_reading(program: Path, request: dict) -> str | None:
+    status, text = ran(program, "read", request["frame"])
+    return text.decode().rstrip("\n") if status == 0 else None
+
+
+def expected(program: Path) -> tuple[dict[str, list[dict]], dict[str, list]]:
+    """The requests of each kind, and the answers of the program."""
+    chance = random.Random("frames")
+    found = [scenario(text, has_all, True) for text in files() for has_all in (False, True)]
+    made = [scenario(text, place % 2 == 0, False) for place, text in enumerate(by_chance())]
+    frames = [frame(chance) for _ in range(FRAMES)]
+    with ThreadPoolExecutor(2) as pool:
+        answers = {
+            "runs of cases and examples": list(pool.map(lambda it: told_scenario(program, it), found)),
+            "runs made by chance": list(pool.map(lambda it: told_scenario(program, it), made)),
+            "frames": list(pool.map(lambda it: told_frame(program, it), frames)),
+        }
+        texts = [text for text in answers["frames"] if text]
+        readings = [{"frame": damaged(chance, chance.choice(texts))} for _ in range(FRAMES)]
+        answers["readings"] = list(pool.map(lambda it: told_reading(program, it), readings))
+    return dict(zip(answers, (found, made, frames, readings))), answers
+
+
+# ---- what the page answers
+
+
+def in_node(page: Path, requests: list[dict]) -> list:
+    words = ["node", WEB / "run.mjs", page]
+    done = subprocess.run(words, input=json.dumps(requests), capture_output=True, text=True, check=True)
+    return json.loads(done.stdout)
+
+
+IN_BROWSER = """
+const worker_of_check = new Worker(tab.runner.source);
+const calls_of_check = Promise.all([ready, modules.runner]).then(([[, codec], module]) => ({
+  codec, frame_text, symbols_of, reading_of,
+  run: (text, all) => new Promise((told, failed) => {
+    worker_of_check.onmessage = ({ data }) => {
+      if (data.kind === "done") told(data);
+      if (data.kind === "failed") failed(new Error(data.reason));
+    };
+    worker_of_check.postMessage({ module, text, all, most: 1 << 30 });
+  }),
+}));
+"""
+
+
+def in_browser(page: Path, requests: list[dict]) -> list:
+    """By a worker of the page, under its policy."""
+    window = browser.Browser()
+    try:
+        window.open(page)
+        window.ask((WEB / "answers.js").read_text() + IN_BROWSER + "0")
+        answers: list = []
+        for first in range(0, len(requests), BATCH):
+            batch = json.dumps(requests[first : first + BATCH])
+            told = window.ask(f"calls_of_check.then((calls) => answers_of({batch}, calls))")
+            assert isinstance(told, list)
+            answers += told
+        if window.errors:
+            raise RuntimeError(f"the page says {window.errors}")
+        return answers
+    finally:
+        window.close()
+
+
+def main() -> None:
+    page, program = Path(sys.argv[1]).resolve(), Path(sys.argv[2]).resolve()
+    requests, wanted = expected(program)
+    wrong = 0
+    for place, answers_of in (("node", in_node), ("Chromium", in_browser)):
+        for kind, asked in requests.items():
+            answers = answers_of(page, asked)
+            differ = [it for it in zip(asked, answers, wanted[kind], strict=True) if it[1] != it[2]]
+            wrong += len(differ)
+            print(f"{place}: {len(asked) - len(differ)} of {len(asked)} {kind} are as the program has them")
+            for request, answer, program_says in differ[:3]:
+                print(f"  {json.dumps(request)[:600]}\n  {answer}, and the program: {program_says}")
+    statuses = [answer[0] for answer in wanted["runs made by chance"]]
+    print(f"of those by chance {statuses.count(0)} are done, {statuses.count(3)} refused")
+    sys.exit(wrong > 0)
+
+
+if __name__ == "__main__":
+    main()

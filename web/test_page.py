@@ -1,0 +1,589 @@
+#!/usr/bin/env python3
+"""Drives the page as a person would, in Chromium: `test_page.py PAGE`. With `--pictures FOLDER` it leaves
+pictures of what it saw there."""
+from __future__ import annotations
+
+import base64
+import hashlib
+import http.server
+import json
+import re
+import sys
+import threading
+import time
+import unittest
+from pathlib import Path
+
+WEB = Path(__file__).resolve().parent
+ROOT = WEB.parent
+sys.path.insert(0, str(ROOT / "tools"))
+
+import browser  # noqa: E402
+from bars import STATES  # noqa: E402
+
+PAGE = WEB / "out/irig.html"
+PICTURES: Path | None = None
+PATIENCE = 60.0
+
+PLANT = {
+    "version": 1, "start": "2016-12-31T23:00:00Z", "leaps": [{"day": "2016-12-31", "kind": "insert"}],
+    "parity": "even", "sense": "add", "sbs": "check", "generators": [{"local": 0}] * 3,
+    "readers": [{"name": "relay", "lock_after": 2, "holdover": 3600}],
+}
+
+SIXTEEN = [{"name": f"r{number}", "lock_after": 2, "holdover": 9} for number in range(16)]
+
+
+def plant(*lines: dict, **changed: object) -> str:
+    return "".join(f"{json.dumps(line, separators=(',', ':'))}\n" for line in ({**PLANT, **changed}, *lines))
+
+
+def trap_module() -> bytes:
+    """A module whose `irig_run` does nothing but trap, and whose heap gives a place."""
+
+    def section(number: int, *parts: bytes) -> bytes:
+        body = bytes([len(parts)]) + b"".join(parts)
+        return bytes([number, len(body)]) + body
+
+    def name(text: str) -> bytes:
+        return bytes([len(text)]) + text.encode()
+
+    i32, i64 = 0x7F, 0x7E
+    types = section(
+        1,
+        bytes([0x60, 1, i64, 1, i64]),
+        bytes([0x60, 6, i64, i64, i32, i64, i64, i64, 1, i32]),
+    )
+    imports = section(2, name("env") + name("memory") + bytes([2, 0, 1]))
+    functions = section(3, bytes([0]), bytes([1]))
+    exports = section(7, name("heap_give") + bytes([0, 0]), name("irig_run") + bytes([0, 1]))
+    give, trap = bytes([5, 0, 0x42, 0x80, 0x08, 0x0B]), bytes([3, 0, 0x00, 0x0B])
+    return b"\0asm\1\0\0\0" + types + imports + functions + exports + section(10, give, trap)
+
+
+class InBrowser(unittest.TestCase):
+    """What the page does."""
+
+    @classmethod
+    def setUpClass(cls) -> None:
+        cls.page = browser.Browser()
+        cls.addClassCleanup(cls.page.close)
+        cls.page.size(1200, 900)
+
+    def setUp(self) -> None:
+        self.page.scheme("light")
+        self.open()
+
+    def tearDown(self) -> None:
+        self.assertEqual(self.page.errors, [])
+
+    # ---- what a person does
+
+    def open(self) -> None:
+        self.page.open(PAGE)
+        self.page.ask("ready.then(() => 0)")
+
+    def text(self, name: str) -> str:
+        return str(self.page.ask(f"part('{name}').textContent"))
+
+    def value(self, name: str) -> str:
+        return str(self.page.ask(f"part('{name}').value"))
+
+    def set(self, name: str, value: str) -> None:
+        """What a hand would choose or write."""
+        self.page.ask(
+            f"(() => {{ const it = part('{name}'); it.value = {json.dumps(value)};"
+            " for (const kind of ['input', 'change'])"
+            " it.dispatchEvent(new Event(kind, { bubbles: true })); })()"
+        )
+        self.page.settle()
+
+    def paste(self, name: str, text: str) -> None:
+        """In place of what stands there."""
+        self.page.ask(f"(() => {{ part('{name}').focus(); part('{name}').select(); }})()")
+        self.page.call("Input.insertText", text=text)
+        self.page.settle()
+
+    def push(self, name: str) -> None:
+        self.page.ask(f"part('{name}').scrollIntoView({{ block: 'nearest' }})")
+        box = self.place(name)
+        self.page.click(box["x"] + box["width"] / 2, box["y"] + box["height"] / 2)
+
+    def place(self, name: str) -> dict:
+        found = self.page.ask(f"part('{name}').getBoundingClientRect().toJSON()")
+        assert isinstance(found, dict)
+        return found
+
+    def press(self, name: str, *keys: str) -> None:
+        self.page.ask(f"part('{name}').focus()")
+        self.page.press(*keys)
+
+    def wait(self, expression: str, patience: float = PATIENCE) -> None:
+        end = time.monotonic() + patience
+        while not self.page.ask(expression):
+            if time.monotonic() > end:
+                self.fail(f"{expression}: {self.text('state')}")
+            time.sleep(0.02)
+        self.page.settle()
+
+    def end_of_run(self) -> str:
+        self.wait("!part('run').disabled")
+        return self.text("state")
+
+    def run_text(self, text: str) -> str:
+        self.set("text", text)
+        self.push("run")
+        return self.end_of_run()
+
+    def log(self) -> str:
+        return str(self.page.ask("new TextDecoder().decode(tab.log.lines.bytes)"))
+
+    def picture(self, name: str) -> None:
+        if PICTURES:
+            self.page.picture(PICTURES / f"{name}.png")
+
+    # ---- running
+
+    def test_each_example(self) -> None:
+        names = self.page.ask("[...part('example').options].map((it) => it.value).filter((it) => it)")
+        self.assertEqual(set(names), {path.stem for path in (ROOT / "examples").glob("*.jsonl")})
+        for name in names:
+            with self.subTest(name):
+                self.set("example", name)
+                arguments = ROOT / f"examples/{name}.args"
+                has_all = arguments.exists() and "--all" in arguments.read_text().split()
+                if self.page.ask("part('all').checked") != has_all:
+                    self.push("all")
+                self.assertEqual(self.value("text"), (ROOT / f"examples/{name}.jsonl").read_text())
+                self.assertIn("Look at", self.text("look"))
+                self.push("run")
+                self.assertTrue(self.end_of_run().startswith("done: "))
+                log = (ROOT / f"examples/{name}.log").read_text()
+                self.assertEqual(self.log(), log)
+                self.assertIn(log.splitlines()[-1], self.text("verdict"))
+        self.picture("example")
+
+    def test_keys_lead_everywhere(self) -> None:
+        self.set("example", "two_liars")
+        self.push("run")
+        self.end_of_run()
+        self.page.ask("part('tab-run').focus()")
+        reached = []
+        for _ in range(40):
+            for kind in ("keyDown", "keyUp"):
+                self.page.call("Input.dispatchKeyEvent", type=kind, key="Tab", windowsVirtualKeyCode=9)
+            reached.append(self.page.ask("document.activeElement.id"))
+        self.assertLessEqual(
+            {"example", "all", "most", "run", "to-verdict", "cause", "reader", "previous", "next", "edge",
+             "in", "out", "whole", "canvas", "file", "link", "text", "search", "search-next", "save", "log"},
+            set(reached),
+        )
+
+    def test_keys_alone(self) -> None:
+        self.set("example", "two_liars")
+        self.page.ask("part('text').focus()")
+        for kind in ("keyDown", "keyUp"):
+            self.page.call("Input.dispatchKeyEvent", type=kind, key="Enter", modifiers=2)
+        self.assertTrue(self.end_of_run().startswith("done: "))
+        self.assertIn("premises broken: edge 5 reader relay", self.text("verdict"))
+        self.push("to-verdict")
+        self.assertTrue(self.text("line").startswith("5 relay - unlocked jump"))
+
+    def test_a_pasted_scenario(self) -> None:
+        self.paste("text", plant({"do": "seconds", "n": 3603}))
+        self.assertEqual((self.value("example"), self.text("size")), ("", "2 lines"))
+        self.push("run")
+        self.assertTrue(self.end_of_run().startswith("done: 3,604 lines of log in "))
+        self.assertIn("premises kept", self.text("verdict"))
+        self.assertIn("3600 relay 2016-12-31T23:59:60Z locked voted", self.log())
+        self.paste("text", plant({"do": "seconds", "n": 3}))
+        self.assertFalse(self.page.ask("part('stale').hidden"))
+
+    def test_a_refused_line(self) -> None:
+        state = self.run_text(plant({"do": "seconds", "n": 5}, {"do": "tick", "r": "rely"}))
+        self.assertTrue(state.startswith("a line is refused: 6 lines"), state)
+        self.assertIn("refused: line 3: 19 NoSuchReader", self.text("verdict"))
+        told = self.text("explanation")
+        self.assertTrue(told.startswith("Line 3 is refused, 19 NoSuchReader: no reader has this name."), told)
+        self.assertEqual(self.page.ask("part('text').getAttribute('aria-invalid')"), "true")
+        self.assertFalse(self.page.ask("part('band').hidden"))
+        self.push("to-verdict")
+        chosen = "(({ value, selectionStart, selectionEnd }) => value.slice(selectionStart, selectionEnd))"
+        self.assertEqual(self.page.ask(f"{chosen}(part('text'))"), '{"do":"tick","r":"rely"}')
+        self.picture("refused")
+        self.paste("text", plant({"do": "seconds", "n": 5}))
+        self.assertEqual((self.text("explanation"), self.page.ask("part('band').hidden")), ("", True))
+
+    def test_no_scenario(self) -> None:
+        self.assertTrue(self.run_text("").startswith("a line is refused"))
+        self.assertIn("29 NoPlant", self.text("verdict"))
+        self.assertTrue(self.run_text("no scenario\n").startswith("a line is refused"))
+        self.assertIn("24 Json", self.text("explanation"))
+        self.assertTrue(self.page.ask("part('drawing').hidden"))
+
+    def test_a_long_run_is_stopped(self) -> None:
+        self.set("text", plant(*[{"do": "seconds", "n": 100_000}] * 2, readers=SIXTEEN))
+        self.push("run")
+        self.wait("tab.progress !== null && part('progress').hasAttribute('value')")
+        self.wait("part('pace').textContent.includes('of log')")
+        self.picture("running")
+        self.push("stop")
+        self.assertTrue(self.text("state").startswith("stopped after "), self.text("state"))
+        self.assertEqual(self.page.ask("[part('stop').disabled, tab.runner.worker]"), [True, None])
+        self.assertTrue(self.run_text(plant({"do": "seconds", "n": 3})).startswith("done: 4 lines"))
+
+    def test_memory_runs_out(self) -> None:
+        self.set("most", "64")
+        state = self.run_text(plant({"do": "seconds", "n": 100_000}, readers=SIXTEEN))
+        self.assertTrue(state.startswith("no memory for the log: "), state)
+        self.assertIn("memory ran out", self.text("verdict"))
+        self.picture("memory")
+        self.assertTrue(self.run_text(plant({"do": "seconds", "n": 3})).startswith("done: 4 lines"))
+
+    def test_a_trap(self) -> None:
+        module = base64.b64encode(trap_module()).decode()
+        self.page.ask(f"(() => {{ tab.runner.module = WebAssembly.compile(bytes_in('{module}')); }})()")
+        state = self.run_text(plant({"do": "seconds", "n": 3}))
+        self.assertTrue(state.startswith("the module stopped itself: unreachable"), state)
+        self.page.ask("(() => { tab.runner.module = modules.runner; })()")
+        self.assertTrue(self.run_text(plant({"do": "seconds", "n": 3})).startswith("done: 4 lines"))
+
+    def test_a_worker_that_ends(self) -> None:
+        self.page.ask(
+            "(() => { tab.runner.right = tab.runner.source;"
+            " tab.runner.source = URL.createObjectURL(new Blob(['throw new Error(\"worn\")'])); })()"
+        )
+        state = self.run_text(plant({"do": "seconds", "n": 3}))
+        self.assertTrue(state.startswith("the run could not end: ") and "worn" in state, state)
+        self.page.errors.clear()
+        self.page.ask("(() => { tab.runner.source = tab.runner.right; })()")
+        self.assertTrue(self.run_text(plant({"do": "seconds", "n": 3})).startswith("done: 4 lines"))
+
+    # ---- what a run shows
+
+    def on_edge(self, edge: float, lane: int) -> tuple[float, float]:
+        box = self.place("canvas")
+        x = float(str(self.page.ask(f"tab.timeline.x_of({edge})")))
+        return box["x"] + x, box["y"] + 14 + 46 * lane + 18
+
+    def test_the_timeline(self) -> None:
+        self.set("example", "dark_hour")
+        self.push("run")
+        self.end_of_run()
+        self.press("canvas", "End")
+        self.assertTrue(self.text("line").startswith("3616 relay 2016-06-15T13:00:16Z locked voted"))
+        self.assertIn('scenario line 10: {"do":"seconds","n":8}', self.text("line"))
+        self.press("canvas", "Home", "+", "+")
+        self.assertEqual(self.text("range"), "edges 1 to 904 of 1 to 3616")
+        self.press("canvas", "0")
+        self.set("cause", "expired")
+        self.push("next")
+        self.assertTrue(self.text("line").startswith("19 relay - unlocked expired\nno vote for more than"))
+        chosen = "document.querySelector('#log [aria-selected=true]').dataset.number"
+        self.assertEqual(self.page.ask(chosen), "18")
+        self.page.mouse("mouseMoved", *self.on_edge(2000, 0))
+        self.assertTrue(self.text("hover").startswith("2000 relay - unlocked no-vote\nthere was no vote"))
+        self.picture("hover")
+        self.page.mouse("mouseWheel", *self.on_edge(3616, 0), deltaX=0, deltaY=-900)
+        self.page.settle()
+        self.assertIn("to 3616 of", self.text("range"))
+
+    def test_marks_and_colours(self) -> None:
+        self.set("example", "leap_inserted")
+        self.push("run")
+        self.end_of_run()
+        self.assertEqual(
+            self.page.ask("tab.timeline.lanes.map((lane) => lane.marks)"),
+            [[[10, "leap second"], [10.5, "month end"]]] * 2,
+        )
+        self.assertIn("23:59:60 inserted", self.text("legend"))
+        self.page.click(*self.on_edge(10, 0))
+        self.assertTrue(self.text("line").startswith("10 relay 2016-12-31T23:59:60Z locked voted"))
+        self.picture("leap")
+        box = self.place("canvas")
+        for edge, state in ((5, "locked"), (1, "acquiring")):
+            x, y = self.on_edge(edge, 1)
+            at = f"{x - box['x']}, {y - box['y']}"
+            points = self.page.ask(f"Array.from(tab.timeline.brush.getImageData({at}, 8, 6).data)")
+            found = {bytes(points[place:place + 3]).hex() for place in range(0, len(points), 4)}
+            self.assertIn(STATES[state].colour[1:].lower(), found)
+
+    def test_a_scenario_that_is_too_long_to_edit(self) -> None:
+        text = plant(*[{"do": "seconds", "n": 1}] * 20_000, {"do": "tick", "r": "rely"})
+        self.page.ask(
+            f"(() => {{ const held = new DataTransfer(); held.setData('text/plain', {json.dumps(text)});"
+            " part('text').select(); part('text').dispatchEvent(new ClipboardEvent('paste',"
+            " { clipboardData: held, bubbles: true, cancelable: true })); })()"
+        )
+        self.assertEqual(self.text("size"), "20,002 lines, not to be edited here")
+        self.assertEqual(self.page.ask("tab.editor.text"), text)
+        self.push("run")
+        self.assertTrue(self.end_of_run().startswith("a line is refused: 20,001 lines"))
+        self.push("to-verdict")
+        marked = "document.querySelector('#held .found').textContent"
+        self.assertEqual(self.page.ask(marked), '{"do":"tick","r":"rely"}')
+        self.set("example", "restart")
+        self.assertEqual(self.value("text"), (ROOT / "examples/restart.jsonl").read_text())
+        self.assertEqual(self.page.ask("part('held').hidden"), True)
+
+    def drop(self, content: bytes) -> None:
+        """Drops a file on the page, and waits until it was read."""
+        octets = list(content)
+        self.page.ask(
+            f"(() => {{ const dataTransfer = new DataTransfer(), bytes = new Uint8Array({octets});"
+            " dataTransfer.items.add(new File([bytes], 'plant.jsonl'));"
+            " part('editor').dispatchEvent(new DragEvent('drop', { dataTransfer, bubbles: true })); })()"
+        )
+        self.page.ask("new Promise((done) => setTimeout(done, 100))")
+
+    def test_files(self) -> None:
+        text = plant({"do": "seconds", "n": 2})
+        for content, size in (
+            (text.encode(), "2 lines"),
+            (text.replace("\n", "\r\n").encode(), "2 lines"),
+            (text.replace("\n", "\r", 1).encode(), "1 line, not to be edited here"),
+            ("\ufeff".encode() + text.encode(), "2 lines"),
+        ):
+            with self.subTest(content):
+                self.drop(content)
+                self.assertEqual(self.text("size"), size)
+                self.push("run")
+                is_right = content[0] == ord("{") and b"\r{" not in content
+                self.assertTrue(self.end_of_run().startswith("done: " if is_right else "a line is refused"))
+        self.drop(b'{"version":1}\n\xff\n')
+        self.assertIn("plant.jsonl can't be read as text in UTF-8", self.text("state"))
+
+    def test_search(self) -> None:
+        self.set("example", "leap_inserted")
+        self.push("run")
+        self.end_of_run()
+        self.paste("search", "23:59:60")
+        self.assertEqual(self.text("searched"), "2 lines")
+        self.press("search", "Enter")
+        self.assertTrue(self.text("line").startswith("10 relay 2016-12-31T23:59:60Z"))
+        self.push("search-next")
+        self.assertTrue(self.text("line").startswith("10 recorder 2016-12-31T23:59:60Z"))
+        self.assertEqual(self.text("searched"), "2 of 2")
+        self.press("log", "End")
+        self.press("log", "ArrowUp")
+        self.assertTrue(self.text("line").startswith("14 recorder"))
+
+    def test_long_logs(self) -> None:
+        """A reader that is silent at each other edge, and sixteen that are locked."""
+        flickers = [
+            {"do": "seconds", "n": 1}, {"do": "tick", "r": "relay"},
+            *({"do": "step", "g": g} for g in range(3)),
+        ]
+        one = [{"name": "relay", "lock_after": 1, "holdover": 0}]
+        for text, lines in (
+            (plant(*flickers * 50_000, readers=one), 100_001),
+            (plant({"do": "seconds", "n": 17_300}, readers=SIXTEEN), 276_801),
+        ):
+            self.page.ask(f"tab.set_text({json.dumps(text)})")
+            self.push("run")
+            state = self.end_of_run()
+            with self.subTest(state):
+                self.assertTrue(state.startswith(f"done: {lines:,} lines"), state)
+                self.check_smoothness(lines)
+                self.press("log", "End")
+                self.assertEqual(self.page.ask("tab.log.chosen"), lines - 1)
+                self.assertTrue(self.page.ask("document.querySelector('#log [aria-selected=true]') !== null"))
+                self.picture(f"long-{lines}")
+
+    def check_smoothness(self, lines: int) -> None:
+        options = "document.querySelectorAll('#log [role=option]').length"
+        self.assertLess(self.page.ask(options), 200)
+        for name, most, what in (
+            ("drawing the timeline", 50, "tab.timeline.draw()"),
+            ("showing a line", 50, "tab.log.show(tab.log.lines.length >> 1)"),
+            ("choosing an edge", 50, "tab.timeline.choose(tab.timeline.lanes[0], 9); tab.timeline.draw()"),
+            ("a search", 250, "tab.log.lines.lines_with('00:59:59')"),
+        ):
+            spent = min(self.time_of(what) for _ in range(5))
+            print(f"{lines:,} lines: {name} takes {spent:.1f} ms")
+            self.assertLess(spent, most, f"milliseconds for {name}")
+
+    def time_of(self, what: str) -> float:
+        timed = f"(() => {{ const t = performance.now(); {what}; return performance.now() - t; }})()"
+        return float(str(self.page.ask(timed)))
+
+    # ---- frames
+
+    def test_a_frame(self) -> None:
+        self.push("tab-frame")
+        self.paste("time", "2016-12-31T23:59:60Z")
+        self.set("pending", "")
+        self.set("zone", "2")
+        self.assertEqual(
+            self.value("frame-text"),
+            "P00000011P 100101010P 000000000P 100000000P 000000000P"
+            " 111001000P 000011000P 000001000P 000010000P 111000000P",
+        )
+        fields = self.text("frame-fields")
+        for told in ("second1 to 4, 6 to 860", "offset64 to 68, 70-2 half hours", "parity75even"):
+            self.assertIn(told, fields)
+        titles = "[...document.querySelectorAll('#frame-elements td')].map((it) => it.title)"
+        elements = self.page.ask(titles)
+        self.assertEqual(len(elements), 100)
+        self.assertEqual(elements[7], "element 7: second, weight 20; a one")
+        self.assertEqual(elements[0], "element 0: the marker PR; a marker")
+        self.picture("frame")
+        self.paste("time", "2016-12-30T23:59:60Z")
+        self.assertIn("is no UTC second", self.text("frame-state"))
+        self.assertEqual(self.page.ask("part('time').getAttribute('aria-invalid')"), "true")
+
+    def test_reading(self) -> None:
+        self.push("tab-frame")
+        self.push("to-read")
+        self.assertEqual(
+            self.text("reading"),
+            "coded 2016-366 23:59:59 control 16385 sbs 86399\nclaim 2016-12-31T23:59:59Z insert",
+        )
+        self.assertEqual(self.text("faults"), "")
+        text = self.value("read-text").replace(" ", "")
+        self.paste("read-text", text[:3] + "?" + text[4:49] + "0" + text[50:99] + "1")
+        self.assertEqual(self.text("reading"), "fault 3 Pulse 3")
+        wrong = "[...document.querySelectorAll('#read-elements .wrong')].map((it) => it.title)"
+        self.assertEqual(
+            self.page.ask(wrong),
+            [
+                "element 3: second, weight 4; a bad pulse; fault 3 Pulse 3",
+                "element 49: the marker P5; a zero; fault 4 Marker 49",
+                "element 99: the marker P0; a one; fault 4 Marker 99",
+            ],
+        )
+        self.assertIn("measure the pulses of that element", self.text("faults"))
+        self.picture("read")
+        self.paste("read-text", "P 01x")
+        self.assertIn("letter 5, x, stands for no symbol", self.text("reading"))
+        self.paste("read-text", "")
+        self.assertEqual(self.text("reading"), "silence")
+
+    def test_faults_of_fields(self) -> None:
+        self.push("tab-read")
+        text = self.value("read-text").replace(" ", "")
+        self.paste("read-text", text[:10] + "1111" + text[14:20] + "0011" + text[24:])
+        self.assertEqual(self.text("reading"), "fault 5 Digit minute")
+        self.assertIn("fault 5 Digit hour", self.text("faults"))
+        self.paste("read-text", text[:75] + ("0" if text[75] == "1" else "1") + text[76:])
+        self.assertIn("fault 17 Parity", self.text("faults"))
+
+    # ---- links, looks and the policy
+
+    def test_a_link(self) -> None:
+        text = plant({"do": "seconds", "n": 7}) + '{"x":"\u00e9 </script>"}\n'
+        self.set("text", text)
+        self.push("link")
+        self.wait("part('link-text').value.includes('#scenario=')")
+        link = self.value("link-text")
+        for url in ("about:blank", link):
+            self.page.call("Page.navigate", url=url)
+        self.wait("typeof ready !== 'undefined' && ready.then(() => 1)")
+        self.assertEqual(self.value("text"), text)
+        self.assertEqual(self.text("state"), "")
+        self.page.ask(f"(() => {{ location.hash = {json.dumps(link.split('#')[1][:-9])}; }})()")
+        self.wait("part('state').textContent !== ''")
+        self.assertIn("the link is damaged", self.text("state"))
+
+    def test_tabs_by_keys(self) -> None:
+        self.press("tab-run", "ArrowRight")
+        hidden = self.page.ask("[part('panel-run').hidden, part('panel-frame').hidden]")
+        self.assertEqual(hidden, [True, False])
+        self.assertEqual(self.page.ask("document.activeElement.id"), "tab-frame")
+        self.page.press("End")
+        self.assertRegex(self.text("panel-about"), r"an extra, and outside the\s+theorem")
+        self.picture("about")
+
+    def test_each_control_has_a_name(self) -> None:
+        roles = {"button", "textbox", "searchbox", "combobox", "checkbox", "tab", "listbox", "application"}
+        self.set("example", "leap_inserted")
+        self.push("run")
+        self.end_of_run()
+        for tab in ("run", "frame", "read", "about"):
+            self.push(f"tab-{tab}")
+            nodes = self.page.call("Accessibility.getFullAXTree")["nodes"]
+            seen = [node for node in nodes if not node["ignored"]]
+            found = [node for node in seen if node.get("role", {}).get("value") in roles]
+            nameless = [node for node in found if not node.get("name", {}).get("value")]
+            self.assertGreater(len(found), 3)
+            self.assertEqual(nameless, [])
+
+    def test_contrast_in_dark_and_light(self) -> None:
+        grounds = []
+        for scheme in ("light", "dark"):
+            self.page.scheme(scheme)
+            colours = self.page.ask(
+                "['paper', 'panel', 'text', 'faint', 'chosen', 'wrong-ground', 'time', 'control', 'binary']"
+                ".map((name) => getComputedStyle(document.documentElement).getPropertyValue(`--${name}`))"
+                ".map((colour) => colour.trim())"
+            )
+            paper, panel, text, faint, *tinted = [luminance(colour) for colour in colours]
+            for ground in (paper, panel, *tinted):
+                self.assertGreater(contrast(text, ground), 7)
+            for ground in (paper, panel):
+                self.assertGreater(contrast(faint, ground), 4.5)
+            grounds.append(self.page.ask("getComputedStyle(document.body).backgroundColor"))
+            self.set("example", "one_liar")
+            self.push("run")
+            self.end_of_run()
+            self.picture(scheme)
+        self.assertEqual(grounds, ["rgb(255, 255, 255)", "rgb(22, 22, 22)"])
+
+    def test_the_policy(self) -> None:
+        text = PAGE.read_text()
+        policy = re.search(r'Content-Security-Policy" content="(.*?)"', text)[1]
+        self.assertTrue(policy.startswith("default-src 'none';"))
+        self.assertIn("connect-src 'none'", policy)
+        self.assertNotIn("'unsafe-", policy)
+        for kind, tag in (("script-src", "<script>"), ("style-src", "<style>")):
+            inside = text.split(tag)[1].split(f"</{tag[1:]}")[0]
+            digest = base64.b64encode(hashlib.sha256(inside.encode()).digest()).decode()
+            self.assertIn(f"{kind} 'sha256-{digest}'", policy)
+        self.assertNotRegex(text, r"(src|href)=")
+
+    def test_no_network(self) -> None:
+        asked: list[str] = []
+
+        class Server(http.server.BaseHTTPRequestHandler):
+            def do_GET(self) -> None:
+                asked.append(self.path)
+                self.send_response(200)
+                self.end_headers()
+
+        server = http.server.HTTPServer(("127.0.0.1", 0), Server)
+        threading.Thread(target=server.serve_forever, daemon=True).start()
+        self.addCleanup(server.server_close)
+        self.addCleanup(server.shutdown)
+        url = f"http://127.0.0.1:{server.server_port}"
+        fetched = f"fetch('{url}/page', {{ mode: 'no-cors' }}).then(() => 1, () => 0)"
+        self.assertEqual(self.page.ask(fetched), 0)
+        self.page.ask(f"(() => {{ new Image().src = '{url}/image'; }})()")
+        code = fetched.replace("/page", "/worker") + ".then(postMessage)"
+        in_worker = (
+            f"new Promise((told) => {{ const code = URL.createObjectURL(new Blob([{json.dumps(code)}]));"
+            " new Worker(code).onmessage = (event) => told(event.data); })"
+        )
+        self.assertEqual(self.page.ask(in_worker), 0)
+        self.page.settle()
+        self.assertEqual(asked, [])
+        self.page.errors.clear()
+
+
+def luminance(colour: str) -> float:
+    parts = [int(colour[place:place + 2], 16) / 255 for place in (1, 3, 5)]
+    linear = [part / 12.92 if part <= 0.04045 else ((part + 0.055) / 1.055) ** 2.4 for part in parts]
+    return 0.2126 * linear[0] + 0.7152 * linear[1] + 0.0722 * linear[2]
+
+
+def contrast(one: float, other: float) -> float:
+    return (max(one, other) + 0.05) / (min(one, other) + 0.05)
+
+
+if __name__ == "__main__":
+    arguments = sys.argv[1:]
+    if arguments[:1] == ["--pictures"]:
+        PICTURES = Path(arguments[1])
+        arguments = arguments[2:]
+    if arguments and not arguments[0].startswith("-"):
+        PAGE = Path(arguments.pop(0)).resolve()
+    unittest.main(argv=[sys.argv[0], *arguments])

@@ -1,0 +1,484 @@
+// ---- the timeline: how each reader stood at each edge, by the bars, marks and patterns of tools/view
+
+const LANE = 46, HIGH = 24, LOW = 11, TOP = 14, AXIS = 26;
+const NARROW = 2, PLAIN = 5; // the least width of a silence; less wide bars have no pattern
+const FEWEST = 4; // edges on the screen at the nearest zoom
+const FONT = "13px system-ui, sans-serif", RIGHT = 12;
+const STATES = ["locked", "holdover", "acquiring", "unlocked", "not announced"]
+  .map((name) => ({ name, ...data.states[name] }));
+const TILES = { // the lines of a pattern
+  stripes: [[-2, 2, 2, -2], [-2, 10, 10, -2], [6, 10, 10, 6]],
+  upright: [[2, 0, 2, 8], [6, 0, 6, 8]],
+  crosses: [[0, 0, 8, 8], [0, 8, 8, 0]],
+};
+
+class LaneOfEdges { // a lane of the worker, and which line tells of an edge
+  constructor(lane) { Object.assign(this, lane); }
+
+  line_at(edge) {
+    const place = first_after(this.edges, edge);
+    return this.edges[place] === edge ? this.lines[place] : -1;
+  }
+
+  edge_of(line) {
+    const place = first_after(this.lines, line);
+    return this.lines[place] === line ? this.edges[place] : -1;
+  }
+
+  maker_of(edge) {
+    const place = first_after(this.ends, edge);
+    return place < this.makers.length ? this.makers[place] : -1;
+  }
+}
+
+class Timeline {
+  constructor(on_choice) {
+    Object.assign(this, { on_choice, lanes: [], causes: [], found: [], first: 1, last: 1 });
+    Object.assign(this, { canvas: part("canvas"), axis: part("axis"), colours: {}, gutter: 60, width: 0 });
+    Object.assign(this, { is_waiting: false, dragged: null });
+    this.brush = this.canvas.getContext("2d");
+    this.ruler = this.axis.getContext("2d");
+    this.view = { from: 0.5, to: 1.5 };
+    this.cursor = { lane: null, edge: 1 };
+    this.listen();
+  }
+
+  set({ lanes, causes, first, last }, told_of) {
+    this.lanes = lanes.map((lane) => new LaneOfEdges(lane));
+    Object.assign(this, { causes, first, last, told_of });
+    this.view = { from: first - 0.5, to: last + 0.5 };
+    this.cursor = { lane: this.lanes[0], edge: first };
+    this.add_choices();
+    this.add_legend();
+    this.look();
+    this.look_for();
+  }
+
+  lane_of_line(line) { return this.lanes.find((lane) => lane.edge_of(line) >= 0); }
+
+  // ---- places, sizes and colours
+
+  x_of(edge) { return this.gutter + (edge - this.view.from) / (this.view.to - this.view.from) * this.width; }
+  edge_at(x) { return this.view.from + (x - this.gutter) / this.width * (this.view.to - this.view.from); }
+  top_of(lane) { return TOP + this.lanes.indexOf(lane) * LANE; }
+  lane_at(y) { return this.lanes[clamp(Math.floor((y - TOP + 10) / LANE), 0, this.lanes.length - 1)]; }
+  ground_of(lane) { return lane === this.cursor.lane ? this.colours.panel : this.colours.paper; }
+
+  redraw() {
+    if (!this.is_waiting) requestAnimationFrame(() => this.draw());
+    this.is_waiting = true;
+  }
+
+  look() { // sizes and colours of the page as it now is
+    if (!this.lanes.length || !this.canvas.clientWidth) return;
+    const style = getComputedStyle(document.documentElement);
+    for (const name of ["paper", "panel", "text", "faint", "rule"]) {
+      this.colours[name] = style.getPropertyValue(`--${name}`).trim();
+    }
+    this.brush.font = FONT;
+    const names = this.lanes.map((lane) => this.brush.measureText(lane.reader).width);
+    this.gutter = Math.ceil(Math.max(30, ...names)) + 14;
+    this.size(this.canvas, this.brush, TOP + this.lanes.length * LANE);
+    this.size(this.axis, this.ruler, AXIS);
+    this.width = Math.max(10, this.canvas.clientWidth - this.gutter - RIGHT);
+    for (const state of STATES) state.brush = this.pattern_of(state);
+    this.draw_legend();
+    this.redraw();
+  }
+
+  size(element, pen, height) { // as many points as the screen has
+    const scale = window.devicePixelRatio || 1;
+    element.style.height = `${height}px`;
+    element.width = Math.round(element.clientWidth * scale);
+    element.height = Math.round(height * scale);
+    pen.setTransform(scale, 0, 0, scale, 0, 0);
+  }
+
+  pattern_of({ colour, pattern }) {
+    const tile = document.createElement("canvas"), pen = tile.getContext("2d");
+    tile.width = tile.height = 8;
+    pen.fillStyle = colour;
+    pen.fillRect(0, 0, 8, 8);
+    pen.strokeStyle = this.colours.paper;
+    pen.lineWidth = 1.2;
+    for (const [x, y, to_x, to_y] of TILES[pattern] || []) stroke(pen, [[x, y], [to_x, to_y]]);
+    return this.brush.createPattern(tile, "repeat");
+  }
+
+  // ---- drawing
+
+  draw() {
+    this.is_waiting = false;
+    const { brush, gutter, width, canvas } = this;
+    if (!this.lanes.length) return;
+    brush.clearRect(0, 0, canvas.width, canvas.height);
+    for (const lane of this.lanes) {
+      const foot = this.top_of(lane) + HIGH;
+      this.box(0, foot - HIGH - 10, gutter + width + RIGHT, LANE - 4, this.ground_of(lane));
+      write(brush, lane.reader, gutter - 8, foot - HIGH / 2, "right", this.colours.text);
+    }
+    brush.save();
+    brush.beginPath();
+    brush.rect(gutter, 0, width, canvas.height);
+    brush.clip();
+    for (const lane of this.lanes) {
+      this.draw_bars(lane, this.top_of(lane) + HIGH);
+      this.draw_marks(lane, this.top_of(lane) + HIGH);
+    }
+    this.draw_cursor();
+    brush.restore();
+    this.draw_axis();
+    this.tell_range();
+  }
+
+  box(left, top, wide, high, style) {
+    this.brush.fillStyle = style;
+    this.brush.fillRect(left, top, wide, high);
+  }
+
+  // The boxes of the runs that are seen, for each state: narrow ones that touch on the screen are one.
+  boxes_of({ firsts, lasts, states }) {
+    const { view, gutter, width } = this;
+    const boxes = STATES.map(() => []), least = STATES.map((state) => (state.is_high ? 1 : NARROW));
+    const scale = width / (view.to - view.from), zero = gutter - view.from * scale;
+    const most_left = gutter - 10, most_right = gutter + width + 10;
+    for (let place = first_after(lasts, view.from); place < lasts.length; place++) {
+      if (firsts[place] > view.to + 0.5) break;
+      const state = states[place], found = boxes[state], above = found[found.length - 1];
+      let left = Math.max(zero + (firsts[place] - 0.5) * scale, most_left);
+      let right = Math.min(zero + (lasts[place] + 0.5) * scale, most_right);
+      const is_narrow = right - left < PLAIN;
+      if (is_narrow) { // whole points: what is narrow is not blurred
+        left = Math.floor(left);
+        right = Math.max(Math.ceil(right), left + least[state]);
+      }
+      if (above && left <= above[1] && is_narrow) {
+        if (right > above[1]) above[1] = right;
+      } else {
+        found.push([left, right]);
+      }
+    }
+    return boxes;
+  }
+
+  // High bars first, then low ones before an empty room: a silence is a gap, however short.
+  draw_bars(lane, foot) {
+    const boxes = this.boxes_of(lane), ground = this.ground_of(lane);
+    STATES.forEach((state, place) => {
+      const height = state.is_high ? HIGH : LOW;
+      for (const [left, right] of boxes[place]) {
+        const gap = right - left > PLAIN ? 1 : 0;
+        if (!state.is_high) this.box(left, foot - HIGH, right - left, HIGH, ground);
+        this.box(left, foot - height, right - left - gap, height, gap ? state.brush : state.colour);
+        if (state.name === "not announced") this.frame(this.brush, left, foot - height, right - left, height);
+      }
+    });
+    this.draw_found(lane, foot);
+  }
+
+  frame(pen, left, top, wide, high) {
+    pen.strokeStyle = this.colours.faint;
+    pen.setLineDash([4, 3]);
+    pen.strokeRect(left + 0.5, top + 0.5, wide - 1, high - 1);
+    pen.setLineDash([]);
+  }
+
+  draw_found(lane, foot) { // a line below the runs of the cause that is looked for
+    const cause = this.causes.indexOf(part("cause").value);
+    if (cause < 0) return;
+    let shown = -1;
+    for (let place = first_after(lane.lasts, this.view.from); place < lane.lasts.length; place++) {
+      if (lane.firsts[place] > this.view.to + 0.5) break;
+      if (lane.causes[place] !== cause) continue;
+      const left = this.x_of(lane.firsts[place] - 0.5);
+      const right = Math.max(this.x_of(lane.lasts[place] + 0.5), left + 3);
+      if (right <= shown) continue;
+      this.box(left, foot + 3, right - left, 3, this.colours.text);
+      shown = right;
+    }
+  }
+
+  draw_marks(lane, foot) {
+    const { brush, colours } = this;
+    for (const [at, kind] of lane.marks) {
+      const x = this.x_of(at), top = foot - HIGH;
+      brush.fillStyle = brush.strokeStyle = colours.text;
+      if (kind === "month end") {
+        this.box(x - 2, top - 8, 4, HIGH + 11, this.ground_of(lane));
+        brush.setLineDash([4, 3]);
+        stroke(brush, [[x, top - 8], [x, foot + 3]]);
+        brush.setLineDash([]);
+      } else if (kind === "premise broken") {
+        brush.lineWidth = 3;
+        stroke(brush, [[x - 4, top - 10], [x + 4, top - 2]]);
+        stroke(brush, [[x + 4, top - 10], [x - 4, top - 2]]);
+        brush.lineWidth = 1;
+      } else {
+        const corners = [[x - 5, top - 10], [x + 5, top - 10], [x, top - 1], [x - 5, top - 10]];
+        stroke(brush, corners, kind === "deleted second" ? colours.paper : colours.text);
+      }
+    }
+  }
+
+  draw_cursor() { // a frame around the chosen edge
+    const { brush, cursor } = this;
+    const left = this.x_of(cursor.edge - 0.5), right = Math.max(this.x_of(cursor.edge + 0.5), left + 5);
+    const top = this.top_of(cursor.lane) - 4;
+    brush.lineWidth = 2;
+    brush.strokeStyle = this.colours.text;
+    brush.strokeRect(left - (right - left === 5 ? 2 : 0), top, right - left, HIGH + 8);
+    brush.lineWidth = 1;
+  }
+
+  draw_axis() {
+    const { view, ruler, gutter, width } = this, edges = view.to - view.from, end = gutter + width;
+    const steps = [1, 2, 5].flatMap((step) => [...Array(20).keys()].map((power) => step * 10 ** power));
+    const step = Math.min(...steps.filter((each) => each / edges * width >= 70));
+    ruler.font = FONT;
+    ruler.clearRect(0, 0, this.axis.width, this.axis.height);
+    ruler.strokeStyle = this.colours.faint;
+    stroke(ruler, [[gutter, 0.5], [end, 0.5]]);
+    for (let edge = Math.ceil(view.from / step) * step; edge <= view.to; edge += step) {
+      const x = this.x_of(edge), half = ruler.measureText(String(edge)).width / 2;
+      const middle = clamp(x, gutter + half, end + RIGHT - half);
+      stroke(ruler, [[x, 0], [x, 5]]);
+      write(ruler, String(edge), middle, 15, "center", this.colours.text);
+    }
+    write(ruler, "edge", gutter - 8, 15, "right", this.colours.faint);
+  }
+
+  tell_range() {
+    const from = Math.max(this.first, Math.ceil(this.view.from));
+    const to = Math.min(this.last, Math.floor(this.view.to));
+    part("range").textContent = `edges ${from} to ${to} of ${this.first} to ${this.last}`;
+  }
+
+  // ---- choices, and what the bars mean
+
+  add_choices() {
+    const counts = new Map();
+    for (const { causes } of this.lanes) {
+      for (const cause of causes) counts.set(cause, (counts.get(cause) || 0) + 1);
+    }
+    for (const id of ["cause", "reader"]) part(id).replaceChildren();
+    add_option(part("cause"), "", "each silence");
+    for (const [cause, count] of [...counts].sort(([one], [other]) => one - other)) {
+      add_option(part("cause"), this.causes[cause], `${this.causes[cause]} (${count})`);
+    }
+    add_option(part("reader"), "", "all");
+    for (const { reader } of this.lanes) add_option(part("reader"), reader, reader);
+  }
+
+  add_legend() {
+    part("legend").replaceChildren();
+    STATES.forEach((state, place) => {
+      state.sample = null;
+      if (!this.lanes.some((lane) => lane.states.includes(place))) return;
+      const item = add(part("legend"), "span");
+      state.sample = add(item, "canvas");
+      state.sample.width = 28;
+      state.sample.height = HIGH / 2 + 4;
+      item.append(`${state.name}: ${state.meaning}`);
+    });
+    const kinds = new Set(this.lanes.flatMap((lane) => lane.marks.map(([, kind]) => kind)));
+    const signs = {
+      "leap second": "\u25bc 23:59:60 inserted", "deleted second": "\u25bd 23:59:59 deleted",
+      "month end": "\u2506 the month ends", "premise broken": "\u2715 a premise broke",
+    };
+    for (const [kind, sign] of Object.entries(signs)) if (kinds.has(kind)) add(part("legend"), "span", sign);
+  }
+
+  draw_legend() {
+    for (const state of STATES.filter((each) => each.sample)) {
+      const pen = state.sample.getContext("2d"), all = state.sample.height;
+      const high = state.is_high ? all : LOW - 3;
+      pen.clearRect(0, 0, 28, all);
+      pen.fillStyle = state.brush;
+      pen.fillRect(0, all - high, 28, high);
+      if (state.name === "not announced") this.frame(pen, 0, all - high, 28, high);
+    }
+  }
+
+  // ---- moving
+
+  show_edges(from, to) { // no further than the log, no nearer than a few edges
+    const all = this.last - this.first + 1;
+    const wide = clamp(to - from, Math.min(FEWEST, all), all);
+    this.view.from = clamp((from + to - wide) / 2, this.first - 0.5, this.last + 0.5 - wide);
+    this.view.to = this.view.from + wide;
+    this.redraw();
+  }
+
+  show_all() { this.show_edges(this.first - 0.5, this.last + 0.5); }
+
+  move(edges) { this.show_edges(this.view.from + edges, this.view.to + edges); }
+
+  zoom(factor, about) {
+    const wide = this.view.to - this.view.from, all = this.last - this.first + 1;
+    const wanted = clamp(wide * factor, Math.min(FEWEST, all), all);
+    const from = about - (about - this.view.from) / wide * wanted;
+    this.show_edges(from, from + wanted);
+  }
+
+  zoom_here(factor) { // about the chosen edge, all of which is seen then
+    this.zoom(factor, this.cursor.edge);
+    const left = this.cursor.edge - 0.5 - this.view.from, right = this.cursor.edge + 0.5 - this.view.to;
+    if (left < 0) this.move(left);
+    if (right > 0) this.move(right);
+  }
+
+  choose(lane, edge, from) { // the cursor; `from` is what led here
+    if (!lane) return;
+    this.cursor = { lane, edge: clamp(edge, this.first, this.last) };
+    const frame = part("timeline"), top = this.top_of(lane) - TOP;
+    frame.scrollTop = clamp(frame.scrollTop, top + LANE + TOP - frame.clientHeight, top);
+    if (this.cursor.edge - 0.5 < this.view.from || this.cursor.edge + 0.5 > this.view.to) {
+      const wide = this.view.to - this.view.from;
+      this.show_edges(this.cursor.edge - wide / 2, this.cursor.edge + wide / 2);
+    }
+    part("line").textContent = this.told_of(lane, this.cursor.edge);
+    this.on_choice(lane, this.cursor.edge, from);
+    this.redraw();
+  }
+
+  // ---- looking for a cause
+
+  look_for() { // what the choices say, anew: [lane, edge] of each run of the cause, or of each silence
+    const cause = this.causes.indexOf(part("cause").value), reader = part("reader").value;
+    this.found = [];
+    this.lanes.forEach((lane, number) => {
+      if (reader && lane.reader !== reader) return;
+      lane.firsts.forEach((first, place) => {
+        const is_found = cause < 0 ? !STATES[lane.states[place]].is_high : lane.causes[place] === cause;
+        if (is_found) this.found.push([number, first]);
+      });
+    });
+    this.found.sort((one, other) => one[1] - other[1] || one[0] - other[0]);
+    const count = this.found.length;
+    part("found").textContent = count ? `${this.wanted}: ${count}` : `no ${this.wanted}`;
+    part("previous").disabled = part("next").disabled = !count;
+    this.redraw();
+  }
+
+  get wanted() { return part("cause").value || "silence"; }
+
+  go(step) { // to the next or the previous one, seen from the cursor
+    if (!this.found.length) return;
+    const here = this.lanes.indexOf(this.cursor.lane), count = this.found.length;
+    const compare = ([number, edge]) => edge - this.cursor.edge || number - here;
+    let place = this.found.findIndex((each) => (step > 0 ? compare(each) > 0 : compare(each) >= 0));
+    if (place < 0) place = count;
+    place = ((step > 0 ? place : place - 1) + count) % count;
+    this.choose(this.lanes[this.found[place][0]], this.found[place][1]);
+    part("found").textContent = `${this.wanted}: ${place + 1} of ${count}`;
+  }
+
+  // ---- keys, wheel and mouse
+
+  on_key(event) {
+    if (event.ctrlKey || event.metaKey || event.altKey || !this.lanes.length) return;
+    const { lane, edge } = this.cursor, here = this.lanes.indexOf(lane);
+    const wide = Math.max(1, Math.floor(this.view.to - this.view.from)), step = event.shiftKey ? wide : 1;
+    const does = {
+      ArrowLeft: () => this.choose(lane, edge - step),
+      ArrowRight: () => this.choose(lane, edge + step),
+      PageUp: () => this.choose(lane, edge - wide),
+      PageDown: () => this.choose(lane, edge + wide),
+      ArrowUp: () => this.choose(this.lanes[Math.max(0, here - 1)], edge),
+      ArrowDown: () => this.choose(this.lanes[Math.min(this.lanes.length - 1, here + 1)], edge),
+      Home: () => this.choose(lane, this.first),
+      End: () => this.choose(lane, this.last),
+      "+": () => this.zoom_here(0.5),
+      "=": () => this.zoom_here(0.5),
+      "-": () => this.zoom_here(2),
+      0: () => this.show_all(),
+      n: () => this.go(1),
+      p: () => this.go(-1),
+    }[event.key];
+    if (!does) return;
+    event.preventDefault();
+    does();
+  }
+
+  on_hover(event) {
+    const edge = Math.round(this.edge_at(event.offsetX)), hover = part("hover");
+    hover.hidden = !this.lanes.length || event.offsetX < this.gutter || edge < this.first || edge > this.last;
+    if (hover.hidden) return;
+    hover.textContent = this.told_of(this.lane_at(event.offsetY), edge);
+    const room = this.canvas.clientWidth - hover.offsetWidth - 4;
+    hover.style.left = `${clamp(event.offsetX + 14, 0, Math.max(0, room))}px`;
+    hover.style.top = `${event.offsetY - part("timeline").scrollTop + 18}px`;
+  }
+
+  on_wheel(event) {
+    event.preventDefault();
+    const line = event.deltaMode === 1 ? 16 : 1;
+    if (Math.abs(event.deltaX) > Math.abs(event.deltaY) || event.shiftKey) {
+      this.move((event.deltaX || event.deltaY) * line / this.width * (this.view.to - this.view.from));
+    } else {
+      this.zoom(Math.exp(event.deltaY * line * 0.002), this.edge_at(event.offsetX));
+    }
+    this.on_hover(event);
+  }
+
+  on_drag(event) {
+    if (this.dragged && Math.abs(event.offsetX - this.dragged.x) > 3) this.dragged.is_far = true;
+    if (this.dragged && this.dragged.is_far) {
+      this.move((this.dragged.x - event.offsetX) / this.width * (this.view.to - this.view.from));
+      this.dragged.x = event.offsetX;
+    }
+    this.on_hover(event);
+  }
+
+  on_release(event) {
+    if (this.dragged && !this.dragged.is_far && event.offsetX >= this.gutter) {
+      this.choose(this.lane_at(event.offsetY), Math.round(this.edge_at(event.offsetX)));
+    }
+    this.dragged = null;
+  }
+
+  listen() {
+    const { canvas } = this;
+    canvas.addEventListener("wheel", (event) => this.on_wheel(event), { passive: false });
+    canvas.addEventListener("keydown", (event) => this.on_key(event));
+    canvas.addEventListener("pointerdown", (event) => {
+      this.dragged = { x: event.offsetX, is_far: false }; // from where, and if it went too far to be a click
+      canvas.setPointerCapture(event.pointerId);
+    });
+    canvas.addEventListener("pointermove", (event) => this.on_drag(event));
+    canvas.addEventListener("pointerup", (event) => this.on_release(event));
+    canvas.addEventListener("pointercancel", () => { this.dragged = null; });
+    canvas.addEventListener("pointerleave", () => { part("hover").hidden = true; });
+    part("cause").addEventListener("change", () => this.look_for());
+    part("reader").addEventListener("change", () => this.look_for());
+    part("next").addEventListener("click", () => this.go(1));
+    part("previous").addEventListener("click", () => this.go(-1));
+    part("in").addEventListener("click", () => this.zoom_here(0.5));
+    part("out").addEventListener("click", () => this.zoom_here(2));
+    part("whole").addEventListener("click", () => this.show_all());
+    part("edge").addEventListener("change", () => {
+      this.choose(this.cursor.lane, Math.round(Number(part("edge").value)) || this.first);
+    });
+    part("find-controls").addEventListener("submit", (event) => event.preventDefault());
+    new ResizeObserver(() => this.look()).observe(part("timeline"));
+    matchMedia("(prefers-color-scheme: dark)").addEventListener("change", () => this.look());
+  }
+}
+
+function write(pen, text, x, y, align, style) {
+  pen.font = FONT;
+  pen.textBaseline = "middle";
+  pen.textAlign = align;
+  pen.fillStyle = style;
+  pen.fillText(text, x, y);
+}
+
+function stroke(pen, points, filling) {
+  pen.beginPath();
+  points.forEach(([x, y], place) => (place ? pen.lineTo(x, y) : pen.moveTo(x, y)));
+  if (filling) {
+    pen.fillStyle = filling;
+    pen.fill();
+  }
+  pen.stroke();
+}
