@@ -133,11 +133,7 @@ fn replay_of_form(names: &IndexSet<String>, value: &Value) -> Result<Command, Li
     }))
 }
 
-fn raw_of_form(
-    alloc: Global,
-    names: &IndexSet<String>,
-    value: &Value,
-) -> Result<Command, LineFault>
+fn raw_of_form(alloc: Global, names: &IndexSet<String>, value: &Value) -> Result<Command, LineFault>
     requires { length names.now.keys ≤ 16 }
     ensures { IsUnlessMemory (λ c. c)
         (command_of_form (texts_of names.now.keys) Action.Raw (view value.now)) result }

@@ -15,13 +15,14 @@ loop-element-preserved c =
     let ws = c.args.widths_us.now in
     let widths = c.widths_of.ensures in
     let inside : l.element < length ws = omega (arith, c.requires, c.loop-element-test.true) in
-    let here = c.is_right-are_right.ensures l.element (widths.least c.loop-element-test.true) (widths.count c.loop-element-test.true) in
-    (λ h.
-        let parts = and_parts l.are_right c.is_right-are_right.result h in
-        right-push ws l.element inside (l.invariant.0 parts.0) (here.0 parts.1),
-    λ right.
-        let parts = right-back ws l.element inside right in
-        rw (l.invariant.1 parts.0, here.1 parts.1) refl)
+    let here = c.is_right-are_right.ensures l.element (widths.least c.loop-element-test.true) (widths.count c.loop-element-test.true) in (
+      λ h.
+          let parts = and_parts l.are_right c.is_right-are_right.result h in
+          right-push ws l.element inside (l.invariant.0 parts.0) (here.0 parts.1),
+      λ right.
+          let parts = right-back ws l.element inside right in
+          rw (l.invariant.1 parts.0, here.1 parts.1) refl,
+    )
 
 pub returns : goal.returns
 returns c =
