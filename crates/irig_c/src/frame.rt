@@ -19,7 +19,8 @@ use irig_port::PortFault;
 pub extern "C" fn irig_encode(coded: &Coded, symbols: &mut [u8; 100]) -> u32
     ensures answer { (result ≡ 0) ↔ IsCoded coded.now }
     ensures frame { result ≡ 0 → Reads (map symbol_in symbols.new) coded.now }
-    ensures round_trip { result ≡ 0 → decode_result (map symbol_in symbols.new) ≡ Ok coded.now }
+    ensures round_trip { result ≡ 0
+        → decode_result (map symbol_in symbols.new) ≡ Ok coded.now }
     ensures refused { (result ≡ 0 → ⊥) → symbols.new ≡ symbols.old }
 {
     if !in_range(coded) {
