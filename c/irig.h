@@ -1,7 +1,7 @@
 /* irig.h: the proved IRIG-B codec and reader, for C11 and C++.
  *
  * IRIG Standard 200-16, format B, code B004, with the control bits of IEEE 1344-1995. Link with
- * libirig_c.a (`rt lib` in crates/irig_c). It asks for no memory, keeps nothing between calls, and
+ * libirig_c.a (`./build irig_c`). It asks for no memory, keeps nothing between calls, and
  * needs `memcpy`, `memmove` and `memset` of the C library and `__udivti3`, which compilers bring
  * along. A call takes less than 2 KB of stack.
  *

@@ -2,7 +2,7 @@
  *
  * From the text of a scenario to the text of its log, both in memory: byte for byte what `irig run`
  * writes to standard output. docs/SCENARIOS.md says how a scenario is written, docs/OUTPUT.md what
- * a log says. Link with libirig_scene_c.a (`rt lib` in crates/irig_scene_c) and irig_heap.c, by
+ * a log says. Link with libirig_scene_c.a (`./build irig_scene_c`) and irig_heap.c, by
  * which a run asks `malloc`, `realloc` and `free` for memory. It gives all of it back, keeps
  * nothing between calls, and needs `memcpy`, `memmove` and `memset` of the C library and
  * `__udivti3`, which compilers bring along.
