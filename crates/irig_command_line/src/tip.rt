@@ -42,6 +42,9 @@ fn tip_for(words: &[&str]) -> &'static str {
             "\n\n  tip: quotes hold the groups of a frame together: irig read 'P10.. 100.. ..'"
         }
         Some(&"frame") => "\n\n  tip: TIME is one word, as 2016-12-31T23:59:59Z",
+        Some(&"--all" | &"--ports") => {
+            "\n\n  tip: options follow the command: irig run FILE --all; '-' is standard input: irig run - --all"
+        }
         _ => "",
     }
 }
