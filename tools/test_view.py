@@ -3,13 +3,11 @@
 words; and, if there is a Chromium, what the page does when keys are pressed and the mouse is moved."""
 import base64
 import hashlib
-import http.server
 import json
 import os
 import re
 import subprocess
 import tempfile
-import threading
 import unittest
 from importlib.machinery import SourceFileLoader
 from importlib.util import module_from_spec, spec_from_loader
@@ -228,7 +226,7 @@ class InBrowser(unittest.TestCase):
     def on_edge(self, edge: float, lane: int) -> tuple[float, float]:
         """Where an edge of a lane is on the screen."""
         box = self.place("canvas")
-        x = float(str(self.page.ask(f"x_of({edge})")))
+        x = float(str(self.page.ask(f"timeline.x_of({edge})")))
         return box["x"] + x, box["y"] + 14 + 46 * lane + 18
 
     def test_what_it_shows(self) -> None:
@@ -261,8 +259,8 @@ class InBrowser(unittest.TestCase):
         self.press("canvas", "Home")
         found = []
         for edge in (5_000, 10_000):
-            at = f"Math.floor(x_of({edge})), top_of(0) + 3, 1, 1"
-            found.append(self.page.ask(f"Array.from(brush.getImageData({at}).data.slice(0, 3))"))
+            at = f"Math.floor(timeline.x_of({edge})), timeline.top_of(timeline.lanes[0]) + 3, 1, 1"
+            found.append(self.page.ask(f"Array.from(timeline.brush.getImageData({at}).data.slice(0, 3))"))
         self.assertEqual(found[0], [0x00, 0x72, 0xB2])
         self.assertEqual(found[1], [0xF4, 0xF4, 0xF4], "the ground of the chosen reader")
 
@@ -351,7 +349,7 @@ class InBrowser(unittest.TestCase):
         for edge, state in ((5, "locked"), (7, "holdover"), (4, "acquiring"), (3, "unlocked")):
             x, y = self.on_edge(edge, 0)
             at = f"{x - box['x']}, {y - box['y']}"
-            points = self.page.ask(f"Array.from(brush.getImageData({at}, 8, 6).data)")
+            points = self.page.ask(f"Array.from(timeline.brush.getImageData({at}, 8, 6).data)")
             assert isinstance(points, list)
             found = {bytes(points[place:place + 3]).hex() for place in range(0, len(points), 4)}
             with self.subTest(state):
@@ -364,31 +362,19 @@ class InBrowser(unittest.TestCase):
         self.assertEqual((light, self.page.ask(ground)), ("rgb(255, 255, 255)", "rgb(22, 22, 22)"))
 
     def test_no_network(self) -> None:
-        asked: list[str] = []
-
-        class Server(http.server.BaseHTTPRequestHandler):
-            def do_GET(self) -> None:
-                asked.append(self.path)
-                self.send_response(200)
-                self.end_headers()
-
-        server = http.server.HTTPServer(("127.0.0.1", 0), Server)
-        threading.Thread(target=server.serve_forever, daemon=True).start()
-        self.addCleanup(server.server_close)
-        self.addCleanup(server.shutdown)
-        url = f"http://127.0.0.1:{server.server_port}"
-        fetched = f"fetch('{url}/fetched', {{ mode: 'no-cors' }}).then(() => 1, () => 0)"
-        self.assertEqual(self.page.ask(fetched), 0)
-        self.page.ask(f"(() => {{ new Image().src = '{url}/image'; }})()")
-        self.page.ask(
-            "(() => { const it = document.createElement('script'); it.textContent = 'window.ran = 1';"
-            " document.body.append(it); })()"
-        )
-        self.page.settle()
-        self.assertEqual((self.page.ask("window.ran || 0"), asked), (0, []))
-        for refused in (f"{url}/fetched", f"{url}/image", "inline script"):
-            self.assertTrue(any(refused in error for error in self.page.errors), refused)
-        self.page.errors.clear()
+        with browser.listening() as (url, asked):
+            fetched = f"fetch('{url}/fetched', {{ mode: 'no-cors' }}).then(() => 1, () => 0)"
+            self.assertEqual(self.page.ask(fetched), 0)
+            self.page.ask(f"(() => {{ new Image().src = '{url}/image'; }})()")
+            self.page.ask(
+                "(() => { const it = document.createElement('script'); it.textContent = 'window.ran = 1';"
+                " document.body.append(it); })()"
+            )
+            self.page.settle()
+            self.assertEqual((self.page.ask("window.ran || 0"), asked), (0, []))
+            for refused in (f"{url}/fetched", f"{url}/image", "inline script"):
+                self.assertTrue(any(refused in error for error in self.page.errors), refused)
+            self.page.errors.clear()
 
     def test_a_hundred_thousand_lines(self) -> None:
         causes = ("expired", "no-vote")
@@ -400,7 +386,7 @@ class InBrowser(unittest.TestCase):
         self.press("log", "End")
         self.assertTrue(self.text("line").startswith("100000 relay - unlocked expired"))
         self.assertLess(self.page.ask(options), 200)
-        drawn = "(() => { const t = performance.now(); draw(); return performance.now() - t; })()"
+        drawn = "(() => { const t = performance.now(); timeline.draw(); return performance.now() - t; })()"
         self.assertLess(min(float(str(self.page.ask(drawn))) for _ in range(5)), 50, "milliseconds")
 
     def test_more_lines_than_an_element_is_high(self) -> None:

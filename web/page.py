@@ -4,19 +4,20 @@
 from __future__ import annotations
 
 import base64
-import hashlib
-import json
 import re
 import sys
 from pathlib import Path
 
 WEB = Path(__file__).resolve().parent
 ROOT = WEB.parent
-sys.path.insert(0, str(ROOT / "tools"))
+TOOLS = ROOT / "tools"
+sys.path.insert(0, str(TOOLS))
 
 from bars import STATES  # noqa: E402
+from pages import embedded, filled, hashed, joined, script_of  # noqa: E402
 
-SCRIPTS = ("list.js", "timeline.js", "codec.js", "frame.js", "editor.js", "scenario.js", "page.js")
+SCRIPTS = (TOOLS / "list.js", WEB / "log.js", TOOLS / "timeline.js", WEB / "codec.js", WEB / "frame.js",
+           WEB / "editor.js", WEB / "scenario.js", WEB / "page.js")
 FIELDS = ("second", "minute", "hour", "day", "year")
 MODULES = ("irig_scene_c", "irig_c")
 LETTERS = {**dict(zip("smhdy", FIELDS)), "o": "offset", "q": "time quality", "b": "straight binary seconds"}
@@ -116,17 +117,6 @@ def coded(module: bytes) -> str:
     return base64.b64encode(module).decode()
 
 
-def embedded(data: dict[str, object]) -> str:
-    """Data as JSON in which no letter can end the element that it stands in."""
-    text = json.dumps(data, separators=(",", ":"), sort_keys=True)
-    return text.replace("<", "\\u003c").replace(">", "\\u003e").replace("&", "\\u0026")
-
-
-def hashed(text: str) -> str:
-    digest = hashlib.sha256(text.encode()).digest()
-    return f"'sha256-{base64.b64encode(digest).decode()}'"
-
-
 def data_of(folder: Path) -> dict[str, object]:
     return {
         "states": {name: vars(state) for name, state in STATES.items()},
@@ -142,19 +132,17 @@ def data_of(folder: Path) -> dict[str, object]:
 def page_of(data: dict[str, object]) -> str:
     """The page: its policy lets run these scripts, this style and these modules, and nothing be fetched
     or sent."""
-    script = '"use strict";\n\n' + "\n".join((WEB / name).read_text() for name in SCRIPTS)
-    style = (WEB / "page.css").read_text()
-    parts = {
+    script = script_of(SCRIPTS)
+    style = joined((TOOLS / "timeline.css", WEB / "page.css"))
+    return filled(WEB / "page.html", {
         "policy": f"default-src 'none'; script-src {hashed(script)} 'wasm-unsafe-eval'; worker-src blob:;"
         f" style-src {hashed(style)}; connect-src 'none'; base-uri 'none'; form-action 'none'",
         "style": style,
+        "timeline": (TOOLS / "timeline.html").read_text(),
         "data": embedded(data),
         "worker": (WEB / "worker.js").read_text(),
         "script": script,
-    }
-    pieces = (WEB / "page.html").read_text().split("{{")
-    ends = (piece.split("}}", 1) for piece in pieces[1:])
-    return pieces[0] + "".join(parts[name] + rest for name, rest in ends)
+    })
 
 
 def main() -> None:

@@ -75,6 +75,7 @@ class ScenarioTab {
     this.editor = new Editor(() => this.on_change());
     this.timeline = new Timeline((lane, edge, from) => this.on_choice(lane, edge, from));
     this.log = new List(part("log"), (number) => this.on_line(number));
+    this.log.set(NO_LOG);
     Object.assign(this, { ran: [], begun: 0, timer: 0, progress: null, searched: [], has_run: false });
     this.add_choices();
     this.listen();

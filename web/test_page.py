@@ -5,11 +5,9 @@ from __future__ import annotations
 
 import base64
 import hashlib
-import http.server
 import json
 import re
 import sys
-import threading
 import time
 import unittest
 from pathlib import Path
@@ -542,31 +540,19 @@ class InBrowser(unittest.TestCase):
         self.assertNotRegex(text, r"(src|href)=")
 
     def test_no_network(self) -> None:
-        asked: list[str] = []
-
-        class Server(http.server.BaseHTTPRequestHandler):
-            def do_GET(self) -> None:
-                asked.append(self.path)
-                self.send_response(200)
-                self.end_headers()
-
-        server = http.server.HTTPServer(("127.0.0.1", 0), Server)
-        threading.Thread(target=server.serve_forever, daemon=True).start()
-        self.addCleanup(server.server_close)
-        self.addCleanup(server.shutdown)
-        url = f"http://127.0.0.1:{server.server_port}"
-        fetched = f"fetch('{url}/page', {{ mode: 'no-cors' }}).then(() => 1, () => 0)"
-        self.assertEqual(self.page.ask(fetched), 0)
-        self.page.ask(f"(() => {{ new Image().src = '{url}/image'; }})()")
-        code = fetched.replace("/page", "/worker") + ".then(postMessage)"
-        in_worker = (
-            f"new Promise((told) => {{ const code = URL.createObjectURL(new Blob([{json.dumps(code)}]));"
-            " new Worker(code).onmessage = (event) => told(event.data); })"
-        )
-        self.assertEqual(self.page.ask(in_worker), 0)
-        self.page.settle()
-        self.assertEqual(asked, [])
-        self.page.errors.clear()
+        with browser.listening() as (url, asked):
+            fetched = f"fetch('{url}/page', {{ mode: 'no-cors' }}).then(() => 1, () => 0)"
+            self.assertEqual(self.page.ask(fetched), 0)
+            self.page.ask(f"(() => {{ new Image().src = '{url}/image'; }})()")
+            code = fetched.replace("/page", "/worker") + ".then(postMessage)"
+            in_worker = (
+                f"new Promise((told) => {{ const code = URL.createObjectURL(new Blob([{json.dumps(code)}]));"
+                " new Worker(code).onmessage = (event) => told(event.data); })"
+            )
+            self.assertEqual(self.page.ask(in_worker), 0)
+            self.page.settle()
+            self.assertEqual(asked, [])
+            self.page.errors.clear()
 
 
 def luminance(colour: str) -> float:

@@ -1,4 +1,4 @@
-// ---- the timeline: how each reader stood at each edge, by the bars, marks and patterns of tools/view
+// ---- the timeline: how each reader stood at each edge, by the bars, marks and patterns of tools/plot
 
 const LANE = 46, HIGH = 24, LOW = 11, TOP = 14, AXIS = 26;
 const NARROW = 2, PLAIN = 5; // the least width of a silence; less wide bars have no pattern
@@ -12,7 +12,7 @@ const TILES = { // the lines of a pattern
   crosses: [[0, 0, 8, 8], [0, 8, 8, 0]],
 };
 
-class LaneOfEdges { // a lane of the worker, and which line tells of an edge
+class LaneOfEdges { // a lane, and which line tells of an edge
   constructor(lane) { Object.assign(this, lane); }
 
   line_at(edge) {

@@ -1,11 +1,10 @@
-// ---- what all parts of the page use
+// ---- what all parts of a page use: that of tools/view, and that of web/
 
 const data = JSON.parse(document.getElementById("data").textContent);
 const part = (id) => document.getElementById(id);
-const ROW = 18; // the height of a line in a list and in the editor, as in page.css
+const ROW = 18; // the height of a line in a list, as in timeline.css
 const MOST_HEIGHT = 8000000; // browsers have no higher elements
 const MOST_LETTERS = 2000; // of a line that is shown
-const PART = 1 << 23; // bytes that are made text at once
 
 const first_after = (values, wanted, from = 0) => { // the first place at which a rising list is not below it
   let low = from, high = values.length;
@@ -29,42 +28,13 @@ function add_option(select, value, text) {
   add(select, "option", text).value = value;
 }
 
-// ---- the lines of a log, which stay bytes until they are shown
-
-class LogText {
-  constructor(bytes, starts) { // where the lines begin, and at last where they end
-    Object.assign(this, { bytes, starts, length: starts.length - 1, ascii: new TextDecoder() });
-  }
-
-  at(number) {
-    return this.between(number, number + 1).replace(/\n$/, "");
-  }
-
-  between(from, to) { return this.ascii.decode(this.bytes.subarray(this.starts[from], this.starts[to])); }
-
-  lines_with(wanted) { // the numbers of those that have this text
-    const found = [];
-    for (let from = 0; wanted && from < this.length;) {
-      const to = clamp(first_after(this.starts, this.starts[from] + PART, from), from + 1, this.length);
-      const text = this.between(from, to), zero = this.starts[from];
-      for (let at = text.indexOf(wanted); at >= 0;) {
-        const number = first_after(this.starts, zero + at + 1, from) - 1;
-        found.push(number);
-        at = text.indexOf(wanted, this.starts[number + 1] - zero);
-      }
-      from = to;
-    }
-    return found;
-  }
-}
-
-const NO_LOG = new LogText(new Uint8Array(0), new Uint32Array(1));
-
 // ---- a list of which only what is seen stands in the page
+
+const NO_LINES = { length: 0, at: () => "" };
 
 class List {
   constructor(element, on_pick) {
-    Object.assign(this, { element, on_pick, lines: NO_LOG, chosen: -1, found: [] });
+    Object.assign(this, { element, on_pick, lines: NO_LINES, chosen: -1, found: [], refused: -1 });
     this.room = add(element, "div", "", "room");
     this.options = [];
     element.addEventListener("scroll", () => this.draw());
@@ -77,7 +47,7 @@ class List {
   }
 
   set(lines) {
-    Object.assign(this, { lines, chosen: -1, found: [] });
+    Object.assign(this, { lines, chosen: -1, found: [], refused: -1 });
     this.height = Math.min(lines.length * ROW, MOST_HEIGHT);
     this.room.style.height = `${this.height}px`;
     this.digits = String(lines.length).length;
@@ -121,6 +91,7 @@ class List {
     option.firstChild.textContent = `${String(number + 1).padStart(this.digits)}  `;
     option.lastChild.textContent = cut(this.lines.at(number), MOST_LETTERS);
     option.lastChild.classList.toggle("found", this.found[first_after(this.found, number)] === number);
+    option.classList.toggle("refused", number === this.refused);
     option.setAttribute("aria-setsize", this.lines.length);
     option.setAttribute("aria-posinset", number + 1);
     option.setAttribute("aria-selected", number === this.chosen);
