@@ -7,7 +7,7 @@ ghost use Rattle.irig_control.specs.Control.{IsControl, flag, has_one, word_of, 
 ///
 /// Source: IEEE 1344-1995, annex on IRIG-B. Each field names its bits; that they come from the
 /// elements 60 to 68 and 70 to 78 is of IRIG Standard 200-16, format B.
-#[derive(Clone, Copy, Debug, PartialEq, Eq)]
+#[derive(Clone, Copy, PartialEq, Eq)]
 pub struct Control {
     /// A leap second is pending: bit 0.
     pub leap_pending: bool,

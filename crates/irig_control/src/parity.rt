@@ -10,7 +10,7 @@ use irig_frame::Symbol;
 ///
 /// Source: IEEE 1344-1995, annex on IRIG-B, has the parity bit, at element 75. What it counts, and
 /// that it may be even or odd, is this project's profile.
-#[derive(Clone, Copy, Debug, PartialEq, Eq)]
+#[derive(Clone, Copy, PartialEq, Eq)]
 pub enum Parity {
     /// An even number of ones.
     Even,

@@ -8,7 +8,7 @@ use memchr::memchr;
 use std::io::BufRead;
 
 /// How a line ends.
-#[derive(Clone, Copy, Debug, PartialEq, Eq)]
+#[derive(Clone, Copy, PartialEq, Eq)]
 pub enum LineEnd {
     /// With its newline.
     Newline,
@@ -19,7 +19,7 @@ pub enum LineEnd {
 }
 
 /// Why a line was not read.
-#[derive(Clone, Copy, Debug, PartialEq, Eq)]
+#[derive(Clone, Copy, PartialEq, Eq)]
 pub enum ReadFault {
     /// A call of the device failed or was interrupted.
     Device,

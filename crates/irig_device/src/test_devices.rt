@@ -14,7 +14,7 @@ use std::io::{BufRead, ErrorKind, Read, Write};
 use std::{io, slice};
 
 /// How a broken call answers.
-#[derive(Clone, Copy, Debug, PartialEq, Eq)]
+#[derive(Clone, Copy, PartialEq, Eq)]
 pub enum Break {
     /// By an error.
     Fail,
@@ -26,7 +26,7 @@ pub enum Break {
 
 /// Passes its first calls on to the device within, and breaks every later one. A call is a
 /// `read`, a `fill_buf` or a `write`.
-#[derive(Debug, Drop)]
+#[derive(Drop)]
 pub struct Fuse<T> {
     inner: T,
     left: u64,
@@ -127,7 +127,7 @@ impl<T: Write> Write for Fuse<T> {
 }
 
 /// A reader that gives this byte for ever.
-#[derive(Clone, Copy, Debug, PartialEq, Eq)]
+#[derive(Clone, Copy, PartialEq, Eq)]
 pub struct Endless(pub u8);
 
 impl Read for Endless {

@@ -10,14 +10,14 @@ use std::io::{BufRead, Write};
 
 /// A reader or a writer, and a note that one of its calls failed. The calls of this crate alone
 /// set the note, and nothing takes it away.
-#[derive(Debug, Drop)]
+#[derive(Drop)]
 pub struct Watched<T> {
     inner: T,
     is_noted: bool,
 }
 
 /// A call of the device failed, was interrupted or took nothing.
-#[derive(Clone, Copy, Debug, PartialEq, Eq)]
+#[derive(Clone, Copy, PartialEq, Eq)]
 pub struct DeviceFault;
 
 impl<T> Watched<T> {

@@ -5,7 +5,7 @@ use crate::refused::Standing;
 use crate::shape::find_in_shape;
 use crate::value::find_in_values;
 use irig_forms::text_at;
-use irig_scenario::{ACTION_WORDS, FAULT_WORDS, event_keys};
+use irig_values::{ACTION_WORDS, FAULT_WORDS, event_keys};
 use serde_json::Value;
 
 /// Says what is wrong with the line that has this value, by the number of its refusal.

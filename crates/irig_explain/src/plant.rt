@@ -4,11 +4,11 @@ use crate::reason::{Place, Reason};
 use crate::shape::find_in_shape;
 use crate::value::find_in_values;
 use irig_forms::{Key, items_at, text_at, whole_at};
-use irig_scenario::{
+use irig_time::{FIRST_DAY, LAST_DAY, month_end, read_day, read_text};
+use irig_values::{
     Version, change_keys, generator_keys, leap_keys, plant_keys, reader_keys, table_keys,
     version_in,
 };
-use irig_time::{FIRST_DAY, LAST_DAY, month_end, read_day, read_text};
 use serde_json::Value;
 
 /// What is looked for in each object of a plant line.
@@ -142,15 +142,21 @@ fn why_no_name(at: usize, readers: &[Value], name: &str) -> Option<&'static str>
 }
 
 fn is_name_form(name: &str) -> bool {
-    let is_letter = |byte| matches!(byte, b'a'..=b'z' | b'0'..=b'9' | b'_' | b'-');
-    !name.is_empty() && name.len() <= 16 && name.bytes().all(is_letter)
+    for byte in name.bytes() {
+        if !matches!(byte, b'a'..=b'z' | b'0'..=b'9' | b'_' | b'-') {
+            return false;
+        }
+    }
+    !name.is_empty() && name.len() <= 16
 }
 
 fn is_named_before(name: &str, at: usize, readers: &[Value]) -> bool {
-    readers
-        .iter()
-        .take(at)
-        .any(|reader| text_at(reader, "name") == Some(name))
+    for reader in readers.iter().take(at) {
+        if text_at(reader, "name") == Some(name) {
+            return true;
+        }
+    }
+    false
 }
 
 // ---- its timeline
@@ -165,14 +171,21 @@ fn find_start(reason: &mut Reason, value: &Value) {
     }
 }
 
+fn day_at(value: &Value, key: &str) -> Option<u32> {
+    match text_at(value, key) {
+        Some(day) => read_day(day.as_bytes()),
+        None => None,
+    }
+}
+
 fn day_in(leap: &Value) -> Option<u32> {
-    read_day(text_at(leap, "day")?.as_bytes())
+    day_at(leap, "day")
 }
 
 // The leaps of the plant line, or of a reader's table.
 fn find_in_leaps(reason: &mut Reason, number: u8, reader: Option<usize>, value: &Value) {
     let leaps = items(value, "leaps");
-    let last = text_at(value, "until").and_then(|day| read_day(day.as_bytes()));
+    let last = day_at(value, "until");
     for (at, leap) in leaps.iter().enumerate() {
         if let Some(day) = day_in(leap)
             && let Some(may) = why_no_leap(number, day, last, is_day_before(day, at, leaps))
@@ -193,7 +206,7 @@ fn why_no_leap(number: u8, day: u32, last: Option<u32>, is_again: bool) -> Optio
         14 if !is_served(day) => Some("2000-01-02 to 2099-12-30"),
         12 if !is_month_end(day) => Some("the last day of a month"),
         33 if !is_served(day) || !is_month_end(day) => Some("the last day of a month"),
-        33 if last.is_some_and(|last| last < day) => Some("a day up to \"until\""),
+        33 if matches!(last, Some(last) if last < day) => Some("a day up to \"until\""),
         13 | 34 if is_again => Some("a day that no leap before it has"),
         _ => None,
     }
@@ -208,7 +221,12 @@ fn is_month_end(day: u32) -> bool {
 }
 
 fn is_day_before(day: u32, at: usize, leaps: &[Value]) -> bool {
-    leaps.iter().take(at).any(|leap| day_in(leap) == Some(day))
+    for leap in leaps.iter().take(at) {
+        if day_in(leap) == Some(day) {
+            return true;
+        }
+    }
+    false
 }
 
 // ---- its generators
@@ -223,7 +241,9 @@ fn find_in_offsets(reason: &mut Reason, value: &Value) {
 }
 
 fn find_offset(reason: &mut Reason, place: Place, zone: &Value) {
-    if whole_at(zone, "local").is_some_and(|local| local < -31 || local > 31) && reason.is_empty() {
+    if matches!(whole_at(zone, "local"), Some(local) if local < -31 || local > 31)
+        && reason.is_empty()
+    {
         reason.misfit(place, "local", zone, "-31 to 31 half hours");
     }
 }
@@ -245,8 +265,11 @@ fn is_bad_change(at: usize, changes: &[Value], change: &Value) -> bool {
     let Some((day, second)) = time_of(change) else {
         return false;
     };
-    let before = changes.get(at.wrapping_sub(1)).and_then(time_of);
-    second % 60 != 0 || second == 86400 || before.is_some_and(|before| (day, second) <= before)
+    let before = match changes.get(at.wrapping_sub(1)) {
+        Some(before) => time_of(before),
+        None => None,
+    };
+    second % 60 != 0 || second == 86400 || matches!(before, Some(before) if (day, second) <= before)
 }
 
 fn time_of(change: &Value) -> Option<(u32, u32)> {
@@ -267,8 +290,8 @@ fn find_in_tables(reason: &mut Reason, number: u8, value: &Value) {
 }
 
 fn find_in_table(reason: &mut Reason, number: u8, at: usize, table: &Value) {
-    let until = text_at(table, "until").and_then(|day| read_day(day.as_bytes()));
-    if number == 31 && until.is_some_and(|day| day > LAST_DAY) {
+    let until = day_at(table, "until");
+    if number == 31 && matches!(until, Some(day) if day > LAST_DAY) {
         reason.misfit(Place::Table(at), "until", table, "a day up to 2099-12-30");
     } else if number == 32 && items(table, "leaps").len() > 64 {
         reason.misfit(Place::Table(at), "leaps", table, "at most 64");

@@ -29,8 +29,10 @@ pub fn why_refused(
     if !matches!(number, 22 | 23 | 29 | 30) {
         find(&mut reason, alloc, number, line, standing);
     }
-    if reason.is_empty() {
-        reason.say(meaning_of(number).map_or("", |meaning| meaning.cause));
+    if reason.is_empty()
+        && let Some(meaning) = meaning_of(number)
+    {
+        reason.say(meaning.cause);
     }
     reason.end()
 }

@@ -15,10 +15,13 @@ pub(crate) fn find_in_shape(reason: &mut Reason, place: Place, keys: &[Key], val
             reason.may_stand();
         }
         Some(members) => {
-            match members.keys().find(|name| !is_named(name.as_str(), keys)) {
-                Some(name) => find_other_key(reason, place, keys, name.as_str()),
-                None => find_at_keys(reason, place, keys, value),
+            for name in members.keys() {
+                if !is_named(name.as_str(), keys) {
+                    find_other_key(reason, place, keys, name.as_str());
+                    return;
+                }
             }
+            find_at_keys(reason, place, keys, value);
         }
     }
 }
@@ -34,18 +37,25 @@ fn find_other_key(reason: &mut Reason, place: Place, keys: &[Key], name: &str) {
 }
 
 fn find_at_keys(reason: &mut Reason, place: Place, keys: &[Key], value: &Value) {
-    if let Some(key) = keys.iter().find(|key| !fits(key, value)) {
-        match value.get(key.name) {
-            Some(item) => reason.stands(place, key.name, item),
-            None => {
-                reason.place(place);
-                reason.word(key.name);
-                reason.say(" is missing; ");
-            }
+    for key in keys {
+        if !fits(key, value) {
+            find_at_key(reason, place, *key, value);
+            return;
         }
-        reason.kind_and_type(key.kind);
-        reason.may_stand();
     }
+}
+
+fn find_at_key(reason: &mut Reason, place: Place, key: Key, value: &Value) {
+    match value.get(key.name) {
+        Some(item) => reason.stands(place, key.name, item),
+        None => {
+            reason.place(place);
+            reason.word(key.name);
+            reason.say(" is missing; ");
+        }
+    }
+    reason.kind_and_type(key.kind);
+    reason.may_stand();
 }
 
 fn fits(key: &Key, value: &Value) -> bool {

@@ -8,17 +8,14 @@ use serde_json::Value;
 
 /// Says which value of an object is outside the range of its key, if one is.
 pub(crate) fn find_in_values(reason: &mut Reason, place: Place, keys: &[Key], value: &Value) {
-    if let Some(key) = keys.iter().find(|key| is_out_of_range(key, value))
-        && let Some(item) = value.get(key.name)
-    {
-        find_in_range(reason, place, *key, item);
+    for key in keys {
+        if let Some(item) = value.get(key.name)
+            && !is_in_range(key.kind, item)
+        {
+            find_in_range(reason, place, *key, item);
+            return;
+        }
     }
-}
-
-fn is_out_of_range(key: &Key, value: &Value) -> bool {
-    value
-        .get(key.name)
-        .is_some_and(|item| !is_in_range(key.kind, item))
 }
 
 fn find_in_range(reason: &mut Reason, place: Place, key: Key, item: &Value) {
@@ -76,16 +73,22 @@ fn is_within(least: i128, most: i128, item: &Value) -> bool {
 }
 
 fn has_at_most(count: usize, item: &Value) -> bool {
-    item.as_array().is_some_and(|items| items.len() <= count)
+    match item.as_array() {
+        Some(items) => items.len() <= count,
+        None => false,
+    }
 }
 
 fn are_within(most: u32, list: &Value) -> bool {
-    match list.as_array() {
-        Some(items) => items
-            .iter()
-            .all(|item| is_within(0, i128::from(most), item)),
-        None => false,
+    let Some(items) = list.as_array() else {
+        return false;
+    };
+    for item in items.as_slice() {
+        if !is_within(0, i128::from(most), item) {
+            return false;
+        }
     }
+    true
 }
 
 fn is_in_range(kind: Kind, item: &Value) -> bool {
@@ -94,7 +97,10 @@ fn is_in_range(kind: Kind, item: &Value) -> bool {
         Kind::Integer(least, most) => is_within(i128::from(least), i128::from(most), item),
         Kind::Few(count) => has_at_most(count, item),
         Kind::Naturals(count, most) => has_at_most(count, item) && are_within(most, item),
-        Kind::Text(form) => item.as_str().is_none_or(|text| has_text_form(form, text)),
+        Kind::Text(form) => match item.as_str() {
+            Some(text) => has_text_form(form, text),
+            None => true,
+        },
         Kind::Whole | Kind::Truth | Kind::List | Kind::Object => true,
     }
 }

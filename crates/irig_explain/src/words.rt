@@ -30,8 +30,7 @@ pub(crate) fn reason_of_time(text: &str) -> &'static str {
 /// Why a text is none of the days that can be named.
 pub(crate) fn reason_of_day(text: &str) -> &'static str {
     let form = FORM.get(..10).unwrap_or(FORM);
-    let has_form = text.len() == 10 && text.bytes().zip(form).all(|(byte, form)| fits(byte, *form));
-    if has_form {
+    if text.len() == 10 && has_form(text.as_bytes(), form) {
         "there is no such day"
     } else {
         "its form is another"
@@ -50,7 +49,7 @@ struct TimeText {
 
 impl TimeText {
     fn of(text: &[u8]) -> Option<TimeText> {
-        if text.len() != 20 || !text.iter().zip(FORM).all(|(byte, form)| fits(*byte, *form)) {
+        if text.len() != 20 || !has_form(text, FORM) {
             return None;
         }
         Some(TimeText {
@@ -81,6 +80,15 @@ impl TimeText {
 
 static FORM: &[u8] = b"0000-00-00T00:00:00Z";
 
+fn has_form(text: &[u8], form: &[u8]) -> bool {
+    for (byte, form) in text.iter().zip(form) {
+        if !fits(*byte, *form) {
+            return false;
+        }
+    }
+    true
+}
+
 // Whether a byte is a digit where a digit belongs, and else the byte that belongs there.
 fn fits(byte: u8, form: u8) -> bool {
     if form == b'0' {
@@ -91,25 +99,27 @@ fn fits(byte: u8, form: u8) -> bool {
 }
 
 fn two_digits(text: &[u8], place: usize) -> Option<u8> {
-    let tens = text.get(place)?.checked_sub(b'0')?;
-    let units = text.get(place.checked_add(1)?)?.checked_sub(b'0')?;
-    tens.checked_mul(10)?.checked_add(units)
+    match text.get(place..) {
+        Some([tens @ b'0'..=b'9', units @ b'0'..=b'9', ..]) => {
+            Some((*tens - b'0') * 10 + (*units - b'0'))
+        }
+        _ => None,
+    }
 }
 
 /// Which character of a text is no symbol of a frame, and at which place, in one line. Fails for
 /// want of memory alone.
 pub fn why_no_frame(alloc: Global, text: &str) -> Result<String, AllocError> {
     let mut reason = Reason::new(alloc);
-    let wrong = text
-        .chars()
-        .enumerate()
-        .find(|(_, letter)| !is_letter(*letter));
-    if let Some((place, letter)) = wrong {
-        reason.say("character ");
-        reason.number(place.saturating_add(1) as i128);
-        reason.say(" is ");
-        reason.letter(letter);
-        reason.say("; ");
+    for (place, letter) in text.chars().enumerate() {
+        if !is_letter(letter) {
+            reason.say("character ");
+            reason.number(place.saturating_add(1) as i128);
+            reason.say(" is ");
+            reason.letter(letter);
+            reason.say("; ");
+            break;
+        }
     }
     reason.say("P, 0, 1, ? and blanks may stand there");
     reason.end()

@@ -8,7 +8,7 @@ use irig_time::{TableFault, TimelineFault};
 use std::alloc::{AllocError, AllocFailed};
 
 /// Why a line of a scenario is refused.
-#[derive(Clone, Copy, Debug, PartialEq, Eq)]
+#[derive(Clone, Copy, PartialEq, Eq)]
 pub enum Refusal {
     /// The start's day is outside 1 to 36523, or its second is none of that day's.
     BadStart,
@@ -132,7 +132,7 @@ impl Refusal {
 }
 
 /// Why a line gives nothing.
-#[derive(Clone, Copy, Debug, PartialEq, Eq)]
+#[derive(Clone, Copy, PartialEq, Eq)]
 pub enum LineFault {
     /// It is refused.
     Refused(Refusal),

@@ -8,7 +8,7 @@ ghost use Rattle.irig_frame.specs.Decoder.{IsCoded};
 /// Source: IRIG Standard 200-16, format B: time of year, year, control functions, straight binary
 /// seconds. Whether the year has the day is not asked here.
 #[repr(C)]
-#[derive(Clone, Copy, Debug, PartialEq, Eq)]
+#[derive(Clone, Copy, PartialEq, Eq)]
 pub struct Coded {
     /// Second of the minute, 0 to 60; 60 is an inserted leap second.
     pub second: u8,

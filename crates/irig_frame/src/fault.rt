@@ -3,7 +3,7 @@
 use crate::layout::Field;
 
 /// What is wrong with a frame, in the order in which faults are answered.
-#[derive(Clone, Copy, Debug, PartialEq, Eq)]
+#[derive(Clone, Copy, PartialEq, Eq)]
 pub enum FrameFault {
     /// Fewer than 100 symbols: so many, 0 to 99.
     Short(u8),

@@ -8,7 +8,7 @@ ghost use Rattle.irig_frame.specs.FieldTable.{units_of, tens_of, hundreds_of, co
 /// A field of decimal digits, in the order in which faults are answered.
 ///
 /// Source: IRIG Standard 200-16, format B, the time-of-year subword and the year.
-#[derive(Clone, Copy, Debug, PartialEq, Eq)]
+#[derive(Clone, Copy, PartialEq, Eq)]
 pub enum Field {
     /// Seconds, 0 to 60.
     Second,

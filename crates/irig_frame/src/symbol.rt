@@ -16,7 +16,7 @@ const TOO_WIDE: u32 = 9500;
 /// What one element of a frame says.
 ///
 /// The nominal widths are those of IRIG Standard 200-16, format B: 2, 5 and 8 ms.
-#[derive(Clone, Copy, Debug, Default, PartialEq, Eq)]
+#[derive(Clone, Copy, Default, PartialEq, Eq)]
 pub enum Symbol {
     /// A binary 0, nominally 2 ms.
     #[default]

@@ -12,7 +12,7 @@ use irig_time::{Leap, frame_of_second, read_text};
 pub type FrameText = [u8; 110];
 
 /// A text that is of no second of the years served.
-#[derive(Clone, Copy, Debug, PartialEq, Eq)]
+#[derive(Clone, Copy, PartialEq, Eq)]
 pub struct BadTime;
 
 /// The frame of the UTC second whose text this is, by a clock `local` half hours ahead of UTC, -31

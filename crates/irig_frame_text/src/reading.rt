@@ -11,7 +11,7 @@ use irig_frame::{Coded, Symbol, decode};
 use std::alloc::{AllocError, Global};
 
 /// Why nothing is said of a text.
-#[derive(Clone, Copy, Debug, PartialEq, Eq)]
+#[derive(Clone, Copy, PartialEq, Eq)]
 pub enum ReadingFault {
     /// It has a letter of no symbol.
     BadFrameText,

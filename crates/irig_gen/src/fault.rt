@@ -8,7 +8,7 @@ use irig_control::Control;
 use irig_time::Leap;
 
 /// What is wrong with a generator. The frames of the last four have the parity set anew.
-#[derive(Clone, Copy, Debug, PartialEq, Eq)]
+#[derive(Clone, Copy, PartialEq, Eq)]
 pub enum GenFault {
     /// It sends nothing.
     Silent,

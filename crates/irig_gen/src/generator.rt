@@ -18,7 +18,7 @@ use std::alloc::Global;
 use std::marker::Model;
 
 /// Why there is no such generator, in the order in which refusals are answered.
-#[derive(Clone, Copy, Debug, PartialEq, Eq)]
+#[derive(Clone, Copy, PartialEq, Eq)]
 pub enum GenRefusal {
     /// A zone, the first or a change's, is not -31 to 31 half hours ahead of UTC.
     Offset,

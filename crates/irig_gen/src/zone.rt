@@ -9,7 +9,7 @@ ghost use Rattle.irig_gen.specs.Zones.{all_fit, fits, in_order, is_change_time, 
 use irig_time::{FIRST_DAY, LAST_DAY, UtcSecond};
 
 /// How far a clock is ahead of UTC, and whether that is daylight saving.
-#[derive(Clone, Copy, Debug, PartialEq, Eq)]
+#[derive(Clone, Copy, PartialEq, Eq)]
 pub struct Zone {
     /// Half hours ahead of UTC, daylight saving included; -31 to 31 in a generator.
     pub half_hours: i8,
@@ -18,7 +18,7 @@ pub struct Zone {
 }
 
 /// A new zone from a second on.
-#[derive(Clone, Copy, Debug, PartialEq, Eq)]
+#[derive(Clone, Copy, PartialEq, Eq)]
 pub struct Change {
     /// The first second of the new zone, which in a generator begins a UTC minute.
     pub at: UtcSecond,

@@ -11,7 +11,7 @@ use irig_time::{Claim, LAST_DAY, Leaps, Mark, UtcSecond, next};
 use std::marker::Model;
 
 /// What a hold answers: the second that it has come to, or why it stays.
-#[derive(Clone, Copy, Debug, PartialEq, Eq)]
+#[derive(Clone, Copy, PartialEq, Eq)]
 pub enum Turn {
     /// It has come to this second.
     Now(UtcSecond),
@@ -29,7 +29,7 @@ pub enum Turn {
 /// the last vote, and what was heard of the leap at the end of that day.
 ///
 /// The second is always a [`valid`](irig_time::valid) one.
-#[derive(Debug, Drop, PartialEq, Eq)]
+#[derive(Drop, PartialEq, Eq)]
 pub struct Hold {
     last: UtcSecond,
     age: u32,

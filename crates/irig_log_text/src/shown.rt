@@ -1,7 +1,7 @@
 //! What of a run is written.
 
 /// What is written beside announcements and the last line.
-#[derive(Clone, Copy, Debug, PartialEq, Eq)]
+#[derive(Clone, Copy, PartialEq, Eq)]
 pub struct Shown {
     /// Whether silent entries are written too.
     pub all: bool,

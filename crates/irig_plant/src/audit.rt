@@ -16,7 +16,7 @@ use irig_vote::{Redundancy, Tells};
 
 /// Whether the premises of a run hold under which each reader that announces announces the true
 /// second.
-#[derive(Clone, Copy, Debug, PartialEq, Eq)]
+#[derive(Clone, Copy, PartialEq, Eq)]
 pub enum Audit {
     /// They held at each tick so far, and each reader's table is true.
     Kept,

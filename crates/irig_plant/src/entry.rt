@@ -3,7 +3,7 @@
 use irig_reader::Report;
 
 /// What a reader said at an edge.
-#[derive(Clone, Copy, Debug, PartialEq, Eq)]
+#[derive(Clone, Copy, PartialEq, Eq)]
 pub struct Entry {
     /// The reader, from 0.
     pub reader: u8,

@@ -9,7 +9,7 @@ use std::marker::Model;
 
 /// One atomic step of one actor. `g` is a generator and `r` a reader, both from 0; port `g` of each
 /// reader is fed by generator `g`.
-#[derive(Debug, Drop)]
+#[derive(Drop)]
 pub enum Event {
     /// A generator goes to its next edge.
     GenEdge(u8),
@@ -34,7 +34,7 @@ pub enum Event {
 }
 
 /// Widths of pulses in microseconds, in order.
-#[derive(Debug, Drop)]
+#[derive(Drop)]
 pub struct Widths {
     items: Vec<u32>,
 }

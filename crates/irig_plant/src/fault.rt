@@ -3,7 +3,7 @@
 use std::alloc::AllocError;
 
 /// Why an event is refused, in the order in which reasons are answered.
-#[derive(Clone, Copy, Debug, PartialEq, Eq)]
+#[derive(Clone, Copy, PartialEq, Eq)]
 pub enum PlantFault {
     /// There is no reader of this number.
     NoSuchReader,
@@ -18,7 +18,7 @@ pub enum PlantFault {
 }
 
 /// The first event of a list that is refused.
-#[derive(Clone, Copy, Debug, PartialEq, Eq)]
+#[derive(Clone, Copy, PartialEq, Eq)]
 pub struct Refused {
     /// Its place in the list, from 0.
     pub index: usize,

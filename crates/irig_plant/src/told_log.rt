@@ -8,7 +8,7 @@ use irig_vote::{Redundancy, Tells};
 use std::alloc::{AllocError, Global};
 
 /// What the ports of a reader told at one of its ticks.
-#[derive(Clone, Copy, Debug, PartialEq, Eq)]
+#[derive(Clone, Copy, PartialEq, Eq)]
 pub struct ToldEntry {
     /// How many ports there are.
     pub redundancy: Redundancy,

@@ -7,7 +7,7 @@ use irig_time::{Claim, TimeFault};
 ///
 /// The first fault is told, in the order: length and elements of the frame, parity, fields of the
 /// frame, straight binary seconds, time.
-#[derive(Clone, Copy, Debug, PartialEq, Eq)]
+#[derive(Clone, Copy, PartialEq, Eq)]
 pub enum PortFault {
     /// The symbols are no frame, or one of its fields is wrong.
     Frame(FrameFault),
@@ -20,7 +20,7 @@ pub enum PortFault {
 }
 
 /// What a port tells at an edge.
-#[derive(Clone, Copy, Debug, PartialEq, Eq)]
+#[derive(Clone, Copy, PartialEq, Eq)]
 pub enum Told {
     /// There was no pulse.
     Silence,

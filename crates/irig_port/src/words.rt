@@ -9,7 +9,7 @@ use irig_time::{Mark, TimeFault};
 use std::alloc::AllocError;
 
 /// What a fault says beside its name.
-#[derive(Clone, Copy, Debug, PartialEq, Eq)]
+#[derive(Clone, Copy, PartialEq, Eq)]
 pub enum Detail {
     /// So many symbols there were, 0 to 99.
     Symbols(u8),

@@ -17,7 +17,7 @@ use irig_vote::{Redundancy, Tells, vote};
 use std::mem;
 
 /// What a tick answers.
-#[derive(Clone, Copy, Debug, PartialEq, Eq)]
+#[derive(Clone, Copy, PartialEq, Eq)]
 pub struct Ticked {
     /// What the reader says.
     pub report: Report,

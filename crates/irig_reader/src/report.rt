@@ -3,7 +3,7 @@
 use irig_time::UtcSecond;
 
 /// Whether a reader is locked.
-#[derive(Clone, Copy, Debug, PartialEq, Eq)]
+#[derive(Clone, Copy, PartialEq, Eq)]
 pub enum Lock {
     /// It has nothing to go on.
     Unlocked,
@@ -16,7 +16,7 @@ pub enum Lock {
 }
 
 /// Why a reader announces, or does not.
-#[derive(Clone, Copy, Debug, PartialEq, Eq)]
+#[derive(Clone, Copy, PartialEq, Eq)]
 pub enum Cause {
     /// It announces by the vote of this edge.
     Voted,
@@ -37,7 +37,7 @@ pub enum Cause {
 }
 
 /// What a reader says at a tick.
-#[derive(Clone, Copy, Debug, PartialEq, Eq)]
+#[derive(Clone, Copy, PartialEq, Eq)]
 pub struct Report {
     /// The UTC second that begins at this edge, where it announces one.
     pub announce: Option<UtcSecond>,

@@ -12,7 +12,7 @@ use irig_hold::{Hold, Turn};
 use irig_time::{Claim, Leaps, UtcSecond};
 
 /// Where a reader stands between two edges.
-#[derive(Debug, Drop)]
+#[derive(Drop)]
 pub enum State {
     /// It has nothing to go on.
     Idle,
@@ -23,7 +23,7 @@ pub enum State {
 }
 
 /// Where a reader stands after an edge, and what it says there.
-#[derive(Debug, Drop)]
+#[derive(Drop)]
 pub struct Step {
     pub state: State,
     pub report: Report,

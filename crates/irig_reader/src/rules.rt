@@ -4,7 +4,7 @@ ghost use Rattle.std.specs.Prelude.{◌↔◌, IsTrue};
 ghost use Rattle.irig_reader.specs.Rules.{IsReaderRules};
 
 /// When a reader locks, and how long it holds over.
-#[derive(Clone, Copy, Debug, PartialEq, Eq)]
+#[derive(Clone, Copy, PartialEq, Eq)]
 pub struct ReaderRules {
     /// The votes that follow one another after which it announces, 1 to 60.
     pub lock_after: u8,

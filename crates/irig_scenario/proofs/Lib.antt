@@ -1,9 +1,5 @@
-pub mod ListLaws
-pub mod NameLaws
-pub mod NameCounts
 pub mod BuildLaws
 pub mod SecondLaws
-pub mod ValueLaws
 pub mod SoundPlans
 pub mod BlankLines
 pub mod PlainLines

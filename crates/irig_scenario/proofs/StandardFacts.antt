@@ -1,27 +1,9 @@
--- Known seconds and names of scenarios, so that a wrong definition does not check.
-use Rattle.std.proofs.Common.{◌≡◌, true, false, [], ◌∷◌, map, refl}
-use Rattle.std.specs.Prelude.{codes}
+-- A known second of a scenario, so that a wrong definition does not check.
+use Rattle.std.proofs.Common.{◌≡◌, [], ◌∷◌, refl}
 use Rattle.irig_plant.specs.declared.event.Event.TheVariants.{GenEdge, Tick, Carry}
-use Rattle.irig_scenario.specs.Names.{is_name, are_names}
 use Rattle.irig_plant.specs.WholeSecond.{second_of}
-
--- ---- seconds
 
 -- of three generators and two readers: the carries by reader, the ticks, the steps
 pub known_second : second_of 3 2
     ≡ Carry 0 0 ∷ Carry 1 0 ∷ Carry 2 0 ∷ Carry 0 1 ∷ Carry 1 1 ∷ Carry 2 1 ∷ Tick 0 ∷ Tick 1 ∷ GenEdge 0 ∷ GenEdge 1 ∷ GenEdge 2 ∷ []
 known_second = refl
-
--- ---- names
-
--- 1 to 16 of the bytes a to z, 0 to 9, _ and -
-pub known_names : map is_name (codes "r1" ∷ codes "west-2_b" ∷ codes "abcdefghijklmnop" ∷ codes "abcdefghijklmnopq" ∷ [] ∷ codes "West" ∷ codes "a b" ∷ codes "a.b" ∷ [])
-    ≡ true ∷ true ∷ true ∷ false ∷ false ∷ false ∷ false ∷ false ∷ []
-unfolding is_name
-known_names = refl
-
--- one reader at least, and no name twice
-pub known_readers : map are_names ((codes "r1" ∷ codes "r2" ∷ []) ∷ [] ∷ (codes "r1" ∷ codes "r2" ∷ codes "r1" ∷ []) ∷ (codes "r1" ∷ codes "West" ∷ []) ∷ [])
-    ≡ true ∷ false ∷ false ∷ false ∷ []
-unfolding are_names is_name
-known_readers = refl

@@ -1,7 +1,6 @@
 -- What a line after the plant line says.
 -- Source: docs/SCENARIOS.md; the order of refusals is that of docs/FAULTS.md.
-use Rattle.std.specs.Prelude.{ℕ, ℤ, List, codes, if◌then◌else◌, Option, option_map, option_and_then, Result, Ok}
-use Rattle.std.specs.Str.{bytes_eq}
+use Rattle.std.specs.Prelude.{ℕ, ℤ, List, Result, Ok}
 use Rattle.serde_json.specs.Data.{Data}
 use Rattle.irig_gen.specs.declared.fault.GenFault.{GenFault}
 use Rattle.irig_gen.specs.declared.fault.GenFault.TheVariants.{Silent, Stuck, Skew, NoPending, FalsePending, Quality, WrongOffset}
@@ -10,30 +9,14 @@ use Rattle.irig_forms.specs.declared.refusal.Refusal.{Refusal}
 use Rattle.irig_forms.specs.declared.refusal.Refusal.TheVariants.{Json, Shape, Value, NoSuchReader}
 use Rattle.irig_scenario.specs.declared.event_line.Command.{Command}
 use Rattle.irig_scenario.specs.declared.event_line.Command.TheVariants.{Event, Seconds}
-use Rattle.irig_scenario.specs.declared.form.Action.{Action}
-use Rattle.irig_scenario.specs.declared.form.Action.TheVariants as action
-use Rattle.irig_scenario.specs.declared.form.FaultKind.{FaultKind}
-use Rattle.irig_scenario.specs.declared.form.FaultKind.TheVariants as fault
-use Rattle.irig_forms.specs.Json.{json_of, text_at, ◌>>=◌, or_else, holds_or}
-use Rattle.irig_scenario.specs.Forms.{action_key, action_named, fault_named, g, kind_key, r, at, width, widths, edge, n, edges_by, half_hours_by, leap, q, keys_of}
+use Rattle.irig_values.specs.declared.form.Action.{Action}
+use Rattle.irig_values.specs.declared.form.Action.TheVariants as action
+use Rattle.irig_values.specs.declared.form.FaultKind.{FaultKind}
+use Rattle.irig_values.specs.declared.form.FaultKind.TheVariants as fault
+use Rattle.irig_forms.specs.Json.{json_of, ◌>>=◌, or_else, holds_or}
+use Rattle.irig_values.specs.Forms.{action_of, g, r, at, width, widths, edge, n, edges_by, half_hours_by, leap, q, keys_of}
 use Rattle.irig_forms.specs.Keys.{KeyValue}
 use Rattle.irig_forms.specs.Fields.{has_form, natural_at, integer_at, leap_at, reader_at, naturals_at}
-
--- ---- which form a line has
-
--- a fault, by what stands at `kind`
-abbrev pub fault_action : Data → Option Action
-fault_action d =
-    option_map (λ kind. action.Fault kind)
-    (option_and_then fault_named (text_at kind_key.name d))
-
--- the action of this word
-abbrev pub action_by : List ℕ → Data → Option Action
-action_by word d = if bytes_eq word (codes "fault") then fault_action d else action_named word
-
--- by what stands at `do`
-unfoldable pub action_of : Data → Option Action
-action_of d = option_and_then (λ word. action_by word d) (text_at action_key.name d)
 
 -- ---- what stands in a line of a form, where it is in range
 

@@ -19,9 +19,9 @@ use Rattle.irig_forms.specs.declared.refusal.LineFault.TheVariants.{Refused, Mem
 use Rattle.irig_scenario.specs.declared.plant_line.BuiltPlant.{BuiltPlant}
 use Rattle.irig_forms.specs.Refusals.{of_timeline, of_generator, of_table}
 use Rattle.irig_forms.specs.Json.{json_of, whole_at, or_else, holds_or, ◌>>=◌}
-use Rattle.irig_scenario.specs.PlantShape.{version_of, is_plant}
-use Rattle.irig_scenario.specs.PlantValues.{GeneratorValues, ReaderValues, PlantValues, readers_in, plant_values}
-use Rattle.irig_scenario.specs.Names.{names_in}
+use Rattle.irig_values.specs.PlantShape.{version_of, is_plant}
+use Rattle.irig_values.specs.PlantValues.{GeneratorValues, ReaderValues, PlantValues, readers_in, plant_values}
+use Rattle.irig_values.specs.Names.{names_in}
 
 -- ---- what is refused of the values
 

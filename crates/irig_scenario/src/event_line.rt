@@ -1,61 +1,35 @@
 //! Lines after the plant line.
 
-ghost use Rattle.std.specs.Prelude.{◌≡◌, ◌≤◌, ℕ, List, IfOk, length, map, option_map};
+ghost use Rattle.std.specs.Prelude.{◌≡◌, ◌≤◌, ℕ, List, IfOk, length};
 ghost use Rattle.serde_json.specs.View.{view};
 ghost use Rattle.irig_forms.specs.Fields.{natural_most};
 ghost use Rattle.irig_forms.specs.Keys.{key_value, texts_of};
 ghost use Rattle.irig_forms.specs.Refusals.{IsUnlessMemory};
-ghost use Rattle.irig_scenario.specs.Forms.{g, keys_of};
-ghost use Rattle.irig_scenario.specs.EventLine.{action_of, action_by, fault_action, natural_or_refusal, reader_in, fault_of_form, command_of_form, command_in_object, command_in_line};
+ghost use Rattle.irig_values.specs.Forms.{g};
+ghost use Rattle.irig_scenario.specs.EventLine.{natural_or_refusal, reader_in, fault_of_form, command_of_form, command_in_object, command_in_line};
 
-use crate::form::{
-    AT, Action, DO, EDGE, EDGES_BY, FaultKind, G, HALF_HOURS_BY, KIND, LEAP, N, Q, R, WIDTH,
-    WIDTHS, action_named, fault_named, keys_of,
-};
 use indexmap::IndexSet;
 use irig_forms::{
     Key, LineFault, Refusal, has_form, integer_at, leap_at, natural_at, naturals_at, reader_at,
-    text_at, value_of,
+    value_of,
 };
 use irig_gen::GenFault;
 use irig_plant::{Event, Widths};
+use irig_values::{
+    AT, Action, EDGE, EDGES_BY, FaultKind, G, HALF_HOURS_BY, LEAP, N, Q, R, WIDTH, WIDTHS,
+    action_of, keys_of,
+};
 use serde_json::Value;
 use std::alloc::Global;
 
 /// What a line after the plant line asks for.
-#[derive(Debug, Drop)]
+#[derive(Drop)]
 pub enum Command {
     /// One event.
     Event(Event),
     /// So many whole seconds, 0 to 100,000, each with the events of
     /// [`second_of`](crate::second_of).
     Seconds(u32),
-}
-
-/// The keys of a line after the plant line, by its `do` and, of a fault, its `kind`; none where
-/// these are no words of docs/SCENARIOS.md.
-pub fn event_keys(value: &Value) -> Option<&'static [Key]>
-    ensures { option_map (λ keys. map key_value keys.now) result
-        ≡ option_map keys_of (action_of (view value.now)) }
-{
-    Some(keys_of(action_of(value)?))
-}
-
-#[tactic(auto, unfolding(crate::specs::EventLine::action_of))]
-fn action_of(value: &Value) -> Option<Action>
-    ensures { result ≡ action_of (view value.now) }
-{
-    match text_at(value, DO.name)? {
-        "fault" => fault_action(value),
-        word => action_named(word),
-    }
-}
-
-fn fault_action(value: &Value) -> Option<Action>
-    ensures { result ≡ fault_action (view value.now) }
-{
-    let kind = fault_named(text_at(value, KIND.name)?)?;
-    Some(Action::Fault(kind))
 }
 
 fn number_at(key: Key, value: &Value) -> Result<u64, Refusal>

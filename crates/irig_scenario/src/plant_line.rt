@@ -6,21 +6,17 @@ ghost use Rattle.irig_time.specs.Timelines.{times};
 ghost use Rattle.irig_reader.specs.Rules.{IsReaderRules};
 ghost use Rattle.irig_plant.specs.History.{AreGenerators, AreReaders};
 ghost use Rattle.irig_forms.specs.Keys.{texts_of};
-ghost use Rattle.irig_scenario.specs.Names.{names_in};
-ghost use Rattle.irig_scenario.specs.PlantValues.{readers_in};
 ghost use Rattle.irig_forms.specs.Refusals.{IsUnlessMemory};
 ghost use Rattle.irig_scenario.specs.PlantLine.{IsMadeUnlessMemory, first_of, timeline_refusal, generator_refusal, reader_refusal, generator_with, reader_with, values_refusal, setup_with, setup_of, plan_in_object, plan_in_line, plan_of};
 
-use crate::generator_values::GeneratorValues;
-use crate::names::reader_names;
-use crate::plant_shape::{is_plant, version_of};
-use crate::plant_values::{PlantValues, plant_values, readers_in};
-use crate::reader_values::ReaderValues;
 use indexmap::IndexSet;
 use irig_forms::{LineFault, Refusal, value_of, whole_at};
 use irig_gen::Generator;
 use irig_plant::ReaderSetup;
 use irig_time::{LeapTable, Rules, Timeline};
+use irig_values::{
+    GeneratorValues, PlantValues, ReaderValues, is_plant, names_of, values_of, version_of,
+};
 use serde_json::Value;
 use std::alloc::Global;
 
@@ -67,20 +63,9 @@ fn plant_of_value(alloc: Global, value: &Value) -> Result<BuiltPlant, LineFault>
     if !is_plant(version, value) {
         return Err(LineFault::Refused(Refusal::Shape));
     }
-    let values = plant_values(alloc, version, value)?;
+    let values = values_of(alloc, version, value)?;
     let names = names_of(alloc, value)?;
     plant_with(alloc, &values, names)
-}
-
-fn names_of(alloc: Global, value: &Value) -> Result<IndexSet<String>, LineFault>
-    ensures names { IsUnlessMemory (λ names. texts_of names.keys)
-        (names_in (readers_in (view value.now))) result }
-    ensures count { IfOk result (λ names.
-        length names.keys ≡ length (readers_in (view value.now))) }
-    ensures least { IfOk result (λ names. 1 ≤ length names.keys) }
-    ensures most { IfOk result (λ names. length names.keys ≤ 16) }
-{
-    reader_names(readers_in(value), alloc)
 }
 
 fn plant_with(

@@ -18,7 +18,7 @@ use Rattle.irig_plant.proofs.KeptLaws.{empty_true}
 use Rattle.irig_forms.specs.declared.refusal.Refusal.{Refusal}
 use Rattle.irig_scenario.specs.declared.event_line.Command.{Command}
 use Rattle.irig_scenario.specs.declared.event_line.Command.TheVariants as command
-use Rattle.irig_scenario.specs.Names.{is_name, are_names}
+use Rattle.irig_values.specs.Names.{is_name, are_names}
 use Rattle.irig_scenario.specs.EventLine.{command_in_line}
 use Rattle.irig_scenario.specs.PlantLine.{Plan, plan_in_line}
 use Rattle.irig_scenario.proofs.BlankLines.{command_not_blank}

@@ -25,7 +25,7 @@ use Rattle.irig_plant.proofs.HealthyLaws.{earlier_there, parts_accepted, takes_s
 use Rattle.irig_plant.specs.HealthyPlant.{seconds_of, IsHealthyPlant, healthy_report, healthy_entry, healthy_log}
 use Rattle.irig_scenario.specs.declared.event_line.Command.TheVariants as command
 use Rattle.irig_scenario.specs.EventLine.{command_in_line}
-use Rattle.irig_scenario.specs.Names.{are_names}
+use Rattle.irig_values.specs.Names.{are_names}
 use Rattle.irig_scenario.specs.PlantLine.{Plan}
 use Rattle.irig_scenario.proofs.SoundPlans.{IsSound, plan_is_sound}
 use Rattle.irig_scene.specs.Lines.{max_line, max_lines}

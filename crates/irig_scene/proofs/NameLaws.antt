@@ -5,7 +5,7 @@ use Rattle.std.specs.List.{list_all, list_any}
 use Rattle.std.specs.Str.{bytes_eq}
 use Rattle.std.proofs.lemmas.Bool.{and_parts, or_cases, not-true, both_ways}
 use Rattle.std.proofs.lemmas.Slice.Eq.{bytes_eq-Decides}
-use Rattle.irig_scenario.specs.Names.{is_name_byte, one_to_sixteen, is_name, all_different, are_names}
+use Rattle.irig_values.specs.Names.{is_name_byte, one_to_sixteen, is_name, all_different, are_names}
 use Rattle.irig_log_text.specs.Text.{name_at}
 use Rattle.irig_log_text.proofs.WordLaws.{IsWord, AreNames}
 

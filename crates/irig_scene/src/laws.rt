@@ -7,7 +7,7 @@ ghost use Rattle.irig_plant.specs.Premises.{IsKept};
 ghost use Rattle.irig_plant.specs.Runs.{events_after};
 ghost use Rattle.irig_plant.specs.Truth.{IsTruthful};
 ghost use Rattle.irig_plant.specs.Schedule.{setup_at, log_of};
-ghost use Rattle.irig_scenario.specs.Names.{are_names};
+ghost use Rattle.irig_values.specs.Names.{are_names};
 ghost use Rattle.irig_plant.specs.WholeSecond.{second_of};
 ghost use Rattle.irig_scenario.specs.PlantLine.{Plan};
 ghost use Rattle.irig_scene.specs.HealthyRun.{IsOfSeconds, IsHealthyRun, HasTimeLine};

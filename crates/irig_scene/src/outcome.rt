@@ -3,7 +3,7 @@
 use irig_plant::Audit;
 
 /// What a run without a refusal gave.
-#[derive(Clone, Copy, Debug, PartialEq, Eq)]
+#[derive(Clone, Copy, PartialEq, Eq)]
 pub struct Outcome {
     /// The lines of the input, skipped ones too.
     pub lines: u64,

@@ -11,7 +11,7 @@ use std::fmt;
 use std::io::Error;
 
 /// What ends the program. Its text is the line on the standard error.
-#[derive(Debug, Drop)]
+#[derive(Drop)]
 pub enum Fault {
     /// The command line, with the text that says what is wrong and what would be right.
     CommandLine(String),

@@ -16,7 +16,7 @@ use irig_control::Control;
 use irig_frame::Coded;
 
 /// What a frame claims: the second that it codes, and what it says of a leap.
-#[derive(Clone, Copy, Debug, PartialEq, Eq)]
+#[derive(Clone, Copy, PartialEq, Eq)]
 pub struct Claim {
     /// The UTC second that begins with the frame.
     pub at: UtcSecond,
@@ -26,7 +26,7 @@ pub struct Claim {
 }
 
 /// Why a coded time is no second of UTC, in the order in which faults are answered.
-#[derive(Clone, Copy, Debug, PartialEq, Eq)]
+#[derive(Clone, Copy, PartialEq, Eq)]
 pub enum TimeFault {
     /// Day 366 of a year that has 365.
     NoSuchDay,

@@ -6,7 +6,7 @@ ghost use Rattle.irig_time.specs.Timelines.{leap_of, length_by, mark_by};
 use crate::mark::Mark;
 
 /// The leap second at the end of a month (ITU-R TF.460).
-#[derive(Clone, Copy, Debug, Default, PartialEq, Eq)]
+#[derive(Clone, Copy, Default, PartialEq, Eq)]
 pub enum Leap {
     /// 23:59:60 follows 23:59:59.
     #[default]

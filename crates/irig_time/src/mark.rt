@@ -1,7 +1,7 @@
 //! Marks of leap seconds.
 
 /// What is said of the leap at a month's end, by a frame or a table.
-#[derive(Clone, Copy, Debug, PartialEq, Eq)]
+#[derive(Clone, Copy, PartialEq, Eq)]
 pub enum Mark {
     /// Nothing is said.
     Unspoken,

@@ -6,7 +6,7 @@ use irig_control::Parity;
 /// UTC.
 ///
 /// Which one IEEE 1344-1995 means is for the plant to say.
-#[derive(Clone, Copy, Debug, PartialEq, Eq)]
+#[derive(Clone, Copy, PartialEq, Eq)]
 pub enum Sense {
     /// UTC is the coded time plus the offset.
     Add,
@@ -15,7 +15,7 @@ pub enum Sense {
 }
 
 /// Whether the straight binary seconds are compared with the coded time.
-#[derive(Clone, Copy, Debug, PartialEq, Eq)]
+#[derive(Clone, Copy, PartialEq, Eq)]
 pub enum SbsUse {
     /// They are 3600h + 60m + s of the coded time, except at second 60, where they are not
     /// compared.
@@ -25,7 +25,7 @@ pub enum SbsUse {
 }
 
 /// How a plant's frames are written and read.
-#[derive(Clone, Copy, Debug, PartialEq, Eq)]
+#[derive(Clone, Copy, PartialEq, Eq)]
 pub struct Rules {
     /// What the parity bit makes of the ones that it counts.
     pub parity: Parity,

@@ -15,7 +15,7 @@ pub const LAST_DAY: u32 = 36523;
 
 /// A second of UTC.
 #[repr(C)]
-#[derive(Clone, Copy, Debug, PartialEq, Eq)]
+#[derive(Clone, Copy, PartialEq, Eq)]
 pub struct UtcSecond {
     /// The day, counted from 2000-01-01 as day 0; [`FIRST_DAY`] to [`LAST_DAY`] where the second is
     /// valid.

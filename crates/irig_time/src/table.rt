@@ -26,7 +26,7 @@ pub trait Leaps {
 }
 
 /// Why there is no such table, in the order in which faults are answered.
-#[derive(Clone, Copy, Debug, PartialEq, Eq)]
+#[derive(Clone, Copy, PartialEq, Eq)]
 pub enum TableFault {
     /// The table ends after [`LAST_DAY`].
     TableEnd,

@@ -16,7 +16,7 @@ use std::alloc::Global;
 use std::marker::Model;
 
 /// Why there is no such timeline, in the order in which faults are answered.
-#[derive(Clone, Copy, Debug, PartialEq, Eq)]
+#[derive(Clone, Copy, PartialEq, Eq)]
 pub enum TimelineFault {
     /// The start's day is outside [`FIRST_DAY`] to [`LAST_DAY`], or its second is none of that
     /// day's.

@@ -4,7 +4,7 @@ ghost use Rattle.std.specs.Prelude.{◌≡◌, ◌⊎◌};
 ghost use Rattle.irig_vote.specs.Vote.{f_of, ports_in, redundancy_of};
 
 /// How many generators a plant has, and so each reader ports.
-#[derive(Clone, Copy, Debug, PartialEq, Eq)]
+#[derive(Clone, Copy, PartialEq, Eq)]
 pub enum Redundancy {
     /// Three, of which one may be untrue.
     Three,

@@ -9,7 +9,7 @@ use irig_port::Told;
 use irig_time::Claim;
 
 /// What each port of a reader tells at an edge. Of three ports `d` and `e` are not there.
-#[derive(Clone, Copy, Debug, PartialEq, Eq)]
+#[derive(Clone, Copy, PartialEq, Eq)]
 pub struct Tells {
     /// The port of generator 0.
     pub a: Told,

@@ -2,7 +2,7 @@ use Rattle.std.proofs.Common.{rules, ◌≡◌, length, sym, ◌∙◌, arith}
 use Rattle.std.proofs.lemmas.Grind.{common_steps}
 use Rattle.serde_json.specs.View.{view}
 use Rattle.irig_scenario.specs.PlantLine.{plan_in_object}
-use Rattle.irig_scenario.proofs.ValueLaws.{found_in_range}
+use Rattle.irig_values.proofs.ValueLaws.{found_in_range}
 use Rattle.irig_scenario.proofs.plant_line.plant_of_value.Goals as goal
 
 pub returns-in_err-ok_or-clause-plan : goal.returns-in_err-ok_or-clause-plan

@@ -1,0 +1,4 @@
+pub mod Forms
+pub mod Names
+pub mod PlantShape
+pub mod PlantValues

@@ -1,0 +1,24 @@
+//! What the lines of a scenario hold: which keys stand in each, and the values there, if they are
+//! within their ranges. It knows no plant. docs/SCENARIOS.md has the lines.
+#![tactic(auto)]
+
+mod form;
+mod generator_values;
+mod leap_values;
+mod names;
+mod plant_shape;
+mod plant_values;
+mod reader_values;
+
+pub use form::{
+    ACTION_WORDS, AT, Action, EDGE, EDGES_BY, FAULT_WORDS, FaultKind, G, HALF_HOURS_BY, LEAP, N, Q,
+    R, WIDTH, WIDTHS, action_of, event_keys, keys_of,
+};
+pub use generator_values::GeneratorValues;
+pub use names::names_of;
+pub use plant_shape::{
+    Version, change_keys, generator_keys, is_plant, leap_keys, plant_keys, reader_keys, table_keys,
+    version_in, version_of,
+};
+pub use plant_values::{PlantValues, values_of};
+pub use reader_values::ReaderValues;
