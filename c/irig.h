@@ -258,7 +258,8 @@ uint32_t irig_reader_pulses(irig_reader *reader, uint8_t port, const uint32_t *w
                             size_t count);
 
 /* An edge: what the reader says by what its ports heard; they are then empty. IRIG_VALUE if the
- * numbers are none of a reader. */
+ * second at which it stands is none, its votes are too many, or its rules are out of range. Other
+ * numbers that no reader comes to are taken as they are. */
 uint32_t irig_reader_tick(irig_reader *reader, irig_report *report);
 
 /* Clears the ports, and forgets what was voted. */

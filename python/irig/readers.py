@@ -104,9 +104,10 @@ def _table(until: Optional[Day], leaps: Iterable[Leap]) -> c.Table:
 
 class Reader:
     """A reader of IRIG-B: frames come to its ports, and at each edge it announces the second that
-    begins, or is silent. docs/HEADLINE.md says under which premises what it announces is true: that
-    `tick` is called once at each second, that at most one of three ports, or two of five, makes a
-    false claim at an edge, that the leap table is true, and what else stands there.
+    begins, or is silent, by the reader's rule (docs/READER.md). That rule is what is promised of a
+    reader alone. docs/HEADLINE.md says of the readers of a plant, which follow it too, when what
+    they announce is true: if each ticks once at each second, at most one of three ports, or two of
+    five, makes a false claim at an edge, the leap table is true, and what else stands there.
 
     lock_after: votes in a row before it announces, 1 to 60
     holdover: edges without a vote at which it goes on, 0 to 1,000,000
