@@ -16,11 +16,18 @@ pub(crate) fn fault_with_tip(
         ErrorKind::ValueValidation if is_word(words, 1, "frame") => format!(in alloc;
             "{error}\n  tip: half hours are whole, -31 to 31; 5 hours 30 minutes are 11"
         ),
-        ErrorKind::ValueValidation if is_word(words, 1, "explain") => format!(in alloc;
-            "{error}\n  tip: a number from 1 to 34, as 25 of `refused: line 3: 25 Shape`"
-        ),
+        ErrorKind::ValueValidation if is_word(words, 1, "explain") => no_number(alloc, error),
         _ => format!(in alloc; "{error}"),
     }
+}
+
+// In place of what `clap` finds wrong with the word: which words would be right.
+fn no_number(alloc: Global, error: &Error) -> Result<String, AllocError> {
+    let text = format!(in alloc; "{error}")?;
+    let (fault, _) = text.as_str().rsplit_once(": ").unwrap_or(("error", ""));
+    format!(in alloc;
+        "{fault}: a number from 1 to 34 may stand here\n\n  tip: of `refused: line 3: 25 Shape` the number is 25: irig explain 25\n  tip: docs/FAULTS.md has all numbers, docs/OUTPUT.md the words of a log\n\nFor more information, try '--help'."
+    )
 }
 
 // Of what `clap` says the first line alone, since its own tip is of no use where all is given.
