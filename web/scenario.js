@@ -200,7 +200,7 @@ class ScenarioTab {
     this.search();
     part("save").disabled = !log.length;
     part("result").hidden = false;
-    part("drawing").hidden = !result.lanes.length;
+    part("drawing").hidden = part("range").hidden = !result.lanes.length;
     this.timeline.set(result, (lane, edge) => this.told_of(lane, edge));
     if (result.lanes.length) this.timeline.choose(this.timeline.lanes[0], result.first);
     this.show_verdict(verdict, status);

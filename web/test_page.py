@@ -212,6 +212,16 @@ class InBrowser(unittest.TestCase):
         self.paste("text", plant({"do": "seconds", "n": 5}))
         self.assertEqual((self.text("explanation"), self.page.ask("part('band').hidden")), ("", True))
 
+    def test_a_refused_plant_after_a_run(self) -> None:
+        right = plant({"do": "seconds", "n": 10})
+        self.run_text(right)
+        self.assertEqual(self.text("range"), "edges 1 to 10 of 1 to 10")
+        self.run_text(plant(readers=[{"name": "relay", "lock_after": 0, "holdover": 9}]))
+        self.assertIn("refused: line 1: 26 Value", self.text("verdict"))
+        self.assertFalse(self.page.ask("part('range').checkVisibility()"))
+        self.run_text(right)
+        self.assertTrue(self.page.ask("part('range').checkVisibility()"))
+
     def test_no_scenario(self) -> None:
         self.assertTrue(self.run_text("").startswith("a line is refused"))
         self.assertIn("29 NoPlant", self.text("verdict"))
