@@ -1,7 +1,7 @@
 //! What the words of a command line ask for.
 
 /// What a command line asks for.
-#[derive(Clone, Copy, Debug, PartialEq, Eq)]
+#[derive(Clone, Copy)]
 pub enum Request<'a> {
     /// The scenario on the input.
     Plain,
@@ -39,14 +39,14 @@ pub enum Request<'a> {
 }
 
 /// A leap second that is pending.
-#[derive(Clone, Copy, Debug, PartialEq, Eq)]
+#[derive(Clone, Copy)]
 pub enum Pending {
     Insert,
     Delete,
 }
 
 /// What comes in place of a request.
-#[derive(Debug, PartialEq, Eq, Drop)]
+#[derive(Drop)]
 pub enum NoRequest {
     /// The help, or the version, that the words ask for.
     Help(String),

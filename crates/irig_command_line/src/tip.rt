@@ -67,20 +67,27 @@ fn unknown_command(alloc: Global, error: &Error, words: &[&str]) -> Result<Strin
 }
 
 fn is_word(words: &[&str], place: usize, wanted: &str) -> bool {
-    words.get(place).is_some_and(|word| *word == wanted)
+    matches!(words.get(place), Some(word) if *word == wanted)
 }
 
 fn is_path(word: &str) -> bool {
-    word.bytes().any(|byte| byte == b'.' || byte == b'/')
+    for byte in word.bytes() {
+        if byte == b'.' || byte == b'/' {
+            return true;
+        }
+    }
+    false
 }
 
 // The number below 0 that stands behind `--local` as a word of its own.
 fn negative_local<'a>(words: &[&'a str]) -> Option<&'a str> {
-    let place = words.iter().position(|word| *word == "--local")?;
-    let number = words.get(place + 1)?;
-    if number.starts_with('-') {
-        Some(number)
-    } else {
-        None
+    for pair in words.windows(2) {
+        if let [option, number] = pair
+            && *option == "--local"
+            && number.starts_with('-')
+        {
+            return Some(number);
+        }
     }
+    None
 }

@@ -31,7 +31,8 @@ use Rattle.irig_forms.specs.Fields.{has_form, each_item}
 use Rattle.irig_forms.specs.Keywords.{parity_of, sense_of, sbs_use_of}
 use Rattle.irig_scenario.specs.declared.event_line.Command.TheVariants as command
 use Rattle.irig_values.specs.declared.plant_shape.Version.TheVariants.{One}
-use Rattle.irig_scenario.specs.EventLine.{action_of, command_in_object, command_in_line}
+use Rattle.irig_scenario.specs.EventLine.{command_in_object, command_in_line}
+use Rattle.irig_values.specs.Forms.{action_of}
 use Rattle.irig_values.specs.Names.{is_name, name_in, are_names, names_in}
 use Rattle.irig_values.specs.PlantShape.{is_generator, is_reader, is_plant}
 use Rattle.irig_values.specs.PlantValues.{GeneratorValues, ReaderValues, PlantValues, start_of, rules_of, zone_of, changes_of, generator_of, generators_of, reader_rules_of, reader_of, readers_in, leaps_of, plant_values}
