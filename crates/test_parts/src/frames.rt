@@ -1,29 +1,5 @@
 use crate::texts::{LEAP_DAY, frame};
 use irig_frame::*;
-use std::test::*;
-
-#[test]
-fn symbols_have_widths_and_letters(rt: HostRuntime) {
-    let rows = [
-        (Symbol::Zero, 2000, b'0'),
-        (Symbol::One, 5000, b'1'),
-        (Symbol::Marker, 8000, b'P'),
-        (Symbol::Bad, 0, b'?'),
-    ];
-    for (symbol, width_us, letter) in rows {
-        assert!(rt; symbol.width_us() == width_us, "of {symbol:?}");
-        assert!(rt; symbol.letter() == letter, "of {symbol:?}");
-        assert!(rt;
-            Symbol::from_letter(letter) == Some(symbol),
-            "of {symbol:?}"
-        );
-        assert!(rt;
-            is_one_width(width_us) == (symbol == Symbol::One),
-            "of {symbol:?}"
-        );
-    }
-    assert!(rt; Symbol::from_letter(b'p') == None);
-}
 
 #[test]
 fn a_width_is_its_symbol_up_to_the_bounds(rt: HostRuntime) {
@@ -40,7 +16,7 @@ fn a_width_is_its_symbol_up_to_the_bounds(rt: HostRuntime) {
         (u32::MAX, Symbol::Bad),
     ];
     for (width_us, symbol) in rows {
-        assert!(rt; classify(width_us) == symbol, "at {width_us}");
+        assert!(rt; classify(width_us) == symbol);
     }
 }
 

@@ -1,5 +1,5 @@
-//! What readers stand on, tried by its public calls: time code, time, generators, ports, devices. The
-//! words of a command line are tried by cases.
+//! What plants are made of, tried by its public calls: time code, days, generators, ports, devices,
+//! votes and readers. What a scenario or a command line can say is tried by cases.
 //!
 //! They stand apart from the crates that they try, which would be proved once more for them.
 #![tactic(auto)]
@@ -14,10 +14,9 @@ mod frames;
 mod generators;
 #[cfg(test)]
 mod ports;
-mod pulses;
+#[cfg(test)]
+mod readers;
 #[cfg(test)]
 mod texts;
 #[cfg(test)]
 mod times;
-
-pub use pulses::told_by;

@@ -1,18 +1,21 @@
 use irig_frame::Symbol;
 
 /// 2016-12-31T23:59:59Z with a leap second to be inserted: 21 ones before element 75.
-pub(crate) const LEAP_DAY: &str =
-    "P10010101P 100101010P 110000100P 011000110P 110000000P 011001000P 100000000P 000001000P 111111101P 000101010P";
+pub(crate) const LEAP_DAY: &[u8; 100] =
+    b"P10010101P100101010P110000100P011000110P110000000P011001000P100000000P000001000P111111101P000101010P";
 
-/// The first hundred symbols of a text, without its blanks.
-pub(crate) fn frame(text: &str) -> [Symbol; 100] {
-    let letters = text.as_bytes().iter();
-    let mut symbols = [Symbol::Zero; 100];
-    for (place, symbol) in symbols
-        .iter_mut()
-        .zip(letters.filter_map(|letter| Symbol::from_letter(*letter)))
-    {
-        *place = symbol;
+/// The same by a clock 5 hours 30 minutes ahead: 19 ones before element 75.
+pub(crate) const LOCAL_LEAP_DAY: &[u8; 100] =
+    b"P10010101P100100100P101000000P100000000P000000000P111001000P100011010P100001000P111010101P011001000P";
+
+fn symbol(letter: u8) -> Symbol {
+    match Symbol::from_letter(letter) {
+        Some(symbol) => symbol,
+        None => Symbol::Bad,
     }
-    symbols
+}
+
+/// The symbols of a text.
+pub(crate) fn frame(text: &[u8; 100]) -> [Symbol; 100] {
+    text.map(symbol)
 }

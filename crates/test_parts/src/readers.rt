@@ -1,11 +1,11 @@
-use crate::tells;
-use irig_port::{PortFault, Told};
-use irig_time::{Claim, Mark, UtcSecond};
-use irig_vote::*;
-use std::test::*;
+use irig_frame::FrameFault;
+use irig_port::{FlowPort, Port, PortFault, Told};
+use irig_reader::{Reader, ReaderRules, in_range};
+use irig_time::{Claim, LeapTable, Mark, Rules, UtcSecond};
+use irig_vote::{Redundancy, Tells, vote};
 
 /// The claim of a second of 2016-12-31.
-fn claim(sod: u32, mark: Mark) -> Claim {
+const fn claim(sod: u32, mark: Mark) -> Claim {
     Claim {
         at: UtcSecond { day: 6209, sod },
         mark,
@@ -43,8 +43,14 @@ fn two_of_three_are_a_vote_and_one_is_none(rt: HostRuntime) {
     for ([a, b, c], expected) in rows {
         // the two further ports have no say
         for other in [SILENT, yes, early] {
-            let ports = tells([a, b, c, other, other]);
-            assert!(rt; vote(&ports, Redundancy::Three) == expected, "{ports:?}");
+            let told = Tells {
+                a,
+                b,
+                c,
+                d: other,
+                e: other,
+            };
+            assert!(rt; vote(&told, Redundancy::Three) == expected);
         }
     }
 }
@@ -53,7 +59,28 @@ fn two_of_three_are_a_vote_and_one_is_none(rt: HostRuntime) {
 fn three_ports_have_one_to_spare_and_five_two(rt: HostRuntime) {
     for (ports, f) in [(3, 1), (5, 2)] {
         let redundancy = Redundancy::of_ports(ports);
-        assert!(rt; usize::from(redundancy.ports()) == ports);
-        assert!(rt; redundancy.f() == f);
+        assert!(rt; usize::from(redundancy.ports()) == ports && redundancy.f() == f);
     }
+}
+
+#[test]
+fn an_empty_port_takes_over_what_another_heard(rt: HostRuntime) {
+    let own = ReaderRules {
+        lock_after: 1,
+        holdover: 0,
+    };
+    assert!(rt; in_range(&own));
+    let mut reader: Reader<FlowPort> = Reader::fresh(
+        Rules::PLAIN,
+        own,
+        LeapTable::empty(),
+        Redundancy::Three,
+    );
+    let mut heard = FlowPort::fresh(Rules::PLAIN);
+    heard.pulse(8000);
+    assert!(rt; reader.take_over(0, &mut heard));
+    assert!(rt; !reader.take_over(0, &mut heard));
+    let short = Told::Fault(PortFault::Frame(FrameFault::Short(1)));
+    assert!(rt; reader.tick().told.a == short);
+    assert!(rt; heard.edge() == short);
 }
