@@ -1,6 +1,6 @@
-# Builds the program by ./irig, installs it, and makes a Debian package of it.
+# Proves and builds the program, installs it, and makes a Debian package of it.
 #
-#     make                        proves and builds the program, if a source is newer
+#     make                        proves and builds the program by ./build, if a source is newer
 #     make install PREFIX=/usr    the program, its manual and completion, the pages and the examples
 #     make uninstall PREFIX=/usr  takes them away again
 #     make deb                    out/irig_VERSION_ARCHITECTURE.deb, by Debian's package dpkg-dev
@@ -12,14 +12,18 @@ DESTDIR =
 
 to = $(DESTDIR)$(PREFIX)
 program = crates/irig_main/out/irig_main
+sources = crates.txt $(shell find crates/*/src crates/*/specs crates/*/proofs 2> /dev/null)
 manual = share/man/man1/irig.1
 completion = share/bash-completion/completions/irig
 doc = share/doc/irig
 
 .PHONY: all install uninstall deb
 
-all:
-	@./irig --version
+all: $(program)
+	@$(program) --version
+
+$(program): $(sources)
+	./build > /dev/null
 
 install: all
 	install -D -m 755 $(program) "$(to)/bin/irig"

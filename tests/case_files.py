@@ -1,0 +1,88 @@
+"""The cases and examples: what the program is asked, and what it has to answer.
+
+A case is a folder of cases/: `args` (one word a line, SCENARIO standing for its `scenario.jsonl`),
+`stdin` where it reads any, `stdout` (each byte), `stderr` where anything is written there, and
+`status`. Of a text that `clap`, a library or the system wrote `stderr` has the first words, and then
+`..`; of a refusal it may be missing: then the line of the log that says so stands for it, with any
+reason behind it. An example is NAME.jsonl of examples/ with its log NAME.log, and NAME.args has the
+further words for `run` where there are any."""
+from __future__ import annotations
+
+from dataclasses import dataclass
+from pathlib import Path
+
+ROOT = Path(__file__).resolve().parent.parent
+NOTHING = "/dev/null"
+
+
+@dataclass(frozen=True)
+class Case:
+    """Words may be no UTF-8. Paths are those from the top of the repository."""
+
+    name: str
+    words: list[bytes]
+    input: str
+    status: int
+    stdout: bytes
+    stderr: bytes = b""
+
+    def tells(self, told: bytes) -> bool:
+        """Whether this may stand on the standard error."""
+        wanted = self.stderr.rstrip(b"\n")
+        if not wanted.endswith(b".."):
+            return told == self.stderr
+        begin, told = wanted.removesuffix(b".."), told.rstrip(b"\n")
+        return told.startswith(begin) and len(told) > len(begin)
+
+
+def words_in(path: Path) -> list[bytes]:
+    """The lines of a file, none if it is not there."""
+    text = path.read_bytes() if path.exists() else b""
+    return text.removesuffix(b"\n").split(b"\n") if text else []
+
+
+def standard_error(folder: Path, status: int, stdout: bytes) -> bytes:
+    if (folder / "stderr").exists():
+        return (folder / "stderr").read_bytes()
+    last = stdout.removesuffix(b"\n").rpartition(b"\n")[2]
+    if status == 3 and last.startswith(b"refused: "):
+        return last.removeprefix(b"refused: ") + b": ..\n"
+    return b""
+
+
+def case_in(folder: Path) -> Case:
+    name = str(folder.relative_to(ROOT))
+    scenario = f"{name}/scenario.jsonl".encode()
+    words = [scenario if word == b"SCENARIO" else word for word in words_in(folder / "args")]
+    status, stdout = int((folder / "status").read_text()), (folder / "stdout").read_bytes()
+    has_input = (folder / "stdin").exists()
+    return Case(
+        name, words, f"{name}/stdin" if has_input else NOTHING, status, stdout,
+        standard_error(folder, status, stdout),
+    )
+
+
+def example_of(path: Path) -> Case:
+    name = str(path.relative_to(ROOT))
+    words = [b"run", name.encode(), *words_in(path.with_suffix(".args"))]
+    return Case(name, words, NOTHING, 0, path.with_suffix(".log").read_bytes())
+
+
+def all_cases() -> list[Case]:
+    """Each case, and then each example."""
+    folders = sorted((ROOT / "cases").iterdir())
+    examples = sorted((ROOT / "examples").glob("*.jsonl"))
+    return [*map(case_in, folders), *map(example_of, examples)]
+
+
+def over_whole_ports(case: Case) -> Case | None:
+    """The same for test_whole_port, which runs what it is given and takes no more words than --all;
+    none where a case is of something else."""
+    words, input = case.words, case.input
+    is_example = case.name.startswith("examples/")
+    if is_example or (ROOT / case.name / "scenario.jsonl").exists():
+        input = case.name if is_example else f"{case.name}/scenario.jsonl"
+        words = words[2:]
+    if not is_example and b" ".join(words) not in (b"", b"--all"):
+        return None
+    return Case(f"{case.name} over whole ports", words, input, case.status, case.stdout)
