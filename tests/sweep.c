@@ -12,7 +12,7 @@
 #include <sys/wait.h>
 #include <unistd.h>
 
-enum { JOBS = 4, SECONDS = 30, BY_SIGNAL = 256 };
+enum { SECONDS = 30, BY_SIGNAL = 256 };
 
 unsigned long counts[COUNTS];
 
@@ -131,7 +131,7 @@ static int next_run(FILE *runs, struct run *run) {
     return 1;
 }
 
-static void work(char *program, int job, int result, void (*judge)(const struct run *)) {
+static void work(char *program, int job, int jobs, int result, void (*judge)(const struct run *)) {
     FILE *runs = fopen("/dev/stdin", "r");
     prctl(PR_SET_PDEATHSIG, SIGKILL);
     struct run run = {.words = {program}};
@@ -139,7 +139,7 @@ static void work(char *program, int job, int result, void (*judge)(const struct 
         stop("the runs");
     }
     for (int place = 0; next_run(runs, &run); place++) {
-        if (place % JOBS == job) {
+        if (place % jobs == job) {
             judge(&run);
         }
     }
@@ -150,20 +150,20 @@ static void work(char *program, int job, int result, void (*judge)(const struct 
 }
 
 void over_all(char *program, void (*judge)(const struct run *run)) {
-    int result[2];
-    if (pipe(result) < 0) {
+    int result[2], jobs = (int)sysconf(_SC_NPROCESSORS_ONLN);
+    if (jobs < 1 || pipe(result) < 0) {
         stop("pipe");
     }
-    for (int job = 0; job < JOBS; job++) {
+    for (int job = 0; job < jobs; job++) {
         pid_t child = fork();
         if (child < 0) {
             stop("fork");
         }
         if (child == 0) {
-            work(program, job, result[1], judge);
+            work(program, job, jobs, result[1], judge);
         }
     }
-    for (int job = 0; job < JOBS; job++) {
+    for (int job = 0; job < jobs; job++) {
         unsigned long counted[COUNTS];
         int status;
         if (wait(&status) < 0 || status != 0 ||
