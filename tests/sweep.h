@@ -1,4 +1,5 @@
-// Runs of the program, one after another and over four processes, each with what it wrote.
+// Runs of the program, one after another and over as many processes as there are processors, each with
+// what it wrote.
 
 #ifndef SWEEP_H
 #define SWEEP_H
@@ -45,7 +46,7 @@ enum { COUNTS = 9 };
 // What a sweep counts; the last is how many runs failed.
 extern unsigned long counts[COUNTS];
 
-// Gives each run of the standard input to `judge`, in four processes, and sums up their counts.
+// Gives each run of the standard input to `judge`, in so many processes, and sums up their counts.
 void over_all(char *program, void (*judge)(const struct run *run));
 
 #endif
