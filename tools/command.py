@@ -3,15 +3,27 @@ line on the standard error, with status 2."""
 from __future__ import annotations
 
 import argparse
+import os
 import sys
+from importlib.util import find_spec
 from pathlib import Path
 from typing import NoReturn
+
+DEBIAN = "/usr/bin/python3"  # it has Debian's packages, which another Python on the PATH has not
 
 
 def fail(name: str, reason: object) -> NoReturn:
     """Ends the command of this name."""
     print(f"{name}: {reason}", file=sys.stderr)
     sys.exit(2)
+
+
+def need_matplotlib(name: str) -> None:
+    """Goes on in Debian's Python if this one has no matplotlib."""
+    if not find_spec("matplotlib"):
+        if sys.executable != DEBIAN and os.path.exists(DEBIAN):
+            os.execv(DEBIAN, [DEBIAN, *sys.argv])
+        fail(name, "matplotlib is missing; on Debian: apt-get install python3-matplotlib")
 
 
 class Command(argparse.ArgumentParser):

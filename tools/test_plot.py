@@ -3,14 +3,20 @@
 that the pictures of docs/gallery are what it draws now. Needs matplotlib for the pictures."""
 import os
 import re
+import signal
 import subprocess
+import sys
 import tempfile
 import time
+import traceback
 import unittest
+from importlib.machinery import SourceFileLoader
+from importlib.util import find_spec, module_from_spec, spec_from_loader
 from itertools import combinations
 from pathlib import Path
 
 from bars import STATES, Bars, Lane, Mark, Run, bars_of, checked
+from command import DEBIAN
 from layout import Label, Scale, chosen, rows_of, ways
 
 ROOT = Path(__file__).resolve().parent.parent
@@ -28,13 +34,64 @@ def lane_of(lines: list[str]) -> Lane:
     return lane
 
 
+def loaded():
+    """The tool as a module; matplotlib is loaded with it, which takes a second."""
+    loader = SourceFileLoader("plot", str(PLOT))
+    module = module_from_spec(spec_from_loader("plot", loader))
+    loader.exec_module(module)
+    if find_spec("matplotlib"):
+        import drawing
+
+        drawing.width_of("a letter", drawing.NORMAL)  # so that the font is read
+    return module
+
+
+TOOL = loaded()
+
+
+def become(words: list[str], files: list) -> None:
+    """Makes this process the tool, with these files as its standard input and outputs."""
+    for descriptor, file in enumerate(files):
+        os.dup2(file.fileno(), descriptor)
+    sys.argv, sys.stdin = words, open(0)
+    sys.stdout, sys.stderr = open(1, "w", closefd=False), open(2, "w", closefd=False)
+    signal.alarm(60)
+    status = 1
+    try:
+        TOOL.main()
+        status = 0
+    except SystemExit as ended:
+        status = ended.code or 0
+    except Exception:
+        traceback.print_exc()
+    finally:
+        sys.stdout.flush()
+        sys.stderr.flush()
+        os._exit(status)
+
+
+def run(words: list[str], text: str) -> subprocess.CompletedProcess:
+    """A run of the tool in a process that is split from this one, where all is loaded."""
+    with tempfile.TemporaryFile("w+") as given, tempfile.TemporaryFile("w+") as out, \
+            tempfile.TemporaryFile("w+") as told:
+        given.write(text)
+        given.seek(0)
+        child = os.fork()
+        if child == 0:
+            become(words, [given, out, told])
+        status = os.waitstatus_to_exitcode(os.waitpid(child, 0)[1])
+        says = []
+        for file in (out, told):
+            file.seek(0)
+            says.append(file.read())
+        return subprocess.CompletedProcess(words, status, *says)
+
+
 def plot(text: str, *options: str, name: str = "a.svg") -> tuple[subprocess.CompletedProcess, str]:
     """What plot says of a log on standard input, and the picture."""
     with tempfile.TemporaryDirectory() as folder:
         file = Path(folder) / name
-        ran = subprocess.run(
-            [PLOT, "-", "-o", file, *options], input=text, capture_output=True, text=True, timeout=60
-        )
+        ran = run([str(PLOT), "-", "-o", str(file), *options], text)
         return ran, file.read_text(errors="ignore") if file.exists() else ""
 
 
@@ -355,4 +412,6 @@ class Help(unittest.TestCase):
 
 
 if __name__ == "__main__":
+    if not find_spec("matplotlib") and sys.executable != DEBIAN and os.path.exists(DEBIAN):
+        os.execv(DEBIAN, [DEBIAN, *sys.argv])
     unittest.main()
