@@ -1,18 +1,10 @@
-//! Lines of scenarios, whole runs and the callers in `irig_uses`, tried by their public calls.
+//! Runs over devices that fail, a refused line handed back, and the callers in `irig_uses`, tried by
+//! their public calls. What a scenario can say is tried by cases.
 //!
 //! They stand apart from the crates that they try, which would be proved once more for them.
 #![tactic(auto)]
 
 #[cfg(test)]
-mod forms;
-#[cfg(test)]
-mod lines;
-mod names;
-#[cfg(test)]
-mod plant_lines;
-#[cfg(test)]
 mod scenes;
 #[cfg(test)]
 mod uses;
-
-pub use names::two_names;

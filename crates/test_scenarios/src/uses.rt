@@ -1,11 +1,10 @@
 use irig_frame::{Coded, encode};
-use irig_plant::{Event, Plant, ReaderSetup};
+use irig_plant::{Event, Plant, PlantFault, ReaderSetup, Refused, Widths};
 use irig_port::{FlowPort, Told, WholePort};
 use irig_reader::ReaderRules;
 use irig_time::{Leap, LeapTable, Rules, Timeline, UtcSecond};
 use irig_uses::{frames, plants, ports, scenes, times};
-use std::process::Abort;
-use std::test::*;
+use std::test::Fail;
 
 #[test]
 fn frames_are_read_and_changed(rt: HostRuntime) {
@@ -18,11 +17,11 @@ fn frames_are_read_and_changed(rt: HostRuntime) {
         control: 0,
         sbs: 45059,
     };
-    assert!(&rt; frames::comes_back(&noon));
+    assert!(rt; frames::comes_back(&noon));
     let frame = encode(&noon);
-    assert_eq!(&rt; frames::time_of_day(&frame), Some((12, 30, 59)));
-    let leap = frames::with_second(&frame, 60);
-    assert_eq!(&rt; leap, Some(encode(&Coded { second: 60, ..noon })));
+    assert!(rt; frames::time_of_day(&frame) == Some((12, 30, 59)));
+    let leap = encode(&Coded { second: 60, ..noon });
+    assert!(rt; frames::with_second(&frame, 60) == Some(leap));
 }
 
 /// The leap second at the end of 2016 is the tenth second after 23:59:50.
@@ -32,25 +31,21 @@ fn seconds_are_counted_and_written(rt: HostRuntime) -> Result<(), Fail> {
         day: 6209,
         sod: 86390,
     };
-    let timeline = Timeline::new(rt.alloc(), start, &[(6209, Leap::Insert)])?;
-    assert_eq!(&rt;
-        times::text_at(&timeline, 10),
-        Some(*b"2016-12-31T23:59:60Z")
-    );
-    assert!(&rt; times::is_leap_next(&timeline, 9));
-    assert_eq!(&rt; times::through_text(&start), Some(start));
+    let Ok(timeline) = Timeline::new(rt.alloc(), start, &[(6209, Leap::Insert)]) else {
+        return Err(Fail::from("no timeline"));
+    };
+    assert!(rt; times::text_at(&timeline, 10) == Some(*b"2016-12-31T23:59:60Z"));
+    assert!(rt; times::is_leap_next(&timeline, 9));
+    assert!(rt; times::through_text(&start) == Some(start));
     Ok(())
 }
 
 #[test]
 fn ports_tell_the_same(rt: HostRuntime) {
     let rules = Rules::PLAIN;
-    assert_eq!(&rt; ports::told_by::<WholePort>(rules, &[]), Told::Silence);
-    assert!(&rt; ports::tell_the_same(rules, &[8000, 2000, 5000]));
-    assert_eq!(&rt;
-        ports::told_after_clear::<FlowPort>(rules, 8000),
-        Told::Silence
-    );
+    assert!(rt; ports::told_by::<WholePort>(rules, &[]) == Told::Silence);
+    assert!(rt; ports::tell_the_same(rules, &[8000, 2000, 5000]));
+    assert!(rt; ports::told_after_clear::<FlowPort>(rules, 8000) == Told::Silence);
 }
 
 #[test]
@@ -59,7 +54,9 @@ fn a_plant_is_made_and_trusted(rt: HostRuntime) -> Result<(), Fail> {
         day: 6010,
         sod: 43200,
     };
-    let timeline = Timeline::new(rt.alloc(), noon, &[])?;
+    let Ok(timeline) = Timeline::new(rt.alloc(), noon, &[]) else {
+        return Err(Fail::from("no timeline"));
+    };
     let reader = ReaderSetup {
         rules: ReaderRules {
             lock_after: 1,
@@ -68,14 +65,21 @@ fn a_plant_is_made_and_trusted(rt: HostRuntime) -> Result<(), Fail> {
         table: LeapTable::empty(),
     };
     let made: Option<Plant<FlowPort>> = plants::plain_plant(rt.alloc(), timeline, &[reader]);
-    let Some(mut plant) = made else {
-        return Ok(assert!(&rt; false));
+    let (Some(mut plant), Ok(widths)) = (made, Widths::of(rt.alloc(), &[8000])) else {
+        return Err(Fail::from("no plant"));
     };
-    assert_eq!(&rt;
-        plants::count_entries(&mut plant, &[Event::Tick(0)]).ok(),
-        Some(1)
-    );
-    assert_eq!(&rt; plants::trusted_log(&plant).map(|log| log.len()), Some(0));
+    let events = [Event::Raw { g: 0, r: 0, widths }, Event::Tick(0)];
+    assert!(rt; plants::count_entries(&mut plant, &events) == Ok(1));
+    let refused = Refused {
+        index: 1,
+        fault: PlantFault::NoSuchReader,
+    };
+    let events = [Event::Tick(0), Event::Tick(1), Event::Tick(0)];
+    assert!(rt; plants::count_entries(&mut plant, &events) == Err(refused));
+    let Some(log) = plants::trusted_log(&plant) else {
+        return Err(Fail::from("no trusted log"));
+    };
+    assert!(rt; log.len() == 1);
     Ok(())
 }
 
@@ -87,11 +91,9 @@ fn a_scenario_is_run_in_memory(rt: HostRuntime) -> Result<(), Fail> {
 "#
             .as_bytes();
     let alloc = rt.alloc();
-    assert_eq!(&rt;
-        scenes::log_text(alloc, scenario)?.as_slice(),
-        b"2 r1 2016-06-15T12:00:02Z locked voted\npremises kept\n".as_slice()
-    );
-    assert_eq!(&rt; scenes::line_count(alloc, scenario)?, 2);
-    assert!(&rt; scenes::is_trusted(alloc, scenario)?);
+    let log = b"2 r1 2016-06-15T12:00:02Z locked voted\npremises kept\n".as_slice();
+    assert!(rt; scenes::log_text(alloc, scenario)?.as_slice() == log);
+    assert!(rt; scenes::line_count(alloc, scenario) == Ok(2));
+    assert!(rt; scenes::is_trusted(alloc, scenario) == Ok(true));
     Ok(())
 }
