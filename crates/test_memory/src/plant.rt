@@ -5,7 +5,7 @@ ghost use Rattle.irig_reader.specs.Rules.{IsReaderRules};
 ghost use Rattle.irig_plant.specs.Sound.{IsSound};
 
 use irig_plant::{Entry, Event, Plant, PlantFault, ReaderSetup, Refused};
-use irig_port::{FlowPort, Port};
+use irig_port::FlowPort;
 use irig_reader::ReaderRules;
 use irig_time::{Leap, LeapTable, Timeline, UtcSecond, write_text};
 use irig_uses::plants::plain_plant;
@@ -15,8 +15,7 @@ use std::{io, str};
 /// Plays twelve seconds, half of them event by event, and prints the log.
 pub fn play(rt: &HostRuntime) -> io::Result<()> {
     let alloc = rt.alloc();
-    let made = over_the_leap_of_2016(alloc).or_else(|_| over_the_leap_of_2016(alloc));
-    let Ok(mut plant) = made else {
+    let Some(mut plant) = made(alloc) else {
         return println!(rt; "no plant");
     };
     for second in 0..12 {
@@ -85,19 +84,26 @@ fn print(rt: &HostRuntime, entry: &Entry) -> io::Result<()>
     println!(rt; "{} r{} {time}", entry.edge, u16::from(entry.reader) + 1)
 }
 
-/// There was no memory.
-#[derive(Clone, Copy, Debug)]
-struct NoMemory;
-
 const START: UtcSecond = UtcSecond {
     day: 6209,
     sod: 86390,
 };
 
-/// Two readers that lock by two votes, from ten seconds before midnight of 2016-12-31 on.
-fn over_the_leap_of_2016<P: Port>(alloc: Global) -> Result<Plant<P>, NoMemory> {
-    let timeline = Timeline::new(alloc, START, &[(6209, Leap::Insert)]).map_err(|_| NoMemory)?;
-    plain_plant(alloc, timeline, &[reader(), reader()]).ok_or(NoMemory)
+/// Two readers that lock by two votes, from ten seconds before midnight of 2016-12-31 on; none where
+/// there was no memory.
+fn over_the_leap_of_2016(alloc: Global) -> Option<Plant<FlowPort>> {
+    let Ok(timeline) = Timeline::new(alloc, START, &[(6209, Leap::Insert)]) else {
+        return None;
+    };
+    plain_plant(alloc, timeline, &[reader(), reader()])
+}
+
+/// The plant, asked for once more where there was no memory.
+fn made(alloc: Global) -> Option<Plant<FlowPort>> {
+    match over_the_leap_of_2016(alloc) {
+        Some(plant) => Some(plant),
+        None => over_the_leap_of_2016(alloc),
+    }
 }
 
 fn reader() -> ReaderSetup
