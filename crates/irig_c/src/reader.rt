@@ -113,7 +113,8 @@ fn feed_all(ports: &mut [Tally; 5], port: u8, widths_us: &[u32])
 }
 
 /// An edge: what the reader says, by what its ports heard since the last one. They are then empty.
-/// 26 if the numbers are none that a reader has.
+/// 26 if the second at which it stands is none, its votes are too many or its rules are out of
+/// range. Other numbers that no reader comes to are taken as they are.
 #[unsafe(no_mangle)]
 pub extern "C" fn irig_reader_tick(reader: &mut IrigReader, report: &mut IrigReport) -> u32
     ensures refused { (result ≡ 0 → ⊥) → (reader.new ≡ reader.old) × (report.new ≡ report.old) }

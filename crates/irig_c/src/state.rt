@@ -38,7 +38,8 @@ pub(crate) const IDLE: IrigState = IrigState {
     age: 0,
 };
 
-/// The state, unless the numbers are none of a reader that locks after so many votes.
+/// The state, unless its second is none, or its votes are too many for a reader that locks after so
+/// many.
 pub(crate) fn state_of(state: &IrigState, lock_after: u8) -> Option<State>
     requires { 0 < lock_after }
     ensures is { IfSome result (λ s. s ≡ state_in state.now) }
