@@ -1,5 +1,5 @@
-// Runs of the program, one after another and over as many processes as there are processors, each with
-// what it wrote.
+// Runs of the program, one after another and over as many processes as there are processors, each
+// with what it wrote.
 
 #ifndef SWEEP_H
 #define SWEEP_H
