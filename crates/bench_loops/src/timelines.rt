@@ -1,6 +1,6 @@
 //! `Timeline::at`, with a leap second at each of the 1,199 month ends that are served.
 
-use irig_time::{Leap, Timeline, UtcSecond, month_end};
+use irig_time::{FIRST_DAY, LAST_DAY, Leap, Timeline, UtcSecond, month_end};
 use std::alloc::Global;
 use std::io;
 
@@ -23,7 +23,7 @@ pub fn run(rt: &HostRuntime, count: u32) -> io::Result<u64> {
 
 fn all_leaps(alloc: Global) -> io::Result<Vec<(u32, Leap)>> {
     let mut leaps = Vec::new(alloc);
-    for day in 1..36524 {
+    for day in FIRST_DAY..=LAST_DAY {
         if month_end(day) {
             leaps.push((day, Leap::Insert))?;
         }

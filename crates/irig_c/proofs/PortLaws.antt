@@ -17,8 +17,8 @@ fed-other fed port other ws here there apart = grind arith
 -- one port has heard more
 pub heard-more : (ports : List Tally) (fed : Fed) (port at : ℕ) (ws : List ℕ) (t : Tally) → length ports ≡ 5 → at ≡ port → port < 5
     → HaveHeard ports fed → IsTallyOf t (symbols_heard (fed_to fed port ++ ws)) → HaveHeard (slice_set ports at t) (with_widths fed port ws)
-heard-more ports fed port at ws t five same here heard own other there =
+heard-more ports fed port at ws t five same here heard reader_rules other there =
     elim (cases_eq other port) [
-      | inl e ↦ rw (e, same, get_or-set_same ports port t no_tally (omega (arith, five, here)), fed-here fed port ws) own
+      | inl e ↦ rw (e, same, get_or-set_same ports port t no_tally (omega (arith, five, here)), fed-here fed port ws) reader_rules
       | inr e ↦ rw (same, get_or-set_other ports port other t no_tally e, fed-other fed port other ws here there e) (heard other there)
     ]

@@ -16,12 +16,12 @@ use Rattle.irig_time.specs.declared.mark.Mark.TheVariants as mark
 use Rattle.irig_time.specs.declared.claim.Claim.{Claim}
 use Rattle.irig_time.specs.declared.claim.TimeFault.{TimeFault}
 use Rattle.irig_time.specs.declared.table.TableFault.{TableFault}
-use Rattle.irig_time.specs.declared.table.TableFault.TheVariants as table
 use Rattle.irig_port.specs.declared.told.PortFault.{PortFault}
 use Rattle.irig_port.specs.declared.told.PortFault.TheVariants.{Frame, Time}
-use Rattle.irig_port.specs.declared.words.Detail.{Detail}
-use Rattle.irig_port.specs.declared.words.Detail.TheVariants as detail
-use Rattle.irig_port.specs.Words.{number_of, detail_of}
+use Rattle.irig_faults.specs.declared.port_fault.Detail.{Detail}
+use Rattle.irig_faults.specs.declared.port_fault.Detail.TheVariants as detail
+use Rattle.irig_faults.specs.PortFaults.{number_of, detail_of}
+use Rattle.irig_faults.specs.Refusals as refusals
 use Rattle.irig_c.specs.declared.second.IrigClaim.{IrigClaim}
 
 -- the symbol with a number
@@ -66,10 +66,7 @@ code_of_claim (Err fault) = code_of (Time fault)
 
 -- the number of the fault of a leap table
 abbrev pub number_of_table_fault : TableFault → ℕ
-number_of_table_fault table.TableEnd = 31
-number_of_table_fault table.TableLong = 32
-number_of_table_fault table.TableDay = 33
-number_of_table_fault table.TableTwice = 34
+number_of_table_fault fault = refusals.number_of (refusals.of_table fault)
 
 -- the parity with a number
 abbrev pub parity_in : ℕ → Parity

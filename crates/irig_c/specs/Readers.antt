@@ -11,7 +11,7 @@ use Rattle.irig_reader.specs.History.{Fed, fed_to, ReaderHistory}
 use Rattle.irig_reader.specs.Rules.{IsReaderRules}
 use Rattle.irig_reader.specs.Rule.{state_of, step_of}
 use Rattle.irig_c.specs.declared.reader.IrigReader.{IrigReader}
-use Rattle.irig_c.specs.Setups.{rules_in, own_in, redundancy_in}
+use Rattle.irig_c.specs.Setups.{rules_in, reader_rules_in, redundancy_in}
 use Rattle.irig_c.specs.LeapTables.{table_in}
 use Rattle.irig_c.specs.States.{state_in, IsState}
 
@@ -35,12 +35,12 @@ told_at r port = tally_told (rules_in r.setup) (tally_at r.ports port)
 -- the numbers are where the history leaves a reader
 pub record IsReaderOf (r : IrigReader) (h : ReaderHistory) : Type 0 where
   pub rules : rules_in r.setup ≡ h.rules
-  pub own : own_in r.setup ≡ h.own
+  pub reader_rules : reader_rules_in r.setup ≡ h.reader_rules
   pub table : table_in r.table ≡ h.table
   pub redundancy : redundancy_in r.setup ≡ h.redundancy
   pub heard : HaveHeard r.ports h.fed
-  pub state : state_in r.state ≡ state_of h.own h.table h.votes
-  pub in_range : IsReaderRules (own_in r.setup)
+  pub state : state_in r.state ≡ state_of h.reader_rules h.table h.votes
+  pub in_range : IsReaderRules (reader_rules_in r.setup)
   pub is_state : IsState r.setup.lock_after r.state
 
 -- what the ports tell
@@ -56,5 +56,5 @@ tells_in r = record {
 -- the step of the reader's rule, from the numbers alone
 abbrev pub step_in : IrigReader → Step
 step_in r =
-    step_of (own_in r.setup) (table_in r.table) (state_in r.state)
+    step_of (reader_rules_in r.setup) (table_in r.table) (state_in r.state)
     (vote_of (tells_in r) (redundancy_in r.setup))

@@ -17,8 +17,8 @@ rules_in s = record {
 }
 
 -- the rules of the reader
-abbrev pub own_in : IrigSetup → ReaderRules
-own_in s = record { lock_after = s.lock_after; holdover = s.holdover }
+abbrev pub reader_rules_in : IrigSetup → ReaderRules
+reader_rules_in s = record { lock_after = s.lock_after; holdover = s.holdover }
 
 -- how many ports it has
 abbrev pub redundancy_in : IrigSetup → Redundancy

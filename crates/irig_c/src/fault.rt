@@ -3,11 +3,12 @@
 ghost use Rattle.std.specs.Prelude.{◌≡◌, ◌<◌};
 ghost use Rattle.irig_c.specs.Numbers.{number_of_field, number_of_detail, code_of, number_of_table_fault};
 
+use irig_faults::{Detail, Refusal, detail_of, number_of};
 use irig_frame::Field;
-use irig_port::{Detail, PortFault};
+use irig_port::PortFault;
 use irig_time::TableFault;
 
-/// A value is out of its range.
+/// The number of [`Refusal::Value`]: a value is out of its range.
 pub(crate) const OUT_OF_RANGE: u32 = 26;
 
 /// The number of a fault, and 256 times what it says beside.
@@ -15,7 +16,7 @@ pub(crate) fn code(fault: PortFault) -> u32
     ensures value { result ≡ code_of fault }
     ensures some { 0 < result }
 {
-    u32::from(fault.number()) + 256 * u32::from(detail_number(fault.detail()))
+    u32::from(number_of(fault)) + 256 * u32::from(detail_number(detail_of(fault)))
 }
 
 fn detail_number(detail: Option<Detail>) -> u8
@@ -44,10 +45,5 @@ pub(crate) fn table_code(fault: TableFault) -> u32
     ensures value { result ≡ number_of_table_fault fault }
     ensures some { 0 < result }
 {
-    match fault {
-        TableFault::TableEnd => 31,
-        TableFault::TableLong => 32,
-        TableFault::TableDay => 33,
-        TableFault::TableTwice => 34,
-    }
+    u32::from(Refusal::from(fault).number())
 }

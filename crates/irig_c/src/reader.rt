@@ -7,7 +7,7 @@ ghost use Rattle.irig_reader.specs.Rule.{step_of};
 ghost use Rattle.irig_reader.specs.Rules.{IsReaderRules};
 ghost use Rattle.irig_reader.specs.History.{Fed, no_pulses, with_width, with_widths, ReaderHistory, new_history, after_pulse, after_pulses, after_tick, after_restart, report_at_tick};
 ghost use Rattle.irig_c.specs.declared.state.TheConstants.{IDLE};
-ghost use Rattle.irig_c.specs.Setups.{rules_in, own_in, redundancy_in};
+ghost use Rattle.irig_c.specs.Setups.{rules_in, reader_rules_in, redundancy_in};
 ghost use Rattle.irig_c.specs.LeapTables.{table_in, IsTable, code_of_table};
 ghost use Rattle.irig_c.specs.States.{state_in, IsState};
 ghost use Rattle.irig_c.specs.Reports.{report_in, told_in};
@@ -15,7 +15,7 @@ ghost use Rattle.irig_c.specs.Readers.{IsReaderOf, HaveHeard, tells_in, told_at,
 
 use crate::fault::OUT_OF_RANGE;
 use crate::report::{IrigReport, IrigTold, report_for_c, told_for_c};
-use crate::setup::{IrigSetup, is_port, own_of, redundancy_of, rules_of};
+use crate::setup::{IrigSetup, is_port, reader_rules_of, redundancy_of, rules_of};
 use crate::state::{IDLE, IrigState, state_for_c, state_of};
 use crate::table::{IrigTable, table_fault};
 use irig_port::Tally;
@@ -44,13 +44,13 @@ pub extern "C" fn irig_reader_init(
     setup: &IrigSetup,
     table: &IrigTable,
 ) -> u32
-    ensures answer { (result ≡ 0) ↔ (IsReaderRules (own_in setup.now) × IsTable table.now) }
-    ensures fault { IsReaderRules (own_in setup.now) → result ≡ code_of_table table.now }
+    ensures answer { (result ≡ 0) ↔ (IsReaderRules (reader_rules_in setup.now) × IsTable table.now) }
+    ensures fault { IsReaderRules (reader_rules_in setup.now) → result ≡ code_of_table table.now }
     ensures refused { (result ≡ 0 → ⊥) → reader.new ≡ reader.old }
     ensures fresh { result ≡ 0 → IsReaderOf reader.new (new_history (rules_in setup.now)
-        (own_in setup.now) (table_in table.now) (redundancy_in setup.now)) }
+        (reader_rules_in setup.now) (table_in table.now) (redundancy_in setup.now)) }
 {
-    if !in_range(&own_of(setup)) {
+    if !in_range(&reader_rules_of(setup)) {
         return OUT_OF_RANGE;
     }
     let fault = table_fault(table);
@@ -127,15 +127,15 @@ pub extern "C" fn irig_reader_tick(reader: &mut IrigReader, report: &mut IrigRep
     ensures said { result ≡ 0 → report_in report.new ≡ (step_in reader.old).report }
     ensures stands { result ≡ 0 → state_in reader.new.state ≡ (step_in reader.old).state }
 {
-    let own = own_of(&reader.setup);
-    if !in_range(&own) {
+    let reader_rules = reader_rules_of(&reader.setup);
+    if !in_range(&reader_rules) {
         return OUT_OF_RANGE;
     }
-    let Some(state) = state_of(&reader.state, own.lock_after) else {
+    let Some(state) = state_of(&reader.state, reader_rules.lock_after) else {
         return OUT_OF_RANGE;
     };
     let vote = vote(&tells_of(reader), redundancy_of(&reader.setup));
-    let step = act(own, &reader.table, state, vote);
+    let step = act(reader_rules, &reader.table, state, vote);
     *report = report_for_c(&step.report);
     empty(reader);
     reader.state = state_for_c(&step.state);

@@ -3,7 +3,7 @@
 ghost use Rattle.std.specs.Prelude.{◌≡◌, ◌↔◌, ◌<◌, IsTrue};
 ghost use Rattle.irig_vote.specs.Vote.{ports_in};
 ghost use Rattle.irig_c.specs.Numbers.{parity_in, sense_in};
-ghost use Rattle.irig_c.specs.Setups.{rules_in, own_in, redundancy_in};
+ghost use Rattle.irig_c.specs.Setups.{rules_in, reader_rules_in, redundancy_in};
 
 use irig_control::Parity;
 use irig_reader::ReaderRules;
@@ -60,8 +60,8 @@ pub(crate) fn rules_of(setup: &IrigSetup) -> Rules
     }
 }
 
-pub(crate) fn own_of(setup: &IrigSetup) -> ReaderRules
-    ensures { result ≡ own_in setup.now }
+pub(crate) fn reader_rules_of(setup: &IrigSetup) -> ReaderRules
+    ensures { result ≡ reader_rules_in setup.now }
 {
     ReaderRules {
         lock_after: setup.lock_after,

@@ -1,7 +1,7 @@
 //! The leaps that a reader knows beforehand.
 
 ghost use Rattle.std.specs.Prelude.{◌≡◌, ◌↔◌, ◌≤◌, ◌<◌, [], length, map};
-ghost use Rattle.irig_time.specs.Timelines.{leap_of, mark_by};
+ghost use Rattle.irig_time.specs.Timelines.{leap_of};
 ghost use Rattle.irig_c.specs.LeapTables.{leap_in, table_in, IsTable, code_of_table};
 
 use crate::fault::table_code;
@@ -42,7 +42,7 @@ impl Leaps for IrigTable {
         if !month_end(day) {
             return Mark::Unspoken;
         }
-        mark_with(leap_on(self.listed(), day))
+        Mark::from(leap_on(self.listed(), day))
     }
 }
 
@@ -74,16 +74,6 @@ fn kind_of(leap: IrigLeap) -> Leap
     match leap.kind {
         0 => Leap::Insert,
         _ => Leap::Delete,
-    }
-}
-
-fn mark_with(leap: Option<Leap>) -> Mark
-    ensures { result ≡ mark_by leap }
-{
-    match leap {
-        None => Mark::NoLeap,
-        Some(Leap::Insert) => Mark::Insert,
-        Some(Leap::Delete) => Mark::Delete,
     }
 }
 

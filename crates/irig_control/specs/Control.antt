@@ -3,7 +3,7 @@
 -- Source: docs/FRAME.md; IEEE 1344-1995, the IRIG-B annex, by the table of ControlTable.antt.
 use Rattle.std.specs.Prelude.{ℕ, ◌+◌, ◌-◌, ◌*◌, ◌/◌, ◌%◌, ◌≤◌, ◌^◌, Bool, ◌==◌, if◌then◌else◌, sum_by, ℤ, pos, neg_ℤ, int_lt, unsigned_abs}
 use Rattle.irig_control.specs.declared.control.Control.{Control}
-use Rattle.irig_control.specs.ControlTable.{Meaning, LeapPending, LeapDelete, DstPending, Dst, OffsetMinus, OffsetHours, OffsetHalfHour, Quality, ParityBit, Unused, bits_of, meanings}
+use Rattle.irig_control.specs.ControlTable.{ControlField, LeapPending, LeapDelete, DstPending, Dst, OffsetMinus, OffsetHours, OffsetHalfHour, Quality, ParityBit, Unused, bits_of, meanings}
 
 -- what the control bits have room for
 pub record IsControl (c : Control) : Type 0 where
@@ -19,7 +19,7 @@ abbrev pub flag : Bool → ℕ
 flag b = if b then 1 else 0
 
 -- the number that the bits of a meaning are to have; the parity is set later, on the frame
-abbrev pub number_of : Control → Meaning → ℕ
+abbrev pub number_of : Control → ControlField → ℕ
 number_of c LeapPending = flag c.leap_pending
 number_of c LeapDelete = flag c.leap_delete
 number_of c DstPending = flag c.dst_pending
@@ -32,7 +32,7 @@ number_of c ParityBit = 0
 number_of c Unused = 0
 
 -- the word that has the number in the bits of the meaning, and 0 in all others
-abbrev pub word_with : Meaning → ℕ → ℕ
+abbrev pub word_with : ControlField → ℕ → ℕ
 word_with m number = sum_by (λ b. if has_one number b.weight then 2 ^ b.number else 0) (bits_of m)
 
 -- the word that says all this
@@ -40,7 +40,7 @@ unfoldable pub word_of : Control → ℕ
 word_of c = sum_by (λ m. word_with m (number_of c m)) meanings
 
 -- the number that the word has in the bits of the meaning
-abbrev pub number_in : ℕ → Meaning → ℕ
+abbrev pub number_in : ℕ → ControlField → ℕ
 number_in word m = sum_by (λ b. if has_one word (2 ^ b.number) then b.weight else 0) (bits_of m)
 
 -- the half hours of the offset, without its sign

@@ -4,27 +4,27 @@
 use Rattle.std.specs.Prelude.{ℕ, List, [], ◌∷◌}
 
 -- what the control bits say
-pub data Meaning : Type 0 where
+pub data ControlField : Type 0 where
   -- a leap second is pending
-  LeapPending : Meaning
+  LeapPending : ControlField
   -- it is to be deleted; 0 is for one to be inserted
-  LeapDelete : Meaning
+  LeapDelete : ControlField
   -- daylight saving is about to begin or to end
-  DstPending : Meaning
+  DstPending : ControlField
   -- daylight saving is in force
-  Dst : Meaning
+  Dst : ControlField
   -- the offset from UTC is negative
-  OffsetMinus : Meaning
+  OffsetMinus : ControlField
   -- the whole hours of the offset
-  OffsetHours : Meaning
+  OffsetHours : ControlField
   -- a further half hour
-  OffsetHalfHour : Meaning
+  OffsetHalfHour : ControlField
   -- the time quality
-  Quality : Meaning
+  Quality : ControlField
   -- the parity of the frame
-  ParityBit : Meaning
+  ParityBit : ControlField
   -- this project's profile: sent as 0 and ignored
-  Unused : Meaning
+  Unused : ControlField
 
 -- one bit
 pub record ControlBit : Type 0 where
@@ -37,7 +37,7 @@ abbrev pub bit : ℕ → ℕ → ℕ → ControlBit
 bit number element weight = record { number = number; element = element; weight = weight }
 
 -- the bits of a meaning
-abbrev pub bits_of : Meaning → List ControlBit
+abbrev pub bits_of : ControlField → List ControlBit
 bits_of LeapPending = bit 0 60 1 ∷ []
 bits_of LeapDelete = bit 1 61 1 ∷ []
 bits_of DstPending = bit 2 62 1 ∷ []
@@ -50,7 +50,7 @@ bits_of ParityBit = bit 14 75 1 ∷ []
 bits_of Unused = bit 15 76 1 ∷ bit 16 77 2 ∷ bit 17 78 4 ∷ []
 
 -- all of them, in the order of the table
-abbrev pub meanings : List Meaning
+abbrev pub meanings : List ControlField
 meanings =
     LeapPending ∷ LeapDelete ∷ DstPending ∷ Dst ∷ OffsetMinus ∷ OffsetHours ∷ OffsetHalfHour
     ∷ Quality ∷ ParityBit ∷ Unused ∷ []

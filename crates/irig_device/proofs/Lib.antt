@@ -1,2 +1,1 @@
-pub mod RestsLaws
 pub mod StandardFacts

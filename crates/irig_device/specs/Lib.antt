@@ -1,3 +1,2 @@
 pub mod Watched
-pub mod Fuse
 pub mod Lines

@@ -8,9 +8,10 @@ mod plant;
 mod reason;
 mod refused;
 mod shape;
+mod start;
 mod value;
 mod words;
 
-pub use irig_forms::{Meaning, meaning_of};
+pub use irig_faults::{Meaning, meaning_of};
 pub use refused::{Standing, why_refused};
 pub use words::{why_no_frame, why_no_time};

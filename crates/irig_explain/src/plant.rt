@@ -4,7 +4,7 @@ use crate::reason::{Place, Reason};
 use crate::shape::find_in_shape;
 use crate::value::find_in_values;
 use irig_forms::{Key, items_at, text_at, whole_at};
-use irig_time::{FIRST_DAY, LAST_DAY, month_end, read_day, read_text};
+use irig_time::{FIRST_DAY, LAST_DAY, LAST_NAMED_DAY, month_end, read_day, read_text};
 use irig_values::{
     Version, change_keys, generator_keys, leap_keys, plant_keys, reader_keys, table_keys,
     version_in,
@@ -217,7 +217,7 @@ fn is_served(day: u32) -> bool {
 }
 
 fn is_month_end(day: u32) -> bool {
-    day <= 36524 && month_end(day)
+    day <= LAST_NAMED_DAY && month_end(day)
 }
 
 fn is_day_before(day: u32, at: usize, leaps: &[Value]) -> bool {

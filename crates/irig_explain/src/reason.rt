@@ -1,6 +1,6 @@
 //! What is wrong with a line, written part by part.
 
-use irig_forms::start_of;
+use crate::start::start_of;
 use serde_json::Value;
 use std::alloc::{AllocError, Global};
 

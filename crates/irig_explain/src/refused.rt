@@ -4,7 +4,7 @@ use crate::event::find_in_event;
 use crate::plant::find_in_plant;
 use crate::reason::Reason;
 use indexmap::IndexSet;
-use irig_forms::meaning_of;
+use irig_faults::meaning_of;
 use serde_json::Value;
 use std::alloc::{AllocError, Global};
 

@@ -1,7 +1,7 @@
 //! What is wrong with the TIME or the FRAME of a command line.
 
 use crate::reason::Reason;
-use irig_time::{month_end, read_day};
+use irig_time::{FIRST_DAY, LAST_DAY, month_end, read_day};
 use std::alloc::{AllocError, Global};
 
 /// Why a text names no UTC second of those that are served, in one line. Fails for want of memory
@@ -64,7 +64,7 @@ impl TimeText {
         let Some(day) = self.day else {
             return "there is no such day from 2000-01-02 to 2099-12-30";
         };
-        if day < 1 || day > 36523 {
+        if day < FIRST_DAY || day > LAST_DAY {
             "the days from 2000-01-02 to 2099-12-30 are served"
         } else if self.hour > 23 || self.minute > 59 || self.second > 60 {
             "hours go to 23, minutes to 59 and seconds to 59"

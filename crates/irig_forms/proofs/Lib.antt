@@ -2,4 +2,3 @@ pub mod Keys
 pub mod ListLaws
 pub mod JsonLaws
 pub mod FieldLaws
-pub mod StandardFacts

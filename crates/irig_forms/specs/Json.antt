@@ -6,7 +6,6 @@ use Rattle.std.specs.Str.{bytes_eq, is_utf8}
 use Rattle.serde_json.specs.Data.{Num, unsigned, negative, float, Data, Items, no_items, item, Members, no_members, member}
 use Rattle.serde_json.specs.Read.{read}
 use Rattle.serde_json.specs.Find.{get, as_array, as_number, as_str}
-use Rattle.irig_forms.specs.declared.refusal.Refusal.{Refusal}
 
 -- the value that serde_json reads of a line
 unfoldable pub json_of : List ℕ → Option Data
@@ -77,24 +76,6 @@ keys_of (member k d ms) = k ∷ keys_of ms
 -- the keys are among these
 unfoldable pub has_only : List (List ℕ) → Members → Bool
 has_only named ms = list_all (λ k. list_any (λ n. bytes_eq n k) named) (keys_of ms)
-
--- ---- steps that may refuse
-
-infixl 10 ◌>>=◌
--- the next step, where this one isn't refused
-abbrev pub ◌>>=◌ :
-    {A B : Type 0} → Result A Refusal → (A → Result B Refusal) → Result B Refusal
-(Ok x) >>= f = f x
-(Err e) >>= f = Err e
-
--- this refusal, where there is no value
-abbrev pub or_else : {A : Type 0} → Refusal → Option A → Result A Refusal
-or_else e None = Err e
-or_else e (Some x) = Ok x
-
--- this refusal, where this doesn't hold
-abbrev pub holds_or : Refusal → Bool → Result (Unit {0}) Refusal
-holds_or e b = if b then Ok tt else Err e
 
 -- what is asked of a value that must be there
 abbrev pub is_there : {A : Type 0} → (A → Bool) → Option A → Bool

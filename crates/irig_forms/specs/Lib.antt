@@ -1,6 +1,4 @@
-pub mod Refusals
 pub mod Json
 pub mod Keywords
 pub mod Keys
 pub mod Fields
-pub mod Numbers

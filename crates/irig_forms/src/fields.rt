@@ -9,14 +9,14 @@ ghost use Rattle.serde_json.specs.Find.{get};
 ghost use Rattle.serde_json.specs.View.{view, members_view};
 ghost use Rattle.irig_forms.specs.Json.{all_of, has_only};
 ghost use Rattle.irig_forms.specs.Keys.{texts_of, key_value, names_of};
-ghost use Rattle.irig_forms.specs.Refusals.{FoundUnlessMemory};
+ghost use Rattle.irig_faults.specs.Refusals.{FoundUnlessMemory};
 ghost use Rattle.irig_forms.specs.Fields.{fits, has_form, natural_least, natural_most, integer_least, integer_most, natural_at, integer_at, leap_at, reader_at, few_items, natural_in, naturals_at};
 
 use crate::json::{at_most, integer_within, items_at, natural_within, text_at, whole_at, whole_of};
 use crate::key::{Key, Kind, has_type};
 use crate::keywords::leap_named;
-use crate::refusal::{LineFault, Refusal};
 use indexmap::IndexSet;
+use irig_faults::{LineFault, Refusal};
 use irig_time::Leap;
 use serde_json::{Map, Value};
 use std::alloc::Global;

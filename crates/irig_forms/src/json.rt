@@ -2,10 +2,10 @@
 
 ghost use Rattle.std.specs.Prelude.{◌≡◌, ◌≤◌, ◌≤ℤ◌, IfSome, map, option_map};
 ghost use Rattle.serde_json.specs.View.{view};
-ghost use Rattle.irig_forms.specs.Refusals.{IsUnlessMemory};
-ghost use Rattle.irig_forms.specs.Json.{json_of, or_else, whole_of, whole_at, text_at, items_in, items_at, at_most, natural_within, integer_within};
+ghost use Rattle.irig_faults.specs.Refusals.{IsUnlessMemory, or_else};
+ghost use Rattle.irig_forms.specs.Json.{json_of, whole_of, whole_at, text_at, items_in, items_at, at_most, natural_within, integer_within};
 
-use crate::refusal::{LineFault, Refusal};
+use irig_faults::{LineFault, Refusal};
 use serde_json::Value;
 use std::alloc::Global;
 

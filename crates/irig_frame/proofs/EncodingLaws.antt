@@ -8,7 +8,7 @@ use Rattle.irig_frame.specs.declared.symbol.Symbol.{Symbol}
 use Rattle.irig_frame.specs.declared.symbol.Symbol.TheVariants.{Zero}
 use Rattle.irig_frame.specs.declared.layout.Field.{Field}
 use Rattle.irig_frame.specs.declared.layout.Field.TheVariants.{Second, Minute, Hour, Day, Year}
-use Rattle.irig_frame.specs.declared.layout.Place.{Place}
+use Rattle.irig_frame.specs.declared.layout.BitPosition.{BitPosition}
 use Rattle.irig_frame.specs.declared.coded.Coded.{Coded}
 use Rattle.irig_frame.specs.FieldTable.{units_of, tens_of, hundreds_of, places_of, control_places, straight_binary_places}
 use Rattle.irig_frame.specs.Values.{value}
@@ -18,11 +18,11 @@ use Rattle.irig_frame.specs.FieldTable.{spare_places}
 use Rattle.irig_frame.proofs.ReadingLaws.{each}
 use Rattle.irig_frame.proofs.WritingLaws.{ones, by_sum, bits, bits_sum, HoldParts, hold_parts, length-with_parts, right_parts, right_blank, spare_zero}
 
-ones-append : (a b : List Place) (s : List Symbol) → ones (a ++ b) s ≡ ones a s + ones b s
+ones-append : (a b : List BitPosition) (s : List Symbol) → ones (a ++ b) s ≡ ones a s + ones b s
 ones-append [] b s = sym (zero-add (ones b s))
 ones-append (p ∷ a) b s = rw (ones-append a b s) (omega arith)
 
-value-append : (a b : List Place) (s : List Symbol) → value (a ++ b) s ≡ value a s + value b s
+value-append : (a b : List BitPosition) (s : List Symbol) → value (a ++ b) s ≡ value a s + value b s
 value-append a b s = omega (arith, by_sum (a ++ b) s, by_sum a s, by_sum b s, ones-append a b s)
 
 value_of_places : (f : Field) (s : List Symbol) → value (places_of f) s ≡ value (units_of f) s + value (tens_of f) s + value (hundreds_of f) s

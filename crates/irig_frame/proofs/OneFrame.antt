@@ -8,7 +8,7 @@ use Rattle.irig_frame.specs.declared.symbol.Symbol.{Symbol}
 use Rattle.irig_frame.specs.declared.symbol.Symbol.TheVariants.{Zero, One, Marker, Bad}
 use Rattle.irig_frame.specs.declared.layout.Field.{Field}
 use Rattle.irig_frame.specs.declared.layout.Field.TheVariants.{Second, Minute, Hour, Day, Year}
-use Rattle.irig_frame.specs.declared.layout.Place.{Place}
+use Rattle.irig_frame.specs.declared.layout.BitPosition.{BitPosition}
 use Rattle.irig_frame.specs.declared.coded.Coded.{Coded}
 use Rattle.irig_frame.specs.Values.{is_one, is_one_at, value}
 use Rattle.irig_frame.specs.FieldTable.{units_of, tens_of, hundreds_of, places_of, control_places, straight_binary_places, is_marker_place}
@@ -18,7 +18,7 @@ use Rattle.irig_frame.proofs.WritingLaws.{ones, by_sum, has, doubles}
 use Rattle.irig_frame.proofs.ReadingLaws.{each}
 
 -- the ones of a table whose weights double are a multiple of the first weight
-pub multiple : (w : ℕ) (ps : List Place) (s : List Symbol) → doubles w ps ≡ true → (k : ℕ) × (ones ps s ≡ w * k)
+pub multiple : (w : ℕ) (ps : List BitPosition) (s : List Symbol) → doubles w ps ≡ true → (k : ℕ) × (ones ps s ≡ w * k)
 multiple w [] s h = (0, omega arith)
 multiple w (p ∷ ps) s h =
     let parts = and_parts (eqb p.weight w) (doubles (w * 2) ps) h in
@@ -42,7 +42,7 @@ first_bit true false w k j pos e = absurd (odd_apart w k j pos (omega (arith, e)
 first_bit false true w k j pos e = absurd (odd_apart w j k pos (omega (arith, e)))
 
 -- a table whose weights double, and whose ones sum alike, has the same ones
-pub same_at : (w : ℕ) (ps : List Place) (s t : List Symbol) (i : ℕ) → 0 < w → doubles w ps ≡ true → ones ps s ≡ ones ps t → has i ps ≡ true → is_one (slice_get s i) ≡ is_one (slice_get t i)
+pub same_at : (w : ℕ) (ps : List BitPosition) (s t : List Symbol) (i : ℕ) → 0 < w → doubles w ps ≡ true → ones ps s ≡ ones ps t → has i ps ≡ true → is_one (slice_get s i) ≡ is_one (slice_get t i)
 same_at w [] s t i pos h e there = absurd cc
 same_at w (p ∷ ps) s t i pos h e there =
     let parts = and_parts (eqb p.weight w) (doubles (w * 2) ps) h in
@@ -58,7 +58,7 @@ same_at w (p ∷ ps) s t i pos h e there =
       | inr later ↦ same_at (w * 2) ps s t i (omega arith) parts.1 rest later
     ]
 
-ones_append : (ps qs : List Place) (s : List Symbol) → ones (ps ++ qs) s ≡ ones ps s + ones qs s
+ones_append : (ps qs : List BitPosition) (s : List Symbol) → ones (ps ++ qs) s ≡ ones ps s + ones qs s
 ones_append [] qs s = omega arith
 ones_append (p ∷ ps) qs s = omega (arith, ones_append ps qs s)
 

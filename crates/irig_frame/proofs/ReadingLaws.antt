@@ -4,7 +4,7 @@ use Rattle.std.specs.Prelude.{IfOk}
 use Rattle.std.specs.Option.{option_or}
 use Rattle.std.proofs.lemmas.List.Sums.{sum-map}
 use Rattle.std.proofs.lemmas.List.Filters.{sum_by-filter_both}
-use Rattle.irig_frame.specs.declared.layout.Place.{Place}
+use Rattle.irig_frame.specs.declared.layout.BitPosition.{BitPosition}
 use Rattle.std.proofs.lemmas.Bool.{ltb-false, le-ltb}
 use Rattle.irig_frame.specs.declared.symbol.Symbol.{Symbol}
 use Rattle.irig_frame.specs.declared.symbol.Symbol.TheVariants.{Zero, One, Marker, Bad}
@@ -161,9 +161,9 @@ pub decoded-reads : (s : List Symbol) (c : Coded) → (decode_result s ≡ Ok c)
 decoded-reads s c = (reads_from s c, decoded_from s c)
 
 -- a field holds no more than its weights
-value_le : (ps : List Place) (s : List Symbol) → value ps s ≤ weights ps
+value_le : (ps : List BitPosition) (s : List Symbol) → value ps s ≤ weights ps
 value_le ps s =
-    let w : Place → ℕ = λ p. p.weight in
+    let w : BitPosition → ℕ = λ p. p.weight in
     let part = sum_by-filter_both (is_one_at s) (λ p. not (is_one_at s p)) (λ _. refl) w ps in
     rw (sum-map w) (omega (arith, part))
 

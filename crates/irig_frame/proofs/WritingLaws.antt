@@ -7,7 +7,7 @@ use Rattle.std.proofs.Math.Nat.{div-div-eq-div-mul}
 use Rattle.std.specs.List.{AllByRecursion}
 use Rattle.irig_frame.specs.declared.symbol.Symbol.{Symbol}
 use Rattle.irig_frame.specs.declared.symbol.Symbol.TheVariants.{Zero, One, Marker}
-use Rattle.irig_frame.specs.declared.layout.Place.{Place}
+use Rattle.irig_frame.specs.declared.layout.BitPosition.{BitPosition}
 use Rattle.irig_frame.specs.Values.{is_one, is_one_at, value}
 use Rattle.irig_frame.specs.FieldTable.{is_marker_place}
 use Rattle.irig_frame.specs.Decoder.{IsRight}
@@ -27,40 +27,40 @@ get-set_other (y ∷ s) (suc i) (suc j) x h = get-set_other s i j x (λ e. h (ap
 
 -- ---- which elements a table has
 
-abbrev pub has : ℕ → List Place → Bool
+abbrev pub has : ℕ → List BitPosition → Bool
 has i [] = false
 has i (p ∷ ps) = eqb p.element i || has i ps
 
 -- the places are different elements of the frame, and no markers
-abbrev pub are_plain : List Place → Bool
+abbrev pub are_plain : List BitPosition → Bool
 are_plain [] = true
 are_plain (p ∷ ps) = not (has p.element ps) && (nat_lt p.element 100 && (not (is_marker_place p.element) && are_plain ps))
 
 -- the tables share no element
-abbrev pub are_apart : List Place → List Place → Bool
+abbrev pub are_apart : List BitPosition → List BitPosition → Bool
 are_apart [] qs = true
 are_apart (p ∷ ps) qs = not (has p.element qs) && are_apart ps qs
 
-pub with_bits_other : (s : List Symbol) (ps : List Place) (n i : ℕ) → has i ps ≡ false → slice_get (with_bits s ps n) i ≡ slice_get s i
+pub with_bits_other : (s : List Symbol) (ps : List BitPosition) (n i : ℕ) → has i ps ≡ false → slice_get (with_bits s ps n) i ≡ slice_get s i
 with_bits_other s [] n i h = refl
 with_bits_other s (p ∷ ps) n i h =
     let parts = or_parts (eqb p.element i) (has i ps) h in
     with_bits_other (slice_set s p.element (bit_symbol n p.weight)) ps n i parts.1 ∙ get-set_other s p.element i (bit_symbol n p.weight) (eqb-false p.element i parts.0)
 
-pub length-with_bits : (s : List Symbol) (ps : List Place) (n : ℕ) → length (with_bits s ps n) ≡ length s
+pub length-with_bits : (s : List Symbol) (ps : List BitPosition) (n : ℕ) → length (with_bits s ps n) ≡ length s
 length-with_bits s [] n = refl
 length-with_bits s (p ∷ ps) n = length-with_bits (slice_set s p.element (bit_symbol n p.weight)) ps n ∙ length-set s p.element (bit_symbol n p.weight)
 
 -- ---- sums by recursion
 
-abbrev pub ones : List Place → List Symbol → ℕ
+abbrev pub ones : List BitPosition → List Symbol → ℕ
 ones [] s = 0
 ones (p ∷ ps) s = cond (is_one_at s p) p.weight 0 + ones ps s
 
 sum-cons : (x : ℕ) (xs : List ℕ) → sum (x ∷ xs) ≡ x + sum xs
 sum-cons x xs = sum_by-cons (λ n. n) x xs
 
-pub by_sum : (ps : List Place) (s : List Symbol) → value ps s ≡ ones ps s
+pub by_sum : (ps : List BitPosition) (s : List Symbol) → value ps s ≡ ones ps s
 by_sum [] s = refl
 by_sum (p ∷ ps) s =
     elim (cases_Bool (is_one_at s p)) [
@@ -68,7 +68,7 @@ by_sum (p ∷ ps) s =
       | inr off ↦ rw off (by_sum ps s ∙ sym (zero-add (ones ps s)))
     ]
 
-abbrev pub bits : List Place → ℕ → ℕ
+abbrev pub bits : List BitPosition → ℕ → ℕ
 bits [] n = 0
 bits (p ∷ ps) n = cond (eqb (n / p.weight % 2) 1) p.weight 0 + bits ps n
 
@@ -76,13 +76,13 @@ is_one-bit : (b : Bool) → is_one (Some (cond b One Zero)) ≡ b
 is_one-bit true = refl
 is_one-bit false = refl
 
-pub ones_apart : (qs ps : List Place) (s : List Symbol) (n : ℕ) → are_apart qs ps ≡ true → ones qs (with_bits s ps n) ≡ ones qs s
+pub ones_apart : (qs ps : List BitPosition) (s : List Symbol) (n : ℕ) → are_apart qs ps ≡ true → ones qs (with_bits s ps n) ≡ ones qs s
 ones_apart [] ps s n h = refl
 ones_apart (q ∷ qs) ps s n h =
     let parts = and_parts (not (has q.element ps)) (are_apart qs ps) h in
     rw (with_bits_other s ps n q.element (not-true _ parts.0), ones_apart qs ps s n parts.1) refl
 
-pub ones_same : (ps : List Place) (s : List Symbol) (n : ℕ) → are_plain ps ≡ true → 100 ≤ length s → ones ps (with_bits s ps n) ≡ bits ps n
+pub ones_same : (ps : List BitPosition) (s : List Symbol) (n : ℕ) → are_plain ps ≡ true → 100 ≤ length s → ones ps (with_bits s ps n) ≡ bits ps n
 ones_same [] s n h long = refl
 ones_same (p ∷ ps) s n h long =
     let a = and_parts (not (has p.element ps)) (nat_lt p.element 100 && (not (is_marker_place p.element) && are_plain ps)) h in
@@ -98,11 +98,11 @@ ones_same (p ∷ ps) s n h long =
 -- ---- the bits of a number
 
 -- each weight is twice the one before
-abbrev pub doubles : ℕ → List Place → Bool
+abbrev pub doubles : ℕ → List BitPosition → Bool
 doubles w [] = true
 doubles w (p ∷ ps) = eqb p.weight w && doubles (w * 2) ps
 
-abbrev pub top : ℕ → List Place → ℕ
+abbrev pub top : ℕ → List BitPosition → ℕ
 top w [] = w
 top w (p ∷ ps) = top (w * 2) ps
 
@@ -111,7 +111,7 @@ bit_is zero w h = omega arith
 bit_is (suc zero) w h = omega arith
 bit_is (suc (suc b)) w h = absurd (omega arith)
 
-pub bits_sum : (w : ℕ) (ps : List Place) (n : ℕ) → 0 < w → doubles w ps ≡ true → bits ps n + top w ps * (n / top w ps) ≡ w * (n / w)
+pub bits_sum : (w : ℕ) (ps : List BitPosition) (n : ℕ) → 0 < w → doubles w ps ≡ true → bits ps n + top w ps * (n / top w ps) ≡ w * (n / w)
 bits_sum w [] n pos h = omega arith
 bits_sum w (p ∷ ps) n pos h =
     let parts = and_parts (eqb p.weight w) (doubles (w * 2) ps) h in
@@ -126,7 +126,7 @@ bits_sum w (p ∷ ps) n pos h =
 
 -- ---- several tables
 
-abbrev pub are_apart_from : List Place → List Part → Bool
+abbrev pub are_apart_from : List BitPosition → List Part → Bool
 are_apart_from qs [] = true
 are_apart_from qs (p ∷ ps) = are_apart qs p.places && are_apart_from qs ps
 
@@ -140,7 +140,7 @@ abbrev pub HoldParts : List Symbol → List Part → Type 0
 HoldParts s [] = Unit {0}
 HoldParts s (p ∷ ps) = (value p.places s ≡ bits p.places p.number) × HoldParts s ps
 
-ones_apart_from : (qs : List Place) (ps : List Part) (s : List Symbol) → are_apart_from qs ps ≡ true → ones qs (with_parts s ps) ≡ ones qs s
+ones_apart_from : (qs : List BitPosition) (ps : List Part) (s : List Symbol) → are_apart_from qs ps ≡ true → ones qs (with_parts s ps) ≡ ones qs s
 ones_apart_from qs [] s h = refl
 ones_apart_from qs (p ∷ ps) s h =
     let parts = and_parts (are_apart qs p.places) (are_apart_from qs ps) h in
@@ -169,7 +169,7 @@ right_bit : (b : Bool) (i : ℕ) → is_marker_place i ≡ false → IsRight i (
 right_bit true i h = h
 right_bit false i h = h
 
-right_bits : (ps : List Place) (s : List Symbol) (n : ℕ) → are_plain ps ≡ true → AllRight s → AllRight (with_bits s ps n)
+right_bits : (ps : List BitPosition) (s : List Symbol) (n : ℕ) → are_plain ps ≡ true → AllRight s → AllRight (with_bits s ps n)
 right_bits [] s n h r = r
 right_bits (p ∷ ps) s n h r =
     let a = and_parts (not (has p.element ps)) (nat_lt p.element 100 && (not (is_marker_place p.element) && are_plain ps)) h in

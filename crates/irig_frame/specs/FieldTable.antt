@@ -4,11 +4,11 @@
 use Rattle.std.specs.Prelude.{ℕ, ◌%◌, Bool, ◌==◌, ◌||◌, List, [], ◌∷◌, ◌++◌}
 use Rattle.irig_frame.specs.declared.layout.Field.{Field}
 use Rattle.irig_frame.specs.declared.layout.Field.TheVariants.{Second, Minute, Hour, Day, Year}
-use Rattle.irig_frame.specs.declared.layout.Place.{Place}
+use Rattle.irig_frame.specs.declared.layout.BitPosition.{BitPosition}
 
 -- an element of the frame with its weight; the name serves the crates above, too
 abbrev pub TableEntry : Type 0
-TableEntry = Place
+TableEntry = BitPosition
 
 -- an element with the weight of a one there
 abbrev pub at : ℕ → ℕ → TableEntry

@@ -7,7 +7,7 @@ ghost use Rattle.irig_frame.specs.Values.{is_one_at, value, weights, IsInFrame};
 
 use crate::coded::Coded;
 use crate::fault::FrameFault;
-use crate::layout::{self, Field, Place, is_marker_place};
+use crate::layout::{self, BitPosition, Field, is_marker_place};
 use crate::symbol::Symbol;
 
 /// The value that the frame reads as, or its first fault.
@@ -106,7 +106,7 @@ fn field_value(frame: &[Symbol], field: Field) -> Result<u32, FrameFault>
 }
 
 /// The sum of the weights of the places where the frame has a one.
-fn value_at(frame: &[Symbol], places: &[Place]) -> u32
+fn value_at(frame: &[Symbol], places: &[BitPosition]) -> u32
     requires in_frame { IsInFrame (length frame.now) places.now }
     requires small { weights places.now < 2 ^ 32 }
     ensures sum { result ≡ value places.now frame.now }
@@ -119,7 +119,7 @@ fn value_at(frame: &[Symbol], places: &[Place]) -> u32
         .sum()
 }
 
-fn is_one(frame: &[Symbol], place: &Place) -> bool
+fn is_one(frame: &[Symbol], place: &BitPosition) -> bool
     requires { place.now.element < length frame.now }
     ensures { result ≡ is_one_at frame.now place.now }
 {

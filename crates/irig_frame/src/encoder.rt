@@ -7,7 +7,7 @@ ghost use Rattle.irig_frame.specs.Faults.{decode_result};
 ghost use Rattle.irig_frame.specs.Encoder.{HasUnusedZeros, bit_symbol, with_bits, with_parts, digits_of, parts_of, blank_at, IsBlank};
 
 use crate::coded::Coded;
-use crate::layout::{self, Field, Place};
+use crate::layout::{self, BitPosition, Field};
 use crate::symbol::Symbol;
 
 /// The frame that reads as this value, with zeros at the data elements without a field.
@@ -66,7 +66,7 @@ fn write_digits(frame: &mut [Symbol], field: Field, value: u32)
     write_bits(frame, layout::hundreds(field), value - value % 100);
 }
 
-fn write_bits(frame: &mut [Symbol], places: &[Place], number: u32)
+fn write_bits(frame: &mut [Symbol], places: &[BitPosition], number: u32)
     requires in_frame { IsInFrame (length frame.old) places.now }
     requires weighty { All (λ p. 0 < p.weight) places.now }
     ensures { frame.new ≡ with_bits frame.old places.now number }

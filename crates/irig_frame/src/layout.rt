@@ -40,7 +40,7 @@ impl Field {
 
 /// An element of the frame, and what a one there adds to its field.
 #[derive(Clone, Copy)]
-pub struct Place {
+pub struct BitPosition {
     pub element: usize,
     pub weight: u32,
 }
@@ -48,43 +48,43 @@ pub struct Place {
 /// An array of places, each written `element: weight`.
 macro_rules! places {
     ($($element:literal: $weight:literal),+ $(,)?) => {
-        [$(Place { element: $element, weight: $weight }),+]
+        [$(BitPosition { element: $element, weight: $weight }),+]
     };
 }
 
-static SECOND_UNITS: [Place; 4] = places![1: 1, 2: 2, 3: 4, 4: 8];
+static SECOND_UNITS: [BitPosition; 4] = places![1: 1, 2: 2, 3: 4, 4: 8];
 
-static SECOND_TENS: [Place; 3] = places![6: 10, 7: 20, 8: 40];
+static SECOND_TENS: [BitPosition; 3] = places![6: 10, 7: 20, 8: 40];
 
-static MINUTE_UNITS: [Place; 4] = places![10: 1, 11: 2, 12: 4, 13: 8];
+static MINUTE_UNITS: [BitPosition; 4] = places![10: 1, 11: 2, 12: 4, 13: 8];
 
-static MINUTE_TENS: [Place; 3] = places![15: 10, 16: 20, 17: 40];
+static MINUTE_TENS: [BitPosition; 3] = places![15: 10, 16: 20, 17: 40];
 
-static HOUR_UNITS: [Place; 4] = places![20: 1, 21: 2, 22: 4, 23: 8];
+static HOUR_UNITS: [BitPosition; 4] = places![20: 1, 21: 2, 22: 4, 23: 8];
 
-static HOUR_TENS: [Place; 2] = places![25: 10, 26: 20];
+static HOUR_TENS: [BitPosition; 2] = places![25: 10, 26: 20];
 
-static DAY_UNITS: [Place; 4] = places![30: 1, 31: 2, 32: 4, 33: 8];
+static DAY_UNITS: [BitPosition; 4] = places![30: 1, 31: 2, 32: 4, 33: 8];
 
-static DAY_TENS: [Place; 4] = places![35: 10, 36: 20, 37: 40, 38: 80];
+static DAY_TENS: [BitPosition; 4] = places![35: 10, 36: 20, 37: 40, 38: 80];
 
-static DAY_HUNDREDS: [Place; 2] = places![40: 100, 41: 200];
+static DAY_HUNDREDS: [BitPosition; 2] = places![40: 100, 41: 200];
 
-static YEAR_UNITS: [Place; 4] = places![50: 1, 51: 2, 52: 4, 53: 8];
+static YEAR_UNITS: [BitPosition; 4] = places![50: 1, 51: 2, 52: 4, 53: 8];
 
-static YEAR_TENS: [Place; 4] = places![55: 10, 56: 20, 57: 40, 58: 80];
+static YEAR_TENS: [BitPosition; 4] = places![55: 10, 56: 20, 57: 40, 58: 80];
 
-static CONTROL: [Place; 18] = places![
+static CONTROL: [BitPosition; 18] = places![
     60: 1, 61: 2, 62: 4, 63: 8, 64: 16, 65: 32, 66: 64, 67: 128, 68: 256,
     70: 512, 71: 1024, 72: 2048, 73: 4096, 74: 8192, 75: 16384, 76: 32768, 77: 65536, 78: 131072,
 ];
 
-static STRAIGHT_BINARY: [Place; 17] = places![
+static STRAIGHT_BINARY: [BitPosition; 17] = places![
     80: 1, 81: 2, 82: 4, 83: 8, 84: 16, 85: 32, 86: 64, 87: 128, 88: 256,
     90: 512, 91: 1024, 92: 2048, 93: 4096, 94: 8192, 95: 16384, 96: 32768, 97: 65536,
 ];
 
-pub(crate) fn units(field: Field) -> &'static [Place]
+pub(crate) fn units(field: Field) -> &'static [BitPosition]
     ensures { result.now ≡ units_of field }
 {
     match field {
@@ -96,7 +96,7 @@ pub(crate) fn units(field: Field) -> &'static [Place]
     }
 }
 
-pub(crate) fn tens(field: Field) -> &'static [Place]
+pub(crate) fn tens(field: Field) -> &'static [BitPosition]
     ensures { result.now ≡ tens_of field }
 {
     match field {
@@ -108,7 +108,7 @@ pub(crate) fn tens(field: Field) -> &'static [Place]
     }
 }
 
-pub(crate) fn hundreds(field: Field) -> &'static [Place]
+pub(crate) fn hundreds(field: Field) -> &'static [BitPosition]
     ensures { result.now ≡ hundreds_of field }
 {
     match field {
@@ -117,13 +117,13 @@ pub(crate) fn hundreds(field: Field) -> &'static [Place]
     }
 }
 
-pub(crate) fn control() -> &'static [Place]
+pub(crate) fn control() -> &'static [BitPosition]
     ensures { result.now ≡ control_places }
 {
     &CONTROL
 }
 
-pub(crate) fn straight_binary() -> &'static [Place]
+pub(crate) fn straight_binary() -> &'static [BitPosition]
     ensures { result.now ≡ straight_binary_places }
 {
     &STRAIGHT_BINARY

@@ -11,7 +11,8 @@ use Rattle.irig_time.specs.TextValues.{second_text}
 use Rattle.irig_port.specs.declared.told.Told.{Told}
 use Rattle.irig_port.specs.declared.told.Told.TheVariants.{Silence, Fault, Poor, Claim}
 use Rattle.irig_port.specs.Told.{told_of}
-use Rattle.irig_port.specs.Words.{fault_text, mark_word}
+use Rattle.irig_time.specs.MarkWords.{mark_word}
+use Rattle.irig_faults.specs.PortFaults.{fault_text}
 use Rattle.irig_frame_text.specs.Letters.{Shows}
 
 -- ---- the coded time

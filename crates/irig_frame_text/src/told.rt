@@ -1,14 +1,15 @@
 //! What a port tells of symbols, and its line.
 
-ghost use Rattle.std.specs.Prelude.{◌≡◌, ◌≤◌, ◌++◌, length, string_bytes, IsAscii, OnOk};
+ghost use Rattle.std.specs.Prelude.{◌≡◌, ◌≤◌, ◌++◌, length, string_bytes, OnOk};
 ghost use Rattle.irig_time.specs.declared.rules.TheConstants.Rules.{PLAIN};
 ghost use Rattle.irig_time.specs.Seconds.{IsValid};
 ghost use Rattle.irig_port.specs.Told.{IfClaim, told_of};
 ghost use Rattle.irig_frame_text.specs.Reading.{told_line};
 
+use irig_faults::push_fault;
 use irig_frame::Symbol;
-use irig_port::{FlowPort, Port, Told, mark_word};
-use irig_time::{Rules, write_text};
+use irig_port::{FlowPort, Port, Told};
+use irig_time::{Rules, push_text};
 use std::alloc::AllocError;
 
 /// What a port tells of these symbols, 101 of them at most, under even parity, where the offset is
@@ -35,24 +36,16 @@ pub(crate) fn push_told(text: &mut String, told: Told) -> Result<(), AllocError>
         Told::Silence => text.push_str("silence\n"),
         Told::Fault(fault) => {
             text.push_str("fault ")?;
-            fault.push_to(text, " ")?;
+            push_fault(text, " ", fault)?;
             text.push_str("\n")
         }
         Told::Poor(quality) => write!(text, "poor {quality}\n"),
         Told::Claim(claim) => {
             text.push_str("claim ")?;
-            text.push_str(shown(&write_text(&claim.at)))?;
+            push_text(text, &claim.at)?;
             text.push_str(" ")?;
-            text.push_str(mark_word(claim.mark))?;
+            text.push_str(claim.mark.word())?;
             text.push_str("\n")
         }
     }
-}
-
-/// ASCII as text.
-fn shown(text: &[u8; 20]) -> &str
-    requires { IsAscii text.now }
-    ensures { result.now ≡ text.now }
-{
-    str::from_utf8(text).unwrap()
 }

@@ -7,14 +7,14 @@ use Rattle.irig_time.specs.declared.mark.Mark.{Mark}
 use Rattle.irig_time.specs.declared.mark.Mark.TheVariants.{Unspoken, NoLeap, Insert, Delete}
 use Rattle.irig_time.specs.Days.{is_month_end}
 use Rattle.irig_time.specs.Seconds.{IsValid}
-use Rattle.irig_time.specs.Next.{plain, turn, turn_after, next_at_month_end, next_of}
+use Rattle.irig_time.specs.Next.{plain, next_day, next_day_after, next_at_month_end, next_of}
 
 abbrev some : UtcSecond → Option UtcSecond
 some u = Some u
 
 -- ---- validity
 
-turn_valid : (u v : UtcSecond) → IsValid u → turn u ≡ Some v → IsValid v
+turn_valid : (u v : UtcSecond) → IsValid u → next_day u ≡ Some v → IsValid v
 turn_valid u v h e =
     elim (cases_eq u.day 36523) [
       | inl last ↦ let none : None ≡ some v = rw (eq-eqb u.day 36523 last) at e in cc
@@ -41,14 +41,14 @@ plain_valid u v h low e =
     } in
     subst IsValid same own
 
-after_valid : (last : ℕ) (u v : UtcSecond) → IsValid u → (last ≤ 86399) ⊎ ((last ≤ 86400) × (is_month_end u.day ≡ true)) → turn_after last u ≡ Some v → IsValid v
+after_valid : (last : ℕ) (u v : UtcSecond) → IsValid u → (last ≤ 86399) ⊎ ((last ≤ 86400) × (is_month_end u.day ≡ true)) → next_day_after last u ≡ Some v → IsValid v
 after_valid last u v h low e =
     elim (cases_lt u.sod last) [
       | inl lt ↦
           let goes : some (plain u) ≡ Some v = rw (lt-ltb u.sod last lt) at e in
           let room : (u.sod + 1 ≤ 86399) ⊎ ((u.sod + 1 ≤ 86400) × (is_month_end u.day ≡ true)) = elim low [ inl a ↦ inl (omega arith) | inr b ↦ inr (omega (arith, b.0), b.1) ] in
           plain_valid u v h room goes
-      | inr ge ↦ let turns : turn u ≡ Some v = rw (le-ltb u.sod last ge) at e in turn_valid u v h turns
+      | inr ge ↦ let turns : next_day u ≡ Some v = rw (le-ltb u.sod last ge) at e in turn_valid u v h turns
     ]
 
 month_end_valid : (u v : UtcSecond) (mark : Mark) → IsValid u → is_month_end u.day ≡ true → next_at_month_end u mark ≡ Some v → IsValid v
@@ -59,7 +59,7 @@ month_end_valid u v Unspoken h end e =
           plain_valid u v h (inl (omega arith)) goes
       | inr ge ↦ elim (cases_lt u.sod 86400) [
         | inl lt ↦ let none : None ≡ some v = rw (le-ltb u.sod 86398 ge, lt-ltb u.sod 86400 lt) at e in cc
-        | inr late ↦ let turns : turn u ≡ Some v = rw (le-ltb u.sod 86398 ge, le-ltb u.sod 86400 late) at e in turn_valid u v h turns
+        | inr late ↦ let turns : next_day u ≡ Some v = rw (le-ltb u.sod 86398 ge, le-ltb u.sod 86400 late) at e in turn_valid u v h turns
       ]
     ]
 month_end_valid u v NoLeap h end e = after_valid 86399 u v h (inl (omega arith)) e
@@ -71,7 +71,7 @@ pub next_valid : (u v : UtcSecond) (mark : Mark) → IsValid u → next_of u mar
 next_valid u v mark h e =
     elim (cases_Bool (is_month_end u.day)) [
       | inl end ↦ let at_end : next_at_month_end u mark ≡ Some v = rw end at e in month_end_valid u v mark h end at_end
-      | inr mid ↦ let turns : turn_after 86399 u ≡ Some v = rw mid at e in after_valid 86399 u v h (inl (omega arith)) turns
+      | inr mid ↦ let turns : next_day_after 86399 u ≡ Some v = rw mid at e in after_valid 86399 u v h (inl (omega arith)) turns
     ]
 
 -- ---- what the mark counts for
@@ -82,7 +82,7 @@ early u NoLeap h = rw (lt-ltb u.sod 86399 (omega arith)) refl
 early u Insert h = rw (lt-ltb u.sod 86400 (omega arith)) refl
 early u Delete h = rw (lt-ltb u.sod 86398 h) refl
 
-late : (u : UtcSecond) (mark : Mark) → 86400 ≤ u.sod → next_at_month_end u mark ≡ turn u
+late : (u : UtcSecond) (mark : Mark) → 86400 ≤ u.sod → next_at_month_end u mark ≡ next_day u
 late u Unspoken h = rw (le-ltb u.sod 86398 (omega arith), le-ltb u.sod 86400 h) refl
 late u NoLeap h = rw (le-ltb u.sod 86399 (omega arith)) refl
 late u Insert h = rw (le-ltb u.sod 86400 h) refl
@@ -112,18 +112,18 @@ free_or_last u =
 
 -- ---- where there is none
 
-turn_none : (u : UtcSecond) → turn u ≡ None → u.day ≡ 36523
+turn_none : (u : UtcSecond) → next_day u ≡ None → u.day ≡ 36523
 turn_none u e =
     elim (cases_eq u.day 36523) [
       | inl last ↦ last
       | inr other ↦ let goes : some (record { day = u.day + 1; sod = 0 }) ≡ None = rw (ne_eqb u.day 36523 other) at e in cc
     ]
 
-after_none : (last : ℕ) (u : UtcSecond) → turn_after last u ≡ None → u.day ≡ 36523
+after_none : (last : ℕ) (u : UtcSecond) → next_day_after last u ≡ None → u.day ≡ 36523
 after_none last u e =
     elim (cases_lt u.sod last) [
       | inl lt ↦ let goes : some (plain u) ≡ None = rw (lt-ltb u.sod last lt) at e in cc
-      | inr ge ↦ let turns : turn u ≡ None = rw (le-ltb u.sod last ge) at e in turn_none u turns
+      | inr ge ↦ let turns : next_day u ≡ None = rw (le-ltb u.sod last ge) at e in turn_none u turns
     ]
 
 month_end_none : (u : UtcSecond) (mark : Mark) → is_month_end u.day ≡ true → next_at_month_end u mark ≡ None → (u.day ≡ 36523) ⊎ (IsLast u × (mark ≡ Unspoken))
@@ -132,7 +132,7 @@ month_end_none u Unspoken end e =
       | inl lt ↦ let goes : some (plain u) ≡ None = rw (lt-ltb u.sod 86398 lt) at e in cc
       | inr ge ↦ elim (cases_lt u.sod 86400) [
         | inl lt ↦ inr (record { end = end; late = elim (cases_eq u.sod 86398) [ inl a ↦ inl a | inr b ↦ inr (omega (arith, b)) ] }, refl)
-        | inr ge' ↦ let turns : turn u ≡ None = rw (le-ltb u.sod 86398 ge, le-ltb u.sod 86400 ge') at e in inl (turn_none u turns)
+        | inr ge' ↦ let turns : next_day u ≡ None = rw (le-ltb u.sod 86398 ge, le-ltb u.sod 86400 ge') at e in inl (turn_none u turns)
       ]
     ]
 month_end_none u NoLeap end e = inl (after_none 86399 u e)
@@ -144,7 +144,7 @@ pub next_none : (u : UtcSecond) (mark : Mark) → next_of u mark ≡ None → (u
 next_none u mark e =
     elim (cases_Bool (is_month_end u.day)) [
       | inl end ↦ let at_end : next_at_month_end u mark ≡ None = rw end at e in month_end_none u mark end at_end
-      | inr mid ↦ let turns : turn_after 86399 u ≡ None = rw mid at e in inl (after_none 86399 u turns)
+      | inr mid ↦ let turns : next_day_after 86399 u ≡ None = rw mid at e in inl (after_none 86399 u turns)
     ]
 
 -- the same the other way round

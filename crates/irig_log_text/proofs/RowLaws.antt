@@ -20,9 +20,10 @@ use Rattle.irig_port.specs.declared.told.Told.{Told}
 use Rattle.irig_port.specs.declared.told.Told.TheVariants as tells
 use Rattle.irig_port.specs.declared.told.PortFault.{PortFault}
 use Rattle.irig_port.specs.declared.told.PortFault.TheVariants.{Frame, Parity, Sbs, Time}
-use Rattle.irig_port.specs.declared.words.Detail.{Detail}
-use Rattle.irig_port.specs.declared.words.Detail.TheVariants as detail
-use Rattle.irig_port.specs.Words.{number_of, name_of, detail_of, field_word, detail_text, fault_text, mark_word}
+use Rattle.irig_faults.specs.declared.port_fault.Detail.{Detail}
+use Rattle.irig_faults.specs.declared.port_fault.Detail.TheVariants as detail
+use Rattle.irig_time.specs.MarkWords.{mark_word}
+use Rattle.irig_faults.specs.PortFaults.{number_of, name_of, detail_of, field_word, detail_text, fault_text}
 use Rattle.irig_vote.specs.Vote.{ports_of}
 use Rattle.irig_plant.specs.declared.entry.Entry.{Entry}
 use Rattle.irig_plant.specs.declared.told_log.ToldEntry.{ToldEntry}
@@ -146,12 +147,12 @@ lines_of_ticks names all (e ∷ es) (t ∷ ts) rest h =
     let entry = entries_text names all (e ∷ []) in
     let port = port_line names e t in
     let more = ticks_text names all es ts in
-    let own = entry_rows names all (e ∷ []) in
+    let reader_rules = entry_rows names all (e ∷ []) in
     let row = port_row names e t in
     ap whole_lines (append_assoc (entry ++ port) more rest ∙ append_assoc entry port (more ++ rest))
     ∙ lines_of_entry_rows names all (e ∷ []) (port ++ (more ++ rest)) h
-    ∙ ap (λ ls. own ++ ls) (ap whole_lines (row_of_ports names e t (more ++ rest)) ∙ whole_along row (more ++ rest) (port_row_whole names e t h) ∙ ap (λ ls. row ∷ ls) (lines_of_ticks names all es ts rest h))
-    ∙ sym (append_assoc own (row ∷ tick_rows names all es ts) (whole_lines rest))
+    ∙ ap (λ ls. reader_rules ++ ls) (ap whole_lines (row_of_ports names e t (more ++ rest)) ∙ whole_along row (more ++ rest) (port_row_whole names e t h) ∙ ap (λ ls. row ∷ ls) (lines_of_ticks names all es ts rest h))
+    ∙ sym (append_assoc reader_rules (row ∷ tick_rows names all es ts) (whole_lines rest))
 
 pub lines_of_rows : (names : List (List ℕ)) (shown : Shown) (es : List Entry) (ts : List ToldEntry) (rest : List ℕ) → AreNames names → whole_lines (lines_text names shown es ts ++ rest) ≡ rows names shown es ts ++ whole_lines rest
 lines_of_rows names shown es ts rest h =

@@ -10,7 +10,8 @@ use Rattle.irig_time.specs.Claims.{same_mark}
 use Rattle.irig_time.specs.TextValues.{second_text}
 use Rattle.irig_port.specs.declared.told.Told.{Told}
 use Rattle.irig_port.specs.declared.told.Told.TheVariants as tells
-use Rattle.irig_port.specs.Words.{fault_text, mark_word}
+use Rattle.irig_time.specs.MarkWords.{mark_word}
+use Rattle.irig_faults.specs.PortFaults.{fault_text}
 use Rattle.irig_vote.specs.Vote.{ports_of}
 use Rattle.irig_reader.specs.declared.report.Lock.{Lock}
 use Rattle.irig_reader.specs.declared.report.Lock.TheVariants.{Unlocked, Acquiring, Locked, Holdover}
@@ -21,8 +22,8 @@ use Rattle.irig_plant.specs.declared.entry.Entry.{Entry}
 use Rattle.irig_plant.specs.declared.told_log.ToldEntry.{ToldEntry}
 use Rattle.irig_plant.specs.declared.audit.Audit.{Audit}
 use Rattle.irig_plant.specs.declared.audit.Audit.TheVariants.{Kept, Broken, FalseTable}
-use Rattle.irig_forms.specs.declared.refusal.Refusal.{Refusal}
-use Rattle.irig_forms.specs.Refusals.{number_of, name_of}
+use Rattle.irig_faults.specs.declared.refusal.Refusal.{Refusal}
+use Rattle.irig_faults.specs.Refusals.{number_of, name_of}
 use Rattle.irig_log_text.specs.declared.shown.Shown.{Shown}
 
 -- ---- the words of an entry

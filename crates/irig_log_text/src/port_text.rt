@@ -5,11 +5,12 @@ ghost use Rattle.irig_time.specs.Seconds.{IsValid};
 ghost use Rattle.irig_vote.specs.Vote.{IsOfUtc, AreOfUtc, ports_of};
 ghost use Rattle.irig_log_text.specs.Text.{claim_word, port_word, words_text, port_line, tick_text, ticks_text};
 
-use crate::text::{ReportText, name_at, push_entries, push_number, push_second};
+use crate::text::{ReportText, name_at, push_entries, push_number};
 use indexmap::IndexSet;
+use irig_faults::push_fault;
 use irig_plant::{Entry, ToldEntry};
-use irig_port::{Told, mark_word};
-use irig_time::Claim;
+use irig_port::Told;
+use irig_time::{Claim, push_text};
 use irig_vote::Redundancy;
 use std::alloc::AllocError;
 
@@ -107,7 +108,7 @@ fn push_word(text: &mut String, truth: Option<Claim>, told: Told) -> Result<(), 
         Told::Silence => text.push_str("silence"),
         Told::Fault(fault) => {
             text.push_str("fault:")?;
-            fault.push_to(text, ":")
+            push_fault(text, ":", fault)
         }
         Told::Poor(quality) => {
             text.push_str("poor:")?;
@@ -123,9 +124,9 @@ fn push_claim(text: &mut String, truth: Option<Claim>, claim: Claim) -> Result<(
         ≡ string_bytes text.old ++ claim_word truth claim) }
 {
     match truth {
-        None => push_second(text, claim.at),
-        Some(truth) if claim.at != truth.at => push_second(text, claim.at),
-        Some(truth) if claim.mark != truth.mark => text.push_str(mark_word(claim.mark)),
+        None => push_text(text, &claim.at),
+        Some(truth) if claim.at != truth.at => push_text(text, &claim.at),
+        Some(truth) if claim.mark != truth.mark => text.push_str(claim.mark.word()),
         Some(_) => text.push_str("ok"),
     }
 }

@@ -1,10 +1,9 @@
 //! The text of a log, and the last line of a run.
 
-ghost use Rattle.std.specs.Prelude.{◌≡◌, ◌++◌, ◌||◌, map, is_some, string_bytes, All, IfOk, IfSome, OnOk, IsAscii, IsTrue, Some};
+ghost use Rattle.std.specs.Prelude.{◌≡◌, ◌++◌, ◌||◌, map, is_some, string_bytes, All, IfOk, IfSome, OnOk, IsTrue, Some};
 ghost use Rattle.std.specs.Option.{ForSome};
 ghost use Rattle.std.specs.Fmt.{decimal};
 ghost use Rattle.irig_time.specs.Seconds.{IsValid};
-ghost use Rattle.irig_time.specs.TextValues.{second_text};
 ghost use Rattle.irig_log_text.specs.Text.{
   lock_text,
   cause_text,
@@ -18,10 +17,10 @@ ghost use Rattle.irig_log_text.specs.Text.{
 };
 
 use indexmap::IndexSet;
-use irig_forms::Refusal;
+use irig_faults::Refusal;
 use irig_plant::{Audit, Entry};
 use irig_reader::{Cause, Lock, Report};
-use irig_time::{UtcSecond, write_text};
+use irig_time::{UtcSecond, push_text};
 use itoa::Buffer;
 use std::alloc::{AllocError, Global};
 
@@ -159,25 +158,9 @@ fn push_time(text: &mut String, announce: Option<UtcSecond>) -> Result<(), Alloc
         ≡ string_bytes text.old ++ time_shown_text announce) }
 {
     match announce {
-        Some(second) => push_second(text, second),
+        Some(second) => push_text(text, &second),
         None => text.push_str("-"),
     }
-}
-
-/// Adds a second.
-pub(crate) fn push_second(text: &mut String, second: UtcSecond) -> Result<(), AllocError>
-    requires { IsValid second }
-    ensures { OnOk result (string_bytes text.new ≡ string_bytes text.old ++ second_text second) }
-{
-    text.push_str(shown(&write_text(&second)))
-}
-
-/// ASCII as text.
-fn shown(text: &[u8; 20]) -> &str
-    requires { IsAscii text.now }
-    ensures { result.now ≡ text.now }
-{
-    str::from_utf8(text).unwrap()
 }
 
 /// Adds whether a reader is locked.

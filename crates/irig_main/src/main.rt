@@ -1,8 +1,8 @@
 //! The program: the words, the devices and the exit status of a run.
 #![tactic(auto)]
 
+use irig_commands::{Fault, drive, report};
 use irig_device::Watched;
-use irig_service::{Fault, drive, report};
 use std::io::{BufReader, ErrorKind, IsTerminal};
 use std::process::ExitCode;
 use std::{env, io};

@@ -10,7 +10,7 @@ use Rattle.irig_plant.specs.declared.event.Event.TheVariants.{Tick}
 use Rattle.irig_plant.specs.declared.audit.Audit.TheVariants.{Kept}
 use Rattle.irig_plant.specs.declared.setup.ReaderSetup.{ReaderSetup}
 use Rattle.irig_plant.specs.Schedule.{Setup, ticks_of}
-use Rattle.irig_plant.specs.Audits.{is_true_table, first_false, is_broken_now, Place, place, first_broken, verdict, audit_of}
+use Rattle.irig_plant.specs.Audits.{is_true_table, first_false, is_broken_now, TickOfReader, tick_of_reader, first_broken, verdict, audit_of}
 use Rattle.irig_plant.specs.Premises.{IsKeptUpTo, HasTrueTable, IsKept}
 use Rattle.irig_plant.proofs.Headline.{kept_before, kept_now}
 
@@ -30,12 +30,12 @@ none_false t r (x ∷ xs) h = rw (All-head (HasTrueTable t) x xs h) (none_false 
 
 -- ---- ticks
 
-unbroken : (b : Bool) (at : Place) → ◌≡◌ {A = Option Place} (cond b (Some at) None) None → b ≡ false
+unbroken : (b : Bool) (at : TickOfReader) → ◌≡◌ {A = Option TickOfReader} (cond b (Some at) None) None → b ≡ false
 unbroken true at e = absurd cc
 unbroken false at e = refl
 
 earlier_unbroken : (s : Setup) (r : ℕ) (later earlier : List Event) → first_broken s (later ++ (Tick r ∷ earlier)) ≡ None → is_broken_now s r earlier ≡ false
-earlier_unbroken s r [] earlier e = unbroken (is_broken_now s r earlier) (place r (ticks_of r earlier + 1)) (neither (first_broken s earlier) _ e).1
+earlier_unbroken s r [] earlier e = unbroken (is_broken_now s r earlier) (tick_of_reader r (ticks_of r earlier + 1)) (neither (first_broken s earlier) _ e).1
 earlier_unbroken s r (Tick x ∷ later) earlier e = earlier_unbroken s r later earlier (neither (first_broken s (later ++ (Tick r ∷ earlier))) _ e).0
 earlier_unbroken s r (_ ∷ later) earlier e = earlier_unbroken s r later earlier e
 
@@ -52,7 +52,7 @@ none_broken s (e ∷ ev) kept = none_broken s ev (λ x n. kept_before s x n e ev
 
 -- ---- both
 
-both_none : (table : Option ℕ) (at : Option Place) → verdict table at ≡ Kept → (table ≡ None) × (at ≡ None)
+both_none : (table : Option ℕ) (at : Option TickOfReader) → verdict table at ≡ Kept → (table ≡ None) × (at ≡ None)
 both_none (Some r) at e = absurd cc
 both_none None (Some at) e = absurd cc
 both_none None None e = (refl, refl)

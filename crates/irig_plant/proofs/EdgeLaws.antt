@@ -9,7 +9,7 @@ up_to j n h = elim (cases_lt n j) [ inl a ↦ inr (omega arith) | inr a ↦ inl 
 
 module _ (x : VotedEdges) where
   -- a lock that was reached before the edge was one at the edge before
-  pub held_back : (n : ℕ) → 1 ≤ x.own.lock_after → (h : IsHeld x (n + 1)) → h.lock ≤ n → IsHeld x n × (x.restarted n ≡ false)
+  pub held_back : (n : ℕ) → 1 ≤ x.reader_rules.lock_after → (h : IsHeld x (n + 1)) → h.lock ≤ n → IsHeld x n × (x.restarted n ≡ false)
   held_back n some h early = (
     record {
       lock = h.lock;
@@ -23,11 +23,11 @@ module _ (x : VotedEdges) where
     h.unbroken n (omega arith) (omega arith),
   )
 
-  lock_is_voted : (n : ℕ) → 1 ≤ x.own.lock_after → (h : IsHeld x n) → x.voted h.lock ≡ true
+  lock_is_voted : (n : ℕ) → 1 ≤ x.reader_rules.lock_after → (h : IsHeld x n) → x.voted h.lock ≡ true
   lock_is_voted n some h = h.votes h.lock (omega arith) (omega arith)
 
   -- where the edge isn't voted, the lock is older
-  pub lock_is_before : (n : ℕ) → 1 ≤ x.own.lock_after → x.voted (n + 1) ≡ false → (h : IsHeld x (n + 1)) → h.lock ≤ n
+  pub lock_is_before : (n : ℕ) → 1 ≤ x.reader_rules.lock_after → x.voted (n + 1) ≡ false → (h : IsHeld x (n + 1)) → h.lock ≤ n
   lock_is_before n some v h =
       elim (up_to h.lock n h.before) [
         | inl a ↦ a
@@ -35,7 +35,7 @@ module _ (x : VotedEdges) where
       ]
 
   -- a lock at the edge itself is a run
-  pub run_of_lock : (n : ℕ) → 1 ≤ x.own.lock_after → (h : IsHeld x n) → h.lock ≡ n → IsRun x n x.own.lock_after
+  pub run_of_lock : (n : ℕ) → 1 ≤ x.reader_rules.lock_after → (h : IsHeld x n) → h.lock ≡ n → IsRun x n x.reader_rules.lock_after
   run_of_lock n some h e = record {
     some = some;
     fits = omega (arith, h.enough);
@@ -43,7 +43,7 @@ module _ (x : VotedEdges) where
     unbroken = λ i a b. h.unbroken i (omega arith) b;
   }
 
-  pub lock_of_run : (n : ℕ) → IsRun x n x.own.lock_after → IsHeld x n
+  pub lock_of_run : (n : ℕ) → IsRun x n x.reader_rules.lock_after → IsHeld x n
   lock_of_run n r = record {
     lock = n;
     enough = r.fits;
@@ -54,7 +54,7 @@ module _ (x : VotedEdges) where
     unguarded = λ j a b. absurd (omega arith);
   }
 
-  held_on : (n : ℕ) → (h : IsHeld x n) → x.restarted n ≡ false → HasVote x h.lock (n + 1) x.own.holdover → ¬ IsGuard x (n + 1) → IsHeld x (n + 1)
+  held_on : (n : ℕ) → (h : IsHeld x n) → x.restarted n ≡ false → HasVote x h.lock (n + 1) x.reader_rules.holdover → ¬ IsGuard x (n + 1) → IsHeld x (n + 1)
   held_on n h r f g = record {
     lock = h.lock;
     enough = h.enough;
@@ -63,7 +63,7 @@ module _ (x : VotedEdges) where
     unbroken = λ i a b. elim (cases_eq i n) [ inl c ↦ ap x.restarted c ∙ r | inr c ↦ h.unbroken i a (omega (arith, b, c)) ];
     fresh = λ j a b. elim (up_to j n b) [
       | inl c ↦ h.fresh j a c
-      | inr c ↦ subst (λ i. HasVote x h.lock i x.own.holdover) (sym c) f
+      | inr c ↦ subst (λ i. HasVote x h.lock i x.reader_rules.holdover) (sym c) f
     ];
     unguarded = λ j a b. elim (up_to j n b) [
       | inl c ↦ h.unguarded j a c
@@ -76,21 +76,21 @@ module _ (x : VotedEdges) where
       held_on n h r (record { edge = n + 1; from = omega (arith, h.before); to = omega arith; near = omega arith; is = v }) (λ q. false≢true (sym q.unvoted ∙ v))
 
   -- a lock isn't reached after the last vote
-  lock_is_early : (n age : ℕ) → 1 ≤ x.own.lock_after → (h : IsHeld x n) → (l : IsLastVote x n age) → h.lock ≤ l.edge
+  lock_is_early : (n age : ℕ) → 1 ≤ x.reader_rules.lock_after → (h : IsHeld x n) → (l : IsLastVote x n age) → h.lock ≤ l.edge
   lock_is_early n age some h l =
       elim (cases_lt l.edge h.lock) [
         | inl a ↦ absurd (false≢true (sym (l.none_since h.lock a h.before) ∙ lock_is_voted n some h))
         | inr a ↦ a
       ]
 
-  pub held_alone : (n age : ℕ) → 1 ≤ x.own.lock_after → IsHeld x n → IsLastVote x n age → x.restarted n ≡ false → age < x.own.holdover → ¬ IsGuard x (n + 1) → IsHeld x (n + 1)
+  pub held_alone : (n age : ℕ) → 1 ≤ x.reader_rules.lock_after → IsHeld x n → IsLastVote x n age → x.restarted n ≡ false → age < x.reader_rules.holdover → ¬ IsGuard x (n + 1) → IsHeld x (n + 1)
   held_alone n age some h l r young g =
       held_on n h r (record { edge = l.edge; from = lock_is_early n age some h l; to = omega (arith, l.is_at); near = omega (arith, l.is_at); is = l.is }) g
 
   -- past the holdover
-  pub not_held_late : (n age : ℕ) → IsLastVote x n age → x.own.holdover ≤ age → x.voted (n + 1) ≡ false → ¬ IsHeld x (n + 1)
+  pub not_held_late : (n age : ℕ) → IsLastVote x n age → x.reader_rules.holdover ≤ age → x.voted (n + 1) ≡ false → ¬ IsHeld x (n + 1)
   not_held_late n age l old v h =
-      let f : HasVote x h.lock (n + 1) x.own.holdover = h.fresh (n + 1) h.before (omega arith) in
+      let f : HasVote x h.lock (n + 1) x.reader_rules.holdover = h.fresh (n + 1) h.before (omega arith) in
       elim (up_to f.edge n f.to) [
         | inl b ↦ elim (cases_lt l.edge f.edge) [
           | inl c ↦ false≢true (sym (l.none_since f.edge c b) ∙ f.is)
@@ -99,7 +99,7 @@ module _ (x : VotedEdges) where
         | inr b ↦ false≢true (sym v ∙ ap x.voted (sym b) ∙ f.is)
       ]
 
-  pub not_held_guard : (n : ℕ) → 1 ≤ x.own.lock_after → IsGuard x (n + 1) → ¬ IsHeld x (n + 1)
+  pub not_held_guard : (n : ℕ) → 1 ≤ x.reader_rules.lock_after → IsGuard x (n + 1) → ¬ IsHeld x (n + 1)
   not_held_guard n some g h = h.unguarded (n + 1) (let early : h.lock ≤ n = lock_is_before n some g.unvoted h in omega arith) (omega arith) g
 
   -- ---- runs

@@ -88,10 +88,10 @@ said_at x n v step at (over c e is k) = let q : ◌≡◌ {A = Option UtcSecond}
 
 -- ---- the last voted edge, and the edges within the holdover
 
-none_within : (x : VotedEdges) (n age : ℕ) → IsLastVote x n age → x.own.holdover ≤ age → NoneWithin x (n + 1) x.own.holdover
+none_within : (x : VotedEdges) (n age : ℕ) → IsLastVote x n age → x.reader_rules.holdover ≤ age → NoneWithin x (n + 1) x.reader_rules.holdover
 none_within x n age l old j a b = l.none_since j (omega (arith, l.is_at)) (omega arith)
 
-some_within : (x : VotedEdges) (n age : ℕ) → IsLastVote x n age → age < x.own.holdover → SomeWithin x (n + 1) x.own.holdover
+some_within : (x : VotedEdges) (n age : ℕ) → IsLastVote x n age → age < x.reader_rules.holdover → SomeWithin x (n + 1) x.reader_rules.holdover
 some_within x n age l young = record { edge = l.edge; near = omega (arith, l.is_at); below = omega (arith, l.is_at); is = l.is }
 
 -- ---- entries

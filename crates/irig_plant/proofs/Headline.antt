@@ -28,11 +28,11 @@ use Rattle.irig_plant.proofs.HeadlineVotes.{vote_is_true}
 use Rattle.irig_plant.proofs.HeadlineRule.{IsTrueStep, alone_step, voted_step}
 
 -- one tick, by a vote that is true or none
-step_true : (t : TimelineValue) (n : ℕ) (own : ReaderRules) (table : TableValue) (state : State) (vote : Option Claim) → IsTimeline t → IsTrueTable t table → StandsAtTruth t n state
-    → (vote ≡ None) ⊎ (vote ≡ truth_at t n) → IsTrueStep t (n + 1) (step_of own table state vote)
-step_true t n own table state None sound true_table at vote = alone_step t n own table state sound true_table at
-step_true t n own table state (Some c) sound true_table at (inl none) = absurd cc
-step_true t n own table state (Some c) sound true_table at (inr truth) = voted_step t n own table state c sound ((claim_is t n c).0 (sym truth)) at
+step_true : (t : TimelineValue) (n : ℕ) (reader_rules : ReaderRules) (table : TableValue) (state : State) (vote : Option Claim) → IsTimeline t → IsTrueTable t table → StandsAtTruth t n state
+    → (vote ≡ None) ⊎ (vote ≡ truth_at t n) → IsTrueStep t (n + 1) (step_of reader_rules table state vote)
+step_true t n reader_rules table state None sound true_table at vote = alone_step t n reader_rules table state sound true_table at
+step_true t n reader_rules table state (Some c) sound true_table at (inl none) = absurd cc
+step_true t n reader_rules table state (Some c) sound true_table at (inr truth) = voted_step t n reader_rules table state c sound ((claim_is t n c).0 (sym truth)) at
 
 -- ---- the premise, one event earlier
 

@@ -17,7 +17,7 @@ use Rattle.irig_plant.specs.declared.event.Event.{Event}
 use Rattle.irig_plant.specs.declared.event.Event.TheVariants.{Tick, Replay, Restart}
 use Rattle.irig_plant.specs.declared.entry.Entry.{Entry}
 use Rattle.irig_plant.specs.declared.setup.ReaderSetup.{ReaderSetup}
-use Rattle.irig_plant.specs.Audits.{is_true_table, first_false, is_broken_now, place, first_broken}
+use Rattle.irig_plant.specs.Audits.{is_true_table, first_false, is_broken_now, tick_of_reader, first_broken}
 use Rattle.irig_plant.specs.Edges.{VotedEdges, is_voted_now, is_voted, IsVoted, IsRestarted, voted_edges_of, IsGuard, HasVote, IsHeld, KeepsLock, IsRun, IsLongestRun, IsLastVote}
 use Rattle.irig_plant.specs.Ports.{AreRising, AtLeast, AtMost}
 use Rattle.irig_plant.specs.Premises.{IsKeptUpTo, HasPremises, IsKept}
@@ -66,7 +66,7 @@ broken_at_2 : is_broken_now (plant 3) 0 two_stale ≡ true
 unfolding second_at
 broken_at_2 = rw (told_0, told_nothing) refl
 
-first_at_2 : first_broken (plant 3) (Tick 0 ∷ two_stale) ≡ Some (place 0 2)
+first_at_2 : first_broken (plant 3) (Tick 0 ∷ two_stale) ≡ Some (tick_of_reader 0 2)
 first_at_2 = rw (kept_first_of_3, broken_at_2) refl
 
 -- a tick that is broken later, or at another reader, breaks nothing here; at this edge it does
@@ -256,7 +256,7 @@ abbrev old_year : TimelineValue
 old_year = times (record { day = 6209; sod = 86398 }) []
 
 abbrev unheard : ℕ → VotedEdges
-unheard until = record { times = old_year; own = record { lock_after = 1; holdover = 100 }; table = table until []; voted = λ i. false; restarted = λ i. false }
+unheard until = record { times = old_year; reader_rules = record { lock_after = 1; holdover = 100 }; table = table until []; voted = λ i. false; restarted = λ i. false }
 
 guard : IsGuard (unheard 6208) 1
 unfolding second_at
@@ -298,7 +298,7 @@ ends_before = record { leaps = λ day end from to. absurd (omega arith) }
 -- held at 2 and 3 alone
 module _ (t : TimelineValue) (table : TableValue) where
   abbrev two_votes : VotedEdges
-  two_votes = record { times = t; own = record { lock_after = 2; holdover = 1 }; table = table; voted = λ i. (i == 1) || (i == 2); restarted = λ i. false }
+  two_votes = record { times = t; reader_rules = record { lock_after = 2; holdover = 1 }; table = table; voted = λ i. (i == 1) || (i == 2); restarted = λ i. false }
 
   vote_at_2 : (j : ℕ) → 2 ≤ j → j ≤ 3 → HasVote two_votes 2 j 1
   vote_at_2 j from to = record { edge = 2; from = omega arith; to = from; near = to; is = refl }

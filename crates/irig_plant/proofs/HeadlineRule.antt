@@ -51,9 +51,9 @@ announced_true t n h u l c on_time last calm = record {
   calm = calm;
 }
 
-counted_true : (t : TimelineValue) (n : ℕ) (own : ReaderRules) (h : HoldValue) (count : ℕ) → IsOnTime t n h → IsTrueStep t n (count_step own h count)
-counted_true t n own h count on_time =
-    either (count == own.lock_after) (announce_step h h.last lock.Locked cause.Voted) (record { state = Acquiring h count; report = record { announce = None; lock = lock.Acquiring count; cause = cause.Acquiring } })
+counted_true : (t : TimelineValue) (n : ℕ) (reader_rules : ReaderRules) (h : HoldValue) (count : ℕ) → IsOnTime t n h → IsTrueStep t n (count_step reader_rules h count)
+counted_true t n reader_rules h count on_time =
+    either (count == reader_rules.lock_after) (announce_step h h.last lock.Locked cause.Voted) (record { state = Acquiring h count; report = record { announce = None; lock = lock.Acquiring count; cause = cause.Acquiring } })
     (announced_true t n h h.last lock.Locked cause.Voted on_time refl (record { jump = λ e. cc; range_end = λ e. absurd cc }))
     (record { state = on_time; says = λ u e. absurd cc; calm = record { jump = λ e. cc; range_end = λ e. absurd cc } })
   where
@@ -111,21 +111,21 @@ pub record AnswersTrue (t : TimelineValue) (n : ℕ) (answer : Turn) (h : HoldVa
   pub no_jump : ¬ (answer ≡ turn.Jump)
   pub ends : answer ≡ turn.RangeEnd → Ends t n
 
-begun_true : (t : TimelineValue) (n : ℕ) (own : ReaderRules) (first : Result HoldValue Turn) → BeginsTrue t n first → IsTrueStep t n (first_vote_step own first)
-begun_true t n own (Ok h) first = counted_true t n own h 1 (first.begins h refl)
-begun_true t n own (Err (turn.Now u)) first = stopped_true t n cause.Held (record { jump = λ e. cc; range_end = λ e. absurd cc })
-begun_true t n own (Err turn.Jump) first = absurd (first.no_jump refl)
-begun_true t n own (Err turn.LeapGuard) first = guard_true t n
-begun_true t n own (Err turn.Expired) first = expired_true t n
-begun_true t n own (Err turn.RangeEnd) first = end_true t n (first.ends refl)
+begun_true : (t : TimelineValue) (n : ℕ) (reader_rules : ReaderRules) (first : Result HoldValue Turn) → BeginsTrue t n first → IsTrueStep t n (first_vote_step reader_rules first)
+begun_true t n reader_rules (Ok h) first = counted_true t n reader_rules h 1 (first.begins h refl)
+begun_true t n reader_rules (Err (turn.Now u)) first = stopped_true t n cause.Held (record { jump = λ e. cc; range_end = λ e. absurd cc })
+begun_true t n reader_rules (Err turn.Jump) first = absurd (first.no_jump refl)
+begun_true t n reader_rules (Err turn.LeapGuard) first = guard_true t n
+begun_true t n reader_rules (Err turn.Expired) first = expired_true t n
+begun_true t n reader_rules (Err turn.RangeEnd) first = end_true t n (first.ends refl)
 
-joined_true : (t : TimelineValue) (n : ℕ) (own : ReaderRules) (count : ℕ) (anew : Step) (answer : Turn) (h : HoldValue) → IsTrueStep t n anew → AnswersTrue t n answer h
-    → IsTrueStep t n (later_vote_step_by own count anew answer h)
-joined_true t n own count anew (turn.Now u) h first answered = counted_true t n own h (count + 1) (answered.comes u refl).on_time
-joined_true t n own count anew turn.Jump h first answered = first
-joined_true t n own count anew turn.LeapGuard h first answered = guard_true t n
-joined_true t n own count anew turn.Expired h first answered = expired_true t n
-joined_true t n own count anew turn.RangeEnd h first answered = end_true t n (answered.ends refl)
+joined_true : (t : TimelineValue) (n : ℕ) (reader_rules : ReaderRules) (count : ℕ) (anew : Step) (answer : Turn) (h : HoldValue) → IsTrueStep t n anew → AnswersTrue t n answer h
+    → IsTrueStep t n (later_vote_step_by reader_rules count anew answer h)
+joined_true t n reader_rules count anew (turn.Now u) h first answered = counted_true t n reader_rules h (count + 1) (answered.comes u refl).on_time
+joined_true t n reader_rules count anew turn.Jump h first answered = first
+joined_true t n reader_rules count anew turn.LeapGuard h first answered = guard_true t n
+joined_true t n reader_rules count anew turn.Expired h first answered = expired_true t n
+joined_true t n reader_rules count anew turn.RangeEnd h first answered = end_true t n (answered.ends refl)
 
 locked_true : (t : TimelineValue) (n : ℕ) (l : Lock) (c : Cause) (answer : Turn) (h : HoldValue) → IsTrueCause t n c → AnswersTrue t n answer h → IsTrueStep t n (locked_step l c answer h)
 locked_true t n l c (turn.Now u) h calm answered = announced_true t n h u l c (answered.comes u refl).on_time (answered.comes u refl).last calm
@@ -160,22 +160,22 @@ goes_alone t n limit table h sound true_table on_time = record {
 -- ---- one edge
 
 -- by no vote
-pub alone_step : (t : TimelineValue) (n : ℕ) (own : ReaderRules) (table : TableValue) (state : State) → IsTimeline t → IsTrueTable t table → StandsAtTruth t n state
-    → IsTrueStep t (n + 1) (step_of own table state None)
+pub alone_step : (t : TimelineValue) (n : ℕ) (reader_rules : ReaderRules) (table : TableValue) (state : State) → IsTimeline t → IsTrueTable t table → StandsAtTruth t n state
+    → IsTrueStep t (n + 1) (step_of reader_rules table state None)
 unfolding step_of
-alone_step t n own table Idle sound true_table on_time = no_vote_true t (n + 1)
-alone_step t n own table (Acquiring h count) sound true_table on_time = no_vote_true t (n + 1)
-alone_step t n own table (Locked h) sound true_table on_time =
-    locked_true t (n + 1) _ cause.Held (alone_by table h own.holdover).answer (alone_by table h own.holdover).new (record { jump = λ e. cc; range_end = λ e. absurd cc })
-    (goes_alone t n own.holdover table h sound true_table on_time)
+alone_step t n reader_rules table Idle sound true_table on_time = no_vote_true t (n + 1)
+alone_step t n reader_rules table (Acquiring h count) sound true_table on_time = no_vote_true t (n + 1)
+alone_step t n reader_rules table (Locked h) sound true_table on_time =
+    locked_true t (n + 1) _ cause.Held (alone_by table h reader_rules.holdover).answer (alone_by table h reader_rules.holdover).new (record { jump = λ e. cc; range_end = λ e. absurd cc })
+    (goes_alone t n reader_rules.holdover table h sound true_table on_time)
 
 -- by a true vote
-pub voted_step : (t : TimelineValue) (n : ℕ) (own : ReaderRules) (table : TableValue) (state : State) (c : Claim) → IsTimeline t → IsTrueClaim t (n + 1) c → StandsAtTruth t n state
-    → IsTrueStep t (n + 1) (step_of own table state (Some c))
+pub voted_step : (t : TimelineValue) (n : ℕ) (reader_rules : ReaderRules) (table : TableValue) (state : State) (c : Claim) → IsTimeline t → IsTrueClaim t (n + 1) c → StandsAtTruth t n state
+    → IsTrueStep t (n + 1) (step_of reader_rules table state (Some c))
 unfolding step_of
-voted_step t n own table Idle c sound claim on_time = begun_true t (n + 1) own (hold_start table c) (starts t n table c sound claim)
-voted_step t n own table (Acquiring h count) c sound claim on_time =
-    joined_true t (n + 1) own count _ (voted_by table h c).answer (voted_by table h c).new (begun_true t (n + 1) own (hold_start table c) (starts t n table c sound claim))
+voted_step t n reader_rules table Idle c sound claim on_time = begun_true t (n + 1) reader_rules (hold_start table c) (starts t n table c sound claim)
+voted_step t n reader_rules table (Acquiring h count) c sound claim on_time =
+    joined_true t (n + 1) reader_rules count _ (voted_by table h c).answer (voted_by table h c).new (begun_true t (n + 1) reader_rules (hold_start table c) (starts t n table c sound claim))
     (follows t n table h c sound claim on_time)
-voted_step t n own table (Locked h) c sound claim on_time =
+voted_step t n reader_rules table (Locked h) c sound claim on_time =
     locked_true t (n + 1) _ cause.Voted (voted_by table h c).answer (voted_by table h c).new (record { jump = λ e. cc; range_end = λ e. absurd cc }) (follows t n table h c sound claim on_time)

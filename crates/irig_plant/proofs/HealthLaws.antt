@@ -110,7 +110,7 @@ carried_is_healthy s r p ev low plain edge empty =
 
 -- ---- runs
 
-held_by_run : (x : VotedEdges) (n : ℕ) → IsRun x n x.own.lock_after → IsHeld x n
+held_by_run : (x : VotedEdges) (n : ℕ) → IsRun x n x.reader_rules.lock_after → IsHeld x n
 held_by_run x n run = record {
   lock = n;
   enough = run.fits;
@@ -132,7 +132,7 @@ run_announces s ev e v sound ruled logged served run =
 
 -- ---- after a run
 
-held_later : (x : VotedEdges) (m n : ℕ) → IsRun x m x.own.lock_after → KeepsLock x m n → IsHeld x n
+held_later : (x : VotedEdges) (m n : ℕ) → IsRun x m x.reader_rules.lock_after → KeepsLock x m n → IsHeld x n
 held_later x m n run keeps = record {
   lock = m;
   enough = run.fits;

@@ -141,8 +141,8 @@ module _ (s : Setup) (plant : IsHealthyPlant s) where
   counts_all r n ev held said h from to (inr (inr (inr voteless))) = absurd (false≢true (sym voteless.unvoted ∙ voted_up_to r n ev h from to))
 
   module _ (r : ℕ) (ev : List Event) (h : AllHealthy s (Tick r ∷ ev)) (v : UtcSecond) (second : second_at s.times (ticks_of r ev + 1) ≡ Some v) where
-    abbrev own : ReaderRules
-    own = (setup_at s.readers r).rules
+    abbrev reader_rules : ReaderRules
+    reader_rules = (setup_at s.readers r).rules
 
     abbrev edge : ℕ
     edge = ticks_of r ev + 1
@@ -159,11 +159,11 @@ module _ (s : Setup) (plant : IsHealthyPlant s) where
     reached : edge ≤ ticks_of r (Tick r ∷ ev)
     reached = omega (arith, ticks_now r ev)
 
-    announces : own.lock_after ≤ edge → (entry_of s r ev).report ≡ record { announce = Some v; lock = lock.Locked; cause = cause.Voted }
+    announces : reader_rules.lock_after ≤ edge → (entry_of s r ev).report ≡ record { announce = Some v; lock = lock.Locked; cause = cause.Voted }
     announces late =
-        run_announces s (Tick r ∷ ev) (entry_of s r ev) v plant.timeline all_can_lock logged served (run_to r edge own.lock_after (Tick r ∷ ev) h reached (can_lock s r all_can_lock) late)
+        run_announces s (Tick r ∷ ev) (entry_of s r ev) v plant.timeline all_can_lock logged served (run_to r edge reader_rules.lock_after (Tick r ∷ ev) h reached (can_lock s r all_can_lock) late)
 
-    counts : edge < own.lock_after → (entry_of s r ev).report ≡ silence (lock.Acquiring edge) cause.Acquiring
+    counts : edge < reader_rules.lock_after → (entry_of s r ev).report ≡ silence (lock.Acquiring edge) cause.Acquiring
     counts early =
         let exact : AnnouncesWhenHeld s (Tick r ∷ ev) (entry_of s r ev) =
         All-contains (AnnouncesWhenHeld s (Tick r ∷ ev)) (log_of s (Tick r ∷ ev)) (entry_of s r ev) (log_when_held s (Tick r ∷ ev) plant.timeline all_can_lock) logged in
@@ -178,9 +178,9 @@ module _ (s : Setup) (plant : IsHealthyPlant s) where
         ] in
         counts_all r edge (Tick r ∷ ev) (WasHeld s (Tick r ∷ ev) r edge) (entry_of s r ev).report h (omega arith) reached (told.cause v served silent)
 
-    pub says_healthy : (entry_of s r ev).report ≡ healthy_report s.times own edge
+    pub says_healthy : (entry_of s r ev).report ≡ healthy_report s.times reader_rules edge
     says_healthy =
-        elim (cases_lt edge own.lock_after) [
-          | inl early ↦ rw (lt-ltb edge own.lock_after early) (counts early)
-          | inr late ↦ rw (le-ltb edge own.lock_after late) (announces late ∙ ap (λ (o : Option UtcSecond). let said : Report = record { announce = o; lock = lock.Locked; cause = cause.Voted } in said) (sym second))
+        elim (cases_lt edge reader_rules.lock_after) [
+          | inl early ↦ rw (lt-ltb edge reader_rules.lock_after early) (counts early)
+          | inr late ↦ rw (le-ltb edge reader_rules.lock_after late) (announces late ∙ ap (λ (o : Option UtcSecond). let said : Report = record { announce = o; lock = lock.Locked; cause = cause.Voted } in said) (sym second))
         ]

@@ -14,15 +14,15 @@ use Rattle.irig_plant.specs.Schedule.{Setup, setup_at, fed_at, votes_of, history
 use Rattle.irig_plant.specs.Hearing.{hearing_of, HearAlike}
 
 abbrev history_by : Rules → ReaderSetup → Redundancy → Fed → List (Option Claim) → ReaderHistory
-history_by rules own redundancy fed votes =
-    record { rules = rules; own = own.rules; table = own.table; redundancy = redundancy; fed = fed; votes = votes }
+history_by rules reader_rules redundancy fed votes =
+    record { rules = rules; reader_rules = reader_rules.rules; table = reader_rules.table; redundancy = redundancy; fed = fed; votes = votes }
 
 -- the votes that a hearing gives
 abbrev votes_by : Rules → ReaderSetup → Redundancy → List (Option Fed) → List (Option Claim)
-votes_by rules own redundancy [] = []
-votes_by rules own redundancy (Some fed ∷ hearing) =
-    vote_at_tick (history_by rules own redundancy fed (votes_by rules own redundancy hearing)) ∷ votes_by rules own redundancy hearing
-votes_by rules own redundancy (None ∷ hearing) = []
+votes_by rules reader_rules redundancy [] = []
+votes_by rules reader_rules redundancy (Some fed ∷ hearing) =
+    vote_at_tick (history_by rules reader_rules redundancy fed (votes_by rules reader_rules redundancy hearing)) ∷ votes_by rules reader_rules redundancy hearing
+votes_by rules reader_rules redundancy (None ∷ hearing) = []
 
 abbrev votes_heard : Setup → ℕ → List Event → List (Option Claim)
 votes_heard s r ev = votes_by s.rules (setup_at s.readers r) (redundancy_of (length s.generators)) (hearing_of s r ev)
@@ -46,7 +46,7 @@ votes_heard_alike s r ev other same =
     votes_are s r ev ∙ ap (votes_by s.rules (setup_at s.readers r) (redundancy_of (length s.generators))) same ∙ sym (votes_are s r other)
 
 history_heard : Rules → ReaderSetup → Redundancy → Fed → List (Option Fed) → ReaderHistory
-history_heard rules own redundancy fed hearing = history_by rules own redundancy fed (votes_by rules own redundancy hearing)
+history_heard rules reader_rules redundancy fed hearing = history_by rules reader_rules redundancy fed (votes_by rules reader_rules redundancy hearing)
 
 history_is : (s : Setup) (r : ℕ) (ev : List Event) → history_of s r ev ≡ history_heard s.rules (setup_at s.readers r) (redundancy_of (length s.generators)) (fed_at s r ev) (hearing_of s r ev)
 unfolding history_heard

@@ -20,7 +20,7 @@ all_can_lock {P} {g} p h stands r d low =
     let any : TickedReader P g = an_element p.readers.items (omega (arith, low, stands.reader_count)) in
     let ticked_reader : TickedReader P g = get_or p.readers.items r any in
     let at : IsTickedReaderAt h.setup h.events r ticked_reader = stands.readers r any low in
-    let own : ticked_reader.reader.own ≡ (setup_at h.setup.readers r).rules = at.reader.own in
-    let locks : 0 < ticked_reader.reader.own.lock_after = omega (arith, ticked_reader.reader.counting) in
+    let reader_rules : ticked_reader.reader.reader_rules ≡ (setup_at h.setup.readers r).rules = at.reader.reader_rules in
+    let locks : 0 < ticked_reader.reader.reader_rules.lock_after = omega (arith, ticked_reader.reader.counting) in
     let same : get_or h.setup.readers r d ≡ setup_at h.setup.readers r = get_or_default h.setup.readers r d no_reader low in
-    subst (λ (x : ReaderSetup). CanLock x) (sym same) (omega (arith, locks, ap (λ (x : ReaderRules). x.lock_after) own))
+    subst (λ (x : ReaderSetup). CanLock x) (sym same) (omega (arith, locks, ap (λ (x : ReaderRules). x.lock_after) reader_rules))

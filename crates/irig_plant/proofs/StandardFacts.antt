@@ -11,7 +11,7 @@ use Rattle.irig_plant.specs.declared.audit.Audit.TheVariants.{Kept, Broken, Fals
 use Rattle.irig_plant.specs.Widths.{widths_of, with_damage}
 use Rattle.irig_plant.specs.Schedule.{Setup, generator_at, heard_at, ticks_of}
 use Rattle.irig_plant.specs.Runs.{events_after}
-use Rattle.irig_plant.specs.Audits.{place, verdict}
+use Rattle.irig_plant.specs.Audits.{tick_of_reader, verdict}
 use Rattle.irig_plant.specs.Edges.{is_carried, is_voted_now, is_voted, is_restarted}
 
 -- of any plant
@@ -68,10 +68,10 @@ run_adds : events_after (Tick 0 ∷ Restart 0 ∷ []) (Tick 1 ∷ []) ≡ Restar
 run_adds = refl
 
 -- a false table goes before a broken tick
-table_first : verdict (Some 1) (Some (place 0 3)) ≡ FalseTable 1
+table_first : verdict (Some 1) (Some (tick_of_reader 0 3)) ≡ FalseTable 1
 table_first = refl
 
-broken_next : verdict None (Some (place 0 3)) ≡ Broken 0 3
+broken_next : verdict None (Some (tick_of_reader 0 3)) ≡ Broken 0 3
 broken_next = refl
 
 kept_last : verdict None None ≡ Kept

@@ -75,13 +75,13 @@ no_claim t n (Some c) none truth =
     let clash : None ≡ Some c.at = sym none ∙ at in
     absurd cc
 
-idle_step : (own : ReaderRules) (table : TableValue) → step_of own table Idle None ≡ stop_step cause.NoVote
+idle_step : (reader_rules : ReaderRules) (table : TableValue) → step_of reader_rules table Idle None ≡ stop_step cause.NoVote
 unfolding step_of
-idle_step own table = refl
+idle_step reader_rules table = refl
 
-past_end : (x : VotedEdges) (n : ℕ) (state : State) (vote : Option Claim) → second_at x.times n ≡ None → state ≡ Idle → vote ≡ None → Ticked x n (step_of x.own x.table state vote)
+past_end : (x : VotedEdges) (n : ℕ) (state : State) (vote : Option Claim) → second_at x.times n ≡ None → state ≡ Idle → vote ≡ None → Ticked x n (step_of x.reader_rules x.table state vote)
 past_end x n state vote none idle silent =
-    rw (idle, silent) (over cause.NoVote (none_after x.times n (second_at x.times (n + 1)) none refl) (idle_step x.own x.table) refl)
+    rw (idle, silent) (over cause.NoVote (none_after x.times n (second_at x.times (n + 1)) none refl) (idle_step x.reader_rules x.table) refl)
 
 -- ---- rules in range
 

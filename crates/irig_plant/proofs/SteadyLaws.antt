@@ -126,10 +126,10 @@ Goes table votes (Locked h) u = FollowsByMark table votes h.last u
 Goes table votes Idle u = ⊤
 Goes table votes (Acquiring h count) u = ⊤
 
-alone_says : (own : ReaderRules) (table : TableValue) (votes : List (Option Claim)) (h : HoldValue) → Sourced votes h → Says (None ∷ votes) (Goes table (None ∷ votes) (Locked h)) (step_of own table (Locked h) None)
+alone_says : (reader_rules : ReaderRules) (table : TableValue) (votes : List (Option Claim)) (h : HoldValue) → Sourced votes h → Says (None ∷ votes) (Goes table (None ∷ votes) (Locked h)) (step_of reader_rules table (Locked h) None)
 unfolding step_of
-alone_says own table votes h sourced =
-    elim (cases_Bool (nat_le own.holdover h.age)) [
+alone_says reader_rules table votes h sourced =
+    elim (cases_Bool (nat_le reader_rules.holdover h.age)) [
       | inl late ↦ rw late (silent_says (None ∷ votes) _ _ tt refl)
       | inr young ↦ rw young (locked_says table (None ∷ votes) h h _ cause.Held (hold_step table h.last (h.age + 1) h.heard)
           (step_goes table (None ∷ votes) h.last (h.age + 1) h.heard (more_heard None votes h.last.day h.heard sourced)))
@@ -143,66 +143,66 @@ vote_goes table votes h c sourced same =
     step_goes table (Some c ∷ votes) h.last 0 (mark_or c.mark h.heard)
     (heard_either (Some c ∷ votes) h.last.day c.mark h.heard (heard_now c votes h.last.day day) (more_heard (Some c) votes h.last.day h.heard sourced))
 
-voted_says : (own : ReaderRules) (table : TableValue) (votes : List (Option Claim)) (h : HoldValue) (c : Claim) → Sourced votes h → Says (Some c ∷ votes) (Goes table (Some c ∷ votes) (Locked h)) (step_of own table (Locked h) (Some c))
+voted_says : (reader_rules : ReaderRules) (table : TableValue) (votes : List (Option Claim)) (h : HoldValue) (c : Claim) → Sourced votes h → Says (Some c ∷ votes) (Goes table (Some c ∷ votes) (Locked h)) (step_of reader_rules table (Locked h) (Some c))
 unfolding step_of
-voted_says own table votes h c sourced =
+voted_says reader_rules table votes h c sourced =
     elim (cases_Bool (same_second c.at h.last)) [
       | inl same ↦ rw same (locked_says table (Some c ∷ votes) h h lock.Locked cause.Voted (hold_step table h.last 0 (mark_or c.mark h.heard)) (vote_goes table votes h c sourced same))
       | inr other ↦ rw other (silent_says (Some c ∷ votes) _ _ tt refl)
     ]
 
-counted_says : (own : ReaderRules) (votes : List (Option Claim)) (h : HoldValue) (count : ℕ) → Sourced votes h → Says votes (λ u. ⊤) (count_step own h count)
-counted_says own votes h count sourced =
-    elim (cases_Bool (count == own.lock_after)) [
+counted_says : (reader_rules : ReaderRules) (votes : List (Option Claim)) (h : HoldValue) (count : ℕ) → Sourced votes h → Says votes (λ u. ⊤) (count_step reader_rules h count)
+counted_says reader_rules votes h count sourced =
+    elim (cases_Bool (count == reader_rules.lock_after)) [
       | inl enough ↦ rw enough (announced_says votes (λ u. ⊤) h lock.Locked cause.Voted sourced tt)
       | inr few ↦ rw few (silent_says votes (λ u. ⊤) _ sourced refl)
     ]
 
-first_says : (own : ReaderRules) (table : TableValue) (votes : List (Option Claim)) (from : UtcSecond) (r : Result HoldValue Turn) → Stepped table votes from r → Says votes (λ u. ⊤) (first_vote_step own r)
-first_says own table votes from (Ok h) s = counted_says own votes h 1 s.1
-first_says own table votes from (Err stop) s = silent_says votes (λ u. ⊤) _ tt refl
+first_says : (reader_rules : ReaderRules) (table : TableValue) (votes : List (Option Claim)) (from : UtcSecond) (r : Result HoldValue Turn) → Stepped table votes from r → Says votes (λ u. ⊤) (first_vote_step reader_rules r)
+first_says reader_rules table votes from (Ok h) s = counted_says reader_rules votes h 1 s.1
+first_says reader_rules table votes from (Err stop) s = silent_says votes (λ u. ⊤) _ tt refl
 
-begun_says : (own : ReaderRules) (table : TableValue) (votes : List (Option Claim)) (c : Claim) → Says (Some c ∷ votes) (λ u. ⊤) (first_vote_step own (hold_start table c))
-begun_says own table votes c = first_says own table (Some c ∷ votes) c.at (hold_start table c) (step_goes table (Some c ∷ votes) c.at 0 c.mark (heard_now c votes c.at.day refl))
+begun_says : (reader_rules : ReaderRules) (table : TableValue) (votes : List (Option Claim)) (c : Claim) → Says (Some c ∷ votes) (λ u. ⊤) (first_vote_step reader_rules (hold_start table c))
+begun_says reader_rules table votes c = first_says reader_rules table (Some c ∷ votes) c.at (hold_start table c) (step_goes table (Some c ∷ votes) c.at 0 c.mark (heard_now c votes c.at.day refl))
 
-later_says : (own : ReaderRules) (table : TableValue) (votes : List (Option Claim)) (h : HoldValue) (count : ℕ) (anew : Step) (r : Result HoldValue Turn) → Says votes (λ u. ⊤) anew → Stepped table votes h.last r
-    → Says votes (λ u. ⊤) (later_vote_step_by own count anew (outcome_of h r).answer (outcome_of h r).new)
-later_says own table votes h count anew (Ok new) begun s = counted_says own votes new (count + 1) s.1
-later_says own table votes h count anew (Err (turn.Now u)) begun s = absurd s
-later_says own table votes h count anew (Err turn.Jump) begun s = begun
-later_says own table votes h count anew (Err turn.LeapGuard) begun s = silent_says votes (λ u. ⊤) _ tt refl
-later_says own table votes h count anew (Err turn.Expired) begun s = silent_says votes (λ u. ⊤) _ tt refl
-later_says own table votes h count anew (Err turn.RangeEnd) begun s = silent_says votes (λ u. ⊤) _ tt refl
+later_says : (reader_rules : ReaderRules) (table : TableValue) (votes : List (Option Claim)) (h : HoldValue) (count : ℕ) (anew : Step) (r : Result HoldValue Turn) → Says votes (λ u. ⊤) anew → Stepped table votes h.last r
+    → Says votes (λ u. ⊤) (later_vote_step_by reader_rules count anew (outcome_of h r).answer (outcome_of h r).new)
+later_says reader_rules table votes h count anew (Ok new) begun s = counted_says reader_rules votes new (count + 1) s.1
+later_says reader_rules table votes h count anew (Err (turn.Now u)) begun s = absurd s
+later_says reader_rules table votes h count anew (Err turn.Jump) begun s = begun
+later_says reader_rules table votes h count anew (Err turn.LeapGuard) begun s = silent_says votes (λ u. ⊤) _ tt refl
+later_says reader_rules table votes h count anew (Err turn.Expired) begun s = silent_says votes (λ u. ⊤) _ tt refl
+later_says reader_rules table votes h count anew (Err turn.RangeEnd) begun s = silent_says votes (λ u. ⊤) _ tt refl
 
-acquired_says : (own : ReaderRules) (table : TableValue) (votes : List (Option Claim)) (h : HoldValue) (count : ℕ) (c : Claim) → Sourced votes h → Says (Some c ∷ votes) (λ u. ⊤) (step_of own table (Acquiring h count) (Some c))
+acquired_says : (reader_rules : ReaderRules) (table : TableValue) (votes : List (Option Claim)) (h : HoldValue) (count : ℕ) (c : Claim) → Sourced votes h → Says (Some c ∷ votes) (λ u. ⊤) (step_of reader_rules table (Acquiring h count) (Some c))
 unfolding step_of
-acquired_says own table votes h count c sourced =
+acquired_says reader_rules table votes h count c sourced =
     elim (cases_Bool (same_second c.at h.last)) [
-      | inl same ↦ rw same (later_says own table (Some c ∷ votes) h count _ (hold_step table h.last 0 (mark_or c.mark h.heard)) (begun_says own table votes c) (vote_goes table votes h c sourced same))
-      | inr other ↦ rw other (begun_says own table votes c)
+      | inl same ↦ rw same (later_says reader_rules table (Some c ∷ votes) h count _ (hold_step table h.last 0 (mark_or c.mark h.heard)) (begun_says reader_rules table votes c) (vote_goes table votes h c sourced same))
+      | inr other ↦ rw other (begun_says reader_rules table votes c)
     ]
 
-step_says : (own : ReaderRules) (table : TableValue) (votes : List (Option Claim)) (state : State) (vote : Option Claim) → SourcedState votes state → Says (vote ∷ votes) (Goes table (vote ∷ votes) state) (step_of own table state vote)
+step_says : (reader_rules : ReaderRules) (table : TableValue) (votes : List (Option Claim)) (state : State) (vote : Option Claim) → SourcedState votes state → Says (vote ∷ votes) (Goes table (vote ∷ votes) state) (step_of reader_rules table state vote)
 unfolding step_of
-step_says own table votes Idle None h = silent_says (None ∷ votes) (λ u. ⊤) _ tt refl
-step_says own table votes Idle (Some c) h = begun_says own table votes c
-step_says own table votes (Acquiring hold count) None h = silent_says (None ∷ votes) (λ u. ⊤) _ tt refl
-step_says own table votes (Acquiring hold count) (Some c) h = acquired_says own table votes hold count c h
-step_says own table votes (Locked hold) None h = alone_says own table votes hold h
-step_says own table votes (Locked hold) (Some c) h = voted_says own table votes hold c h
+step_says reader_rules table votes Idle None h = silent_says (None ∷ votes) (λ u. ⊤) _ tt refl
+step_says reader_rules table votes Idle (Some c) h = begun_says reader_rules table votes c
+step_says reader_rules table votes (Acquiring hold count) None h = silent_says (None ∷ votes) (λ u. ⊤) _ tt refl
+step_says reader_rules table votes (Acquiring hold count) (Some c) h = acquired_says reader_rules table votes hold count c h
+step_says reader_rules table votes (Locked hold) None h = alone_says reader_rules table votes hold h
+step_says reader_rules table votes (Locked hold) (Some c) h = voted_says reader_rules table votes hold c h
 
-sourced_by : (own : ReaderRules) (table : TableValue) (votes : List (Option Claim)) → SourcedState votes (state_of own table votes)
-sourced_by own table [] = tt
-sourced_by own table (vote ∷ votes) = (step_says own table votes (state_of own table votes) vote (sourced_by own table votes)).state
+sourced_by : (reader_rules : ReaderRules) (table : TableValue) (votes : List (Option Claim)) → SourcedState votes (state_of reader_rules table votes)
+sourced_by reader_rules table [] = tt
+sourced_by reader_rules table (vote ∷ votes) = (step_says reader_rules table votes (state_of reader_rules table votes) vote (sourced_by reader_rules table votes)).state
 
 -- two steps that announce
-pub steps_follow : (own : ReaderRules) (table : TableValue) (votes : List (Option Claim)) (one two : Option Claim) (u v : UtcSecond)
-    → (report_of own table one votes).announce ≡ Some u → (report_of own table two (one ∷ votes)).announce ≡ Some v → FollowsByMark table (two ∷ one ∷ votes) u v
-steps_follow own table votes one two u v first second =
-    let before = (step_says own table votes (state_of own table votes) one (sourced_by own table votes)).second u first in
-    let sourced : SourcedState (one ∷ votes) (Locked before.0) = subst (λ (state : State). SourcedState (one ∷ votes) state) before.1 (sourced_by own table (one ∷ votes)) in
-    let says : (step_of own table (Locked before.0) two).report.announce ≡ Some v = subst (λ (state : State). (step_of own table state two).report.announce ≡ Some v) before.1 second in
-    subst (λ (w : UtcSecond). FollowsByMark table (two ∷ one ∷ votes) w v) before.2 ((step_says own table (one ∷ votes) (Locked before.0) two sourced).second v says).3
+pub steps_follow : (reader_rules : ReaderRules) (table : TableValue) (votes : List (Option Claim)) (one two : Option Claim) (u v : UtcSecond)
+    → (report_of reader_rules table one votes).announce ≡ Some u → (report_of reader_rules table two (one ∷ votes)).announce ≡ Some v → FollowsByMark table (two ∷ one ∷ votes) u v
+steps_follow reader_rules table votes one two u v first second =
+    let before = (step_says reader_rules table votes (state_of reader_rules table votes) one (sourced_by reader_rules table votes)).second u first in
+    let sourced : SourcedState (one ∷ votes) (Locked before.0) = subst (λ (state : State). SourcedState (one ∷ votes) state) before.1 (sourced_by reader_rules table (one ∷ votes)) in
+    let says : (step_of reader_rules table (Locked before.0) two).report.announce ≡ Some v = subst (λ (state : State). (step_of reader_rules table state two).report.announce ≡ Some v) before.1 second in
+    subst (λ (w : UtcSecond). FollowsByMark table (two ∷ one ∷ votes) w v) before.2 ((step_says reader_rules table (one ∷ votes) (Locked before.0) two sourced).second v says).3
 
 -- ---- a reader's two ticks
 
@@ -213,13 +213,13 @@ pub ticks_follow : (s : Setup) (r : ℕ) (ev between : List Event) (u v : UtcSec
     → (entry_of s r ev).report.announce ≡ Some u → (entry_of s r (between ++ (Tick r ∷ ev))).report.announce ≡ Some v
     → FollowsByMark (setup_at s.readers r).table (votes_of s r (Tick r ∷ (between ++ (Tick r ∷ ev)))) u v
 ticks_follow s r ev between u v same first second =
-    let own = (setup_at s.readers r).rules in
+    let reader_rules = (setup_at s.readers r).rules in
     let table = (setup_at s.readers r).table in
     let later = between ++ (Tick r ∷ ev) in
     let votes : votes_of s r later ≡ vote_at_tick (history_of s r ev) ∷ votes_of s r ev = votes_heard_alike s r later (Tick r ∷ ev) same ∙ votes_at_tick s r ev in
-    let says : (report_of own table (vote_at_tick (history_of s r later)) (vote_at_tick (history_of s r ev) ∷ votes_of s r ev)).announce ≡ Some v =
-    subst (λ (vs : List (Option Claim)). (report_of own table (vote_at_tick (history_of s r later)) vs).announce ≡ Some v) votes second in
+    let says : (report_of reader_rules table (vote_at_tick (history_of s r later)) (vote_at_tick (history_of s r ev) ∷ votes_of s r ev)).announce ≡ Some v =
+    subst (λ (vs : List (Option Claim)). (report_of reader_rules table (vote_at_tick (history_of s r later)) vs).announce ≡ Some v) votes second in
     let all : vote_at_tick (history_of s r later) ∷ vote_at_tick (history_of s r ev) ∷ votes_of s r ev ≡ votes_of s r (Tick r ∷ later) =
     ap (λ (vs : List (Option Claim)). vote_at_tick (history_of s r later) ∷ vs) (sym votes) ∙ sym (votes_at_tick s r later) in
     subst (λ (vs : List (Option Claim)). FollowsByMark table vs u v) all
-    (steps_follow own table (votes_of s r ev) (vote_at_tick (history_of s r ev)) (vote_at_tick (history_of s r later)) u v first says)
+    (steps_follow reader_rules table (votes_of s r ev) (vote_at_tick (history_of s r ev)) (vote_at_tick (history_of s r later)) u v first says)

@@ -22,8 +22,8 @@ use Rattle.irig_plant.specs.declared.ticked_reader.TickedReader.{TickedReader}
 use Rattle.irig_plant.specs.Schedule.{Setup, generator_at_next_edge, generator_with_fault, generator_without_fault, generator_at, Delivery, delivery, delivery_of, empties, with_delivery, heard_at, fed_at, ticks_of, votes_of, history_of, log_of, told_log_of}
 use Rattle.irig_plant.specs.Widths.{widths_of}
 use Rattle.irig_plant.specs.Refusals.{unless_reader, unless_generator, unless_second}
-use Rattle.irig_plant.specs.Audits.{Place, first_broken, verdict, audit_after}
-use Rattle.irig_plant.specs.History.{IsTickedReaderAt, IsWave}
+use Rattle.irig_plant.specs.Audits.{TickOfReader, first_broken, verdict, audit_after}
+use Rattle.irig_plant.specs.History.{IsTickedReaderAt, IsCachedPort}
 use Rattle.irig_plant.proofs.ListLaws.{apart, each_set}
 use Rattle.irig_plant.proofs.FeedLaws.{fed_if, fed_ports}
 
@@ -162,28 +162,28 @@ repair_other s ev i k q = rw (apart i k (λ e. q (sym e))) refl
 pub repair_here : (s : Setup) (ev : List Event) (i : ℕ) (x y : GeneratorValue) → y ≡ generator_without_fault x → x ≡ generator_at s i ev → y ≡ generator_at s i (Repair i ∷ ev)
 repair_here s ev i x y whole h = rw (eq-eqb i i refl) (whole ∙ ap generator_without_fault h)
 
--- ---- waves
+-- ---- cached ports
 
 module _ {P : Type 0} (g : Ghosts P) where
-  -- a wave stays while its generator does
-  pub wave_after : (s : Setup) (ev ev' : List Event) (k : ℕ) (w : Option P) → generator_at s k ev' ≡ generator_at s k ev → IsWave g s ev k w → IsWave g s ev' k w
-  wave_after s ev ev' k None same h = tt
-  wave_after s ev ev' k (Some port) same h =
+  -- a cached port stays while its generator does
+  pub cached_port_after : (s : Setup) (ev ev' : List Event) (k : ℕ) (w : Option P) → generator_at s k ev' ≡ generator_at s k ev → IsCachedPort g s ev k w → IsCachedPort g s ev' k w
+  cached_port_after s ev ev' k None same h = tt
+  cached_port_after s ev ev' k (Some port) same h =
       subst (λ (x : GeneratorValue). g.stands_for port s.rules (symbols_heard (widths_of (sent_of x s.times)))) (sym same) h
 
-  -- a new wave of generator i, or none, where the event leaves the other generators
-  pub set_wave : (s : Setup) (ev ev' : List Event) (xs : List (Option P)) (i : ℕ) (w : Option P)
+  -- a new cached port of generator i, or none, if the event leaves the other generators
+  pub set_cached_port : (s : Setup) (ev ev' : List Event) (xs : List (Option P)) (i : ℕ) (w : Option P)
       → i < length xs
-      → ((k : ℕ) (d : Option P) → k < length s.generators → IsWave g s ev k (get_or xs k d))
+      → ((k : ℕ) (d : Option P) → k < length s.generators → IsCachedPort g s ev k (get_or xs k d))
       → ((k : ℕ) → k ≢ i → generator_at s k ev' ≡ generator_at s k ev)
-      → IsWave g s ev' i w
-      → (k : ℕ) (d : Option P) → k < length s.generators → IsWave g s ev' k (get_or (set xs i w) k d)
-  set_wave s ev ev' xs i w l h other here =
-      each_set (IsWave g s ev) (IsWave g s ev') (length s.generators) xs i w l h (λ k z q. wave_after s ev ev' k z (other k q)) here
+      → IsCachedPort g s ev' i w
+      → (k : ℕ) (d : Option P) → k < length s.generators → IsCachedPort g s ev' k (get_or (set xs i w) k d)
+  set_cached_port s ev ev' xs i w l h other here =
+      each_set (IsCachedPort g s ev) (IsCachedPort g s ev') (length s.generators) xs i w l h (λ k z q. cached_port_after s ev ev' k z (other k q)) here
 
 -- ---- the audit
 
-pub audit_tick : (false_table : Option ℕ) (broken : Option Place) (at : Place) (now : Bool) → audit_after (verdict false_table broken) at now ≡ verdict false_table (option_or broken (if now then Some at else None))
+pub audit_tick : (false_table : Option ℕ) (broken : Option TickOfReader) (at : TickOfReader) (now : Bool) → audit_after (verdict false_table broken) at now ≡ verdict false_table (option_or broken (if now then Some at else None))
 audit_tick (Some r) broken at now = refl
 audit_tick None (Some p) at now = refl
 audit_tick None None at true = refl

@@ -37,7 +37,7 @@ pub record IsReady (x : VotedEdges) (n : ℕ) : Type 0 where
 pub record IsAcquiring (x : VotedEdges) (n : ℕ) (h : HoldValue) (count : ℕ) : Type 0 where
   pub unheld : ¬ IsHeld x n
   pub run : IsLongestRun x n count
-  pub few : count < x.own.lock_after
+  pub few : count < x.reader_rules.lock_after
   pub hold : IsTrueHold x.times x.table n h
 
 pub record IsLocked (x : VotedEdges) (n : ℕ) (h : HoldValue) : Type 0 where
@@ -62,9 +62,9 @@ pub data Said (x : VotedEdges) (n : ℕ) (v : UtcSecond) (r : Report) : Type 0 w
   by_vote : IsHeld x (n + 1) → x.voted (n + 1) ≡ true → r ≡ announcement v lock.Locked cause.Voted → Said x n v r
   by_hold : (age : ℕ) → IsHeld x (n + 1) → x.voted (n + 1) ≡ false → IsLastVote x (n + 1) age → r ≡ announcement v (lock.Holdover age) cause.Held → Said x n v r
   by_count : (count : ℕ) → ¬ IsHeld x (n + 1) → x.voted (n + 1) ≡ true → IsLongestRun x (n + 1) count → r ≡ silence (lock.Acquiring count) cause.Acquiring → Said x n v r
-  by_age : (age : ℕ) → ¬ IsHeld x (n + 1) → x.voted (n + 1) ≡ false → IsHeld x n → x.restarted n ≡ false → IsLastVote x n age → x.own.holdover ≤ age
+  by_age : (age : ℕ) → ¬ IsHeld x (n + 1) → x.voted (n + 1) ≡ false → IsHeld x n → x.restarted n ≡ false → IsLastVote x n age → x.reader_rules.holdover ≤ age
       → r ≡ silence lock.Unlocked cause.Expired → Said x n v r
-  by_guard : (age : ℕ) → ¬ IsHeld x (n + 1) → x.voted (n + 1) ≡ false → IsHeld x n → x.restarted n ≡ false → IsLastVote x n age → age < x.own.holdover
+  by_guard : (age : ℕ) → ¬ IsHeld x (n + 1) → x.voted (n + 1) ≡ false → IsHeld x n → x.restarted n ≡ false → IsLastVote x n age → age < x.reader_rules.holdover
       → IsGuard x (n + 1) → r ≡ silence lock.Unlocked cause.LeapGuard → Said x n v r
   by_silence : ¬ IsHeld x (n + 1) → x.voted (n + 1) ≡ false → (IsHeld x n → x.restarted n ≡ false → ⊥) → r ≡ silence lock.Unlocked cause.NoVote → Said x n v r
 
@@ -91,7 +91,7 @@ no_more t n e v h = is_none (second_at t n) v e ((second_is t n v).1 h)
 claimed : (t : TimelineValue) (n : ℕ) (c : Claim) → IsTrueClaim t (n + 1) c → IsSecond t n c.at
 claimed t n c h = let m : h.second.0 ≡ n = omega (arith, h.second.1) in subst (λ (k : ℕ). IsSecond t k c.at) m h.second.2
 
-module _ (x : VotedEdges) (sound : IsTimeline x.times) (table : IsTrueTable x.times x.table) (some : 1 ≤ x.own.lock_after) where
+module _ (x : VotedEdges) (sound : IsTimeline x.times) (table : IsTrueTable x.times x.table) (some : 1 ≤ x.reader_rules.lock_after) where
   -- ---- a tick without a vote where nothing was held
 
   unheld_on : (n : ℕ) → (IsHeld x n → x.restarted n ≡ false → ⊥) → x.voted (n + 1) ≡ false → ¬ IsHeld x (n + 1)
@@ -106,22 +106,22 @@ module _ (x : VotedEdges) (sound : IsTimeline x.times) (table : IsTrueTable x.ti
 
   -- ---- a vote that is counted
 
-  counted_ticks : (n count : ℕ) (h : HoldValue) → (IsHeld x n → x.restarted n ≡ false → ⊥) → x.voted (n + 1) ≡ true → IsLongestRun x (n + 1) count → count ≤ x.own.lock_after
-      → h.age ≡ 0 → IsTrueHold x.times x.table (n + 1) h → Ticked x n (count_step x.own h count)
+  counted_ticks : (n count : ℕ) (h : HoldValue) → (IsHeld x n → x.restarted n ≡ false → ⊥) → x.voted (n + 1) ≡ true → IsLongestRun x (n + 1) count → count ≤ x.reader_rules.lock_after
+      → h.age ≡ 0 → IsTrueHold x.times x.table (n + 1) h → Ticked x n (count_step x.reader_rules h count)
   counted_ticks n count h f v r few age hold =
       let at : second_at x.times (n + 1) ≡ Some h.last = (second_is x.times (n + 1) h.last).1 hold.at in
-      elim (cases_Bool (count == x.own.lock_after)) [
+      elim (cases_Bool (count == x.reader_rules.lock_after)) [
         | inl full ↦
-            let p : count ≡ x.own.lock_after = eqb-true count x.own.lock_after full in
+            let p : count ≡ x.reader_rules.lock_after = eqb-true count x.reader_rules.lock_after full in
             let q : IsHeld x (n + 1) = lock_of_run x (n + 1) (subst (IsRun x (n + 1)) p r.run) in
             let l : IsLastVote x (n + 1) h.age = subst (IsLastVote x (n + 1)) (sym age) (now_last x (n + 1) v) in
             rw full (live h.last at (record { held = q; last = l; hold = hold }) (by_vote q v refl))
         | inr short ↦
-            let p : ¬ (count ≡ x.own.lock_after) = eqb-false count x.own.lock_after short in
+            let p : ¬ (count ≡ x.reader_rules.lock_after) = eqb-false count x.reader_rules.lock_after short in
             let q : ¬ IsHeld x (n + 1) = λ y. elim (cases_lt n y.lock) [
               | inl now ↦
                   let e : y.lock ≡ n + 1 = omega (arith, now, y.before) in
-                  let m : x.own.lock_after ≤ count = r.longest x.own.lock_after (run_of_lock x (n + 1) some y e) in
+                  let m : x.reader_rules.lock_after ≤ count = r.longest x.reader_rules.lock_after (run_of_lock x (n + 1) some y e) in
                   p (omega (arith, m, few))
               | inr before ↦ let d : IsHeld x n × (x.restarted n ≡ false) = held_back x n some y before in f d.0 d.1
             ] in
@@ -151,7 +151,7 @@ module _ (x : VotedEdges) (sound : IsTimeline x.times) (table : IsTrueTable x.ti
       moved_true x.times x.table n h.last v 0 (mark_or c.mark h.heard) hold.at there heard (vote_opens x.times x.table h.last (mark_or c.mark h.heard) heard)
 
   begin_ticks : (n : ℕ) (c : Claim) (o : Option UtcSecond) → second_at x.times (n + 1) ≡ o → IsTrueClaim x.times (n + 1) c → IsReady x n → x.voted (n + 1) ≡ true
-      → Ticked x n (first_vote_step x.own (hold_start x.table c))
+      → Ticked x n (first_vote_step x.reader_rules (hold_start x.table c))
   begin_ticks n c None e claim f v =
       let ends : hold_start x.table c ≡ Err turn.RangeEnd = (started_stops x.times x.table n c sound claim).1.1 (no_more x.times (n + 1) e) in
       rw ends (over cause.RangeEnd e refl refl)
@@ -162,7 +162,7 @@ module _ (x : VotedEdges) (sound : IsTimeline x.times) (table : IsTrueTable x.ti
 
   join_ticks : (n count : ℕ) (h : HoldValue) (c : Claim) (anew : Step) (o : Option UtcSecond) → second_at x.times (n + 1) ≡ o → IsTrueClaim x.times (n + 1) c
       → x.restarted n ≡ false → IsAcquiring x n h count → x.voted (n + 1) ≡ true
-      → Ticked x n (later_vote_step_by x.own count anew (voted_by x.table h c).answer (voted_by x.table h c).new)
+      → Ticked x n (later_vote_step_by x.reader_rules count anew (voted_by x.table h c).answer (voted_by x.table h c).new)
   join_ticks n count h c anew None e claim q f v =
       let ends : (voted_by x.table h c).answer ≡ turn.RangeEnd = (voted_stops x.times x.table n h c sound f.hold.at claim).1.1 (no_more x.times (n + 1) e) in
       rw ends (over cause.RangeEnd e refl refl)
@@ -223,11 +223,11 @@ module _ (x : VotedEdges) (sound : IsTimeline x.times) (table : IsTrueTable x.ti
   abbrev goes_alone : HoldValue → UtcSecond → HoldValue
   goes_alone h v = hold_after h.last (h.age + 1) h.heard v
 
-  alone_ticks : (n : ℕ) (h : HoldValue) (v : UtcSecond) → second_at x.times (n + 1) ≡ Some v → x.restarted n ≡ false → IsLocked x n h → x.voted (n + 1) ≡ false → h.age < x.own.holdover
-      → ¬ IsGuarded x.table h → Ticked x n (holdover_step (alone_by x.table h x.own.holdover))
+  alone_ticks : (n : ℕ) (h : HoldValue) (v : UtcSecond) → second_at x.times (n + 1) ≡ Some v → x.restarted n ≡ false → IsLocked x n h → x.voted (n + 1) ≡ false → h.age < x.reader_rules.holdover
+      → ¬ IsGuarded x.table h → Ticked x n (holdover_step (alone_by x.table h x.reader_rules.holdover))
   alone_ticks n h v e q f u young free =
       let there : IsSecond x.times (n + 1) v = (second_is x.times (n + 1) v).0 e in
-      let goes : alone_by x.table h x.own.holdover ≡ outcome_of h (Ok (goes_alone h v)) = alone_goes x.times x.table n x.own.holdover h v sound table (on_time x.times x.table n h f.hold) there young free in
+      let goes : alone_by x.table h x.reader_rules.holdover ≡ outcome_of h (Ok (goes_alone h v)) = alone_goes x.times x.table n x.reader_rules.holdover h v sound table (on_time x.times x.table n h f.hold) there young free in
       let opens : IsOpen x.table h.last h.heard = λ at end none above. free (record { end = end; late = inl at; unheard = none; above = above }) in
       let y : IsHeld x (n + 1) = held_alone x n h.age some f.held f.last q young (λ g. free (guards n h f g)) in
       let l : IsLastVote x (n + 1) (h.age + 1) = older_last x n h.age f.last u in
@@ -235,47 +235,47 @@ module _ (x : VotedEdges) (sound : IsTimeline x.times) (table : IsTrueTable x.ti
       (record { held = y; last = l; hold = moved_true x.times x.table n h.last v (h.age + 1) h.heard f.hold.at there (λ _. f.hold.heard) opens })
       (by_hold (h.age + 1) y u l refl))
 
-  young_ticks : (n : ℕ) (h : HoldValue) (o : Option UtcSecond) → second_at x.times (n + 1) ≡ o → x.restarted n ≡ false → IsLocked x n h → x.voted (n + 1) ≡ false → h.age < x.own.holdover
-      → Ticked x n (holdover_step (alone_by x.table h x.own.holdover))
+  young_ticks : (n : ℕ) (h : HoldValue) (o : Option UtcSecond) → second_at x.times (n + 1) ≡ o → x.restarted n ≡ false → IsLocked x n h → x.voted (n + 1) ≡ false → h.age < x.reader_rules.holdover
+      → Ticked x n (holdover_step (alone_by x.table h x.reader_rules.holdover))
   young_ticks n h None e q f u young =
-      let ends : (alone_by x.table h x.own.holdover).answer ≡ turn.RangeEnd = (alone_end x.times x.table n x.own.holdover h sound f.hold.at).1 (young, no_more x.times (n + 1) e) in
+      let ends : (alone_by x.table h x.reader_rules.holdover).answer ≡ turn.RangeEnd = (alone_end x.times x.table n x.reader_rules.holdover h sound f.hold.at).1 (young, no_more x.times (n + 1) e) in
       rw ends (over cause.RangeEnd e refl refl)
-  young_ticks n h (Some v) e q f u young = by_answer (alone_by x.table h x.own.holdover).answer refl
+  young_ticks n h (Some v) e q f u young = by_answer (alone_by x.table h x.reader_rules.holdover).answer refl
     where
-      guard : (alone_by x.table h x.own.holdover).answer ≡ turn.LeapGuard → Ticked x n (holdover_step (alone_by x.table h x.own.holdover))
+      guard : (alone_by x.table h x.reader_rules.holdover).answer ≡ turn.LeapGuard → Ticked x n (holdover_step (alone_by x.table h x.reader_rules.holdover))
       guard a =
-          let g : IsGuard x (n + 1) = guarded_at n h f u ((alone_guard x.table h x.own.holdover).0 a).1 in
+          let g : IsGuard x (n + 1) = guarded_at n h f u ((alone_guard x.table h x.reader_rules.holdover).0 a).1 in
           let y : ¬ IsHeld x (n + 1) = not_held_guard x n some g in
           rw a (live v e (idle (n + 1) y u) (by_guard h.age y u f.held q f.last young g refl))
 
-      free : ¬ ((alone_by x.table h x.own.holdover).answer ≡ turn.LeapGuard) → Ticked x n (holdover_step (alone_by x.table h x.own.holdover))
-      free f' = alone_ticks n h v e q f u young (λ g. f' ((alone_guard x.table h x.own.holdover).1 (young, g)))
+      free : ¬ ((alone_by x.table h x.reader_rules.holdover).answer ≡ turn.LeapGuard) → Ticked x n (holdover_step (alone_by x.table h x.reader_rules.holdover))
+      free f' = alone_ticks n h v e q f u young (λ g. f' ((alone_guard x.table h x.reader_rules.holdover).1 (young, g)))
 
-      by_answer : (answer : Turn) → (alone_by x.table h x.own.holdover).answer ≡ answer → Ticked x n (holdover_step (alone_by x.table h x.own.holdover))
+      by_answer : (answer : Turn) → (alone_by x.table h x.reader_rules.holdover).answer ≡ answer → Ticked x n (holdover_step (alone_by x.table h x.reader_rules.holdover))
       by_answer turn.LeapGuard a = guard a
       by_answer (turn.Now w) a = free (λ b. let z : turn.Now w ≡ turn.LeapGuard = sym a ∙ b in cc)
       by_answer turn.Expired a = free (λ b. let z : turn.Expired ≡ turn.LeapGuard = sym a ∙ b in cc)
       by_answer turn.RangeEnd a = free (λ b. let z : turn.RangeEnd ≡ turn.LeapGuard = sym a ∙ b in cc)
       by_answer turn.Jump a = free (λ b. let z : turn.Jump ≡ turn.LeapGuard = sym a ∙ b in cc)
 
-  late_ticks : (n : ℕ) (h : HoldValue) (o : Option UtcSecond) → second_at x.times (n + 1) ≡ o → x.restarted n ≡ false → IsLocked x n h → x.voted (n + 1) ≡ false → x.own.holdover ≤ h.age
+  late_ticks : (n : ℕ) (h : HoldValue) (o : Option UtcSecond) → second_at x.times (n + 1) ≡ o → x.restarted n ≡ false → IsLocked x n h → x.voted (n + 1) ≡ false → x.reader_rules.holdover ≤ h.age
       → Ticked x n (stop_step cause.Expired)
   late_ticks n h None e q f u old = over cause.Expired e refl refl
   late_ticks n h (Some v) e q f u old =
       let y : ¬ IsHeld x (n + 1) = not_held_late x n h.age f.last old u in
       live v e (idle (n + 1) y u) (by_age h.age y u f.held q f.last old refl)
 
-  hold_ticks : (n : ℕ) (h : HoldValue) → x.restarted n ≡ false → IsLocked x n h → x.voted (n + 1) ≡ false → Ticked x n (holdover_step (alone_by x.table h x.own.holdover))
+  hold_ticks : (n : ℕ) (h : HoldValue) → x.restarted n ≡ false → IsLocked x n h → x.voted (n + 1) ≡ false → Ticked x n (holdover_step (alone_by x.table h x.reader_rules.holdover))
   hold_ticks n h q f u =
-      elim (cases_Bool (nat_le x.own.holdover h.age)) [
-        | inl old ↦ rw old (late_ticks n h (second_at x.times (n + 1)) refl q f u (leb-true x.own.holdover h.age old))
-        | inr young ↦ young_ticks n h (second_at x.times (n + 1)) refl q f u (leb-false x.own.holdover h.age young)
+      elim (cases_Bool (nat_le x.reader_rules.holdover h.age)) [
+        | inl old ↦ rw old (late_ticks n h (second_at x.times (n + 1)) refl q f u (leb-true x.reader_rules.holdover h.age old))
+        | inr young ↦ young_ticks n h (second_at x.times (n + 1)) refl q f u (leb-false x.reader_rules.holdover h.age young)
       ]
 
   -- ---- one tick
 
   pub ticks : (n : ℕ) (state : State) (vote : Option Claim) → is_some vote ≡ x.voted (n + 1) → ((c : Claim) → vote ≡ Some c → IsTrueClaim x.times (n + 1) c) → Ready x n state
-      → Ticked x n (step_of x.own x.table state vote)
+      → Ticked x n (step_of x.reader_rules x.table state vote)
   unfolding step_of
   ticks n Idle None e truth f = nothing n (second_at x.times (n + 1)) refl f.unheld (sym e)
   ticks n Idle (Some c) e truth f = begin_ticks n c (second_at x.times (n + 1)) refl (truth c refl) f (sym e)

@@ -68,32 +68,32 @@ is_broken_now s r ev =
     (ports_of (told_at_tick (history_of s r ev)) (redundancy_of (length s.generators))))
 
 -- a tick of a reader
-pub record Place : Type 0 where
+pub record TickOfReader : Type 0 where
   pub reader : ℕ
   pub edge : ℕ
 
 -- tick number edge of the reader
-abbrev pub place : ℕ → ℕ → Place
-place reader edge = record { reader = reader; edge = edge }
+abbrev pub tick_of_reader : ℕ → ℕ → TickOfReader
+tick_of_reader reader edge = record { reader = reader; edge = edge }
 
 -- the first such tick
-abbrev pub first_broken : Setup → List Event → Option Place
+abbrev pub first_broken : Setup → List Event → Option TickOfReader
 first_broken s [] = None
 first_broken s (Tick r ∷ ev) =
     option_or (first_broken s ev)
-    (if is_broken_now s r ev then Some (place r (ticks_of r ev + 1)) else None)
+    (if is_broken_now s r ev then Some (tick_of_reader r (ticks_of r ev + 1)) else None)
 first_broken s (_ ∷ ev) = first_broken s ev
 
 -- ---- the audit
 
 -- a false table goes before a broken place
-abbrev pub verdict : Option ℕ → Option Place → Audit
+abbrev pub verdict : Option ℕ → Option TickOfReader → Audit
 verdict (Some r) at = FalseTable r
 verdict None (Some at) = Broken at.reader at.edge
 verdict None None = Kept
 
 -- the audit once a tick at this place is broken or isn't
-abbrev pub audit_after : Audit → Place → Bool → Audit
+abbrev pub audit_after : Audit → TickOfReader → Bool → Audit
 audit_after Kept at broken = if broken then Broken at.reader at.edge else Kept
 audit_after (Broken r n) at broken = Broken r n
 audit_after (FalseTable r) at broken = FalseTable r

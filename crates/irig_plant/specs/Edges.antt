@@ -76,7 +76,7 @@ pub record IsRestarted (r : ℕ) (ev : List Event) (i : ℕ) : Type 0 where
 -- after which it is restarted
 pub record VotedEdges : Type 0 where
   pub times : TimelineValue
-  pub own : ReaderRules
+  pub reader_rules : ReaderRules
   pub table : TableValue
   pub voted : ℕ → Bool
   pub restarted : ℕ → Bool
@@ -85,7 +85,7 @@ pub record VotedEdges : Type 0 where
 abbrev pub voted_edges_of : Setup → ℕ → List Event → VotedEdges
 voted_edges_of s r ev = record {
   times = s.times;
-  own = (setup_at s.readers r).rules;
+  reader_rules = (setup_at s.readers r).rules;
   table = (setup_at s.readers r).table;
   voted = is_voted s r ev;
   restarted = is_restarted r ev;
@@ -119,11 +119,11 @@ pub record HasVote (x : VotedEdges) (m j limit : ℕ) : Type 0 where
 -- a held edge: the lock was reached at an edge up to it, and never lost since
 pub record IsHeld (x : VotedEdges) (n : ℕ) : Type 0 where
   pub lock : ℕ
-  pub enough : x.own.lock_after ≤ lock
+  pub enough : x.reader_rules.lock_after ≤ lock
   pub before : lock ≤ n
-  pub votes : (i : ℕ) → lock + 1 ≤ i + x.own.lock_after → i ≤ lock → x.voted i ≡ true
-  pub unbroken : (i : ℕ) → lock + 1 ≤ i + x.own.lock_after → i < n → x.restarted i ≡ false
-  pub fresh : (j : ℕ) → lock ≤ j → j ≤ n → HasVote x lock j x.own.holdover
+  pub votes : (i : ℕ) → lock + 1 ≤ i + x.reader_rules.lock_after → i ≤ lock → x.voted i ≡ true
+  pub unbroken : (i : ℕ) → lock + 1 ≤ i + x.reader_rules.lock_after → i < n → x.restarted i ≡ false
+  pub fresh : (j : ℕ) → lock ≤ j → j ≤ n → HasVote x lock j x.reader_rules.holdover
   pub unguarded : (j : ℕ) → lock < j → j ≤ n → ¬ IsGuard x j
 
 -- from a lock at edge m on nothing takes it away up to edge n: no restart, no holdover that ends, no
@@ -131,7 +131,7 @@ pub record IsHeld (x : VotedEdges) (n : ℕ) : Type 0 where
 pub record KeepsLock (x : VotedEdges) (m n : ℕ) : Type 0 where
   pub after : m ≤ n
   pub unbroken : (i : ℕ) → m ≤ i → i < n → x.restarted i ≡ false
-  pub fresh : (j : ℕ) → m ≤ j → j ≤ n → HasVote x m j x.own.holdover
+  pub fresh : (j : ℕ) → m ≤ j → j ≤ n → HasVote x m j x.reader_rules.holdover
   pub unguarded : (j : ℕ) → m < j → j ≤ n → ¬ IsGuard x j
 
 -- the count edges up to n are all voted, and no restart falls between them

@@ -95,14 +95,14 @@ pub record IsCounting (x : VotedEdges) (n : ℕ) (said : Report) : Type 0 where
 pub record IsExpired (x : VotedEdges) (held : Type 0) (n : ℕ) (said : Report) : Type 0 where
   pub unvoted : x.voted n ≡ false
   pub was_held : held
-  pub none : NoneWithin x n x.own.holdover
+  pub none : NoneWithin x n x.reader_rules.holdover
   pub report : said ≡ silence lock.Unlocked cause.Expired
 
 -- it was held, an edge of its holdover is voted, and the guard stopped it, at a guard edge
 pub record IsStopped (x : VotedEdges) (held : Type 0) (n : ℕ) (said : Report) : Type 0 where
   pub unvoted : x.voted n ≡ false
   pub was_held : held
-  pub some : SomeWithin x n x.own.holdover
+  pub some : SomeWithin x n x.reader_rules.holdover
   pub guard : IsGuard x n
   pub report : said ≡ silence lock.Unlocked cause.LeapGuard
 

@@ -31,8 +31,8 @@ pub record IsHealthyPlant (s : Setup) : Type 0 where
 
 -- what a reader with these rules says at edge n: it counts until it locks, then it tells T(n)
 abbrev pub healthy_report : TimelineValue → ReaderRules → ℕ → Report
-healthy_report t own n =
-    if nat_lt n own.lock_after then silence (lock.Acquiring n) cause.Acquiring
+healthy_report t reader_rules n =
+    if nat_lt n reader_rules.lock_after then silence (lock.Acquiring n) cause.Acquiring
     else record { announce = second_at t n; lock = lock.Locked; cause = cause.Voted }
 
 -- what is logged of reader r at edge n

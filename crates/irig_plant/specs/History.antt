@@ -90,10 +90,10 @@ with_told_kept h = record (with_cleared_log h) { keeps_told = true }
 abbrev pub told_kept : PlantHistory → List ToldEntry
 told_kept h = if h.keeps_told then drop h.shown (told_log_of h.setup h.events) else []
 
--- a wave of generator k, if there is one: a port that heard just what the generator now sends
-abbrev pub IsWave : {P : Type 0} (g : Ghosts P) → Setup → List Event → ℕ → Option P → Type 0
-IsWave g s ev k None = ⊤
-IsWave g s ev k (Some port) = g.stands_for port s.rules (symbols_heard (pulses_sent s k ev))
+-- a cached port of generator k, if there is one: a port that heard just what the generator now sends
+abbrev pub IsCachedPort : {P : Type 0} (g : Ghosts P) → Setup → List Event → ℕ → Option P → Type 0
+IsCachedPort g s ev k None = ⊤
+IsCachedPort g s ev k (Some port) = g.stands_for port s.rules (symbols_heard (pulses_sent s k ev))
 
 -- the plant is where its history leaves it
 pub record HasPlantHistory {P : Type 0} {g : Ghosts P} (p : Plant P g)
@@ -104,8 +104,8 @@ pub record HasPlantHistory {P : Type 0} {g : Ghosts P} (p : Plant P g)
   pub generator_count : vec_len p.generators ≡ length h.setup.generators
   pub generators : (k : ℕ) (d : GeneratorValue) → k < length h.setup.generators
       → slice_index_or p.generators.items k d ≡ generator_at h.setup k h.events
-  pub waves : (k : ℕ) (d : Option P) → k < length h.setup.generators
-      → IsWave g h.setup h.events k (slice_index_or p.waves.items k d)
+  pub cached_ports : (k : ℕ) (d : Option P) → k < length h.setup.generators
+      → IsCachedPort g h.setup h.events k (slice_index_or p.cached_ports.items k d)
   pub reader_count : vec_len p.readers ≡ length h.setup.readers
   pub readers : (r : ℕ) (d : TickedReader P g) → r < length h.setup.readers
       → IsTickedReaderAt h.setup h.events r (slice_index_or p.readers.items r d)

@@ -147,7 +147,7 @@ setup_at readers r = slice_index_or readers r no_reader
 abbrev pub history_with : Setup → ℕ → Fed → List (Option Claim) → ReaderHistory
 history_with s r fed votes = record {
   rules = s.rules;
-  own = (setup_at s.readers r).rules;
+  reader_rules = (setup_at s.readers r).rules;
   table = (setup_at s.readers r).table;
   redundancy = redundancy_of (length s.generators);
   fed = fed;

@@ -71,22 +71,31 @@ fn agrees(said: Mark, leap: Option<Leap>) -> bool
     }
 }
 
+/// A tick of a reader.
+#[derive(Clone, Copy)]
+pub(crate) struct TickOfReader {
+    /// The reader's number, from 0.
+    pub reader: u8,
+    /// The number of the edge, from 1.
+    pub edge: u64,
+}
+
 pub(crate) fn audit_after(
     audit: Audit,
-    place: (u8, u64),
+    tick: TickOfReader,
     truth: Claim,
     told: &Tells,
     redundancy: Redundancy,
 ) -> Audit
-    ensures { result ≡ audits.audit_after audit (audits.place place.0 place.1)
+    ensures { result ≡ audits.audit_after audit (audits.tick_of_reader tick.reader tick.edge)
         (nat_lt (f_of redundancy)
         (audits.untrue_ports (Some truth) (ports_of told.now redundancy))) }
 {
     let is_broken = untrue_ports(truth, told, redundancy) > redundancy.f();
     match audit {
         Audit::Kept if is_broken => Audit::Broken {
-            reader: place.0,
-            edge: place.1,
+            reader: tick.reader,
+            edge: tick.edge,
         },
         _ => audit,
     }

@@ -2,7 +2,7 @@
 
 ghost use Rattle.std.specs.Prelude.{◌≡◌, ◌<◌, ◌≤◌, ◌+◌, [], IfErr, OnOk, OnErr, unwrap_or, vec_len, Some, None};
 
-use crate::audit::audit_after;
+use crate::audit::{TickOfReader, audit_after};
 use crate::entry::Entry;
 use crate::event::{Event, Widths};
 use crate::fault::PlantFault;
@@ -26,7 +26,7 @@ impl<P: Port> Plant<P> {
         }
         let generator = &mut self.generators[g as usize];
         generator.step();
-        self.waves[g as usize] = None;
+        self.cached_ports[g as usize] = None;
         Ok(())
     }
 
@@ -59,7 +59,8 @@ impl<P: Port> Plant<P> {
             told: ticked.told,
             truth: Some(truth),
         });
-        self.audit = audit_after(self.audit, (r, edge), truth, &ticked.told, self.redundancy);
+        let tick = TickOfReader { reader: r, edge };
+        self.audit = audit_after(self.audit, tick, truth, &ticked.told, self.redundancy);
         Ok(())
     }
 
@@ -67,7 +68,7 @@ impl<P: Port> Plant<P> {
         ensures { Does self.old (Event.Carry g r) self.new result }
     {
         self.has_port(g, r)?;
-        if !self.carry_wave(g, r) {
+        if !self.carry_cached_port(g, r) {
             let sent = self.sent(g);
             self.deliver(g, r, pulses(&sent));
         }
@@ -109,7 +110,7 @@ impl<P: Port> Plant<P> {
         self.has_generator(g)?;
         let generator = &mut self.generators[g as usize];
         generator.fault(kind);
-        self.waves[g as usize] = None;
+        self.cached_ports[g as usize] = None;
         Ok(())
     }
 
@@ -119,7 +120,7 @@ impl<P: Port> Plant<P> {
         self.has_generator(g)?;
         let generator = &mut self.generators[g as usize];
         generator.repair();
-        self.waves[g as usize] = None;
+        self.cached_ports[g as usize] = None;
         Ok(())
     }
 

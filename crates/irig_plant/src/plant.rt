@@ -27,13 +27,13 @@ pub struct Plant<P: Port> {
     pub(crate) redundancy: Redundancy,
     pub(crate) generators: Vec<Generator>,
     /// For each generator a port that heard just what it now sends, once that was carried.
-    pub(crate) waves: Vec<Option<P>>,
+    pub(crate) cached_ports: Vec<Option<P>>,
     pub(crate) readers: Vec<TickedReader<P>>,
     pub(crate) log: Vec<Entry>,
     pub(crate) told: ToldLog,
     pub(crate) audit: Audit,
     ghost fed: { vec_len generators ≡ ports_in redundancy },
-    ghost carried: { vec_len waves ≡ vec_len generators },
+    ghost carried: { vec_len cached_ports ≡ vec_len generators },
     ghost wired: { All (λ x. x.reader.redundancy ≡ redundancy) readers.items },
     ghost timed: { timeline_fault timeline.start timeline.leaps ≡ None },
     ghost sound: { ∥ All IsSound log.items ∥₁ },
@@ -71,14 +71,14 @@ impl<P: Port> Plant<P> {
     {
         let redundancy = Redundancy::of_ports(generators.len());
         let audit = first_audit(&timeline, readers);
-        let waves = Self::new_waves(alloc, generators.len())?;
+        let cached_ports = Self::no_cached_ports(alloc, generators.len())?;
         let ticked = Self::new_readers(alloc, rules, redundancy, readers)?;
         Ok(Plant {
             timeline,
             rules,
             redundancy,
             generators,
-            waves,
+            cached_ports,
             readers: ticked,
             log: Vec::new(alloc),
             told: ToldLog::new(alloc),
@@ -87,15 +87,15 @@ impl<P: Port> Plant<P> {
     }
 
     // So many generators of which nothing was carried.
-    fn new_waves(alloc: Global, count: usize) -> Result<Vec<Option<P>>, AllocError>
-        ensures count { IfOk result (λ waves. vec_len waves ≡ count) }
-        ensures none { IfOk result (λ waves. All (λ wave. wave ≡ None) waves.items) }
+    fn no_cached_ports(alloc: Global, count: usize) -> Result<Vec<Option<P>>, AllocError>
+        ensures count { IfOk result (λ cached_ports. vec_len cached_ports ≡ count) }
+        ensures none { IfOk result (λ cached_ports. All (λ cached_port. cached_port ≡ None) cached_ports.items) }
     {
-        let mut waves = Vec::new(alloc);
+        let mut cached_ports = Vec::new(alloc);
         for _ in 0..count {
-            waves.push(None)?;
+            cached_ports.push(None)?;
         }
-        Ok(waves)
+        Ok(cached_ports)
     }
 
     fn new_readers(

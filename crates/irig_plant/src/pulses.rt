@@ -46,7 +46,7 @@ impl<P: Port> Plant<P> {
 
     // What a generator sends comes to a port at once, if that is empty, from a port that heard it.
     // The pulses are so taken once, and not by each reader. Answers whether the port was empty.
-    pub(crate) fn carry_wave(&mut self, g: u8, r: u8) -> bool
+    pub(crate) fn carry_cached_port(&mut self, g: u8, r: u8) -> bool
         requires generator { g < vec_len self.old.generators }
         requires reader { r < vec_len self.old.readers }
         ensures carried { result ≡ true → Follows self.old (Event.Carry g r) self.new }
@@ -54,35 +54,35 @@ impl<P: Port> Plant<P> {
         ensures generators { vec_len self.new.generators ≡ vec_len self.old.generators }
         ensures readers { vec_len self.new.readers ≡ vec_len self.old.readers }
     {
-        self.make_wave(g);
-        let Some(wave) = &mut self.waves[g as usize] else {
+        self.cache_port(g);
+        let Some(cached_port) = &mut self.cached_ports[g as usize] else {
             return false;
         };
         let ticked_reader = &mut self.readers[r as usize];
-        ticked_reader.reader.take_over(g, wave)
+        ticked_reader.reader.take_over(g, cached_port)
     }
 
-    fn make_wave(&mut self, g: u8)
+    fn cache_port(&mut self, g: u8)
         requires { g < vec_len self.old.generators }
         ensures same { Keeps self.old self.new }
         ensures generators { vec_len self.new.generators ≡ vec_len self.old.generators }
         ensures readers { vec_len self.new.readers ≡ vec_len self.old.readers }
     {
-        if self.waves[g as usize].is_none() {
-            let wave = match self.first_wave(g) {
-                Some(wave) => wave,
-                None => self.new_wave(g),
+        if self.cached_ports[g as usize].is_none() {
+            let cached_port = match self.first_cached_port(g) {
+                Some(cached_port) => cached_port,
+                None => self.new_cached_port(g),
             };
-            self.waves[g as usize] = Some(wave);
+            self.cached_ports[g as usize] = Some(cached_port);
         }
     }
 
-    // A copy of the first generator's wave, if this one sends the same.
-    fn first_wave(&mut self, g: u8) -> Option<P>
+    // A copy of the first generator's cached port, if this one sends the same.
+    fn first_cached_port(&mut self, g: u8) -> Option<P>
         requires { g < vec_len self.old.generators }
         ensures same { Keeps self.old self.new }
-        ensures wave { IfSome result (λ wave. ForHistory self.old (λ h.
-            P.stands_for wave h.setup.rules (symbols_heard (pulses_sent h.setup g h.events)))) }
+        ensures cached_port { IfSome result (λ cached_port. ForHistory self.old (λ h.
+            P.stands_for cached_port h.setup.rules (symbols_heard (pulses_sent h.setup g h.events)))) }
         ensures generators { vec_len self.new.generators ≡ vec_len self.old.generators }
         ensures readers { vec_len self.new.readers ≡ vec_len self.old.readers }
     {
@@ -90,23 +90,23 @@ impl<P: Port> Plant<P> {
         if !self.generators[0].sends_as(generator, &self.timeline) {
             return None;
         }
-        let first = self.waves[0].as_mut()?;
-        let mut wave = P::fresh(self.rules);
-        wave.take_over(first);
-        Some(wave)
+        let first = self.cached_ports[0].as_mut()?;
+        let mut cached_port = P::fresh(self.rules);
+        cached_port.take_over(first);
+        Some(cached_port)
     }
 
     // A port that heard what a generator now sends.
-    fn new_wave(&self, g: u8) -> P
+    fn new_cached_port(&self, g: u8) -> P
         requires { g < vec_len self.now.generators }
         ensures { ForHistory self.now (λ h.
             P.stands_for result h.setup.rules (symbols_heard (pulses_sent h.setup g h.events))) }
     {
-        let mut wave = P::fresh(self.rules);
+        let mut cached_port = P::fresh(self.rules);
         if let Some(frame) = self.generators[g as usize].frame(&self.timeline) {
-            take_frame(&mut wave, &frame);
+            take_frame(&mut cached_port, &frame);
         }
-        wave
+        cached_port
     }
 }
 

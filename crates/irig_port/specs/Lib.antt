@@ -5,4 +5,3 @@ pub mod Bits
 pub mod Tallies
 pub mod Numbers
 pub mod Damage
-pub mod Words

@@ -8,4 +8,4 @@ use Rattle.irig_port.specs.Tallies.{IsTallyOf}
 -- the port works by these rules, and its numbers are those of these symbols
 pub record Numbers (p : FlowPort) (rules : Rules) (s : List Symbol) : Type 0 where
   pub ruled : p.rules ≡ rules
-  pub numbers : IsTallyOf p.heard s
+  pub numbers : IsTallyOf p.tally s

@@ -17,13 +17,13 @@ use irig_time::Rules;
 #[derive(Drop)]
 pub struct FlowPort {
     rules: Rules,
-    heard: Tally,
+    tally: Tally,
     /// What the port tells, where it was worked out since the last pulse.
-    known: Option<Told>,
-    ghost few: { heard.count ≤ 101 },
-    ghost whole: { ForSome known (λ told. heard.count ≡ 100) },
-    ghost right: { ForSome known (λ told. told ≡ tally_told rules heard) },
-    ghost valid: { ForSome known (λ told. ∥ IfClaim told (λ claim. IsValid claim.at) ∥₁) },
+    cached: Option<Told>,
+    ghost few: { tally.count ≤ 101 },
+    ghost whole: { ForSome cached (λ told. tally.count ≡ 100) },
+    ghost right: { ForSome cached (λ told. told ≡ tally_told rules tally) },
+    ghost valid: { ForSome cached (λ told. ∥ IfClaim told (λ claim. IsValid claim.at) ∥₁) },
 }
 
 impl Port for FlowPort {
@@ -34,17 +34,17 @@ impl Port for FlowPort {
     fn fresh(rules: Rules) -> Self {
         FlowPort {
             rules,
-            heard: Tally::none(),
-            known: None,
+            tally: Tally::none(),
+            cached: None,
         }
     }
 
     #[inline]
     fn pulse(&mut self, width_us: u32) {
-        if self.heard.count == 100 {
-            self.known = None;
+        if self.tally.count == 100 {
+            self.cached = None;
         }
-        self.heard.add(width_us);
+        self.tally.add(width_us);
     }
 
     fn edge(&mut self) -> Told {
@@ -57,18 +57,18 @@ impl Port for FlowPort {
     }
 
     fn clear(&mut self) {
-        self.heard = Tally::none();
-        self.known = None;
+        self.tally = Tally::none();
+        self.cached = None;
     }
 
     fn is_empty(&self) -> bool {
-        self.heard.count == 0
+        self.tally.count == 0
     }
 
     fn take_over(&mut self, other: &mut Self) {
         other.work_out();
-        self.heard = other.heard;
-        self.known = other.known_by(self.rules);
+        self.tally = other.tally;
+        self.cached = other.cached_by(self.rules);
     }
 }
 
@@ -80,21 +80,21 @@ impl FlowPort {
             → result ≡ told_of rules s }
         ensures valid { IfClaim result (λ claim. IsValid claim.at) }
     {
-        match self.known {
+        match self.cached {
             Some(told) => told,
-            None => self.heard.tell(&self.rules),
+            None => self.tally.tell(&self.rules),
         }
     }
 
     // What a frame tells by these rules, where that was worked out.
-    fn known_by(&self, rules: Rules) -> Option<Told>
-        ensures whole { ForSome result (λ told. self.now.heard.count ≡ 100) }
-        ensures right { ForSome result (λ told. told ≡ tally_told rules self.now.heard) }
+    fn cached_by(&self, rules: Rules) -> Option<Told>
+        ensures whole { ForSome result (λ told. self.now.tally.count ≡ 100) }
+        ensures right { ForSome result (λ told. told ≡ tally_told rules self.now.tally) }
         ensures valid { ForSome result
             (λ told. ∥ IfClaim told (λ claim. IsValid claim.at) ∥₁) }
     {
         if self.rules == rules {
-            self.known
+            self.cached
         } else {
             None
         }
@@ -105,8 +105,8 @@ impl FlowPort {
         ensures { (rules : Rules) (s : List Symbol) → Numbers self.old rules s
             → Numbers self.new rules s }
     {
-        if self.heard.count == 100 && self.known.is_none() {
-            self.known = Some(self.heard.tell(&self.rules));
+        if self.tally.count == 100 && self.cached.is_none() {
+            self.cached = Some(self.tally.tell(&self.rules));
         }
     }
 }

@@ -14,7 +14,6 @@ mod tally;
 mod told;
 mod verdict;
 mod whole;
-mod words;
 
 pub use flow::FlowPort;
 pub use laws::{carries_is_told, cut_at_101, one_damaged_pulse, telling_of_reading};
@@ -22,4 +21,3 @@ pub use port::Port;
 pub use tally::{FirstFault, Tally};
 pub use told::{PortFault, Told};
 pub use whole::WholePort;
-pub use words::{Detail, mark_word};

@@ -60,11 +60,11 @@ nothing = table 0 []
 
 -- what is said at each of these votes, the oldest first, after those before, the newest first
 abbrev reports_after : ReaderRules → TableValue → List (Option Claim) → List (Option Claim) → List Report
-reports_after own table before [] = []
-reports_after own table before (vote ∷ votes) = report_of own table vote before ∷ reports_after own table (vote ∷ before) votes
+reports_after reader_rules table before [] = []
+reports_after reader_rules table before (vote ∷ votes) = report_of reader_rules table vote before ∷ reports_after reader_rules table (vote ∷ before) votes
 
 abbrev reports : ReaderRules → TableValue → List (Option Claim) → List Report
-reports own table votes = reports_after own table [] votes
+reports reader_rules table votes = reports_after reader_rules table [] votes
 
 abbrev says : Option UtcSecond → Lock → Cause → Report
 says announce lock cause = record { announce = announce; lock = lock; cause = cause }
@@ -88,51 +88,51 @@ abbrev hold : ℕ → ℕ → HoldValue
 hold sod age = hold_value (at 36523 sod) age Unspoken
 
 -- where a second of that day follows
-module _ (own : ReaderRules) (sod : ℕ) (room : nat_lt sod 86399 ≡ true) where
+module _ (reader_rules : ReaderRules) (sod : ℕ) (room : nat_lt sod 86399 ≡ true) where
   -- the first vote
-  first : step_of own nothing Idle (vote sod) ≡ count_step own (hold (sod + 1) 0) 1
+  first : step_of reader_rules nothing Idle (vote sod) ≡ count_step reader_rules (hold (sod + 1) 0) 1
   unfolding step_of
   first = rw (last_day, room) refl
 
   -- one that follows
-  further : (age count : ℕ) → step_of own nothing (Acquiring (hold sod age) count) (vote sod) ≡ count_step own (hold (sod + 1) 0) (count + 1)
+  further : (age count : ℕ) → step_of reader_rules nothing (Acquiring (hold sod age) count) (vote sod) ≡ count_step reader_rules (hold (sod + 1) 0) (count + 1)
   unfolding step_of
   further age count = rw (eq-eqb sod sod refl, last_day, room) refl
 
   -- one for another second begins anew
-  anew : (from age count : ℕ) → sod == from ≡ false → step_of own nothing (Acquiring (hold from age) count) (vote sod) ≡ count_step own (hold (sod + 1) 0) 1
+  anew : (from age count : ℕ) → sod == from ≡ false → step_of reader_rules nothing (Acquiring (hold from age) count) (vote sod) ≡ count_step reader_rules (hold (sod + 1) 0) 1
   unfolding step_of
   anew from age count other = rw (other, last_day, room) refl
 
   -- one that follows, of a locked reader
-  next : (age : ℕ) → step_of own nothing (Locked (hold sod age)) (vote sod) ≡ announce_step (hold (sod + 1) 0) (at 36523 (sod + 1)) lock.Locked cause.Voted
+  next : (age : ℕ) → step_of reader_rules nothing (Locked (hold sod age)) (vote sod) ≡ announce_step (hold (sod + 1) 0) (at 36523 (sod + 1)) lock.Locked cause.Voted
   unfolding step_of
   next age = rw (eq-eqb sod sod refl, last_day, room) refl
 
   -- none, of a locked reader within its limit
-  over : (age : ℕ) → nat_le own.holdover age ≡ false
-      → step_of own nothing (Locked (hold sod age)) lost ≡ announce_step (hold (sod + 1) (age + 1)) (at 36523 (sod + 1)) (lock.Holdover (age + 1)) cause.Held
+  over : (age : ℕ) → nat_le reader_rules.holdover age ≡ false
+      → step_of reader_rules nothing (Locked (hold sod age)) lost ≡ announce_step (hold (sod + 1) (age + 1)) (at 36523 (sod + 1)) (lock.Holdover (age + 1)) cause.Held
   unfolding step_of
   over age low = rw (low, last_day, room) refl
 
 -- whatever follows
-module _ (own : ReaderRules) where
+module _ (reader_rules : ReaderRules) where
   -- no vote, of a reader that has nothing, and of one that acquires
-  idle : step_of own nothing Idle lost ≡ stop_step cause.NoVote
+  idle : step_of reader_rules nothing Idle lost ≡ stop_step cause.NoVote
   unfolding step_of
   idle = refl
 
-  unlocked : (h : HoldValue) (count : ℕ) → step_of own nothing (Acquiring h count) lost ≡ stop_step cause.NoVote
+  unlocked : (h : HoldValue) (count : ℕ) → step_of reader_rules nothing (Acquiring h count) lost ≡ stop_step cause.NoVote
   unfolding step_of
   unlocked h count = refl
 
   -- a vote for another second, of a locked reader
-  jump : (from sod age : ℕ) → sod == from ≡ false → step_of own nothing (Locked (hold from age)) (vote sod) ≡ stop_step cause.Jump
+  jump : (from sod age : ℕ) → sod == from ≡ false → step_of reader_rules nothing (Locked (hold from age)) (vote sod) ≡ stop_step cause.Jump
   unfolding step_of
   jump from sod age other = rw other refl
 
   -- none, of a locked reader at its limit
-  expired : (h : HoldValue) → nat_le own.holdover h.age ≡ true → step_of own nothing (Locked h) lost ≡ stop_step cause.Expired
+  expired : (h : HoldValue) → nat_le reader_rules.holdover h.age ≡ true → step_of reader_rules nothing (Locked h) lost ≡ stop_step cause.Expired
   unfolding step_of
   expired h late = rw late refl
 
@@ -233,8 +233,8 @@ module _ (history : ReaderHistory) where
   restart = (refl, refl, refl, refl)
 
   -- so it is as at first
-  pub restart_state : (own : ReaderRules) → state_of own nothing (after_restart history).votes ≡ Idle
-  restart_state own = refl
+  pub restart_state : (reader_rules : ReaderRules) → state_of reader_rules nothing (after_restart history).votes ≡ Idle
+  restart_state reader_rules = refl
 
   -- what comes to a port is heard in its order, and at no other port
   pub ports : map (λ port. (after_pulse (after_pulse fresh port 5000) port 2000).fed.b) (0 ∷ 1 ∷ 2 ∷ 3 ∷ 4 ∷ []) ≡ [] ∷ (5000 ∷ 2000 ∷ []) ∷ [] ∷ [] ∷ [] ∷ []

@@ -28,7 +28,7 @@ no_pulses = record { a = []; b = []; c = []; d = []; e = [] }
 -- last restart, the newest first
 pub record ReaderHistory : Type 0 where
   pub rules : Rules
-  pub own : ReaderRules
+  pub reader_rules : ReaderRules
   pub table : TableValue
   pub redundancy : Redundancy
   pub fed : Fed
@@ -36,9 +36,9 @@ pub record ReaderHistory : Type 0 where
 
 -- nothing has happened to it
 abbrev pub new_history : Rules → ReaderRules → TableValue → Redundancy → ReaderHistory
-new_history rules own table redundancy = record {
+new_history rules reader_rules table redundancy = record {
   rules = rules;
-  own = own;
+  reader_rules = reader_rules;
   table = table;
   redundancy = redundancy;
   fed = no_pulses;
@@ -91,7 +91,7 @@ vote_at_tick history = vote_of (told_at_tick history) history.redundancy
 
 -- what the reader then says
 abbrev pub report_at_tick : ReaderHistory → Report
-report_at_tick history = report_of history.own history.table (vote_at_tick history) history.votes
+report_at_tick history = report_of history.reader_rules history.table (vote_at_tick history) history.votes
 
 -- the history after a tick
 abbrev pub after_tick : ReaderHistory → ReaderHistory

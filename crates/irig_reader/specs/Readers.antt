@@ -15,10 +15,10 @@ pub record HasReaderHistory {P : Type 0} {g : Ghosts P} (reader : Reader P g)
   pub c : g.stands_for reader.c history.rules (symbols_heard history.fed.c)
   pub d : g.stands_for reader.d history.rules (symbols_heard history.fed.d)
   pub e : g.stands_for reader.e history.rules (symbols_heard history.fed.e)
-  pub own : reader.own ≡ history.own
+  pub reader_rules : reader.reader_rules ≡ history.reader_rules
   pub table : reader.table ≡ history.table
   pub redundancy : reader.redundancy ≡ history.redundancy
-  pub state : reader.state ≡ state_of history.own history.table history.votes
+  pub state : reader.state ≡ state_of history.reader_rules history.table history.votes
 
 -- a fact of each history that the reader may have
 abbrev pub ForReaderHistory : {P : Type 0} {g : Ghosts P} → Reader P g → (ReaderHistory → Type 0)

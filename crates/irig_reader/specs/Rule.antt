@@ -43,8 +43,8 @@ cause_of turn.Jump = cause.Jump
 
 -- so many votes that followed one another, the last of which led to this hold
 abbrev pub count_step : ReaderRules → HoldValue → ℕ → Step
-count_step own h count =
-    if count == own.lock_after then announce_step h h.last lock.Locked cause.Voted
+count_step reader_rules h count =
+    if count == reader_rules.lock_after then announce_step h h.last lock.Locked cause.Voted
     else record {
       state = Acquiring h count;
       report = record { announce = None; lock = lock.Acquiring count; cause = cause.Acquiring };
@@ -52,21 +52,21 @@ count_step own h count =
 
 -- the first vote
 abbrev pub first_vote_step : ReaderRules → Result HoldValue Turn → Step
-first_vote_step own (Ok h) = count_step own h 1
-first_vote_step own (Err stop) = stop_step (cause_of stop)
+first_vote_step reader_rules (Ok h) = count_step reader_rules h 1
+first_vote_step reader_rules (Err stop) = stop_step (cause_of stop)
 
 -- a further vote, by what the hold answers to it; a jump begins anew
 abbrev pub later_vote_step_by : ReaderRules → ℕ → Step → Turn → HoldValue → Step
-later_vote_step_by own count anew (turn.Now u) h = count_step own h (count + 1)
-later_vote_step_by own count anew turn.Jump h = anew
-later_vote_step_by own count anew turn.LeapGuard h = stop_step cause.LeapGuard
-later_vote_step_by own count anew turn.Expired h = stop_step cause.Expired
-later_vote_step_by own count anew turn.RangeEnd h = stop_step cause.RangeEnd
+later_vote_step_by reader_rules count anew (turn.Now u) h = count_step reader_rules h (count + 1)
+later_vote_step_by reader_rules count anew turn.Jump h = anew
+later_vote_step_by reader_rules count anew turn.LeapGuard h = stop_step cause.LeapGuard
+later_vote_step_by reader_rules count anew turn.Expired h = stop_step cause.Expired
+later_vote_step_by reader_rules count anew turn.RangeEnd h = stop_step cause.RangeEnd
 
 -- a further vote: the hold answers it, or it is the first one again
 abbrev pub later_vote_step : ReaderRules → TableValue → HoldValue → ℕ → Claim → Step
-later_vote_step own table h count c =
-    later_vote_step_by own count (first_vote_step own (hold_start table c))
+later_vote_step reader_rules table h count c =
+    later_vote_step_by reader_rules count (first_vote_step reader_rules (hold_start table c))
     (voted_by table h c).answer (voted_by table h c).new
 
 -- locked, by what the hold answers: it announces that second with this lock and cause, or stops
@@ -87,18 +87,18 @@ holdover_step o = locked_step (lock.Holdover o.new.age) cause.Held o.answer o.ne
 
 -- one edge: what becomes of the state by the vote, and what is said
 unfoldable pub step_of : ReaderRules → TableValue → State → Option Claim → Step
-step_of own table Idle None = stop_step cause.NoVote
-step_of own table Idle (Some c) = first_vote_step own (hold_start table c)
-step_of own table (Acquiring h count) None = stop_step cause.NoVote
-step_of own table (Acquiring h count) (Some c) = later_vote_step own table h count c
-step_of own table (Locked h) (Some c) = locked_vote_step (voted_by table h c)
-step_of own table (Locked h) None = holdover_step (alone_by table h own.holdover)
+step_of reader_rules table Idle None = stop_step cause.NoVote
+step_of reader_rules table Idle (Some c) = first_vote_step reader_rules (hold_start table c)
+step_of reader_rules table (Acquiring h count) None = stop_step cause.NoVote
+step_of reader_rules table (Acquiring h count) (Some c) = later_vote_step reader_rules table h count c
+step_of reader_rules table (Locked h) (Some c) = locked_vote_step (voted_by table h c)
+step_of reader_rules table (Locked h) None = holdover_step (alone_by table h reader_rules.holdover)
 
 -- the state after some votes, the newest first
 abbrev pub state_of : ReaderRules → TableValue → List (Option Claim) → State
-state_of own table [] = Idle
-state_of own table (vote ∷ votes) = (step_of own table (state_of own table votes) vote).state
+state_of reader_rules table [] = Idle
+state_of reader_rules table (vote ∷ votes) = (step_of reader_rules table (state_of reader_rules table votes) vote).state
 
 -- the report of a vote after some votes, the newest first
 abbrev pub report_of : ReaderRules → TableValue → Option Claim → List (Option Claim) → Report
-report_of own table vote votes = (step_of own table (state_of own table votes) vote).report
+report_of reader_rules table vote votes = (step_of reader_rules table (state_of reader_rules table votes) vote).report

@@ -3,6 +3,6 @@ use Rattle.std.specs.Prelude.{◌≤◌}
 use Rattle.irig_reader.specs.declared.rules.ReaderRules.{ReaderRules}
 
 -- the votes before the lock, and the edges of a holdover
-pub record IsReaderRules (own : ReaderRules) : Type 0 where
-  pub lock_after : (1 ≤ own.lock_after) × (own.lock_after ≤ 60)
-  pub holdover : own.holdover ≤ 1000000
+pub record IsReaderRules (reader_rules : ReaderRules) : Type 0 where
+  pub lock_after : (1 ≤ reader_rules.lock_after) × (reader_rules.lock_after ≤ 60)
+  pub holdover : reader_rules.holdover ≤ 1000000

@@ -35,11 +35,11 @@ pub struct Reader<P: Port> {
     c: P,
     d: P,
     e: P,
-    own: ReaderRules,
+    reader_rules: ReaderRules,
     table: LeapTable,
     pub(crate) redundancy: Redundancy,
     state: State,
-    ghost counting: { count_of state < own.lock_after },
+    ghost counting: { count_of state < reader_rules.lock_after },
 }
 
 impl<P: Port> Reader<P> {
@@ -47,9 +47,14 @@ impl<P: Port> Reader<P> {
     ghost use Rattle.irig_reader.specs.Readers.{Advances, ForReaderHistory, HasReaderHistory};
 
     /// A reader to which nothing has happened, with rules that are [`in_range`](crate::in_range).
-    pub fn fresh(rules: Rules, own: ReaderRules, table: LeapTable, redundancy: Redundancy) -> Self
-        requires { IsReaderRules own }
-        ensures unfed { HasReaderHistory result (new_history rules own table redundancy) }
+    pub fn fresh(
+        rules: Rules,
+        reader_rules: ReaderRules,
+        table: LeapTable,
+        redundancy: Redundancy,
+    ) -> Self
+        requires { IsReaderRules reader_rules }
+        ensures unfed { HasReaderHistory result (new_history rules reader_rules table redundancy) }
         ensures ports { result.redundancy ≡ redundancy }
     {
         Reader {
@@ -58,7 +63,7 @@ impl<P: Port> Reader<P> {
             c: P::fresh(rules),
             d: P::fresh(rules),
             e: P::fresh(rules),
-            own,
+            reader_rules,
             table,
             redundancy,
             state: State::Idle,
@@ -136,7 +141,7 @@ impl<P: Port> Reader<P> {
         };
         let vote = vote(&told, self.redundancy);
         let state = mem::replace(&mut self.state, State::Idle);
-        let step = act(self.own, &self.table, state, vote);
+        let step = act(self.reader_rules, &self.table, state, vote);
         self.state = step.state;
         Ticked {
             report: step.report,

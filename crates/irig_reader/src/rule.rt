@@ -35,31 +35,42 @@ pub struct Step {
 /// The rules are [`in_range`](crate::in_range), the vote is for a [`valid`](irig_time::valid)
 /// second, and a reader that is acquiring had fewer votes than it locks after.
 #[tactic(auto, unfolding(crate::specs::Rule::step_of))]
-pub fn act<T: Leaps>(own: ReaderRules, table: &T, state: State, vote: Option<Claim>) -> Step
+pub fn act<T: Leaps>(
+    reader_rules: ReaderRules,
+    table: &T,
+    state: State,
+    vote: Option<Claim>,
+) -> Step
     requires valid { IfSome vote (λ claim. IsValid claim.at) }
-    requires counting { rule.count_of state < own.lock_after }
-    ensures step { result ≡ rule.step_of own (T.says table.now) state vote }
-    ensures counting { rule.count_of result.state < own.lock_after }
+    requires counting { rule.count_of state < reader_rules.lock_after }
+    ensures step { result ≡ rule.step_of reader_rules (T.says table.now) state vote }
+    ensures counting { rule.count_of result.state < reader_rules.lock_after }
     ensures valid { IfSome result.report.announce IsValid }
 {
     match (state, vote) {
         (State::Idle | State::Acquiring(_, _), None) => stopped(Cause::NoVote),
-        (State::Idle, Some(claim)) => begin(own, table, claim),
-        (State::Acquiring(hold, count), Some(claim)) => join(own, table, hold, count, claim),
+        (State::Idle, Some(claim)) => begin(reader_rules, table, claim),
+        (State::Acquiring(hold, count), Some(claim)) => join(
+            reader_rules,
+            table,
+            hold,
+            count,
+            claim,
+        ),
         (State::Locked(hold), Some(claim)) => follow(table, hold, claim),
-        (State::Locked(hold), None) => hold_over(own, table, hold),
+        (State::Locked(hold), None) => hold_over(reader_rules, table, hold),
     }
 }
 
-fn begin<T: Leaps>(own: ReaderRules, table: &T, claim: Claim) -> Step
+fn begin<T: Leaps>(reader_rules: ReaderRules, table: &T, claim: Claim) -> Step
     requires valid { IsValid claim.at }
-    requires some { 0 < own.lock_after }
-    ensures step { result ≡ rule.first_vote_step own (hold_start (T.says table.now) claim) }
-    ensures counting { rule.count_of result.state < own.lock_after }
+    requires some { 0 < reader_rules.lock_after }
+    ensures step { result ≡ rule.first_vote_step reader_rules (hold_start (T.says table.now) claim) }
+    ensures counting { rule.count_of result.state < reader_rules.lock_after }
     ensures valid { IfSome result.report.announce IsValid }
 {
     match Hold::start(claim, table) {
-        Ok(hold) => counted(own, hold, 1),
+        Ok(hold) => counted(reader_rules, hold, 1),
         Err(Turn::RangeEnd) => stopped(Cause::RangeEnd),
         // Nothing but the guard or the end of the range stops a start.
         Err(_) => stopped(Cause::LeapGuard),
@@ -67,16 +78,22 @@ fn begin<T: Leaps>(own: ReaderRules, table: &T, claim: Claim) -> Step
 }
 
 /// A further vote before it is locked. One for another second begins anew.
-fn join<T: Leaps>(own: ReaderRules, table: &T, mut hold: Hold, count: u8, claim: Claim) -> Step
+fn join<T: Leaps>(
+    reader_rules: ReaderRules,
+    table: &T,
+    mut hold: Hold,
+    count: u8,
+    claim: Claim,
+) -> Step
     requires valid { IsValid claim.at }
-    requires counting { count < own.lock_after }
-    ensures step { result ≡ rule.later_vote_step own (T.says table.now) hold count claim }
-    ensures counting { rule.count_of result.state < own.lock_after }
+    requires counting { count < reader_rules.lock_after }
+    ensures step { result ≡ rule.later_vote_step reader_rules (T.says table.now) hold count claim }
+    ensures counting { rule.count_of result.state < reader_rules.lock_after }
     ensures valid { IfSome result.report.announce IsValid }
 {
     match hold.voted(claim, table) {
-        Turn::Now(_) => counted(own, hold, count + 1),
-        Turn::Jump => begin(own, table, claim),
+        Turn::Now(_) => counted(reader_rules, hold, count + 1),
+        Turn::Jump => begin(reader_rules, table, claim),
         Turn::LeapGuard => stopped(Cause::LeapGuard),
         Turn::Expired => stopped(Cause::Expired),
         Turn::RangeEnd => stopped(Cause::RangeEnd),
@@ -92,12 +109,12 @@ fn follow<T: Leaps>(table: &T, mut hold: Hold, claim: Claim) -> Step
     goes_on(turn, hold, Lock::Locked, Cause::Voted)
 }
 
-fn hold_over<T: Leaps>(own: ReaderRules, table: &T, mut hold: Hold) -> Step
-    ensures step { result ≡ rule.holdover_step (alone_by (T.says table.now) hold own.holdover) }
+fn hold_over<T: Leaps>(reader_rules: ReaderRules, table: &T, mut hold: Hold) -> Step
+    ensures step { result ≡ rule.holdover_step (alone_by (T.says table.now) hold reader_rules.holdover) }
     ensures counting { rule.count_of result.state ≡ 0 }
     ensures valid { IfSome result.report.announce IsValid }
 {
-    let turn = hold.alone(own.holdover, table);
+    let turn = hold.alone(reader_rules.holdover, table);
     let age = hold.age();
     goes_on(turn, hold, Lock::Holdover(age), Cause::Held)
 }
@@ -118,14 +135,14 @@ fn goes_on(turn: Turn, hold: Hold, lock: Lock, cause: Cause) -> Step
 }
 
 /// So many votes that followed one another, the last of which led here.
-fn counted(own: ReaderRules, hold: Hold, count: u8) -> Step
-    requires some { 0 < own.lock_after }
-    requires counting { count ≤ own.lock_after }
-    ensures step { result ≡ rule.count_step own hold count }
-    ensures counting { rule.count_of result.state < own.lock_after }
+fn counted(reader_rules: ReaderRules, hold: Hold, count: u8) -> Step
+    requires some { 0 < reader_rules.lock_after }
+    requires counting { count ≤ reader_rules.lock_after }
+    ensures step { result ≡ rule.count_step reader_rules hold count }
+    ensures counting { rule.count_of result.state < reader_rules.lock_after }
     ensures valid { IfSome result.report.announce IsValid }
 {
-    if count == own.lock_after {
+    if count == reader_rules.lock_after {
         let utc = hold.now();
         return announced(hold, utc, Lock::Locked, Cause::Voted);
     }

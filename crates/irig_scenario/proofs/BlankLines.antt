@@ -7,7 +7,7 @@ use Rattle.std.proofs.lemmas.Bool.{cases_Bool, and_parts, or_cases}
 use Rattle.json.specs.Lex.{lex, between, tokens, punctuate, fresh}
 use Rattle.json.specs.Json.{value, if_last}
 use Rattle.serde_json.specs.Read.{of_json, max_depth, read}
-use Rattle.irig_forms.specs.declared.refusal.Refusal.TheVariants as refusal
+use Rattle.irig_faults.specs.declared.refusal.Refusal.TheVariants as refusal
 use Rattle.irig_forms.specs.Json.{json_of}
 use Rattle.irig_scenario.specs.declared.event_line.Command.{Command}
 use Rattle.irig_scenario.specs.EventLine.{command_in_line}

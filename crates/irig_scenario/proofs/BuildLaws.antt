@@ -8,7 +8,7 @@ use Rattle.irig_gen.specs.Frames.{GeneratorValue}
 use Rattle.irig_reader.specs.Rules.{IsReaderRules}
 use Rattle.irig_plant.specs.declared.setup.ReaderSetup.{ReaderSetup}
 use Rattle.irig_plant.specs.History.{IsNew, AreGenerators, AreReaders}
-use Rattle.irig_forms.specs.declared.refusal.Refusal.{Refusal}
+use Rattle.irig_faults.specs.declared.refusal.Refusal.{Refusal}
 use Rattle.irig_values.specs.PlantValues.{GeneratorValues, ReaderValues, PlantValues}
 use Rattle.irig_scenario.specs.PlantLine.{first_of, timeline_refusal, generator_refusal, reader_refusal, values_refusal, generator_with, reader_with}
 

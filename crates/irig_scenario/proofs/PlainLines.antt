@@ -25,8 +25,9 @@ use Rattle.irig_time.proofs.TextLaws.{day_first, date_read, time_read}
 use Rattle.irig_time.proofs.TextValueLaws.{second_read_is}
 use Rattle.irig_gen.specs.Frames.{gen}
 use Rattle.irig_plant.specs.Schedule.{setup}
-use Rattle.irig_forms.specs.declared.refusal.Refusal.TheVariants as refusal
-use Rattle.irig_forms.specs.Json.{◌>>=◌, or_else, json_of, text_at, whole_at, items_at, all_of, has_only}
+use Rattle.irig_faults.specs.declared.refusal.Refusal.TheVariants as refusal
+use Rattle.irig_forms.specs.Json.{json_of, text_at, whole_at, items_at, all_of, has_only}
+use Rattle.irig_faults.specs.Refusals.{◌>>=◌, or_else}
 use Rattle.irig_forms.specs.Fields.{has_form, each_item}
 use Rattle.irig_forms.specs.Keywords.{parity_of, sense_of, sbs_use_of}
 use Rattle.irig_scenario.specs.declared.event_line.Command.TheVariants as command

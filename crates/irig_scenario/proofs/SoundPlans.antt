@@ -20,14 +20,14 @@ use Rattle.irig_gen.specs.Refusals.{IsGenerator}
 use Rattle.irig_reader.specs.Rules.{IsReaderRules}
 use Rattle.irig_plant.specs.History.{AreReaders}
 use Rattle.irig_plant.specs.Health.{HasGenerators}
-use Rattle.irig_forms.specs.declared.refusal.Refusal.{Refusal}
-use Rattle.irig_forms.specs.Refusals.{of_timeline, of_generator}
+use Rattle.irig_faults.specs.declared.refusal.Refusal.{Refusal}
 use Rattle.irig_values.specs.PlantValues.{GeneratorValues, PlantValues, readers_in, plant_values}
 use Rattle.serde_json.specs.Data.{Data, Members}
 use Rattle.serde_json.specs.Find.{as_object}
 use Rattle.irig_values.specs.declared.plant_shape.Version.{Version}
-use Rattle.irig_forms.specs.declared.refusal.Refusal.TheVariants as refusal
-use Rattle.irig_forms.specs.Json.{◌>>=◌, or_else, holds_or, json_of, whole_at}
+use Rattle.irig_faults.specs.declared.refusal.Refusal.TheVariants as refusal
+use Rattle.irig_forms.specs.Json.{json_of, whole_at}
+use Rattle.irig_faults.specs.Refusals.{of_timeline, of_generator, ◌>>=◌, or_else, holds_or}
 use Rattle.irig_values.specs.PlantShape.{version_of, is_plant}
 use Rattle.irig_values.specs.Names.{name_in, one_to_sixteen, is_name, all_different, are_names, names_in}
 use Rattle.irig_scenario.specs.PlantLine.{refusal_of, timeline_refusal, generator_refusal, reader_refusal, values_refusal, first_of, generator_with, reader_with, setup_with, refused_or, setup_result, Plan, plan_in_line, plan_in_object}

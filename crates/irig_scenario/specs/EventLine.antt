@@ -5,15 +5,16 @@ use Rattle.serde_json.specs.Data.{Data}
 use Rattle.irig_gen.specs.declared.fault.GenFault.{GenFault}
 use Rattle.irig_gen.specs.declared.fault.GenFault.TheVariants.{Silent, Stuck, Skew, NoPending, FalsePending, Quality, WrongOffset}
 use Rattle.irig_plant.specs.declared.event.Event.TheVariants.{GenEdge, Tick, Carry, Damage, Replay, Raw, Fault, Repair, Restart}
-use Rattle.irig_forms.specs.declared.refusal.Refusal.{Refusal}
-use Rattle.irig_forms.specs.declared.refusal.Refusal.TheVariants.{Json, Shape, Value, NoSuchReader}
+use Rattle.irig_faults.specs.declared.refusal.Refusal.{Refusal}
+use Rattle.irig_faults.specs.declared.refusal.Refusal.TheVariants.{Json, Shape, Value, NoSuchReader}
 use Rattle.irig_scenario.specs.declared.event_line.Command.{Command}
 use Rattle.irig_scenario.specs.declared.event_line.Command.TheVariants.{Event, Seconds}
 use Rattle.irig_values.specs.declared.form.Action.{Action}
 use Rattle.irig_values.specs.declared.form.Action.TheVariants as action
 use Rattle.irig_values.specs.declared.form.FaultKind.{FaultKind}
 use Rattle.irig_values.specs.declared.form.FaultKind.TheVariants as fault
-use Rattle.irig_forms.specs.Json.{json_of, ◌>>=◌, or_else, holds_or}
+use Rattle.irig_forms.specs.Json.{json_of}
+use Rattle.irig_faults.specs.Refusals.{◌>>=◌, or_else, holds_or}
 use Rattle.irig_values.specs.Forms.{action_of, g, r, at, width, widths, edge, n, edges_by, half_hours_by, leap, q, keys_of}
 use Rattle.irig_forms.specs.Keys.{KeyValue}
 use Rattle.irig_forms.specs.Fields.{has_form, natural_at, integer_at, leap_at, reader_at, naturals_at}

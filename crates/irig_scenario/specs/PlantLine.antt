@@ -12,13 +12,13 @@ use Rattle.irig_gen.specs.Frames.{GeneratorValue, gen}
 use Rattle.irig_gen.specs.Refusals.{gen_refusal}
 use Rattle.irig_plant.specs.declared.setup.ReaderSetup.{ReaderSetup}
 use Rattle.irig_plant.specs.Schedule.{Setup, setup}
-use Rattle.irig_forms.specs.declared.refusal.Refusal.{Refusal}
-use Rattle.irig_forms.specs.declared.refusal.Refusal.TheVariants.{Json, Shape, Value, Version}
-use Rattle.irig_forms.specs.declared.refusal.LineFault.{LineFault}
-use Rattle.irig_forms.specs.declared.refusal.LineFault.TheVariants.{Refused, Memory}
+use Rattle.irig_faults.specs.declared.refusal.Refusal.{Refusal}
+use Rattle.irig_faults.specs.declared.refusal.Refusal.TheVariants.{Json, Shape, Value, Version}
+use Rattle.irig_faults.specs.declared.refusal.LineFault.{LineFault}
+use Rattle.irig_faults.specs.declared.refusal.LineFault.TheVariants.{Refused, Memory}
 use Rattle.irig_scenario.specs.declared.plant_line.BuiltPlant.{BuiltPlant}
-use Rattle.irig_forms.specs.Refusals.{of_timeline, of_generator, of_table}
-use Rattle.irig_forms.specs.Json.{json_of, whole_at, or_else, holds_or, ◌>>=◌}
+use Rattle.irig_forms.specs.Json.{json_of, whole_at}
+use Rattle.irig_faults.specs.Refusals.{of_timeline, of_generator, of_table, or_else, holds_or, ◌>>=◌}
 use Rattle.irig_values.specs.PlantShape.{version_of, is_plant}
 use Rattle.irig_values.specs.PlantValues.{GeneratorValues, ReaderValues, PlantValues, readers_in, plant_values}
 use Rattle.irig_values.specs.Names.{names_in}

@@ -4,14 +4,14 @@ ghost use Rattle.std.specs.Prelude.{◌≡◌, ◌≤◌, ℕ, List, IfOk, lengt
 ghost use Rattle.serde_json.specs.View.{view};
 ghost use Rattle.irig_forms.specs.Fields.{natural_most};
 ghost use Rattle.irig_forms.specs.Keys.{key_value, texts_of};
-ghost use Rattle.irig_forms.specs.Refusals.{IsUnlessMemory};
+ghost use Rattle.irig_faults.specs.Refusals.{IsUnlessMemory};
 ghost use Rattle.irig_values.specs.Forms.{g};
 ghost use Rattle.irig_scenario.specs.EventLine.{natural_or_refusal, reader_in, fault_of_form, command_of_form, command_in_object, command_in_line};
 
 use indexmap::IndexSet;
+use irig_faults::{LineFault, Refusal};
 use irig_forms::{
-    Key, LineFault, Refusal, has_form, integer_at, leap_at, natural_at, naturals_at, reader_at,
-    value_of,
+    Key, has_form, integer_at, leap_at, natural_at, naturals_at, reader_at, value_of,
 };
 use irig_gen::GenFault;
 use irig_plant::{Event, Widths};

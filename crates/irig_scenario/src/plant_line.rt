@@ -6,16 +6,17 @@ ghost use Rattle.irig_time.specs.Timelines.{times};
 ghost use Rattle.irig_reader.specs.Rules.{IsReaderRules};
 ghost use Rattle.irig_plant.specs.History.{AreGenerators, AreReaders};
 ghost use Rattle.irig_forms.specs.Keys.{texts_of};
-ghost use Rattle.irig_forms.specs.Refusals.{IsUnlessMemory};
+ghost use Rattle.irig_faults.specs.Refusals.{IsUnlessMemory};
 ghost use Rattle.irig_scenario.specs.PlantLine.{IsMadeUnlessMemory, first_of, timeline_refusal, generator_refusal, reader_refusal, generator_with, reader_with, values_refusal, setup_with, setup_of, plan_in_object, plan_in_line, plan_of};
 
 use indexmap::IndexSet;
-use irig_forms::{LineFault, Refusal, value_of, whole_at};
+use irig_faults::{LineFault, Refusal};
+use irig_forms::{value_of, whole_at};
 use irig_gen::Generator;
 use irig_plant::ReaderSetup;
 use irig_time::{LeapTable, Rules, Timeline};
 use irig_values::{
-    GeneratorValues, PlantValues, ReaderValues, is_plant, names_of, values_of, version_of,
+    GeneratorValues, PlantValues, ReaderValues, VERSION, is_plant, names_of, values_of, version_of,
 };
 use serde_json::Value;
 use std::alloc::Global;
@@ -58,7 +59,7 @@ fn plant_of_value(alloc: Global, value: &Value) -> Result<BuiltPlant, LineFault>
     ensures names { IfOk result (λ plant. length plant.names.keys ≡ vec_len plant.readers) }
 {
     value.as_object().ok_or(Refusal::Shape)?;
-    let number = whole_at(value, "version").ok_or(Refusal::Shape)?;
+    let number = whole_at(value, VERSION.name).ok_or(Refusal::Shape)?;
     let version = version_of(number).ok_or(Refusal::Version)?;
     if !is_plant(version, value) {
         return Err(LineFault::Refused(Refusal::Shape));
@@ -100,7 +101,7 @@ fn make_timeline(alloc: Global, values: &PlantValues) -> Result<Timeline, LineFa
     ensures { IsMadeUnlessMemory (λ t. t)
         (timeline_refusal values.now) (times values.now.start values.now.leaps) result }
 {
-    Timeline::new(alloc, values.start, &values.leaps).map_err(LineFault::of_timeline)
+    Ok(Timeline::new(alloc, values.start, &values.leaps)?)
 }
 
 fn make_generators(
@@ -127,7 +128,7 @@ fn make_generator(
     ensures { IsMadeUnlessMemory (λ g. g)
         (generator_refusal value.now) (generator_with rules value.now) result }
 {
-    Generator::new(alloc, value.zone, &value.changes, rules).map_err(LineFault::of_generator)
+    Ok(Generator::new(alloc, value.zone, &value.changes, rules)?)
 }
 
 fn make_readers(alloc: Global, values: &[ReaderValues]) -> Result<Vec<ReaderSetup>, LineFault>
@@ -145,7 +146,7 @@ fn make_reader(value: &ReaderValues) -> Result<ReaderSetup, LineFault>
     ensures { IsMadeUnlessMemory (λ r. r)
         (reader_refusal value.now) (reader_with value.now) result }
 {
-    let table = LeapTable::new(value.until, &value.leaps).map_err(Refusal::of_table)?;
+    let table = LeapTable::new(value.until, &value.leaps).map_err(Refusal::from)?;
     Ok(ReaderSetup {
         rules: value.rules,
         table,

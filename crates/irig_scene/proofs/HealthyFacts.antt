@@ -15,7 +15,7 @@ use Rattle.irig_plant.specs.Audits.{is_true_table}
 use Rattle.irig_plant.specs.HealthyPlant.{healthy_log}
 use Rattle.irig_plant.proofs.TableLaws.{test_by_true}
 use Rattle.irig_plant.proofs.KeptLaws.{empty_true}
-use Rattle.irig_forms.specs.declared.refusal.Refusal.{Refusal}
+use Rattle.irig_faults.specs.declared.refusal.Refusal.{Refusal}
 use Rattle.irig_scenario.specs.declared.event_line.Command.{Command}
 use Rattle.irig_scenario.specs.declared.event_line.Command.TheVariants as command
 use Rattle.irig_values.specs.Names.{is_name, are_names}

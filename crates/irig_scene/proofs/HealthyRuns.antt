@@ -175,8 +175,8 @@ module _ (plan : Plan) where
       (stands_map (healthy_entry s k) (range_with_len 0 (length s.readers)) r (stands_range 0 (length s.readers) r (omega arith) (omega (arith, known))))
 
   -- from the lock on it tells T of its edge
-  tells : (own : ReaderRules) (k : ℕ) → own.lock_after ≤ k → (healthy_report s.times own k).announce ≡ second_at s.times k
-  tells own k late = rw (le-ltb k own.lock_after late) refl
+  tells : (reader_rules : ReaderRules) (k : ℕ) → reader_rules.lock_after ≤ k → (healthy_report s.times reader_rules k).announce ≡ second_at s.times k
+  tells reader_rules k late = rw (le-ltb k reader_rules.lock_after late) refl
 
   log_lines : (all : Bool) (text : List ℕ) (n : ℕ) → are_names plan.names ≡ true → text ≡ entries_text plan.names all (healthy_log s n) ++ codes "premises kept\n"
       → whole_lines text ≡ map (entry_line plan.names) (filter (λ e. all || is_some e.report.announce) (healthy_log s n)) ++ whole_lines (codes "premises kept\n")
@@ -193,9 +193,9 @@ module _ (plan : Plan) where
   one_line all text n r k (Some u) sound e known late to at some =
       let entry = healthy_entry s k r in
       let names = plan.names in
-      let own = (setup_at s.readers r).rules in
+      let reader_rules = (setup_at s.readers r).rules in
       let passes : Entry → Bool = λ e. all || is_some e.report.announce in
-      let told : entry.report.announce ≡ Some u = tells own k late ∙ at in
+      let told : entry.report.announce ≡ Some u = tells reader_rules k late ∙ at in
       let locks = can_lock s r (All-weaker (λ x. IsReaderRules x.rules) CanLock (λ x h. h.lock_after.0) s.readers sound.readers.range) in
       let few_edges = few s.times k u ((second_is s.times k u).0 at) in
       let stands : Stands (map (entry_line names) (filter passes (healthy_log s n))) (entry_line names entry) =

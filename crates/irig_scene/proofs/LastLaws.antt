@@ -5,7 +5,7 @@ use Rattle.irig_log_text.specs.declared.shown.Shown.{Shown}
 use Rattle.irig_scene.specs.declared.outcome.Outcome.{Outcome}
 use Rattle.irig_scene.specs.declared.player.Player.{Player}
 use Rattle.irig_scene.specs.declared.fault.SceneFault.{SceneFault}
-use Rattle.irig_forms.specs.declared.refusal.Refusal.{Refusal}
+use Rattle.irig_faults.specs.declared.refusal.Refusal.{Refusal}
 use Rattle.irig_device.specs.Lines.{HasNoNewline}
 use Rattle.irig_scene.specs.Lines.{lines}
 use Rattle.irig_log_text.specs.Text.{refusal_text}

@@ -17,7 +17,7 @@ use Rattle.irig_plant.specs.Schedule.{Setup, log_of, entry_of, told_log_of, told
 use Rattle.irig_plant.specs.Refusals.{refusal}
 use Rattle.irig_plant.proofs.ToldLaws.{told_length}
 use Rattle.irig_plant.specs.Runs.{events_after, AreAccepted, IsRefused}
-use Rattle.irig_forms.specs.declared.refusal.Refusal.{Refusal}
+use Rattle.irig_faults.specs.declared.refusal.Refusal.{Refusal}
 use Rattle.irig_scenario.specs.PlantLine.{Plan}
 use Rattle.irig_plant.specs.WholeSecond.{carries, ticks, steps, second_of}
 use Rattle.irig_log_text.specs.declared.shown.Shown.{Shown}

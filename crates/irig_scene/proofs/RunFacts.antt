@@ -28,8 +28,8 @@ use Rattle.irig_plant.specs.declared.audit.Audit.{Audit}
 use Rattle.irig_plant.specs.declared.audit.Audit.TheVariants.{Kept, Broken}
 use Rattle.irig_plant.proofs.KeptLaws.{empty_true}
 use Rattle.irig_device.specs.Lines.{HasNoNewline}
-use Rattle.irig_forms.specs.declared.refusal.Refusal.TheVariants.{Json, NoPlant}
-use Rattle.irig_forms.specs.Refusals.{number_of}
+use Rattle.irig_faults.specs.declared.refusal.Refusal.TheVariants.{Json, NoPlant}
+use Rattle.irig_faults.specs.Refusals.{number_of}
 use Rattle.irig_values.specs.Names.{are_names, is_name}
 use Rattle.irig_scenario.specs.PlantLine.{plan_in_line}
 use Rattle.irig_forms.specs.Json.{json_of}

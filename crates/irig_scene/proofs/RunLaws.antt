@@ -13,8 +13,8 @@ use Rattle.irig_device.specs.declared.line.LineEnd.{LineEnd}
 use Rattle.irig_device.specs.declared.line.LineEnd.TheVariants.{Newline, EndOfInput, TooLong}
 use Rattle.irig_scene.specs.declared.fault.SceneFault.{SceneFault}
 use Rattle.irig_scene.specs.declared.fault.SceneFault.TheVariants.{Refused, Read, Write, Memory}
-use Rattle.irig_forms.specs.declared.refusal.Refusal.{Refusal}
-use Rattle.irig_forms.specs.declared.refusal.Refusal.TheVariants as refusal
+use Rattle.irig_faults.specs.declared.refusal.Refusal.{Refusal}
+use Rattle.irig_faults.specs.declared.refusal.Refusal.TheVariants as refusal
 use Rattle.irig_device.specs.Lines.{HasNoNewline, HasLength, spelling, GivesLine, GivesPart}
 use Rattle.irig_scene.specs.Lines.{lines, unlines, max_line, max_lines, limit_of, shown_by}
 use Rattle.irig_device.specs.Watched.{AppendsPart}

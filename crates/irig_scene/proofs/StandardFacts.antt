@@ -21,7 +21,7 @@ use Rattle.irig_plant.specs.declared.audit.Audit.TheVariants.{Kept, Broken, Fals
 use Rattle.irig_plant.specs.declared.setup.ReaderSetup.{ReaderSetup}
 use Rattle.irig_plant.specs.Schedule.{Setup, setup}
 use Rattle.irig_scenario.specs.declared.event_line.Command.TheVariants as command
-use Rattle.irig_forms.specs.declared.refusal.Refusal.TheVariants as refusal
+use Rattle.irig_faults.specs.declared.refusal.Refusal.TheVariants as refusal
 use Rattle.irig_scene.specs.Lines.{lines, unlines, is_blank, limit_of}
 use Rattle.irig_scenario.specs.PlantLine.{Plan}
 use Rattle.irig_log_text.specs.Text.{entry_text, entries_text, audit_text, refusal_text}

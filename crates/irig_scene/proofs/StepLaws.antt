@@ -2,8 +2,8 @@
 use Rattle.std.proofs.Common.{◌≡◌, ℕ, ◌+◌, ◌<◌, ◌≤◌, Bool, true, false, cond, List, [], ◌∷◌, ◌++◌, length, Option, Some, None, Result, Ok, Err, refl, ap, sym, ◌∙◌, append_assoc, append-nil, rules, nat_lt}
 use Rattle.irig_plant.specs.declared.event.Event.{Event}
 use Rattle.irig_scenario.specs.declared.event_line.Command.{Command}
-use Rattle.irig_forms.specs.declared.refusal.Refusal.{Refusal}
-use Rattle.irig_forms.specs.declared.refusal.Refusal.TheVariants.{TooManyLines, TooLong}
+use Rattle.irig_faults.specs.declared.refusal.Refusal.{Refusal}
+use Rattle.irig_faults.specs.declared.refusal.Refusal.TheVariants.{TooManyLines, TooLong}
 use Rattle.irig_log_text.specs.declared.shown.Shown.{Shown}
 use Rattle.irig_scene.specs.Lines.{is_blank, max_line, max_lines}
 use Rattle.irig_scenario.specs.EventLine.{command_in_line}

@@ -7,7 +7,7 @@ use Rattle.irig_time.specs.declared.second.UtcSecond.{UtcSecond}
 use Rattle.irig_time.specs.Timelines.{TimelineValue, second_at}
 use Rattle.irig_time.proofs.TimeLaws.{few}
 use Rattle.irig_time.proofs.SecondAt.{second_is}
-use Rattle.irig_forms.specs.declared.refusal.Refusal.{Refusal}
+use Rattle.irig_faults.specs.declared.refusal.Refusal.{Refusal}
 use Rattle.irig_plant.specs.declared.audit.Audit.TheVariants.{Kept}
 use Rattle.irig_plant.specs.declared.entry.Entry.{Entry}
 use Rattle.irig_plant.specs.declared.told_log.ToldEntry.{ToldEntry}
@@ -20,7 +20,7 @@ use Rattle.irig_plant.specs.Schedule.{Setup, setup_at, ticks_of, log_of, told_lo
 use Rattle.irig_plant.specs.Premises.{IsKeptUpTo, IsKept}
 use Rattle.irig_plant.specs.Truth.{AnnouncesTruth, IsTruthful}
 use Rattle.irig_scenario.specs.declared.event_line.Command.{Command}
-use Rattle.irig_forms.specs.declared.refusal.Refusal.TheVariants as refusal
+use Rattle.irig_faults.specs.declared.refusal.Refusal.TheVariants as refusal
 use Rattle.irig_scenario.specs.EventLine.{command_in_line}
 use Rattle.irig_log_text.specs.declared.shown.Shown.{Shown}
 use Rattle.irig_scene.specs.Lines.{lines, is_blank, max_line, max_lines}

@@ -9,11 +9,11 @@ use Rattle.irig_scene.specs.declared.outcome.Outcome.{Outcome}
 use Rattle.irig_scene.specs.declared.player.Player.{Player}
 use Rattle.irig_scene.specs.declared.fault.SceneFault.{SceneFault}
 use Rattle.irig_scene.specs.declared.fault.SceneFault.TheVariants.{Refused, Read, Write, Memory}
-use Rattle.irig_forms.specs.declared.refusal.Refusal.{Refusal}
-use Rattle.irig_forms.specs.declared.refusal.LineFault.{LineFault}
-use Rattle.irig_forms.specs.declared.refusal.LineFault.TheVariants as line_fault
-use Rattle.irig_forms.specs.declared.refusal.Refusal.TheVariants.{TooManyLines, TooLong}
-use Rattle.irig_forms.specs.Refusals.{number_of}
+use Rattle.irig_faults.specs.declared.refusal.Refusal.{Refusal}
+use Rattle.irig_faults.specs.declared.refusal.LineFault.{LineFault}
+use Rattle.irig_faults.specs.declared.refusal.LineFault.TheVariants as line_fault
+use Rattle.irig_faults.specs.declared.refusal.Refusal.TheVariants.{TooManyLines, TooLong}
+use Rattle.irig_faults.specs.Refusals.{number_of}
 use Rattle.irig_device.specs.Lines.{Bytes}
 use Rattle.irig_scene.specs.Lines.{lines, max_lines}
 use Rattle.irig_log_text.specs.Text.{refusal_text}

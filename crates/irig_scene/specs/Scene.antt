@@ -11,8 +11,8 @@ use Rattle.irig_plant.specs.Refusals.{refusal}
 use Rattle.irig_plant.specs.Audits.{audit_of}
 use Rattle.irig_scenario.specs.declared.event_line.Command.{Command}
 use Rattle.irig_scenario.specs.declared.event_line.Command.TheVariants as command
-use Rattle.irig_forms.specs.declared.refusal.Refusal.{Refusal}
-use Rattle.irig_forms.specs.declared.refusal.Refusal.TheVariants.{NoSuchReader, NoSuchGenerator, FutureReplay, EndOfYears, TooLong, NoPlant, TooManyLines}
+use Rattle.irig_faults.specs.declared.refusal.Refusal.{Refusal}
+use Rattle.irig_faults.specs.declared.refusal.Refusal.TheVariants.{NoSuchReader, NoSuchGenerator, FutureReplay, EndOfYears, TooLong, NoPlant, TooManyLines}
 use Rattle.irig_scene.specs.Lines.{lines, is_blank, max_line, max_lines}
 use Rattle.irig_plant.specs.WholeSecond.{second_of, times}
 use Rattle.irig_scenario.specs.EventLine.{command_in_line}

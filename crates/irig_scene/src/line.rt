@@ -22,7 +22,7 @@ use crate::log_writer::LogWriter;
 use crate::outcome::Outcome;
 use crate::player::Player;
 use irig_device::{LineEnd, ReadFault, Watched};
-use irig_forms::{LineFault, Refusal};
+use irig_faults::{LineFault, Refusal};
 use irig_log_text::Shown;
 use irig_port::Port;
 use irig_scenario::{event_of_line, plant_of_line};

@@ -10,7 +10,7 @@ ghost use Rattle.irig_log_text.specs.Text.{lines_text, audit_text, refusal_text}
 use crate::fault::SceneFault;
 use indexmap::IndexSet;
 use irig_device::Watched;
-use irig_forms::Refusal;
+use irig_faults::Refusal;
 use irig_log_text::{ReportText, Shown, push_audit, push_entries, push_refusal, push_ticks};
 use irig_plant::{Audit, Entry, ToldEntry};
 use std::alloc::Global;

@@ -12,7 +12,7 @@ use crate::log_writer::{LogText, LogWriter};
 use crate::refused_line::RefusedLine;
 use indexmap::IndexSet;
 use irig_device::Watched;
-use irig_forms::Refusal;
+use irig_faults::Refusal;
 use irig_gen::Generator;
 use irig_log_text::Shown;
 use irig_plant::{Audit, Event, Plant, PlantFault};

@@ -13,18 +13,18 @@ use Rattle.irig_time.specs.declared.leap.Leap.{Leap}
 use Rattle.irig_time.specs.declared.leap.Leap.TheVariants.{Insert, Delete}
 use Rattle.irig_time.specs.Days.{is_month_end}
 use Rattle.irig_time.specs.Seconds.{IsValid}
-use Rattle.irig_time.specs.Next.{plain, turn_after, next_at_month_end, next_of}
+use Rattle.irig_time.specs.Next.{plain, next_day_after, next_at_month_end, next_of}
 use Rattle.irig_time.specs.Timelines.{TimelineValue, leap_of, length_by, mark_by, day_length, seconds_in, IsSecond}
 use Rattle.irig_time.specs.TimelineFaults.{first_leap_fault, start_fault, IsTimeline}
 use Rattle.irig_time.proofs.TimeLaws.{length_bounds, neither, unless, no_leap, one_second, in_order, some_same, same_day, new_day}
 
 abbrev after_last : TimelineValue → UtcSecond → Option UtcSecond
-after_last t u = turn_after (day_length t.leaps u.day - 1) u
+after_last t u = next_day_after (day_length t.leaps u.day - 1) u
 
 none_here : (t : TimelineValue) (u : UtcSecond) → IsTimeline t → is_month_end u.day ≡ false → leap_of t.leaps u.day ≡ None
 none_here t u sound e = no_leap _ t.leaps u.day (neither (first_leap_fault _ t.leaps) (start_fault t.leaps t.start) sound.sound).0 e
 
-by_leap : (u : UtcSecond) (o : Option Leap) → next_at_month_end u (mark_by o) ≡ turn_after (length_by o - 1) u
+by_leap : (u : UtcSecond) (o : Option Leap) → next_at_month_end u (mark_by o) ≡ next_day_after (length_by o - 1) u
 by_leap u None = refl
 by_leap u (Some Insert) = refl
 by_leap u (Some Delete) = refl

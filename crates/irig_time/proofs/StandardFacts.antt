@@ -16,7 +16,7 @@ use Rattle.irig_control.specs.declared.control.Control.{Control}
 use Rattle.irig_time.specs.declared.mark.Mark.TheVariants.{Unspoken, NoLeap, Insert, Delete}
 use Rattle.irig_time.specs.declared.leap.Leap.{Leap}
 use Rattle.irig_time.specs.declared.leap.Leap.TheVariants as leap
-use Rattle.irig_time.specs.Next.{next_at_month_end, turn}
+use Rattle.irig_time.specs.Next.{next_at_month_end, next_day}
 use Rattle.irig_time.specs.Timelines.{TimelineValue, times, day_length, IsSecond}
 use Rattle.irig_time.specs.Claims.{frame_mark, utc_minute, claim_by}
 use Rattle.irig_frame.specs.declared.coded.Coded.{Coded}
@@ -94,7 +94,7 @@ pub known_steps : (after 86397 ≡ Some (at 6209 86398) ∷ Some (at 6209 86398)
 known_steps = (refl, refl, refl, refl)
 
 -- the years end with 2099-12-30
-pub known_end : turn (at 36523 86399) ≡ None
+pub known_end : next_day (at 36523 86399) ≡ None
 known_end = refl
 
 -- 86401 seconds with an inserted one, 86399 with a deleted one

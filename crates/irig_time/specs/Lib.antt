@@ -11,3 +11,4 @@ pub mod TimelineFaults
 pub mod Stretches
 pub mod Tables
 pub mod Carries
+pub mod MarkWords

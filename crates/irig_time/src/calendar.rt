@@ -5,6 +5,7 @@ ghost use Rattle.jiff.specs.Words.{epoch_day};
 ghost use Rattle.irig_time.specs.declared.second.TheConstants.{LAST_DAY};
 ghost use Rattle.irig_time.specs.Days.{IsMonthEnd, is_month_end, IsDateOf, day_number, year_length};
 
+use crate::second::LAST_NAMED_DAY;
 use jiff::ToSpan;
 use jiff::civil::{Date, date};
 
@@ -55,7 +56,7 @@ pub(crate) fn day_of(year: u32, month: u32, day: u32) -> Option<u32>
     match Date::new(year as i16, month as i8, day as i8) {
         Ok(found) => u32::try_from(days_since_2000(found))
             .ok()
-            .filter(|days| *days <= 36524),
+            .filter(|days| *days <= LAST_NAMED_DAY),
         Err(_) => None,
     }
 }

@@ -1,7 +1,7 @@
 //! Leaps by day.
 
 ghost use Rattle.std.specs.Prelude.{◌≡◌, ◌==◌};
-ghost use Rattle.irig_time.specs.Timelines.{leap_of, length_by, mark_by};
+ghost use Rattle.irig_time.specs.Timelines.{leap_of, length_by};
 
 use crate::mark::Mark;
 
@@ -36,12 +36,17 @@ pub(crate) fn length_with(leap: Option<Leap>) -> u32
     }
 }
 
-pub(crate) fn mark_with(leap: Option<Leap>) -> Mark
-    ensures { result ≡ mark_by leap }
-{
-    match leap {
-        None => Mark::NoLeap,
-        Some(Leap::Insert) => Mark::Insert,
-        Some(Leap::Delete) => Mark::Delete,
+impl From<Option<Leap>> for Mark {
+    ghost use Rattle.std.specs.Prelude.{◌≡◌};
+    ghost use Rattle.irig_time.specs.Timelines.{mark_by};
+
+    ghost from_gives = { λ leap mark. mark ≡ mark_by leap };
+
+    fn from(leap: Option<Leap>) -> Mark {
+        match leap {
+            None => Mark::NoLeap,
+            Some(Leap::Insert) => Mark::Insert,
+            Some(Leap::Delete) => Mark::Delete,
+        }
     }
 }

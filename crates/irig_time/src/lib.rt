@@ -27,7 +27,7 @@ pub use laws::{
 pub use leap::Leap;
 pub use mark::Mark;
 pub use rules::{Rules, SbsUse, Sense};
-pub use second::{FIRST_DAY, LAST_DAY, UtcSecond, next, valid};
+pub use second::{FIRST_DAY, LAST_DAY, LAST_NAMED_DAY, UtcSecond, next, valid};
 pub use table::{LeapTable, Leaps, TableFault, table_fault};
-pub use text::{read_day, read_text, write_text};
+pub use text::{push_text, read_day, read_text, write_text};
 pub use timeline::{Timeline, TimelineFault};

@@ -13,6 +13,9 @@ pub const FIRST_DAY: u32 = 1;
 /// The last day served, 2099-12-30.
 pub const LAST_DAY: u32 = 36523;
 
+/// The last day that has a text, 2099-12-31.
+pub const LAST_NAMED_DAY: u32 = 36524;
+
 /// A second of UTC.
 #[repr(C)]
 #[derive(Clone, Copy, PartialEq, Eq)]

@@ -5,7 +5,7 @@ ghost use Rattle.irig_time.specs.declared.second.TheConstants.{LAST_DAY};
 ghost use Rattle.irig_time.specs.Tables.{TableValue, table, table_mark, entry_fault, first_entry_fault, table_fault};
 
 use crate::calendar::month_end;
-use crate::leap::{Leap, leap_on, mark_with};
+use crate::leap::{Leap, leap_on};
 use crate::mark::Mark;
 use crate::second::{FIRST_DAY, LAST_DAY};
 use arrayvec::ArrayVec;
@@ -107,7 +107,7 @@ impl LeapTable {
         if !month_end(day) {
             return Mark::Unspoken;
         }
-        mark_with(leap_on(&self.leaps, day))
+        Mark::from(leap_on(&self.leaps, day))
     }
 }
 

@@ -1,6 +1,6 @@
 //! The texts of days and seconds: `YYYY-MM-DD` and `YYYY-MM-DDTHH:MM:SSZ`.
 
-ghost use Rattle.std.specs.Prelude.{◌≡◌, ◌↔◌, ◌≤◌, ◌<◌, ◌+◌, ◌/◌, ◌%◌, ℕ, length, slice_index, Some};
+ghost use Rattle.std.specs.Prelude.{◌≡◌, ◌↔◌, ◌≤◌, ◌<◌, ◌+◌, ◌/◌, ◌%◌, ◌++◌, ℕ, length, slice_index, string_bytes, OnOk, Some};
 ghost use Rattle.std.specs.Str.{IsAscii};
 ghost use Rattle.irig_time.specs.Seconds.{IsValid};
 ghost use Rattle.irig_time.specs.Texts.{IsDayText, IsText, two};
@@ -8,6 +8,8 @@ ghost use Rattle.irig_time.specs.TextValues.{second_text, second_read, day_read}
 
 use crate::calendar::{date_parts, day_of};
 use crate::second::{UtcSecond, valid};
+use std::alloc::AllocError;
+use std::str;
 
 /// The text of a [`valid`] second, as `YYYY-MM-DDTHH:MM:SSZ`; that of sod 86400 ends with
 /// `T23:59:60Z`.
@@ -25,6 +27,21 @@ pub fn write_text(utc: &UtcSecond) -> [u8; 20]
     [
         y1, y2, y3, y4, b'-', m1, m2, b'-', d1, d2, b'T', h1, h2, b':', n1, n2, b':', s1, s2, b'Z',
     ]
+}
+
+/// Adds the text of a [`valid`] second. If there is no memory, nothing is added.
+pub fn push_text(text: &mut String, utc: &UtcSecond) -> Result<(), AllocError>
+    requires { IsValid utc.now }
+    ensures { OnOk result (string_bytes text.new ≡ string_bytes text.old ++ second_text utc.now) }
+{
+    text.push_str(as_str(&write_text(utc)))
+}
+
+fn as_str(ascii: &[u8; 20]) -> &str
+    requires { IsAscii ascii.now }
+    ensures { result.now ≡ ascii.now }
+{
+    str::from_utf8(ascii).unwrap()
 }
 
 /// The second whose text this is: exactly what [`write_text`] gives for a [`valid`] second.

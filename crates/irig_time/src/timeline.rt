@@ -8,7 +8,7 @@ ghost use Rattle.irig_time.specs.TimelineFaults.{first_leap_fault, leap_fault, s
 
 use crate::calendar::month_end;
 use crate::claim::Claim;
-use crate::leap::{Leap, leap_on, length_with, mark_with};
+use crate::leap::{Leap, leap_on, length_with};
 use crate::mark::Mark;
 use crate::second::{FIRST_DAY, LAST_DAY, UtcSecond};
 use crate::stretches::{Stretch, leap_in, stretch_at, stretches_from};
@@ -139,7 +139,7 @@ impl Timeline {
             return Mark::Unspoken;
         }
         if month_end(utc.day) {
-            mark_with(self.leap(utc.day))
+            Mark::from(self.leap(utc.day))
         } else {
             Mark::Unspoken
         }

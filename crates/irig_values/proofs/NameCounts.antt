@@ -2,9 +2,9 @@
 use Rattle.std.proofs.Common.{◌≡◌, ℕ, ◌≤◌, Bool, true, false, ◌&&◌, cond, List, length, map, Result, Ok, Err, IfOk, refl, sym, rules}
 use Rattle.std.proofs.lemmas.List.{length-map}
 use Rattle.serde_json.specs.Data.{Data}
-use Rattle.irig_forms.specs.declared.refusal.Refusal.TheVariants.{Names}
-use Rattle.irig_forms.specs.declared.refusal.LineFault.{LineFault}
-use Rattle.irig_forms.specs.Refusals.{IsUnlessMemory}
+use Rattle.irig_faults.specs.declared.refusal.Refusal.TheVariants.{Names}
+use Rattle.irig_faults.specs.declared.refusal.LineFault.{LineFault}
+use Rattle.irig_faults.specs.Refusals.{IsUnlessMemory}
 use Rattle.irig_values.specs.Names.{one_to_sixteen, are_names, name_in, names_in}
 
 pub record AreCounted (ds : List Data) (names : List (List ℕ)) : Type 0 where

@@ -10,7 +10,7 @@ use Rattle.std.proofs.lemmas.Slice.Eq.{bytes_eq-Decides}
 use Rattle.std.specs.declared.alloc.Global.{Global}
 use Rattle.serde_json.specs.declared.value.Value.{Value}
 use Rattle.serde_json.specs.View.{view}
-use Rattle.irig_forms.specs.declared.refusal.Refusal.TheVariants.{Names}
+use Rattle.irig_faults.specs.declared.refusal.Refusal.TheVariants.{Names}
 use Rattle.irig_values.specs.Names.{one_to_sixteen, is_name, all_different, name_in, are_names, names_in}
 
 -- ---- texts that are different

@@ -6,8 +6,9 @@ use Rattle.std.proofs.lemmas.Option.{option_and_then_some}
 use Rattle.std.proofs.lemmas.List.Elements.{All-nil, All-cons}
 use Rattle.serde_json.specs.Data.{Data}
 use Rattle.serde_json.specs.Find.{get}
-use Rattle.irig_forms.specs.declared.refusal.Refusal.TheVariants.{Value}
-use Rattle.irig_forms.specs.Json.{all_of, natural_within, whole_at, items_at, or_else}
+use Rattle.irig_faults.specs.declared.refusal.Refusal.TheVariants.{Value}
+use Rattle.irig_forms.specs.Json.{all_of, natural_within, whole_at, items_at}
+use Rattle.irig_faults.specs.Refusals.{or_else}
 use Rattle.irig_forms.specs.Fields.{natural_at}
 use Rattle.irig_reader.specs.declared.rules.ReaderRules.{ReaderRules}
 use Rattle.irig_reader.specs.Rules.{IsReaderRules}

@@ -4,8 +4,8 @@ use Rattle.std.specs.Prelude.{ℕ, Bool, true, not, ◌&&◌, ◌||◌, ◌==◌
 use Rattle.std.specs.List.{list_all, list_any}
 use Rattle.std.specs.Str.{bytes_eq}
 use Rattle.serde_json.specs.Data.{Data}
-use Rattle.irig_forms.specs.declared.refusal.Refusal.{Refusal}
-use Rattle.irig_forms.specs.declared.refusal.Refusal.TheVariants.{Names}
+use Rattle.irig_faults.specs.declared.refusal.Refusal.{Refusal}
+use Rattle.irig_faults.specs.declared.refusal.Refusal.TheVariants.{Names}
 use Rattle.irig_forms.specs.Json.{text_at}
 
 -- a to z, 0 to 9, _ and -

@@ -115,10 +115,10 @@ pub const R: Key = key!("r": Kind::Text(Text::Reader));
 pub const AT: Key = key!("at": Kind::Natural(0, 99));
 
 /// `width`: of a pulse, in microseconds.
-pub const WIDTH: Key = key!("width": Kind::Natural(0, 4294967295));
+pub const WIDTH: Key = key!("width": Kind::Natural(0, u32::MAX as u64));
 
 /// `widths`: of at most 1,000 pulses, in microseconds.
-pub const WIDTHS: Key = key!("widths": Kind::Naturals(1000, 4294967295));
+pub const WIDTHS: Key = key!("widths": Kind::Naturals(1000, u32::MAX));
 
 /// `edge`: an edge of a generator.
 pub const EDGE: Key = key!("edge": Kind::Natural(0, u64::MAX));

@@ -3,11 +3,12 @@
 ghost use Rattle.std.specs.Prelude.{◌≡◌, length, map};
 ghost use Rattle.serde_json.specs.View.{view};
 ghost use Rattle.irig_forms.specs.Json.{all_of};
-ghost use Rattle.irig_forms.specs.Refusals.{FoundUnlessMemory};
+ghost use Rattle.irig_faults.specs.Refusals.{FoundUnlessMemory};
 ghost use Rattle.irig_values.specs.PlantValues.{zone_of, change_of, changes_of, generator_of, is_count, generators_of};
 
-use crate::plant_shape::{CHANGES, LOCAL, Version};
-use irig_forms::{LineFault, Refusal, few_items, integer_at, items_at, text_at};
+use crate::plant_shape::{AT, CHANGES, DST, GENERATORS, LOCAL, Version};
+use irig_faults::{LineFault, Refusal};
+use irig_forms::{few_items, integer_at, items_at, text_at};
 use irig_gen::{Change, Zone};
 use irig_time::read_text;
 use serde_json::Value;
@@ -39,7 +40,7 @@ pub(crate) fn generators_of(
 ) -> Result<Vec<GeneratorValues>, LineFault>
     ensures { FoundUnlessMemory (λ v. v.items) (generators_of version (view value.now)) result }
 {
-    let items = items_at(value, "generators").ok_or(Refusal::Value)?;
+    let items = items_at(value, GENERATORS.name).ok_or(Refusal::Value)?;
     if is_count(version, items.len()) {
         all_generators(alloc, items)
     } else {
@@ -102,7 +103,7 @@ fn all_changes(alloc: Global, values: &[Value]) -> Result<Vec<Change>, LineFault
 fn change_of(value: &Value) -> Option<Change>
     ensures { result ≡ change_of (view value.now) }
 {
-    let at = read_text(text_at(value, "at")?.as_bytes())?;
+    let at = read_text(text_at(value, AT.name)?.as_bytes())?;
     let zone = zone_of(value)?;
     Some(Change { at, zone })
 }
@@ -112,6 +113,9 @@ fn zone_of(value: &Value) -> Option<Zone>
     ensures { result ≡ zone_of (view value.now) }
 {
     let half_hours = integer_at(LOCAL, value)? as i8;
-    let dst = value.get("dst").and_then(Value::as_bool).unwrap_or(false);
+    let dst = value
+        .get(DST.name)
+        .and_then(Value::as_bool)
+        .unwrap_or(false);
     Some(Zone { half_hours, dst })
 }

@@ -3,11 +3,12 @@
 ghost use Rattle.std.specs.Prelude.{◌≡◌, map};
 ghost use Rattle.serde_json.specs.View.{view};
 ghost use Rattle.irig_forms.specs.Json.{all_of};
-ghost use Rattle.irig_forms.specs.Refusals.{FoundUnlessMemory};
+ghost use Rattle.irig_faults.specs.Refusals.{FoundUnlessMemory};
 ghost use Rattle.irig_values.specs.PlantValues.{leap_of, leaps_of};
 
-use crate::plant_shape::{LEAP_KIND, LEAPS};
-use irig_forms::{LineFault, Refusal, few_items, items_at, leap_at, text_at};
+use crate::plant_shape::{DAY, LEAP_KIND, LEAPS};
+use irig_faults::{LineFault, Refusal};
+use irig_forms::{few_items, items_at, leap_at, text_at};
 use irig_time::{Leap, read_day};
 use serde_json::Value;
 use std::alloc::Global;
@@ -35,6 +36,6 @@ pub(crate) fn all_leaps(alloc: Global, values: &[Value]) -> Result<Vec<(u32, Lea
 fn leap_of(value: &Value) -> Option<(u32, Leap)>
     ensures { result ≡ leap_of (view value.now) }
 {
-    let day = read_day(text_at(value, "day")?.as_bytes())?;
+    let day = read_day(text_at(value, DAY.name)?.as_bytes())?;
     Some((day, leap_at(LEAP_KIND, value)?))
 }

@@ -17,8 +17,8 @@ pub use form::{
 pub use generator_values::GeneratorValues;
 pub use names::names_of;
 pub use plant_shape::{
-    Version, change_keys, generator_keys, is_plant, leap_keys, plant_keys, reader_keys, table_keys,
-    version_in, version_of,
+    VERSION, Version, change_keys, generator_keys, is_plant, leap_keys, plant_keys, reader_keys,
+    table_keys, version_in, version_of,
 };
 pub use plant_values::{PlantValues, values_of};
 pub use reader_values::ReaderValues;

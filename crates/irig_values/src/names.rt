@@ -7,11 +7,13 @@ ghost use Rattle.serde_json.specs.View.{view};
 ghost use Rattle.irig_forms.specs.Keys.{texts_of};
 ghost use Rattle.irig_values.specs.Names.{is_name_byte, one_to_sixteen, is_name, name_in, names_in};
 ghost use Rattle.irig_values.specs.PlantValues.{readers_in};
-ghost use Rattle.irig_forms.specs.Refusals.{IsUnlessMemory};
+ghost use Rattle.irig_faults.specs.Refusals.{IsUnlessMemory};
 
+use crate::plant_shape::NAME;
 use crate::plant_values::readers_in;
 use indexmap::IndexSet;
-use irig_forms::{LineFault, Refusal, text_at};
+use irig_faults::{LineFault, Refusal};
+use irig_forms::text_at;
 use serde_json::Value;
 use std::alloc::{AllocError, Global};
 
@@ -44,7 +46,7 @@ fn is_name(text: &str) -> bool
 fn name_in(reader: &Value) -> &str
     ensures { result.now ≡ name_in (view reader.now) }
 {
-    text_at(reader, "name").unwrap_or("")
+    text_at(reader, NAME.name).unwrap_or("")
 }
 
 fn have_names(readers: &[Value]) -> bool

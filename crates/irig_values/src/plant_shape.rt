@@ -39,34 +39,58 @@ pub fn version_in(value: &Value) -> Option<Version>
     ensures { result
         ≡ option_and_then version_of (whole_at (codes "version") (view value.now)) }
 {
-    version_of(whole_at(value, "version")?)
+    version_of(whole_at(value, VERSION.name)?)
 }
+
+/// `version`: of the plant line.
+pub const VERSION: Key = key!("version": Kind::Whole);
+
+pub(crate) const START: Key = key!("start": Kind::Text(Text::Second));
 
 pub(crate) const LEAPS: Key = key!("leaps": Kind::Few(1200));
 
+pub(crate) const PARITY: Key = key!("parity": Kind::Text(Text::Parity));
+
+pub(crate) const SENSE: Key = key!("sense": Kind::Text(Text::Sense));
+
+pub(crate) const SBS: Key = key!("sbs": Kind::Text(Text::SbsUse));
+
+pub(crate) const GENERATORS: Key = key!("generators": Kind::List);
+
+pub(crate) const READERS: Key = key!("readers": Kind::List);
+
+pub(crate) const DAY: Key = key!("day": Kind::Text(Text::Day));
+
+pub(crate) const LEAP_KIND: Key = key!("kind": Kind::Text(Text::Leap));
+
 pub(crate) const LOCAL: Key = key!("local": Kind::Integer(-128, 127));
+
+pub(crate) const DST: Key = key!("dst": Kind::Truth);
+
+const FIRST_DST: Key = optional_key!("dst": Kind::Truth);
 
 pub(crate) const CHANGES: Key = optional_key!("changes": Kind::Few(400));
 
-pub(crate) const LEAP_KIND: Key = key!("kind": Kind::Text(Text::Leap));
+pub(crate) const AT: Key = key!("at": Kind::Text(Text::Second));
+
+pub(crate) const NAME: Key = key!("name": Kind::Text(Text::Name));
 
 pub(crate) const LOCK_AFTER: Key = key!("lock_after": Kind::Natural(1, 60));
 
 pub(crate) const HOLDOVER: Key = key!("holdover": Kind::Natural(0, 1_000_000));
+
+pub(crate) const TABLE: Key = optional_key!("table": Kind::Object);
+
+pub(crate) const UNTIL: Key = key!("until": Kind::Text(Text::Day));
+
+pub(crate) const TABLE_LEAPS: Key = key!("leaps": Kind::List);
 
 /// The keys of a plant line.
 pub fn plant_keys() -> &'static [Key]
     ensures { map key_value result.now ≡ plant_keys }
 {
     &[
-        key!("version": Kind::Whole),
-        key!("start": Kind::Text(Text::Second)),
-        LEAPS,
-        key!("parity": Kind::Text(Text::Parity)),
-        key!("sense": Kind::Text(Text::Sense)),
-        key!("sbs": Kind::Text(Text::SbsUse)),
-        key!("generators": Kind::List),
-        key!("readers": Kind::List),
+        VERSION, START, LEAPS, PARITY, SENSE, SBS, GENERATORS, READERS,
     ]
 }
 
@@ -74,25 +98,21 @@ pub fn plant_keys() -> &'static [Key]
 pub fn leap_keys() -> &'static [Key]
     ensures { map key_value result.now ≡ leap_keys }
 {
-    &[key!("day": Kind::Text(Text::Day)), LEAP_KIND]
+    &[DAY, LEAP_KIND]
 }
 
 /// The keys of a generator.
 pub fn generator_keys() -> &'static [Key]
     ensures { map key_value result.now ≡ generator_keys }
 {
-    &[LOCAL, optional_key!("dst": Kind::Truth), CHANGES]
+    &[LOCAL, FIRST_DST, CHANGES]
 }
 
 /// The keys of a change of a generator's zone.
 pub fn change_keys() -> &'static [Key]
     ensures { map key_value result.now ≡ change_keys }
 {
-    &[
-        key!("at": Kind::Text(Text::Second)),
-        LOCAL,
-        key!("dst": Kind::Truth),
-    ]
+    &[AT, LOCAL, DST]
 }
 
 /// The keys of a reader.
@@ -100,13 +120,8 @@ pub fn reader_keys(version: Version) -> &'static [Key]
     ensures { map key_value result.now ≡ reader_keys version }
 {
     match version {
-        Version::One => &[key!("name": Kind::Text(Text::Name)), LOCK_AFTER, HOLDOVER],
-        Version::Two | Version::Three => &[
-            key!("name": Kind::Text(Text::Name)),
-            LOCK_AFTER,
-            HOLDOVER,
-            optional_key!("table": Kind::Object),
-        ],
+        Version::One => &[NAME, LOCK_AFTER, HOLDOVER],
+        Version::Two | Version::Three => &[NAME, LOCK_AFTER, HOLDOVER, TABLE],
     }
 }
 
@@ -114,10 +129,7 @@ pub fn reader_keys(version: Version) -> &'static [Key]
 pub fn table_keys() -> &'static [Key]
     ensures { map key_value result.now ≡ table_keys }
 {
-    &[
-        key!("until": Kind::Text(Text::Day)),
-        key!("leaps": Kind::List),
-    ]
+    &[UNTIL, TABLE_LEAPS]
 }
 
 fn is_leap(value: &Value) -> bool
@@ -130,7 +142,7 @@ fn is_leap(value: &Value) -> bool
 fn are_leaps(value: &Value) -> bool
     ensures { result ≡ each_item (codes "leaps") is_leap (view value.now) }
 {
-    all_leaps(items_at(value, "leaps").unwrap_or(&[]))
+    all_leaps(items_at(value, LEAPS.name).unwrap_or(&[]))
 }
 
 fn all_leaps(values: &[Value]) -> bool
@@ -149,7 +161,7 @@ fn is_change(value: &Value) -> bool
 fn are_changes(value: &Value) -> bool
     ensures { result ≡ each_item (codes "changes") is_change (view value.now) }
 {
-    all_changes(items_at(value, "changes").unwrap_or(&[]))
+    all_changes(items_at(value, CHANGES.name).unwrap_or(&[]))
 }
 
 fn all_changes(values: &[Value]) -> bool
@@ -169,7 +181,7 @@ fn is_generator(value: &Value) -> bool
 fn are_generators(value: &Value) -> bool
     ensures { result ≡ each_item (codes "generators") is_generator (view value.now) }
 {
-    all_generators(items_at(value, "generators").unwrap_or(&[]))
+    all_generators(items_at(value, GENERATORS.name).unwrap_or(&[]))
 }
 
 fn all_generators(values: &[Value]) -> bool
@@ -189,14 +201,14 @@ fn is_table(value: &Value) -> bool
 fn is_reader(version: Version, value: &Value) -> bool
     ensures { result ≡ is_reader version (view value.now) }
 {
-    has_form(reader_keys(version), value) && value.get("table").is_none_or(is_table)
+    has_form(reader_keys(version), value) && value.get(TABLE.name).is_none_or(is_table)
 }
 
 #[tactic(auto, unfolding(irig_forms::specs::Fields::each_item), using(crate::proofs::ListLaws::all_readers))]
 fn are_readers(version: Version, value: &Value) -> bool
     ensures { result ≡ each_item (codes "readers") (is_reader version) (view value.now) }
 {
-    all_readers(version, items_at(value, "readers").unwrap_or(&[]))
+    all_readers(version, items_at(value, READERS.name).unwrap_or(&[]))
 }
 
 fn all_readers(version: Version, values: &[Value]) -> bool

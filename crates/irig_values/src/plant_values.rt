@@ -2,14 +2,15 @@
 
 ghost use Rattle.std.specs.Prelude.{◌≡◌, map};
 ghost use Rattle.serde_json.specs.View.{view};
-ghost use Rattle.irig_forms.specs.Refusals.{FoundUnlessMemory};
+ghost use Rattle.irig_faults.specs.Refusals.{FoundUnlessMemory};
 ghost use Rattle.irig_values.specs.PlantValues.{start_of, rules_of, readers_in, plant_values};
 
 use crate::generator_values::{GeneratorValues, generators_of};
 use crate::leap_values::leaps_of;
-use crate::plant_shape::Version;
+use crate::plant_shape::{PARITY, READERS, SBS, SENSE, START, Version};
 use crate::reader_values::{ReaderValues, all_readers};
-use irig_forms::{LineFault, Refusal, items_at, parity_of, sbs_use_of, sense_of, text_at};
+use irig_faults::{LineFault, Refusal};
+use irig_forms::{items_at, parity_of, sbs_use_of, sense_of, text_at};
 use irig_time::{Leap, Rules, UtcSecond, read_text};
 use serde_json::Value;
 use std::alloc::Global;
@@ -69,16 +70,16 @@ pub fn values_of(alloc: Global, version: Version, value: &Value) -> Result<Plant
 fn start_of(value: &Value) -> Option<UtcSecond>
     ensures { result ≡ start_of (view value.now) }
 {
-    read_text(text_at(value, "start")?.as_bytes())
+    read_text(text_at(value, START.name)?.as_bytes())
 }
 
 #[tactic(auto, unfolding(crate::specs::PlantValues::rules_of))]
 fn rules_of(value: &Value) -> Option<Rules>
     ensures { result ≡ rules_of (view value.now) }
 {
-    let parity = text_at(value, "parity")?;
-    let sense = text_at(value, "sense")?;
-    let sbs = text_at(value, "sbs")?;
+    let parity = text_at(value, PARITY.name)?;
+    let sense = text_at(value, SENSE.name)?;
+    let sbs = text_at(value, SBS.name)?;
     Some(Rules {
         parity: parity_of(parity)?,
         sense: sense_of(sense)?,
@@ -90,5 +91,5 @@ fn rules_of(value: &Value) -> Option<Rules>
 pub(crate) fn readers_in(value: &Value) -> &[Value]
     ensures { map view result.now ≡ readers_in (view value.now) }
 {
-    items_at(value, "readers").unwrap_or(&[])
+    items_at(value, READERS.name).unwrap_or(&[])
 }

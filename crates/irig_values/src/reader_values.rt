@@ -3,12 +3,13 @@
 ghost use Rattle.std.specs.Prelude.{◌≡◌, map, option_map};
 ghost use Rattle.serde_json.specs.View.{view};
 ghost use Rattle.irig_forms.specs.Json.{all_of};
-ghost use Rattle.irig_forms.specs.Refusals.{FoundUnlessMemory};
+ghost use Rattle.irig_faults.specs.Refusals.{FoundUnlessMemory};
 ghost use Rattle.irig_values.specs.PlantValues.{reader_rules_of, table_of, table_if, reader_of};
 
 use crate::leap_values::all_leaps;
-use crate::plant_shape::{HOLDOVER, LOCK_AFTER};
-use irig_forms::{LineFault, Refusal, items_at, natural_at, text_at};
+use crate::plant_shape::{HOLDOVER, LOCK_AFTER, TABLE, TABLE_LEAPS, UNTIL};
+use irig_faults::{LineFault, Refusal};
+use irig_forms::{items_at, natural_at, text_at};
 use irig_reader::ReaderRules;
 use irig_time::{Leap, read_day};
 use serde_json::Value;
@@ -49,7 +50,7 @@ fn reader_of(alloc: Global, value: &Value) -> Result<ReaderValues, LineFault>
     ensures { FoundUnlessMemory (λ r. r) (reader_of (view value.now)) result }
 {
     let rules = reader_rules_of(value).ok_or(Refusal::Value)?;
-    let (until, leaps) = table_if(alloc, value.get("table"))?;
+    let (until, leaps) = table_if(alloc, value.get(TABLE.name))?;
     Ok(ReaderValues {
         rules,
         until,
@@ -82,9 +83,9 @@ fn table_if(alloc: Global, table: Option<&Value>) -> Result<(u32, Vec<(u32, Leap
 fn table_of(alloc: Global, value: &Value) -> Result<(u32, Vec<(u32, Leap)>), LineFault>
     ensures { FoundUnlessMemory (λ t. (t.0, t.1.items)) (table_of (view value.now)) result }
 {
-    let until = text_at(value, "until").ok_or(Refusal::Value)?;
+    let until = text_at(value, UNTIL.name).ok_or(Refusal::Value)?;
     let until = read_day(until.as_bytes()).ok_or(Refusal::Value)?;
-    let items = items_at(value, "leaps").ok_or(Refusal::Value)?;
+    let items = items_at(value, TABLE_LEAPS.name).ok_or(Refusal::Value)?;
     let leaps = all_leaps(alloc, items)?;
     Ok((until, leaps))
 }

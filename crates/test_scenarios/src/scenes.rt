@@ -1,9 +1,10 @@
-use irig_device::{Break, Fuse, Watched};
+use irig_device::Watched;
 use irig_scene::{SceneFault, Shown, run_scene, run_scene_shown};
 use std::alloc::Global;
 use std::io;
 use std::io::{BufReader, Write};
 use std::test::Fail;
+use test_devices::{Break, Fuse};
 
 // The plain plant line, and three lines after it that write, the last its refusal.
 const SCENARIO: &str =

@@ -11,6 +11,6 @@ use Rattle.irig_c.proofs.reader.feed.Goals as goal
 pub returns : goal.returns
 returns c fed h =
     let at = c.from.ensures in
-    let own : IsTallyOf (tally_at c.args.ports.now c.from.result) (symbols_heard (fed_to fed c.args.port)) = rw at (h c.args.port c.requires) in
+    let reader_rules : IsTallyOf (tally_at c.args.ports.now c.from.result) (symbols_heard (fed_to fed c.args.port)) = rw at (h c.args.port c.requires) in
     heard-more c.args.ports.now fed c.args.port c.from.result (c.args.width_us ∷ []) c.add.new.self c.told-ports at c.requires h
-    (subst (λ (s : List Symbol). IsTallyOf c.add.new.self s) (sym (heard-push (fed_to fed c.args.port) c.args.width_us)) (c.add.ensures.added _ own))
+    (subst (λ (s : List Symbol). IsTallyOf c.add.new.self s) (sym (heard-push (fed_to fed c.args.port) c.args.width_us)) (c.add.ensures.added _ reader_rules))

@@ -8,6 +8,6 @@ use Rattle.irig_c.proofs.reader.feed_all.Goals as goal
 pub returns : goal.returns
 returns c fed h =
     let at = c.from.ensures in
-    let own : IsTallyOf (tally_at c.args.ports.now c.from.result) (symbols_heard (fed_to fed c.args.port)) = rw at (h c.args.port c.requires) in
+    let reader_rules : IsTallyOf (tally_at c.args.ports.now c.from.result) (symbols_heard (fed_to fed c.args.port)) = rw at (h c.args.port c.requires) in
     heard-more c.args.ports.now fed c.args.port c.from.result c.args.widths_us.now c.add_all.new.self c.told-ports at c.requires h
-    (c.add_all.ensures.added (fed_to fed c.args.port) own)
+    (c.add_all.ensures.added (fed_to fed c.args.port) reader_rules)

@@ -7,7 +7,7 @@ use Rattle.irig_reader.specs.declared.rules.ReaderRules.{ReaderRules}
 use Rattle.irig_c.specs.declared.table.IrigTable.{IrigTable}
 use Rattle.irig_c.specs.LeapTables.{table_in}
 use Rattle.irig_c.specs.declared.setup.IrigSetup.{IrigSetup}
-use Rattle.irig_c.specs.Setups.{rules_in, own_in, redundancy_in}
+use Rattle.irig_c.specs.Setups.{rules_in, reader_rules_in, redundancy_in}
 use Rattle.irig_c.specs.States.{IsState}
 use Rattle.irig_c.proofs.TellsLaws.{tells_are}
 use Rattle.irig_c.proofs.reader.irig_reader_tick.Goals as goal
@@ -17,7 +17,7 @@ never h = absurd cc
 
 pub returns-in_default-clause-after : goal.returns-in_default-clause-after
 returns-in_default-clause-after c h s =
-    absurd (never (c.in_default.ensures.there (subst (λ (o : ReaderRules). IsState o.lock_after c.args.reader.now.state) (sym c.own_of-own.ensures) s.is_state)))
+    absurd (never (c.in_default.ensures.there (subst (λ (o : ReaderRules). IsState o.lock_after c.args.reader.now.state) (sym c.reader_rules_of-reader_rules.ensures) s.is_state)))
 
 pub act-step-requires-clause-valid : goal.act-step-requires-clause-valid
 act-step-requires-clause-valid c =
@@ -28,8 +28,8 @@ pub returns-clause-report : goal.returns-clause-report
 returns-clause-report c h s =
     let told : c.tells_of.result ≡ told_at_tick h = c.tells_of.ensures.told ∙ tells_are c.args.reader.now h s in
     let vote : c.vote-vote.result ≡ vote_at_tick h = cc in
-    let own : c.own_of-own.result ≡ h.own = c.own_of-own.ensures ∙ s.own in
-    let state : c.in-Some.state ≡ state_of h.own h.table h.votes = c.in-Some.ensures.is ∙ s.state in
+    let reader_rules : c.reader_rules_of-reader_rules.result ≡ h.reader_rules = c.reader_rules_of-reader_rules.ensures ∙ s.reader_rules in
+    let state : c.in-Some.state ≡ state_of h.reader_rules h.table h.votes = c.in-Some.ensures.is ∙ s.state in
     let table : table_in c.args.reader.now.table ≡ h.table = s.table in
     let step = c.act-step.ensures.step in
     let for_c = c.report_for_c.ensures in
@@ -39,23 +39,23 @@ pub returns-clause-after : goal.returns-clause-after
 returns-clause-after c h s =
     let told : c.tells_of.result ≡ told_at_tick h = c.tells_of.ensures.told ∙ tells_are c.args.reader.now h s in
     let vote : c.vote-vote.result ≡ vote_at_tick h = cc in
-    let own : c.own_of-own.result ≡ h.own = c.own_of-own.ensures ∙ s.own in
-    let state : c.in-Some.state ≡ state_of h.own h.table h.votes = c.in-Some.ensures.is ∙ s.state in
+    let reader_rules : c.reader_rules_of-reader_rules.result ≡ h.reader_rules = c.reader_rules_of-reader_rules.ensures ∙ s.reader_rules in
+    let state : c.in-Some.state ≡ state_of h.reader_rules h.table h.votes = c.in-Some.ensures.is ∙ s.state in
     let table : table_in c.args.reader.now.table ≡ h.table = s.table in
     let step = c.act-step.ensures.step in
-    let after : c.act-step.result.state ≡ state_of h.own h.table (after_tick h).votes = cc in
+    let after : c.act-step.result.state ≡ state_of h.reader_rules h.table (after_tick h).votes = cc in
     let setup = c.empty.ensures.setup in
     let kept = c.empty.ensures.table in
     let ports = c.empty.ensures.ports in
     record {
       rules = ap (λ (x : IrigSetup). rules_in x) setup ∙ s.rules;
-      own = ap (λ (x : IrigSetup). own_in x) setup ∙ s.own;
+      reader_rules = ap (λ (x : IrigSetup). reader_rules_in x) setup ∙ s.reader_rules;
       table = ap (λ (x : IrigTable). table_in x) kept ∙ s.table;
       redundancy = ap (λ (x : IrigSetup). redundancy_in x) setup ∙ s.redundancy;
       heard = ports;
       state = c.state_for_c-reader.ensures.is ∙ after;
-      in_range = subst (λ (x : IrigSetup). IsReaderRules (own_in x)) (sym setup) s.in_range;
+      in_range = subst (λ (x : IrigSetup). IsReaderRules (reader_rules_in x)) (sym setup) s.in_range;
       is_state = subst (λ (x : IrigSetup). IsState x.lock_after c.state_for_c-reader.result) (sym setup)
-          (subst (λ (o : ReaderRules). IsState o.lock_after c.state_for_c-reader.result) c.own_of-own.ensures
-          (c.state_for_c-reader.ensures.state c.own_of-own.result.lock_after c.act-step.ensures.counting));
+          (subst (λ (o : ReaderRules). IsState o.lock_after c.state_for_c-reader.result) c.reader_rules_of-reader_rules.ensures
+          (c.state_for_c-reader.ensures.state c.reader_rules_of-reader_rules.result.lock_after c.act-step.ensures.counting));
     }

@@ -6,7 +6,7 @@ use Rattle.irig_vote.specs.declared.redundancy.Redundancy.TheVariants.{Three, Fi
 use Rattle.irig_plant.specs.declared.told_log.ToldEntry.{ToldEntry}
 use Rattle.irig_plant.specs.Schedule.{delivery, history_of}
 use Rattle.irig_plant.specs.Audits.{first_false, verdict}
-use Rattle.irig_plant.proofs.StepLaws.{set_reader, wave_after, delivers, feed_other, feed_here}
+use Rattle.irig_plant.proofs.StepLaws.{set_reader, cached_port_after, delivers, feed_other, feed_here}
 use Rattle.irig_plant.proofs.plant.Plant.deliver.Goals as goal
 
 at_most_five : (redundancy : Redundancy) → ports_in redundancy ≤ 5
@@ -31,7 +31,7 @@ returns g c = λ h e p given.
       redundancy = p.redundancy;
       generator_count = p.generator_count;
       generators = λ i d lt. p.generators i d lt ∙ sym (plain.generators i);
-      waves = λ i d lt. wave_after g.P.Port s ev (e ∷ ev) i _ (plain.generators i) (p.waves i d lt);
+      cached_ports = λ i d lt. cached_port_after g.P.Port s ev (e ∷ ev) i _ (plain.generators i) (p.cached_ports i d lt);
       reader_count = p.reader_count;
       readers = set_reader s ev (e ∷ ev) xs.items r x _ (sym xs.ok.0 ∙ p.reader_count) low p.readers c.index_mut-ticked_reader.ensures.value
           (feed_other s e ev (delivery k r ws) given)

@@ -1,6 +1,6 @@
 use Rattle.std.proofs.Common.{rules, ◌<◌, ◌∷◌, length, sym, ◌∙◌, arith}
 use Rattle.irig_plant.specs.declared.event.Event.TheVariants.{Fault}
-use Rattle.irig_plant.proofs.StepLaws.{set_generator, set_wave, fault_other, fault_here}
+use Rattle.irig_plant.proofs.StepLaws.{set_generator, set_cached_port, fault_other, fault_here}
 use Rattle.irig_plant.proofs.plant.Plant.fault.Goals as goal
 
 pub returns : goal.returns
@@ -21,9 +21,9 @@ returns g c = record {
         generators = set_generator s ev (Fault k kind ∷ ev) self.generators.items k c.index_mut-generator.result.now c.fault.new.self
             (sym self.generators.ok.0 ∙ p.generator_count) low p.generators c.index_mut-generator.ensures.value
             (λ i. fault_other s ev k i kind) (fault_here s ev k kind c.index_mut-generator.result.now c.fault.new.self c.fault.ensures);
-        waves = set_wave g.P.Port s ev (Fault k kind ∷ ev) self.waves.items k _
-            (omega (arith, low, p.generator_count, self.carried, self.waves.ok.0))
-            p.waves (λ i. fault_other s ev k i kind) tt;
+        cached_ports = set_cached_port g.P.Port s ev (Fault k kind ∷ ev) self.cached_ports.items k _
+            (omega (arith, low, p.generator_count, self.carried, self.cached_ports.ok.0))
+            p.cached_ports (λ i. fault_other s ev k i kind) tt;
         reader_count = p.reader_count;
         readers = p.readers;
         log = p.log;

@@ -1,6 +1,6 @@
 use Rattle.std.proofs.Common.{rules, ◌<◌, ◌∷◌, length, sym, ◌∙◌, arith}
 use Rattle.irig_plant.specs.declared.event.Event.TheVariants.{Repair}
-use Rattle.irig_plant.proofs.StepLaws.{set_generator, set_wave, repair_other, repair_here}
+use Rattle.irig_plant.proofs.StepLaws.{set_generator, set_cached_port, repair_other, repair_here}
 use Rattle.irig_plant.proofs.plant.Plant.repair.Goals as goal
 
 pub returns : goal.returns
@@ -20,9 +20,9 @@ returns g c = record {
         generators = set_generator s ev (Repair k ∷ ev) self.generators.items k c.index_mut-generator.result.now c.repair.new.self
             (sym self.generators.ok.0 ∙ p.generator_count) low p.generators c.index_mut-generator.ensures.value
             (λ i. repair_other s ev k i) (repair_here s ev k c.index_mut-generator.result.now c.repair.new.self c.repair.ensures);
-        waves = set_wave g.P.Port s ev (Repair k ∷ ev) self.waves.items k _
-            (omega (arith, low, p.generator_count, self.carried, self.waves.ok.0))
-            p.waves (λ i. repair_other s ev k i) tt;
+        cached_ports = set_cached_port g.P.Port s ev (Repair k ∷ ev) self.cached_ports.items k _
+            (omega (arith, low, p.generator_count, self.carried, self.cached_ports.ok.0))
+            p.cached_ports (λ i. repair_other s ev k i) tt;
         reader_count = p.reader_count;
         readers = p.readers;
         log = p.log;

@@ -1,7 +1,7 @@
 use Rattle.std.proofs.Common.{rules, ◌<◌, ◌∷◌, length, refl, sym, ◌∙◌, arith}
 use Rattle.irig_plant.specs.declared.event.Event.TheVariants.{Restart}
 use Rattle.irig_plant.specs.Schedule.{history_of}
-use Rattle.irig_plant.proofs.StepLaws.{set_reader, wave_after, restart_other, restart_here}
+use Rattle.irig_plant.proofs.StepLaws.{set_reader, cached_port_after, restart_other, restart_here}
 use Rattle.irig_plant.proofs.plant.Plant.restart.Goals as goal
 
 pub returns : goal.returns
@@ -20,7 +20,7 @@ returns g c = record {
         redundancy = p.redundancy;
         generator_count = p.generator_count;
         generators = p.generators;
-        waves = λ i d lt. wave_after g.P.Port s ev (Restart r ∷ ev) i _ refl (p.waves i d lt);
+        cached_ports = λ i d lt. cached_port_after g.P.Port s ev (Restart r ∷ ev) i _ refl (p.cached_ports i d lt);
         reader_count = p.reader_count;
         readers = set_reader s ev (Restart r ∷ ev) xs.items r x _ (sym xs.ok.0 ∙ p.reader_count) low p.readers c.index_mut-ticked_reader.ensures.value
             (restart_other s ev r)

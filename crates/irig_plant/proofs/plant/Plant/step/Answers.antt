@@ -4,7 +4,7 @@ use Rattle.irig_time.specs.Timelines.{TimelineValue, second_at}
 use Rattle.irig_plant.specs.Schedule.{generator_at}
 use Rattle.irig_plant.specs.Refusals.{unless_second}
 use Rattle.irig_plant.specs.declared.event.Event.TheVariants.{GenEdge}
-use Rattle.irig_plant.proofs.StepLaws.{a_generator, no_second, set_generator, set_wave, step_other, step_here}
+use Rattle.irig_plant.proofs.StepLaws.{a_generator, no_second, set_generator, set_cached_port, step_other, step_here}
 use Rattle.irig_plant.proofs.plant.Plant.step.Goals as goal
 
 pub returns-then-is_none : goal.returns-then-is_none
@@ -43,9 +43,9 @@ returns g c = record {
         generators = set_generator s ev (GenEdge k ∷ ev) self.generators.items k c.index_mut-generator.result.now c.step.new.self
             (sym self.generators.ok.0 ∙ p.generator_count) low p.generators c.index_mut-generator.ensures.value
             (λ i. step_other s ev k i) (step_here s ev k c.index_mut-generator.result.now c.step.new.self c.step.ensures);
-        waves = set_wave g.P.Port s ev (GenEdge k ∷ ev) self.waves.items k _
-            (omega (arith, low, p.generator_count, self.carried, self.waves.ok.0))
-            p.waves (λ i. step_other s ev k i) tt;
+        cached_ports = set_cached_port g.P.Port s ev (GenEdge k ∷ ev) self.cached_ports.items k _
+            (omega (arith, low, p.generator_count, self.carried, self.cached_ports.ok.0))
+            p.cached_ports (λ i. step_other s ev k i) tt;
         reader_count = p.reader_count;
         readers = p.readers;
         log = p.log;

@@ -8,11 +8,11 @@ use Rattle.irig_plant.specs.declared.event.Event.TheVariants.{Tick}
 use Rattle.irig_plant.specs.declared.entry.Entry.{Entry}
 use Rattle.irig_plant.specs.Sound.{IsSound}
 use Rattle.irig_plant.specs.Schedule.{ticks_of, history_of, entry_of, log_of, told_log_of, told_entry_of}
-use Rattle.irig_plant.specs.Audits.{place, is_broken_now, first_false, first_broken}
+use Rattle.irig_plant.specs.Audits.{tick_of_reader, is_broken_now, first_false, first_broken}
 use Rattle.irig_plant.specs.History.{IsTickedReaderAt}
 use Rattle.irig_plant.proofs.ListLaws.{drop-push}
 use Rattle.irig_plant.proofs.ToldLaws.{told_length, one_kept, claimed_after}
-use Rattle.irig_plant.proofs.StepLaws.{set_reader, wave_after, tick_other, tick_here, audit_tick}
+use Rattle.irig_plant.proofs.StepLaws.{set_reader, cached_port_after, tick_other, tick_here, audit_tick}
 use Rattle.irig_plant.proofs.plant.Plant.tick.Goals as goal
 
 pub overflow_add-edge : goal.overflow_add-edge
@@ -81,7 +81,7 @@ returns-clause-stands g c = λ h p.
       redundancy = p.redundancy;
       generator_count = p.generator_count;
       generators = p.generators;
-      waves = λ i d lt. wave_after g.P.Port s ev (Tick r ∷ ev) i _ refl (p.waves i d lt);
+      cached_ports = λ i d lt. cached_port_after g.P.Port s ev (Tick r ∷ ev) i _ refl (p.cached_ports i d lt);
       reader_count = p.reader_count;
       readers = set_reader s ev (Tick r ∷ ev) xs.items r x _ (sym xs.ok.0 ∙ p.reader_count) low p.readers c.index_mut-ticked_reader.ensures.value
           (tick_other s ev r)
@@ -90,5 +90,5 @@ returns-clause-stands g c = λ h p.
       few = omega (arith, p.few, length-append (log_of s ev) (entry_of s r ev ∷ []));
       is_kept = c.push.ensures.kept ∙ c.reserve-2.ensures.kept ∙ p.is_kept;
       told = c.push.ensures.pushed ∙ rw (c.reserve-2.ensures.kept, c.reserve-2.ensures.same, p.is_kept, p.told, truth, told, p.redundancy) (one_kept h.keeps_told h.shown (told_log_of s ev) (told_entry_of s r ev) (omega (arith, p.few, told_length s ev)));
-      audit = c.audit_after-self.ensures ∙ rw (p.audit, truth, told, p.redundancy, first.ticked) (audit_tick (first_false s.times 0 s.readers) (first_broken s ev) (place r (ticks_of r ev + 1)) (is_broken_now s r ev));
+      audit = c.audit_after-self.ensures ∙ rw (p.audit, truth, told, p.redundancy, first.ticked) (audit_tick (first_false s.times 0 s.readers) (first_broken s ev) (tick_of_reader r (ticks_of r ev + 1)) (is_broken_now s r ev));
     }

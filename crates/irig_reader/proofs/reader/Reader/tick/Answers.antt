@@ -23,5 +23,5 @@ returns-clause-report g c history s =
 pub returns-clause-after : goal.returns-clause-after
 returns-clause-after g c history s =
     let told = returns-clause-told g c history s in
-    let state : c.act-step.result.state ≡ state_of history.own history.table (after_tick history).votes = cc in
+    let state : c.act-step.result.state ≡ state_of history.reader_rules history.table (after_tick history).votes = cc in
     search rules

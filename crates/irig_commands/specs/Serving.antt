@@ -1,0 +1,132 @@
+-- What is done for a request.
+-- Source: README.md, the commands; the exit statuses are those of Status.antt.
+use Rattle.std.specs.Prelude.{◌≡◌, ℕ, ◌≤◌, ◌↔◌, ◌⊎◌, Bool, false, true, List, Option, Some, None, Result, Ok, Err, string_bytes, ℤ}
+use Rattle.std.specs.Io.KnownBytes.{Appends, Keeps}
+use Rattle.std.specs.declared.io.Error.{Error}
+use Rattle.irig_device.specs.Lines.{Bytes}
+use Rattle.irig_device.specs.Watched.{AppendsPart}
+use Rattle.irig_time.specs.declared.leap.Leap.{Leap}
+use Rattle.irig_time.specs.declared.leap.Leap.TheVariants as leap
+use Rattle.irig_frame_text.specs.Frame.{NamesNoSecond, ShowsFrameOf}
+use Rattle.irig_frame_text.specs.Letters.{ShowsNoSymbols}
+use Rattle.irig_frame_text.specs.Reading.{IsReadingOf}
+use Rattle.irig_scene.specs.declared.outcome.Outcome.{Outcome}
+use Rattle.irig_scene.specs.declared.fault.SceneFault.{SceneFault}
+use Rattle.irig_log_text.specs.declared.shown.Shown.{Shown}
+use Rattle.irig_scene.specs.Run.{RanShown}
+use Rattle.irig_command_line.specs.declared.request.Request.{Request}
+use Rattle.irig_command_line.specs.declared.request.Request.TheVariants.{Plain, Input, Run, Frame, Read, Explain}
+use Rattle.irig_command_line.specs.declared.request.Pending.{Pending}
+use Rattle.irig_command_line.specs.declared.request.Pending.TheVariants.{Insert, Delete}
+use Rattle.irig_command_line.specs.declared.request.NoRequest.{NoRequest}
+use Rattle.irig_command_line.specs.declared.request.NoRequest.TheVariants as none
+use Rattle.irig_commands.specs.declared.fault.Fault.{Fault}
+use Rattle.irig_commands.specs.declared.fault.Fault.TheVariants as fault
+use Rattle.irig_commands.specs.Status.{result_of, status_of_answer}
+
+-- what the program answers
+abbrev pub Answer : Type 0
+Answer = Result (Unit {0}) Fault
+
+-- this fault, before anything was written
+abbrev pub Refuses : Fault → Answer → Bytes → Bytes → Type 0
+Refuses f answer old new = (answer ≡ Err f) × Keeps old new
+
+-- the whole text was written, or a front of it before the output failed
+abbrev pub Wrote : List ℕ → Answer → Bytes → Bytes → Type 0
+Wrote text (Ok done) old new = Appends old new text
+Wrote text (Err f) old new = (f ≡ fault.Write) × AppendsPart old new text
+
+-- ---- each request
+
+-- a run of the input, of which `left` is left
+pub record RunsScene (shown : Shown) (answer : Answer) (input left old new : Bytes) : Type 0 where
+  pub run : Result Outcome SceneFault
+  pub answered : answer ≡ result_of run
+  pub ran : RanShown run shown input left old new
+
+-- the bytes are those that some file has to give
+abbrev pub AreOfFile : {F : Type 0} → (F → Bytes) → Bytes → Type 0
+AreOfFile {F} remaining bytes = (file : F) × (bytes ≡ remaining file)
+
+-- a run of what a file gives; or it can't be opened, or there is no memory for it
+abbrev pub RunsFile : {F : Type 0} → (F → Bytes) → Shown → Answer → Bytes → Bytes → Type 0
+RunsFile remaining shown answer old new =
+    ((input left : Bytes) × AreOfFile remaining input × RunsScene shown answer input left old new)
+    ⊎ (((error : Error) × Refuses (fault.Open error) answer old new)
+    ⊎ Refuses fault.Memory answer old new)
+
+-- the frame of the second that the time names, if it names one
+abbrev pub ShowsFrame : List ℕ → ℤ → Option Leap → Answer → Bytes → Bytes → Type 0
+ShowsFrame time local pending answer old new =
+    ((text : List ℕ) × ShowsFrameOf time local pending text × Wrote text answer old new)
+    ⊎ (NamesNoSecond time × Refuses fault.BadTime answer old new)
+
+-- what is said of the symbols that the text shows, if it shows some and there is memory
+abbrev pub ShowsReading : List ℕ → Answer → Bytes → Bytes → Type 0
+ShowsReading text answer old new =
+    ((lines : List ℕ) × IsReadingOf text lines × Wrote lines answer old new)
+    ⊎ ((ShowsNoSymbols text × Refuses fault.BadFrameText answer old new)
+    ⊎ Refuses fault.Memory answer old new)
+
+-- what a number means, if there is memory
+abbrev pub ShowsMeaning : Answer → Bytes → Bytes → Type 0
+ShowsMeaning answer old new =
+    ((text : List ℕ) × Wrote text answer old new) ⊎ Refuses fault.Memory answer old new
+
+-- ---- all requests
+
+-- what is shown of a run
+abbrev pub shown : Bool → Bool → Shown
+shown all ports = record { all = all; ports = ports }
+
+-- it is the input that is run
+abbrev pub reads_input : Request → Bool
+reads_input Plain = true
+reads_input (Input all ports) = true
+reads_input (Run file all ports) = false
+reads_input (Frame time local pending) = false
+reads_input (Read frame) = false
+reads_input (Explain number) = false
+
+-- the leap second that a word of the command line names, if one does
+abbrev pub leap_of : Option Pending → Option Leap
+leap_of None = None
+leap_of (Some Insert) = Some leap.Insert
+leap_of (Some Delete) = Some leap.Delete
+
+-- the request was served; what is left of the input is said of a run of it alone
+abbrev pub Serves : {F : Type 0} → (F → Bytes) → Request → Answer → Bytes → Bytes → Bytes → Bytes
+    → Type 0
+Serves remaining Plain answer input left old new =
+    RunsScene (shown false false) answer input left old new
+Serves remaining (Input all ports) answer input left old new =
+    RunsScene (shown all ports) answer input left old new
+Serves remaining (Run file all ports) answer input left old new =
+    RunsFile remaining (shown all ports) answer old new
+Serves remaining (Frame time local pending) answer input left old new =
+    ShowsFrame time.now local (leap_of pending) answer old new
+Serves remaining (Read frame) answer input left old new = ShowsReading frame.now answer old new
+Serves remaining (Explain number) answer input left old new = ShowsMeaning answer old new
+
+-- the words ask for this, or for help, or for nothing that there is
+abbrev pub Answers : {F : Type 0} → (F → Bytes) → Result Request NoRequest → Answer → Bytes
+    → Bytes → Bytes → Bytes → Type 0
+Answers remaining (Ok request) answer input left old new =
+    Serves remaining request answer input left old new
+Answers remaining (Err (none.Help text)) answer input left old new =
+    Wrote (string_bytes text) answer old new
+Answers remaining (Err (none.Fault text)) answer input left old new =
+    Refuses (fault.CommandLine text) answer old new
+Answers remaining (Err none.Memory) answer input left old new =
+    Refuses fault.Memory answer old new
+
+-- what so many words ask for was answered with this exit status: a plain run where there is none
+-- after the program's name
+pub record Drove {F : Type 0} (remaining : F → Bytes) (words status : ℕ)
+    (input left old new : Bytes) : Type 0 where
+  pub asked : Result Request NoRequest
+  pub plain : (asked ≡ Ok Plain) ↔ (words ≤ 1)
+  pub answer : Answer
+  pub answered : Answers remaining asked answer input left old new
+  pub ends : status ≡ status_of_answer answer

@@ -1,0 +1,198 @@
+//! What a request asks for, done.
+
+ghost use Rattle.std.specs.Prelude.{◌≡◌, ◌≢◌, ◌↔◌, ◌⊎◌, ◌≤◌, Err, IfOk, false, true, unsigned_abs};
+ghost use Rattle.std.specs.Io.Buffered.{reader_remaining};
+ghost use Rattle.irig_command_line.specs.Requests.{IsRequest};
+ghost use Rattle.irig_device.specs.Watched.{device_of, has_failed};
+ghost use Rattle.irig_commands.specs.Serving.{
+  AreOfFile,
+  RunsFile,
+  RunsScene,
+  Serves,
+  ShowsFrame,
+  ShowsMeaning,
+  ShowsReading,
+  Wrote,
+  leap_of,
+  reads_input,
+  shown,
+};
+
+use crate::explain::{explanation, tell_refusal};
+use crate::fault::Fault;
+use irig_command_line::{Pending, Request};
+use irig_device::Watched;
+use irig_frame_text::{frame_lines, frame_text};
+use irig_scene::{Shown, run_scene_shown};
+use irig_time::Leap;
+use std::alloc::Global;
+use std::io::{BufRead, BufReader, Write};
+use std::rt::Files;
+use std::{fs, io};
+
+/// Does what is asked for. Neither device may have failed before.
+///
+/// `BadTime` where TIME is the text of no second, `BadFrameText` where FRAME has a letter of no
+/// symbol, and then nothing is written; `Refused` where a line of the scenario is refused, which the
+/// standard error then explains; `Open` where FILE can't be opened, `Read` where the scenario can't
+/// be read to its end, `Write` where the output fails; `Memory` where there was none.
+pub fn serve<'a, R: Files + Eprint + AllocGlobal, I: BufRead, O: Write>(
+    rt: &R,
+    request: Request<'a>,
+    input: &mut Watched<I>,
+    output: &mut Watched<O>,
+) -> Result<(), Fault>
+    requires in_range { IsRequest request }
+    requires input_whole { has_failed input.old ≡ false }
+    requires output_whole { has_failed output.old ≡ false }
+    ensures served { Serves R.File.remaining request.entry result
+        (I.remaining (device_of input.old)) (I.remaining (device_of input.new))
+        (O.contents (device_of output.old)) (O.contents (device_of output.new)) }
+    ensures write { (result ≡ Err Fault.Write) ↔ (has_failed output.new ≡ true) }
+    ensures read { reads_input request.entry ≡ true
+        → (result ≡ Err Fault.Read) ↔ (has_failed input.new ≡ true) }
+    ensures unread { reads_input request.entry ≡ false → input.new ≡ input.old }
+    ensures unwritten { (result ≡ Err Fault.BadTime) ⊎ (result ≡ Err Fault.BadFrameText)
+        → output.new ≡ output.old }
+{
+    match request {
+        Request::Plain => run_input(rt, input, output, shown(false, false)),
+        Request::Input { all, ports } => run_input(rt, input, output, shown(all, ports)),
+        Request::Run { file, all, ports } => run_file(rt, file, shown(all, ports), output),
+        Request::Frame {
+            time,
+            local,
+            pending,
+        } => show_frame(time, local, leap_of(pending), output),
+        Request::Read { frame } => show_reading(rt.alloc(), frame, output),
+        Request::Explain { number } => show_meaning(rt.alloc(), number, output),
+    }
+}
+
+fn shown(all: bool, ports: bool) -> Shown
+    ensures { result ≡ shown all ports }
+{
+    Shown { all, ports }
+}
+
+fn leap_of(pending: Option<Pending>) -> Option<Leap>
+    ensures { result ≡ leap_of pending }
+{
+    match pending {
+        None => None,
+        Some(Pending::Insert) => Some(Leap::Insert),
+        Some(Pending::Delete) => Some(Leap::Delete),
+    }
+}
+
+fn run_input<R: Eprint + AllocGlobal, I: BufRead, O: Write>(
+    rt: &R,
+    input: &mut Watched<I>,
+    output: &mut Watched<O>,
+    shown: Shown,
+) -> Result<(), Fault>
+    requires input_whole { has_failed input.old ≡ false }
+    requires output_whole { has_failed output.old ≡ false }
+    ensures ran { RunsScene shown result
+        (I.remaining (device_of input.old)) (I.remaining (device_of input.new))
+        (O.contents (device_of output.old)) (O.contents (device_of output.new)) }
+    ensures write { (result ≡ Err Fault.Write) ↔ (has_failed output.new ≡ true) }
+    ensures read { (result ≡ Err Fault.Read) ↔ (has_failed input.new ≡ true) }
+{
+    let mut refused = None;
+    match run_scene_shown(rt.alloc(), input, output, shown, &mut refused) {
+        Ok(_) => Ok(()),
+        Err(fault) => {
+            tell_refusal(rt, fault, &refused);
+            Err(Fault::from(fault))
+        }
+    }
+}
+
+fn run_file<R: Files + Eprint + AllocGlobal, O: Write>(
+    rt: &R,
+    path: &str,
+    shown: Shown,
+    output: &mut Watched<O>,
+) -> Result<(), Fault>
+    requires { has_failed output.old ≡ false }
+    ensures ran { RunsFile R.File.remaining shown result
+        (O.contents (device_of output.old)) (O.contents (device_of output.new)) }
+    ensures write { (result ≡ Err Fault.Write) ↔ (has_failed output.new ≡ true) }
+{
+    match open(rt, path) {
+        Ok(mut input) => run_input(rt, &mut input, output, shown),
+        Err(error) if error.kind() == io::ErrorKind::OutOfMemory => Err(Fault::Memory),
+        Err(error) => Err(Fault::Open(error)),
+    }
+}
+
+fn open<R: Files + AllocGlobal>(rt: &R, path: &str) -> io::Result<Watched<BufReader<R::File>>>
+    ensures whole { IfOk result (λ input. has_failed input ≡ false) }
+    ensures bytes { IfOk result (λ input. AreOfFile R.File.remaining
+        (reader_remaining R.File.remaining (device_of input))) }
+{
+    let file = fs::open(rt, path)?;
+    Ok(Watched::new(BufReader::new(rt.alloc(), file)?))
+}
+
+fn show_frame<O: Write>(
+    time: &str,
+    local: i8,
+    pending: Option<Leap>,
+    output: &mut Watched<O>,
+) -> Result<(), Fault>
+    requires in_range { unsigned_abs local ≤ 31 }
+    requires whole { has_failed output.old ≡ false }
+    ensures shown { ShowsFrame time.now local pending result
+        (O.contents (device_of output.old)) (O.contents (device_of output.new)) }
+    ensures write { (result ≡ Err Fault.Write) ↔ (has_failed output.new ≡ true) }
+    ensures unwritten { result ≡ Err Fault.BadTime → output.new ≡ output.old }
+    ensures other { result ≢ Err Fault.BadFrameText }
+{
+    match frame_text(time, local, pending) {
+        Ok(text) => write(output, &text),
+        Err(fault) => Err(Fault::from(fault)),
+    }
+}
+
+fn show_reading<O: Write>(alloc: Global, frame: &str, output: &mut Watched<O>) -> Result<(), Fault>
+    requires { has_failed output.old ≡ false }
+    ensures shown { ShowsReading frame.now result
+        (O.contents (device_of output.old)) (O.contents (device_of output.new)) }
+    ensures write { (result ≡ Err Fault.Write) ↔ (has_failed output.new ≡ true) }
+    ensures unwritten { result ≡ Err Fault.BadFrameText → output.new ≡ output.old }
+    ensures other { result ≢ Err Fault.BadTime }
+{
+    match frame_lines(alloc, frame) {
+        Ok(lines) => write(output, lines.as_str().as_bytes()),
+        Err(fault) => Err(Fault::from(fault)),
+    }
+}
+
+fn show_meaning<O: Write>(alloc: Global, number: u8, output: &mut Watched<O>) -> Result<(), Fault>
+    requires { has_failed output.old ≡ false }
+    ensures shown { ShowsMeaning result
+        (O.contents (device_of output.old)) (O.contents (device_of output.new)) }
+    ensures write { (result ≡ Err Fault.Write) ↔ (has_failed output.new ≡ true) }
+    ensures time { result ≢ Err Fault.BadTime }
+    ensures frame { result ≢ Err Fault.BadFrameText }
+{
+    match explanation(alloc, number) {
+        Ok(text) => write(output, text.as_str().as_bytes()),
+        Err(_) => Err(Fault::Memory),
+    }
+}
+
+/// Writes all of a text, or a front of it before the output fails.
+pub(crate) fn write<O: Write>(output: &mut Watched<O>, text: &[u8]) -> Result<(), Fault>
+    requires { has_failed output.old ≡ false }
+    ensures wrote { Wrote text.now result
+        (O.contents (device_of output.old)) (O.contents (device_of output.new)) }
+    ensures write { (result ≡ Err Fault.Write) ↔ (has_failed output.new ≡ true) }
+{
+    match output.write_all(text) {
+        Ok(()) => Ok(()),
+        Err(_) => Err(Fault::Write),
+    }
+}

@@ -1,0 +1,11 @@
+//! Texts cut to what is shown of them.
+
+ghost use Rattle.std.specs.Prelude.{◌≡◌, IfSome, length, take};
+
+/// The first `most` characters of a text that has more; none if it has no more.
+pub(crate) fn start_of(text: &str, most: usize) -> Option<&str>
+    ensures { IfSome result (λ start. start.now ≡ take (length start.now) text.now) }
+{
+    let (end, _) = text.char_indices().nth(most)?;
+    text.get(..end)
+}
