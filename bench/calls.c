@@ -58,7 +58,6 @@ static void measure(const char *name, void (*prepare)(void), void (*call)(void),
 }
 
 int main(void) {
-    static const uint32_t width_us[] = {2000, 5000, 8000, 0};
     irig_setup setup = {.lock_after = 2, .holdover = 3600};
     irig_table table = {0};
     irig_utc second;
@@ -66,7 +65,7 @@ int main(void) {
     if (irig_coded_of(&second, 0, &coded) || irig_encode(&coded, symbols)) return 1;
     irig_set_parity(symbols, IRIG_EVEN);
     for (int element = 0; element < 100; element++)
-        widths_us[element] = width_us[symbols[element]];
+        widths_us[element] = irig_width_us(symbols[element]);
     if (irig_reader_init(&reader, &setup, &table)) return 1;
     measure("irig_reader_pulse", empty, pulses_one_by_one, 100);
     measure("irig_reader_pulses, of 100", empty, frame_of_pulses, 1);

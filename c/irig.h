@@ -210,6 +210,10 @@ IRIG_ASSERT(sizeof(irig_told) == 20 && offsetof(irig_told, fault) == 4 &&
 /* The symbol of a pulse of this width in microseconds. */
 uint8_t irig_classify(uint32_t width_us);
 
+/* The nominal width in microseconds of a symbol's pulse: 2000, 5000 or 8000. 0 of a bad pulse and of
+ * any number above it. */
+uint32_t irig_width_us(uint8_t symbol);
+
 /* Writes the frame of a coded time, the elements without a field 0. IRIG_VALUE. */
 uint32_t irig_encode(const irig_coded *coded, uint8_t symbols[100]);
 

@@ -1,6 +1,6 @@
 // ---- the codec: what the page asks the module of irig_c, as c/irig.h has its structures
 
-const SYMBOLS = "01P?", WIDTHS = [2000, 5000, 8000, 0]; // a width of 0 is a bad pulse
+const SYMBOLS = "01P?";
 const MOST_SYMBOLS = 101; // enough to see that there are too many
 const MARKS = ["unspoken", "no-leap", "insert", "delete"];
 const FIELDS = ["second", "minute", "hour", "day", "year"];
@@ -87,7 +87,8 @@ class Codec {
     this.view.setUint8(this.setup + 4, 1); // lock_after
     this.bytes("table", 520).fill(0);
     this.ask("reader_init", this.at("reader"), this.at("setup"), this.at("table"));
-    for (const symbol of symbols) this.ask("reader_pulse", this.at("reader"), 0, WIDTHS[symbol]);
+    for (const symbol of symbols)
+      this.ask("reader_pulse", this.at("reader"), 0, this.ask("width_us", symbol));
     this.ask("reader_port", this.at("reader"), 0, this.at("told"));
     const kind = this.view.getUint8(this.told);
     if (kind === KINDS.SILENCE) return { line: "silence" };

@@ -27,8 +27,6 @@ void *memset(void *to, int byte, size_t count) {
     return to;
 }
 
-static const uint32_t width_us[] = {2000, 5000, 8000, 0};
-
 /* The frame of a second in UTC, with the inserted leap second pending. */
 static int make(const irig_utc *second, uint8_t symbols[100]) {
     irig_control control = {.leap_pending = 1};
@@ -56,7 +54,7 @@ static int announced(void) {
         if (!make(&second, symbols)) return 1;
         for (uint8_t port = 0; port < 3; port++)
             for (int element = 0; element < 100; element++)
-                irig_reader_pulse(&reader, port, width_us[symbols[element]]);
+                irig_reader_pulse(&reader, port, irig_width_us(symbols[element]));
         if (irig_reader_tick(&reader, &report) != IRIG_DONE) return 1;
     }
     if (!report.announces || report.day != 6209) return 1;

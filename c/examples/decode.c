@@ -52,7 +52,10 @@ static void print_told(const irig_told *told) {
 
 /* The width of the pulse that a letter stands for: of ? one that no symbol has. */
 static uint32_t width_of(int letter) {
-    return letter == '0' ? 2000 : letter == '1' ? 5000 : letter == 'P' ? 8000 : 0;
+    return irig_width_us(letter == '0'   ? IRIG_ZERO
+                         : letter == '1' ? IRIG_ONE
+                         : letter == 'P' ? IRIG_MARKER
+                                         : IRIG_BAD);
 }
 
 /* Feeds a line to port 0. Returns what ended it: a newline, EOF, or a letter of no symbol. */

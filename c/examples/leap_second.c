@@ -4,7 +4,6 @@
 
 #include <stdio.h>
 
-static const uint32_t width_us[] = {2000, 5000, 8000, 0};
 static const char *const lock[] = {"unlocked", "acquiring", "locked", "holdover"};
 static const char *const cause[] = {"voted",   "held",       "acquiring", "no-vote",
                                     "expired", "leap-guard", "jump",      "range-end"};
@@ -20,7 +19,7 @@ static void feed(irig_reader *reader, irig_utc second) {
     irig_set_parity(symbols, IRIG_EVEN);
     uint32_t widths_us[100];
     for (int element = 0; element < 100; element++)
-        widths_us[element] = width_us[symbols[element]];
+        widths_us[element] = irig_width_us(symbols[element]);
     for (uint8_t port = 0; port < 3; port++) irig_reader_pulses(reader, port, widths_us, 100);
 }
 

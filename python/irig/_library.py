@@ -128,6 +128,7 @@ def _to(structure: Any) -> Any:
 # A call of this library holds Python's lock: it is short, and no other thread comes between.
 _irig = _load("libirig.so.1", ctypes.PyDLL)
 classify = _call(_irig, "irig_classify", c_uint8, c_uint32)
+width_us = _call(_irig, "irig_width_us", c_uint32, c_uint8)
 encode = _call(_irig, "irig_encode", c_uint32, _to(Coded), Symbols)
 decode = _call(_irig, "irig_decode", c_uint32, c_char_p, c_size_t, _to(Coded))
 has_parity = _call(_irig, "irig_has_parity", c_bool, Symbols, c_uint8)

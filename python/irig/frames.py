@@ -16,7 +16,6 @@ from .seconds import Claim, Second, Time, claim_held
 from .words import Kind, Parity, Sense, number_of
 
 LETTERS = "01P?"
-WIDTHS_US = (2000, 5000, 8000, 0)  # of a bad pulse one that no symbol has
 
 Frame = Union[str, Iterable[int]]
 
@@ -45,7 +44,7 @@ def text(numbers: bytes) -> str:
 
 def widths(frame: Frame) -> List[int]:
     """The widths of a frame's pulses in microseconds: 2000, 5000, 8000, and 0 for a bad one."""
-    return [WIDTHS_US[number] for number in symbols(frame)]
+    return [c.width_us(number) for number in symbols(frame)]
 
 
 def classify(width_us: int) -> str:

@@ -18,8 +18,8 @@ use Rattle.irig_time.specs.declared.claim.TimeFault.{TimeFault}
 use Rattle.irig_time.specs.declared.table.TableFault.{TableFault}
 use Rattle.irig_port.specs.declared.told.PortFault.{PortFault}
 use Rattle.irig_port.specs.declared.told.PortFault.TheVariants.{Frame, Time}
-use Rattle.irig_faults.specs.declared.port_fault.Detail.{Detail}
-use Rattle.irig_faults.specs.declared.port_fault.Detail.TheVariants as detail
+use Rattle.irig_faults.specs.declared.port_fault.FaultDetail.{FaultDetail}
+use Rattle.irig_faults.specs.declared.port_fault.FaultDetail.TheVariants as detail
 use Rattle.irig_faults.specs.PortFaults.{number_of, detail_of}
 use Rattle.irig_faults.specs.Refusals as refusals
 use Rattle.irig_c.specs.declared.second.IrigClaim.{IrigClaim}
@@ -44,7 +44,7 @@ number_of_field field.Day = 3
 number_of_field field.Year = 4
 
 -- what a fault says beside its name, as a number
-abbrev pub number_of_detail : Option Detail → ℕ
+abbrev pub number_of_detail : Option FaultDetail → ℕ
 number_of_detail None = 0
 number_of_detail (Some (detail.Symbols count)) = count
 number_of_detail (Some (detail.Element element)) = element

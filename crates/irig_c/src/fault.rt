@@ -3,7 +3,7 @@
 ghost use Rattle.std.specs.Prelude.{◌≡◌, ◌<◌};
 ghost use Rattle.irig_c.specs.Numbers.{number_of_field, number_of_detail, code_of, number_of_table_fault};
 
-use irig_faults::{Detail, Refusal, detail_of, number_of};
+use irig_faults::{FaultDetail, Refusal, detail_of, number_of};
 use irig_frame::Field;
 use irig_port::PortFault;
 use irig_time::TableFault;
@@ -19,13 +19,13 @@ pub(crate) fn code(fault: PortFault) -> u32
     u32::from(number_of(fault)) + 256 * u32::from(detail_number(detail_of(fault)))
 }
 
-fn detail_number(detail: Option<Detail>) -> u8
+fn detail_number(detail: Option<FaultDetail>) -> u8
     ensures { result ≡ number_of_detail detail }
 {
     match detail {
         None => 0,
-        Some(Detail::Symbols(number) | Detail::Element(number)) => number,
-        Some(Detail::Field(field)) => field_number(field),
+        Some(FaultDetail::Symbols(number) | FaultDetail::Element(number)) => number,
+        Some(FaultDetail::Field(field)) => field_number(field),
     }
 }
 

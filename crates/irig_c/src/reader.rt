@@ -19,7 +19,7 @@ use crate::setup::{IrigSetup, is_port, reader_rules_of, redundancy_of, rules_of}
 use crate::state::{IDLE, IrigState, state_for_c, state_of};
 use crate::table::{IrigTable, table_fault};
 use irig_port::Tally;
-use irig_reader::{act, in_range};
+use irig_reader::{in_range, step_of};
 use irig_vote::{Tells, vote};
 
 /// A reader, all of it plain numbers. It may be copied, kept and taken up again.
@@ -135,7 +135,7 @@ pub extern "C" fn irig_reader_tick(reader: &mut IrigReader, report: &mut IrigRep
         return OUT_OF_RANGE;
     };
     let vote = vote(&tells_of(reader), redundancy_of(&reader.setup));
-    let step = act(reader_rules, &reader.table, state, vote);
+    let step = step_of(reader_rules, &reader.table, state, vote);
     *report = report_for_c(&step.report);
     empty(reader);
     reader.state = state_for_c(&step.state);

@@ -2,7 +2,7 @@
 
 use crate::fault::Fault;
 use irig_command_line::Request;
-use irig_explain::{Standing, meaning_of, why_no_frame, why_no_time, why_refused};
+use irig_explain::{PlantContext, meaning_of, why_no_frame, why_no_time, why_refused};
 use irig_scene::{RefusedLine, SceneFault};
 use std::alloc::{AllocError, Global};
 
@@ -38,11 +38,11 @@ fn refusal_text(
     number: u8,
     refused: &RefusedLine,
 ) -> Result<String, AllocError> {
-    let standing = Standing {
+    let context = PlantContext {
         names: &refused.names,
         edges: refused.edges.as_slice(),
     };
-    let reason = why_refused(alloc, number, refused.line.as_slice(), &standing)?;
+    let reason = why_refused(alloc, number, refused.line.as_slice(), &context)?;
     let name = meaning_of(number).map_or("", |meaning| meaning.name);
     format!(in alloc; "line {line}: {number} {name}: {reason}\nmore: irig explain {number}")
 }

@@ -5,10 +5,13 @@ ghost use Rattle.irig_commands.specs.declared.fault.Fault.TheVariants.{BadTime, 
 ghost use Rattle.irig_commands.specs.Status.{fault_of, fault_of_reading, status_of};
 
 use irig_frame_text::{BadTime, ReadingFault};
-use irig_scene::SceneFault;
+use irig_scene::{OUT_OF_MEMORY, READ_FAILED, REFUSED, SceneFault, WRITE_FAILED};
 use std::alloc::AllocError;
 use std::fmt;
 use std::io::Error;
+
+// The exit status where the words of the command line are at fault.
+const BAD_WORDS: u8 = 2;
 
 /// What ends the program. Its text is the line on the standard error.
 #[derive(Drop)]
@@ -39,11 +42,13 @@ impl Fault {
         ensures { result ≡ status_of self.now }
     {
         match self {
-            Fault::CommandLine(_) | Fault::NotText | Fault::BadTime | Fault::BadFrameText => 2,
-            Fault::Refused => 3,
-            Fault::Open(_) | Fault::Read => 4,
-            Fault::Write => 5,
-            Fault::Memory => 6,
+            Fault::CommandLine(_) | Fault::NotText | Fault::BadTime | Fault::BadFrameText => {
+                BAD_WORDS
+            }
+            Fault::Refused => REFUSED,
+            Fault::Open(_) | Fault::Read => READ_FAILED,
+            Fault::Write => WRITE_FAILED,
+            Fault::Memory => OUT_OF_MEMORY,
         }
     }
 }

@@ -1,7 +1,7 @@
 //! What is wrong with a line after the plant line.
 
-use crate::reason::{Place, Reason};
-use crate::refused::Standing;
+use crate::reason::{JsonPath, Reason};
+use crate::refused::PlantContext;
 use crate::shape::find_in_shape;
 use crate::value::find_in_values;
 use irig_forms::text_at;
@@ -13,25 +13,25 @@ pub(crate) fn find_in_event(
     reason: &mut Reason,
     number: u8,
     value: &Value,
-    standing: &Standing<'_>,
+    context: &PlantContext<'_>,
 ) {
     match number {
         25 => find_in_event_shape(reason, value),
         26 => {
             let keys = event_keys(value).unwrap_or(&[]);
-            find_in_values(reason, Place::Line, keys, value);
+            find_in_values(reason, JsonPath::Line, keys, value);
         }
-        19 => find_reader(reason, value, standing),
-        20 => find_generator(reason, value, standing),
-        21 => find_replay(reason, value, standing),
+        19 => find_reader(reason, value, context),
+        20 => find_generator(reason, value, context),
+        21 => find_replay(reason, value, context),
         _ => {}
     }
 }
 
 fn find_in_event_shape(reason: &mut Reason, value: &Value) {
     match event_keys(value) {
-        Some(keys) => find_in_shape(reason, Place::Line, keys, value),
-        None if !value.is_object() => find_in_shape(reason, Place::Line, &[], value),
+        Some(keys) => find_in_shape(reason, JsonPath::Line, keys, value),
+        None if !value.is_object() => find_in_shape(reason, JsonPath::Line, &[], value),
         None if text_at(value, "do") == Some("fault") => {
             find_in_word(reason, "kind", &FAULT_WORDS, value);
         }
@@ -42,51 +42,51 @@ fn find_in_event_shape(reason: &mut Reason, value: &Value) {
 // A key whose text is none of these words.
 fn find_in_word(reason: &mut Reason, name: &str, words: &[&str], value: &Value) {
     match value.get(name) {
-        Some(item) => reason.stands(Place::Line, name, item),
+        Some(item) => reason.push_found(JsonPath::Line, name, item),
         None => {
             reason.word(name);
-            reason.say(" is missing; ");
+            reason.push(" is missing; ");
         }
     }
     for (at, word) in words.iter().enumerate() {
         reason.next_word(at == 0, word);
     }
-    reason.may_stand();
+    reason.push_expected();
 }
 
-fn find_reader(reason: &mut Reason, value: &Value, standing: &Standing<'_>) {
+fn find_reader(reason: &mut Reason, value: &Value, context: &PlantContext<'_>) {
     if let Some(item) = value.get("r") {
-        reason.stands(Place::Line, "r", item);
-        for (at, name) in standing.names.iter().enumerate() {
+        reason.push_found(JsonPath::Line, "r", item);
+        for (at, name) in context.names.iter().enumerate() {
             reason.next_word(at == 0, name.as_str());
         }
-        reason.may_stand();
+        reason.push_expected();
     }
 }
 
-fn find_generator(reason: &mut Reason, value: &Value, standing: &Standing<'_>) {
-    if let Some(last) = standing.edges.len().checked_sub(1)
+fn find_generator(reason: &mut Reason, value: &Value, context: &PlantContext<'_>) {
+    if let Some(last) = context.edges.len().checked_sub(1)
         && let Some(item) = value.get("g")
     {
-        reason.stands(Place::Line, "g", item);
+        reason.push_found(JsonPath::Line, "g", item);
         reason.range(0, last as i128);
-        reason.may_stand();
+        reason.push_expected();
     }
 }
 
-fn find_replay(reason: &mut Reason, value: &Value, standing: &Standing<'_>) {
+fn find_replay(reason: &mut Reason, value: &Value, context: &PlantContext<'_>) {
     let generator = value.get("g").and_then(Value::as_u64).unwrap_or(0);
     let place = usize::try_from(generator).unwrap_or(usize::MAX);
-    if let Some(edge) = standing.edges.get(place)
+    if let Some(edge) = context.edges.get(place)
         && let Some(item) = value.get("edge")
     {
         let edge = i128::from(*edge);
-        reason.stands(Place::Line, "edge", item);
+        reason.push_found(JsonPath::Line, "edge", item);
         reason.range(0, edge);
-        reason.may_stand();
-        reason.say(": generator ");
+        reason.push_expected();
+        reason.push(": generator ");
         reason.number(i128::from(generator));
-        reason.say(" is at edge ");
+        reason.push(" is at edge ");
         reason.number(edge);
     }
 }

@@ -12,29 +12,29 @@ impl Reason {
             Kind::Few(count) => self.at_most(count),
             Kind::Naturals(count, most) => {
                 self.at_most(count);
-                self.say(" whole numbers, each ");
+                self.push(" whole numbers, each ");
                 self.range(0, i128::from(most));
-                self.say(",");
+                self.push(",");
             }
-            Kind::Text(text) => self.say(words_of(text)),
-            Kind::Whole => self.say("a whole number"),
-            Kind::Truth => self.say("true or false"),
-            Kind::List => self.say("a list"),
-            Kind::Object => self.say("an object"),
+            Kind::Text(text) => self.push(words_of(text)),
+            Kind::Whole => self.push("a whole number"),
+            Kind::Truth => self.push("true or false"),
+            Kind::List => self.push("a list"),
+            Kind::Object => self.push("an object"),
         }
     }
 
     fn at_most(&mut self, count: usize) {
-        self.say("a list of at most ");
+        self.push("a list of at most ");
         self.number(count as i128);
     }
 
     /// The same where a value of another type stands there, or none.
     pub(crate) fn kind_and_type(&mut self, kind: Kind) {
         if matches!(kind, Kind::Natural(..) | Kind::Integer(..)) {
-            self.say("a whole number, ");
+            self.push("a whole number, ");
             self.kind(kind);
-            self.say(",");
+            self.push(",");
         } else {
             self.kind(kind);
         }

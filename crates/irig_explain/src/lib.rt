@@ -13,5 +13,5 @@ mod value;
 mod words;
 
 pub use irig_faults::{Meaning, meaning_of};
-pub use refused::{Standing, why_refused};
+pub use refused::{PlantContext, why_refused};
 pub use words::{why_no_frame, why_no_time};

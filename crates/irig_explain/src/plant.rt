@@ -1,6 +1,6 @@
 //! What is wrong with a plant line.
 
-use crate::reason::{Place, Reason};
+use crate::reason::{JsonPath, Reason};
 use crate::shape::find_in_shape;
 use crate::value::find_in_values;
 use irig_forms::{Key, items_at, text_at, whole_at};
@@ -20,7 +20,7 @@ enum Search {
 
 impl Search {
     // Says nothing where something is said already: the first that is wrong is the reason.
-    fn look(self, reason: &mut Reason, place: Place, keys: &[Key], value: &Value) {
+    fn look(self, reason: &mut Reason, place: JsonPath, keys: &[Key], value: &Value) {
         if !reason.is_empty() {
             return;
         }
@@ -36,7 +36,7 @@ pub(crate) fn find_in_plant(reason: &mut Reason, number: u8, value: &Value) {
     match number {
         25 => find_in_shapes(reason, value),
         26 => find_in_ranges(reason, value),
-        27 => reason.misfit(Place::Line, "version", value, "1, 2 or 3"),
+        27 => reason.push_misfit(JsonPath::Line, "version", value, "1, 2 or 3"),
         28 => find_in_names(reason, value),
         11 => find_start(reason, value),
         12 | 13 | 14 => find_in_leaps(reason, number, None, value),
@@ -56,7 +56,7 @@ fn find_in_shapes(reason: &mut Reason, value: &Value) {
     if value.is_object() && whole_at(value, "version").is_some() {
         find_in_objects(reason, Search::Shape, value);
     } else {
-        find_in_shape(reason, Place::Line, plant_keys(), value);
+        find_in_shape(reason, JsonPath::Line, plant_keys(), value);
     }
 }
 
@@ -67,21 +67,21 @@ fn find_in_ranges(reason: &mut Reason, value: &Value) {
             Some(Version::Three) => "3 or 5",
             _ => "3 (or, in version 3, 5)",
         };
-        reason.misfit(Place::Line, "generators", value, may);
+        reason.push_misfit(JsonPath::Line, "generators", value, may);
     }
 }
 
 fn find_in_objects(reason: &mut Reason, search: Search, value: &Value) {
-    search.look(reason, Place::Line, plant_keys(), value);
+    search.look(reason, JsonPath::Line, plant_keys(), value);
     for (at, leap) in items(value, "leaps").iter().enumerate() {
-        search.look(reason, Place::Leap(at), leap_keys(), leap);
+        search.look(reason, JsonPath::Leap(at), leap_keys(), leap);
     }
     for (at, generator) in items(value, "generators").iter().enumerate() {
-        search.look(reason, Place::Generator(at), generator_keys(), generator);
+        search.look(reason, JsonPath::Generator(at), generator_keys(), generator);
     }
     for (at, generator) in items(value, "generators").iter().enumerate() {
         for (nth, change) in items(generator, "changes").iter().enumerate() {
-            search.look(reason, Place::Change(at, nth), change_keys(), change);
+            search.look(reason, JsonPath::Change(at, nth), change_keys(), change);
         }
     }
     let version = version_in(value).unwrap_or(Version::Three);
@@ -99,19 +99,19 @@ fn find_in_reader(
 ) {
     if let Some(table) = reader.get("table") {
         find_early_table(reason, version, at);
-        search.look(reason, Place::Table(at), table_keys(), table);
+        search.look(reason, JsonPath::Table(at), table_keys(), table);
         for (nth, leap) in items(table, "leaps").iter().enumerate() {
-            search.look(reason, Place::TableLeap(at, nth), leap_keys(), leap);
+            search.look(reason, JsonPath::TableLeap(at, nth), leap_keys(), leap);
         }
     }
-    search.look(reason, Place::Reader(at), reader_keys(version), reader);
+    search.look(reason, JsonPath::Reader(at), reader_keys(version), reader);
 }
 
 // A table in a version that has none.
 fn find_early_table(reason: &mut Reason, version: Version, at: usize) {
     if version == Version::One && reason.is_empty() {
-        reason.place(Place::Reader(at));
-        reason.say("\"table\" is no key of version 1; versions 2 and 3 have it");
+        reason.place(JsonPath::Reader(at));
+        reason.push("\"table\" is no key of version 1; versions 2 and 3 have it");
     }
 }
 
@@ -120,13 +120,13 @@ fn find_early_table(reason: &mut Reason, version: Version, at: usize) {
 fn find_in_names(reason: &mut Reason, value: &Value) {
     let readers = items(value, "readers");
     if readers.is_empty() || readers.len() > 16 {
-        reason.misfit(Place::Line, "readers", value, "1 to 16");
+        reason.push_misfit(JsonPath::Line, "readers", value, "1 to 16");
     }
     for (at, reader) in readers.iter().enumerate() {
         if let Some(may) = why_no_name(at, readers, text_at(reader, "name").unwrap_or(""))
             && reason.is_empty()
         {
-            reason.misfit(Place::Reader(at), "name", reader, may);
+            reason.push_misfit(JsonPath::Reader(at), "name", reader, may);
         }
     }
 }
@@ -166,8 +166,8 @@ static NO_START: &str =
 
 fn find_start(reason: &mut Reason, value: &Value) {
     if let Some(item) = value.get("start") {
-        reason.stands(Place::Line, "start", item);
-        reason.say(NO_START);
+        reason.push_found(JsonPath::Line, "start", item);
+        reason.push(NO_START);
     }
 }
 
@@ -192,10 +192,10 @@ fn find_in_leaps(reason: &mut Reason, number: u8, reader: Option<usize>, value: 
             && reason.is_empty()
         {
             let place = match reader {
-                Some(reader) => Place::TableLeap(reader, at),
-                None => Place::Leap(at),
+                Some(reader) => JsonPath::TableLeap(reader, at),
+                None => JsonPath::Leap(at),
             };
-            reason.misfit(place, "day", leap, may);
+            reason.push_misfit(place, "day", leap, may);
         }
     }
 }
@@ -233,18 +233,18 @@ fn is_day_before(day: u32, at: usize, leaps: &[Value]) -> bool {
 
 fn find_in_offsets(reason: &mut Reason, value: &Value) {
     for (at, generator) in items(value, "generators").iter().enumerate() {
-        find_offset(reason, Place::Generator(at), generator);
+        find_offset(reason, JsonPath::Generator(at), generator);
         for (nth, change) in items(generator, "changes").iter().enumerate() {
-            find_offset(reason, Place::Change(at, nth), change);
+            find_offset(reason, JsonPath::Change(at, nth), change);
         }
     }
 }
 
-fn find_offset(reason: &mut Reason, place: Place, zone: &Value) {
+fn find_offset(reason: &mut Reason, place: JsonPath, zone: &Value) {
     if matches!(whole_at(zone, "local"), Some(local) if local < -31 || local > 31)
         && reason.is_empty()
     {
-        reason.misfit(place, "local", zone, "-31 to 31 half hours");
+        reason.push_misfit(place, "local", zone, "-31 to 31 half hours");
     }
 }
 
@@ -254,7 +254,7 @@ fn find_in_changes(reason: &mut Reason, value: &Value) {
         for (nth, change) in changes.iter().enumerate() {
             if is_bad_change(nth, changes, change) && reason.is_empty() {
                 let may = "the first second of a minute, later than the change before,";
-                reason.misfit(Place::Change(at, nth), "at", change, may);
+                reason.push_misfit(JsonPath::Change(at, nth), "at", change, may);
             }
         }
     }
@@ -292,9 +292,14 @@ fn find_in_tables(reason: &mut Reason, number: u8, value: &Value) {
 fn find_in_table(reason: &mut Reason, number: u8, at: usize, table: &Value) {
     let until = day_at(table, "until");
     if number == 31 && matches!(until, Some(day) if day > LAST_DAY) {
-        reason.misfit(Place::Table(at), "until", table, "a day up to 2099-12-30");
+        reason.push_misfit(
+            JsonPath::Table(at),
+            "until",
+            table,
+            "a day up to 2099-12-30",
+        );
     } else if number == 32 && items(table, "leaps").len() > 64 {
-        reason.misfit(Place::Table(at), "leaps", table, "at most 64");
+        reason.push_misfit(JsonPath::Table(at), "leaps", table, "at most 64");
     } else {
         find_in_leaps(reason, number, Some(at), table);
     }

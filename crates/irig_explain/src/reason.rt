@@ -6,7 +6,7 @@ use std::alloc::{AllocError, Global};
 
 /// An object of a scenario's line.
 #[derive(Clone, Copy)]
-pub(crate) enum Place {
+pub(crate) enum JsonPath {
     /// The line's own.
     Line,
     /// A leap of a plant line.
@@ -61,7 +61,7 @@ impl Reason {
         self.is_short = true;
     }
 
-    pub(crate) fn say(&mut self, part: &str) {
+    pub(crate) fn push(&mut self, part: &str) {
         if self.text.push_str(part).is_err() {
             self.is_short = true;
         }
@@ -69,7 +69,7 @@ impl Reason {
 
     fn take(&mut self, part: Result<String, AllocError>) {
         match part {
-            Ok(part) => self.say(part.as_str()),
+            Ok(part) => self.push(part.as_str()),
             Err(_) => self.is_short = true,
         }
     }
@@ -95,21 +95,21 @@ impl Reason {
     /// The numbers from one to another, as `0 to 99`.
     pub(crate) fn range(&mut self, least: i128, most: i128) {
         self.number(least);
-        self.say(" to ");
+        self.push(" to ");
         self.number(most);
     }
 
     /// A word in quotes.
     pub(crate) fn word(&mut self, word: &str) {
-        self.say("\"");
-        self.say(word);
-        self.say("\"");
+        self.push("\"");
+        self.push(word);
+        self.push("\"");
     }
 
     /// The next word of a list, as `"a", "b"`.
     pub(crate) fn next_word(&mut self, is_first: bool, word: &str) {
         if !is_first {
-            self.say(", ");
+            self.push(", ");
         }
         self.word(word);
     }
@@ -125,10 +125,10 @@ impl Reason {
     /// A value: its text, cut where it is long; of a list how many items it has.
     pub(crate) fn value(&mut self, value: &Value) {
         if let Some(items) = value.as_array() {
-            self.say("a list of ");
+            self.push("a list of ");
             self.number(items.len() as i128);
         } else if value.is_object() {
-            self.say("an object");
+            self.push("an object");
         } else {
             match value.to_string(self.alloc) {
                 Ok(text) => self.cut(text.as_str()),
@@ -140,62 +140,62 @@ impl Reason {
     fn cut(&mut self, text: &str) {
         match start_of(text, MOST_SHOWN) {
             Some(start) => {
-                self.say(start);
-                self.say("..");
+                self.push(start);
+                self.push("..");
             }
-            None => self.say(text),
+            None => self.push(text),
         }
     }
 
     fn item(&mut self, list: &str, at: usize) {
-        self.say(list);
-        self.say("[");
+        self.push(list);
+        self.push("[");
         self.number(at as i128);
-        self.say("]");
+        self.push("]");
     }
 
     /// The place of an object, with a colon behind it; of the line's own nothing.
-    pub(crate) fn place(&mut self, place: Place) {
+    pub(crate) fn place(&mut self, place: JsonPath) {
         match place {
-            Place::Line => return,
-            Place::Leap(at) => self.item("leaps", at),
-            Place::Generator(at) => self.item("generators", at),
-            Place::Change(above, at) => {
+            JsonPath::Line => return,
+            JsonPath::Leap(at) => self.item("leaps", at),
+            JsonPath::Generator(at) => self.item("generators", at),
+            JsonPath::Change(above, at) => {
                 self.item("generators", above);
                 self.item(".changes", at);
             }
-            Place::Reader(at) => self.item("readers", at),
-            Place::Table(at) => {
+            JsonPath::Reader(at) => self.item("readers", at),
+            JsonPath::Table(at) => {
                 self.item("readers", at);
-                self.say(".table");
+                self.push(".table");
             }
-            Place::TableLeap(above, at) => {
+            JsonPath::TableLeap(above, at) => {
                 self.item("readers", above);
                 self.item(".table.leaps", at);
             }
         }
-        self.say(": ");
+        self.push(": ");
     }
 
     /// What stands at a key, before what may stand there.
-    pub(crate) fn stands(&mut self, place: Place, key: &str, value: &Value) {
+    pub(crate) fn push_found(&mut self, place: JsonPath, key: &str, value: &Value) {
         self.place(place);
         self.word(key);
-        self.say(" is ");
+        self.push(" is ");
         self.value(value);
-        self.say("; ");
+        self.push("; ");
     }
 
-    pub(crate) fn may_stand(&mut self) {
-        self.say(" may stand here");
+    pub(crate) fn push_expected(&mut self) {
+        self.push(" may stand here");
     }
 
     /// What stands at a key, if anything does, and what may.
-    pub(crate) fn misfit(&mut self, place: Place, key: &str, object: &Value, may: &str) {
+    pub(crate) fn push_misfit(&mut self, place: JsonPath, key: &str, object: &Value, may: &str) {
         if let Some(item) = object.get(key) {
-            self.stands(place, key, item);
-            self.say(may);
-            self.may_stand();
+            self.push_found(place, key, item);
+            self.push(may);
+            self.push_expected();
         }
     }
 }

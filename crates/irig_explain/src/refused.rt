@@ -10,7 +10,7 @@ use std::alloc::{AllocError, Global};
 
 /// Where a plant stands as a line is refused.
 #[derive(Clone, Copy)]
-pub struct Standing<'a> {
+pub struct PlantContext<'a> {
     /// The names of its readers, in order; none before the plant line.
     pub names: &'a IndexSet<String>,
     /// The edge at which each generator stands.
@@ -23,29 +23,29 @@ pub fn why_refused(
     alloc: Global,
     number: u8,
     line: &[u8],
-    standing: &Standing<'_>,
+    context: &PlantContext<'_>,
 ) -> Result<String, AllocError> {
     let mut reason = Reason::new(alloc);
     if !matches!(number, 22 | 23 | 29 | 30) {
-        find(&mut reason, alloc, number, line, standing);
+        find(&mut reason, alloc, number, line, context);
     }
     if reason.is_empty()
         && let Some(meaning) = meaning_of(number)
     {
-        reason.say(meaning.cause);
+        reason.push(meaning.cause);
     }
     reason.end()
 }
 
-fn find(reason: &mut Reason, alloc: Global, number: u8, line: &[u8], standing: &Standing<'_>) {
+fn find(reason: &mut Reason, alloc: Global, number: u8, line: &[u8], context: &PlantContext<'_>) {
     match Value::from_slice(alloc, line) {
-        Ok(value) if standing.names.is_empty() => find_in_plant(reason, number, &value),
-        Ok(value) => find_in_event(reason, number, &value, standing),
+        Ok(value) if context.names.is_empty() => find_in_plant(reason, number, &value),
+        Ok(value) => find_in_event(reason, number, &value, context),
         Err(error) if error.is_memory() => reason.run_short(),
         Err(error) if error.is_eof() => {
-            reason.say("byte ");
+            reason.push("byte ");
             reason.number(line.len() as i128);
-            reason.say(
+            reason.push(
                 ": the line ends here, before its value does; each value stands on one line",
             );
         }
@@ -55,12 +55,12 @@ fn find(reason: &mut Reason, alloc: Global, number: u8, line: &[u8], standing: &
 
 // The place, counted from 1, at which a line stops being JSON.
 fn find_byte(reason: &mut Reason, place: usize, line: &[u8]) {
-    reason.say("byte ");
+    reason.push("byte ");
     reason.number(place as i128);
-    reason.say(": ");
+    reason.push(": ");
     match line.get(place.saturating_sub(1)) {
         Some(byte) => reason.byte(*byte),
-        None => reason.say("the end"),
+        None => reason.push("the end"),
     }
-    reason.say(" cannot stand here; a line is one JSON value in UTF-8, at most 127 deep");
+    reason.push(" cannot stand here; a line is one JSON value in UTF-8, at most 127 deep");
 }

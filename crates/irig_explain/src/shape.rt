@@ -1,18 +1,18 @@
 //! Where an object has not its form: another key, one that is missing, or a value of another type.
 
-use crate::reason::{Place, Reason};
+use crate::reason::{JsonPath, Reason};
 use irig_forms::{Key, has_type, is_named};
 use serde_json::Value;
 
 /// Says what keeps a value at a place from the form of these keys, if anything does.
-pub(crate) fn find_in_shape(reason: &mut Reason, place: Place, keys: &[Key], value: &Value) {
+pub(crate) fn find_in_shape(reason: &mut Reason, place: JsonPath, keys: &[Key], value: &Value) {
     match value.as_object() {
         None => {
             reason.place(place);
-            reason.say("this is ");
+            reason.push("this is ");
             reason.value(value);
-            reason.say("; an object");
-            reason.may_stand();
+            reason.push("; an object");
+            reason.push_expected();
         }
         Some(members) => {
             for name in members.keys() {
@@ -26,17 +26,17 @@ pub(crate) fn find_in_shape(reason: &mut Reason, place: Place, keys: &[Key], val
     }
 }
 
-fn find_other_key(reason: &mut Reason, place: Place, keys: &[Key], name: &str) {
+fn find_other_key(reason: &mut Reason, place: JsonPath, keys: &[Key], name: &str) {
     reason.place(place);
     reason.quoted(name);
-    reason.say(" is no key; ");
+    reason.push(" is no key; ");
     for (at, key) in keys.iter().enumerate() {
         reason.next_word(at == 0, key.name);
     }
-    reason.may_stand();
+    reason.push_expected();
 }
 
-fn find_at_keys(reason: &mut Reason, place: Place, keys: &[Key], value: &Value) {
+fn find_at_keys(reason: &mut Reason, place: JsonPath, keys: &[Key], value: &Value) {
     for key in keys {
         if !fits(key, value) {
             find_at_key(reason, place, *key, value);
@@ -45,17 +45,17 @@ fn find_at_keys(reason: &mut Reason, place: Place, keys: &[Key], value: &Value) 
     }
 }
 
-fn find_at_key(reason: &mut Reason, place: Place, key: Key, value: &Value) {
+fn find_at_key(reason: &mut Reason, place: JsonPath, key: Key, value: &Value) {
     match value.get(key.name) {
-        Some(item) => reason.stands(place, key.name, item),
+        Some(item) => reason.push_found(place, key.name, item),
         None => {
             reason.place(place);
             reason.word(key.name);
-            reason.say(" is missing; ");
+            reason.push(" is missing; ");
         }
     }
     reason.kind_and_type(key.kind);
-    reason.may_stand();
+    reason.push_expected();
 }
 
 fn fits(key: &Key, value: &Value) -> bool {

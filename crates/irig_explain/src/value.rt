@@ -1,13 +1,13 @@
 //! Where a value is of the right type, and outside its range or none of its words.
 
-use crate::reason::{Place, Reason};
+use crate::reason::{JsonPath, Reason};
 use crate::words::{reason_of_day, reason_of_time};
 use irig_forms::{Key, Kind, Text, leap_named, parity_of, sbs_use_of, sense_of, whole_of};
 use irig_time::{read_day, read_text};
 use serde_json::Value;
 
 /// Says which value of an object is outside the range of its key, if one is.
-pub(crate) fn find_in_values(reason: &mut Reason, place: Place, keys: &[Key], value: &Value) {
+pub(crate) fn find_in_values(reason: &mut Reason, place: JsonPath, keys: &[Key], value: &Value) {
     for key in keys {
         if let Some(item) = value.get(key.name)
             && !is_in_range(key.kind, item)
@@ -18,15 +18,15 @@ pub(crate) fn find_in_values(reason: &mut Reason, place: Place, keys: &[Key], va
     }
 }
 
-fn find_in_range(reason: &mut Reason, place: Place, key: Key, item: &Value) {
+fn find_in_range(reason: &mut Reason, place: JsonPath, key: Key, item: &Value) {
     match key.kind {
         Kind::Naturals(count, most) if has_at_most(count, item) => {
             find_in_items(reason, key.name, most, item);
         }
         kind => {
-            reason.stands(place, key.name, item);
+            reason.push_found(place, key.name, item);
             reason.kind(kind);
-            reason.may_stand();
+            reason.push_expected();
             say_why_no_date(reason, kind, item.as_str().unwrap_or(""));
         }
     }
@@ -38,8 +38,8 @@ fn say_why_no_date(reason: &mut Reason, kind: Kind, text: &str) {
         Kind::Text(Text::Day) => reason_of_day(text),
         _ => return,
     };
-    reason.say(": ");
-    reason.say(why);
+    reason.push(": ");
+    reason.push(why);
 }
 
 fn find_in_items(reason: &mut Reason, name: &str, most: u32, list: &Value) {
@@ -50,7 +50,7 @@ fn find_in_items(reason: &mut Reason, name: &str, most: u32, list: &Value) {
         if !is_within(0, i128::from(most), item) {
             find_in_item(reason, name, at, item);
             reason.range(0, i128::from(most));
-            reason.may_stand();
+            reason.push_expected();
             return;
         }
     }
@@ -58,11 +58,11 @@ fn find_in_items(reason: &mut Reason, name: &str, most: u32, list: &Value) {
 
 fn find_in_item(reason: &mut Reason, name: &str, at: usize, item: &Value) {
     reason.word(name);
-    reason.say("[");
+    reason.push("[");
     reason.number(at as i128);
-    reason.say("] is ");
+    reason.push("] is ");
     reason.value(item);
-    reason.say("; ");
+    reason.push("; ");
 }
 
 fn is_within(least: i128, most: i128, item: &Value) -> bool {

@@ -11,10 +11,10 @@ pub fn why_no_time(alloc: Global, text: &str) -> Result<String, AllocError> {
     reason.quoted(text);
     match TimeText::of(text.as_bytes()) {
         Some(time) => {
-            reason.say(": ");
-            reason.say(time.reason());
+            reason.push(": ");
+            reason.push(time.reason());
         }
-        None => reason.say(" is not of the form YYYY-MM-DDTHH:MM:SSZ, as 2016-12-31T23:59:59Z"),
+        None => reason.push(" is not of the form YYYY-MM-DDTHH:MM:SSZ, as 2016-12-31T23:59:59Z"),
     }
     reason.end()
 }
@@ -113,15 +113,15 @@ pub fn why_no_frame(alloc: Global, text: &str) -> Result<String, AllocError> {
     let mut reason = Reason::new(alloc);
     for (place, letter) in text.chars().enumerate() {
         if !is_letter(letter) {
-            reason.say("character ");
+            reason.push("character ");
             reason.number(place.saturating_add(1) as i128);
-            reason.say(" is ");
+            reason.push(" is ");
             reason.letter(letter);
-            reason.say("; ");
+            reason.push("; ");
             break;
         }
     }
-    reason.say("P, 0, 1, ? and blanks may stand there");
+    reason.push("P, 0, 1, ? and blanks may stand there");
     reason.end()
 }
 

@@ -8,8 +8,8 @@ use Rattle.irig_frame.specs.declared.fault.FrameFault.TheVariants.{Short, Long, 
 use Rattle.irig_time.specs.declared.claim.TimeFault.TheVariants.{NoSuchDay, OutOfYears, Second60, DeletedSecond}
 use Rattle.irig_port.specs.declared.told.PortFault.{PortFault}
 use Rattle.irig_port.specs.declared.told.PortFault.TheVariants.{Frame, Parity, Sbs, Time}
-use Rattle.irig_faults.specs.declared.port_fault.Detail.{Detail}
-use Rattle.irig_faults.specs.declared.port_fault.Detail.TheVariants as detail
+use Rattle.irig_faults.specs.declared.port_fault.FaultDetail.{FaultDetail}
+use Rattle.irig_faults.specs.declared.port_fault.FaultDetail.TheVariants as detail
 
 -- the number by which users know a fault
 abbrev pub number_of : PortFault → ℕ
@@ -42,7 +42,7 @@ name_of Parity = codes "Parity"
 name_of Sbs = codes "Sbs"
 
 -- what it says beside its name
-abbrev pub detail_of : PortFault → Option Detail
+abbrev pub detail_of : PortFault → Option FaultDetail
 detail_of (Frame (Short count)) = Some (detail.Symbols count)
 detail_of (Frame Long) = None
 detail_of (Frame (Pulse element)) = Some (detail.Element element)
@@ -62,7 +62,7 @@ field_word Day = codes "day"
 field_word Year = codes "year"
 
 -- what a fault says beside its name, if anything, after a separator
-abbrev pub detail_text : List ℕ → Option Detail → List ℕ
+abbrev pub detail_text : List ℕ → Option FaultDetail → List ℕ
 detail_text separator None = []
 detail_text separator (Some (detail.Symbols count)) = separator ++ decimal count
 detail_text separator (Some (detail.Element element)) = separator ++ decimal element

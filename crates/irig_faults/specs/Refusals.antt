@@ -1,6 +1,6 @@
 -- The refusals of a line: their numbers and names, and which fault of a part is which.
 -- Source: docs/FAULTS.md; this project's profile.
-use Rattle.std.specs.Prelude.{◌≡◌, ℕ, List, codes, Option, Result, Ok, Err, ⊤}
+use Rattle.std.specs.Prelude.{◌≡◌, ℕ, Bool, if◌then◌else◌, List, codes, Option, Some, None, Result, Ok, Err, ⊤}
 use Rattle.irig_time.specs.declared.table.TableFault.{TableFault}
 use Rattle.irig_time.specs.declared.table.TableFault.TheVariants as table
 use Rattle.irig_time.specs.declared.timeline.TimelineFault.{TimelineFault}

@@ -7,5 +7,5 @@ mod port_fault;
 mod refusal;
 
 pub use meaning::{Meaning, meaning_of};
-pub use port_fault::{Detail, detail_of, name_of, number_of, push_fault};
+pub use port_fault::{FaultDetail, detail_of, name_of, number_of, push_fault};
 pub use refusal::{LineFault, Refusal};

@@ -10,7 +10,7 @@ use std::alloc::AllocError;
 
 /// What a fault says beside its name.
 #[derive(Clone, Copy, PartialEq, Eq)]
-pub enum Detail {
+pub enum FaultDetail {
     /// So many symbols there were, 0 to 99.
     Symbols(u8),
     /// The element, 0 to 99.
@@ -61,16 +61,16 @@ pub fn name_of(fault: PortFault) -> &'static str
 
 /// What a fault says beside its name: `Short` how many symbols there were, `Pulse` and `Marker` the
 /// element, `Digit` and `Range` the field, and the others nothing.
-pub fn detail_of(fault: PortFault) -> Option<Detail>
+pub fn detail_of(fault: PortFault) -> Option<FaultDetail>
     ensures { result ≡ detail_of fault }
 {
     match fault {
-        PortFault::Frame(FrameFault::Short(count)) => Some(Detail::Symbols(count)),
+        PortFault::Frame(FrameFault::Short(count)) => Some(FaultDetail::Symbols(count)),
         PortFault::Frame(FrameFault::Pulse(element) | FrameFault::Marker(element)) => {
-            Some(Detail::Element(element))
+            Some(FaultDetail::Element(element))
         }
         PortFault::Frame(FrameFault::Digit(field) | FrameFault::Range(field)) => {
-            Some(Detail::Field(field))
+            Some(FaultDetail::Field(field))
         }
         _ => None,
     }
@@ -91,13 +91,16 @@ pub fn push_fault(text: &mut String, separator: &str, fault: PortFault) -> Resul
     }
 }
 
-fn push_detail(text: &mut String, separator: &str, detail: Detail) -> Result<(), AllocError>
+fn push_detail(text: &mut String, separator: &str, detail: FaultDetail) -> Result<(), AllocError>
     ensures { OnOk result (string_bytes text.new
         ≡ string_bytes text.old ++ detail_text separator.now (Some detail)) }
 {
     match detail {
-        Detail::Symbols(number) | Detail::Element(number) => write!(text, "{separator}{number}"),
-        Detail::Field(field) => {
+        FaultDetail::Symbols(number) | FaultDetail::Element(number) => write!(
+            text,
+            "{separator}{number}"
+        ),
+        FaultDetail::Field(field) => {
             text.push_str(separator)?;
             text.push_str(field_word(field))
         }

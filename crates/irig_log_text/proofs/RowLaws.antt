@@ -20,8 +20,8 @@ use Rattle.irig_port.specs.declared.told.Told.{Told}
 use Rattle.irig_port.specs.declared.told.Told.TheVariants as tells
 use Rattle.irig_port.specs.declared.told.PortFault.{PortFault}
 use Rattle.irig_port.specs.declared.told.PortFault.TheVariants.{Frame, Parity, Sbs, Time}
-use Rattle.irig_faults.specs.declared.port_fault.Detail.{Detail}
-use Rattle.irig_faults.specs.declared.port_fault.Detail.TheVariants as detail
+use Rattle.irig_faults.specs.declared.port_fault.FaultDetail.{FaultDetail}
+use Rattle.irig_faults.specs.declared.port_fault.FaultDetail.TheVariants as detail
 use Rattle.irig_time.specs.MarkWords.{mark_word}
 use Rattle.irig_faults.specs.PortFaults.{number_of, name_of, detail_of, field_word, detail_text, fault_text}
 use Rattle.irig_vote.specs.Vote.{ports_of}
@@ -74,7 +74,7 @@ field_is_word Year = word_by_test (codes "year") refl
 colon : IsWord (codes ":")
 colon = word_by_test (codes ":") refl
 
-detail_word : (o : Option Detail) → IsWord (detail_text (codes ":") o)
+detail_word : (o : Option FaultDetail) → IsWord (detail_text (codes ":") o)
 detail_word None = tt
 detail_word (Some (detail.Symbols count)) = words_join (codes ":") (decimal count) colon (decimal_word count)
 detail_word (Some (detail.Element element)) = words_join (codes ":") (decimal element) colon (decimal_word element)

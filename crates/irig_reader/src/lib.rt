@@ -13,5 +13,5 @@ mod rules;
 
 pub use reader::{Reader, Ticked};
 pub use report::{Cause, Lock, Report};
-pub use rule::{State, Step, act};
+pub use rule::{State, Step, step_of};
 pub use rules::{ReaderRules, in_range};

@@ -9,7 +9,7 @@ ghost use Rattle.irig_reader.specs.Rule.{count_of};
 ghost use Rattle.irig_reader.specs.Rules.{IsReaderRules};
 
 use crate::report::Report;
-use crate::rule::{State, act};
+use crate::rule::{State, step_of};
 use crate::rules::ReaderRules;
 use irig_port::Port;
 use irig_time::{LeapTable, Rules};
@@ -141,7 +141,7 @@ impl<P: Port> Reader<P> {
         };
         let vote = vote(&told, self.redundancy);
         let state = mem::replace(&mut self.state, State::Idle);
-        let step = act(self.reader_rules, &self.table, state, vote);
+        let step = step_of(self.reader_rules, &self.table, state, vote);
         self.state = step.state;
         Ticked {
             report: step.report,

@@ -35,7 +35,7 @@ pub struct Step {
 /// The rules are [`in_range`](crate::in_range), the vote is for a [`valid`](irig_time::valid)
 /// second, and a reader that is acquiring had fewer votes than it locks after.
 #[tactic(auto, unfolding(crate::specs::Rule::step_of))]
-pub fn act<T: Leaps>(
+pub fn step_of<T: Leaps>(
     reader_rules: ReaderRules,
     table: &T,
     state: State,

@@ -7,3 +7,4 @@ pub mod LogLines
 pub mod LineRuns
 pub mod HealthyRun
 pub mod PortLines
+pub mod Statuses

@@ -10,7 +10,7 @@ mod player;
 mod refused_line;
 mod run;
 
-pub use fault::SceneFault;
+pub use fault::{OUT_OF_MEMORY, READ_FAILED, REFUSED, SceneFault, WRITE_FAILED};
 pub use irig_log_text::Shown;
 pub use laws::{
     a_second_has_a_tick_a_reader, entries_are_true, healthy_scenarios_announce, lines_read_one_way,

@@ -3,16 +3,13 @@
 use Rattle.std.specs.Prelude.{◌≡◌, ℕ, ◌≤◌, ◌⊎◌, Bool, List, [], ◌++◌, length, take, drop, Option, Some, Result, Ok, Err}
 use Rattle.irig_scene.specs.declared.outcome.Outcome.{Outcome}
 use Rattle.irig_scene.specs.declared.fault.SceneFault.{SceneFault}
-use Rattle.irig_scene.specs.declared.fault.SceneFault.TheVariants.{Refused, Read, Write, Memory}
 use Rattle.irig_scene.specs.Run.{Ran}
+use Rattle.irig_scene.specs.Statuses as statuses
 
 -- 0 for a run that was done, 3 for a refused line, else 4, 5 or 6
 abbrev pub status_of : Result Outcome SceneFault → ℕ
 status_of (Ok outcome) = 0
-status_of (Err (Refused line number)) = 3
-status_of (Err Read) = 4
-status_of (Err Write) = 5
-status_of (Err Memory) = 6
+status_of (Err fault) = statuses.status_of fault
 
 -- after these the log is whole
 abbrev pub HasWholeLog : ℕ → Type 0

@@ -31,10 +31,7 @@ fn status_of(answer: &Result<Outcome, SceneFault>) -> u8
 {
     match answer {
         Ok(_) => 0,
-        Err(SceneFault::Refused { .. }) => 3,
-        Err(SceneFault::Read) => 4,
-        Err(SceneFault::Write) => 5,
-        Err(SceneFault::Memory) => 6,
+        Err(fault) => fault.status(),
     }
 }
 

@@ -7,7 +7,7 @@
 
 use irig_device::Watched;
 use irig_port::WholePort;
-use irig_scene::{SceneFault, run_scene_over};
+use irig_scene::{OUT_OF_MEMORY, run_scene_over};
 use std::io::BufReader;
 use std::process::ExitCode;
 use std::{env, io};
@@ -20,13 +20,10 @@ fn run(rt: &HostRuntime) -> io::Result<u8> {
     let answer = run_scene_over::<WholePort, _, _>(alloc, &mut input, &mut output, words.len() > 1);
     Ok(match answer {
         Ok(_) => 0,
-        Err(SceneFault::Refused { .. }) => 3,
-        Err(SceneFault::Read) => 4,
-        Err(SceneFault::Write) => 5,
-        Err(SceneFault::Memory) => 6,
+        Err(fault) => fault.status(),
     })
 }
 
 fn main(rt: HostRuntime) -> ExitCode {
-    ExitCode::from(run(&rt).unwrap_or(6))
+    ExitCode::from(run(&rt).unwrap_or(OUT_OF_MEMORY))
 }

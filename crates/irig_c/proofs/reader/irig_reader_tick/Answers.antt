@@ -19,8 +19,8 @@ pub returns-in_default-clause-after : goal.returns-in_default-clause-after
 returns-in_default-clause-after c h s =
     absurd (never (c.in_default.ensures.there (subst (λ (o : ReaderRules). IsState o.lock_after c.args.reader.now.state) (sym c.reader_rules_of-reader_rules.ensures) s.is_state)))
 
-pub act-step-requires-clause-valid : goal.act-step-requires-clause-valid
-act-step-requires-clause-valid c =
+pub step_of-step-requires-clause-valid : goal.step_of-step-requires-clause-valid
+step_of-step-requires-clause-valid c =
     let claims = c.tells_of.ensures.claims in
     vote_valid _ _ c.vote-vote.result claims.a claims.b claims.c claims.d claims.e c.vote-vote.ensures.value
 
@@ -31,7 +31,7 @@ returns-clause-report c h s =
     let reader_rules : c.reader_rules_of-reader_rules.result ≡ h.reader_rules = c.reader_rules_of-reader_rules.ensures ∙ s.reader_rules in
     let state : c.in-Some.state ≡ state_of h.reader_rules h.table h.votes = c.in-Some.ensures.is ∙ s.state in
     let table : table_in c.args.reader.now.table ≡ h.table = s.table in
-    let step = c.act-step.ensures.step in
+    let step = c.step_of-step.ensures.step in
     let for_c = c.report_for_c.ensures in
     cc
 
@@ -42,8 +42,8 @@ returns-clause-after c h s =
     let reader_rules : c.reader_rules_of-reader_rules.result ≡ h.reader_rules = c.reader_rules_of-reader_rules.ensures ∙ s.reader_rules in
     let state : c.in-Some.state ≡ state_of h.reader_rules h.table h.votes = c.in-Some.ensures.is ∙ s.state in
     let table : table_in c.args.reader.now.table ≡ h.table = s.table in
-    let step = c.act-step.ensures.step in
-    let after : c.act-step.result.state ≡ state_of h.reader_rules h.table (after_tick h).votes = cc in
+    let step = c.step_of-step.ensures.step in
+    let after : c.step_of-step.result.state ≡ state_of h.reader_rules h.table (after_tick h).votes = cc in
     let setup = c.empty.ensures.setup in
     let kept = c.empty.ensures.table in
     let ports = c.empty.ensures.ports in
@@ -57,5 +57,5 @@ returns-clause-after c h s =
       in_range = subst (λ (x : IrigSetup). IsReaderRules (reader_rules_in x)) (sym setup) s.in_range;
       is_state = subst (λ (x : IrigSetup). IsState x.lock_after c.state_for_c-reader.result) (sym setup)
           (subst (λ (o : ReaderRules). IsState o.lock_after c.state_for_c-reader.result) c.reader_rules_of-reader_rules.ensures
-          (c.state_for_c-reader.ensures.state c.reader_rules_of-reader_rules.result.lock_after c.act-step.ensures.counting));
+          (c.state_for_c-reader.ensures.state c.reader_rules_of-reader_rules.result.lock_after c.step_of-step.ensures.counting));
     }

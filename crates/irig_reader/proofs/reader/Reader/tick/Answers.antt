@@ -6,8 +6,8 @@ use Rattle.irig_reader.specs.History.{after_tick}
 use Rattle.irig_reader.proofs.VoteLaws.{vote_valid}
 use Rattle.irig_reader.proofs.reader.Reader.tick.Goals as goal
 
-pub act-step-requires-clause-valid : goal.act-step-requires-clause-valid
-act-step-requires-clause-valid g c =
+pub step_of-step-requires-clause-valid : goal.step_of-step-requires-clause-valid
+step_of-step-requires-clause-valid g c =
     vote_valid _ _ c.vote-vote.result
     c.edge.ensures.valid c.edge-2.ensures.valid c.edge-3.ensures.valid c.edge-4.ensures.valid c.edge-5.ensures.valid c.vote-vote.ensures.value
 
@@ -23,5 +23,5 @@ returns-clause-report g c history s =
 pub returns-clause-after : goal.returns-clause-after
 returns-clause-after g c history s =
     let told = returns-clause-told g c history s in
-    let state : c.act-step.result.state ≡ state_of history.reader_rules history.table (after_tick history).votes = cc in
+    let state : c.step_of-step.result.state ≡ state_of history.reader_rules history.table (after_tick history).votes = cc in
     search rules

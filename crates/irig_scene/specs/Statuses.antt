@@ -1,0 +1,12 @@
+-- The exit statuses of a program whose run ended early.
+-- Source: README.md, the table of statuses.
+use Rattle.std.specs.Prelude.{ℕ}
+use Rattle.irig_scene.specs.declared.fault.SceneFault.{SceneFault}
+use Rattle.irig_scene.specs.declared.fault.SceneFault.TheVariants.{Refused, Read, Write, Memory}
+
+-- 3 for a refused line, else 4, 5 or 6
+abbrev pub status_of : SceneFault → ℕ
+status_of (Refused line number) = 3
+status_of Read = 4
+status_of Write = 5
+status_of Memory = 6
