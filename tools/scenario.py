@@ -25,7 +25,7 @@ from dataclasses import dataclass, field
 from datetime import date, timedelta
 from pathlib import Path
 
-from command import Command, fail
+from parts.command import Command, fail
 
 DAY = 86_400
 MOST_SECONDS = 100_000  # in one line

@@ -1,7 +1,7 @@
 #!/usr/bin/env python3
 """Compares the page with the program, `compare.py PAGE PROGRAM`: in node and in Chromium, status and bytes
 of each case and example, of 3,000 scenarios made by chance, and frames that are made and read. How the page
-stands the readers is compared with tools/bars.py and tools/view."""
+stands the readers is compared with tools/parts/bars.py and tools/view."""
 from __future__ import annotations
 
 import base64
@@ -12,17 +12,14 @@ import subprocess
 import sys
 from collections.abc import Iterator
 from concurrent.futures import ThreadPoolExecutor
-from importlib.machinery import SourceFileLoader
-from importlib.util import module_from_spec, spec_from_loader
 from pathlib import Path
-from types import ModuleType
 
 WEB = Path(__file__).resolve().parent
-ROOT = WEB.parent
-sys.path.insert(0, str(ROOT / "tools"))
+sys.path.insert(0, str(WEB.parent / "tools/tests"))
 
 import browser  # noqa: E402
-from bars import STATES, bars_of  # noqa: E402
+from loading import ROOT, loaded  # noqa: E402
+from parts.bars import STATES, bars_of  # noqa: E402
 
 BY_CHANCE, FRAMES = 3000, 400
 MOST_SECONDS = 5_000  # of a scenario made by chance, so that all end soon
@@ -31,18 +28,8 @@ NAMES = list(STATES)
 LETTERS = "01P?"
 FORMS = [], ["run", "SCENARIO"], ["run", "-"]  # of the words of a case that is a run, without options
 
-
-def loaded(name: str, path: Path) -> ModuleType:
-    """A command of Python as a module."""
-    spec = spec_from_loader(name, SourceFileLoader(name, str(path)))
-    assert spec and spec.loader
-    module = module_from_spec(spec)
-    spec.loader.exec_module(module)
-    return module
-
-
-FUZZ = loaded("fuzz", ROOT / "tests/fuzz")
-VIEW = loaded("view", ROOT / "tools/view")
+FUZZ = loaded(ROOT / "tests/fuzz")
+VIEW = loaded(ROOT / "tools/view")
 
 
 # ---- what is asked, and what the program says of it

@@ -10,13 +10,13 @@ from pathlib import Path
 
 WEB = Path(__file__).resolve().parent
 ROOT = WEB.parent
-TOOLS = ROOT / "tools"
-sys.path.insert(0, str(TOOLS))
+PARTS = ROOT / "tools/parts"
+sys.path.insert(0, str(ROOT / "tools"))
 
-from bars import STATES  # noqa: E402
-from pages import embedded, filled, hashed, joined, script_of  # noqa: E402
+from parts.bars import STATES  # noqa: E402
+from parts.html_page import embedded, filled, hashed, joined, script_of  # noqa: E402
 
-SCRIPTS = (TOOLS / "list.js", WEB / "log.js", TOOLS / "timeline.js", WEB / "codec.js", WEB / "frame.js",
+SCRIPTS = (PARTS / "list.js", WEB / "log.js", PARTS / "timeline.js", WEB / "codec.js", WEB / "frame.js",
            WEB / "editor.js", WEB / "scenario.js", WEB / "page.js")
 FIELDS = ("second", "minute", "hour", "day", "year")
 MODULES = ("irig_scene_c", "irig_c")
@@ -133,12 +133,12 @@ def page_of(data: dict[str, object]) -> str:
     """The page: its policy lets run these scripts, this style and these modules, and nothing be fetched
     or sent."""
     script = script_of(SCRIPTS)
-    style = joined((TOOLS / "timeline.css", WEB / "page.css"))
+    style = joined((PARTS / "timeline.css", WEB / "page.css"))
     return filled(WEB / "page.html", {
         "policy": f"default-src 'none'; script-src {hashed(script)} 'wasm-unsafe-eval'; worker-src blob:;"
         f" style-src {hashed(style)}; connect-src 'none'; base-uri 'none'; form-action 'none'",
         "style": style,
-        "timeline": (TOOLS / "timeline.html").read_text(),
+        "timeline": (PARTS / "timeline.html").read_text(),
         "data": embedded(data),
         "worker": (WEB / "worker.js").read_text(),
         "script": script,

@@ -13,11 +13,11 @@ import unittest
 from pathlib import Path
 
 WEB = Path(__file__).resolve().parent
-ROOT = WEB.parent
-sys.path.insert(0, str(ROOT / "tools"))
+sys.path.insert(0, str(WEB.parent / "tools/tests"))
 
 import browser  # noqa: E402
-from bars import STATES  # noqa: E402
+from loading import ROOT  # noqa: E402
+from parts.bars import STATES  # noqa: E402
 
 PAGE = WEB / "out/irig.html"
 PICTURES: Path | None = None

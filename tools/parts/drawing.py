@@ -14,8 +14,8 @@ from matplotlib.patches import Patch, Rectangle
 from matplotlib.textpath import TextPath
 from matplotlib.ticker import MaxNLocator
 
-from bars import STATES, Bars, Lane, Run
-from layout import Label, Scale, chosen, ways
+from parts.bars import STATES, Bars, Lane, Run
+from parts.layout import Label, Scale, chosen, ways
 
 matplotlib.rcdefaults()  # a picture is the same whatever the user's own settings are
 matplotlib.rcParams.update({"svg.hashsalt": "irig", "hatch.linewidth": 0.8})

@@ -5,11 +5,10 @@ import json
 import subprocess
 import tempfile
 import unittest
-from pathlib import Path
 
+from loading import ROOT
 from scenario import Leap, Reader, Scenario, Table
 
-ROOT = Path(__file__).resolve().parent.parent
 PROGRAM = ROOT / "crates/irig_main/out/irig_main"
 
 LIST = """#$\t3960835200

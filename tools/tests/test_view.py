@@ -9,14 +9,12 @@ import re
 import subprocess
 import tempfile
 import unittest
-from importlib.machinery import SourceFileLoader
-from importlib.util import module_from_spec, spec_from_loader
 from pathlib import Path
 
 import browser
-from bars import STATES
+from loading import ROOT, loaded
+from parts.bars import STATES
 
-ROOT = Path(__file__).resolve().parent.parent
 VIEW = ROOT / "tools/view"
 PROGRAM = ROOT / "crates/irig_main/out/irig_main"
 
@@ -41,14 +39,6 @@ METER = ["- unlocked no-vote"] * 12
 EDGES = enumerate(zip(RELAY, METER), 1)
 LOG = "".join(f"{edge} relay {relay}\n{edge} meter {meter}\n" for edge, (relay, meter) in EDGES)
 LOG += "premises broken: edge 3 reader relay\n"
-
-
-def loaded():
-    """The tool as a module."""
-    loader = SourceFileLoader("view", str(VIEW))
-    module = module_from_spec(spec_from_loader("view", loader))
-    loader.exec_module(module)
-    return module
 
 
 def run(folder: str, scenario: str, *options: object, log: str | None = None):
@@ -98,11 +88,11 @@ class Page(unittest.TestCase):
         self.assertEqual(text.count("<!--"), 0)
 
     def test_the_title_is_no_markup(self) -> None:
-        view = loaded()
+        view = loaded(VIEW)
         self.assertIn("<title>a&lt;b&gt;&amp;</title>", view.page_of("a<b>&", view.data_of("", LOG)))
 
     def test_braces_in_data_are_no_places(self) -> None:
-        view = loaded()
+        view = loaded(VIEW)
         data = {"x": "{{script}} }} {{"}
         self.assertIn(json.dumps(data, separators=(",", ":")), view.page_of("a", data))
 
@@ -117,14 +107,14 @@ class Page(unittest.TestCase):
         self.assertNotIn("unsafe", policy)
 
     def test_which_line_made_an_edge(self) -> None:
-        ticks = loaded().ticks_of(SCENARIO.splitlines(), ["relay", "meter"])
+        ticks = loaded(VIEW).ticks_of(SCENARIO.splitlines(), ["relay", "meter"])
         self.assertEqual(ticks["relay"], [[10, 2], [11, 4], [12, 7]])
         self.assertEqual(ticks["meter"], [[10, 2], [11, 3], [12, 7]])
 
     def test_lines_that_give_no_edges(self) -> None:
         lines = ['{"do":"seconds","n":0}', '{"do":"seconds","n":"3"}', '{"do":"tick","r":"no"}', '"tick"',
                  '["tick"', '{"do":"tick","r":["relay"]}', '{"do":"carry","g":0,"r":"relay"}']
-        self.assertEqual(loaded().ticks_of(lines, ["relay"]), {"relay": []})
+        self.assertEqual(loaded(VIEW).ticks_of(lines, ["relay"]), {"relay": []})
 
     def test_a_run_of_the_program(self) -> None:
         if not PROGRAM.exists():

@@ -2,8 +2,6 @@
 """Tests of study: days made by hand, for which docs/EXACTLY_WHEN.md says what a reader does; random
 days; tables by hand; the committed tables played once more; and what is said of mistakes."""
 import csv
-import importlib.machinery
-import importlib.util
 import shutil
 import subprocess
 import sys
@@ -11,24 +9,15 @@ import tempfile
 import unittest
 from pathlib import Path
 
-from bad_day import Day, Fault, Model, Spell, SILENT, play, random_day, scenario_of
+from loading import ROOT, loaded
+from parts.bad_day import Day, Fault, Model, Spell, SILENT, play, random_day, scenario_of
 from scenario import Reader, Scenario
 
-ROOT = Path(__file__).resolve().parent.parent
 STUDY = ROOT / "tools/study"
 START = "2016-06-15T12:00:00Z"
 
 
-def module(path: Path):
-    """A tool whose name has no ending, as a module."""
-    loader = importlib.machinery.SourceFileLoader(path.name, str(path))
-    made = importlib.util.module_from_spec(importlib.util.spec_from_loader(path.name, loader))
-    sys.modules[path.name] = made
-    loader.exec_module(made)
-    return made
-
-
-study = module(STUDY)
+study = loaded(STUDY)
 
 
 def ran(*words: object) -> subprocess.CompletedProcess:

@@ -1,4 +1,4 @@
-"""The manner of the commands of this folder: help begins with an example, and what is wrong is said in one
+"""The manner of the commands of tools/: help begins with an example, and what is wrong is said in one
 line on the standard error, with status 2."""
 from __future__ import annotations
 

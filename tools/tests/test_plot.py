@@ -10,16 +10,15 @@ import tempfile
 import time
 import traceback
 import unittest
-from importlib.machinery import SourceFileLoader
-from importlib.util import find_spec, module_from_spec, spec_from_loader
+from importlib.util import find_spec
 from itertools import combinations
 from pathlib import Path
 
-from bars import STATES, Bars, Lane, Mark, Run, bars_of, checked
-from command import DEBIAN
-from layout import Label, Scale, chosen, rows_of, ways
+from loading import ROOT, loaded
+from parts.bars import STATES, Bars, Lane, Mark, Run, bars_of, checked
+from parts.command import DEBIAN
+from parts.layout import Label, Scale, chosen, rows_of, ways
 
-ROOT = Path(__file__).resolve().parent.parent
 PLOT = ROOT / "tools/plot"
 PROGRAM = ROOT / "crates/irig_main/out/irig_main"
 ONE_EDGE = "1 relay 2016-06-15T12:00:01Z locked voted\npremises kept\n"
@@ -34,19 +33,16 @@ def lane_of(lines: list[str]) -> Lane:
     return lane
 
 
-def loaded():
-    """The tool as a module; matplotlib is loaded with it, which takes a second."""
-    loader = SourceFileLoader("plot", str(PLOT))
-    module = module_from_spec(spec_from_loader("plot", loader))
-    loader.exec_module(module)
+def read_font() -> None:
+    """Loads matplotlib, which takes a second, and reads the font, if there is one."""
     if find_spec("matplotlib"):
-        import drawing
+        from parts import drawing
 
-        drawing.width_of("a letter", drawing.NORMAL)  # so that the font is read
-    return module
+        drawing.width_of("a letter", drawing.NORMAL)
 
 
-TOOL = loaded()
+read_font()
+TOOL = loaded(PLOT)
 
 
 def become(words: list[str], files: list) -> None:

@@ -4,14 +4,13 @@ program that was built says of its lines."""
 import subprocess
 import sys
 import unittest
-from pathlib import Path
 
+from loading import ROOT
 from scenario import (
     Change, Damage, Entry, Generator, Leap, Lost, Raw, Reader, Replay, Scenario, Table, Timeline,
     read_log,
 )
 
-ROOT = Path(__file__).resolve().parent.parent
 PROGRAM = ROOT / "crates/irig_main/out/irig_main"
 INSERTED = [Leap("2016-12-31")]
 

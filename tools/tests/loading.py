@@ -1,0 +1,21 @@
+"""For tests of the tools, and of web/: once this is imported, so can be what stands in tools/."""
+from __future__ import annotations
+
+import sys
+from importlib.machinery import SourceFileLoader
+from importlib.util import module_from_spec, spec_from_loader
+from pathlib import Path
+from types import ModuleType
+
+ROOT = Path(__file__).resolve().parents[2]
+sys.path.insert(0, str(ROOT / "tools"))
+
+
+def loaded(path: Path) -> ModuleType:
+    """A command of Python, whose name has no ending, as a module."""
+    spec = spec_from_loader(path.name, SourceFileLoader(path.name, str(path)))
+    assert spec and spec.loader
+    module = module_from_spec(spec)
+    sys.modules[path.name] = module  # where its dataclasses look for it
+    spec.loader.exec_module(module)
+    return module
