@@ -1,4 +1,4 @@
-"""The cases and examples: what the program is asked, and what it has to answer.
+"""The one reader of cases and examples: what the program is asked, and what it has to answer.
 
 A case is a folder of cases/: `args` (one word a line, SCENARIO standing for its `scenario.jsonl`),
 `stdin` where it reads any, `stdout` (each byte), `stderr` where anything is written there, and
@@ -17,7 +17,8 @@ NOTHING = "/dev/null"
 
 @dataclass(frozen=True)
 class Case:
-    """Words may be no UTF-8. Paths are those from the top of the repository."""
+    """Words may be no UTF-8. Paths are those from the top of the repository, and there may be no
+    scenario."""
 
     name: str
     words: list[bytes]
@@ -25,6 +26,11 @@ class Case:
     status: int
     stdout: bytes
     stderr: bytes = b""
+    scenario: str | None = None
+
+    def texts(self) -> list[str]:
+        """The words as text, with U+FFFD for what is no UTF-8."""
+        return [word.decode(errors="replace") for word in self.words]
 
     def tells(self, told: bytes) -> bool:
         """Whether this may stand on the standard error."""
@@ -52,37 +58,40 @@ def standard_error(folder: Path, status: int, stdout: bytes) -> bytes:
 
 def case_in(folder: Path) -> Case:
     name = str(folder.relative_to(ROOT))
-    scenario = f"{name}/scenario.jsonl".encode()
-    words = [scenario if word == b"SCENARIO" else word for word in words_in(folder / "args")]
+    scenario = f"{name}/scenario.jsonl"
+    words = [scenario.encode() if word == b"SCENARIO" else word for word in words_in(folder / "args")]
     status, stdout = int((folder / "status").read_text()), (folder / "stdout").read_bytes()
-    has_input = (folder / "stdin").exists()
     return Case(
-        name, words, f"{name}/stdin" if has_input else NOTHING, status, stdout,
-        standard_error(folder, status, stdout),
+        name, words, f"{name}/stdin" if (folder / "stdin").exists() else NOTHING, status, stdout,
+        standard_error(folder, status, stdout), scenario if (ROOT / scenario).exists() else None,
     )
 
 
 def example_of(path: Path) -> Case:
     name = str(path.relative_to(ROOT))
     words = [b"run", name.encode(), *words_in(path.with_suffix(".args"))]
-    return Case(name, words, NOTHING, 0, path.with_suffix(".log").read_bytes())
+    return Case(name, words, NOTHING, 0, path.with_suffix(".log").read_bytes(), scenario=name)
+
+
+def cases() -> list[Case]:
+    return [case_in(folder) for folder in sorted((ROOT / "cases").iterdir())]
+
+
+def examples() -> list[Case]:
+    return [example_of(path) for path in sorted((ROOT / "examples").glob("*.jsonl"))]
 
 
 def all_cases() -> list[Case]:
     """Each case, and then each example."""
-    folders = sorted((ROOT / "cases").iterdir())
-    examples = sorted((ROOT / "examples").glob("*.jsonl"))
-    return [*map(case_in, folders), *map(example_of, examples)]
+    return [*cases(), *examples()]
 
 
 def over_whole_ports(case: Case) -> Case | None:
     """The same for test_whole_port, which runs what it is given and takes no more words than --all;
     none where a case is of something else."""
     words, input = case.words, case.input
-    is_example = case.name.startswith("examples/")
-    if is_example or (ROOT / case.name / "scenario.jsonl").exists():
-        input = case.name if is_example else f"{case.name}/scenario.jsonl"
-        words = words[2:]
-    if not is_example and b" ".join(words) not in (b"", b"--all"):
+    if case.scenario:
+        words, input = words[2:], case.scenario
+    if not case.name.startswith("examples/") and b" ".join(words) not in (b"", b"--all"):
         return None
     return Case(f"{case.name} over whole ports", words, input, case.status, case.stdout)

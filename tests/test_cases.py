@@ -58,8 +58,7 @@ class Cases(unittest.TestCase):
     def test_each_scenario_is_run_over_whole_ports(self) -> None:
         """But for those of cases with other options, which test_whole_port does not know."""
         for case in all_cases():
-            scenario = ROOT / case.name / "scenario.jsonl"
-            is_known = scenario.exists() and case.words[2:] in ([], [b"--all"])
+            is_known = case.scenario and case.words[2:] in ([], [b"--all"])
             if is_known or case.name.startswith("examples/"):
                 with self.subTest(case.name):
                     whole = over_whole_ports(case)

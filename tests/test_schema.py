@@ -9,7 +9,8 @@ import unittest
 from collections.abc import Iterator
 from pathlib import Path
 
-ROOT = Path(__file__).resolve().parent.parent
+from case_files import NOTHING, ROOT, all_cases
+
 PROGRAM = ROOT / "crates/irig_main/out/irig_main"
 SCHEMA = json.loads((ROOT / "docs/scenario.schema.json").read_text())
 
@@ -206,10 +207,10 @@ def refused(values: list[object]) -> int | None:
 class Schema(unittest.TestCase):
     def test_cases_and_examples(self) -> None:
         judged = 0
-        for log in [*ROOT.glob("cases/*/stdout"), *ROOT.glob("examples/*.log")]:
-            names = (log.with_suffix(".jsonl"), log.parent / "scenario.jsonl", log.parent / "stdin")
-            for path in [name for name in names if name.exists()][:1]:
-                judged += self.judge(path, refusal_in(log.read_text()))
+        for case in all_cases():
+            path = case.scenario or case.input
+            if path != NOTHING:
+                judged += self.judge(ROOT / path, refusal_in(case.stdout.decode()))
         self.assertGreater(judged, 500)
 
     def judge(self, path: Path, refusal: tuple[int, int] | None) -> int:

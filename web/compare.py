@@ -19,6 +19,7 @@ sys.path.insert(0, str(WEB.parent / "tools/tests"))
 
 import browser  # noqa: E402
 from loading import ROOT, loaded  # noqa: E402
+from case_files import NOTHING, all_cases  # noqa: E402
 from parts.bars import STATES, bars_of  # noqa: E402
 
 BY_CHANCE, FRAMES = 3000, 400
@@ -26,7 +27,7 @@ MOST_SECONDS = 5_000  # of a scenario made by chance, so that all end soon
 BATCH = 100
 NAMES = list(STATES)
 LETTERS = "01P?"
-FORMS = [], ["run", "SCENARIO"], ["run", "-"]  # of the words of a case that is a run, without options
+FROM_INPUT = [], ["run", "-"]  # the words of a case that runs its input, without options
 
 FUZZ = loaded(ROOT / "tests/fuzz")
 VIEW = loaded(ROOT / "tools/view")
@@ -72,15 +73,14 @@ def lanes_of(text: str, log: str) -> dict:
 
 
 def files() -> Iterator[bytes]:
-    """The scenario of each case that is one, and of each example."""
-    for folder in sorted((ROOT / "cases").iterdir()):
-        words = (folder / "args").read_text(errors="replace").split()
-        words = [word for word in words if word not in ("--all", "--ports")]
-        name = "scenario.jsonl" if "SCENARIO" in words else "stdin"
-        if words in FORMS and (folder / name).exists():
-            yield (folder / name).read_bytes()
-    for path in sorted((ROOT / "examples").glob("*.jsonl")):
-        yield path.read_bytes()
+    """The scenario of each case that is a run, and of each example."""
+    for case in all_cases():
+        words = [word for word in case.texts() if word not in ("--all", "--ports")]
+        path = case.input if words in FROM_INPUT else NOTHING
+        if case.scenario and words == ["run", case.scenario]:
+            path = case.scenario
+        if path != NOTHING:
+            yield (ROOT / path).read_bytes()
 
 
 def by_chance() -> Iterator[bytes]:

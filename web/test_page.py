@@ -17,6 +17,7 @@ sys.path.insert(0, str(WEB.parent / "tools/tests"))
 
 import browser  # noqa: E402
 from loading import ROOT  # noqa: E402
+from case_files import examples  # noqa: E402
 from parts.bars import STATES  # noqa: E402
 
 PAGE = WEB / "out/irig.html"
@@ -144,19 +145,18 @@ class InBrowser(unittest.TestCase):
 
     def test_each_example(self) -> None:
         names = self.page.ask("[...part('example').options].map((it) => it.value).filter((it) => it)")
-        self.assertEqual(set(names), {path.stem for path in (ROOT / "examples").glob("*.jsonl")})
+        cases = {Path(case.name).stem: case for case in examples()}
+        self.assertEqual(set(names), set(cases))
         for name in names:
             with self.subTest(name):
                 self.set("example", name)
-                arguments = ROOT / f"examples/{name}.args"
-                has_all = arguments.exists() and "--all" in arguments.read_text().split()
-                if self.page.ask("part('all').checked") != has_all:
+                if self.page.ask("part('all').checked") != ("--all" in cases[name].texts()):
                     self.push("all")
-                self.assertEqual(self.value("text"), (ROOT / f"examples/{name}.jsonl").read_text())
+                self.assertEqual(self.value("text"), (ROOT / cases[name].name).read_text())
                 self.assertIn("Look at", self.text("look"))
                 self.push("run")
                 self.assertTrue(self.end_of_run().startswith("done: "))
-                log = (ROOT / f"examples/{name}.log").read_text()
+                log = cases[name].stdout.decode()
                 self.assertEqual(self.log(), log)
                 self.assertIn(log.splitlines()[-1], self.text("verdict"))
         self.picture("example")

@@ -1,37 +1,34 @@
-"""The program that was built, and what cases of the repository expect of it."""
+"""The program that was built, and what cases and examples of the repository expect of it."""
 from __future__ import annotations
 
 import subprocess
+import sys
 from pathlib import Path
-from typing import Iterator, List, NamedTuple
+from typing import Iterator, List, NamedTuple, Optional
 
 ROOT = Path(__file__).resolve().parent.parent.parent
+sys.path.insert(0, str(ROOT / "tests"))
+
+from case_files import all_cases  # noqa: E402
+
 PROGRAM = ROOT / "crates/irig_main/out/irig_main"
 
 
 class Case(NamedTuple):
-    """A case of the program: its words, what it prints, and its exit status."""
+    """A case of a command: its words, what it prints, its exit status, and its scenario's path."""
 
     name: str
     words: List[str]
     printed: str
     status: int
-    scenario: bytes
+    scenario: Optional[str]
 
 
 def cases(command: str) -> Iterator[Case]:
-    """The cases of this command."""
-    for folder in sorted((ROOT / "cases").iterdir()):
-        words = (folder / "args").read_bytes().decode(errors="replace").splitlines()
+    for case in all_cases():
+        words = case.texts()
         if words[:1] == [command]:
-            scenario = folder / "scenario.jsonl"
-            yield Case(
-                folder.name,
-                words[1:],
-                (folder / "stdout").read_text(),
-                int((folder / "status").read_text()),
-                scenario.read_bytes() if scenario.exists() else b"",
-            )
+            yield Case(case.name, words[1:], case.stdout.decode(), case.status, case.scenario)
 
 
 def printed(*words: str, text: str = "") -> str:

@@ -32,22 +32,16 @@ class OfTheProgram(unittest.TestCase):
         self.assertEqual("".join(f"{entry}\n" for entry in ran) + f"{ran.verdict}\n", log)
         self.assertEqual(ran.kept, log.endswith("premises kept\n"))
 
-    def test_cases(self) -> None:
+    def test_cases_and_examples(self) -> None:
         count = 0
         for case in cases("run"):
-            if case.words[:1] == ["SCENARIO"] and "--ports" not in case.words and case.status != 2:
+            is_file = case.scenario and case.words[:1] == [case.scenario]
+            if is_file and "--ports" not in case.words and case.status != 2:
                 with self.subTest(case.name):
                     count += 1
-                    self.compare(case.scenario, "--all" in case.words, case.printed)
+                    text = (ROOT / case.scenario).read_bytes()
+                    self.compare(text, "--all" in case.words, case.printed)
         self.assertGreater(count, 100)
-
-    def test_examples(self) -> None:
-        for scenario in sorted((ROOT / "examples").glob("*.jsonl")):
-            words = scenario.with_suffix(".args")
-            with self.subTest(scenario.stem):
-                log = scenario.with_suffix(".log").read_text()
-                is_all = words.exists() and "--all" in words.read_text()
-                self.compare(scenario.read_bytes(), is_all, log)
 
     def test_a_log_without_room(self) -> None:
         text = example("plain_minute")

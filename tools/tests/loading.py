@@ -1,4 +1,5 @@
-"""For tests of the tools, and of web/: once this is imported, so can be what stands in tools/."""
+"""For tests of the tools, and of web/: once this is imported, so can be what stands in tools/ and in
+tests/."""
 from __future__ import annotations
 
 import sys
@@ -8,7 +9,7 @@ from pathlib import Path
 from types import ModuleType
 
 ROOT = Path(__file__).resolve().parents[2]
-sys.path.insert(0, str(ROOT / "tools"))
+sys.path[:0] = [str(ROOT / "tools"), str(ROOT / "tests")]
 
 
 def loaded(path: Path) -> ModuleType:
