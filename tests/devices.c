@@ -2,7 +2,7 @@
 // program with that call failing, interrupted, short, empty or slow. A failed read has to end with
 // 4 and the log of the lines before it, a failed write with 5 and what was written before, an end
 // of the input that comes early as an input that ends there, and all else as the whole run does.
-// The words are the program and break.so; the folder SCRATCH takes files.
+// The words are the program and inject_io.so; the folder SCRATCH takes files.
 #define _GNU_SOURCE
 #include "sweep.h"
 

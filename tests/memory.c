@@ -1,7 +1,7 @@
 // For each run of the standard input, and each of its requests for memory, runs the program with
 // that one refused, and with all from it on. It has to end with 6 and `out of memory`, and a front
 // of the whole log; or as the whole run does, where what explains a fault may be left out, or be
-// what its number always means. The words are the program, refuse.so and a file of its own.
+// what its number always means. The words are the program, inject_alloc.so and a file of its own.
 #define _GNU_SOURCE
 #include "sweep.h"
 

@@ -8,7 +8,7 @@ async function hash_of(bytes) {
   return Array.from(digest, (byte) => byte.toString(16).padStart(2, "0")).join("");
 }
 
-// How the page stood each reader, as tools/parts/bars.py and tools/view have it.
+// How the page stood each reader, as tools/parts/log_lanes.py and tools/view have it.
 function lanes_of({ lanes, causes, first, last, verdict }) {
   const runs_of = ({ firsts, lasts, states, causes: of_runs }) =>
     Array.from(firsts, (from, place) => [from, lasts[place], states[place], causes[of_runs[place]]]);

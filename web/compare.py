@@ -1,7 +1,7 @@
 #!/usr/bin/env python3
 """Compares the page with the program, `compare.py PAGE PROGRAM`: in node and in Chromium, status and bytes
 of each case and example, of 3,000 scenarios made by chance, and frames that are made and read. How the page
-stands the readers is compared with tools/parts/bars.py and tools/view."""
+stands the readers is compared with tools/parts/log_lanes.py and tools/view."""
 from __future__ import annotations
 
 import base64
@@ -20,7 +20,7 @@ sys.path.insert(0, str(WEB.parent / "tools/tests"))
 import browser  # noqa: E402
 from loading import ROOT, loaded  # noqa: E402
 from case_files import NOTHING, all_cases  # noqa: E402
-from parts.bars import STATES, bars_of  # noqa: E402
+from parts.log_lanes import STATES, bars_of  # noqa: E402
 
 BY_CHANCE, FRAMES = 3000, 400
 MOST_SECONDS = 5_000  # of a scenario made by chance, so that all end soon

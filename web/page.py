@@ -13,7 +13,7 @@ ROOT = WEB.parent
 PARTS = ROOT / "tools/parts"
 sys.path.insert(0, str(ROOT / "tools"))
 
-from parts.bars import STATES  # noqa: E402
+from parts.log_lanes import STATES  # noqa: E402
 from parts.html_page import embedded, filled, hashed, joined, script_of  # noqa: E402
 
 SCRIPTS = (PARTS / "list.js", WEB / "log.js", PARTS / "timeline.js", WEB / "codec.js", WEB / "frame.js",

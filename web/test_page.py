@@ -18,7 +18,7 @@ sys.path.insert(0, str(WEB.parent / "tools/tests"))
 import browser  # noqa: E402
 from loading import ROOT  # noqa: E402
 from case_files import examples  # noqa: E402
-from parts.bars import STATES  # noqa: E402
+from parts.log_lanes import STATES  # noqa: E402
 
 PAGE = WEB / "out/irig.html"
 PICTURES: Path | None = None

@@ -14,7 +14,7 @@ from matplotlib.patches import Patch, Rectangle
 from matplotlib.textpath import TextPath
 from matplotlib.ticker import MaxNLocator
 
-from parts.bars import STATES, Bars, Lane, Run
+from parts.log_lanes import STATES, Bars, Lane, Run
 from parts.layout import Label, Scale, chosen, ways
 
 matplotlib.rcdefaults()  # a picture is the same whatever the user's own settings are

@@ -6,7 +6,7 @@ from collections.abc import Iterable, Sequence
 from dataclasses import dataclass
 from itertools import combinations, pairwise
 
-from parts.bars import Bars
+from parts.log_lanes import Bars
 
 SHOWN = 0.05  # the least width of a change for which an axis stays even, in inches
 CLEAR = 0.15  # and with shortened stretches

@@ -1,4 +1,4 @@
-// ---- the page of one scenario and its log. `data` has lanes with runs and marks (tools/parts/bars.py), the
+// ---- the page of one scenario and its log. `data` has lanes with runs and marks (tools/parts/log_lanes.py), the
 // lines of the log and of the scenario, and which line of the scenario made which edges (tools/view).
 
 const CAUSES = [...new Set(data.lanes.flatMap(({ runs }) => runs.map(([, , , cause]) => cause)))].sort();

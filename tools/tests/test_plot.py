@@ -15,7 +15,7 @@ from itertools import combinations
 from pathlib import Path
 
 from loading import ROOT, loaded
-from parts.bars import STATES, Bars, Lane, Mark, Run, bars_of, checked
+from parts.log_lanes import STATES, Bars, Lane, Mark, Run, bars_of, checked
 from parts.command import DEBIAN
 from parts.layout import Label, Scale, chosen, rows_of, ways
 

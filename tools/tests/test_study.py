@@ -10,7 +10,7 @@ import unittest
 from pathlib import Path
 
 from loading import ROOT, loaded
-from parts.bad_day import Day, Fault, Model, Spell, SILENT, play, random_day, scenario_of
+from parts.random_day import Day, Fault, Model, Spell, SILENT, play, random_day, scenario_of
 from scenario import Reader, Scenario
 
 STUDY = ROOT / "tools/study"

@@ -13,7 +13,7 @@ from pathlib import Path
 
 import browser
 from loading import ROOT, loaded
-from parts.bars import STATES
+from parts.log_lanes import STATES
 
 VIEW = ROOT / "tools/view"
 PROGRAM = ROOT / "crates/irig_main/out/irig_main"
