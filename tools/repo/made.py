@@ -1,0 +1,27 @@
+"""Writes what a page has from the sources between two marks, or sees that it is current."""
+from pathlib import Path
+
+ROOT = Path(__file__).resolve().parents[2]
+
+
+def with_made(text: str, mark: str, lines: list[str]) -> str:
+    """A page with these lines between the marks of this name."""
+    begin, end = f"<!-- {mark}, made -->", f"<!-- {mark}, end -->"
+    before, has_begin, rest = text.partition(begin)
+    _, has_end, after = rest.partition(end)
+    if not has_begin or not has_end:
+        raise SystemExit(f"no marks {begin} and {end}")
+    return "\n".join([before + begin, "", *lines, "", end + after])
+
+
+def put(page: Path, parts: dict[str, list[str]], only_checks: bool) -> int:
+    """Writes these parts to a page by their marks, or says if the page has others; a status."""
+    old = new = page.read_text()
+    for mark, lines in parts.items():
+        new = with_made(new, mark, lines)
+    if not only_checks:
+        page.write_text(new)
+    elif new != old:
+        print(f"{page.relative_to(ROOT)}: is not current; ./format makes it")
+        return 1
+    return 0
