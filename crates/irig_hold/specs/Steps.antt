@@ -1,5 +1,5 @@
 -- A hold, and its steps from second to second.
--- Source: docs/HOLD.md.
+-- Source: docs/READER.md.
 use Rattle.std.specs.Prelude.{ℕ, ◌+◌, ◌==◌, nat_le, if◌then◌else◌, Option, Some, None, Result, Ok, Err}
 use Rattle.irig_time.specs.declared.second.UtcSecond.{UtcSecond}
 use Rattle.irig_time.specs.declared.mark.Mark.{Mark}

@@ -1,5 +1,5 @@
 -- What it is for a hold and a table to be true to a timeline.
--- Source: docs/HOLD.md; this project's profile.
+-- Source: docs/READER.md; this project's profile.
 use Rattle.std.specs.Prelude.{◌≡◌, ℕ, ◌≤◌, ◌<◌, ◌⊎◌, true}
 use Rattle.irig_time.specs.declared.second.UtcSecond.{UtcSecond}
 use Rattle.irig_time.specs.declared.mark.Mark.TheVariants.{Unspoken}

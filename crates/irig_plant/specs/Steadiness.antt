@@ -1,5 +1,5 @@
 -- How the second that a reader announces follows from the one before, whatever is true.
--- Source: docs/READER.md and docs/HOLD.md.
+-- Source: docs/READER.md.
 use Rattle.std.specs.Prelude.{◌≡◌, ◌⊎◌, ℕ, List, Option, Some}
 use Rattle.std.specs.List.{Contains}
 use Rattle.irig_time.specs.declared.second.UtcSecond.{UtcSecond}
