@@ -3,7 +3,7 @@
 /// What a command line asks for.
 #[derive(Clone, Copy)]
 pub enum Request<'a> {
-    /// The scenario on the input.
+    /// The scenario on the input: no words at all.
     Plain,
     /// The scenario on the input, with options.
     Input {
@@ -38,7 +38,7 @@ pub enum Request<'a> {
     },
 }
 
-/// A leap second that is pending.
+/// A leap second that is pending: a word of the command line, of which this crate knows no more.
 #[derive(Clone, Copy)]
 pub enum Pending {
     Insert,

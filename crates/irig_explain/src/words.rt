@@ -107,8 +107,8 @@ fn two_digits(text: &[u8], place: usize) -> Option<u8> {
     }
 }
 
-/// Which character of a text is no symbol of a frame, and at which place, in one line. Fails for
-/// want of memory alone.
+/// Which character of a text is no symbol of a frame, and at which place, in one line. Fails
+/// only if there is no memory.
 pub fn why_no_frame(alloc: Global, text: &str) -> Result<String, AllocError> {
     let mut reason = Reason::new(alloc);
     for (place, letter) in text.chars().enumerate() {

@@ -74,8 +74,8 @@ fn is_kept(kept: Option<Report>, report: Report) -> bool
     announce == report.announce && lock == report.lock && cause == report.cause
 }
 
-/// Adds a line for each entry with an announcement, or for each entry where all are wanted. Fails for
-/// want of memory alone, as all that adds to a text does.
+/// Adds a line for each entry with an announcement, or for each entry where all are wanted. Fails
+/// only if there is no memory, as all that adds to a text does.
 pub fn push_entries(
     text: &mut String,
     last: &mut ReportText,
