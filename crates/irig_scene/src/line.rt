@@ -23,10 +23,8 @@ use crate::outcome::Outcome;
 use crate::player::Player;
 use irig_device::{LineEnd, ReadFault, Watched};
 use irig_faults::{LineFault, Refusal};
-use irig_log_text::Shown;
 use irig_port::Port;
 use irig_scenario::{event_of_line, plant_of_line};
-use std::alloc::Global;
 use std::io::{BufRead, Write};
 
 // The last line that is run.
@@ -66,7 +64,6 @@ pub(crate) fn read_line<R: BufRead>(
 /// Takes a line that isn't too long, and writes what it gives; answers its refusal.
 #[tactic(auto, unfolding(crate::specs::Scene::step))]
 pub(crate) fn take_line<P: Port, W: Write>(
-    alloc: Global,
     player: &mut Option<Player<P>>,
     number: u64,
     line: &[u8],
@@ -89,8 +86,8 @@ pub(crate) fn take_line<P: Port, W: Write>(
         return Ok(None);
     }
     match player {
-        Some(player) => follow(alloc, player, line, log, output),
-        None => match begin(alloc, line, log.shown) {
+        Some(player) => follow(player, line, log, output),
+        None => match begin(line, log) {
             Ok(begun) => {
                 *player = Some(begun);
                 Ok(None)
@@ -109,11 +106,11 @@ fn is_blank(line: &[u8]) -> bool
 }
 
 // The player that a plant line gives.
-fn begin<P: Port>(alloc: Global, line: &[u8], shown: Shown) -> Result<Player<P>, LineFault>
-    ensures { Begins shown line.now result }
+fn begin<P: Port>(line: &[u8], log: LogWriter) -> Result<Player<P>, LineFault>
+    ensures { Begins log.shown line.now result }
 {
-    let plant = plant_of_line(alloc, line)?;
-    match Player::new(alloc, plant, shown) {
+    let plant = plant_of_line(log.alloc, line)?;
+    match Player::new(plant, log) {
         Ok(player) => Ok(player),
         Err(_) => Err(LineFault::Memory),
     }
@@ -121,7 +118,6 @@ fn begin<P: Port>(alloc: Global, line: &[u8], shown: Shown) -> Result<Player<P>,
 
 // Does what a further line asks for, and writes what the readers said; answers its refusal.
 fn follow<P: Port, W: Write>(
-    alloc: Global,
     player: &mut Player<P>,
     line: &[u8],
     log: LogWriter,
@@ -134,7 +130,7 @@ fn follow<P: Port, W: Write>(
         (W.contents (device_of output.old)) (W.contents (device_of output.new))) }
     ensures note { has_failed output.new ≡ (has_failed output.old || says_write result) }
 {
-    match event_of_line(alloc, player.names(), line) {
+    match event_of_line(log.alloc, player.names(), line) {
         Ok(command) => player.act(command, log, output),
         Err(LineFault::Refused(refusal)) => Ok(Some(refusal)),
         Err(LineFault::Memory) => Err(SceneFault::Memory),
@@ -175,7 +171,6 @@ pub(crate) fn too_long(number: u64) -> Refusal
 /// Takes the line with which the input ended, if it has any bytes, and writes the last line of the
 /// text.
 pub(crate) fn run_last<P: Port, W: Write>(
-    alloc: Global,
     player: &mut Option<Player<P>>,
     number: u64,
     line: &[u8],
@@ -193,7 +188,7 @@ pub(crate) fn run_last<P: Port, W: Write>(
     if line.is_empty() {
         return finish(player, number, log, output);
     }
-    if let Some(refusal) = take_line(alloc, player, number, line, log, output)? {
+    if let Some(refusal) = take_line(player, number, line, log, output)? {
         return Err(refuse(number, refusal, log, output));
     }
     finish(player, number + 1, log, output)

@@ -14,7 +14,6 @@ use indexmap::IndexSet;
 use irig_device::Watched;
 use irig_faults::Refusal;
 use irig_gen::Generator;
-use irig_log_text::Shown;
 use irig_plant::{Audit, Event, Plant, PlantFault};
 use irig_port::Port;
 use irig_scenario::{BuiltPlant, Command, second_of};
@@ -34,20 +33,17 @@ pub(crate) struct Player<P: Port> {
 impl<P: Port> Player<P> {
     ghost use Rattle.std.specs.Prelude.{vec_len};
     ghost use Rattle.irig_plant.specs.History.{AreGenerators, AreReaders};
+    ghost use Rattle.irig_log_text.specs.declared.shown.Shown.{Shown};
     ghost use Rattle.irig_scenario.specs.PlantLine.{plan_of};
     ghost use Rattle.irig_scene.specs.Scene.{Scene as SceneOf, scene, audit_in};
     ghost use Rattle.irig_scene.specs.LineRuns.{IsPlayerAt, Acts, Fails};
 
     /// The player of a plant to which nothing has happened, for what is to be shown.
-    pub(crate) fn new(
-        alloc: Global,
-        line: BuiltPlant,
-        shown: Shown,
-    ) -> Result<Player<P>, SceneFault>
+    pub(crate) fn new(line: BuiltPlant, log: LogWriter) -> Result<Player<P>, SceneFault>
         requires generators { AreGenerators line.rules line.generators.items }
         requires readers { AreReaders line.readers.items }
         requires names { length line.names.keys ≡ vec_len line.readers }
-        ensures stands { IfOk result (λ player. IsPlayerAt shown player (scene (plan_of line) [])) }
+        ensures stands { IfOk result (λ player. IsPlayerAt log.shown player (scene (plan_of line) [])) }
         ensures memory { IfErr result (λ fault. fault ≡ SceneFault.Memory) }
     {
         let BuiltPlant {
@@ -57,6 +53,7 @@ impl<P: Port> Player<P> {
             readers,
             names,
         } = line;
+        let LogWriter { alloc, shown } = log;
         let second = second_of(alloc, generators.len() as u8, readers.len() as u8);
         let plant = Plant::new(alloc, timeline, generators, rules, &readers);
         match (plant, second) {

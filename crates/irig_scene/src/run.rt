@@ -144,19 +144,18 @@ fn run_lines<P: Port, R: BufRead, W: Write>(
     ensures read { (result ≡ Err SceneFault.Read) ↔ (has_failed input.new ≡ true) }
     ensures write { (result ≡ Err SceneFault.Write) ↔ (has_failed output.new ≡ true) }
 {
-    let alloc = log.alloc;
     let mut number = 1;
     loop {
         match read_line(input, limit_of(number), line)? {
             LineEnd::Newline => {
-                if let Some(refusal) = take_line(alloc, player, number, line, log, output)? {
+                if let Some(refusal) = take_line(player, number, line, log, output)? {
                     return Err(refuse(number, refusal, log, output));
                 }
                 number += 1;
             }
             LineEnd::TooLong => return Err(refuse(number, too_long(number), log, output)),
             LineEnd::EndOfInput => {
-                return run_last(alloc, player, number, line, log, output);
+                return run_last(player, number, line, log, output);
             }
         }
     }
