@@ -1,5 +1,5 @@
 -- What the parts of a run tell together.
-use Rattle.std.proofs.Common.{◌≡◌, ℕ, ◌≤◌, List, [], ◌++◌, length, Option, Some, None, Result, Ok, Err, refl, ap, sym, subst, ◌∙◌, append_assoc, false, IfErr, IfOk}
+use Rattle.std.proofs.Common.{◌≡◌, ℕ, ◌≤◌, List, [], ◌++◌, length, Option, Some, None, Result, Ok, Err, refl, ap, sym, subst, ◌∙◌, append_assoc, false}
 use Rattle.std.proofs.KnownBytes.{Appends-trans, Appends-nil}
 use Rattle.irig_port.specs.declared.port.Port.{Ghosts}
 use Rattle.irig_log_text.specs.declared.shown.Shown.{Shown}
@@ -7,6 +7,14 @@ use Rattle.irig_scene.specs.declared.outcome.Outcome.{Outcome}
 use Rattle.irig_scene.specs.declared.player.Player.{Player}
 use Rattle.irig_scene.specs.declared.fault.SceneFault.{SceneFault}
 use Rattle.irig_scene.specs.declared.fault.SceneFault.TheVariants.{Refused, Read, Write, Memory}
+use Rattle.irig_scene.specs.declared.stop.Failure.{Failure}
+use Rattle.irig_scene.specs.declared.stop.Failure.TheVariants as failure
+use Rattle.irig_scene.specs.declared.stop.Stop.{Stop}
+use Rattle.irig_scene.specs.declared.stop.Stop.TheVariants as stop
+use Rattle.irig_faults.specs.declared.refusal.LineFault.{LineFault}
+use Rattle.irig_faults.specs.declared.refusal.LineFault.TheVariants as line_fault
+use Rattle.irig_faults.specs.Refusals.{IsUnlessMemory}
+use Rattle.irig_scenario.specs.declared.event_line.Command.{Command}
 use Rattle.irig_faults.specs.declared.refusal.Refusal.{Refusal}
 use Rattle.irig_faults.specs.declared.refusal.Refusal.TheVariants.{NoPlant}
 use Rattle.irig_scenario.specs.EventLine.{command_in_line}
@@ -14,13 +22,15 @@ use Rattle.irig_scene.specs.Lines.{is_blank, max_line, max_lines}
 use Rattle.irig_scenario.specs.PlantLine.{Plan}
 use Rattle.irig_log_text.specs.Text.{refusal_text}
 use Rattle.irig_device.specs.Watched.{AppendsPart}
-use Rattle.irig_scene.specs.Scene.{Scene, scene, Step, step_to, step_of_plan, step_of_line, step, step_of_command, Meaning, meaning, refusal_at, meaning_at_end, log_text, text_of}
+use Rattle.irig_scene.specs.Scene.{Scene, scene, events_of, Step, step_to, step_of_plan, step_of_line, step, step_of_command, Meaning, meaning, refusal_at, meaning_at_end, log_text, text_of}
 use Rattle.irig_scene.specs.PlayerRuns.{Grew, GrewPart}
-use Rattle.irig_scene.specs.LineRuns.{IsAt, TakesFor, Takes, FailsIn, FailsTaking, Follows, FailsFollowing, Begins, WroteRest, WrotePart, RanRest, WroteRefusal}
+use Rattle.irig_scene.specs.Faults.{fault_of, stop_of}
+use Rattle.irig_scene.specs.LineRuns.{IsPlayerAt, IsAt, Acted, TakesFor, Took, Takes, Follows, Begins, WroteRest, WrotePart, RanRest, WroteRefusal}
+use Rattle.irig_scene.proofs.SecondsPlayed.{nothing_grew}
 use Rattle.irig_log_text.proofs.TextLaws.{no_lines}
 use Rattle.irig_scene.proofs.StepLaws.{IsFront, front_of_step, front_commanded, step_taken}
 
--- ---- want of memory, before anything was written
+-- ---- no memory, before anything was written
 
 none_written : (shown : Shown) (from to : Option Scene) (out : Option (List ℕ)) → IsFront (log_text shown from) (log_text shown to) → GrewPart shown from to out out
 none_written shown from to out h =
@@ -30,13 +40,11 @@ none_written shown from to out h =
       wrote = record { front = []; rest = h.rest; whole = refl; wrote = Appends-nil out };
     }
 
-pub memory_following : (shown : Shown) (x : Scene) (line : List ℕ) (out : Option (List ℕ)) → FailsIn (step_of_command x (command_in_line x.plan.names line)) shown (Some x) Memory out out
-memory_following shown x line out =
-    let to = step_of_command x (command_in_line x.plan.names line) in
-    record { kind = tt; grew = none_written shown (Some x) to.scene out (front_commanded shown x (command_in_line x.plan.names line)) }
+memory_following : (shown : Shown) (x : Scene) (c : Result Command Refusal) (out : Option (List ℕ)) → GrewPart shown (Some x) (step_of_command x c).scene out out
+memory_following shown x c out = none_written shown (Some x) (step_of_command x c).scene out (front_commanded shown x c)
 
-pub memory_taking : (shown : Shown) (n : ℕ) (at : Option Scene) (line : List ℕ) (out : Option (List ℕ)) → FailsIn (step n at line) shown at Memory out out
-memory_taking shown n at line out = record { kind = tt; grew = none_written shown at (step n at line).scene out (front_of_step shown n at line) }
+memory_taking : (shown : Shown) (n : ℕ) (at : Option Scene) (line : List ℕ) (out : Option (List ℕ)) → GrewPart shown at (step n at line).scene out out
+memory_taking shown n at line out = none_written shown at (step n at line).scene out (front_of_step shown n at line)
 
 -- ---- the rest of a run
 
@@ -83,13 +91,11 @@ part_rest shown from at m old new h front =
       };
     }
 
--- a fault in the midst of a line
-pub fault_rest : (fault : SceneFault) (st : Step) (m : Meaning) (count : ℕ) (shown : Shown) (from : Option Scene) (old new : Option (List ℕ))
-    → FailsIn st shown from fault old new → IsFront (log_text shown st.scene) (text_of shown m) → RanRest (Err fault) m count shown from old new
-fault_rest (Refused line number) st m count shown from old new h front = absurd h.kind
-fault_rest Read st m count shown from old new h front = absurd h.kind
-fault_rest Write st m count shown from old new h front = part_rest shown from st.scene m old new h.grew front
-fault_rest Memory st m count shown from old new h front = part_rest shown from st.scene m old new h.grew front
+-- something failed in the midst of a line
+pub failed_rest : (f : Failure) (st : Step) (m : Meaning) (count : ℕ) (shown : Shown) (from : Option Scene) (old new : Option (List ℕ))
+    → GrewPart shown from st.scene old new → IsFront (log_text shown st.scene) (text_of shown m) → RanRest (Err (fault_of f)) m count shown from old new
+failed_rest failure.Write st m count shown from old new h front = part_rest shown from st.scene m old new h front
+failed_rest failure.Memory st m count shown from old new h front = part_rest shown from st.scene m old new h front
 
 refused_part : (shown : Shown) (at : Option Scene) (m : Meaning) (n : ℕ) (k : Refusal) (old new : Option (List ℕ)) → m ≡ meaning at (Some (refusal_at n k))
     → AppendsPart old new (refusal_text n k) → WrotePart shown at m old new
@@ -124,33 +130,39 @@ no_plant_rest player e shown at count n old new is stands wrote =
 
 -- ---- a line that isn't skipped
 
-fails_at : {P : Type 0} {g : Ghosts P} (fault : SceneFault) (was : Option (Player P g)) (player : Player P g) (n : ℕ) (line : List ℕ) (shown : Shown) (old new : Option (List ℕ)) (at : Option Scene)
+took_at : {P : Type 0} {g : Ghosts P} (r : Result (Unit {0}) Stop) (player is : Player P g) (n : ℕ) (line : List ℕ) (shown : Shown) (old new : Option (List ℕ)) (at : Option Scene)
     → n ≤ max_lines → length line ≤ max_line → is_blank line ≡ false → IsAt shown (Some player) at
-    → FailsFollowing player line shown fault old new → FailsIn (step n at line) shown at fault old new
-fails_at fault was player n line shown old new None few short full stands fails = absurd stands
-fails_at fault was player n line shown old new (Some x) few short full stands fails =
-    subst (λ (st : Step). FailsIn st shown (Some x) fault old new) (sym (step_taken n (Some x) line few short full)) (fails x stands)
+    → Follows player line shown r is old new → Took r (step n at line) shown at (Some is) old new
+took_at r player is n line shown old new None few short full stands follows = absurd stands
+took_at r player is n line shown old new (Some x) few short full stands follows =
+    subst (λ (st : Step). Took r st shown (Some x) (Some is) old new) (sym (step_taken n (Some x) line few short full)) (follows x stands)
 
-pub following_fails : {P : Type 0} {g : Ghosts P} (r : Result (Option Refusal) SceneFault) (was : Option (Player P g)) (player : Player P g) (n : ℕ) (line : List ℕ) (shown : Shown) (old new : Option (List ℕ))
+pub following_takes : {P : Type 0} {g : Ghosts P} (r : Result (Unit {0}) Stop) (was : Option (Player P g)) (player is : Player P g) (n : ℕ) (line : List ℕ) (shown : Shown) (old new : Option (List ℕ))
     → was ≡ Some player → n ≤ max_lines → length line ≤ max_line → is_blank line ≡ false
-    → IfErr r (λ fault. FailsFollowing player line shown fault old new) → IfErr r (λ fault. FailsTaking was n line shown fault old new)
-following_fails (Ok k) was player n line shown old new is few short full fails = tt
-following_fails (Err fault) was player n line shown old new is few short full fails = λ at stands.
-    fails_at fault was player n line shown old new at few short full (subst (λ w. IsAt shown w at) is stands) fails
+    → Follows player line shown r is old new → Takes was n line shown r (Some is) old new
+following_takes r was player is n line shown old new same few short full follows = λ at stands.
+    took_at r player is n line shown old new at few short full (subst (λ w. IsAt shown w at) same stands) follows
 
-takes_at : {P : Type 0} {g : Ghosts P} (refusal : Option Refusal) (player is : Player P g) (n : ℕ) (line : List ℕ) (shown : Shown) (old new : Option (List ℕ)) (at : Option Scene)
-    → n ≤ max_lines → length line ≤ max_line → is_blank line ≡ false → IsAt shown (Some player) at
-    → Follows player line shown is refusal old new → TakesFor (step n at line) shown at (Some is) refusal old new
-takes_at refusal player is n line shown old new None few short full stands follows = absurd stands
-takes_at refusal player is n line shown old new (Some x) few short full stands follows =
-    subst (λ (st : Step). TakesFor st shown (Some x) (Some is) refusal old new) (sym (step_taken n (Some x) line few short full)) (follows x stands)
+-- what an event line asks for was done
+pub acted_takes : {P : Type 0} {g : Ghosts P} (r : Result (Unit {0}) Stop) (x : Scene) (c : Result Command Refusal) (command : Command) (shown : Shown) (player : Player P g) (old new : Option (List ℕ)) → c ≡ Ok command
+    → Acted r x (events_of x.plan command) shown player old new → Took r (step_of_command x c) shown (Some x) (Some player) old new
+acted_takes (Ok done) x c command shown player old new is acted =
+    subst (λ (c : Result Command Refusal). Took (Ok done) (step_of_command x c) shown (Some x) (Some player) old new) (sym is)
+    (record { refused = acted.refused; stands = acted.stands; grew = acted.grew })
+acted_takes (Err (stop.Refused k)) x c command shown player old new is acted =
+    subst (λ (c : Result Command Refusal). Took (Err (stop.Refused k)) (step_of_command x c) shown (Some x) (Some player) old new) (sym is)
+    (record { refused = acted.refused; stands = acted.stands; grew = acted.grew })
+acted_takes (Err (stop.Failed f)) x c command shown player old new is acted =
+    subst (λ (c : Result Command Refusal). GrewPart shown (Some x) (step_of_command x c).scene old new) (sym is) acted
 
-pub following_takes : {P : Type 0} {g : Ghosts P} (r : Result (Option Refusal) SceneFault) (was : Option (Player P g)) (player is : Player P g) (n : ℕ) (line : List ℕ) (shown : Shown) (old new : Option (List ℕ))
-    → was ≡ Some player → n ≤ max_lines → length line ≤ max_line → is_blank line ≡ false
-    → IfOk r (λ refusal. Follows player line shown is refusal old new) → IfOk r (λ refusal. Takes was n line shown (Some is) refusal old new)
-following_takes (Ok k) was player is n line shown old new same few short full follows = λ at stands.
-    takes_at k player is n line shown old new at few short full (subst (λ w. IsAt shown w at) same stands) follows
-following_takes (Err fault) was player is n line shown old new same few short full follows = tt
+-- an event line gives no command
+pub event_stops : {P : Type 0} {g : Ghosts P} (fault : LineFault) (x : Scene) (names : List (List ℕ)) (line : List ℕ) (shown : Shown) (player : Player P g) (out : Option (List ℕ)) → names ≡ x.plan.names → IsUnlessMemory (λ (command : Command). command) (command_in_line names line) (Err fault)
+    → IsPlayerAt shown player x → Took (Err (stop_of fault)) (step_of_command x (command_in_line x.plan.names line)) shown (Some x) (Some player) out out
+event_stops (line_fault.Refused k) x names line shown player out same is stands =
+    let here : command_in_line x.plan.names line ≡ Err k = ap (λ names. command_in_line names line) (sym same) ∙ is in
+    subst (λ (c : Result Command Refusal). Took (Err (stop.Refused k)) (step_of_command x c) shown (Some x) (Some player) out out) (sym here)
+    (record { refused = refl; stands = stands; grew = nothing_grew shown (Some x) out })
+event_stops line_fault.Memory x names line shown player out same is stands = memory_following shown x (command_in_line x.plan.names line) out
 
 nothing_logged : (shown : Shown) (plan : Plan) → log_text shown (Some (scene plan [])) ≡ []
 nothing_logged shown plan = no_lines plan.names shown
@@ -175,6 +187,27 @@ begins_at n shown line player out None few short full stands is =
     subst (λ (st : Step). TakesFor st shown None (Some player) None out out) (sym (step_taken n None line few short full)) (begins shown line player out is)
 
 pub beginning_takes : {P : Type 0} {g : Ghosts P} (was : Option (Player P g)) (n : ℕ) (shown : Shown) (line : List ℕ) (player : Player P g) (out : Option (List ℕ)) → was ≡ None
-    → n ≤ max_lines → length line ≤ max_line → is_blank line ≡ false → Begins shown line (Ok player) → Takes was n line shown (Some player) None out out
+    → n ≤ max_lines → length line ≤ max_line → is_blank line ≡ false → Begins shown line (Ok player) → Takes was n line shown (Ok _) (Some player) out out
 beginning_takes was n shown line player out is few short full step_of_plan = λ at stands.
     begins_at n shown line player out at few short full (subst (λ w. IsAt shown w at) is stands) step_of_plan
+
+-- a plant line gives no player
+stops_at_plant : {P : Type 0} {g : Ghosts P} (s : Stop) (was : Option (Player P g)) (n : ℕ) (shown : Shown) (line : List ℕ) (out : Option (List ℕ)) (at : Option Scene) → at ≡ None → IsAt shown was at
+    → n ≤ max_lines → length line ≤ max_line → is_blank line ≡ false → Begins {P = P} {g = g} shown line (Err s) → Took (Err s) (step n at line) shown at was out out
+stops_at_plant (stop.Refused k) was n shown line out at none stands few short full begins =
+    let to : step n at line ≡ step_to None (Some k) = step_taken n at line few short full ∙ ap (λ at. step_of_line at line) none ∙ ap step_of_plan begins in
+    record {
+      refused = ap (λ (st : Step). st.refusal) to;
+      stands = subst (λ (at : Option Scene). IsAt shown was at) (none ∙ ap (λ (st : Step). st.scene) (sym to)) stands;
+      grew = record {
+        text = [];
+        more = ap (λ (st : Step). log_text shown st.scene) to ∙ ap (λ at. log_text shown at ++ []) (sym none);
+        wrote = Appends-nil out;
+      };
+    }
+stops_at_plant (stop.Failed f) was n shown line out at none stands few short full begins = memory_taking shown n at line out
+
+pub beginning_stops : {P : Type 0} {g : Ghosts P} (s : Stop) (was : Option (Player P g)) (n : ℕ) (shown : Shown) (line : List ℕ) (out : Option (List ℕ)) → was ≡ None
+    → n ≤ max_lines → length line ≤ max_line → is_blank line ≡ false → Begins {P = P} {g = g} shown line (Err s) → Takes was n line shown (Err s) was out out
+beginning_stops s was n shown line out is few short full begins = λ at stands.
+    stops_at_plant s was n shown line out at (no_plant shown was at is stands) stands few short full begins

@@ -25,10 +25,7 @@ use Rattle.irig_scene.specs.Scene.{refusal_as}
 use Rattle.irig_scene.specs.Scene.{Play, play, play_by, unless_refused, Scene, scene, log_text}
 use Rattle.std.specs.Io.KnownBytes.{Appends}
 use Rattle.std.proofs.KnownBytes.{Appends-nil}
-use Rattle.irig_scene.specs.declared.fault.SceneFault.{SceneFault}
-use Rattle.irig_scene.specs.declared.fault.SceneFault.TheVariants.{Refused, Read, Write, Memory}
 use Rattle.irig_device.specs.Watched.{AppendsPart}
-use Rattle.irig_scene.specs.Faults.{IsFaultOfWriting}
 use Rattle.irig_scene.specs.PlayerRuns.{past, after_events, ticks_among, Grew, GrewPart}
 use Rattle.irig_log_text.specs.Text.{lines_text}
 use Rattle.irig_log_text.proofs.TextLaws.{lines_join, same_lines}
@@ -200,12 +197,6 @@ begun_with_ports p shown plan e h = subst (λ b. HasPlantHistory p (record (past
 
 pub begun_without_ports : {P : Type 0} {g : Ghosts P} (p : Plant P g) (shown : Shown) (plan : Plan) → shown.ports ≡ false → HasPlantHistory p (beginning plan.setup) → HasPlantHistory p (past shown (scene plan []))
 begun_without_ports p shown plan e h = subst (λ b. HasPlantHistory p (record (past shown (scene plan [])) { keeps_told = b })) (sym e) h
-
-pub wants_memory : (fault : SceneFault) → fault ≡ Memory → IsFaultOfWriting fault
-wants_memory (Refused line number) e = absurd cc
-wants_memory Read e = absurd cc
-wants_memory Write e = tt
-wants_memory Memory e = tt
 
 -- ---- the ticks of a whole second
 

@@ -18,17 +18,16 @@ use Rattle.irig_faults.specs.declared.refusal.Refusal.TheVariants as refusal
 use Rattle.irig_device.specs.Lines.{HasNoNewline, HasLength, spelling, GivesLine, GivesPart}
 use Rattle.irig_scene.specs.Lines.{lines, unlines, max_line, max_lines, limit_of, shown_by}
 use Rattle.irig_device.specs.Watched.{AppendsPart}
-use Rattle.irig_scene.specs.Faults.{IsFaultOfReading, IsFaultOfWriting}
+use Rattle.irig_scene.specs.Faults.{IsFaultOfReading}
 use Rattle.irig_scene.specs.Scene.{Scene, Step, step_to, step, Meaning, meaning, refusal_at, meaning_from, meaning_of, meaning_at_end, log_text, text_of, output_shown}
 use Rattle.irig_scene.specs.PlayerRuns.{Grew}
 use Rattle.irig_scene.specs.Run.{IsOfOneLine, StoppedInLine, read_of, RanOn, AreBytesOf, RanShown}
-use Rattle.irig_scene.specs.LineRuns.{IsAt, TakesFor, FailsIn, RanRest, WrotePart, WroteRefusal, too_long}
+use Rattle.irig_scene.specs.LineRuns.{IsAt, TakesFor, RanRest, WrotePart, WroteRefusal, too_long, IsOfLine, EndsRun}
 use Rattle.irig_scene.proofs.SecondsPlayed.{nothing_grew, grew_on}
 use Rattle.irig_scene.proofs.LineLaws.{line_first, no_line, lines_after, Opens, opens}
 use Rattle.irig_scene.proofs.StepLaws.{front_of_meaning, meaning_goes, meaning_stops, meaning_ends, step_many, step_long}
 use Rattle.irig_scene.proofs.LineRunLaws.{rest_on, refused_rest}
 use Rattle.irig_scene.proofs.ReadLaws.{shown_with_newline, shown_too_long, shown_at_end, refused_later}
-use Rattle.irig_scene.proofs.LastLaws.{line_stops, line_fails}
 
 -- the loop stands before line n: these whole lines were run, and their log was written
 pub record HasRun {P : Type 0} {g : Ghosts P} (shown : Shown) (player : Option (Player P g)) (in0 in1 out0 out1 : Option (List ℕ)) (n : ℕ) : Type 0 where
@@ -56,9 +55,9 @@ has_begun shown in0 out0 =
 
 -- ---- one line more
 
-goes_on : {P : Type 0} {g : Ghosts P} (shown : Shown) (was is : Option (Player P g)) (in0 in1 in2 out0 out1 out2 : Option (List ℕ)) (n : ℕ) (l : List ℕ) (found : Option Refusal) (run : HasRun shown was in0 in1 out0 out1 n)
-    → found ≡ None → TakesFor (step n run.at l) shown run.at is found out1 out2 → HasNoNewline l → Consumes in1 in2 (l ++ 10 ∷ []) → HasRun shown is in0 in2 out0 out2 (n + 1)
-goes_on shown was is in0 in1 in2 out0 out1 out2 n l found run none took h read =
+goes_on : {P : Type 0} {g : Ghosts P} (shown : Shown) (was is : Option (Player P g)) (in0 in1 in2 out0 out1 out2 : Option (List ℕ)) (n : ℕ) (l : List ℕ) (run : HasRun shown was in0 in1 out0 out1 n)
+    → TakesFor (step n run.at l) shown run.at is None out1 out2 → HasNoNewline l → Consumes in1 in2 (l ++ 10 ∷ []) → HasRun shown is in0 in2 out0 out2 (n + 1)
+goes_on shown was is in0 in1 in2 out0 out1 out2 n l run took h read =
     let grown : unlines (run.past ++ l ∷ []) ≡ unlines run.past ++ (l ++ 10 ∷ []) =
     flat_map-append (λ l. l ++ 10 ∷ []) run.past (l ∷ []) ∙ ap (λ more. unlines run.past ++ more) (append-nil (l ++ 10 ∷ [])) in
     record {
@@ -68,17 +67,17 @@ goes_on shown was is in0 in1 in2 out0 out1 out2 n l found run none took h read =
       whole = All-push HasNoNewline _ _ run.whole h;
       took = subst (Consumes in0 in2) (sym grown) (Consumes-trans in0 in1 in2 _ _ run.took read);
       count = omega (arith, run.count, length-append run.past (l ∷ []));
-      means = λ rest. ap (λ ls. meaning_from ls 1 None) (append_assoc run.past (l ∷ []) rest) ∙ run.means (l ∷ rest) ∙ meaning_goes l rest n run.at (took.refused ∙ none);
+      means = λ rest. ap (λ ls. meaning_from ls 1 None) (append_assoc run.past (l ∷ []) rest) ∙ run.means (l ∷ rest) ∙ meaning_goes l rest n run.at took.refused;
       grew = grew_on shown None run.at (step n run.at l).scene out0 out1 out2 run.grew took.grew;
     }
 
 as_newline : (end : LineEnd) (line : List ℕ) (in1 in2 : Option (List ℕ)) → end ≡ Newline → Consumes in1 in2 (spelling end line) → Consumes in1 in2 (line ++ 10 ∷ [])
 as_newline end line in1 in2 is took = subst (λ end. Consumes in1 in2 (spelling end line)) is took
 
-pub line_done : {P : Type 0} {g : Ghosts P} (shown : Shown) (was is : Option (Player P g)) (in0 in1 in2 out0 out1 out2 : Option (List ℕ)) (n limit : ℕ) (l line : List ℕ) (end : LineEnd) (found : Option Refusal) (run : HasRun shown was in0 in1 out0 out1 n)
-    → GivesLine end limit line in1 in2 → end ≡ Newline → l ≡ line → found ≡ None → TakesFor (step n run.at l) shown run.at is found out1 out2 → HasRun shown is in0 in2 out0 out2 (n + 1)
-line_done shown was is in0 in1 in2 out0 out1 out2 n limit l line end found run got ends same none took =
-    goes_on shown was is in0 in1 in2 out0 out1 out2 n l found run none took (subst HasNoNewline (sym same) got.whole)
+pub line_done : {P : Type 0} {g : Ghosts P} (shown : Shown) (was is : Option (Player P g)) (in0 in1 in2 out0 out1 out2 : Option (List ℕ)) (n limit : ℕ) (l line : List ℕ) (end : LineEnd) (run : HasRun shown was in0 in1 out0 out1 n)
+    → GivesLine end limit line in1 in2 → end ≡ Newline → l ≡ line → TakesFor (step n run.at l) shown run.at is None out1 out2 → HasRun shown is in0 in2 out0 out2 (n + 1)
+line_done shown was is in0 in1 in2 out0 out1 out2 n limit l line end run got ends same took =
+    goes_on shown was is in0 in1 in2 out0 out1 out2 n l run took (subst HasNoNewline (sym same) got.whole)
     (subst (λ l. Consumes in1 in2 (l ++ 10 ∷ [])) (sym same) (as_newline end line in1 in2 ends got.taken))
 
 -- ---- the input, where it tells its bytes
@@ -121,12 +120,6 @@ reads_refused (Refused line number) x read spelled n k is shown one = ap (λ ref
 reads_refused Read x read spelled n k is shown one = tt
 reads_refused Write x read spelled n k is shown one = one
 reads_refused Memory x read spelled n k is shown one = one
-
-reads_failed : (e : SceneFault) (x read spelled : List ℕ) → IsFaultOfWriting e → IsOfOneLine spelled → ReadsFor (Err e) x read spelled
-reads_failed (Refused line number) x read spelled kind one = absurd kind
-reads_failed Read x read spelled kind one = absurd kind
-reads_failed Write x read spelled kind one = one
-reads_failed Memory x read spelled kind one = one
 
 stopped_in_line : (x rest : List ℕ) (shown : Shown) (was left out0 out1 out2 : Option (List ℕ)) (past : List (List ℕ)) (spelled : List ℕ) (at : Option Scene) (m : Meaning) → All HasNoNewline past → x ≡ (unlines past ++ spelled) ++ rest → Consumes was left (unlines past ++ spelled)
     → Grew shown None at out0 out1 → (meaning_of (unlines past)).scene ≡ at → WrotePart shown at m out1 out2 → IsOfOneLine spelled → StoppedInLine x shown was left out0 out2
@@ -196,31 +189,30 @@ module _ {P : Type 0} {g : Ghosts P} (shown : Shown) (player : Option (Player P 
   refused_at : (y : List ℕ) (l : List ℕ) (ls : List (List ℕ)) (k : Refusal) → lines y ≡ l ∷ ls → (step n run.at l).refusal ≡ Some k → (meaning_of (unlines run.past ++ y)).refused ≡ Some (refusal_at n k)
   refused_at y l ls k is stops = ap (λ (m : Meaning). m.refused) (left_means y ∙ ap (λ ls. meaning_from ls n run.at) is ∙ meaning_stops l ls n run.at k stops)
 
+  -- line n ended the run
+  reads_ended : (e : SceneFault) (y l : List ℕ) (ls : List (List ℕ)) (count : ℕ) (out2 : Option (List ℕ)) (read spelled : List ℕ) → lines y ≡ l ∷ ls → IsOfLine n e → RanRest (Err e) (meaning_from (l ∷ ls) n run.at) count shown run.at out1 out2
+      → shown_by n (unlines run.past ++ y) ≡ read → IsOfOneLine spelled → ReadsFor (Err e) (unlines run.past ++ y) read spelled
+  reads_ended (Refused line number) y l ls count out2 read spelled is here ran shows one =
+      ap (λ refused. read_of refused (unlines run.past ++ y)) (ap (λ (m : Meaning). m.refused) (left_means y ∙ ap (λ ls. meaning_from ls n run.at) is) ∙ ran.0.first ∙ ap (λ n. Some (refusal_at n ran.0.refusal)) here) ∙ shows
+  reads_ended Read y l ls count out2 read spelled is here ran shows one = tt
+  reads_ended Write y l ls count out2 read spelled is here ran shows one = one
+  reads_ended Memory y l ls count out2 read spelled is here ran shows one = one
+
   -- ---- a line with its newline
 
-  pub left_refused : (e : SceneFault) (is : Option (Player P g)) (in2 out2 out3 : Option (List ℕ)) (limit : ℕ) (l line : List ℕ) (end : LineEnd) (found : Option Refusal) (k : Refusal)
-      → GivesLine end limit line in1 in2 → end ≡ Newline → l ≡ line → limit ≡ limit_of n → found ≡ Some k → TakesFor (step n run.at l) shown run.at is found out1 out2 → WroteRefusal e n k out2 out3
-      → RanShown (Err e) shown in0 in2 out0 out3
-  left_refused e is in2 out2 out3 limit l line end found k got ends same limited some took tells =
+  pub left_ended : (e : SceneFault) (in2 out2 : Option (List ℕ)) (limit : ℕ) (l line : List ℕ) (end : LineEnd)
+      → GivesLine end limit line in1 in2 → end ≡ Newline → l ≡ line → limit ≡ limit_of n → EndsRun e n l shown run.at out1 out2 → RanShown (Err e) shown in0 in2 out0 out2
+  left_ended e in2 out2 limit l line end got ends same limited ended =
       let h : HasNoNewline l = subst HasNoNewline (sym same) got.whole in
       let read : Consumes in1 in2 (l ++ 10 ∷ []) = subst (λ l. Consumes in1 in2 (l ++ 10 ∷ [])) (sym same) (as_newline end line in1 in2 ends got.taken) in
       let short : length l ≤ limit_of n = omega (arith, ap length same, limited, subst (λ end. HasLength end limit line) ends got.has_length) in
       let known = known_rest in1 in2 (l ++ 10 ∷ []) read in
       let y = (l ++ 10 ∷ []) ++ known.0 in
-      exit (Err e) in2 out3 (l ++ 10 ∷ []) known.0 y (l ∷ lines known.0) refl read known.1 (line_first l known.0 h)
-      (line_stops e l (lines known.0) n (n - 1 + length (l ∷ lines known.0)) shown run.at is found k out1 out2 out3 some took tells)
-      (reads_refused e (unlines run.past ++ y) _ _ n k (refused_at y l (lines known.0) k (line_first l known.0 h) (took.refused ∙ some))
+      let count = n - 1 + length (l ∷ lines known.0) in
+      exit (Err e) in2 out2 (l ++ 10 ∷ []) known.0 y (l ∷ lines known.0) refl read known.1 (line_first l known.0 h)
+      (ended.ran (lines known.0) count)
+      (reads_ended e y l (lines known.0) count out2 _ _ (line_first l known.0 h) ended.numbered (ended.ran (lines known.0) count)
       (shown_with_newline run.past n l known.0 run.whole run.count h short) (record { line = l; unlined = h; is = inr refl }))
-
-  pub left_failed : (fault : SceneFault) (in2 out2 : Option (List ℕ)) (limit : ℕ) (l line : List ℕ) (end : LineEnd)
-      → GivesLine end limit line in1 in2 → end ≡ Newline → l ≡ line → FailsIn (step n run.at l) shown run.at fault out1 out2 → RanShown (Err fault) shown in0 in2 out0 out2
-  left_failed fault in2 out2 limit l line end got ends same failed =
-      let h : HasNoNewline l = subst HasNoNewline (sym same) got.whole in
-      let read : Consumes in1 in2 (l ++ 10 ∷ []) = subst (λ l. Consumes in1 in2 (l ++ 10 ∷ [])) (sym same) (as_newline end line in1 in2 ends got.taken) in
-      let known = known_rest in1 in2 (l ++ 10 ∷ []) read in
-      exit (Err fault) in2 out2 (l ++ 10 ∷ []) known.0 ((l ++ 10 ∷ []) ++ known.0) (l ∷ lines known.0) refl read known.1 (line_first l known.0 h)
-      (line_fails fault l (lines known.0) n (n - 1 + length (l ∷ lines known.0)) shown run.at out1 out2 failed)
-      (reads_failed fault _ _ _ failed.kind (record { line = l; unlined = h; is = inr refl }))
 
   -- ---- a line that is too long
 

@@ -1,5 +1,5 @@
 -- Whole seconds, one after another.
-use Rattle.std.proofs.Common.{◌≡◌, ℕ, zero, suc, ◌+◌, ◌-◌, ◌<◌, List, [], ◌∷◌, ◌++◌, Option, Some, None, refl, ap, sym, subst, ◌∙◌, arith, append-nil, append_assoc, is_some, true, false}
+use Rattle.std.proofs.Common.{◌≡◌, ℕ, zero, suc, ◌+◌, ◌-◌, ◌<◌, List, [], ◌∷◌, ◌++◌, Option, Some, None, Err, refl, ap, sym, subst, ◌∙◌, arith, append-nil, append_assoc}
 use Rattle.std.specs.Prelude.{option_and_then}
 use Rattle.std.proofs.KnownBytes.{Appends-trans, Appends-nil}
 use Rattle.irig_plant.specs.declared.event.Event.{Event}
@@ -13,7 +13,9 @@ use Rattle.irig_log_text.specs.declared.shown.Shown.{Shown}
 use Rattle.irig_scene.specs.Scene.{refusal_as}
 use Rattle.irig_plant.specs.WholeSecond.{times}
 use Rattle.irig_scene.specs.Scene.{Scene, scene, Play, play, unless_refused, log_text}
-use Rattle.irig_scene.specs.PlayerRuns.{past, after_events, Grew, GrewPart, PlaysFor}
+use Rattle.irig_scene.specs.declared.stop.Stop.{Stop}
+use Rattle.irig_scene.specs.declared.stop.Stop.TheVariants.{Refused, Failed}
+use Rattle.irig_scene.specs.PlayerRuns.{past, after_events, Grew, GrewPart, PlaysFor, Played}
 use Rattle.irig_log_text.specs.Text.{lines_text}
 use Rattle.irig_scene.proofs.PlayLaws.{LogGrows, log_keeps, grows_by_play, lines_grow}
 
@@ -145,7 +147,7 @@ fails_on x a b rest shown p o0 o1 o2 h l =
 pub no_second : {P : Type 0} {g : Ghosts P} (x : Scene) (es : List Event) (shown : Shown) (p : Plant P g) (out : Option (List ℕ)) → HasPlantHistory p (past shown x) → PlaysFor x (times 0 es) shown p None out out
 no_second x es shown p out h = record { refused = refl; stands = h; grew = nothing_grew shown (Some x) out }
 
-second_more : {P : Type 0} {g : Ghosts P} (x : Scene) (i : ℕ) (es : List Event) (shown : Shown) (p q : Plant P g) (o0 o1 o2 : Option (List ℕ))
+pub second_more : {P : Type 0} {g : Ghosts P} (x : Scene) (i : ℕ) (es : List Event) (shown : Shown) (p q : Plant P g) (o0 o1 o2 : Option (List ℕ))
     → PlaysFor x (times i es) shown p None o0 o1 → PlaysFor (after_events x (times i es)) es shown q None o1 o2 → PlaysFor x (times (i + 1) es) shown q None o0 o2
 second_more x i es shown p q o0 o1 o2 h l =
     plays_alike x (times i es ++ es) (times (i + 1) es) shown q None o0 o2
@@ -160,20 +162,16 @@ stops_at x i n es shown p q r o0 o1 o2 lt h l =
     (sym (ap (λ more. play x.plan.setup more x.events) (times_left i n es lt) ∙ plays_no_further x.plan.setup (times i es ++ es) (times (n - (i + 1)) es) x.events r both.refused))
     both
 
-pub second_stops : {P : Type 0} {g : Ghosts P} (x : Scene) (i n : ℕ) (es : List Event) (shown : Shown) (p q : Plant P g) (k : Option Refusal) (o0 o1 o2 : Option (List ℕ)) → i < n → is_some k ≡ true
-    → PlaysFor x (times i es) shown p None o0 o1 → PlaysFor (after_events x (times i es)) es shown q k o1 o2 → PlaysFor x (times n es) shown q k o0 o2
-second_stops x i n es shown p q None o0 o1 o2 lt some h l = absurd cc
-second_stops x i n es shown p q (Some r) o0 o1 o2 lt some h l = stops_at x i n es shown p q r o0 o1 o2 lt h l
-
-pub second_goes : {P : Type 0} {g : Ghosts P} (x : Scene) (i : ℕ) (es : List Event) (shown : Shown) (p q : Plant P g) (k : Option Refusal) (o0 o1 o2 : Option (List ℕ)) → is_some k ≡ false
-    → PlaysFor x (times i es) shown p None o0 o1 → PlaysFor (after_events x (times i es)) es shown q k o1 o2 → PlaysFor x (times (i + 1) es) shown q None o0 o2
-second_goes x i es shown p q None o0 o1 o2 none h l = second_more x i es shown p q o0 o1 o2 h l
-second_goes x i es shown p q (Some r) o0 o1 o2 none h l = absurd cc
-
-pub second_fails : {P : Type 0} {g : Ghosts P} (x : Scene) (i n : ℕ) (es : List Event) (shown : Shown) (p : Plant P g) (o0 o1 o2 : Option (List ℕ)) → i < n
+second_fails : {P : Type 0} {g : Ghosts P} (x : Scene) (i n : ℕ) (es : List Event) (shown : Shown) (p : Plant P g) (o0 o1 o2 : Option (List ℕ)) → i < n
     → PlaysFor x (times i es) shown p None o0 o1
     → GrewPart shown (Some (after_events x (times i es))) (Some (after_events (after_events x (times i es)) es)) o1 o2
     → GrewPart shown (Some x) (Some (after_events x (times n es))) o0 o2
 second_fails x i n es shown p o0 o1 o2 lt h part =
     subst (λ more. GrewPart shown (Some x) (Some (after_events x more)) o0 o2) (sym (times_left i n es lt))
     (fails_on x (times i es) es (times (n - (i + 1)) es) shown p o0 o1 o2 h part)
+
+-- a second that ends the events
+pub second_ends : {P : Type 0} {g : Ghosts P} (stop : Stop) (x : Scene) (i n : ℕ) (es : List Event) (shown : Shown) (p q : Plant P g) (o0 o1 o2 : Option (List ℕ)) → i < n
+    → PlaysFor x (times i es) shown p None o0 o1 → Played (Err stop) (after_events x (times i es)) es shown q o1 o2 → Played (Err stop) x (times n es) shown q o0 o2
+second_ends (Refused r) x i n es shown p q o0 o1 o2 lt h l = stops_at x i n es shown p q r o0 o1 o2 lt h l
+second_ends (Failed f) x i n es shown p q o0 o1 o2 lt h l = second_fails x i n es shown p o0 o1 o2 lt h l

@@ -5,6 +5,12 @@ use Rattle.irig_device.specs.Watched.{AppendsPart}
 use Rattle.irig_device.specs.Lines.{Bytes}
 use Rattle.irig_scene.specs.declared.fault.SceneFault.{SceneFault}
 use Rattle.irig_scene.specs.declared.fault.SceneFault.TheVariants.{Refused, Read, Write, Memory}
+use Rattle.irig_scene.specs.declared.stop.Failure.{Failure}
+use Rattle.irig_scene.specs.declared.stop.Failure.TheVariants as failure
+use Rattle.irig_scene.specs.declared.stop.Stop.{Stop}
+use Rattle.irig_scene.specs.declared.stop.Stop.TheVariants as stop
+use Rattle.irig_forms.specs.declared.refusal.LineFault.{LineFault}
+use Rattle.irig_forms.specs.declared.refusal.LineFault.TheVariants as line_fault
 
 -- the input failed, or memory was wanted
 abbrev pub IsFaultOfReading : SceneFault → Type 0
@@ -13,12 +19,31 @@ IsFaultOfReading Read = ⊤
 IsFaultOfReading Write = ⊥
 IsFaultOfReading Memory = ⊤
 
--- the output failed, or memory was wanted
-abbrev pub IsFaultOfWriting : SceneFault → Type 0
-IsFaultOfWriting (Refused line number) = ⊥
-IsFaultOfWriting Read = ⊥
-IsFaultOfWriting Write = ⊤
-IsFaultOfWriting Memory = ⊤
+-- the fault of a run in which this failed
+abbrev pub fault_of : Failure → SceneFault
+fault_of failure.Write = Write
+fault_of failure.Memory = Memory
+
+-- why a line that gives nothing ends the run
+abbrev pub stop_of : LineFault → Stop
+stop_of (line_fault.Refused refusal) = stop.Refused refusal
+stop_of line_fault.Memory = stop.Failed failure.Memory
+
+-- whether the output failed
+abbrev pub is_of_output : Failure → Bool
+is_of_output failure.Write = true
+is_of_output failure.Memory = false
+
+-- whether the answer of a write says so
+abbrev pub failed_write : {A : Type 0} → Result A Failure → Bool
+failed_write (Ok x) = false
+failed_write (Err f) = is_of_output f
+
+-- whether that of a line says so
+abbrev pub stopped_write : {A : Type 0} → Result A Stop → Bool
+stopped_write (Ok x) = false
+stopped_write (Err (stop.Refused refusal)) = false
+stopped_write (Err (stop.Failed f)) = is_of_output f
 
 -- whether the output failed
 abbrev pub is_write_fault : SceneFault → Bool
@@ -44,7 +69,7 @@ abbrev pub says_read : {A : Type 0} → Result A SceneFault → Bool
 says_read (Ok x) = false
 says_read (Err fault) = is_read_fault fault
 
--- the text was written, or a front of it before a fault
-abbrev pub WroteText : Result (Unit {0}) SceneFault → Bytes → Bytes → List ℕ → Type 0
+-- the text was written, or a prefix of it before something failed
+abbrev pub WroteText : Result (Unit {0}) Failure → Bytes → Bytes → List ℕ → Type 0
 WroteText (Ok done) old new text = Appends old new text
-WroteText (Err fault) old new text = IsFaultOfWriting fault × AppendsPart old new text
+WroteText (Err f) old new text = AppendsPart old new text

@@ -1,6 +1,6 @@
 -- A line of a run, and the end of its lines: what stands after them, and by how much the output
 -- grew.
-use Rattle.std.specs.Prelude.{◌≡◌, ℕ, ◌+◌, List, [], ◌++◌, length, map, string_bytes, Option, Some, None, Result, Ok, Err, ⊤, ◌-◌, nat_lt, if◌then◌else◌}
+use Rattle.std.specs.Prelude.{◌≡◌, ℕ, ◌+◌, List, [], ◌∷◌, ◌++◌, length, map, string_bytes, Option, Some, None, Result, Ok, Err, ⊤, ◌-◌, nat_lt, if◌then◌else◌}
 use Rattle.std.specs.Io.KnownBytes.{Appends}
 use Rattle.irig_port.specs.declared.port.Port.{Ghosts}
 use Rattle.irig_plant.specs.declared.event.Event.{Event}
@@ -9,9 +9,10 @@ use Rattle.irig_scene.specs.declared.outcome.Outcome.{Outcome}
 use Rattle.irig_scene.specs.declared.player.Player.{Player}
 use Rattle.irig_scene.specs.declared.fault.SceneFault.{SceneFault}
 use Rattle.irig_scene.specs.declared.fault.SceneFault.TheVariants.{Refused, Read, Write, Memory}
+use Rattle.irig_scene.specs.declared.stop.Failure.TheVariants as failure
+use Rattle.irig_scene.specs.declared.stop.Stop.{Stop}
+use Rattle.irig_scene.specs.declared.stop.Stop.TheVariants as stop
 use Rattle.irig_faults.specs.declared.refusal.Refusal.{Refusal}
-use Rattle.irig_faults.specs.declared.refusal.LineFault.{LineFault}
-use Rattle.irig_faults.specs.declared.refusal.LineFault.TheVariants as line_fault
 use Rattle.irig_faults.specs.declared.refusal.Refusal.TheVariants.{TooManyLines, TooLong}
 use Rattle.irig_faults.specs.Refusals.{number_of}
 use Rattle.irig_device.specs.Lines.{Bytes}
@@ -20,7 +21,6 @@ use Rattle.irig_log_text.specs.Text.{refusal_text}
 use Rattle.irig_scenario.specs.EventLine.{command_in_line}
 use Rattle.irig_scene.specs.Run.{IsDone, IsRefused}
 use Rattle.irig_device.specs.Watched.{AppendsPart}
-use Rattle.irig_scene.specs.Faults.{IsFaultOfWriting}
 use Rattle.irig_scenario.specs.declared.event_line.Command.{Command}
 use Rattle.irig_log_text.specs.declared.shown.Shown.{Shown}
 use Rattle.irig_scene.specs.PlayerRuns.{past, after_events, Grew, GrewPart}
@@ -50,23 +50,21 @@ pub record ActsFor {P : Type 0} {g : Ghosts P} (x : Scene) (events : List Event)
   pub stands : IsPlayerAt shown player (after_events x events)
   pub grew : Grew shown (Some x) (Some (after_events x events)) old new
 
--- what a line asks for
-abbrev pub Acts : {P : Type 0} {g : Ghosts P} → Player P g → Command → Shown → Player P g
-    → Option Refusal → Bytes → Bytes → Type 0
-Acts was command shown is refusal old new =
+-- it did all of that, or up to a refusal, or something failed in the midst of it
+abbrev pub Acted : {P : Type 0} {g : Ghosts P} → Result (Unit {0}) Stop → Scene → List Event
+    → Shown → Player P g → Bytes → Bytes → Type 0
+Acted (Ok done) x events shown player old new = ActsFor x events shown player None old new
+Acted (Err (stop.Refused k)) x events shown player old new =
+    ActsFor x events shown player (Some k) old new
+Acted (Err (stop.Failed f)) x events shown player old new =
+    GrewPart shown (Some x) (Some (after_events x events)) old new
+
+-- what a line asks for, whatever scene the player is of
+abbrev pub Acts : {P : Type 0} {g : Ghosts P} → Player P g → Command → Shown
+    → Result (Unit {0}) Stop → Player P g → Bytes → Bytes → Type 0
+Acts was command shown result is old new =
     (x : Scene) → IsPlayerAt shown was x
-    → ActsFor x (events_of x.plan command) shown is refusal old new
-
--- the output failed, or memory was wanted, in the midst of these events
-abbrev pub FailsFor : Scene → List Event → Shown → SceneFault → Bytes → Bytes → Type 0
-FailsFor x events shown fault old new =
-    IsFaultOfWriting fault × GrewPart shown (Some x) (Some (after_events x events)) old new
-
--- whatever scene the player is of
-abbrev pub Fails : {P : Type 0} {g : Ghosts P} → Player P g → Command → Shown → SceneFault → Bytes
-    → Bytes → Type 0
-Fails was command shown fault old new =
-    (x : Scene) → IsPlayerAt shown was x → FailsFor x (events_of x.plan command) shown fault old new
+    → Acted result x (events_of x.plan command) shown is old new
 
 -- ---- lines
 
@@ -77,46 +75,36 @@ pub record TakesFor {P : Type 0} {g : Ghosts P} (step : Step) (shown : Shown) (f
   pub stands : IsAt shown player step.scene
   pub grew : Grew shown from step.scene old new
 
+-- it was taken, or refused, or something failed in the midst of it
+abbrev pub Took : {P : Type 0} {g : Ghosts P} → Result (Unit {0}) Stop → Step → Shown
+    → Option Scene → Option (Player P g) → Bytes → Bytes → Type 0
+Took (Ok done) step shown from player old new = TakesFor step shown from player None old new
+Took (Err (stop.Refused k)) step shown from player old new =
+    TakesFor step shown from player (Some k) old new
+Took (Err (stop.Failed f)) step shown from player old new =
+    GrewPart shown from step.scene old new
+
 -- line n, whatever scene the player is of
 abbrev pub Takes : {P : Type 0} {g : Ghosts P} → Option (Player P g) → ℕ → List ℕ → Shown
-    → Option (Player P g) → Option Refusal → Bytes → Bytes → Type 0
-Takes was n line shown is refusal old new =
-    (at : Option Scene) → IsAt shown was at → TakesFor (step n at line) shown at is refusal old new
-
--- the output failed, or memory was wanted, in the midst of a line that does this
-pub record FailsIn (step : Step) (shown : Shown) (from : Option Scene) (fault : SceneFault)
-    (old new : Bytes) : Type 0 where
-  pub kind : IsFaultOfWriting fault
-  pub grew : GrewPart shown from step.scene old new
-
--- line n, whatever scene the player is of
-abbrev pub FailsTaking : {P : Type 0} {g : Ghosts P} → Option (Player P g) → ℕ → List ℕ → Shown
-    → SceneFault → Bytes → Bytes → Type 0
-FailsTaking was n line shown fault old new =
-    (at : Option Scene) → IsAt shown was at → FailsIn (step n at line) shown at fault old new
+    → Result (Unit {0}) Stop → Option (Player P g) → Bytes → Bytes → Type 0
+Takes was n line shown result is old new =
+    (at : Option Scene) → IsAt shown was at → Took result (step n at line) shown at is old new
 
 -- a line that isn't skipped, once there is a plant
-abbrev pub Follows : {P : Type 0} {g : Ghosts P} → Player P g → List ℕ → Shown → Player P g
-    → Option Refusal → Bytes → Bytes → Type 0
-Follows was line shown is refusal old new =
+abbrev pub Follows : {P : Type 0} {g : Ghosts P} → Player P g → List ℕ → Shown
+    → Result (Unit {0}) Stop → Player P g → Bytes → Bytes → Type 0
+Follows was line shown result is old new =
     (x : Scene) → IsPlayerAt shown was x
-    → TakesFor (step_of_command x (command_in_line x.plan.names line)) shown
-    (Some x) (Some is) refusal old new
+    → Took result (step_of_command x (command_in_line x.plan.names line)) shown
+    (Some x) (Some is) old new
 
--- the same where a line fails
-abbrev pub FailsFollowing : {P : Type 0} {g : Ghosts P} → Player P g → List ℕ → Shown → SceneFault
-    → Bytes → Bytes → Type 0
-FailsFollowing was line shown fault old new =
-    (x : Scene) → IsPlayerAt shown was x
-    → FailsIn (step_of_command x (command_in_line x.plan.names line)) shown (Some x) fault old new
-
--- the plant line gives a player, unless memory was wanted
-abbrev pub Begins : {P : Type 0} {g : Ghosts P} → Shown → List ℕ → Result (Player P g) LineFault
+-- the plant line gives a player, if there is memory
+abbrev pub Begins : {P : Type 0} {g : Ghosts P} → Shown → List ℕ → Result (Player P g) Stop
     → Type 0
 Begins shown line (Ok player) =
     (plan : Plan) × (plan_in_line line ≡ Ok plan) × IsPlayerAt shown player (scene plan [])
-Begins shown line (Err (line_fault.Refused k)) = plan_in_line line ≡ Err k
-Begins shown line (Err line_fault.Memory) = ⊤
+Begins shown line (Err (stop.Refused k)) = plan_in_line line ≡ Err k
+Begins shown line (Err (stop.Failed f)) = f ≡ failure.Memory
 
 -- ---- the rest of a run
 
@@ -151,6 +139,33 @@ WroteRefusal (Refused line number) n k old new =
 WroteRefusal Read n k old new = ⊥
 WroteRefusal Write n k old new = AppendsPart old new (refusal_text n k)
 WroteRefusal Memory n k old new = AppendsPart old new (refusal_text n k)
+
+-- if a line was refused, it is this one
+abbrev pub IsOfLine : ℕ → SceneFault → Type 0
+IsOfLine n (Refused line number) = line ≡ n
+IsOfLine n Read = ⊤
+IsOfLine n Write = ⊤
+IsOfLine n Memory = ⊤
+
+-- line n ended the run with this fault, whatever lines come after it
+pub record EndsRun (fault : SceneFault) (n : ℕ) (line : List ℕ) (shown : Shown)
+    (from : Option Scene) (old new : Bytes) : Type 0 where
+  pub numbered : IsOfLine n fault
+  pub ran : (after : List (List ℕ)) (count : ℕ)
+      → RanRest (Err fault) (meaning_from (line ∷ after) n from) count shown from old new
+
+-- line n was taken, or ended the run
+abbrev pub RanLine : {P : Type 0} {g : Ghosts P} → Result (Unit {0}) SceneFault → ℕ → List ℕ
+    → Shown → Option Scene → Option (Player P g) → Bytes → Bytes → Type 0
+RanLine (Ok done) n line shown from player old new =
+    TakesFor (step n from line) shown from player None old new
+RanLine (Err fault) n line shown from player old new = EndsRun fault n line shown from old new
+
+-- whatever scene the player is of
+abbrev pub RunsLine : {P : Type 0} {g : Ghosts P} → Option (Player P g) → ℕ → List ℕ → Shown
+    → Result (Unit {0}) SceneFault → Option (Player P g) → Bytes → Bytes → Type 0
+RunsLine was n line shown result is old new =
+    (at : Option Scene) → IsAt shown was at → RanLine result n line shown at is old new
 
 -- the input ended before line n
 abbrev pub Finishes : {P : Type 0} {g : Ghosts P} → Option (Player P g) → ℕ → Shown

@@ -1,5 +1,5 @@
 -- A plant that plays events: where it stands then, and by how much the output grew.
-use Rattle.std.specs.Prelude.{◌≡◌, ◌≤◌, ℕ, ◌+◌, List, [], ◌∷◌, ◌++◌, length, Option, Some}
+use Rattle.std.specs.Prelude.{◌≡◌, ◌≤◌, ℕ, ◌+◌, List, [], ◌∷◌, ◌++◌, length, Option, Some, None, Result, Ok, Err}
 use Rattle.std.specs.Io.KnownBytes.{Appends}
 use Rattle.irig_port.specs.declared.port.Port.{Ghosts}
 use Rattle.irig_plant.specs.declared.event.Event.{Event}
@@ -7,11 +7,11 @@ use Rattle.irig_plant.specs.declared.event.Event.TheVariants.{Tick}
 use Rattle.irig_plant.specs.declared.plant.Plant.{Plant}
 use Rattle.irig_plant.specs.Schedule.{log_of}
 use Rattle.irig_plant.specs.History.{PlantHistory, HasPlantHistory}
-use Rattle.irig_scene.specs.declared.fault.SceneFault.{SceneFault}
+use Rattle.irig_scene.specs.declared.stop.Stop.{Stop}
+use Rattle.irig_scene.specs.declared.stop.Stop.TheVariants.{Refused, Failed}
 use Rattle.irig_faults.specs.declared.refusal.Refusal.{Refusal}
 use Rattle.irig_device.specs.Lines.{Bytes}
 use Rattle.irig_device.specs.Watched.{AppendsPart}
-use Rattle.irig_scene.specs.Faults.{IsFaultOfWriting}
 use Rattle.irig_log_text.specs.declared.shown.Shown.{Shown}
 use Rattle.irig_scene.specs.Scene.{Scene, scene, play, log_text}
 
@@ -75,16 +75,18 @@ pub record PlaysFor {P : Type 0} {g : Ghosts P} (x : Scene) (events : List Event
   pub stands : HasPlantHistory plant (past shown (after_events x events))
   pub grew : Grew shown (Some x) (Some (after_events x events)) old new
 
+-- it played all of them, or up to a refusal, or something failed in the midst of that
+abbrev pub Played : {P : Type 0} {g : Ghosts P} → Result (Unit {0}) Stop → Scene → List Event
+    → Shown → Plant P g → Bytes → Bytes → Type 0
+Played (Ok done) x events shown plant old new = PlaysFor x events shown plant None old new
+Played (Err (Refused k)) x events shown plant old new =
+    PlaysFor x events shown plant (Some k) old new
+Played (Err (Failed failure)) x events shown plant old new =
+    GrewPart shown (Some x) (Some (after_events x events)) old new
+
 -- whatever scene it is of
 abbrev pub Plays : {P : Type 0} {g : Ghosts P} → Plant P g → List (List ℕ) → List Event → Shown
-    → Plant P g → Option Refusal → Bytes → Bytes → Type 0
-Plays was names events shown is refusal old new =
+    → Result (Unit {0}) Stop → Plant P g → Bytes → Bytes → Type 0
+Plays was names events shown result is old new =
     (x : Scene) → HasPlantHistory was (past shown x) → names ≡ x.plan.names
-    → PlaysFor x events shown is refusal old new
-
--- the output failed, or memory was wanted, in the midst of that
-abbrev pub FailsPlaying : {P : Type 0} {g : Ghosts P} → Plant P g → List (List ℕ) → List Event
-    → Shown → SceneFault → Bytes → Bytes → Type 0
-FailsPlaying was names events shown fault old new =
-    (x : Scene) → HasPlantHistory was (past shown x) → names ≡ x.plan.names
-    → IsFaultOfWriting fault × GrewPart shown (Some x) (Some (after_events x events)) old new
+    → Played result x events shown is old new

@@ -9,6 +9,7 @@ mod outcome;
 mod player;
 mod refused_line;
 mod run;
+mod stop;
 
 pub use fault::{OUT_OF_MEMORY, READ_FAILED, REFUSED, SceneFault, WRITE_FAILED};
 pub use irig_log_text::Shown;

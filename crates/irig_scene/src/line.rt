@@ -1,16 +1,15 @@
 //! One line of a scenario: it is read, it does what it says, and what it gives is written.
 
-ghost use Rattle.std.specs.Prelude.{◌≡◌, ◌≤◌, ◌<◌, ◌+◌, IfOk, IfErr, OnErr, None, Err, true, length, ◌||◌};
+ghost use Rattle.std.specs.Prelude.{◌≡◌, ◌≤◌, ◌+◌, IfOk, IfErr, OnErr, length, ◌||◌};
 ghost use Rattle.irig_device.specs.Watched.{device_of, has_failed};
-ghost use Rattle.irig_scene.specs.Faults.{IsFaultOfReading, says_read, says_write, is_write_fault};
+ghost use Rattle.irig_scene.specs.Faults.{IsFaultOfReading, is_write_fault, says_read, says_write, stopped_write};
 ghost use Rattle.irig_device.specs.Lines.{GivesLine, GivesPart, HasNoNewline};
 ghost use Rattle.irig_scene.specs.Lines.{is_blank, limit_of, max_line, max_lines};
 ghost use Rattle.irig_scene.specs.LineRuns.{
   Begins,
   Takes,
-  FailsTaking,
   Follows,
-  FailsFollowing,
+  RunsLine,
   Finishes,
   RunsLast,
   WroteRefusal,
@@ -21,8 +20,9 @@ use crate::fault::SceneFault;
 use crate::log_writer::LogWriter;
 use crate::outcome::Outcome;
 use crate::player::Player;
+use crate::stop::Stop;
 use irig_device::{LineEnd, ReadFault, Watched};
-use irig_faults::{LineFault, Refusal};
+use irig_faults::Refusal;
 use irig_port::Port;
 use irig_scenario::{event_of_line, plant_of_line};
 use std::io::{BufRead, Write};
@@ -61,40 +61,55 @@ pub(crate) fn read_line<R: BufRead>(
     }
 }
 
-/// Takes a line that isn't too long, and writes what it gives; answers its refusal.
-#[tactic(auto, unfolding(crate::specs::Scene::step))]
-pub(crate) fn take_line<P: Port, W: Write>(
+/// Runs a line that isn't too long, and writes what it gives, and its refusal, if it is refused.
+pub(crate) fn run_line<P: Port, W: Write>(
     player: &mut Option<Player<P>>,
     number: u64,
     line: &[u8],
     log: LogWriter,
     output: &mut Watched<W>,
-) -> Result<Option<Refusal>, SceneFault>
+) -> Result<(), SceneFault>
     requires { length line.now ≤ max_line }
-    ensures takes { IfOk result (λ refusal.
-        Takes player.old number line.now log.shown player.new refusal
-        (W.contents (device_of output.old)) (W.contents (device_of output.new))) }
-    ensures fails { IfErr result (λ fault. FailsTaking player.old number line.now log.shown fault
-        (W.contents (device_of output.old)) (W.contents (device_of output.new))) }
-    ensures number { IfOk result (λ refusal. refusal ≡ None → number ≤ max_lines) }
+    ensures runs { RunsLine player.old number line.now log.shown result player.new
+        (W.contents (device_of output.old)) (W.contents (device_of output.new)) }
+    ensures number { IfOk result (λ done. number ≤ max_lines) }
     ensures note { has_failed output.new ≡ (has_failed output.old || says_write result) }
 {
+    match take_line(player, number, line, log, output) {
+        Ok(()) => Ok(()),
+        Err(Stop::Refused(refusal)) => Err(refuse(number, refusal, log, output)),
+        Err(Stop::Failed(failure)) => Err(SceneFault::from(failure)),
+    }
+}
+
+// Takes a line that isn't too long, and writes what it gives.
+#[tactic(auto, unfolding(crate::specs::Scene::step))]
+fn take_line<P: Port, W: Write>(
+    player: &mut Option<Player<P>>,
+    number: u64,
+    line: &[u8],
+    log: LogWriter,
+    output: &mut Watched<W>,
+) -> Result<(), Stop>
+    requires { length line.now ≤ max_line }
+    ensures takes { Takes player.old number line.now log.shown result player.new
+        (W.contents (device_of output.old)) (W.contents (device_of output.new)) }
+    ensures number { IfOk result (λ done. number ≤ max_lines) }
+    ensures note { has_failed output.new ≡ (has_failed output.old || stopped_write result) }
+{
     if number > MAX_LINES {
-        return Ok(Some(Refusal::TooManyLines));
+        return Err(Stop::Refused(Refusal::TooManyLines));
     }
     if is_blank(line) {
-        return Ok(None);
+        return Ok(());
     }
     match player {
         Some(player) => follow(player, line, log, output),
-        None => match begin(line, log) {
-            Ok(begun) => {
-                *player = Some(begun);
-                Ok(None)
-            }
-            Err(LineFault::Refused(refusal)) => Ok(Some(refusal)),
-            Err(LineFault::Memory) => Err(SceneFault::Memory),
-        },
+        None => {
+            let begun = begin(line, log)?;
+            *player = Some(begun);
+            Ok(())
+        }
     }
 }
 
@@ -106,35 +121,26 @@ fn is_blank(line: &[u8]) -> bool
 }
 
 // The player that a plant line gives.
-fn begin<P: Port>(line: &[u8], log: LogWriter) -> Result<Player<P>, LineFault>
+fn begin<P: Port>(line: &[u8], log: LogWriter) -> Result<Player<P>, Stop>
     ensures { Begins log.shown line.now result }
 {
     let plant = plant_of_line(log.alloc, line)?;
-    match Player::new(plant, log) {
-        Ok(player) => Ok(player),
-        Err(_) => Err(LineFault::Memory),
-    }
+    Ok(Player::new(plant, log)?)
 }
 
-// Does what a further line asks for, and writes what the readers said; answers its refusal.
+// Does what a further line asks for, and writes what the readers said.
 fn follow<P: Port, W: Write>(
     player: &mut Player<P>,
     line: &[u8],
     log: LogWriter,
     output: &mut Watched<W>,
-) -> Result<Option<Refusal>, SceneFault>
-    ensures follows { IfOk result (λ refusal.
-        Follows player.old line.now log.shown player.new refusal
-        (W.contents (device_of output.old)) (W.contents (device_of output.new))) }
-    ensures fails { IfErr result (λ fault. FailsFollowing player.old line.now log.shown fault
-        (W.contents (device_of output.old)) (W.contents (device_of output.new))) }
-    ensures note { has_failed output.new ≡ (has_failed output.old || says_write result) }
+) -> Result<(), Stop>
+    ensures follows { Follows player.old line.now log.shown result player.new
+        (W.contents (device_of output.old)) (W.contents (device_of output.new)) }
+    ensures note { has_failed output.new ≡ (has_failed output.old || stopped_write result) }
 {
-    match event_of_line(log.alloc, player.names(), line) {
-        Ok(command) => player.act(command, log, output),
-        Err(LineFault::Refused(refusal)) => Ok(Some(refusal)),
-        Err(LineFault::Memory) => Err(SceneFault::Memory),
-    }
+    let command = event_of_line(log.alloc, player.names(), line)?;
+    player.act(command, log, output)
 }
 
 /// Writes the refusal of a line, and answers it.
@@ -153,7 +159,7 @@ pub(crate) fn refuse<W: Write>(
             line: number,
             number: refusal.number(),
         },
-        Err(fault) => fault,
+        Err(failure) => SceneFault::from(failure),
     }
 }
 
@@ -188,9 +194,7 @@ pub(crate) fn run_last<P: Port, W: Write>(
     if line.is_empty() {
         return finish(player, number, log, output);
     }
-    if let Some(refusal) = take_line(player, number, line, log, output)? {
-        return Err(refuse(number, refusal, log, output));
-    }
+    run_line(player, number, line, log, output)?;
     finish(player, number + 1, log, output)
 }
 

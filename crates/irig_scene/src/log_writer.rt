@@ -3,11 +3,11 @@
 ghost use Rattle.std.specs.Prelude.{◌≡◌, All, IfSome, map, string_bytes, ◌||◌};
 ghost use Rattle.irig_device.specs.Watched.{device_of, has_failed};
 ghost use Rattle.irig_time.specs.Seconds.{IsValid};
-ghost use Rattle.irig_scene.specs.Faults.{WroteText, says_write};
+ghost use Rattle.irig_scene.specs.Faults.{WroteText, failed_write};
 ghost use Rattle.irig_vote.specs.Vote.{AreOfUtc};
 ghost use Rattle.irig_log_text.specs.Text.{lines_text, audit_text, refusal_text};
 
-use crate::fault::SceneFault;
+use crate::stop::Failure;
 use indexmap::IndexSet;
 use irig_device::Watched;
 use irig_faults::Refusal;
@@ -49,13 +49,13 @@ impl LogWriter {
         entries: &[Entry],
         tolds: &[ToldEntry],
         output: &mut Watched<W>,
-    ) -> Result<(), SceneFault>
+    ) -> Result<(), Failure>
         requires entries { All (λ entry. IfSome entry.report.announce IsValid) entries.now }
         requires tolds { All (λ entry. AreOfUtc entry.told) tolds.now }
         ensures wrote { WroteText result
             (W.contents (device_of output.old)) (W.contents (device_of output.new))
             (lines_text (map string_bytes names.now.keys) self.shown entries.now tolds.now) }
-        ensures note { has_failed output.new ≡ (has_failed output.old || says_write result) }
+        ensures note { has_failed output.new ≡ (has_failed output.old || failed_write result) }
     {
         let LogText { lines, last } = text;
         lines.clear();
@@ -66,7 +66,7 @@ impl LogWriter {
             push_entries(lines, last, names, entries, all)
         };
         if pushed.is_err() {
-            return Err(SceneFault::Memory);
+            return Err(Failure::Memory);
         }
         write(output, lines.as_str())
     }
@@ -77,15 +77,15 @@ impl LogWriter {
         names: &IndexSet<String>,
         audit: Audit,
         output: &mut Watched<W>,
-    ) -> Result<(), SceneFault>
+    ) -> Result<(), Failure>
         ensures wrote { WroteText result
             (W.contents (device_of output.old)) (W.contents (device_of output.new))
             (audit_text (map string_bytes names.now.keys) audit) }
-        ensures note { has_failed output.new ≡ (has_failed output.old || says_write result) }
+        ensures note { has_failed output.new ≡ (has_failed output.old || failed_write result) }
     {
         let mut text = String::new(self.alloc);
         if push_audit(&mut text, names, audit).is_err() {
-            return Err(SceneFault::Memory);
+            return Err(Failure::Memory);
         }
         write(output, text.as_str())
     }
@@ -96,27 +96,27 @@ impl LogWriter {
         line: u64,
         refusal: Refusal,
         output: &mut Watched<W>,
-    ) -> Result<(), SceneFault>
+    ) -> Result<(), Failure>
         ensures wrote { WroteText result
             (W.contents (device_of output.old)) (W.contents (device_of output.new))
             (refusal_text line refusal) }
-        ensures note { has_failed output.new ≡ (has_failed output.old || says_write result) }
+        ensures note { has_failed output.new ≡ (has_failed output.old || failed_write result) }
     {
         let mut text = String::new(self.alloc);
         if push_refusal(&mut text, line, refusal).is_err() {
-            return Err(SceneFault::Memory);
+            return Err(Failure::Memory);
         }
         write(output, text.as_str())
     }
 }
 
-fn write<W: Write>(output: &mut Watched<W>, text: &str) -> Result<(), SceneFault>
+fn write<W: Write>(output: &mut Watched<W>, text: &str) -> Result<(), Failure>
     ensures wrote { WroteText result
         (W.contents (device_of output.old)) (W.contents (device_of output.new)) text.now }
-    ensures note { has_failed output.new ≡ (has_failed output.old || says_write result) }
+    ensures note { has_failed output.new ≡ (has_failed output.old || failed_write result) }
 {
     match output.write_all(text.as_bytes()) {
         Ok(()) => Ok(()),
-        Err(_) => Err(SceneFault::Write),
+        Err(_) => Err(Failure::Write),
     }
 }

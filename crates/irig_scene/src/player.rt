@@ -3,13 +3,14 @@
 ghost use Rattle.std.specs.Prelude.{◌≡◌, ◌≤◌, [], IfOk, IfErr, length, map, string_bytes, ◌||◌};
 ghost use Rattle.irig_device.specs.Watched.{device_of, has_failed};
 ghost use Rattle.irig_plant.specs.WholeSecond.{times};
-ghost use Rattle.irig_scene.specs.Faults.{says_write};
+ghost use Rattle.irig_scene.specs.declared.stop.Failure.TheVariants.{Memory};
+ghost use Rattle.irig_scene.specs.Faults.{stopped_write};
 ghost use Rattle.irig_scene.specs.Scene.{refusal_as};
-ghost use Rattle.irig_scene.specs.PlayerRuns.{Runs, Plays, FailsPlaying};
+ghost use Rattle.irig_scene.specs.PlayerRuns.{Runs, Plays};
 
-use crate::fault::SceneFault;
 use crate::log_writer::{LogText, LogWriter};
 use crate::refused_line::RefusedLine;
+use crate::stop::{Failure, Stop};
 use indexmap::IndexSet;
 use irig_device::Watched;
 use irig_faults::Refusal;
@@ -36,15 +37,15 @@ impl<P: Port> Player<P> {
     ghost use Rattle.irig_log_text.specs.declared.shown.Shown.{Shown};
     ghost use Rattle.irig_scenario.specs.PlantLine.{plan_of};
     ghost use Rattle.irig_scene.specs.Scene.{Scene as SceneOf, scene, audit_in};
-    ghost use Rattle.irig_scene.specs.LineRuns.{IsPlayerAt, Acts, Fails};
+    ghost use Rattle.irig_scene.specs.LineRuns.{IsPlayerAt, Acts};
 
     /// The player of a plant to which nothing has happened, for what is to be shown.
-    pub(crate) fn new(line: BuiltPlant, log: LogWriter) -> Result<Player<P>, SceneFault>
+    pub(crate) fn new(line: BuiltPlant, log: LogWriter) -> Result<Player<P>, Failure>
         requires generators { AreGenerators line.rules line.generators.items }
         requires readers { AreReaders line.readers.items }
         requires names { length line.names.keys ≡ vec_len line.readers }
         ensures stands { IfOk result (λ player. IsPlayerAt log.shown player (scene (plan_of line) [])) }
-        ensures memory { IfErr result (λ fault. fault ≡ SceneFault.Memory) }
+        ensures memory { IfErr result (λ failure. failure ≡ Memory) }
     {
         let BuiltPlant {
             timeline,
@@ -68,7 +69,7 @@ impl<P: Port> Player<P> {
                     text: LogText::new(alloc),
                 })
             }
-            _ => Err(SceneFault::Memory),
+            _ => Err(Failure::Memory),
         }
     }
 
@@ -98,19 +99,16 @@ impl<P: Port> Player<P> {
         RefusedLine { line, names, edges }
     }
 
-    /// Does what a line asks for, up to an event that is refused, and writes what the readers said;
-    /// answers the refusal.
+    /// Does what a line asks for, up to an event that is refused, and writes what the readers said.
     pub(crate) fn act<W: Write>(
         &mut self,
         command: Command,
         log: LogWriter,
         output: &mut Watched<W>,
-    ) -> Result<Option<Refusal>, SceneFault>
-        ensures acts { IfOk result (λ refusal. Acts self.old command log.shown self.new refusal
-            (W.contents (device_of output.old)) (W.contents (device_of output.new))) }
-        ensures fails { IfErr result (λ fault. Fails self.old command log.shown fault
-            (W.contents (device_of output.old)) (W.contents (device_of output.new))) }
-        ensures note { has_failed output.new ≡ (has_failed output.old || says_write result) }
+    ) -> Result<(), Stop>
+        ensures acts { Acts self.old command log.shown result self.new
+            (W.contents (device_of output.old)) (W.contents (device_of output.new)) }
+        ensures note { has_failed output.new ≡ (has_failed output.old || stopped_write result) }
     {
         match command {
             Command::Event(event) => play(
@@ -156,21 +154,21 @@ fn refusal_as(fault: PlantFault) -> Option<Refusal>
 }
 
 // Runs events up to the first that is refused, and answers its refusal.
-fn run<P: Port>(plant: &mut Plant<P>, events: &[Event]) -> Result<Option<Refusal>, SceneFault>
+fn run<P: Port>(plant: &mut Plant<P>, events: &[Event]) -> Result<Option<Refusal>, Failure>
     ensures runs { IfOk result (Runs plant.old events.now plant.new) }
-    ensures memory { IfErr result (λ fault. fault ≡ SceneFault.Memory) }
+    ensures memory { IfErr result (λ failure. failure ≡ Memory) }
 {
     match plant.run(events) {
         Ok(()) => Ok(None),
         Err(refused) => match refusal_as(refused.fault) {
             Some(refusal) => Ok(Some(refusal)),
-            None => Err(SceneFault::Memory),
+            None => Err(Failure::Memory),
         },
     }
 }
 
-// Plays events up to the first that is refused, and writes what the readers said; answers the
-// refusal.
+// Plays events up to the first that is refused, and writes what the readers said, before a refusal
+// too.
 fn play<P: Port, W: Write>(
     plant: &mut Plant<P>,
     names: &IndexSet<String>,
@@ -178,23 +176,23 @@ fn play<P: Port, W: Write>(
     log: LogWriter,
     text: &mut LogText,
     output: &mut Watched<W>,
-) -> Result<Option<Refusal>, SceneFault>
-    ensures plays { IfOk result (λ refusal.
-        Plays plant.old (map string_bytes names.now.keys) events.now log.shown plant.new refusal
-        (W.contents (device_of output.old)) (W.contents (device_of output.new))) }
-    ensures fails { IfErr result (λ fault.
-        FailsPlaying plant.old (map string_bytes names.now.keys) events.now log.shown fault
-        (W.contents (device_of output.old)) (W.contents (device_of output.new))) }
-    ensures note { has_failed output.new ≡ (has_failed output.old || says_write result) }
+) -> Result<(), Stop>
+    ensures plays { Plays plant.old (map string_bytes names.now.keys) events.now log.shown
+        result plant.new
+        (W.contents (device_of output.old)) (W.contents (device_of output.new)) }
+    ensures note { has_failed output.new ≡ (has_failed output.old || stopped_write result) }
 {
     let refusal = run(plant, events)?;
     log.write_log(text, names, plant.log(), plant.told(), output)?;
     plant.clear_log();
-    Ok(refusal)
+    match refusal {
+        None => Ok(()),
+        Some(refusal) => Err(Stop::Refused(refusal)),
+    }
 }
 
 // Plays so many whole seconds, up to an event that is refused, and writes what the readers said
-// after each second; answers the refusal.
+// after each second.
 fn play_seconds<P: Port, W: Write>(
     plant: &mut Plant<P>,
     names: &IndexSet<String>,
@@ -203,22 +201,14 @@ fn play_seconds<P: Port, W: Write>(
     log: LogWriter,
     text: &mut LogText,
     output: &mut Watched<W>,
-) -> Result<Option<Refusal>, SceneFault>
-    ensures plays { IfOk result (λ refusal.
-        Plays plant.old (map string_bytes names.now.keys)
-        (times count second.now) log.shown plant.new refusal
-        (W.contents (device_of output.old)) (W.contents (device_of output.new))) }
-    ensures fails { IfErr result (λ fault.
-        FailsPlaying plant.old (map string_bytes names.now.keys)
-        (times count second.now) log.shown fault
-        (W.contents (device_of output.old)) (W.contents (device_of output.new))) }
-    ensures note { has_failed output.new ≡ (has_failed output.old || says_write result) }
+) -> Result<(), Stop>
+    ensures plays { Plays plant.old (map string_bytes names.now.keys) (times count second.now)
+        log.shown result plant.new
+        (W.contents (device_of output.old)) (W.contents (device_of output.new)) }
+    ensures note { has_failed output.new ≡ (has_failed output.old || stopped_write result) }
 {
     for _ in 0..count {
-        let refusal = play(plant, names, second, log, text, output)?;
-        if refusal.is_some() {
-            return Ok(refusal);
-        }
+        play(plant, names, second, log, text, output)?;
     }
-    Ok(None)
+    Ok(())
 }

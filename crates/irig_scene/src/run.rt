@@ -6,7 +6,7 @@ ghost use Rattle.irig_scene.specs.Run.{Ran, RanShown};
 ghost use Rattle.irig_scene.specs.LogLines.{OfWritten, TellsTruth, VouchesForItself};
 
 use crate::fault::SceneFault;
-use crate::line::{limit_of, read_line, refuse, run_last, take_line, too_long};
+use crate::line::{limit_of, read_line, refuse, run_last, run_line, too_long};
 use crate::log_writer::LogWriter;
 use crate::outcome::Outcome;
 use crate::player::Player;
@@ -148,9 +148,7 @@ fn run_lines<P: Port, R: BufRead, W: Write>(
     loop {
         match read_line(input, limit_of(number), line)? {
             LineEnd::Newline => {
-                if let Some(refusal) = take_line(player, number, line, log, output)? {
-                    return Err(refuse(number, refusal, log, output));
-                }
+                run_line(player, number, line, log, output)?;
                 number += 1;
             }
             LineEnd::TooLong => return Err(refuse(number, too_long(number), log, output)),

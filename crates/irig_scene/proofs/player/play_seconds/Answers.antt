@@ -4,40 +4,31 @@ use Rattle.std.proofs.lemmas.Grind.{common_steps}
 use Rattle.irig_device.specs.Watched.{device_of}
 use Rattle.irig_scene.specs.PlayerRuns.{after_events, PlaysFor}
 use Rattle.irig_plant.specs.WholeSecond.{times}
-use Rattle.irig_scene.proofs.SecondsPlayed.{no_second, second_goes, second_stops, second_fails}
+use Rattle.irig_scene.proofs.SecondsPlayed.{no_second, second_more, second_ends}
 use Rattle.irig_scene.proofs.player.play_seconds.Goals as goal
 
-pub returns-in_err-refusal-clause-fails : goal.returns-in_err-refusal-clause-fails
-returns-in_err-refusal-clause-fails g c =
+pub returns-in_err-play-clause-plays : goal.returns-in_err-play-clause-plays
+returns-in_err-play-clause-plays g c =
     let p = err_from_is_err_and c.from_residual.result c.from_residual.ensures.1 in
     rw (p.1, p.2) (λ x at names.
     let was = c.loop.invariant.1 x at names in
-    let failed = c.in_err-refusal.ensures.fails (after_events x (times c.loop.counter c.args.second.now)) was.stands names in
-    (failed.0, second_fails x _ _ _ _ _ _ _ _ c.loop-test.true was failed.1))
-
-pub returns-then-is_some-clause-plays : goal.returns-then-is_some-clause-plays
-returns-then-is_some-clause-plays g c = λ x at names.
-    let was = c.loop.invariant.1 x at names in
-    second_stops x _ _ _ _ _ _ _ _ _ _ c.loop-test.true (search rules) was
-    (c.in_ok-refusal.ensures.plays (after_events x (times c.loop.counter c.args.second.now)) was.stands names)
+    second_ends _ x _ _ _ _ _ _ _ _ _ c.loop-test.true was
+    (c.in_err-play.ensures.plays (after_events x (times c.loop.counter c.args.second.now)) was.stands names))
 
 pub loop-preserved : goal.loop-preserved
 loop-preserved g c = (
   search rules,
   λ x at names.
       let was = c.loop.invariant.1 x at names in
-      second_goes x _ _ _ _ _ _ _ _ _ (search rules) was
-      (c.in_ok-refusal.ensures.plays (after_events x (times c.loop.counter c.args.second.now)) was.stands names),
+      second_more x _ _ _ _ _ _ _ _ was
+      (c.in_ok-play.ensures.plays (after_events x (times c.loop.counter c.args.second.now)) was.stands names),
 )
 
 pub loop-init : goal.loop-init
 loop-init g c = (search rules, λ x at names. no_second x c.args.second.now _ _ _ at)
 
-pub returns-in_err-refusal-clause-note : goal.returns-in_err-refusal-clause-note
-returns-in_err-refusal-clause-note g c = grind (arith, common_steps)
-
-pub returns-then-is_some-clause-note : goal.returns-then-is_some-clause-note
-returns-then-is_some-clause-note g c = grind (arith, common_steps)
+pub returns-in_err-play-clause-note : goal.returns-in_err-play-clause-note
+returns-in_err-play-clause-note g c = grind (arith, common_steps)
 
 pub returns-clause-note : goal.returns-clause-note
 returns-clause-note g c = grind (arith, common_steps)

@@ -1,7 +1,8 @@
-use Rattle.std.proofs.Common.{rules, arith}
+use Rattle.std.proofs.Common.{rules, refl, arith}
 use Rattle.std.proofs.lemmas.Result.{err_from_is_err_and}
 use Rattle.std.proofs.lemmas.Grind.{common_steps}
-use Rattle.irig_scene.proofs.RunLaws.{has_begun, line_done, left_read, left_failed, left_refused, left_too_long, left_last}
+use Rattle.irig_scene.proofs.RunLaws.{has_begun, line_done, left_read, left_ended, left_too_long, left_last}
+use Rattle.irig_scene.proofs.LastLaws.{no_read_failed}
 use Rattle.irig_scene.proofs.run.run_lines.Goals as goal
 
 pub loop-player-init : goal.loop-player-init
@@ -12,18 +13,12 @@ returns-in_err-read_line-clause-ran g c =
     let p = err_from_is_err_and c.from_residual.result c.from_residual.ensures.1 in
     rw (p.1, p.2) (left_read _ _ _ _ _ _ _ c.loop-player.invariant.4 _ _ c.in_err-read_line.ensures.fault c.in_err-read_line.ensures.part)
 
-pub returns-in_err-refusal-in-Newline-clause-ran : goal.returns-in_err-refusal-in-Newline-clause-ran
-returns-in_err-refusal-in-Newline-clause-ran g c =
-    let p = err_from_is_err_and c.from_residual-in_err-refusal-in-Newline.result c.from_residual-in_err-refusal-in-Newline.ensures.1 in
+pub returns-in_err-run_line-in-Newline-clause-ran : goal.returns-in_err-run_line-in-Newline-clause-ran
+returns-in_err-run_line-in-Newline-clause-ran g c =
+    let p = err_from_is_err_and c.from_residual-in_err-run_line-in-Newline.result c.from_residual-in_err-run_line-in-Newline.ensures.1 in
     let run = c.loop-player.invariant.4 in
-    rw (p.1, p.2) (left_failed _ _ _ _ _ _ _ run _ _ _ _ _ _ _ c.in_ok-read_line.ensures.line c.in-Newline.is c.deref.ensures.value
-    (c.in_err-refusal-in-Newline.ensures.fails run.at run.stands))
-
-pub returns-in-Some-clause-ran : goal.returns-in-Some-clause-ran
-returns-in-Some-clause-ran g c =
-    let run = c.loop-player.invariant.4 in
-    left_refused _ _ _ _ _ _ _ run _ _ _ _ _ _ _ _ _ _ _ c.in_ok-read_line.ensures.line c.in-Newline.is c.deref.ensures.value c.limit_of.ensures c.in-Some.is
-    (c.in_ok-refusal-in-Newline.ensures.takes run.at run.stands) c.refuse.ensures.wrote
+    rw (p.1, p.2) (left_ended _ _ _ _ _ _ _ run _ _ _ _ _ _ _ c.in_ok-read_line.ensures.line c.in-Newline.is c.deref.ensures.value c.limit_of.ensures
+    (c.in_err-run_line-in-Newline.ensures.runs run.at run.stands))
 
 pub loop-player-preserved : goal.loop-player-preserved
 loop-player-preserved g c =
@@ -32,26 +27,20 @@ loop-player-preserved g c =
       search rules,
       search rules,
       search rules,
-      line_done _ _ _ _ _ _ _ _ _ _ _ _ _ _ _ run c.in_ok-read_line.ensures.line c.in-Newline.is c.deref.ensures.value c.in_default.is
-          (c.in_ok-refusal-in-Newline.ensures.takes run.at run.stands),
+      line_done _ _ _ _ _ _ _ _ _ _ _ _ _ _ run c.in_ok-read_line.ensures.line c.in-Newline.is c.deref.ensures.value
+          (c.in_ok-run_line-in-Newline.ensures.runs run.at run.stands),
     )
 
 pub returns-in-TooLong-clause-ran : goal.returns-in-TooLong-clause-ran
 returns-in-TooLong-clause-ran g c =
     left_too_long _ _ _ _ _ _ _ c.loop-player.invariant.4 _ _ _ _ _ _ _ c.in_ok-read_line.ensures.line c.in-TooLong.is c.limit_of.ensures
-    c.too_long.ensures c.refuse-in-TooLong.ensures.wrote
+    c.too_long.ensures c.refuse.ensures.wrote
 
 pub returns-in-EndOfInput-clause-ran : goal.returns-in-EndOfInput-clause-ran
 returns-in-EndOfInput-clause-ran g c =
     let run = c.loop-player.invariant.4 in
     left_last _ _ _ _ _ _ _ run _ _ _ _ _ _ _ c.in_ok-read_line.ensures.line c.in-EndOfInput.is c.deref-in-EndOfInput.ensures.value c.limit_of.ensures
     (c.run_last.ensures.runs run.at run.stands)
-
-pub returns-in-Some-clause-read : goal.returns-in-Some-clause-read
-returns-in-Some-clause-read g c = grind (arith, common_steps)
-
-pub returns-in-Some-clause-write : goal.returns-in-Some-clause-write
-returns-in-Some-clause-write g c = grind (arith, common_steps)
 
 pub returns-in-TooLong-clause-read : goal.returns-in-TooLong-clause-read
 returns-in-TooLong-clause-read g c = grind (arith, common_steps)
@@ -71,8 +60,11 @@ returns-in_err-read_line-clause-read g c = grind (arith, common_steps)
 pub returns-in_err-read_line-clause-write : goal.returns-in_err-read_line-clause-write
 returns-in_err-read_line-clause-write g c = grind (arith, common_steps)
 
-pub returns-in_err-refusal-in-Newline-clause-read : goal.returns-in_err-refusal-in-Newline-clause-read
-returns-in_err-refusal-in-Newline-clause-read g c = grind (arith, common_steps)
+pub returns-in_err-run_line-in-Newline-clause-read : goal.returns-in_err-run_line-in-Newline-clause-read
+returns-in_err-run_line-in-Newline-clause-read g c =
+    let p = err_from_is_err_and c.from_residual-in_err-run_line-in-Newline.result c.from_residual-in_err-run_line-in-Newline.ensures.1 in
+    let run = c.loop-player.invariant.4 in
+    no_read_failed _ _ _ _ _ _ _ _ _ (rw (p.1, p.2) refl) (c.in_err-run_line-in-Newline.ensures.runs run.at run.stands) (search rules)
 
-pub returns-in_err-refusal-in-Newline-clause-write : goal.returns-in_err-refusal-in-Newline-clause-write
-returns-in_err-refusal-in-Newline-clause-write g c = grind (arith, common_steps)
+pub returns-in_err-run_line-in-Newline-clause-write : goal.returns-in_err-run_line-in-Newline-clause-write
+returns-in_err-run_line-in-Newline-clause-write g c = grind (arith, common_steps)
