@@ -1,16 +1,19 @@
 -- What a run wrote is a front of the log of the bytes that it read.
-use Rattle.std.proofs.Common.{◌≡◌, ℕ, List, [], ◌++◌, Option, Some, None, Result, Ok, Err, ap, sym, subst, ◌∙◌, append-nil}
+use Rattle.std.proofs.Common.{◌≡◌, ◌↔◌, true, ℕ, List, [], ◌++◌, Option, Some, None, Result, Ok, Err, ap, sym, subst, ◌∙◌, append-nil}
 use Rattle.std.specs.Prelude.{IfSome}
 use Rattle.std.specs.Io.KnownBytes.{Appends}
 use Rattle.std.proofs.lemmas.List.{append_cancel_left}
-use Rattle.irig_device.specs.Watched.{AppendsPart}
+use Rattle.irig_device.specs.declared.watched.Watched.{Watched}
+use Rattle.irig_device.specs.Watched.{AppendsPart, has_failed}
 use Rattle.irig_log_text.specs.declared.shown.Shown.{Shown}
 use Rattle.irig_scene.specs.declared.outcome.Outcome.{Outcome}
 use Rattle.irig_scene.specs.declared.fault.SceneFault.{SceneFault}
 use Rattle.irig_scene.specs.declared.fault.SceneFault.TheVariants.{Refused, Read, Write, Memory}
 use Rattle.irig_scene.specs.Scene.{output_shown}
 use Rattle.irig_scene.specs.Run.{RanOn, RanShown}
-use Rattle.irig_scene.specs.LogLines.{OfWritten}
+use Rattle.irig_scene.specs.LogLines.{OfWritten, TellsTruth, VouchesForItself}
+use Rattle.irig_scene.specs.WholeRun.{RunsTruly, left, written}
+use Rattle.irig_scene.proofs.TrueLines.{tells_truth, vouches_for_itself}
 
 whole_part : (old new : Option (List ℕ)) (text : List ℕ) → Appends old new text → AppendsPart old new text
 whole_part old new text wrote = record { front = text; rest = []; whole = sym (append-nil text); wrote = wrote }
@@ -30,9 +33,22 @@ of_front Fact text fact (Some old) (Some new) part = λ written is.
     fact written part.rest (part.whole ∙ ap (λ w. w ++ part.rest) same)
 
 -- a fact of each front of the log of bytes is one of what was written for them
-pub of_run : (Fact : List ℕ → List ℕ → Type 0) (r : Result Outcome SceneFault) (shown : Shown) (was left old new : Option (List ℕ)) → ((x w rest : List ℕ) → output_shown x shown ≡ w ++ rest → Fact x w)
+of_run : (Fact : List ℕ → List ℕ → Type 0) (r : Result Outcome SceneFault) (shown : Shown) (was left old new : Option (List ℕ)) → ((x w rest : List ℕ) → output_shown x shown ≡ w ++ rest → Fact x w)
     → RanShown r shown was left old new → IfSome was (λ x. OfWritten old new (Fact x))
 of_run Fact r shown None left old new fact ran = tt
 of_run Fact r shown (Some known) left old new fact ran =
     subst (λ x. OfWritten old new (Fact x)) ran.of_input
     (of_front (Fact ran.bytes) (output_shown ran.bytes shown) (fact ran.bytes) old new (front_written r ran.bytes shown (Some known) left old new ran.ran))
+
+-- a run is true by what it wrote
+pub runs_truly : {R W : Type 0} (remaining : R → Option (List ℕ)) (contents : W → Option (List ℕ)) (shown : Shown) (result : Result Outcome SceneFault) (before after : Watched R) (old new : Watched W)
+    → RanShown result shown (left remaining before) (left remaining after) (written contents old) (written contents new)
+    → (result ≡ Err Read) ↔ (has_failed after ≡ true) → (result ≡ Err Write) ↔ (has_failed new ≡ true) → RunsTruly remaining contents shown result before after old new
+runs_truly remaining contents shown result before after old new ran read write =
+    record {
+      vouches = of_run VouchesForItself result shown (left remaining before) (left remaining after) (written contents old) (written contents new) (vouches_for_itself shown) ran;
+      truth = of_run TellsTruth result shown (left remaining before) (left remaining after) (written contents old) (written contents new) (tells_truth shown) ran;
+      ran = ran;
+      read = read;
+      write = write;
+    }

@@ -1,9 +1,10 @@
 //! A scenario from its first line to its last.
 
-ghost use Rattle.std.specs.Prelude.{◌≡◌, ◌↔◌, Err, None, false, true, IfSome};
-ghost use Rattle.irig_device.specs.Watched.{device_of, has_failed};
-ghost use Rattle.irig_scene.specs.Run.{Ran, RanShown};
-ghost use Rattle.irig_scene.specs.LogLines.{OfWritten, TellsTruth, VouchesForItself};
+ghost use Rattle.std.specs.Prelude.{◌≡◌, ◌↔◌, Err, None, false, true};
+ghost use Rattle.irig_device.specs.Watched.{has_failed};
+ghost use Rattle.irig_log_text.specs.Text.{entries_alone};
+ghost use Rattle.irig_scene.specs.Run.{RanShown};
+ghost use Rattle.irig_scene.specs.WholeRun.{RunsTruly, left, written};
 
 use crate::fault::SceneFault;
 use crate::line::{limit_of, read_line, refuse, run_last, run_line, too_long};
@@ -31,17 +32,8 @@ pub fn run_scene<R: BufRead, W: Write>(
 ) -> Result<Outcome, SceneFault>
     requires input_whole { has_failed input.old ≡ false }
     requires output_whole { has_failed output.old ≡ false }
-    ensures vouches { IfSome (R.remaining (device_of input.old)) (λ x.
-        OfWritten (W.contents (device_of output.old)) (W.contents (device_of output.new))
-        (VouchesForItself x)) }
-    ensures truth { IfSome (R.remaining (device_of input.old)) (λ x.
-        OfWritten (W.contents (device_of output.old)) (W.contents (device_of output.new))
-        (TellsTruth x)) }
-    ensures ran { Ran result all
-        (R.remaining (device_of input.old)) (R.remaining (device_of input.new))
-        (W.contents (device_of output.old)) (W.contents (device_of output.new)) }
-    ensures read { (result ≡ Err SceneFault.Read) ↔ (has_failed input.new ≡ true) }
-    ensures write { (result ≡ Err SceneFault.Write) ↔ (has_failed output.new ≡ true) }
+    ensures { RunsTruly R.remaining W.contents (entries_alone all) result
+        input.old input.new output.old output.new }
 {
     run_scene_over::<FlowPort, R, W>(alloc, input, output, all)
 }
@@ -55,17 +47,8 @@ pub fn run_scene_over<P: Port, R: BufRead, W: Write>(
 ) -> Result<Outcome, SceneFault>
     requires input_whole { has_failed input.old ≡ false }
     requires output_whole { has_failed output.old ≡ false }
-    ensures vouches { IfSome (R.remaining (device_of input.old)) (λ x.
-        OfWritten (W.contents (device_of output.old)) (W.contents (device_of output.new))
-        (VouchesForItself x)) }
-    ensures truth { IfSome (R.remaining (device_of input.old)) (λ x.
-        OfWritten (W.contents (device_of output.old)) (W.contents (device_of output.new))
-        (TellsTruth x)) }
-    ensures ran { Ran result all
-        (R.remaining (device_of input.old)) (R.remaining (device_of input.new))
-        (W.contents (device_of output.old)) (W.contents (device_of output.new)) }
-    ensures read { (result ≡ Err SceneFault.Read) ↔ (has_failed input.new ≡ true) }
-    ensures write { (result ≡ Err SceneFault.Write) ↔ (has_failed output.new ≡ true) }
+    ensures { RunsTruly R.remaining W.contents (entries_alone all) result
+        input.old input.new output.old output.new }
 {
     let mut line = Vec::new(alloc);
     let mut player: Option<Player<P>> = None;
@@ -86,36 +69,8 @@ pub fn run_scene_shown<R: BufRead, W: Write>(
 ) -> Result<Outcome, SceneFault>
     requires input_whole { has_failed input.old ≡ false }
     requires output_whole { has_failed output.old ≡ false }
-    ensures vouches { IfSome (R.remaining (device_of input.old)) (λ x.
-        OfWritten (W.contents (device_of output.old)) (W.contents (device_of output.new))
-        (VouchesForItself x)) }
-    ensures truth { IfSome (R.remaining (device_of input.old)) (λ x.
-        OfWritten (W.contents (device_of output.old)) (W.contents (device_of output.new))
-        (TellsTruth x)) }
-    ensures ran { RanShown result shown
-        (R.remaining (device_of input.old)) (R.remaining (device_of input.new))
-        (W.contents (device_of output.old)) (W.contents (device_of output.new)) }
-    ensures read { (result ≡ Err SceneFault.Read) ↔ (has_failed input.new ≡ true) }
-    ensures write { (result ≡ Err SceneFault.Write) ↔ (has_failed output.new ≡ true) }
-{
-    run_and_note(alloc, input, output, shown, refused)
-}
-
-// Runs the lines, and notes the one that is refused.
-fn run_and_note<R: BufRead, W: Write>(
-    alloc: Global,
-    input: &mut Watched<R>,
-    output: &mut Watched<W>,
-    shown: Shown,
-    refused: &mut Option<RefusedLine>,
-) -> Result<Outcome, SceneFault>
-    requires input_whole { has_failed input.old ≡ false }
-    requires output_whole { has_failed output.old ≡ false }
-    ensures ran { RanShown result shown
-        (R.remaining (device_of input.old)) (R.remaining (device_of input.new))
-        (W.contents (device_of output.old)) (W.contents (device_of output.new)) }
-    ensures read { (result ≡ Err SceneFault.Read) ↔ (has_failed input.new ≡ true) }
-    ensures write { (result ≡ Err SceneFault.Write) ↔ (has_failed output.new ≡ true) }
+    ensures { RunsTruly R.remaining W.contents shown result
+        input.old input.new output.old output.new }
 {
     let mut line = Vec::new(alloc);
     let mut player: Option<Player<FlowPort>> = None;
@@ -139,8 +94,8 @@ fn run_lines<P: Port, R: BufRead, W: Write>(
     requires input_whole { has_failed input.old ≡ false }
     requires output_whole { has_failed output.old ≡ false }
     ensures ran { RanShown result log.shown
-        (R.remaining (device_of input.old)) (R.remaining (device_of input.new))
-        (W.contents (device_of output.old)) (W.contents (device_of output.new)) }
+        (left R.remaining input.old) (left R.remaining input.new)
+        (written W.contents output.old) (written W.contents output.new) }
     ensures read { (result ≡ Err SceneFault.Read) ↔ (has_failed input.new ≡ true) }
     ensures write { (result ≡ Err SceneFault.Write) ↔ (has_failed output.new ≡ true) }
 {

@@ -1,0 +1,39 @@
+-- All that a call that runs a scenario promises.
+-- Source: docs/OUTPUT.md, docs/HEADLINE.md; this project's profile.
+use Rattle.std.specs.Prelude.{◌≡◌, ◌↔◌, true, Result, Err, IfSome}
+use Rattle.irig_device.specs.declared.watched.Watched.{Watched}
+use Rattle.irig_device.specs.Lines.{Bytes}
+use Rattle.irig_device.specs.Watched.{device_of, has_failed}
+use Rattle.irig_log_text.specs.declared.shown.Shown.{Shown}
+use Rattle.irig_scene.specs.declared.outcome.Outcome.{Outcome}
+use Rattle.irig_scene.specs.declared.fault.SceneFault.{SceneFault}
+use Rattle.irig_scene.specs.declared.fault.SceneFault.TheVariants.{Read, Write}
+use Rattle.irig_scene.specs.LogLines.{OfWritten, TellsTruth, VouchesForItself}
+use Rattle.irig_scene.specs.Run.{RanShown}
+
+-- what the input has left, by what a device of its kind has left
+abbrev pub left : {R : Type 0} → (R → Bytes) → Watched R → Bytes
+left remaining input = remaining (device_of input)
+
+-- what was written to the output, by what a device of its kind holds
+abbrev pub written : {W : Type 0} → (W → Bytes) → Watched W → Bytes
+written contents output = contents (device_of output)
+
+-- a run of `before`, which left `after`, with this answer: what it wrote to the output, `old` before
+-- and `new` after, tells the truth
+pub record RunsTruly {R W : Type 0} (remaining : R → Bytes) (contents : W → Bytes) (shown : Shown)
+    (result : Result Outcome SceneFault) (before after : Watched R) (old new : Watched W)
+    : Type 0 where
+  -- a log vouches for itself
+  pub vouches : IfSome (left remaining before) (λ x.
+      OfWritten (written contents old) (written contents new) (VouchesForItself x))
+  -- the headline over bytes
+  pub truth : IfSome (left remaining before) (λ x.
+      OfWritten (written contents old) (written contents new) (TellsTruth x))
+  -- the answer, and what was read and written
+  pub ran : RanShown result shown (left remaining before) (left remaining after)
+      (written contents old) (written contents new)
+  -- it answers so exactly if the input has failed
+  pub read : (result ≡ Err Read) ↔ (has_failed after ≡ true)
+  -- and so exactly if the output has
+  pub write : (result ≡ Err Write) ↔ (has_failed new ≡ true)
