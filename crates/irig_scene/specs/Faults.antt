@@ -9,8 +9,8 @@ use Rattle.irig_scene.specs.declared.stop.Failure.{Failure}
 use Rattle.irig_scene.specs.declared.stop.Failure.TheVariants as failure
 use Rattle.irig_scene.specs.declared.stop.Stop.{Stop}
 use Rattle.irig_scene.specs.declared.stop.Stop.TheVariants as stop
-use Rattle.irig_forms.specs.declared.refusal.LineFault.{LineFault}
-use Rattle.irig_forms.specs.declared.refusal.LineFault.TheVariants as line_fault
+use Rattle.irig_faults.specs.declared.refusal.LineFault.{LineFault}
+use Rattle.irig_faults.specs.declared.refusal.LineFault.TheVariants as line_fault
 
 -- the input failed, or memory was wanted
 abbrev pub IsFaultOfReading : SceneFault → Type 0

@@ -24,16 +24,19 @@ written contents output = contents (device_of output)
 pub record RunsTruly {R W : Type 0} (remaining : R → Bytes) (contents : W → Bytes) (shown : Shown)
     (result : Result Outcome SceneFault) (before after : Watched R) (old new : Watched W)
     : Type 0 where
-  -- a log vouches for itself
+  -- a log vouches for itself: if the last whole line written is `premises kept`, each line above it
+  -- that shows a time shows T of its edge
   pub vouches : IfSome (left remaining before) (λ x.
       OfWritten (written contents old) (written contents new) (VouchesForItself x))
-  -- the headline over bytes
+  -- the headline over bytes: each whole line written that shows a time shows T of its edge, if its
+  -- reader's table is true and its ports were kept up to that edge
   pub truth : IfSome (left remaining before) (λ x.
       OfWritten (written contents old) (written contents new) (TellsTruth x))
-  -- the answer, and what was read and written
+  -- after Ok or a refusal the log of the events is written, and the last line, and nothing else;
+  -- after a failure a prefix of that. Nothing is read after the line in hand
   pub ran : RanShown result shown (left remaining before) (left remaining after)
       (written contents old) (written contents new)
-  -- it answers so exactly if the input has failed
+  -- it answers Read exactly if the input has failed in this call
   pub read : (result ≡ Err Read) ↔ (has_failed after ≡ true)
-  -- and so exactly if the output has
+  -- and Write exactly if the output has
   pub write : (result ≡ Err Write) ↔ (has_failed new ≡ true)

@@ -5,7 +5,7 @@ ghost use Rattle.irig_scene.specs.declared.stop.Stop.TheVariants.{Failed};
 ghost use Rattle.irig_scene.specs.Faults.{fault_of, stop_of};
 
 use crate::fault::SceneFault;
-use irig_forms::{LineFault, Refusal};
+use irig_faults::{LineFault, Refusal};
 
 /// What fails though the line is right.
 #[derive(Clone, Copy)]
