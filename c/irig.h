@@ -275,7 +275,7 @@ uint32_t irig_reader_port(const irig_reader *reader, uint8_t port, irig_told *to
 #ifndef IRIG_NO_NULL_TESTS
 
 /* Each call again, by which a null pointer is answered with IRIG_VALUE; by `irig_has_parity` with
- * no, and nothing happens where nothing is answered. IRIG_NO_NULL_TESTS leaves them out. */
+ * no, and a call without an answer then does nothing. IRIG_NO_NULL_TESTS leaves them out. */
 
 static inline uint32_t irig_tested_encode(const irig_coded *coded, uint8_t *symbols) {
     return coded && symbols ? irig_encode(coded, symbols) : (uint32_t)IRIG_VALUE;

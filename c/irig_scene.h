@@ -37,7 +37,7 @@ enum {
 
 /* Runs a scenario of `count` bytes, with `all` the silent edges too, and writes as much of its log
  * to `log` as `room` bytes hold, with no 0 behind it; the bytes of `log` after that stay as they
- * were. `*whole` is how many bytes the log has. Where that is more than `room`, nothing is lost but
+ * were. `*whole` is how many bytes the log has. If that is more than `room`, nothing is lost but
  * time: call again with so many bytes. A `room` of 0 only asks how many they are.
  *
  * After IRIG_RUN_NO_LOG and IRIG_RUN_NO_MEMORY `*whole` is how many bytes there were until then,

@@ -1,6 +1,6 @@
 #!/usr/bin/env python3
 """Compares the page with the program, `compare.py PAGE PROGRAM`: in node and in Chromium, status and bytes
-of each case and example, of 3,000 scenarios made by chance, and frames that are made and read. How the page
+of each case and example, of 3,000 scenarios made at random, and frames that are made and read. How the page
 stands the readers is compared with tools/parts/log_lanes.py and tools/view."""
 from __future__ import annotations
 
@@ -23,7 +23,7 @@ from case_files import NOTHING, all_cases  # noqa: E402
 from parts.log_lanes import STATES, bars_of  # noqa: E402
 
 BY_CHANCE, FRAMES = 3000, 400
-MOST_SECONDS = 5_000  # of a scenario made by chance, so that all end soon
+MOST_SECONDS = 5_000  # of a scenario made at random, so that all end soon
 BATCH = 100
 NAMES = list(STATES)
 LETTERS = "01P?"
@@ -136,7 +136,7 @@ def expected(program: Path) -> tuple[dict[str, list[dict]], dict[str, list]]:
     with ThreadPoolExecutor(2) as pool:
         answers = {
             "runs of cases and examples": list(pool.map(lambda it: told_scenario(program, it), found)),
-            "runs made by chance": list(pool.map(lambda it: told_scenario(program, it), made)),
+            "random runs": list(pool.map(lambda it: told_scenario(program, it), made)),
             "frames": list(pool.map(lambda it: told_frame(program, it), frames)),
         }
         texts = [text for text in answers["frames"] if text]
@@ -200,8 +200,8 @@ def main() -> None:
             print(f"{place}: {len(asked) - len(differ)} of {len(asked)} {kind} are as the program has them")
             for request, answer, program_says in differ[:3]:
                 print(f"  {json.dumps(request)[:600]}\n  {answer}, and the program: {program_says}")
-    statuses = [answer[0] for answer in wanted["runs made by chance"]]
-    print(f"of those by chance {statuses.count(0)} are done, {statuses.count(3)} refused")
+    statuses = [answer[0] for answer in wanted["random runs"]]
+    print(f"of the random ones {statuses.count(0)} are done, {statuses.count(3)} refused")
     sys.exit(wrong > 0)
 
 

@@ -1,4 +1,4 @@
-// Asks the heap of a page's module for blocks by chance, `node test_heap.mjs PAGE`: each is aligned, within
+// Asks the heap of a page's module for random blocks, `node test_heap.mjs PAGE`: each is aligned, within
 // the memory and apart from all others, and keeps what was written in it when it grows; then refusals.
 import { readFileSync } from "node:fs";
 import { argv } from "node:process";
@@ -82,4 +82,4 @@ const heap = heap_of(PAGES);
 play(heap);
 check_refusals();
 const size = `${heap.memory.buffer.byteLength >> 20} MiB`;
-console.log(`heap: ${ROUNDS.toLocaleString("en")} requests by chance are served well, in ${size}`);
+console.log(`heap: ${ROUNDS.toLocaleString("en")} random requests are served well, in ${size}`);

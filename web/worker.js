@@ -78,7 +78,7 @@ function bytes_of(ticks, line) {
 
 // ---- the run
 
-// Runs a scenario of these bytes in at most so many bytes of memory, with this room for the log; where that
+// Runs a scenario of these bytes in at most so many bytes of memory, with this room for the log; if that
 // is too little it runs once more, in a new memory. When a block of memory grows, it tells to how many bytes.
 function run_of(module, text, all, most, room, on_growth) {
   const memory = new WebAssembly.Memory({ initial: FIRST_PAGES, maximum: Math.floor(most / PAGE) });

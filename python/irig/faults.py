@@ -125,7 +125,7 @@ def check(answer: int) -> None:
 
 
 def fitting(kind: Any, value: int, what: str) -> Any:
-    """The number as C holds it, where C would otherwise cut it to size."""
+    """The number as C holds it; a fault if C would cut it to size."""
     held = kind(value)
     if held.value != value:
         raise Fault(VALUE, reason=f"{what} is {value}, out of its range")

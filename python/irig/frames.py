@@ -1,7 +1,7 @@
 """Frames of IRIG-B (code B004) and their control bits.
 
 A frame is a text of a hundred symbols, in ten groups with a blank between, as `irig frame` prints
-it: P is a marker, 0 and 1 are data, and ? is a bad pulse. Where a frame is taken, blanks may stand
+it: P is a marker, 0 and 1 are data, and ? is a bad pulse. In a frame that is taken, blanks may stand
 anywhere or be missing, and it may be given as numbers: 0, 1, 2 for P, 3 for ?.
 """
 from __future__ import annotations

@@ -224,7 +224,7 @@ def run(text: Union[str, bytes], all: bool = False) -> Log:
     text: the scenario's lines
     all: tell of the silent edges too
 
-    Raises Refused where a line is refused, and MemoryError.
+    Raises Refused if a line is refused, and MemoryError if memory is out.
     """
     held = text.encode(errors="surrogatepass") if isinstance(text, str) else bytes(memoryview(text))
     status, whole, log = _run(held, all, ROOM)

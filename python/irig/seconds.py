@@ -73,7 +73,7 @@ class Second:
 
     def next(self, mark: Mark = "unspoken") -> Optional[Second]:
         """The second after it, by what is said of a leap second: "unspoken", "no-leap", "insert" or
-        "delete". None where that is not known to follow, as after 23:59:59 of a month's last day
+        "delete". None if that is not known to follow, as after 23:59:59 of a month's last day
         if nothing was said."""
         held = c.Utc()
         number = number_of(mark, Mark, "the mark")
@@ -96,7 +96,7 @@ class Second:
 @dataclass(frozen=True)
 class Claim:
     """What a frame claims: the second that began with it, and what it says of the leap second at
-    the end of that day: "insert", "delete", "no-leap", or "unspoken" where nothing is said."""
+    the end of that day: "insert", "delete", "no-leap", or "unspoken" if nothing is said."""
 
     second: Second
     mark: Mark = "unspoken"

@@ -1,4 +1,4 @@
-"""Random bad days of a plant with one reader, as scenarios: lost frames, outages of all generators, a
+"""Random days of a plant with one reader, as scenarios: lost frames, outages of all generators, a
 generator that lies, and restarts of the reader. `tools/study` plays them.
 
 A day belongs to its seed and to the rates, and not to the settings of the reader."""
