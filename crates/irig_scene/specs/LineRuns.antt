@@ -1,10 +1,9 @@
 -- A line of a run, and the end of its lines: what stands after them, and by how much the output
 -- grew.
-use Rattle.std.specs.Prelude.{◌≡◌, ℕ, ◌+◌, List, [], ◌∷◌, ◌++◌, length, map, string_bytes, Option, Some, None, Result, Ok, Err, ⊤, ◌-◌, nat_lt, if◌then◌else◌}
+use Rattle.std.specs.Prelude.{◌≡◌, ℕ, ◌+◌, List, [], ◌∷◌, ◌++◌, length, Option, Some, None, Result, Ok, Err, ⊤, ◌-◌, nat_lt, if◌then◌else◌}
 use Rattle.std.specs.Io.KnownBytes.{Appends}
 use Rattle.irig_port.specs.declared.port.Port.{Ghosts}
 use Rattle.irig_plant.specs.declared.event.Event.{Event}
-use Rattle.irig_plant.specs.History.{HasPlantHistory}
 use Rattle.irig_scene.specs.declared.outcome.Outcome.{Outcome}
 use Rattle.irig_scene.specs.declared.player.Player.{Player}
 use Rattle.irig_scene.specs.declared.fault.SceneFault.{SceneFault}
@@ -23,7 +22,7 @@ use Rattle.irig_scene.specs.Run.{IsDone, IsRefused}
 use Rattle.irig_device.specs.Watched.{AppendsPart}
 use Rattle.irig_scenario.specs.declared.event_line.Command.{Command}
 use Rattle.irig_log_text.specs.declared.shown.Shown.{Shown}
-use Rattle.irig_scene.specs.PlayerRuns.{past, after_events, Grew, GrewPart}
+use Rattle.irig_scene.specs.PlayerRuns.{IsStageAt, after_events, Grew, GrewPart}
 use Rattle.irig_plant.specs.WholeSecond.{second_of}
 use Rattle.irig_scenario.specs.PlantLine.{Plan, plan_in_line}
 use Rattle.irig_scene.specs.Scene.{Scene, scene, play, events_of, Step, step, step_of_command, Meaning, meaning_from, meaning_at_end, log_text, text_of}
@@ -31,8 +30,7 @@ use Rattle.irig_scene.specs.Scene.{Scene, scene, play, events_of, Step, step, st
 -- a player is where a scene leaves it
 pub record IsPlayerAt {P : Type 0} {g : Ghosts P} (shown : Shown) (player : Player P g)
     (x : Scene) : Type 0 where
-  pub plant : HasPlantHistory player.plant (past shown x)
-  pub names : map string_bytes player.names.keys ≡ x.plan.names
+  pub stage : IsStageAt shown player.stage x
   pub second : player.second.items
       ≡ second_of (length x.plan.setup.generators) (length x.plan.setup.readers)
 

@@ -1,10 +1,11 @@
 -- A plant that plays events: where it stands then, and by how much the output grew.
-use Rattle.std.specs.Prelude.{◌≡◌, ◌≤◌, ℕ, ◌+◌, List, [], ◌∷◌, ◌++◌, length, Option, Some, None, Result, Ok, Err}
+use Rattle.std.specs.Prelude.{◌≡◌, ◌≤◌, ℕ, ◌+◌, List, [], ◌∷◌, ◌++◌, length, map, string_bytes, Option, Some, None, Result, Ok, Err}
 use Rattle.std.specs.Io.KnownBytes.{Appends}
 use Rattle.irig_port.specs.declared.port.Port.{Ghosts}
 use Rattle.irig_plant.specs.declared.event.Event.{Event}
 use Rattle.irig_plant.specs.declared.event.Event.TheVariants.{Tick}
 use Rattle.irig_plant.specs.declared.plant.Plant.{Plant}
+use Rattle.irig_scene.specs.declared.stage.Stage.{Stage}
 use Rattle.irig_plant.specs.Schedule.{log_of}
 use Rattle.irig_plant.specs.History.{PlantHistory, HasPlantHistory}
 use Rattle.irig_scene.specs.declared.stop.Stop.{Stop}
@@ -24,6 +25,12 @@ past shown x =
       shown = length (log_of x.plan.setup x.events);
       keeps_told = shown.ports;
     }
+
+-- a stage is where a scene leaves it
+pub record IsStageAt {P : Type 0} {g : Ghosts P} (shown : Shown) (stage : Stage P g) (x : Scene)
+    : Type 0 where
+  pub plant : HasPlantHistory stage.plant (past shown x)
+  pub names : map string_bytes stage.names.keys ≡ x.plan.names
 
 -- the output grew by what the log of one scene has more than that of another
 pub record Grew (shown : Shown) (from to : Option Scene) (old new : Bytes) : Type 0 where
@@ -67,26 +74,25 @@ Runs was events is refusal =
     (shown : Shown) (x : Scene) → HasPlantHistory was (past shown x)
     → RunsFor shown x events is refusal
 
--- a plant of this scene played events, up to a refusal if there is one, and their entries were
+-- a stage of this scene played events, up to a refusal if there is one, and their entries were
 -- written
 pub record PlaysFor {P : Type 0} {g : Ghosts P} (x : Scene) (events : List Event) (shown : Shown)
-    (plant : Plant P g) (refusal : Option Refusal) (old new : Bytes) : Type 0 where
+    (stage : Stage P g) (refusal : Option Refusal) (old new : Bytes) : Type 0 where
   pub refused : (play x.plan.setup events x.events).refusal ≡ refusal
-  pub stands : HasPlantHistory plant (past shown (after_events x events))
+  pub stands : IsStageAt shown stage (after_events x events)
   pub grew : Grew shown (Some x) (Some (after_events x events)) old new
 
 -- it played all of them, or up to a refusal, or something failed in the midst of that
 abbrev pub Played : {P : Type 0} {g : Ghosts P} → Result (Unit {0}) Stop → Scene → List Event
-    → Shown → Plant P g → Bytes → Bytes → Type 0
-Played (Ok done) x events shown plant old new = PlaysFor x events shown plant None old new
-Played (Err (Refused k)) x events shown plant old new =
-    PlaysFor x events shown plant (Some k) old new
-Played (Err (Failed failure)) x events shown plant old new =
+    → Shown → Stage P g → Bytes → Bytes → Type 0
+Played (Ok done) x events shown stage old new = PlaysFor x events shown stage None old new
+Played (Err (Refused k)) x events shown stage old new =
+    PlaysFor x events shown stage (Some k) old new
+Played (Err (Failed failure)) x events shown stage old new =
     GrewPart shown (Some x) (Some (after_events x events)) old new
 
 -- whatever scene it is of
-abbrev pub Plays : {P : Type 0} {g : Ghosts P} → Plant P g → List (List ℕ) → List Event → Shown
-    → Result (Unit {0}) Stop → Plant P g → Bytes → Bytes → Type 0
-Plays was names events shown result is old new =
-    (x : Scene) → HasPlantHistory was (past shown x) → names ≡ x.plan.names
-    → Played result x events shown is old new
+abbrev pub Plays : {P : Type 0} {g : Ghosts P} → Stage P g → List Event → Shown
+    → Result (Unit {0}) Stop → Stage P g → Bytes → Bytes → Type 0
+Plays was events shown result is old new =
+    (x : Scene) → IsStageAt shown was x → Played result x events shown is old new

@@ -9,10 +9,12 @@ pub returns-in-Ok-Ok-clause-stands : goal.returns-in-Ok-Ok-clause-stands
 returns-in-Ok-Ok-clause-stands g c =
     let new : HasPlantHistory c.in-Ok-Ok.plant (beginning (plan_of c.args.line).setup) = search rules in
     record {
-      plant = elim c.if-shown.branch [
-        | then-shown w ↦ rw w.plant-is (begun_with_ports _ c.args.log.shown (plan_of c.args.line) w.if-shown.true (w.keep_told.ensures _ new))
-        | else-shown w ↦ rw w.plant-is (begun_without_ports _ c.args.log.shown (plan_of c.args.line) w.if-shown.false new)
-      ];
-      names = search rules;
+      stage = record {
+        plant = elim c.if-shown.branch [
+          | then-shown w ↦ rw w.plant-is (begun_with_ports _ c.args.log.shown (plan_of c.args.line) w.if-shown.true (w.keep_told.ensures _ new))
+          | else-shown w ↦ rw w.plant-is (begun_without_ports _ c.args.log.shown (plan_of c.args.line) w.if-shown.false new)
+        ];
+        names = search rules;
+      };
       second = search rules;
     }

@@ -3,7 +3,7 @@ use Rattle.irig_plant.specs.History.{HasPlantHistory}
 use Rattle.irig_scene.specs.Scene.{Play, play}
 use Rattle.irig_scene.specs.PlayerRuns.{past}
 use Rattle.irig_scene.proofs.PlayLaws.{few_stand, play_all, play_until}
-use Rattle.irig_scene.proofs.player.run.Goals as goal
+use Rattle.irig_scene.proofs.events.run_events.Goals as goal
 
 pub returns-in-Ok-clause-runs : goal.returns-in-Ok-clause-runs
 returns-in-Ok-clause-runs g c = λ shown x h.
