@@ -16,8 +16,8 @@ use Rattle.irig_scene.specs.Lines.{lines}
 use Rattle.irig_log_text.specs.Text.{refusal_text}
 use Rattle.irig_scene.specs.Scene.{Scene, step, Meaning, meaning_from, meaning_at_end, log_text, text_of}
 use Rattle.irig_scene.specs.Faults.{fault_of}
-use Rattle.irig_scene.specs.PlayerRuns.{GrewPart}
-use Rattle.irig_scene.specs.LineRuns.{TakesFor, Took, RanRest, WroteRefusal, IsOfLine, EndsRun}
+use Rattle.irig_scene.specs.PlayerRuns.{OutputGrewByPartOf}
+use Rattle.irig_scene.specs.LineRuns.{ProcessedTo, ProcessedLine, RanRest, WroteRefusal, IsOfLine, EndsRun}
 use Rattle.irig_scene.proofs.LineLaws.{no_line, one_line}
 use Rattle.irig_scene.proofs.StepLaws.{IsFront, front_of_meaning, meaning_goes, meaning_stops, meaning_ends}
 use Rattle.irig_scene.proofs.LineRunLaws.{rest_on, failed_rest, refused_rest}
@@ -30,7 +30,7 @@ tells_alike r m w i j shown from old new e same tells =
 -- ---- a line, and others after it
 
 line_goes : {P : Type 0} {g : Ghosts P} (r : Result Outcome SceneFault) (l : List ℕ) (ls : List (List ℕ)) (n count : ℕ) (shown : Shown) (at : Option Scene) (player : Option (Player P g)) (o0 o1 o2 : Option (List ℕ))
-    → TakesFor (step n at l) shown at player None o0 o1 → RanRest r (meaning_from ls (n + 1) (step n at l).scene) count shown (step n at l).scene o1 o2
+    → ProcessedTo (step n at l) shown at player None o0 o1 → RanRest r (meaning_from ls (n + 1) (step n at l).scene) count shown (step n at l).scene o1 o2
     → RanRest r (meaning_from (l ∷ ls) n at) count shown at o0 o2
 line_goes r l ls n count shown at player o0 o1 o2 took tells =
     tells_alike r (meaning_from ls (n + 1) (step n at l).scene) (meaning_from (l ∷ ls) n at) count count shown at o0 o2 (sym (meaning_goes l ls n at took.refused)) refl
@@ -44,9 +44,9 @@ of_line Memory n k old new wrote = tt
 
 -- a line that is refused ends the run
 pub line_stops : {P : Type 0} {g : Ghosts P} (s : Stop) (e : SceneFault) (n : ℕ) (l : List ℕ) (shown : Shown) (at : Option Scene) (player : Option (Player P g)) (k : Refusal) (o0 o1 o2 : Option (List ℕ))
-    → s ≡ stop.Refused k → Took (Err s) (step n at l) shown at player o0 o1 → WroteRefusal e n k o1 o2 → EndsRun e n l shown at o0 o2
+    → s ≡ stop.Refused k → ProcessedLine (Err s) (step n at l) shown at player o0 o1 → WroteRefusal e n k o1 o2 → EndsRun e n l shown at o0 o2
 line_stops s e n l shown at player k o0 o1 o2 is was wrote =
-    let took : TakesFor (step n at l) shown at player (Some k) o0 o1 = subst (λ (s : Stop). Took (Err s) (step n at l) shown at player o0 o1) is was in
+    let took : ProcessedTo (step n at l) shown at player (Some k) o0 o1 = subst (λ (s : Stop). ProcessedLine (Err s) (step n at l) shown at player o0 o1) is was in
     record {
       numbered = of_line e n k o1 o2 wrote;
       ran = λ ls count. rest_on (Err e) (meaning_from (l ∷ ls) n at) count shown at (step n at l).scene o0 o1 o2 took.grew
@@ -66,9 +66,9 @@ failed_of_line failure.Memory n = tt
 
 -- and so does one in which something fails
 pub line_fails : {P : Type 0} {g : Ghosts P} (s : Stop) (f : Failure) (n : ℕ) (l : List ℕ) (shown : Shown) (at : Option Scene) (player : Option (Player P g)) (old new : Option (List ℕ))
-    → s ≡ stop.Failed f → Took (Err s) (step n at l) shown at player old new → EndsRun (fault_of f) n l shown at old new
+    → s ≡ stop.Failed f → ProcessedLine (Err s) (step n at l) shown at player old new → EndsRun (fault_of f) n l shown at old new
 line_fails s f n l shown at player old new is was =
-    let grew : GrewPart shown at (step n at l).scene old new = subst (λ (s : Stop). Took (Err s) (step n at l) shown at player old new) is was in
+    let grew : OutputGrewByPartOf shown at (step n at l).scene old new = subst (λ (s : Stop). ProcessedLine (Err s) (step n at l) shown at player old new) is was in
     record {
       numbered = failed_of_line f n;
       ran = λ ls count. failed_rest f (step n at l) (meaning_from (l ∷ ls) n at) count shown at old new grew (front_after shown l ls n at (step n at l).refusal refl);
@@ -84,7 +84,7 @@ last_empty r line n shown at old new e tells =
     (tells_alike r (meaning_at_end n at) (meaning_from [] n at) (n - 1) (n - 1 + 0) shown at old new (sym (meaning_ends n at)) (omega arith) tells)
 
 pub last_goes : {P : Type 0} {g : Ghosts P} (r : Result Outcome SceneFault) (line : List ℕ) (n : ℕ) (shown : Shown) (at : Option Scene) (player : Option (Player P g)) (o0 o1 o2 : Option (List ℕ)) → 1 ≤ n → 0 < length line → HasNoNewline line
-    → TakesFor (step n at line) shown at player None o0 o1 → RanRest r (meaning_at_end (n + 1) (step n at line).scene) (n + 1 - 1) shown (step n at line).scene o1 o2
+    → ProcessedTo (step n at line) shown at player None o0 o1 → RanRest r (meaning_at_end (n + 1) (step n at line).scene) (n + 1 - 1) shown (step n at line).scene o1 o2
     → RanRest r (meaning_from (lines line) n at) (n - 1 + length (lines line)) shown at o0 o2
 last_goes r line n shown at player o0 o1 o2 first some whole took tells =
     let next = (step n at line).scene in

@@ -23,16 +23,16 @@ use Rattle.irig_scenario.specs.PlantLine.{Plan}
 use Rattle.irig_log_text.specs.Text.{refusal_text}
 use Rattle.irig_device.specs.Watched.{AppendsPart}
 use Rattle.irig_scene.specs.Scene.{Scene, scene, events_of, Step, step_to, step_of_plan, step_of_line, step, step_of_command, Meaning, meaning, refusal_at, meaning_at_end, log_text, text_of}
-use Rattle.irig_scene.specs.PlayerRuns.{Grew, GrewPart}
+use Rattle.irig_scene.specs.PlayerRuns.{OutputGrewBy, OutputGrewByPartOf}
 use Rattle.irig_scene.specs.Faults.{fault_of, stop_of}
-use Rattle.irig_scene.specs.LineRuns.{IsPlayerAt, IsAt, Acted, TakesFor, Took, Takes, Follows, Begins, WroteRest, WrotePart, RanRest, WroteRefusal}
+use Rattle.irig_scene.specs.LineRuns.{IsPlayerAt, IsAt, RanCommand, ProcessedTo, ProcessedLine, ProcessesLine, ProcessesEventLine, MakesPlayer, WroteRest, WrotePart, RanRest, WroteRefusal}
 use Rattle.irig_scene.proofs.SecondsPlayed.{nothing_grew}
 use Rattle.irig_log_text.proofs.TextLaws.{no_lines}
 use Rattle.irig_scene.proofs.StepLaws.{IsFront, front_of_step, front_commanded, step_taken}
 
 -- ---- no memory, before anything was written
 
-none_written : (shown : Shown) (from to : Option Scene) (out : Option (List ℕ)) → IsFront (log_text shown from) (log_text shown to) → GrewPart shown from to out out
+none_written : (shown : Shown) (from to : Option Scene) (out : Option (List ℕ)) → IsFront (log_text shown from) (log_text shown to) → OutputGrewByPartOf shown from to out out
 none_written shown from to out h =
     record {
       text = h.rest;
@@ -40,15 +40,15 @@ none_written shown from to out h =
       wrote = record { front = []; rest = h.rest; whole = refl; wrote = Appends-nil out };
     }
 
-memory_following : (shown : Shown) (x : Scene) (c : Result Command Refusal) (out : Option (List ℕ)) → GrewPart shown (Some x) (step_of_command x c).scene out out
+memory_following : (shown : Shown) (x : Scene) (c : Result Command Refusal) (out : Option (List ℕ)) → OutputGrewByPartOf shown (Some x) (step_of_command x c).scene out out
 memory_following shown x c out = none_written shown (Some x) (step_of_command x c).scene out (front_commanded shown x c)
 
-memory_taking : (shown : Shown) (n : ℕ) (at : Option Scene) (line : List ℕ) (out : Option (List ℕ)) → GrewPart shown at (step n at line).scene out out
+memory_taking : (shown : Shown) (n : ℕ) (at : Option Scene) (line : List ℕ) (out : Option (List ℕ)) → OutputGrewByPartOf shown at (step n at line).scene out out
 memory_taking shown n at line out = none_written shown at (step n at line).scene out (front_of_step shown n at line)
 
 -- ---- the rest of a run
 
-wrote_on : (shown : Shown) (from at : Option Scene) (m : Meaning) (o0 o1 o2 : Option (List ℕ)) → Grew shown from at o0 o1 → WroteRest shown at m o1 o2 → WroteRest shown from m o0 o2
+wrote_on : (shown : Shown) (from at : Option Scene) (m : Meaning) (o0 o1 o2 : Option (List ℕ)) → OutputGrewBy shown from at o0 o1 → WroteRest shown at m o1 o2 → WroteRest shown from m o0 o2
 wrote_on shown from at m o0 o1 o2 h l =
     record {
       rest = h.text ++ l.rest;
@@ -56,7 +56,7 @@ wrote_on shown from at m o0 o1 o2 h l =
       wrote = Appends-trans o0 o1 o2 _ _ h.wrote l.wrote;
     }
 
-part_on : (shown : Shown) (from at : Option Scene) (m : Meaning) (o0 o1 o2 : Option (List ℕ)) → Grew shown from at o0 o1 → WrotePart shown at m o1 o2 → WrotePart shown from m o0 o2
+part_on : (shown : Shown) (from at : Option Scene) (m : Meaning) (o0 o1 o2 : Option (List ℕ)) → OutputGrewBy shown from at o0 o1 → WrotePart shown at m o1 o2 → WrotePart shown from m o0 o2
 part_on shown from at m o0 o1 o2 h l =
     record {
       rest = h.text ++ l.rest;
@@ -71,14 +71,14 @@ part_on shown from at m o0 o1 o2 h l =
 
 -- what was written before belongs to it
 pub rest_on : (r : Result Outcome SceneFault) (m : Meaning) (count : ℕ) (shown : Shown) (from at : Option Scene) (o0 o1 o2 : Option (List ℕ))
-    → Grew shown from at o0 o1 → RanRest r m count shown at o1 o2 → RanRest r m count shown from o0 o2
+    → OutputGrewBy shown from at o0 o1 → RanRest r m count shown at o1 o2 → RanRest r m count shown from o0 o2
 rest_on (Ok o) m count shown from at o0 o1 o2 h l = (l.0, wrote_on shown from at m o0 o1 o2 h l.1)
 rest_on (Err (Refused line number)) m count shown from at o0 o1 o2 h l = (l.0, wrote_on shown from at m o0 o1 o2 h l.1)
 rest_on (Err Read) m count shown from at o0 o1 o2 h l = absurd l
 rest_on (Err Write) m count shown from at o0 o1 o2 h l = part_on shown from at m o0 o1 o2 h l
 rest_on (Err Memory) m count shown from at o0 o1 o2 h l = part_on shown from at m o0 o1 o2 h l
 
-part_rest : (shown : Shown) (from at : Option Scene) (m : Meaning) (old new : Option (List ℕ)) → GrewPart shown from at old new → IsFront (log_text shown at) (text_of shown m) → WrotePart shown from m old new
+part_rest : (shown : Shown) (from at : Option Scene) (m : Meaning) (old new : Option (List ℕ)) → OutputGrewByPartOf shown from at old new → IsFront (log_text shown at) (text_of shown m) → WrotePart shown from m old new
 part_rest shown from at m old new h front =
     record {
       rest = h.text ++ front.rest;
@@ -93,7 +93,7 @@ part_rest shown from at m old new h front =
 
 -- something failed in the midst of a line
 pub failed_rest : (f : Failure) (st : Step) (m : Meaning) (count : ℕ) (shown : Shown) (from : Option Scene) (old new : Option (List ℕ))
-    → GrewPart shown from st.scene old new → IsFront (log_text shown st.scene) (text_of shown m) → RanRest (Err (fault_of f)) m count shown from old new
+    → OutputGrewByPartOf shown from st.scene old new → IsFront (log_text shown st.scene) (text_of shown m) → RanRest (Err (fault_of f)) m count shown from old new
 failed_rest failure.Write st m count shown from old new h front = part_rest shown from st.scene m old new h front
 failed_rest failure.Memory st m count shown from old new h front = part_rest shown from st.scene m old new h front
 
@@ -132,42 +132,42 @@ no_plant_rest player e shown at count n old new is stands wrote =
 
 took_at : {P : Type 0} {g : Ghosts P} (r : Result (Unit {0}) Stop) (player is : Player P g) (n : ℕ) (line : List ℕ) (shown : Shown) (old new : Option (List ℕ)) (at : Option Scene)
     → n ≤ max_lines → length line ≤ max_line → is_blank line ≡ false → IsAt shown (Some player) at
-    → Follows player line shown r is old new → Took r (step n at line) shown at (Some is) old new
+    → ProcessesEventLine player line shown r is old new → ProcessedLine r (step n at line) shown at (Some is) old new
 took_at r player is n line shown old new None few short full stands follows = absurd stands
 took_at r player is n line shown old new (Some x) few short full stands follows =
-    subst (λ (st : Step). Took r st shown (Some x) (Some is) old new) (sym (step_taken n (Some x) line few short full)) (follows x stands)
+    subst (λ (st : Step). ProcessedLine r st shown (Some x) (Some is) old new) (sym (step_taken n (Some x) line few short full)) (follows x stands)
 
 pub following_takes : {P : Type 0} {g : Ghosts P} (r : Result (Unit {0}) Stop) (was : Option (Player P g)) (player is : Player P g) (n : ℕ) (line : List ℕ) (shown : Shown) (old new : Option (List ℕ))
     → was ≡ Some player → n ≤ max_lines → length line ≤ max_line → is_blank line ≡ false
-    → Follows player line shown r is old new → Takes was n line shown r (Some is) old new
+    → ProcessesEventLine player line shown r is old new → ProcessesLine was n line shown r (Some is) old new
 following_takes r was player is n line shown old new same few short full follows = λ at stands.
     took_at r player is n line shown old new at few short full (subst (λ w. IsAt shown w at) same stands) follows
 
 -- what an event line asks for was done
 pub acted_takes : {P : Type 0} {g : Ghosts P} (r : Result (Unit {0}) Stop) (x : Scene) (c : Result Command Refusal) (command : Command) (shown : Shown) (player : Player P g) (old new : Option (List ℕ)) → c ≡ Ok command
-    → Acted r x (events_of x.plan command) shown player old new → Took r (step_of_command x c) shown (Some x) (Some player) old new
+    → RanCommand r x (events_of x.plan command) shown player old new → ProcessedLine r (step_of_command x c) shown (Some x) (Some player) old new
 acted_takes (Ok done) x c command shown player old new is acted =
-    subst (λ (c : Result Command Refusal). Took (Ok done) (step_of_command x c) shown (Some x) (Some player) old new) (sym is)
+    subst (λ (c : Result Command Refusal). ProcessedLine (Ok done) (step_of_command x c) shown (Some x) (Some player) old new) (sym is)
     (record { refused = acted.refused; stands = acted.stands; grew = acted.grew })
 acted_takes (Err (stop.Refused k)) x c command shown player old new is acted =
-    subst (λ (c : Result Command Refusal). Took (Err (stop.Refused k)) (step_of_command x c) shown (Some x) (Some player) old new) (sym is)
+    subst (λ (c : Result Command Refusal). ProcessedLine (Err (stop.Refused k)) (step_of_command x c) shown (Some x) (Some player) old new) (sym is)
     (record { refused = acted.refused; stands = acted.stands; grew = acted.grew })
 acted_takes (Err (stop.Failed f)) x c command shown player old new is acted =
-    subst (λ (c : Result Command Refusal). GrewPart shown (Some x) (step_of_command x c).scene old new) (sym is) acted
+    subst (λ (c : Result Command Refusal). OutputGrewByPartOf shown (Some x) (step_of_command x c).scene old new) (sym is) acted
 
 -- an event line gives no command
 pub event_stops : {P : Type 0} {g : Ghosts P} (fault : LineFault) (x : Scene) (names : List (List ℕ)) (line : List ℕ) (shown : Shown) (player : Player P g) (out : Option (List ℕ)) → names ≡ x.plan.names → IsUnlessMemory (λ (command : Command). command) (command_in_line names line) (Err fault)
-    → IsPlayerAt shown player x → Took (Err (stop_of fault)) (step_of_command x (command_in_line x.plan.names line)) shown (Some x) (Some player) out out
+    → IsPlayerAt shown player x → ProcessedLine (Err (stop_of fault)) (step_of_command x (command_in_line x.plan.names line)) shown (Some x) (Some player) out out
 event_stops (line_fault.Refused k) x names line shown player out same is stands =
     let here : command_in_line x.plan.names line ≡ Err k = ap (λ names. command_in_line names line) (sym same) ∙ is in
-    subst (λ (c : Result Command Refusal). Took (Err (stop.Refused k)) (step_of_command x c) shown (Some x) (Some player) out out) (sym here)
+    subst (λ (c : Result Command Refusal). ProcessedLine (Err (stop.Refused k)) (step_of_command x c) shown (Some x) (Some player) out out) (sym here)
     (record { refused = refl; stands = stands; grew = nothing_grew shown (Some x) out })
 event_stops line_fault.Memory x names line shown player out same is stands = memory_following shown x (command_in_line x.plan.names line) out
 
 nothing_logged : (shown : Shown) (plan : Plan) → log_text shown (Some (scene plan [])) ≡ []
 nothing_logged shown plan = no_lines plan.names shown
 
-begins : {P : Type 0} {g : Ghosts P} (shown : Shown) (line : List ℕ) (player : Player P g) (out : Option (List ℕ)) → Begins shown line (Ok player) → TakesFor (step_of_line None line) shown None (Some player) None out out
+begins : {P : Type 0} {g : Ghosts P} (shown : Shown) (line : List ℕ) (player : Player P g) (out : Option (List ℕ)) → MakesPlayer shown line (Ok player) → ProcessedTo (step_of_line None line) shown None (Some player) None out out
 begins shown line player out (plan, is, stands) =
     let same : step_of_line None line ≡ step_to (Some (scene plan [])) None = ap step_of_plan is in
     record {
@@ -181,19 +181,19 @@ begins shown line player out (plan, is, stands) =
     }
 
 begins_at : {P : Type 0} {g : Ghosts P} (n : ℕ) (shown : Shown) (line : List ℕ) (player : Player P g) (out : Option (List ℕ)) (at : Option Scene) → n ≤ max_lines → length line ≤ max_line → is_blank line ≡ false
-    → IsAt {P = P} {g = g} shown None at → Begins shown line (Ok player) → TakesFor (step n at line) shown at (Some player) None out out
+    → IsAt {P = P} {g = g} shown None at → MakesPlayer shown line (Ok player) → ProcessedTo (step n at line) shown at (Some player) None out out
 begins_at n shown line player out (Some x) few short full stands is = absurd stands
 begins_at n shown line player out None few short full stands is =
-    subst (λ (st : Step). TakesFor st shown None (Some player) None out out) (sym (step_taken n None line few short full)) (begins shown line player out is)
+    subst (λ (st : Step). ProcessedTo st shown None (Some player) None out out) (sym (step_taken n None line few short full)) (begins shown line player out is)
 
 pub beginning_takes : {P : Type 0} {g : Ghosts P} (was : Option (Player P g)) (n : ℕ) (shown : Shown) (line : List ℕ) (player : Player P g) (out : Option (List ℕ)) → was ≡ None
-    → n ≤ max_lines → length line ≤ max_line → is_blank line ≡ false → Begins shown line (Ok player) → Takes was n line shown (Ok _) (Some player) out out
+    → n ≤ max_lines → length line ≤ max_line → is_blank line ≡ false → MakesPlayer shown line (Ok player) → ProcessesLine was n line shown (Ok _) (Some player) out out
 beginning_takes was n shown line player out is few short full step_of_plan = λ at stands.
     begins_at n shown line player out at few short full (subst (λ w. IsAt shown w at) is stands) step_of_plan
 
 -- a plant line gives no player
 stops_at_plant : {P : Type 0} {g : Ghosts P} (s : Stop) (was : Option (Player P g)) (n : ℕ) (shown : Shown) (line : List ℕ) (out : Option (List ℕ)) (at : Option Scene) → at ≡ None → IsAt shown was at
-    → n ≤ max_lines → length line ≤ max_line → is_blank line ≡ false → Begins {P = P} {g = g} shown line (Err s) → Took (Err s) (step n at line) shown at was out out
+    → n ≤ max_lines → length line ≤ max_line → is_blank line ≡ false → MakesPlayer {P = P} {g = g} shown line (Err s) → ProcessedLine (Err s) (step n at line) shown at was out out
 stops_at_plant (stop.Refused k) was n shown line out at none stands few short full begins =
     let to : step n at line ≡ step_to None (Some k) = step_taken n at line few short full ∙ ap (λ at. step_of_line at line) none ∙ ap step_of_plan begins in
     record {
@@ -208,6 +208,6 @@ stops_at_plant (stop.Refused k) was n shown line out at none stands few short fu
 stops_at_plant (stop.Failed f) was n shown line out at none stands few short full begins = memory_taking shown n at line out
 
 pub beginning_stops : {P : Type 0} {g : Ghosts P} (s : Stop) (was : Option (Player P g)) (n : ℕ) (shown : Shown) (line : List ℕ) (out : Option (List ℕ)) → was ≡ None
-    → n ≤ max_lines → length line ≤ max_line → is_blank line ≡ false → Begins {P = P} {g = g} shown line (Err s) → Takes was n line shown (Err s) was out out
+    → n ≤ max_lines → length line ≤ max_line → is_blank line ≡ false → MakesPlayer {P = P} {g = g} shown line (Err s) → ProcessesLine was n line shown (Err s) was out out
 beginning_stops s was n shown line out is few short full begins = λ at stands.
     stops_at_plant s was n shown line out at (no_plant shown was at is stands) stands few short full begins

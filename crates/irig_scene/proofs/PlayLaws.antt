@@ -26,7 +26,7 @@ use Rattle.irig_scene.specs.Scene.{Play, play, play_by, unless_refused, Scene, s
 use Rattle.std.specs.Io.KnownBytes.{Appends}
 use Rattle.std.proofs.KnownBytes.{Appends-nil}
 use Rattle.irig_device.specs.Watched.{AppendsPart}
-use Rattle.irig_scene.specs.PlayerRuns.{past, after_events, ticks_among, Grew, GrewPart}
+use Rattle.irig_scene.specs.PlayerRuns.{history_shown, after_events, ticks_among, OutputGrewBy, OutputGrewByPartOf}
 use Rattle.irig_log_text.specs.Text.{lines_text}
 use Rattle.irig_log_text.proofs.TextLaws.{lines_join, same_lines}
 
@@ -161,7 +161,7 @@ text_grows x events shown entries tolds e t =
 -- what a plant had yet to show, and its text
 pub lines_shown : (x : Scene) (events : List Event) (shown : Shown) (names : List (List ℕ)) (entries : List Entry) (tolds : List ToldEntry) (old new : Option (List ℕ))
     → names ≡ x.plan.names → entries ≡ entries_left x events → tolds ≡ told_left shown x events
-    → Appends old new (lines_text names shown entries tolds) → Grew shown (Some x) (Some (after_events x events)) old new
+    → Appends old new (lines_text names shown entries tolds) → OutputGrewBy shown (Some x) (Some (after_events x events)) old new
 lines_shown x events shown names entries tolds old new same are told wrote =
     record {
       text = lines_text x.plan.names shown entries tolds;
@@ -171,7 +171,7 @@ lines_shown x events shown names entries tolds old new same are told wrote =
 
 pub lines_shown_in_part : (x : Scene) (events : List Event) (shown : Shown) (names : List (List ℕ)) (entries : List Entry) (tolds : List ToldEntry) (old new : Option (List ℕ))
     → names ≡ x.plan.names → entries ≡ entries_left x events → tolds ≡ told_left shown x events
-    → AppendsPart old new (lines_text names shown entries tolds) → GrewPart shown (Some x) (Some (after_events x events)) old new
+    → AppendsPart old new (lines_text names shown entries tolds) → OutputGrewByPartOf shown (Some x) (Some (after_events x events)) old new
 lines_shown_in_part x events shown names entries tolds old new same are told wrote =
     record {
       text = lines_text x.plan.names shown entries tolds;
@@ -179,7 +179,7 @@ lines_shown_in_part x events shown names entries tolds old new same are told wro
       wrote = subst (λ (n : List (List ℕ)). AppendsPart old new (lines_text n shown entries tolds)) same wrote;
     }
 
-pub nothing_shown : (x : Scene) (events : List Event) (shown : Shown) (out : Option (List ℕ)) → GrewPart shown (Some x) (Some (after_events x events)) out out
+pub nothing_shown : (x : Scene) (events : List Event) (shown : Shown) (out : Option (List ℕ)) → OutputGrewByPartOf shown (Some x) (Some (after_events x events)) out out
 nothing_shown x events shown out =
     let entries = entries_left x events in
     let tolds = told_left shown x events in
@@ -192,11 +192,11 @@ nothing_shown x events shown out =
 
 -- ---- a plant to which nothing has happened
 
-pub begun_with_ports : {P : Type 0} {g : Ghosts P} (p : Plant P g) (shown : Shown) (plan : Plan) → shown.ports ≡ true → HasPlantHistory p (with_told_kept (beginning plan.setup)) → HasPlantHistory p (past shown (scene plan []))
-begun_with_ports p shown plan e h = subst (λ b. HasPlantHistory p (record (past shown (scene plan [])) { keeps_told = b })) (sym e) h
+pub begun_with_ports : {P : Type 0} {g : Ghosts P} (p : Plant P g) (shown : Shown) (plan : Plan) → shown.ports ≡ true → HasPlantHistory p (with_told_kept (beginning plan.setup)) → HasPlantHistory p (history_shown shown (scene plan []))
+begun_with_ports p shown plan e h = subst (λ b. HasPlantHistory p (record (history_shown shown (scene plan [])) { keeps_told = b })) (sym e) h
 
-pub begun_without_ports : {P : Type 0} {g : Ghosts P} (p : Plant P g) (shown : Shown) (plan : Plan) → shown.ports ≡ false → HasPlantHistory p (beginning plan.setup) → HasPlantHistory p (past shown (scene plan []))
-begun_without_ports p shown plan e h = subst (λ b. HasPlantHistory p (record (past shown (scene plan [])) { keeps_told = b })) (sym e) h
+pub begun_without_ports : {P : Type 0} {g : Ghosts P} (p : Plant P g) (shown : Shown) (plan : Plan) → shown.ports ≡ false → HasPlantHistory p (beginning plan.setup) → HasPlantHistory p (history_shown shown (scene plan []))
+begun_without_ports p shown plan e h = subst (λ b. HasPlantHistory p (record (history_shown shown (scene plan [])) { keeps_told = b })) (sym e) h
 
 -- ---- the ticks of a whole second
 

@@ -20,9 +20,9 @@ use Rattle.irig_scene.specs.Lines.{lines, unlines, max_line, max_lines, limit_of
 use Rattle.irig_device.specs.Watched.{AppendsPart}
 use Rattle.irig_scene.specs.Faults.{IsFaultOfReading}
 use Rattle.irig_scene.specs.Scene.{Scene, Step, step_to, step, Meaning, meaning, refusal_at, meaning_from, meaning_of, meaning_at_end, log_text, text_of, output_shown}
-use Rattle.irig_scene.specs.PlayerRuns.{Grew}
+use Rattle.irig_scene.specs.PlayerRuns.{OutputGrewBy}
 use Rattle.irig_scene.specs.Run.{IsOfOneLine, StoppedInLine, read_of, RanOn, AreBytesOf, RanShown}
-use Rattle.irig_scene.specs.LineRuns.{IsAt, TakesFor, RanRest, WrotePart, WroteRefusal, too_long, IsOfLine, EndsRun}
+use Rattle.irig_scene.specs.LineRuns.{IsAt, ProcessedTo, RanRest, WrotePart, WroteRefusal, too_long, IsOfLine, EndsRun}
 use Rattle.irig_scene.proofs.SecondsPlayed.{nothing_grew, grew_on}
 use Rattle.irig_scene.proofs.LineLaws.{line_first, no_line, lines_after, Opens, opens}
 use Rattle.irig_scene.proofs.StepLaws.{front_of_meaning, meaning_goes, meaning_stops, meaning_ends, step_many, step_long}
@@ -38,7 +38,7 @@ pub record HasRun {P : Type 0} {g : Ghosts P} (shown : Shown) (player : Option (
   pub took : Consumes in0 in1 (unlines past)
   pub count : n ≡ length past + 1
   pub means : (rest : List (List ℕ)) → meaning_from (past ++ rest) 1 None ≡ meaning_from rest n at
-  pub grew : Grew shown None at out0 out1
+  pub grew : OutputGrewBy shown None at out0 out1
 
 pub has_begun : {P : Type 0} {g : Ghosts P} (shown : Shown) (in0 out0 : Option (List ℕ)) → HasRun {P = P} {g = g} shown None in0 in0 out0 out0 1
 has_begun shown in0 out0 =
@@ -56,7 +56,7 @@ has_begun shown in0 out0 =
 -- ---- one line more
 
 goes_on : {P : Type 0} {g : Ghosts P} (shown : Shown) (was is : Option (Player P g)) (in0 in1 in2 out0 out1 out2 : Option (List ℕ)) (n : ℕ) (l : List ℕ) (run : HasRun shown was in0 in1 out0 out1 n)
-    → TakesFor (step n run.at l) shown run.at is None out1 out2 → HasNoNewline l → Consumes in1 in2 (l ++ 10 ∷ []) → HasRun shown is in0 in2 out0 out2 (n + 1)
+    → ProcessedTo (step n run.at l) shown run.at is None out1 out2 → HasNoNewline l → Consumes in1 in2 (l ++ 10 ∷ []) → HasRun shown is in0 in2 out0 out2 (n + 1)
 goes_on shown was is in0 in1 in2 out0 out1 out2 n l run took h read =
     let grown : unlines (run.past ++ l ∷ []) ≡ unlines run.past ++ (l ++ 10 ∷ []) =
     flat_map-append (λ l. l ++ 10 ∷ []) run.past (l ∷ []) ∙ ap (λ more. unlines run.past ++ more) (append-nil (l ++ 10 ∷ [])) in
@@ -75,7 +75,7 @@ as_newline : (end : LineEnd) (line : List ℕ) (in1 in2 : Option (List ℕ)) →
 as_newline end line in1 in2 is took = subst (λ end. Consumes in1 in2 (spelling end line)) is took
 
 pub line_done : {P : Type 0} {g : Ghosts P} (shown : Shown) (was is : Option (Player P g)) (in0 in1 in2 out0 out1 out2 : Option (List ℕ)) (n limit : ℕ) (l line : List ℕ) (end : LineEnd) (run : HasRun shown was in0 in1 out0 out1 n)
-    → GivesLine end limit line in1 in2 → end ≡ Newline → l ≡ line → TakesFor (step n run.at l) shown run.at is None out1 out2 → HasRun shown is in0 in2 out0 out2 (n + 1)
+    → GivesLine end limit line in1 in2 → end ≡ Newline → l ≡ line → ProcessedTo (step n run.at l) shown run.at is None out1 out2 → HasRun shown is in0 in2 out0 out2 (n + 1)
 line_done shown was is in0 in1 in2 out0 out1 out2 n limit l line end run got ends same took =
     goes_on shown was is in0 in1 in2 out0 out1 out2 n l run took (subst HasNoNewline (sym same) got.whole)
     (subst (λ l. Consumes in1 in2 (l ++ 10 ∷ [])) (sym same) (as_newline end line in1 in2 ends got.taken))
@@ -122,7 +122,7 @@ reads_refused Write x read spelled n k is shown one = one
 reads_refused Memory x read spelled n k is shown one = one
 
 stopped_in_line : (x rest : List ℕ) (shown : Shown) (was left out0 out1 out2 : Option (List ℕ)) (past : List (List ℕ)) (spelled : List ℕ) (at : Option Scene) (m : Meaning) → All HasNoNewline past → x ≡ (unlines past ++ spelled) ++ rest → Consumes was left (unlines past ++ spelled)
-    → Grew shown None at out0 out1 → (meaning_of (unlines past)).scene ≡ at → WrotePart shown at m out1 out2 → IsOfOneLine spelled → StoppedInLine x shown was left out0 out2
+    → OutputGrewBy shown None at out0 out1 → (meaning_of (unlines past)).scene ≡ at → WrotePart shown at m out1 out2 → IsOfOneLine spelled → StoppedInLine x shown was left out0 out2
 stopped_in_line x rest shown was left out0 out1 out2 past spelled at m lined of_bytes took grew means here one =
     record {
       whole = past;
@@ -137,7 +137,7 @@ stopped_in_line x rest shown was left out0 out1 out2 past spelled at m lined of_
     }
 
 conclude : (r : Result Outcome SceneFault) (x rest : List ℕ) (shown : Shown) (was left out0 out1 out2 : Option (List ℕ)) (past : List (List ℕ)) (spelled : List ℕ) (at : Option Scene) → All HasNoNewline past → x ≡ (unlines past ++ spelled) ++ rest → Consumes was left (unlines past ++ spelled)
-    → Grew shown None at out0 out1 → (meaning_of (unlines past)).scene ≡ at → RanRest r (meaning_of x) (length (lines x)) shown at out1 out2 → ReadsFor r x (unlines past ++ spelled) spelled → RanOn r x shown was left out0 out2
+    → OutputGrewBy shown None at out0 out1 → (meaning_of (unlines past)).scene ≡ at → RanRest r (meaning_of x) (length (lines x)) shown at out1 out2 → ReadsFor r x (unlines past ++ spelled) spelled → RanOn r x shown was left out0 out2
 conclude (Ok o) x rest shown was left out0 out1 out2 past spelled at lined of_bytes took grew means here reads =
     let h = rest_on (Ok o) (meaning_of x) (length (lines x)) shown None at out0 out1 out2 grew here in
     (subst (Appends out0 out2) (sym h.1.is) h.1.wrote, h.0, subst (Consumes was left) (sym reads) took)

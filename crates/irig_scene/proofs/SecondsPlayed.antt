@@ -14,16 +14,16 @@ use Rattle.irig_plant.specs.WholeSecond.{times}
 use Rattle.irig_scene.specs.Scene.{Scene, scene, Play, play, unless_refused, log_text}
 use Rattle.irig_scene.specs.declared.stop.Stop.{Stop}
 use Rattle.irig_scene.specs.declared.stop.Stop.TheVariants.{Refused, Failed}
-use Rattle.irig_scene.specs.PlayerRuns.{IsStageAt, after_events, Grew, GrewPart, PlaysFor, Played}
+use Rattle.irig_scene.specs.PlayerRuns.{IsStageAt, after_events, OutputGrewBy, OutputGrewByPartOf, PlaysFor, Played}
 use Rattle.irig_log_text.specs.Text.{lines_text}
 use Rattle.irig_scene.proofs.PlayLaws.{LogGrows, log_keeps, grows_by_play, lines_grow}
 
 -- ---- the output
 
-pub nothing_grew : (shown : Shown) (a : Option Scene) (out : Option (List ℕ)) → Grew shown a a out out
+pub nothing_grew : (shown : Shown) (a : Option Scene) (out : Option (List ℕ)) → OutputGrewBy shown a a out out
 nothing_grew shown a out = record { text = []; more = sym (append-nil (log_text shown a)); wrote = Appends-nil out }
 
-pub grew_on : (shown : Shown) (a b c : Option Scene) (o0 o1 o2 : Option (List ℕ)) → Grew shown a b o0 o1 → Grew shown b c o1 o2 → Grew shown a c o0 o2
+pub grew_on : (shown : Shown) (a b c : Option Scene) (o0 o1 o2 : Option (List ℕ)) → OutputGrewBy shown a b o0 o1 → OutputGrewBy shown b c o1 o2 → OutputGrewBy shown a c o0 o2
 grew_on shown a b c o0 o1 o2 h k =
     record {
       text = h.text ++ k.text;
@@ -31,7 +31,7 @@ grew_on shown a b c o0 o1 o2 h k =
       wrote = Appends-trans o0 o1 o2 _ _ h.wrote k.wrote;
     }
 
-pub grew_then_part : (shown : Shown) (a b c : Option Scene) (o0 o1 o2 : Option (List ℕ)) → Grew shown a b o0 o1 → GrewPart shown b c o1 o2 → GrewPart shown a c o0 o2
+pub grew_then_part : (shown : Shown) (a b c : Option Scene) (o0 o1 o2 : Option (List ℕ)) → OutputGrewBy shown a b o0 o1 → OutputGrewByPartOf shown b c o1 o2 → OutputGrewByPartOf shown a c o0 o2
 grew_then_part shown a b c o0 o1 o2 h k =
     record {
       text = h.text ++ k.text;
@@ -44,7 +44,7 @@ grew_then_part shown a b c o0 o1 o2 h k =
       };
     }
 
-pub part_of_more : (shown : Shown) (a b c : Option Scene) (o0 o1 : Option (List ℕ)) (rest : List ℕ) → GrewPart shown a b o0 o1 → log_text shown c ≡ log_text shown b ++ rest → GrewPart shown a c o0 o1
+pub part_of_more : (shown : Shown) (a b c : Option Scene) (o0 o1 : Option (List ℕ)) (rest : List ℕ) → OutputGrewByPartOf shown a b o0 o1 → log_text shown c ≡ log_text shown b ++ rest → OutputGrewByPartOf shown a c o0 o1
 part_of_more shown a b c o0 o1 rest h e =
     record {
       text = h.text ++ rest;
@@ -114,7 +114,7 @@ plays_alike x a b shown p k o0 o1 e h =
     record {
       refused = ap (λ (q : Play). q.refusal) (sym e) ∙ h.refused;
       stands = subst (λ (q : Play). IsStageAt shown p (scene x.plan q.events)) e h.stands;
-      grew = subst (λ (q : Play). Grew shown (Some x) (Some (scene x.plan q.events)) o0 o1) e h.grew;
+      grew = subst (λ (q : Play). OutputGrewBy shown (Some x) (Some (scene x.plan q.events)) o0 o1) e h.grew;
     }
 
 -- and then others
@@ -126,17 +126,17 @@ then_plays x a b shown p q k o0 o1 o2 h l =
     record {
       refused = ap (λ (r : Play). r.refusal) (sym e) ∙ l.refused;
       stands = subst (λ (r : Play). IsStageAt shown q (scene x.plan r.events)) e l.stands;
-      grew = subst (λ (r : Play). Grew shown (Some x) (Some (scene x.plan r.events)) o0 o2) e
+      grew = subst (λ (r : Play). OutputGrewBy shown (Some x) (Some (scene x.plan r.events)) o0 o2) e
           (grew_on shown (Some x) (Some (after_events x a)) (Some (after_events (after_events x a) b)) o0 o1 o2 h.grew l.grew);
     }
 
 fails_on : {P : Type 0} {g : Ghosts P} (x : Scene) (a b rest : List Event) (shown : Shown) (p : Stage P g) (o0 o1 o2 : Option (List ℕ))
-    → PlaysFor x a shown p None o0 o1 → GrewPart shown (Some (after_events x a)) (Some (after_events (after_events x a) b)) o1 o2
-    → GrewPart shown (Some x) (Some (after_events x ((a ++ b) ++ rest))) o0 o2
+    → PlaysFor x a shown p None o0 o1 → OutputGrewByPartOf shown (Some (after_events x a)) (Some (after_events (after_events x a) b)) o1 o2
+    → OutputGrewByPartOf shown (Some x) (Some (after_events x ((a ++ b) ++ rest))) o0 o2
 fails_on x a b rest shown p o0 o1 o2 h l =
     let s = x.plan.setup in
     let part = grew_then_part shown (Some x) (Some (after_events x a)) (Some (after_events (after_events x a) b)) o0 o1 o2 h.grew l in
-    let here = subst (λ (r : Play). GrewPart shown (Some x) (Some (scene x.plan r.events)) o0 o2) (sym (plays_on s a b x.events h.refused)) part in
+    let here = subst (λ (r : Play). OutputGrewByPartOf shown (Some x) (Some (scene x.plan r.events)) o0 o2) (sym (plays_on s a b x.events h.refused)) part in
     let grown = grows_past s (a ++ b) rest x.events (play s (a ++ b) x.events).refusal refl in
     part_of_more shown (Some x) (Some (after_events x (a ++ b))) (Some (after_events x ((a ++ b) ++ rest))) o0 o2 (lines_text x.plan.names shown grown.more grown.told) here
     (lines_grow (after_events x (a ++ b)) (after_events x ((a ++ b) ++ rest)).events shown grown)
@@ -163,10 +163,10 @@ stops_at x i n es shown p q r o0 o1 o2 lt h l =
 
 second_fails : {P : Type 0} {g : Ghosts P} (x : Scene) (i n : ℕ) (es : List Event) (shown : Shown) (p : Stage P g) (o0 o1 o2 : Option (List ℕ)) → i < n
     → PlaysFor x (times i es) shown p None o0 o1
-    → GrewPart shown (Some (after_events x (times i es))) (Some (after_events (after_events x (times i es)) es)) o1 o2
-    → GrewPart shown (Some x) (Some (after_events x (times n es))) o0 o2
+    → OutputGrewByPartOf shown (Some (after_events x (times i es))) (Some (after_events (after_events x (times i es)) es)) o1 o2
+    → OutputGrewByPartOf shown (Some x) (Some (after_events x (times n es))) o0 o2
 second_fails x i n es shown p o0 o1 o2 lt h part =
-    subst (λ more. GrewPart shown (Some x) (Some (after_events x more)) o0 o2) (sym (times_left i n es lt))
+    subst (λ more. OutputGrewByPartOf shown (Some x) (Some (after_events x more)) o0 o2) (sym (times_left i n es lt))
     (fails_on x (times i es) es (times (n - (i + 1)) es) shown p o0 o1 o2 h part)
 
 -- a second that ends the events

@@ -12,7 +12,7 @@ use Rattle.irig_scene.specs.declared.stop.Stop.TheVariants as stop
 use Rattle.irig_faults.specs.declared.refusal.LineFault.{LineFault}
 use Rattle.irig_faults.specs.declared.refusal.LineFault.TheVariants as line_fault
 
--- the input failed, or memory was wanted
+-- the input failed, or there was no memory
 abbrev pub IsFaultOfReading : SceneFault → Type 0
 IsFaultOfReading (Refused line number) = ⊥
 IsFaultOfReading Read = ⊤

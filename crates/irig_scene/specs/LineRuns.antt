@@ -22,12 +22,12 @@ use Rattle.irig_scene.specs.Run.{IsDone, IsRefused}
 use Rattle.irig_device.specs.Watched.{AppendsPart}
 use Rattle.irig_scenario.specs.declared.event_line.Command.{Command}
 use Rattle.irig_log_text.specs.declared.shown.Shown.{Shown}
-use Rattle.irig_scene.specs.PlayerRuns.{IsStageAt, after_events, Grew, GrewPart}
+use Rattle.irig_scene.specs.PlayerRuns.{IsStageAt, after_events, OutputGrewBy, OutputGrewByPartOf}
 use Rattle.irig_plant.specs.WholeSecond.{second_of}
 use Rattle.irig_scenario.specs.PlantLine.{Plan, plan_in_line}
 use Rattle.irig_scene.specs.Scene.{Scene, scene, play, events_of, Step, step, step_of_command, Meaning, meaning_from, meaning_at_end, log_text, text_of}
 
--- a player is where a scene leaves it
+-- a player stands as a scene leaves it
 pub record IsPlayerAt {P : Type 0} {g : Ghosts P} (shown : Shown) (player : Player P g)
     (x : Scene) : Type 0 where
   pub stage : IsStageAt shown player.stage x
@@ -42,78 +42,78 @@ IsAt shown (Some player) None = ⊥
 IsAt shown (Some player) (Some x) = IsPlayerAt shown player x
 
 -- a player of this scene did what a line asks for
-pub record ActsFor {P : Type 0} {g : Ghosts P} (x : Scene) (events : List Event) (shown : Shown)
+pub record RanCommandTo {P : Type 0} {g : Ghosts P} (x : Scene) (events : List Event) (shown : Shown)
     (player : Player P g) (refusal : Option Refusal) (old new : Bytes) : Type 0 where
   pub refused : (play x.plan.setup events x.events).refusal ≡ refusal
   pub stands : IsPlayerAt shown player (after_events x events)
-  pub grew : Grew shown (Some x) (Some (after_events x events)) old new
+  pub grew : OutputGrewBy shown (Some x) (Some (after_events x events)) old new
 
 -- it did all of that, or up to a refusal, or something failed in the midst of it
-abbrev pub Acted : {P : Type 0} {g : Ghosts P} → Result (Unit {0}) Stop → Scene → List Event
+abbrev pub RanCommand : {P : Type 0} {g : Ghosts P} → Result (Unit {0}) Stop → Scene → List Event
     → Shown → Player P g → Bytes → Bytes → Type 0
-Acted (Ok done) x events shown player old new = ActsFor x events shown player None old new
-Acted (Err (stop.Refused k)) x events shown player old new =
-    ActsFor x events shown player (Some k) old new
-Acted (Err (stop.Failed f)) x events shown player old new =
-    GrewPart shown (Some x) (Some (after_events x events)) old new
+RanCommand (Ok done) x events shown player old new = RanCommandTo x events shown player None old new
+RanCommand (Err (stop.Refused k)) x events shown player old new =
+    RanCommandTo x events shown player (Some k) old new
+RanCommand (Err (stop.Failed f)) x events shown player old new =
+    OutputGrewByPartOf shown (Some x) (Some (after_events x events)) old new
 
 -- what a line asks for, whatever scene the player is of
-abbrev pub Acts : {P : Type 0} {g : Ghosts P} → Player P g → Command → Shown
+abbrev pub RunsCommand : {P : Type 0} {g : Ghosts P} → Player P g → Command → Shown
     → Result (Unit {0}) Stop → Player P g → Bytes → Bytes → Type 0
-Acts was command shown result is old new =
+RunsCommand was command shown result is old new =
     (x : Scene) → IsPlayerAt shown was x
-    → Acted result x (events_of x.plan command) shown is old new
+    → RanCommand result x (events_of x.plan command) shown is old new
 
 -- ---- lines
 
 -- a line was taken that does this: its refusal, what stands after it, and what was written
-pub record TakesFor {P : Type 0} {g : Ghosts P} (step : Step) (shown : Shown) (from : Option Scene)
+pub record ProcessedTo {P : Type 0} {g : Ghosts P} (step : Step) (shown : Shown) (from : Option Scene)
     (player : Option (Player P g)) (refusal : Option Refusal) (old new : Bytes) : Type 0 where
   pub refused : step.refusal ≡ refusal
   pub stands : IsAt shown player step.scene
-  pub grew : Grew shown from step.scene old new
+  pub grew : OutputGrewBy shown from step.scene old new
 
 -- it was taken, or refused, or something failed in the midst of it
-abbrev pub Took : {P : Type 0} {g : Ghosts P} → Result (Unit {0}) Stop → Step → Shown
+abbrev pub ProcessedLine : {P : Type 0} {g : Ghosts P} → Result (Unit {0}) Stop → Step → Shown
     → Option Scene → Option (Player P g) → Bytes → Bytes → Type 0
-Took (Ok done) step shown from player old new = TakesFor step shown from player None old new
-Took (Err (stop.Refused k)) step shown from player old new =
-    TakesFor step shown from player (Some k) old new
-Took (Err (stop.Failed f)) step shown from player old new =
-    GrewPart shown from step.scene old new
+ProcessedLine (Ok done) step shown from player old new = ProcessedTo step shown from player None old new
+ProcessedLine (Err (stop.Refused k)) step shown from player old new =
+    ProcessedTo step shown from player (Some k) old new
+ProcessedLine (Err (stop.Failed f)) step shown from player old new =
+    OutputGrewByPartOf shown from step.scene old new
 
 -- line n, whatever scene the player is of
-abbrev pub Takes : {P : Type 0} {g : Ghosts P} → Option (Player P g) → ℕ → List ℕ → Shown
+abbrev pub ProcessesLine : {P : Type 0} {g : Ghosts P} → Option (Player P g) → ℕ → List ℕ → Shown
     → Result (Unit {0}) Stop → Option (Player P g) → Bytes → Bytes → Type 0
-Takes was n line shown result is old new =
-    (at : Option Scene) → IsAt shown was at → Took result (step n at line) shown at is old new
+ProcessesLine was n line shown result is old new =
+    (at : Option Scene) → IsAt shown was at → ProcessedLine result (step n at line) shown at is old new
 
 -- a line that isn't skipped, once there is a plant
-abbrev pub Follows : {P : Type 0} {g : Ghosts P} → Player P g → List ℕ → Shown
+abbrev pub ProcessesEventLine : {P : Type 0} {g : Ghosts P} → Player P g → List ℕ → Shown
     → Result (Unit {0}) Stop → Player P g → Bytes → Bytes → Type 0
-Follows was line shown result is old new =
+ProcessesEventLine was line shown result is old new =
     (x : Scene) → IsPlayerAt shown was x
-    → Took result (step_of_command x (command_in_line x.plan.names line)) shown
+    → ProcessedLine result (step_of_command x (command_in_line x.plan.names line)) shown
     (Some x) (Some is) old new
 
 -- the plant line gives a player, if there is memory
-abbrev pub Begins : {P : Type 0} {g : Ghosts P} → Shown → List ℕ → Result (Player P g) Stop
+abbrev pub MakesPlayer : {P : Type 0} {g : Ghosts P} → Shown → List ℕ → Result (Player P g) Stop
     → Type 0
-Begins shown line (Ok player) =
+MakesPlayer shown line (Ok player) =
     (plan : Plan) × (plan_in_line line ≡ Ok plan) × IsPlayerAt shown player (scene plan [])
-Begins shown line (Err (stop.Refused k)) = plan_in_line line ≡ Err k
-Begins shown line (Err (stop.Failed f)) = f ≡ failure.Memory
+MakesPlayer shown line (Err (stop.Refused k)) = plan_in_line line ≡ Err k
+MakesPlayer shown line (Err (stop.Failed f)) = f ≡ failure.Memory
 
 -- ---- the rest of a run
 
--- all that was still to be written, where a scene's log stands already
+-- all that was still to be written, if a scene's log stands already
 pub record WroteRest (shown : Shown) (from : Option Scene) (m : Meaning) (old new : Bytes)
     : Type 0 where
   pub rest : List ℕ
   pub is : text_of shown m ≡ log_text shown from ++ rest
   pub wrote : Appends old new rest
 
--- a front of it
+-- a prefix of it
 pub record WrotePart (shown : Shown) (from : Option Scene) (m : Meaning) (old new : Bytes)
     : Type 0 where
   pub rest : List ℕ
@@ -156,7 +156,7 @@ pub record EndsRun (fault : SceneFault) (n : ℕ) (line : List ℕ) (shown : Sho
 abbrev pub RanLine : {P : Type 0} {g : Ghosts P} → Result (Unit {0}) SceneFault → ℕ → List ℕ
     → Shown → Option Scene → Option (Player P g) → Bytes → Bytes → Type 0
 RanLine (Ok done) n line shown from player old new =
-    TakesFor (step n from line) shown from player None old new
+    ProcessedTo (step n from line) shown from player None old new
 RanLine (Err fault) n line shown from player old new = EndsRun fault n line shown from old new
 
 -- whatever scene the player is of
@@ -166,19 +166,19 @@ RunsLine was n line shown result is old new =
     (at : Option Scene) → IsAt shown was at → RanLine result n line shown at is old new
 
 -- the input ended before line n
-abbrev pub Finishes : {P : Type 0} {g : Ghosts P} → Option (Player P g) → ℕ → Shown
+abbrev pub WritesVerdict : {P : Type 0} {g : Ghosts P} → Option (Player P g) → ℕ → Shown
     → Result Outcome SceneFault → Bytes → Bytes → Type 0
-Finishes player n shown answer old new =
+WritesVerdict player n shown answer old new =
     (at : Option Scene) → IsAt shown player at
     → RanRest answer (meaning_at_end n at) (n - 1) shown at old new
 
--- the input ended with line n, or before it where the line is empty
+-- the input ended with line n, or before it if the line is empty
 abbrev pub RunsLast : {P : Type 0} {g : Ghosts P} → Option (Player P g) → ℕ → List ℕ → Shown
     → Result Outcome SceneFault → Bytes → Bytes → Type 0
 RunsLast player n line shown answer old new =
     (at : Option Scene) → IsAt shown player at
     → RanRest answer (meaning_from (lines line) n at) (n - 1 + length (lines line)) shown at old new
 
--- the refusal of line n where it is too long
+-- the refusal of line n if it is too long
 abbrev pub too_long : ℕ → Refusal
 too_long n = if nat_lt max_lines n then TooManyLines else TooLong

@@ -54,7 +54,7 @@ VouchesForItself x written =
     (above : List (List ℕ)) → whole_lines written ≡ above ++ codes "premises kept" ∷ []
     → IsTrueLog x above
 
--- a fact of what was written, where the writer tells its bytes
+-- a fact of what was written, if the writer tells its bytes
 abbrev pub OfWritten : Bytes → Bytes → (List ℕ → Type 0) → Type 0
 OfWritten (Some old) (Some new) fact = (written : List ℕ) → new ≡ old ++ written → fact written
 OfWritten (Some old) None fact = ⊤

@@ -1,4 +1,4 @@
--- A plant that plays events: where it stands then, and by how much the output grew.
+-- A plant that plays events: what stands after it, and by how much the output grew.
 use Rattle.std.specs.Prelude.{◌≡◌, ◌≤◌, ℕ, ◌+◌, List, [], ◌∷◌, ◌++◌, length, map, string_bytes, Option, Some, None, Result, Ok, Err}
 use Rattle.std.specs.Io.KnownBytes.{Appends}
 use Rattle.irig_port.specs.declared.port.Port.{Ghosts}
@@ -16,9 +16,10 @@ use Rattle.irig_device.specs.Watched.{AppendsPart}
 use Rattle.irig_log_text.specs.declared.shown.Shown.{Shown}
 use Rattle.irig_scene.specs.Scene.{Scene, scene, play, log_text}
 
--- all that the plant logged was shown, and it keeps what ports told where that is shown too
-abbrev pub past : Shown → Scene → PlantHistory
-past shown x =
+-- the history of a plant: all that it logged was shown, and it keeps what ports told if that is
+-- shown too
+abbrev pub history_shown : Shown → Scene → PlantHistory
+history_shown shown x =
     record {
       setup = x.plan.setup;
       events = x.events;
@@ -26,20 +27,20 @@ past shown x =
       keeps_told = shown.ports;
     }
 
--- a stage is where a scene leaves it
+-- a stage stands as a scene leaves it
 pub record IsStageAt {P : Type 0} {g : Ghosts P} (shown : Shown) (stage : Stage P g) (x : Scene)
     : Type 0 where
-  pub plant : HasPlantHistory stage.plant (past shown x)
+  pub plant : HasPlantHistory stage.plant (history_shown shown x)
   pub names : map string_bytes stage.names.keys ≡ x.plan.names
 
 -- the output grew by what the log of one scene has more than that of another
-pub record Grew (shown : Shown) (from to : Option Scene) (old new : Bytes) : Type 0 where
+pub record OutputGrewBy (shown : Shown) (from to : Option Scene) (old new : Bytes) : Type 0 where
   pub text : List ℕ
   pub more : log_text shown to ≡ log_text shown from ++ text
   pub wrote : Appends old new text
 
--- it grew by a front of that
-pub record GrewPart (shown : Shown) (from to : Option Scene) (old new : Bytes) : Type 0 where
+-- it grew by a prefix of that
+pub record OutputGrewByPartOf (shown : Shown) (from to : Option Scene) (old new : Bytes) : Type 0 where
   pub text : List ℕ
   pub more : log_text shown to ≡ log_text shown from ++ text
   pub wrote : AppendsPart old new text
@@ -54,24 +55,24 @@ ticks_among (_ ∷ es) = ticks_among es
 abbrev pub after_events : Scene → List Event → Scene
 after_events x events = scene x.plan (play x.plan.setup events x.events).events
 
--- the past of a plant that has yet to show what these events gave
-abbrev pub past_with_log : Shown → Scene → List Event → PlantHistory
-past_with_log shown x events =
-    record (past shown x) { events = (play x.plan.setup events x.events).events }
+-- the history of a plant that has yet to show what these events gave
+abbrev pub history_with_log : Shown → Scene → List Event → PlantHistory
+history_with_log shown x events =
+    record (history_shown shown x) { events = (play x.plan.setup events x.events).events }
 
 -- a plant of this scene ran events, up to a refusal if there is one; no more entries of its log
 -- stand then than there are ticks among the events
 pub record RunsFor {P : Type 0} {g : Ghosts P} (shown : Shown) (x : Scene) (events : List Event)
     (plant : Plant P g) (refusal : Option Refusal) : Type 0 where
   pub refused : (play x.plan.setup events x.events).refusal ≡ refusal
-  pub stands : HasPlantHistory plant (past_with_log shown x events)
+  pub stands : HasPlantHistory plant (history_with_log shown x events)
   pub few : length plant.log.items ≤ ticks_among events
 
 -- whatever scene it is of
 abbrev pub Runs : {P : Type 0} {g : Ghosts P} → Plant P g → List Event → Plant P g → Option Refusal
     → Type 0
 Runs was events is refusal =
-    (shown : Shown) (x : Scene) → HasPlantHistory was (past shown x)
+    (shown : Shown) (x : Scene) → HasPlantHistory was (history_shown shown x)
     → RunsFor shown x events is refusal
 
 -- a stage of this scene played events, up to a refusal if there is one, and their entries were
@@ -80,7 +81,7 @@ pub record PlaysFor {P : Type 0} {g : Ghosts P} (x : Scene) (events : List Event
     (stage : Stage P g) (refusal : Option Refusal) (old new : Bytes) : Type 0 where
   pub refused : (play x.plan.setup events x.events).refusal ≡ refusal
   pub stands : IsStageAt shown stage (after_events x events)
-  pub grew : Grew shown (Some x) (Some (after_events x events)) old new
+  pub grew : OutputGrewBy shown (Some x) (Some (after_events x events)) old new
 
 -- it played all of them, or up to a refusal, or something failed in the midst of that
 abbrev pub Played : {P : Type 0} {g : Ghosts P} → Result (Unit {0}) Stop → Scene → List Event
@@ -89,7 +90,7 @@ Played (Ok done) x events shown stage old new = PlaysFor x events shown stage No
 Played (Err (Refused k)) x events shown stage old new =
     PlaysFor x events shown stage (Some k) old new
 Played (Err (Failed failure)) x events shown stage old new =
-    GrewPart shown (Some x) (Some (after_events x events)) old new
+    OutputGrewByPartOf shown (Some x) (Some (after_events x events)) old new
 
 -- whatever scene it is of
 abbrev pub Plays : {P : Type 0} {g : Ghosts P} → Stage P g → List Event → Shown

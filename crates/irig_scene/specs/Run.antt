@@ -60,7 +60,7 @@ pub record StoppedInLine (x : List ℕ) (shown : Shown) (was left old new : Byte
   pub more : List ℕ
   pub wrote : Appends old new (log_text shown (meaning_of (unlines whole)).scene ++ more)
 
--- what is read of the bytes x: all of them, or where a line is refused what shows that
+-- what is read of the bytes x: all of them, or, if a line is refused, what shows that
 abbrev pub read_of : Option RefusedLine → List ℕ → List ℕ
 read_of None x = x
 read_of (Some k) x = shown_by k.line x
@@ -81,12 +81,12 @@ RanOn (Err Write) x shown was left old new =
 RanOn (Err Memory) x shown was left old new =
     AppendsPart old new (output_shown x shown) × StoppedInLine x shown was left old new
 
--- the bytes are those that the input had left, where it tells them
+-- the bytes are those that the input had left, if it tells them
 abbrev pub AreBytesOf : Bytes → List ℕ → Type 0
 AreBytesOf None x = ⊤
 AreBytesOf (Some known) x = x ≡ known
 
--- a run of some bytes: those of the input, and where it does not tell them, some for which this is
+-- a run of some bytes: those of the input, and if it does not tell them, some for which this is
 -- the answer
 pub record RanShown (r : Result Outcome SceneFault) (shown : Shown) (was left old new : Bytes)
     : Type 0 where
@@ -94,6 +94,6 @@ pub record RanShown (r : Result Outcome SceneFault) (shown : Shown) (was left ol
   pub of_input : AreBytesOf was bytes
   pub ran : RanOn r bytes shown was left old new
 
--- so of entries alone, the silent ones too where `all`
+-- so of entries alone, the silent ones too if `all`
 abbrev pub Ran : Result Outcome SceneFault → Bool → Bytes → Bytes → Bytes → Bytes → Type 0
 Ran r all was left old new = RanShown r (entries_alone all) was left old new

@@ -46,7 +46,7 @@ abbrev pub unless_refused : Option Refusal → List Event → Play → Play
 unless_refused None ev rest = rest
 unless_refused (Some k) ev rest = play_by ev (Some k)
 
--- the refusal of an event; want of memory is no refusal of a line
+-- the refusal of an event; that there is no memory is no refusal of a line
 abbrev pub refusal_as : PlantFault → Option Refusal
 refusal_as plant.NoSuchReader = Some NoSuchReader
 refusal_as plant.NoSuchGenerator = Some NoSuchGenerator
@@ -147,7 +147,7 @@ meaning_of x = meaning_from (lines x) 1 None
 
 -- ---- the text
 
--- the log of a scene, and what its ports told where that is shown
+-- the log of a scene, and what its ports told if that is shown
 abbrev pub log_text : Shown → Option Scene → List ℕ
 log_text shown None = []
 log_text shown (Some x) =
@@ -180,6 +180,6 @@ text_of shown m = log_text shown m.scene ++ last_text m
 abbrev pub output_shown : List ℕ → Shown → List ℕ
 output_shown x shown = text_of shown (meaning_of x)
 
--- the same of entries alone, the silent ones too where `all`
+-- the same of entries alone, the silent ones too if `all`
 abbrev pub output : List ℕ → Bool → List ℕ
 output x all = output_shown x (entries_alone all)

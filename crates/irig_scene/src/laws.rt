@@ -20,15 +20,15 @@ ghost use Rattle.irig_scene.specs.LogLines.{TellsTruth, VouchesForItself};
 
 use irig_plant::{Entry, ToldEntry};
 
-/// Where the premises hold for all readers and ticks of the events that the bytes give, each entry
-/// of their log announces the true second of its edge, or none.
+/// If the premises hold for all readers and ticks of the events that the bytes give, each entry of
+/// their log announces the true second of its edge, or none.
 pub fn entries_are_true()
     ensures { (x : List ℕ) (scene : Scene) → (meaning_of x).scene ≡ Some scene
         → IsKept scene.plan.setup scene.events
         → All (IsTruthful scene.plan.setup.times) (log_of scene.plan.setup scene.events) }
 {}
 
-/// The headline over bytes, and that a log vouches for itself: of each front of the log that some
+/// The headline over bytes, and that a log vouches for itself: of each prefix of the log that some
 /// bytes give, however early it was cut off.
 pub fn logs_are_true()
     ensures truth { (x : List ℕ) (all : Bool) (written rest : List ℕ)

@@ -6,11 +6,11 @@ ghost use Rattle.irig_scene.specs.Faults.{IsFaultOfReading, is_write_fault, says
 ghost use Rattle.irig_device.specs.Lines.{GivesLine, GivesPart, HasNoNewline};
 ghost use Rattle.irig_scene.specs.Lines.{is_blank, limit_of, max_line, max_lines};
 ghost use Rattle.irig_scene.specs.LineRuns.{
-  Begins,
-  Takes,
-  Follows,
+  MakesPlayer,
+  ProcessesLine,
+  ProcessesEventLine,
   RunsLine,
-  Finishes,
+  WritesVerdict,
   RunsLast,
   WroteRefusal,
   too_long,
@@ -75,16 +75,16 @@ pub(crate) fn run_line<P: Port, W: Write>(
     ensures number { IfOk result (λ done. number ≤ max_lines) }
     ensures note { has_failed output.new ≡ (has_failed output.old || says_write result) }
 {
-    match take_line(player, number, line, log, output) {
+    match process_line(player, number, line, log, output) {
         Ok(()) => Ok(()),
         Err(Stop::Refused(refusal)) => Err(refuse(number, refusal, log, output)),
         Err(Stop::Failed(failure)) => Err(SceneFault::from(failure)),
     }
 }
 
-// Takes a line that isn't too long, and writes what it gives.
+// Does what a line asks for that isn't too long, and writes what it gives.
 #[tactic(auto, unfolding(crate::specs::Scene::step))]
-fn take_line<P: Port, W: Write>(
+fn process_line<P: Port, W: Write>(
     player: &mut Option<Player<P>>,
     number: u64,
     line: &[u8],
@@ -92,7 +92,7 @@ fn take_line<P: Port, W: Write>(
     output: &mut Watched<W>,
 ) -> Result<(), Stop>
     requires { length line.now ≤ max_line }
-    ensures takes { Takes player.old number line.now log.shown result player.new
+    ensures processes { ProcessesLine player.old number line.now log.shown result player.new
         (W.contents (device_of output.old)) (W.contents (device_of output.new)) }
     ensures number { IfOk result (λ done. number ≤ max_lines) }
     ensures note { has_failed output.new ≡ (has_failed output.old || stopped_write result) }
@@ -104,10 +104,10 @@ fn take_line<P: Port, W: Write>(
         return Ok(());
     }
     match player {
-        Some(player) => follow(player, line, log, output),
+        Some(player) => process_event_line(player, line, log, output),
         None => {
-            let begun = begin(line, log)?;
-            *player = Some(begun);
+            let made = make_player(line, log)?;
+            *player = Some(made);
             Ok(())
         }
     }
@@ -121,26 +121,26 @@ fn is_blank(line: &[u8]) -> bool
 }
 
 // The player that a plant line gives.
-fn begin<P: Port>(line: &[u8], log: LogWriter) -> Result<Player<P>, Stop>
-    ensures { Begins log.shown line.now result }
+fn make_player<P: Port>(line: &[u8], log: LogWriter) -> Result<Player<P>, Stop>
+    ensures { MakesPlayer log.shown line.now result }
 {
     let plant = plant_of_line(log.alloc, line)?;
     Ok(Player::new(plant, log)?)
 }
 
 // Does what a further line asks for, and writes what the readers said.
-fn follow<P: Port, W: Write>(
+fn process_event_line<P: Port, W: Write>(
     player: &mut Player<P>,
     line: &[u8],
     log: LogWriter,
     output: &mut Watched<W>,
 ) -> Result<(), Stop>
-    ensures follows { Follows player.old line.now log.shown result player.new
+    ensures processes { ProcessesEventLine player.old line.now log.shown result player.new
         (W.contents (device_of output.old)) (W.contents (device_of output.new)) }
     ensures note { has_failed output.new ≡ (has_failed output.old || stopped_write result) }
 {
     let command = event_of_line(log.alloc, player.names(), line)?;
-    player.act(command, log, output)
+    player.run_command(command, log, output)
 }
 
 /// Writes the refusal of a line, and answers it.
@@ -174,7 +174,7 @@ pub(crate) fn too_long(number: u64) -> Refusal
     }
 }
 
-/// Takes the line with which the input ended, if it has any bytes, and writes the last line of the
+/// Runs the line with which the input ended, if it has any bytes, and writes the last line of the
 /// text.
 pub(crate) fn run_last<P: Port, W: Write>(
     player: &mut Option<Player<P>>,
@@ -192,21 +192,21 @@ pub(crate) fn run_last<P: Port, W: Write>(
     ensures note { has_failed output.new ≡ (has_failed output.old || says_write result) }
 {
     if line.is_empty() {
-        return finish(player, number, log, output);
+        return write_verdict(player, number, log, output);
     }
     run_line(player, number, line, log, output)?;
-    finish(player, number + 1, log, output)
+    write_verdict(player, number + 1, log, output)
 }
 
-// Writes the last line of the text, where the input ended before this line.
-fn finish<P: Port, W: Write>(
+// Writes the last line of the text, if the input ended before this line.
+fn write_verdict<P: Port, W: Write>(
     player: &Option<Player<P>>,
     number: u64,
     log: LogWriter,
     output: &mut Watched<W>,
 ) -> Result<Outcome, SceneFault>
     requires number { 1 ≤ number }
-    ensures finishes { Finishes player.now number log.shown result
+    ensures writes { WritesVerdict player.now number log.shown result
         (W.contents (device_of output.old)) (W.contents (device_of output.new)) }
     ensures note { has_failed output.new ≡ (has_failed output.old || says_write result) }
 {

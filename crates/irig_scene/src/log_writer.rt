@@ -41,7 +41,7 @@ pub(crate) struct LogWriter {
 }
 
 impl LogWriter {
-    /// Writes the lines of log entries, and of what ports told where that is shown.
+    /// Writes the lines of log entries, and of what ports told if that is shown.
     pub(crate) fn write_log<W: Write>(
         self,
         text: &mut LogText,

@@ -31,7 +31,7 @@ impl<P: Port> Player<P> {
     ghost use Rattle.irig_log_text.specs.declared.shown.Shown.{Shown};
     ghost use Rattle.irig_scenario.specs.PlantLine.{plan_of};
     ghost use Rattle.irig_scene.specs.Scene.{Scene as SceneOf, scene, audit_in};
-    ghost use Rattle.irig_scene.specs.LineRuns.{IsPlayerAt, Acts};
+    ghost use Rattle.irig_scene.specs.LineRuns.{IsPlayerAt, RunsCommand};
 
     /// The player of a plant to which nothing has happened, for what is to be shown.
     pub(crate) fn new(line: BuiltPlant, log: LogWriter) -> Result<Player<P>, Failure>
@@ -92,13 +92,13 @@ impl<P: Port> Player<P> {
     }
 
     /// Does what a line asks for, up to an event that is refused, and writes what the readers said.
-    pub(crate) fn act<W: Write>(
+    pub(crate) fn run_command<W: Write>(
         &mut self,
         command: Command,
         log: LogWriter,
         output: &mut Watched<W>,
     ) -> Result<(), Stop>
-        ensures acts { Acts self.old command log.shown result self.new
+        ensures runs { RunsCommand self.old command log.shown result self.new
             (W.contents (device_of output.old)) (W.contents (device_of output.new)) }
         ensures note { has_failed output.new ≡ (has_failed output.old || stopped_write result) }
     {

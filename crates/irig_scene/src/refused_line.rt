@@ -8,8 +8,8 @@ use std::alloc::Global;
 /// A line that was refused, and where the plant then stood.
 #[derive(Drop)]
 pub struct RefusedLine {
-    /// The bytes of the line, as far as they were read; of a line that isn't there, where the plant
-    /// line is missing, those of the last one, if that has no newline.
+    /// The bytes of the refused line, as far as they were read. If the input ended without a plant
+    /// line: those of the last line, if it has no newline.
     pub line: Vec<u8>,
     /// The readers' names, in order; none before the plant line.
     pub names: IndexSet<String>,

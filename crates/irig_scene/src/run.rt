@@ -21,8 +21,8 @@ use std::io::{BufRead, Write};
 /// Runs the lines of the input, and writes what each gives before the next is read.
 ///
 /// With `all` the silent entries of the log are written too. Neither device may have failed before.
-/// `Refused` where a line is refused, or the input ends before the plant line; `Read` and `Write`
-/// where the input or the output failed; `Memory` where there was none. What was written until then
+/// `Refused` if a line is refused, or the input ends before the plant line; `Read` if the input
+/// failed, `Write` if the output did; `Memory` if there was none. What was written until then
 /// stands. A writer that holds bytes back is the caller's to flush.
 pub fn run_scene<R: BufRead, W: Write>(
     alloc: Global,
@@ -59,7 +59,7 @@ pub fn run_scene_over<P: Port, R: BufRead, W: Write>(
 
 /// What [`run_scene`] does, and with `ports` it is written after each tick what its ports told.
 ///
-/// Where a line is refused, `refused` is then what explains it, and else it is left as it was.
+/// If a line is refused, `refused` is then what explains it; else it is left as it was.
 pub fn run_scene_shown<R: BufRead, W: Write>(
     alloc: Global,
     input: &mut Watched<R>,

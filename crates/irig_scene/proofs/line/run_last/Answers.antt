@@ -6,7 +6,7 @@ use Rattle.irig_scene.proofs.line.run_last.Goals as goal
 
 pub returns-then-is_empty-clause-runs : goal.returns-then-is_empty-clause-runs
 returns-then-is_empty-clause-runs g c = λ at stands.
-    last_empty _ _ _ _ at _ _ (nil_from_length _ (search rules)) (c.finish.ensures.finishes at stands)
+    last_empty _ _ _ _ at _ _ (nil_from_length _ (search rules)) (c.write_verdict.ensures.writes at stands)
 
 pub returns-in_err-run_line-clause-runs : goal.returns-in_err-run_line-clause-runs
 returns-in_err-run_line-clause-runs g c =
@@ -16,4 +16,4 @@ returns-in_err-run_line-clause-runs g c =
 pub returns-clause-runs : goal.returns-clause-runs
 returns-clause-runs g c = λ at stands.
     let took = c.in_ok-run_line.ensures.runs at stands in
-    last_goes _ _ _ _ at _ _ _ _ c.requires.number (search rules) c.requires.whole took (c.finish-2.ensures.finishes _ took.stands)
+    last_goes _ _ _ _ at _ _ _ _ c.requires.number (search rules) c.requires.whole took (c.write_verdict-2.ensures.writes _ took.stands)

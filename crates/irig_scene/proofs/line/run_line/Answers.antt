@@ -3,8 +3,8 @@ use Rattle.irig_scene.proofs.line.run_line.Goals as goal
 
 pub returns-in-Err-Refused-clause-runs : goal.returns-in-Err-Refused-clause-runs
 returns-in-Err-Refused-clause-runs g c = λ at stands.
-    line_stops _ _ _ _ _ at _ _ _ _ _ c.in-Err-Refused.field-0-is (c.in-Err-Refused.ensures.takes at stands) c.refuse.ensures.wrote
+    line_stops _ _ _ _ _ at _ _ _ _ _ c.in-Err-Refused.field-0-is (c.in-Err-Refused.ensures.processes at stands) c.refuse.ensures.wrote
 
 pub returns-in-Err-Failed-clause-runs : goal.returns-in-Err-Failed-clause-runs
 returns-in-Err-Failed-clause-runs g c = λ at stands.
-    rw c.from.ensures (line_fails _ _ _ _ _ at _ _ _ c.in-Err-Failed.field-0-is (c.in-Err-Failed.ensures.takes at stands))
+    rw c.from.ensures (line_fails _ _ _ _ _ at _ _ _ c.in-Err-Failed.field-0-is (c.in-Err-Failed.ensures.processes at stands))
