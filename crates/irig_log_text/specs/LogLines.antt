@@ -4,7 +4,7 @@ use Rattle.std.specs.Prelude.{◌≡◌, ◌≢◌, ℕ, ◌^◌, ◌<◌, ◌==
 use Rattle.std.specs.Fmt.{decimal}
 use Rattle.irig_log_text.specs.Text.{name_at}
 
--- a byte in front of the first line, if there is a line
+-- a byte before the first line, if there is a line
 abbrev pub before_first : ℕ → List (List ℕ) → List (List ℕ)
 before_first b [] = []
 before_first b (l ∷ ls) = (b ∷ l) ∷ ls

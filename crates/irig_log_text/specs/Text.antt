@@ -1,6 +1,7 @@
 -- The text of a log, and the last line of a run.
 -- Source: docs/OUTPUT.md.
-use Rattle.std.specs.Prelude.{ℕ, Bool, false, not, ◌||◌, if◌then◌else◌, List, [], ◌∷◌, ◌++◌, filter, codes, slice_get, unwrap_or, Option, Some, None, is_some}
+use Rattle.std.specs.Prelude.{ℕ, Bool, false, not, ◌||◌, if◌then◌else◌, List, [], ◌∷◌, ◌++◌, filter, codes, map, slice_get, unwrap_or, Option, Some, None, is_some, String, string_bytes}
+use Rattle.std.specs.declared.alloc.Global.{Global}
 use Rattle.std.specs.List.{flat_map}
 use Rattle.std.specs.Fmt.{decimal}
 use Rattle.irig_time.specs.declared.second.UtcSecond.{UtcSecond}
@@ -25,6 +26,10 @@ use Rattle.irig_plant.specs.declared.audit.Audit.TheVariants.{Kept, Broken, Fals
 use Rattle.irig_faults.specs.declared.refusal.Refusal.{Refusal}
 use Rattle.irig_faults.specs.Refusals.{number_of, name_of}
 use Rattle.irig_log_text.specs.declared.shown.Shown.{Shown}
+
+-- the texts of some strings, as irig_forms has them, on which this crate does not stand
+abbrev pub texts_of : List (String Global) → List (List ℕ)
+texts_of strings = map string_bytes strings
 
 -- ---- the words of an entry
 
@@ -69,15 +74,15 @@ unfoldable pub entry_text : List (List ℕ) → Entry → List ℕ
 entry_text names entry =
     decimal entry.edge ++ (codes " " ++ (name_at names entry.reader ++ report_text entry.report))
 
--- a line for each entry with an announcement, or for each entry where all are wanted
+-- a line for each entry with an announcement, or for each entry if all are shown
 unfoldable pub entries_text : List (List ℕ) → Bool → List Entry → List ℕ
 entries_text names all entries =
     flat_map (entry_text names) (filter (λ entry. all || is_some entry.report.announce) entries)
 
 -- ---- what ports told
 
--- a claim: as its second where that is not the true one, else as its mark where that is not, else
--- as right
+-- a claim: as its second if that is not the true one, else as its mark if that is not, else as
+-- right
 abbrev pub claim_word : Option Claim → Claim → List ℕ
 claim_word None claim = second_text claim.at
 claim_word (Some truth) claim =
@@ -101,7 +106,7 @@ port_line names entry told =
     codes " " ++ (decimal entry.edge ++ (codes " " ++ (name_at names entry.reader
     ++ (words_text told.truth (ports_of told.told told.redundancy) ++ codes "\n"))))
 
--- of a tick the line of its entry, where it has one, and then that of its ports
+-- of a tick the line of its entry, if it has one, and then that of its ports
 abbrev pub tick_text : List (List ℕ) → Bool → Entry → ToldEntry → List ℕ
 tick_text names all entry told = entries_text names all (entry ∷ []) ++ port_line names entry told
 
@@ -112,11 +117,11 @@ ticks_text names all (entry ∷ entries) [] = []
 ticks_text names all (entry ∷ entries) (told ∷ tolds) =
     tick_text names all entry told ++ ticks_text names all entries tolds
 
--- entries alone, the silent ones too where `all`
+-- entries alone, the silent ones too if `all`
 abbrev pub entries_alone : Bool → Shown
 entries_alone all = record { all = all; ports = false }
 
--- the lines of entries, and of what ports told beside them where that is shown
+-- the lines of entries, and of what ports told beside them if that is shown
 abbrev pub lines_text : List (List ℕ) → Shown → List Entry → List ToldEntry → List ℕ
 lines_text names shown entries tolds =
     if shown.ports then ticks_text names shown.all entries tolds

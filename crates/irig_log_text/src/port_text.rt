@@ -1,10 +1,19 @@
 //! The text of what ports told.
 
-ghost use Rattle.std.specs.Prelude.{◌≡◌, ◌++◌, map, string_bytes, All, IfSome, OnOk};
+ghost use Rattle.std.specs.Prelude.{◌≡◌, ◌++◌, string_bytes, All, IfSome, OnOk};
 ghost use Rattle.irig_time.specs.Seconds.{IsValid};
 ghost use Rattle.irig_vote.specs.Vote.{IsOfUtc, AreOfUtc, ports_of};
-ghost use Rattle.irig_log_text.specs.Text.{claim_word, port_word, words_text, port_line, tick_text, ticks_text};
+ghost use Rattle.irig_log_text.specs.Text.{
+  claim_word,
+  port_word,
+  words_text,
+  port_line,
+  texts_of,
+  tick_text,
+  ticks_text,
+};
 
+use crate::shown::Shown;
 use crate::text::{ReportText, name_at, push_entries, push_number};
 use indexmap::IndexSet;
 use irig_faults::push_fault;
@@ -14,23 +23,23 @@ use irig_time::{Claim, push_text};
 use irig_vote::Redundancy;
 use std::alloc::AllocError;
 
-/// Adds for each tick the line of its entry, where it has one, and then that of its ports.
+/// Adds for each tick the line of its entry, if it has one, and then that of its ports.
 pub fn push_ticks(
     text: &mut String,
     last: &mut ReportText,
     names: &IndexSet<String>,
     entries: &[Entry],
     tolds: &[ToldEntry],
-    all: bool,
+    shown: Shown,
 ) -> Result<(), AllocError>
     requires entries { All (λ entry. IfSome entry.report.announce IsValid) entries.now }
     requires tolds { All (λ entry. AreOfUtc entry.told) tolds.now }
     ensures { OnOk result (string_bytes text.new ≡ string_bytes text.old
-        ++ ticks_text (map string_bytes names.now.keys) all entries.now tolds.now) }
+        ++ ticks_text (texts_of names.now.keys) shown.all entries.now tolds.now) }
 {
     for (index, entry) in entries.iter().enumerate() {
         if let Some(told) = tolds.get(index) {
-            push_tick(text, last, names, entry, told, all)?;
+            push_tick(text, last, names, entry, told, shown)?;
         }
     }
     Ok(())
@@ -42,14 +51,14 @@ fn push_tick(
     names: &IndexSet<String>,
     entry: &Entry,
     told: &ToldEntry,
-    all: bool,
+    shown: Shown,
 ) -> Result<(), AllocError>
     requires entry { IfSome entry.now.report.announce IsValid }
     requires told { AreOfUtc told.now.told }
     ensures { OnOk result (string_bytes text.new ≡ string_bytes text.old
-        ++ tick_text (map string_bytes names.now.keys) all entry.now told.now) }
+        ++ tick_text (texts_of names.now.keys) shown.all entry.now told.now) }
 {
-    push_entries(text, last, names, &[*entry], all)?;
+    push_entries(text, last, names, &[*entry], shown)?;
     push_port_line(text, names, entry, told)
 }
 
@@ -62,7 +71,7 @@ fn push_port_line(
 ) -> Result<(), AllocError>
     requires { AreOfUtc told.now.told }
     ensures { OnOk result (string_bytes text.new
-        ≡ string_bytes text.old ++ port_line (map string_bytes names.now.keys) entry.now told.now) }
+        ≡ string_bytes text.old ++ port_line (texts_of names.now.keys) entry.now told.now) }
 {
     text.push_str(" ")?;
     push_number(text, entry.edge)?;

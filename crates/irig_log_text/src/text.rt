@@ -1,6 +1,6 @@
 //! The text of a log, and the last line of a run.
 
-ghost use Rattle.std.specs.Prelude.{◌≡◌, ◌++◌, ◌||◌, map, is_some, string_bytes, All, IfOk, IfSome, OnOk, IsTrue, Some};
+ghost use Rattle.std.specs.Prelude.{◌≡◌, ◌++◌, ◌||◌, is_some, string_bytes, All, IfOk, IfSome, OnOk, IsTrue, Some};
 ghost use Rattle.std.specs.Option.{ForSome};
 ghost use Rattle.std.specs.Fmt.{decimal};
 ghost use Rattle.irig_time.specs.Seconds.{IsValid};
@@ -14,8 +14,10 @@ ghost use Rattle.irig_log_text.specs.Text.{
   entries_text,
   audit_text,
   refusal_text,
+  texts_of,
 };
 
+use crate::shown::Shown;
 use indexmap::IndexSet;
 use irig_faults::Refusal;
 use irig_plant::{Audit, Entry};
@@ -74,21 +76,21 @@ fn is_kept(kept: Option<Report>, report: Report) -> bool
     announce == report.announce && lock == report.lock && cause == report.cause
 }
 
-/// Adds a line for each entry with an announcement, or for each entry where all are wanted. Fails
-/// only if there is no memory, as all that adds to a text does.
+/// Adds a line for each entry with an announcement, or for each entry if all are shown. Like all that
+/// adds to a text, it fails only if there is no memory.
 pub fn push_entries(
     text: &mut String,
     last: &mut ReportText,
     names: &IndexSet<String>,
     entries: &[Entry],
-    all: bool,
+    shown: Shown,
 ) -> Result<(), AllocError>
     requires { All (λ entry. IfSome entry.report.announce IsValid) entries.now }
     ensures { OnOk result (string_bytes text.new ≡ string_bytes text.old
-        ++ entries_text (map string_bytes names.now.keys) all entries.now) }
+        ++ entries_text (texts_of names.now.keys) shown.all entries.now) }
 {
     for entry in entries {
-        if is_written(entry, all) {
+        if is_written(entry, shown) {
             push_entry(text, last, names, entry)?;
         }
     }
@@ -96,10 +98,10 @@ pub fn push_entries(
 }
 
 /// Whether an entry has a line.
-fn is_written(entry: &Entry, all: bool) -> bool
-    ensures { result ≡ (all || is_some entry.now.report.announce) }
+fn is_written(entry: &Entry, shown: Shown) -> bool
+    ensures { result ≡ (shown.all || is_some entry.now.report.announce) }
 {
-    all || entry.report.announce.is_some()
+    shown.all || entry.report.announce.is_some()
 }
 
 /// Adds the line of one entry.
@@ -112,7 +114,7 @@ fn push_entry(
 ) -> Result<(), AllocError>
     requires { IfSome entry.now.report.announce IsValid }
     ensures { OnOk result (string_bytes text.new
-        ≡ string_bytes text.old ++ entry_text (map string_bytes names.now.keys) entry.now) }
+        ≡ string_bytes text.old ++ entry_text (texts_of names.now.keys) entry.now) }
 {
     push_number(text, entry.edge)?;
     text.push_str(" ")?;
@@ -144,7 +146,7 @@ fn push_report(text: &mut String, report: Report) -> Result<(), AllocError>
 /// The name of a reader.
 #[tactic(auto, using(crate::proofs::TextLaws::name_in_texts))]
 pub(crate) fn name_at(names: &IndexSet<String>, reader: u8) -> &str
-    ensures { result.now ≡ name_at (map string_bytes names.now.keys) reader }
+    ensures { result.now ≡ name_at (texts_of names.now.keys) reader }
 {
     names
         .get_index(usize::from(reader))
@@ -205,7 +207,7 @@ pub fn push_audit(
     audit: Audit,
 ) -> Result<(), AllocError>
     ensures { OnOk result (string_bytes text.new
-        ≡ string_bytes text.old ++ audit_text (map string_bytes names.now.keys) audit) }
+        ≡ string_bytes text.old ++ audit_text (texts_of names.now.keys) audit) }
 {
     match audit {
         Audit::Kept => text.push_str("premises kept\n"),

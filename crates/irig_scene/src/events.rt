@@ -6,7 +6,7 @@ ghost use Rattle.irig_scene.specs.Scene.{refusal_as};
 ghost use Rattle.irig_scene.specs.PlayerRuns.{Runs};
 
 use crate::stop::Failure;
-use irig_forms::Refusal;
+use irig_faults::Refusal;
 use irig_plant::{Event, Plant, PlantFault};
 use irig_port::Port;
 

@@ -1,11 +1,11 @@
 //! The text of a log, written to the output.
 
-ghost use Rattle.std.specs.Prelude.{◌≡◌, All, IfSome, map, string_bytes, ◌||◌};
+ghost use Rattle.std.specs.Prelude.{◌≡◌, All, IfSome, ◌||◌};
 ghost use Rattle.irig_device.specs.Watched.{device_of, has_failed};
 ghost use Rattle.irig_time.specs.Seconds.{IsValid};
 ghost use Rattle.irig_scene.specs.Faults.{WroteText, failed_write};
 ghost use Rattle.irig_vote.specs.Vote.{AreOfUtc};
-ghost use Rattle.irig_log_text.specs.Text.{lines_text, audit_text, refusal_text};
+ghost use Rattle.irig_log_text.specs.Text.{audit_text, lines_text, refusal_text, texts_of};
 
 use crate::stop::Failure;
 use indexmap::IndexSet;
@@ -54,16 +54,15 @@ impl LogWriter {
         requires tolds { All (λ entry. AreOfUtc entry.told) tolds.now }
         ensures wrote { WroteText result
             (W.contents (device_of output.old)) (W.contents (device_of output.new))
-            (lines_text (map string_bytes names.now.keys) self.shown entries.now tolds.now) }
+            (lines_text (texts_of names.now.keys) self.shown entries.now tolds.now) }
         ensures note { has_failed output.new ≡ (has_failed output.old || failed_write result) }
     {
         let LogText { lines, last } = text;
         lines.clear();
-        let Shown { all, ports } = self.shown;
-        let pushed = if ports {
-            push_ticks(lines, last, names, entries, tolds, all)
+        let pushed = if self.shown.ports {
+            push_ticks(lines, last, names, entries, tolds, self.shown)
         } else {
-            push_entries(lines, last, names, entries, all)
+            push_entries(lines, last, names, entries, self.shown)
         };
         if pushed.is_err() {
             return Err(Failure::Memory);
@@ -80,7 +79,7 @@ impl LogWriter {
     ) -> Result<(), Failure>
         ensures wrote { WroteText result
             (W.contents (device_of output.old)) (W.contents (device_of output.new))
-            (audit_text (map string_bytes names.now.keys) audit) }
+            (audit_text (texts_of names.now.keys) audit) }
         ensures note { has_failed output.new ≡ (has_failed output.old || failed_write result) }
     {
         let mut text = String::new(self.alloc);

@@ -10,7 +10,7 @@ loop-index-preserved c = elim c.match-get.branch [
   | in-Some+in_ok-push_tick w ↦
       let told = w.in-Some.ensures.lookup in
       rw w.text-is (tick_added _ _ _ _ _ _ _ _ _ w.in-Some.told.now c.loop-index-test.true told.3.0 c.loop-index.invariant
-      (w.in_ok-push_tick.ensures ∙ ap (λ (t : ToldEntry). string_bytes c.loop-index.text ++ tick_text (map string_bytes c.args.names.now.keys) c.args.all _ t) told.1))
+      (w.in_ok-push_tick.ensures ∙ ap (λ (t : ToldEntry). string_bytes c.loop-index.text ++ tick_text (map string_bytes c.args.names.now.keys) c.args.shown.all _ t) told.1))
   | in_default w ↦ rw w.text-is (tick_without_ports _ _ _ _ _ _ _ (search rules) c.loop-index.invariant)
 ]
 
