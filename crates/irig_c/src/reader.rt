@@ -119,11 +119,14 @@ fn feed_all(ports: &mut [Tally; 5], port: u8, widths_us: &[u32])
 pub extern "C" fn irig_reader_tick(reader: &mut IrigReader, report: &mut IrigReport) -> u32
     ensures refused { (result ≡ 0 → ⊥) → (reader.new ≡ reader.old) × (report.new ≡ report.old) }
     ensures valid { result ≡ 0 → IfSome (report_in report.new).announce IsValid }
+    // of a reader that has a history: it is never refused, reports what the rule gives, and goes on
+    // to the next history
     ensures answered { (h : ReaderHistory) → IsReaderOf reader.old h → result ≡ 0 }
     ensures report { (h : ReaderHistory) → IsReaderOf reader.old h
         → report_in report.new ≡ report_at_tick h }
     ensures after { (h : ReaderHistory) → IsReaderOf reader.old h
         → IsReaderOf reader.new (after_tick h) }
+    // whatever lies in its numbers: what the rule makes of them
     ensures said { result ≡ 0 → report_in report.new ≡ (step_in reader.old).report }
     ensures stands { result ≡ 0 → state_in reader.new.state ≡ (step_in reader.old).state }
 {

@@ -115,7 +115,7 @@ pub extern "C" fn irig_coded_of(second: &UtcSecond, local_half_hours: i8, coded:
     0
 }
 
-/// Says which second of UTC a coded time claims with these control bits, where the offset is added
+/// Says which second of UTC a coded time claims with these control bits, if the offset is added
 /// if `sense` is 0, and subtracted if it is any other. 26 if a value is out of its range, or the
 /// number of a fault of the time.
 #[unsafe(no_mangle)]

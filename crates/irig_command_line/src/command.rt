@@ -15,7 +15,7 @@ static PENDING: [&str; 2] = ["insert", "delete"];
 
 /// What the words ask for, of which the first is the program's name: without a second word it is
 /// `Request::Plain`, and else what a command names. `Help` where they ask for it, `Fault` where no
-/// command fits them, `Memory` where there was none.
+/// command fits them, `Memory` if there was none.
 pub fn parse<'a>(alloc: Global, words: &'a [&'a str]) -> Result<Request<'a>, NoRequest>
     ensures plain { (result ≡ Ok Request.Plain) ↔ (length words.entry.now ≤ 1) }
     ensures in_range { IfOk result IsRequest }

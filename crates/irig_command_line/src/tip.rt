@@ -1,4 +1,4 @@
-//! What is wrong with words, with a tip where `clap` has none that helps.
+//! What is wrong with words, with a tip if `clap` has none that helps.
 
 use clap::Error;
 use clap::error::ErrorKind;
@@ -30,7 +30,7 @@ fn no_number(alloc: Global, error: &Error) -> Result<String, AllocError> {
     )
 }
 
-// Of what `clap` says the first line alone, since its own tip is of no use where all is given.
+// Of what `clap` says the first line alone, since its own tip is of no use if all is given.
 fn unknown_argument(alloc: Global, error: &Error, words: &[&str]) -> Result<String, AllocError> {
     if let Some(number) = negative_local(words) {
         return format!(in alloc;

@@ -32,7 +32,7 @@ Answer = Result (Unit {0}) Fault
 abbrev pub Refuses : Fault → Answer → Bytes → Bytes → Type 0
 Refuses f answer old new = (answer ≡ Err f) × Keeps old new
 
--- the whole text was written, or a front of it before the output failed
+-- the whole text was written, or a prefix of it before the output failed
 abbrev pub Wrote : List ℕ → Answer → Bytes → Bytes → Type 0
 Wrote text (Ok done) old new = Appends old new text
 Wrote text (Err f) old new = (f ≡ fault.Write) × AppendsPart old new text
@@ -121,7 +121,7 @@ Answers remaining (Err (none.Fault text)) answer input left old new =
 Answers remaining (Err none.Memory) answer input left old new =
     Refuses fault.Memory answer old new
 
--- what so many words ask for was answered with this exit status: a plain run where there is none
+-- what so many words ask for was answered with this exit status: a plain run if there is none
 -- after the program's name
 pub record Drove {F : Type 0} (remaining : F → Bytes) (words status : ℕ)
     (input left old new : Bytes) : Type 0 where

@@ -17,7 +17,7 @@ pub(crate) fn explanation(alloc: Global, number: u8) -> Result<String, AllocErro
     }
 }
 
-/// Writes why a line is refused to the standard error. Without memory, or where it takes nothing,
+/// Writes why a line is refused to the standard error. Without memory, or if it takes nothing,
 /// this is left out.
 pub(crate) fn tell_refusal<R: Eprint + AllocGlobal>(
     rt: &R,
@@ -47,7 +47,7 @@ fn refusal_text(
     format!(in alloc; "line {line}: {number} {name}: {reason}\nmore: irig explain {number}")
 }
 
-/// Writes what helps with a fault to the standard error, behind its line. Without memory, or where
+/// Writes what helps with a fault to the standard error, behind its line. Without memory, or if
 /// it takes nothing, this is left out.
 pub(crate) fn tell_more<R: Eprint + AllocGlobal>(
     rt: &R,

@@ -10,7 +10,7 @@ use std::alloc::AllocError;
 use std::fmt;
 use std::io::Error;
 
-// The exit status where the words of the command line are at fault.
+// The exit status if the words of the command line are at fault.
 const BAD_WORDS: u8 = 2;
 
 /// What ends the program. Its text is the line on the standard error.

@@ -30,12 +30,13 @@ use std::io::{BufRead, BufReader, Write};
 use std::rt::Files;
 use std::{fs, io};
 
-/// Does what is asked for. Neither device may have failed before.
+/// Does what is asked for: runs a scenario, writes a frame or what a frame says, or explains a
+/// number. Neither device may have failed before.
 ///
-/// `BadTime` where TIME is the text of no second, `BadFrameText` where FRAME has a letter of no
-/// symbol, and then nothing is written; `Refused` where a line of the scenario is refused, which the
-/// standard error then explains; `Open` where FILE can't be opened, `Read` where the scenario can't
-/// be read to its end, `Write` where the output fails; `Memory` where there was none.
+/// `BadTime` if TIME is the text of no second, `BadFrameText` if FRAME has a letter of no
+/// symbol, and then nothing is written; `Refused` if a line of the scenario is refused, which the
+/// standard error then explains; `Open` if FILE can't be opened, `Read` if the scenario can't
+/// be read to its end, `Write` if the output fails; `Memory` if there was none.
 pub fn serve<'a, R: Files + Eprint + AllocGlobal, I: BufRead, O: Write>(
     rt: &R,
     request: Request<'a>,
@@ -184,7 +185,7 @@ fn show_meaning<O: Write>(alloc: Global, number: u8, output: &mut Watched<O>) ->
     }
 }
 
-/// Writes all of a text, or a front of it before the output fails.
+/// Writes all of a text, or a prefix of it before the output fails.
 pub(crate) fn write<O: Write>(output: &mut Watched<O>, text: &[u8]) -> Result<(), Fault>
     requires { has_failed output.old ≡ false }
     ensures wrote { Wrote text.now result

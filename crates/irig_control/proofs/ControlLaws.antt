@@ -10,7 +10,7 @@ use Rattle.irig_control.specs.Control.{IsControl, has_one, flag, word_with, word
 
 -- ---- bits
 
--- what a bit of a number adds, where a one adds k
+-- what a bit of a number adds, if a one adds k
 bit_adds : (n weight k : ℕ) → cond (has_one n weight) k 0 ≡ k * (n / weight % 2)
 bit_adds n weight k = by_bit (n / weight % 2) (omega arith)
   where
@@ -76,7 +76,7 @@ word_of-below c fits =
 joined : (a b m k : ℕ) → m ≡ 2 ^ k → a < m → bit_or a (b * m) ≡ a + m * b
 joined a b m k e low = rw e (or_shifted_r b k a (omega arith) ∙ omega arith)
 
--- the same, where the code shifted the higher ones up
+-- the same, if the code shifted the higher ones up
 shifted : (a b m k : ℕ) → m ≡ 2 ^ k → a < m → b * m < 4294967296 → bit_or a (b * m % 4294967296) ≡ a + m * b
 shifted a b m k e low fits = let whole : b * m % 4294967296 ≡ b * m = omega arith in rw whole (joined a b m k e low)
 

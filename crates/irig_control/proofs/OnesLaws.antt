@@ -6,7 +6,7 @@ use Rattle.irig_frame.specs.declared.symbol.Symbol.{Symbol}
 use Rattle.irig_frame.specs.Values.{is_one}
 use Rattle.irig_control.specs.Parity.{is_counted, ones}
 
--- 1 where the frame has a one at the element, else 0
+-- 1 if the frame has a one at the element, else 0
 abbrev one_at : List Symbol → ℕ → ℕ
 one_at s i = cond (is_one (slice_get s i)) 1 0
 

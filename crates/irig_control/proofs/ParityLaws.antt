@@ -65,7 +65,7 @@ remainder_below : (p : Parity) → remainder_of p < 2
 remainder_below Even = omega arith
 remainder_below Odd = omega arith
 
--- where a 0 gives the wrong parity, a 1 gives the right one
+-- if a 0 gives the wrong parity, a 1 gives the right one
 pub other_parity : (p : Parity) (s : List Symbol) → 75 < length s → has_parity p (slice_set s 75 Zero) ≡ false → HasParity p (slice_set s 75 One)
 other_parity p s h wrong =
     let with_zero = ones-set s false h in

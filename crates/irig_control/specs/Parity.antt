@@ -37,7 +37,7 @@ HasParity p s = IsTrue (has_parity p s)
 abbrev pub data_symbol : Bool → Symbol
 data_symbol b = if b then One else Zero
 
--- the frame with a 0 at element 75, or a 1 where the 0 doesn't give the parity
+-- the frame with a 0 at element 75, or a 1 if the 0 doesn't give the parity
 abbrev pub with_parity : Parity → List Symbol → List Symbol
 with_parity p s = slice_set s 75 (data_symbol (not (has_parity p (slice_set s 75 Zero))))
 

@@ -9,7 +9,7 @@ use Rattle.irig_device.specs.Watched.{AppendsPart}
 
 -- ---- a writer
 
--- a front of the text was written
+-- a prefix of the text was written
 front : AppendsPart (Some (codes "a")) (Some (codes "ab")) (codes "bc")
 front = record { front = codes "b"; rest = codes "c"; whole = refl; wrote = refl }
 

@@ -7,7 +7,7 @@ use Rattle.irig_device.specs.declared.line.LineEnd.TheVariants.{Newline, EndOfIn
 use Rattle.irig_device.specs.declared.line.ReadFault.{ReadFault}
 use Rattle.irig_device.specs.declared.line.ReadFault.TheVariants.{Device, Memory}
 
--- the bytes of a device, where they are known
+-- the bytes of a device, if they are known
 abbrev pub Bytes : Type 0
 Bytes = Option (List ℕ)
 

@@ -12,7 +12,7 @@ device_of w = w.inner
 abbrev pub has_failed : {T : Type 0} → Watched T → Bool
 has_failed w = w.is_noted
 
--- known bytes grow by a front of these
+-- known bytes grow by a prefix of these
 pub record AppendsPart (old new : Option (List ℕ)) (bytes : List ℕ) : Type 0 where
   pub front : List ℕ
   pub rest : List ℕ

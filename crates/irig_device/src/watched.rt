@@ -49,7 +49,7 @@ impl<T> Watched<T> {
 }
 
 impl<R: BufRead> Watched<R> {
-    /// The next byte, by one `fill_buf`, or `None` where no byte is left. At a fault the bytes
+    /// The next byte, by one `fill_buf`, or `None` if no byte is left. At a fault the bytes
     /// stay, and the note is set.
     pub fn read_byte(&mut self) -> Result<Option<u8>, DeviceFault>
         ensures byte { IfOk result (λ byte. Consumes (R.remaining (device_of self.old))
@@ -120,11 +120,12 @@ impl<W: Write> Watched<W> {
         }
     }
 
-    /// Writes all of the bytes by one `write` after another. At a fault a front of them was taken,
+    /// Writes all of the bytes by one `write` after another. At a fault a prefix of them was taken,
     /// and the note is set.
     pub fn write_all(&mut self, bytes: &[u8]) -> Result<(), DeviceFault>
         ensures ok { OnOk result (Appends (W.contents (device_of self.old))
             (W.contents (device_of self.new)) bytes.now) }
+        // after an error a prefix of them was written
         ensures err { OnErr result (AppendsPart (W.contents (device_of self.old))
             (W.contents (device_of self.new)) bytes.now) }
         ensures note { has_failed self.new ≡ (has_failed self.old || is_err result) }

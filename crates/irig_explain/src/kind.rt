@@ -29,7 +29,7 @@ impl Reason {
         self.number(count as i128);
     }
 
-    /// The same where a value of another type stands there, or none.
+    /// The same if a value of another type stands there, or none.
     pub(crate) fn kind_and_type(&mut self, kind: Kind) {
         if matches!(kind, Kind::Natural(..) | Kind::Integer(..)) {
             self.push("a whole number, ");

@@ -19,7 +19,7 @@ enum Search {
 }
 
 impl Search {
-    // Says nothing where something is said already: the first that is wrong is the reason.
+    // Says nothing if something is said already: the first that is wrong is the reason.
     fn look(self, reason: &mut Reason, place: JsonPath, keys: &[Key], value: &Value) {
         if !reason.is_empty() {
             return;

@@ -23,7 +23,7 @@ pub(crate) enum JsonPath {
     TableLeap(usize, usize),
 }
 
-/// A text that grows part by part. Want of memory is kept for its end, so that no part has to ask.
+/// A text that grows part by part. No memory is kept for its end, so that no part has to ask.
 #[derive(Drop)]
 pub(crate) struct Reason {
     alloc: Global,
@@ -43,7 +43,7 @@ impl Reason {
         }
     }
 
-    /// The text; fails where there was no memory for a part.
+    /// The text; fails if there was no memory for a part.
     pub(crate) fn end(self) -> Result<String, AllocError> {
         if self.is_short {
             Err(AllocError)
@@ -114,7 +114,7 @@ impl Reason {
         self.word(word);
     }
 
-    /// A text in quotes, cut where it is long.
+    /// A text in quotes, cut if it is long.
     pub(crate) fn quoted(&mut self, text: &str) {
         match format!(in self.alloc; "\"{}\"", text.escape_debug()) {
             Ok(text) => self.cut(text.as_str()),
@@ -122,7 +122,7 @@ impl Reason {
         }
     }
 
-    /// A value: its text, cut where it is long; of a list how many items it has.
+    /// A value: its text, cut if it is long; of a list how many items it has.
     pub(crate) fn value(&mut self, value: &Value) {
         if let Some(items) = value.as_array() {
             self.push("a list of ");

@@ -18,7 +18,7 @@ pub struct PlantContext<'a> {
 }
 
 /// Why a line of a scenario, without its newline, is refused with this number, in one line: the
-/// place, what stands there, and what may stand there. Fails for want of memory alone.
+/// place, what stands there, and what may stand there. Fails only if there is no memory.
 pub fn why_refused(
     alloc: Global,
     number: u8,

@@ -4,7 +4,7 @@ use crate::reason::Reason;
 use irig_time::{FIRST_DAY, LAST_DAY, month_end, read_day};
 use std::alloc::{AllocError, Global};
 
-/// Why a text names no UTC second of those that are served, in one line. Fails for want of memory
+/// Why a text names no UTC second of those that are served, in one line. Fails for lack of memory
 /// alone.
 pub fn why_no_time(alloc: Global, text: &str) -> Result<String, AllocError> {
     let mut reason = Reason::new(alloc);
@@ -40,7 +40,7 @@ pub(crate) fn reason_of_day(text: &str) -> &'static str {
 /// The parts of a time that has its form, whatever they say.
 #[derive(Clone, Copy)]
 struct TimeText {
-    /// The day, counted from 2000-01-01; none where there is no such day in those years.
+    /// The day, counted from 2000-01-01; none if there is no such day in those years.
     day: Option<u32>,
     hour: u8,
     minute: u8,

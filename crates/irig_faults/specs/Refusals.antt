@@ -90,18 +90,18 @@ of_generator generator.Memory = Memory
 -- ---- steps that may refuse
 
 infixl 10 ◌>>=◌
--- the next step, where this one isn't refused
+-- the next step, if this one isn't refused
 abbrev pub ◌>>=◌ :
     {A B : Type 0} → Result A Refusal → (A → Result B Refusal) → Result B Refusal
 (Ok x) >>= f = f x
 (Err e) >>= f = Err e
 
--- this refusal, where there is no value
+-- this refusal, if there is no value
 abbrev pub or_else : {A : Type 0} → Refusal → Option A → Result A Refusal
 or_else e None = Err e
 or_else e (Some x) = Ok x
 
--- this refusal, where this doesn't hold
+-- this refusal, if this doesn't hold
 abbrev pub holds_or : Refusal → Bool → Result (Unit {0}) Refusal
 holds_or e b = if b then Ok tt else Err e
 
@@ -114,7 +114,7 @@ IsUnlessMemory view said (Ok x) = said ≡ Ok (view x)
 IsUnlessMemory view said (Err (Refused k)) = said ≡ Err k
 IsUnlessMemory view said (Err Memory) = ⊤
 
--- the same of a value that stands in a line: where none was found, the line is refused as Value
+-- the same of a value that stands in a line: if none was found, the line is refused as Value
 abbrev pub FoundUnlessMemory :
     {A B : Type 0} → (A → B) → Option B → Result A LineFault → Type 0
 FoundUnlessMemory view found result = IsUnlessMemory view (or_else Value found) result

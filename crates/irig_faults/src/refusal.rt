@@ -58,7 +58,7 @@ pub enum Refusal {
 }
 
 impl Refusal {
-    /// Its number, by which users know it.
+    /// The number by which users know a refusal.
     pub fn number(self) -> u8
         ensures { result ≡ number_of self }
     {
@@ -88,7 +88,7 @@ impl Refusal {
         }
     }
 
-    /// Its name.
+    /// The name of a refusal.
     pub fn name(self) -> &'static str
         ensures { result.now ≡ name_of self }
     {

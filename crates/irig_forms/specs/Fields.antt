@@ -25,7 +25,7 @@ has_form keys d =
     is_there (has_only (names_of keys)) (as_object d)
     && list_all (λ key. fits key (get key.name d)) keys
 
--- each item of the list at a key, where there is one
+-- each item of the list at a key, if there is one
 unfoldable pub each_item : List ℕ → (Data → Bool) → Data → Bool
 each_item key p d = list_all p (unwrap_or (items_at key d) [])
 
@@ -51,7 +51,7 @@ abbrev pub integer_most : Kind → ℤ
 integer_most (kind.Integer least most) = most
 integer_most _ = pos 0
 
--- ---- what stands at a key of a form, where it is in range
+-- ---- what stands at a key of a form, if it is in range
 
 -- the natural number of a kind
 abbrev pub natural_of : Kind → ℤ → Option ℕ
@@ -80,7 +80,7 @@ abbrev pub reader_at : List (List ℕ) → KeyValue → Data → Option ℕ
 reader_at names key d =
     option_and_then (λ name. position (λ n. bytes_eq name n) names) (text_at key.name d)
 
--- the items of a list, where they are no more than its kind allows
+-- the items of a list, if they are no more than its kind allows
 abbrev pub few_items : Kind → List Data → Option (List Data)
 few_items (kind.Few count) ds = at_most count ds
 few_items _ ds = None

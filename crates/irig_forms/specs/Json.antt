@@ -46,7 +46,7 @@ items_in d = option_map list_of (as_array d)
 unfoldable pub items_at : List ℕ → Data → Option (List Data)
 items_at key d = option_map list_of (option_and_then as_array (get key d))
 
--- the list, where it is no longer than that
+-- the list, if it is no longer than that
 abbrev pub at_most : ℕ → List Data → Option (List Data)
 at_most limit ds = if nat_le (length ds) limit then Some ds else None
 

@@ -1,4 +1,4 @@
-//! Objects by the tables of their keys: whether one has its form, and what stands at a key where
+//! Objects by the tables of their keys: whether one has its form, and what stands at a key if
 //! that is in the key's range.
 
 ghost use Rattle.std.specs.Prelude.{◌≡◌, ◌<◌, ◌≤◌, ◌≤ℤ◌, IfSome, length, map, option_map, string_bytes};
@@ -72,7 +72,7 @@ pub fn is_named(key: &str, named: &[Key]) -> bool
     named.iter().any(|name| name.name == key)
 }
 
-/// The number at a key of kind `Natural`; none where there is none in its range.
+/// The number at a key of kind `Natural`; none if there is none in its range.
 #[tactic(auto, unfolding(crate::specs::Json::whole_at))]
 pub fn natural_at(key: Key, value: &Value) -> Option<u64>
     ensures value { result ≡ natural_at (key_value key) (view value.now) }
@@ -85,7 +85,7 @@ pub fn natural_at(key: Key, value: &Value) -> Option<u64>
     }
 }
 
-/// The number at a key of kind `Integer`; none where there is none in its range.
+/// The number at a key of kind `Integer`; none if there is none in its range.
 #[tactic(auto, unfolding(crate::specs::Json::whole_at))]
 pub fn integer_at(key: Key, value: &Value) -> Option<i32>
     ensures value { result ≡ integer_at (key_value key) (view value.now) }
@@ -122,7 +122,7 @@ fn place_of(names: &IndexSet<String>, name: &str) -> Option<usize>
     names.get_index_of(name)
 }
 
-/// The items of a list of kind `Few`; none where there are too many.
+/// The items of a list of kind `Few`; none if there are too many.
 pub fn few_items(kind: Kind, items: &[Value]) -> Option<&[Value]>
     ensures { option_map (λ vs. map view vs.now) result ≡ few_items kind (map view items.now) }
 {
@@ -132,8 +132,8 @@ pub fn few_items(kind: Kind, items: &[Value]) -> Option<&[Value]>
     }
 }
 
-/// The numbers of the list at a key of kind `Naturals`. `Refused` as `Value` where they are too
-/// many or one is out of range, `Memory` where there was none.
+/// The numbers of the list at a key of kind `Naturals`. `Refused` as `Value` if they are too
+/// many or one is out of range, `Memory` if there was none.
 #[tactic(auto, unfolding(crate::specs::Fields::naturals_at))]
 pub fn naturals_at(alloc: Global, key: Key, value: &Value) -> Result<Vec<u32>, LineFault>
     ensures { FoundUnlessMemory (λ v. v.items)

@@ -9,7 +9,7 @@ use irig_faults::{LineFault, Refusal};
 use serde_json::Value;
 use std::alloc::Global;
 
-/// The value that a line of JSON in UTF-8 is. `Refused` as `Json` where it is none, `Memory` where
+/// The value that a line of JSON in UTF-8 is. `Refused` as `Json` if it is none, `Memory` if
 /// there was none.
 #[tactic(auto, using(crate::proofs::JsonLaws::json_of_text, crate::proofs::JsonLaws::no_json))]
 pub fn value_of(alloc: Global, line: &[u8]) -> Result<Value, LineFault>
@@ -22,7 +22,7 @@ pub fn value_of(alloc: Global, line: &[u8]) -> Result<Value, LineFault>
     }
 }
 
-/// The whole number that a value is, from `i64::MIN` to `u64::MAX`; none where it is another value.
+/// The whole number that a value is, from `i64::MIN` to `u64::MAX`; none if it is another value.
 pub fn whole_of(value: &Value) -> Option<i128>
     ensures { result ≡ whole_of (view value.now) }
 {
@@ -32,7 +32,7 @@ pub fn whole_of(value: &Value) -> Option<i128>
     }
 }
 
-/// The whole number at a key of an object, from `i64::MIN` to `u64::MAX`; none where there is no
+/// The whole number at a key of an object, from `i64::MIN` to `u64::MAX`; none if there is no
 /// such key, or another value there.
 #[tactic(auto, unfolding(crate::specs::Json::whole_at))]
 pub fn whole_at(value: &Value, key: &str) -> Option<i128>
@@ -41,7 +41,7 @@ pub fn whole_at(value: &Value, key: &str) -> Option<i128>
     whole_of(value.get(key)?)
 }
 
-/// The text at a key of an object; none where there is no such key, or another value there.
+/// The text at a key of an object; none if there is no such key, or another value there.
 #[tactic(auto, unfolding(crate::specs::Json::text_at))]
 pub fn text_at<'a>(value: &'a Value, key: &str) -> Option<&'a str>
     ensures { option_map (λ s. s.now) result ≡ text_at key.now (view value.now) }
@@ -49,7 +49,7 @@ pub fn text_at<'a>(value: &'a Value, key: &str) -> Option<&'a str>
     value.get(key).and_then(Value::as_str)
 }
 
-/// The items of a list in order; none where the value is no list.
+/// The items of a list in order; none if the value is no list.
 #[tactic(auto, using(crate::proofs::ListLaws::list_of_items))]
 pub fn items_in(value: &Value) -> Option<&[Value]>
     ensures { option_map (λ vs. map view vs.now) result ≡ items_in (view value.now) }
@@ -57,7 +57,7 @@ pub fn items_in(value: &Value) -> Option<&[Value]>
     Some(value.as_array()?.as_slice())
 }
 
-/// The items of the list at a key of an object; none where there is no such key, or another value
+/// The items of the list at a key of an object; none if there is no such key, or another value
 /// there.
 #[tactic(auto, unfolding(crate::specs::Json::items_at), using(crate::proofs::ListLaws::list_of_items))]
 pub fn items_at<'a>(value: &'a Value, key: &str) -> Option<&'a [Value]>
@@ -66,7 +66,7 @@ pub fn items_at<'a>(value: &'a Value, key: &str) -> Option<&'a [Value]>
     Some(value.get(key)?.as_array()?.as_slice())
 }
 
-/// The items, where there are no more than `limit`.
+/// The items, if there are no more than `limit`.
 pub fn at_most(limit: usize, items: &[Value]) -> Option<&[Value]>
     ensures { option_map (λ vs. map view vs.now) result ≡ at_most limit (map view items.now) }
 {

@@ -9,7 +9,7 @@ ghost use Rattle.irig_forms.specs.Keys.{are_wholes, has_type};
 use crate::json::{items_in, whole_of};
 use serde_json::Value;
 
-/// What may stand at a key: its type, and its range where it has one.
+/// What may stand at a key: its type, and its range if it has one.
 #[derive(Clone, Copy)]
 pub enum Kind {
     /// A text of this form.

@@ -1,4 +1,4 @@
--- A frame reads as a value exactly where it is decoded to it.
+-- A frame reads as a value exactly if it is decoded to it.
 use Rattle.std.proofs.Common.{◌≡◌, ◌↔◌, ℕ, zero, suc, ◌+◌, ◌<◌, ◌≤◌, Bool, true, false, cond, nat_lt, List, [], ◌∷◌, length, Option, Some, None, Result, Ok, Err, slice_get, refl, sym, zero-add, not, ap, subst, ◌∙◌, arith}
 use Rattle.std.specs.Prelude.{IfOk}
 use Rattle.std.specs.Option.{option_or}

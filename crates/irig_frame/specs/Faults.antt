@@ -32,7 +32,7 @@ element_fault i Bad = Some (fault.Pulse i)
 element_fault i Marker = if is_marker_place i then None else Some (fault.Marker i)
 element_fault i _ = if is_marker_place i then Some (fault.Marker i) else None
 
--- the fault of the lowest wrong element, where the first of the list is element i
+-- the fault of the lowest wrong element, if the first of the list is element i
 abbrev pub first_wrong : ℕ → List Symbol → Option FrameFault
 first_wrong i [] = None
 first_wrong i (x ∷ xs) = option_or (element_fault i x) (first_wrong (i + 1) xs)

@@ -16,8 +16,10 @@ use crate::symbol::Symbol;
 /// minute, hour, day and year. Nothing is asked of data elements without a field, and neither the
 /// control bits nor the straight binary seconds have a range.
 pub fn decode(frame: &[Symbol]) -> Result<Coded, FrameFault>
+    // Ok of a time exactly if the symbols read as it, which is then in range
     ensures reads { (c : Coded) → (result ≡ Ok c) ↔ Reads frame.now c }
     ensures in_range { IfOk result IsCoded }
+    // each fault is the first in the stated order
     ensures exact { result ≡ decode_result frame.now }
 {
     coded_or_fault(frame)

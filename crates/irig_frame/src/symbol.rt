@@ -56,7 +56,7 @@ impl Symbol {
         }
     }
 
-    /// The symbol with this letter, where there is one.
+    /// The symbol with this letter, if there is one.
     pub fn from_letter(letter: u8) -> Option<Symbol>
         ensures { (s : Symbol) → (result ≡ Some s) ↔ (letter ≡ letter_of s) }
     {

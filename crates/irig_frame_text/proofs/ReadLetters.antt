@@ -43,7 +43,7 @@ read-symbol front kept new letter symbol read is taken = record {
   taken = taken;
 }
 
--- the next symbol is kept where there is room, and else it changes nothing
+-- the next symbol is kept if there is room, and else it changes nothing
 pub take-room : (past kept : List Symbol) (symbol : Symbol) → kept ≡ take 101 past → length kept < 101
     → kept ++ symbol ∷ [] ≡ take 101 (past ++ symbol ∷ [])
 take-room past kept symbol taken room =

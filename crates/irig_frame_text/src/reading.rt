@@ -20,7 +20,7 @@ pub enum ReadingFault {
 }
 
 /// What the frame says: the line of the time that it codes, if it codes one, and the line of what a
-/// port tells of it; `BadFrameText` where the text has a letter of no symbol.
+/// port tells of it; `BadFrameText` if the text has a letter of no symbol.
 pub fn frame_lines(alloc: Global, text: &str) -> Result<String, ReadingFault>
     ensures lines { IfOk result (λ lines. IsReadingOf text.now (string_bytes lines)) }
     ensures bad_text { (result ≡ Err ReadingFault.BadFrameText)

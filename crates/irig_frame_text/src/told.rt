@@ -12,7 +12,7 @@ use irig_port::{FlowPort, Port, Told};
 use irig_time::{Rules, push_text};
 use std::alloc::AllocError;
 
-/// What a port tells of these symbols, 101 of them at most, under even parity, where the offset is
+/// What a port tells of these symbols, 101 of them at most, under even parity, if the offset is
 /// added and the straight binary seconds are checked.
 pub(crate) fn told_by(symbols: &[Symbol]) -> Told
     requires few { length symbols.now ≤ 101 }

@@ -60,7 +60,7 @@ known_edges = (refl, refl, refl)
 
 -- ---- faults: the control bits
 
--- eleven half hours ahead of UTC where the offset is added, with a deletion pending
+-- eleven half hours ahead of UTC if the offset is added, with a deletion pending
 abbrev true_bits : Control
 true_bits = record { leap_pending = true; leap_delete = true; dst_pending = true; dst = true; offset_half_hours = negsuc 10; quality = 0 }
 

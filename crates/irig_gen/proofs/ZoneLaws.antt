@@ -78,7 +78,7 @@ not_come_by at u h lt =
     not_below : (a b : ℕ) → b < a → leb a b ≡ false
     not_below a b below = elim (cases_Bool (leb a b)) [ inl e ↦ absurd (omega (arith, leb-true a b e, below)) | inr e ↦ e ]
 
--- the zone where so many changes have come
+-- the zone if so many changes have come
 abbrev pub zone_after : Zone → List Change → ℕ → Change → Zone
 zone_after zone xs zero d = zone
 zone_after zone xs (suc k) d = (get_or xs k d).zone

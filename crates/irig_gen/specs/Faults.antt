@@ -29,7 +29,7 @@ abbrev pub skewed_edge : ℕ → ℤ → Option ℕ
 skewed_edge edge (pos n) = Some (edge + n)
 skewed_edge edge (negsuc n) = if nat_lt edge (n + 1) then None else Some (edge - (n + 1))
 
--- the edge whose frame is sent at an edge, where the fault was set at edge since
+-- the edge whose frame is sent at an edge, if the fault was set at edge since
 abbrev pub sent_edge : Option GenFault → ℕ → ℕ → Option ℕ
 sent_edge None edge since = Some edge
 sent_edge (Some Silent) edge since = None

@@ -53,13 +53,13 @@ pub record IsFrameWithFault (fault : Option GenFault) (g : GeneratorValue) (t : 
 abbrev pub IsTrueFrame : GeneratorValue → TimelineValue → ℕ → List Symbol → Type 0
 IsTrueFrame = IsFrameWithFault None
 
--- the frame of an edge, or none where the edge has no second
+-- the frame of an edge, or none if the edge has no second
 abbrev pub IsFrameOrNone : Option GenFault → GeneratorValue → TimelineValue → ℕ
     → Option (List Symbol) → Type 0
 IsFrameOrNone fault g t edge o =
     MatchOption o ((u : UtcSecond) → ¬ IsSecond t edge u) (IsFrameWithFault fault g t edge)
 
--- what is sent, where it is the frame of this edge
+-- what is sent, if it is the frame of this edge
 abbrev pub IsSentFrom : Option ℕ → GeneratorValue → TimelineValue → Option (List Symbol) → Type 0
 IsSentFrom None g t o = o ≡ None
 IsSentFrom (Some edge) g t o = IsFrameOrNone g.fault g t edge o

@@ -22,12 +22,12 @@ frame_with fault g t (Some u) =
     Some (frame_of_second g.rules.parity u (zone_at g.zone g.changes u).half_hours
     (control_with_fault fault (control_at g t u)))
 
--- the frame of an edge, where it has a second
+-- the frame of an edge, if it has a second
 unfoldable pub frame_of : Option GenFault → GeneratorValue → TimelineValue → ℕ
     → Option (List Symbol)
 frame_of fault g t edge = frame_with fault g t (second_at t edge)
 
--- what is sent, where it is the frame of this edge
+-- what is sent, if it is the frame of this edge
 abbrev pub sent_from : Option ℕ → GeneratorValue → TimelineValue → Option (List Symbol)
 sent_from None g t = None
 sent_from (Some edge) g t = frame_of g.fault g t edge

@@ -14,20 +14,20 @@ pub enum GenFault {
     Silent,
     /// It sends the frame of the edge at which the fault was set.
     Stuck,
-    /// It sends the frame of the edge so many later, or earlier; nothing where that is negative.
+    /// It sends the frame of the edge so many later, or earlier; nothing if that is negative.
     Skew(i32),
     /// The leap bits are 0.
     NoPending,
     /// A leap second of this kind is pending in every frame.
     FalsePending(Leap),
-    /// The time quality is this, 15 where it is more.
+    /// The time quality is this, 15 if it is more.
     Quality(u8),
     /// The offset sent is so many half hours more, limited to -31 to 31; the coded time is not
     /// changed.
     WrongOffset(i8),
 }
 
-/// The edge whose frame is sent at this edge, where the fault was set at edge `since`. Past 2^64 it
+/// The edge whose frame is sent at this edge, if the fault was set at edge `since`. Past 2^64 it
 /// is the last one, for which no timeline has a second.
 pub(crate) fn edge_sent(fault: Option<GenFault>, edge: u64, since: u64) -> Option<u64>
     ensures { result ≡ option_map (λ e. min e u64.MAX) (sent_edge fault edge since) }

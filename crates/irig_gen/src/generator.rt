@@ -151,14 +151,14 @@ impl Generator {
         timeline.at(edge_sent(self.fault, self.edge, self.since)?)
     }
 
-    /// The edge at which it stands.
+    /// The edge at which the generator stands.
     pub fn edge(&self) -> u64
         ensures { result ≡ self.now.edge }
     {
         self.edge
     }
 
-    /// Goes to the next edge, where there is one below 2^64.
+    /// Goes to the next edge, if there is one below 2^64.
     pub fn step(&mut self)
         requires { self.old.edge < u64.MAX }
         ensures { self.new ≡ record self.old { edge = self.old.edge + 1 } }
@@ -181,7 +181,7 @@ impl Generator {
         self.fault = None;
     }
 
-    /// The frame of an edge without fault; none where the timeline has no second for it.
+    /// The frame of an edge without fault; none if the timeline has no second for it.
     pub fn frame_at(&self, timeline: &Timeline, edge: u64) -> Option<[Symbol; 100]>
         ensures frame { IsFrameOrNone None self.now timeline.now edge result }
         ensures value { result ≡ frame_of None self.now timeline.now edge }

@@ -167,7 +167,7 @@ truth_is_next t n u v sound at e =
     let both : None ≡ some v = sym none ∙ e in
     absurd cc)
 
--- where T ends, each mark leads nowhere, and the day is the last
+-- if T ends, each mark leads nowhere, and the day is the last
 ends : (t : TimelineValue) (n : ℕ) (u : UtcSecond) → IsTimeline t → IsSecond t n u → EndsAt t n → u.day ≡ 36523
 ends t n u sound at none =
     elim (next_none u NoLeap (end t n u NoLeap sound at none)) [
@@ -322,7 +322,7 @@ voted_no_jump t table n h c at claim e =
     let answered : (outcome_of h (hold_step table h.last 0 mark)).answer ≡ Jump = rw vote.for at e in
     outcome_no_jump h h.last 0 mark (next_of h.last (spoken_mark table mark h.last.day)) answered
 
--- where T ends, a step does
+-- if T ends, a step does
 stops : (t : TimelineValue) (table : TableValue) (n : ℕ) (u : UtcSecond) (age : ℕ) (mark : Mark) → IsTimeline t → IsSecond t n u → EndsAt t n
     → hold_step table u age mark ≡ Err RangeEnd
 stops t table n u age mark sound at none =

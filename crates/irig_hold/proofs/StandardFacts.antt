@@ -41,12 +41,12 @@ pub known_insertion : (alone_by nothing (hold_value (at 6209 86398) 0 Insert) 9 
     × (alone_by nothing (hold_value (at 6209 86400) 2 Insert) 9 ≡ goes (hold_value (at 6210 0) 3 Unspoken))
 known_insertion = (rw december refl, rw december refl, rw december refl)
 
--- a second is deleted, also where a hold begins
+-- a second is deleted, also if a hold begins
 pub known_deletion : (alone_by nothing (hold_value (at 6209 86398) 0 Delete) 9 ≡ goes (hold_value (at 6210 0) 1 Unspoken))
     × (hold_start nothing (claim 6209 86398 Delete) ≡ Ok (hold_value (at 6210 0) 0 Unspoken))
 known_deletion = (rw december refl, rw december refl)
 
--- where nothing was heard, the guard; unless the table speaks, which it does on the day with which
+-- if nothing was heard, the guard; unless the table speaks, which it does on the day with which
 -- it ends
 pub known_guard : (alone_by nothing (hold_value (at 6209 86397) 0 Unspoken) 9 ≡ goes (hold_value (at 6209 86398) 1 Unspoken))
     × (alone_by nothing (hold_value (at 6209 86398) 0 Unspoken) 9 ≡ stays (hold_value (at 6209 86398) 0 Unspoken) LeapGuard)
@@ -91,7 +91,7 @@ leaps = (6209, leap.Insert) ∷ []
 abbrev some : Leap → Option Leap
 some l = Some l
 
--- true: the leap there is, or an end before it; not true: no leap where there is one, or one where
+-- true: the leap there is, or an end before it; not true: no leap if there is one, or one if
 -- there is none
 pub known_tables : IsTrueTable (times (at 6000 0) leaps) (table 6240 leaps) × IsTrueTable (times (at 6209 0) leaps) (table 6208 [])
     × ¬ IsTrueTable (times (at 6209 86400) leaps) (table 6209 []) × ¬ IsTrueTable (times (at 6209 0) []) (table 6209 leaps)

@@ -139,7 +139,7 @@ month_end_none u NoLeap end e = inl (after_none 86399 u e)
 month_end_none u Insert end e = inl (after_none 86400 u e)
 month_end_none u Delete end e = inl (after_none 86398 u e)
 
--- there is none on the last day, or where nothing is said at the end of a month
+-- there is none on the last day, or if nothing is said at the end of a month
 pub next_none : (u : UtcSecond) (mark : Mark) → next_of u mark ≡ None → (u.day ≡ 36523) ⊎ (IsLast u × (mark ≡ Unspoken))
 next_none u mark e =
     elim (cases_Bool (is_month_end u.day)) [

@@ -35,7 +35,7 @@ mark_kept from to heard = if from == to then heard else Unspoken
 abbrev pub hold_after : UtcSecond → ℕ → Mark → UtcSecond → HoldValue
 hold_after from age heard to = hold_value to age (mark_kept from.day to.day heard)
 
--- the same, where there is a second to step to; else why there is none
+-- the same, if there is a second to step to; else why there is none
 abbrev pub hold_or_stop : UtcSecond → ℕ → Mark → Option UtcSecond → Result HoldValue Turn
 hold_or_stop from age heard None = Err (stop_on from.day)
 hold_or_stop from age heard (Some to) = Ok (hold_after from age heard to)
@@ -54,12 +54,12 @@ pub record Outcome : Type 0 where
   pub answer : Turn
   pub new : HoldValue
 
--- it stays as it is where it doesn't step
+-- it stays as it is if it doesn't step
 abbrev pub outcome_of : HoldValue → Result HoldValue Turn → Outcome
 outcome_of h (Ok new) = record { answer = Now new.last; new = new }
 outcome_of h (Err stop) = record { answer = stop; new = h }
 
--- the first mark, but where it is unspoken the second
+-- the first mark, but if it is unspoken the second
 abbrev pub mark_or : Mark → Mark → Mark
 mark_or Unspoken heard = heard
 mark_or NoLeap heard = NoLeap

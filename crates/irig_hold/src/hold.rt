@@ -53,7 +53,7 @@ impl Hold {
     /// The hold that begins with a claim of a [`valid`](irig_time::valid) second: it stands at the
     /// next one, by what the claim says of a leap or else the table.
     ///
-    /// `LeapGuard` or `RangeEnd` where there is no next one.
+    /// `LeapGuard` or `RangeEnd` if there is no next one.
     pub fn start<T: Leaps>(claim: Claim, table: &T) -> Result<Hold, Turn>
         requires { IsValid claim.at }
         ensures { result ≡ hold_start (T.says table.now) claim }
@@ -63,7 +63,7 @@ impl Hold {
 
     /// One second on, with a vote for the second that it stands at.
     ///
-    /// It keeps what the vote says of a leap, if it says something. `Jump` where the vote is for
+    /// It keeps what the vote says of a leap, if it says something. `Jump` if the vote is for
     /// another second, then `LeapGuard` or `RangeEnd`; these leave it as it was.
     pub fn voted<T: Leaps>(&mut self, claim: Claim, table: &T) -> Turn
         ensures answer { result ≡ (voted_by (T.says table.now) self.old claim).answer }
@@ -78,9 +78,9 @@ impl Hold {
         self.take(step(self.last, 0, heard, table))
     }
 
-    /// One second on without a vote, where it has gone fewer than `limit` seconds alone.
+    /// One second on without a vote, if it has gone fewer than `limit` seconds alone.
     ///
-    /// `Expired` where it has not, then `LeapGuard` or `RangeEnd`; these leave it as it was.
+    /// `Expired` if it has not, then `LeapGuard` or `RangeEnd`; these leave it as it was.
     pub fn alone<T: Leaps>(&mut self, limit: u32, table: &T) -> Turn
         ensures answer { result ≡ (alone_by (T.says table.now) self.old limit).answer }
         ensures new { self.new ≡ (alone_by (T.says table.now) self.old limit).new }

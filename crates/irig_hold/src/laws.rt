@@ -13,7 +13,7 @@ use irig_time::{Claim, UtcSecond};
 /// The law of the hold: a hold that stands at T(n), and heard nothing false of the day's leap, goes
 /// to T(n + 1) or stops; and then it has again heard nothing false.
 ///
-/// So it is with a true claim, alone with a true table, and at the beginning with a true claim.
+/// With a vote the claim has to be true; alone the table has to be; at the beginning the claim.
 pub fn law_of_hold()
     ensures voted { (t : TimelineValue) (table : TableValue) (n : ℕ) (h : HoldValue) (c : Claim)
         (u : UtcSecond) → IsTimeline t → IsOnTime t n h → IsTrueClaim t (n + 1) c

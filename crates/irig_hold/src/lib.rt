@@ -2,7 +2,7 @@
 //!
 //! A [`Hold`] stands at a UTC second and steps to the next one. At a month's end it needs to know
 //! whether a leap second comes (ITU-R TF.460): it keeps what the votes said of that, asks its table
-//! where they said nothing, and stops where neither speaks. When the votes speak, and how long a
+//! if they said nothing, and stops if neither speaks. When the votes speak, and how long a
 //! hold may go alone, is this project's profile.
 #![tactic(auto)]
 

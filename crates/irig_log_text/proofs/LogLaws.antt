@@ -62,7 +62,7 @@ front_before : (b : ℕ) (ls more : List (List ℕ)) → (rest : List (List ℕ)
 front_before b [] more = (before_first b more, refl)
 front_before b (l ∷ ls) more = (more, refl)
 
--- the whole lines of a front come first
+-- the whole lines of a prefix come first
 pub whole_front : (w rest : List ℕ) → (more : List (List ℕ)) × (whole_lines (w ++ rest) ≡ whole_lines w ++ more)
 unfolding whole_lines
 whole_front [] rest = (whole_lines rest, refl)

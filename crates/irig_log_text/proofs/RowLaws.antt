@@ -1,4 +1,4 @@
--- The lines of a log, where those of what ports told may stand among them.
+-- The lines of a log, if those of what ports told may stand among them.
 use Rattle.std.proofs.Common.{◌≡◌, ℕ, ◌<◌, ◌||◌, Bool, true, false, not, cond, List, [], ◌∷◌, ◌++◌, length, map, drop, get_or, ◌+◌, ◌≤◌, Option, Some, None, refl, ap, sym, ◌∙◌, append_assoc, append-nil, arith, codes}
 use Rattle.std.specs.Prelude.{filter, is_some}
 use Rattle.std.specs.List.{AllByRecursion}

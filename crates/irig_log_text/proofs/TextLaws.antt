@@ -94,7 +94,7 @@ no_lines names shown = elim (shown.ports) as (λ p. cond p (ticks_text names sho
   | false ↦ refl
 ]
 
--- what is kept of what ports told matters only where that is shown
+-- what is kept of what ports told matters only if that is shown
 pub same_lines : (names : List (List ℕ)) (shown : Shown) (a b : List Entry) (c left d : List ToldEntry) → a ≡ b → c ≡ cond shown.ports left [] → left ≡ d
     → lines_text names shown b d ≡ lines_text names shown a c
 same_lines names shown a b c left d h k l =

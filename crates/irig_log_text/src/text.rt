@@ -35,7 +35,7 @@ pub struct ReportText {
 }
 
 impl ReportText {
-    /// No report's text.
+    /// The text of no report, to begin with.
     pub fn new(alloc: Global) -> ReportText {
         ReportText {
             report: None,

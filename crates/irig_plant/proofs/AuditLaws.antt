@@ -1,4 +1,4 @@
--- The audit says that the premises of the headline were kept exactly where they were.
+-- The audit says that the premises of the headline were kept exactly if they were.
 use Rattle.std.proofs.Common.{◌≡◌, ◌↔◌, ℕ, ◌+◌, Bool, true, false, cond, List, [], ◌∷◌, ◌++◌, Option, Some, None, refl, subst, arith, inl, inr}
 use Rattle.std.specs.Prelude.{All}
 use Rattle.std.proofs.lemmas.Bool.{cases_Bool}

@@ -61,7 +61,7 @@ module _ (s : Setup) (r : ℕ) (ev : List Event) (p : ℕ) (line : IsTimeline s.
   ruled : made.rules ≡ s.rules
   ruled = IsNew.ruled (gens.new.new p no_generator there)
 
-  -- where the timeline has a second its true claim is the only one
+  -- if the timeline has a second its true claim is the only one
   true_claim : (c d : Claim) → truth_at s.times (ticks_of r ev) ≡ Some c → Carries s.rules (symbols_of (heard_at s r p ev)) d → IsTrueClaim s.times (ticks_of r ev + 1) d
   true_claim c d truth carries =
       let told : IsFaultOr c (told_of_widths made.rules (with_damage h.element h.width (pulses_sent_at s p (ticks_of r ev) []))) =
@@ -71,7 +71,7 @@ module _ (s : Setup) (r : ℕ) (ev : List Event) (p : ℕ) (line : IsTimeline s.
       let same : d ≡ c = same_claim c d _ here ((carries_is_told s.rules (symbols_of (heard_at s r p ev)) d).1 carries) in
       subst (λ (x : Claim). IsTrueClaim s.times (ticks_of r ev + 1) x) (sym same) ((claim_is s.times (ticks_of r ev) c).0 truth)
 
-  -- and where it has none nothing was heard
+  -- and if it has none nothing was heard
   no_frame : (o : Option (List Symbol)) → IsFrameOrNone None made s.times (ticks_of r ev) o → truth_at s.times (ticks_of r ev) ≡ None → widths_of o ≡ []
   no_frame None frame truth = refl
   no_frame (Some frame) true_frame truth =

@@ -26,7 +26,7 @@ module _ (x : VotedEdges) where
   lock_is_voted : (n : ℕ) → 1 ≤ x.reader_rules.lock_after → (h : IsHeld x n) → x.voted h.lock ≡ true
   lock_is_voted n some h = h.votes h.lock (omega arith) (omega arith)
 
-  -- where the edge isn't voted, the lock is older
+  -- if the edge isn't voted, the lock is older
   pub lock_is_before : (n : ℕ) → 1 ≤ x.reader_rules.lock_after → x.voted (n + 1) ≡ false → (h : IsHeld x (n + 1)) → h.lock ≤ n
   lock_is_before n some v h =
       elim (up_to h.lock n h.before) [

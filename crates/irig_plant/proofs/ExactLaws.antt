@@ -78,7 +78,7 @@ guard_at : (x : VotedEdges) (n : ℕ) (step : Step) → step.report.cause ≡ ca
 guard_at x n step h (live v e standing said) = guard_of x n v step.report h said
 guard_at x n step h (over c e is k) = absurd (false≢true (over_cause step c cause.LeapGuard is k h))
 
--- where T(n + 1) is v
+-- if T(n + 1) is v
 said_at : (x : VotedEdges) (n : ℕ) (v : UtcSecond) (step : Step) → second_at x.times (n + 1) ≡ Some v → Ticked x n step → Said x n v step.report
 said_at x n v step at (live w e standing said) =
     let q : ◌≡◌ {A = Option UtcSecond} (Some w) (Some v) = sym e ∙ at in

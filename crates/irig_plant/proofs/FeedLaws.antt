@@ -3,7 +3,7 @@ use Rattle.std.proofs.Common.{zero, suc, ◌≡◌, ℕ, ◌<◌, List, ◌++◌
 use Rattle.std.specs.Prelude.{◌==◌, if◌then◌else◌}
 use Rattle.irig_reader.specs.History.{Fed, with_widths}
 
--- what each port has where the one of generator g is fed
+-- what each port has if the one of generator g is fed
 abbrev pub fed_if : ℕ → ℕ → List ℕ → List ℕ → List ℕ
 fed_if g p ws widths = if g == p then widths ++ ws else widths
 

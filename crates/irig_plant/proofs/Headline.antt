@@ -130,7 +130,7 @@ none_at : (t : TimelineValue) (n : ℕ) (o : Option UtcSecond) → o ≡ second_
 none_at t n None e ends = refl
 none_at t n (Some u) e ends = absurd (ends u ((second_is t n u).0 (sym e)))
 
--- an entry tells no jump, and the end of the range only where there is no T of its edge
+-- an entry tells no jump, and the end of the range only if there is no T of its edge
 pub record IsCalm (s : Setup) (ev : List Event) (e : Entry) : Type 0 where
   pub jump : HasPremises s ev e → ¬ (e.report.cause ≡ Jump)
   pub range_end : HasPremises s ev e → e.report.cause ≡ RangeEnd → second_at s.times e.edge ≡ None

@@ -103,7 +103,7 @@ module _ (t : TimelineValue) (a b c : ReaderSetup) (right : is_true_table t a.ta
   least_false : first_false t 0 (a ∷ b ∷ c ∷ []) ≡ Some 1
   least_false = rw (right, wrong) refl
 
--- ---- truth and alarms, where no event has come
+-- ---- truth and alarms, if no event has come
 
 premises : (said : Report) → HasPremises (plant 3) [] (entry 1 said)
 premises said = record { true_table = empty_true noon (omega arith); kept = kept_none (plant 3) 0 1 }
@@ -227,7 +227,7 @@ voted_now = rw (known_first_end, told_0, told_nothing) refl
 voted_at_1 : IsVoted (plant 3) 0 (Tick 0 ∷ two_true) 1
 voted_at_1 = voted_by_test (plant 3) 0 (Tick 0 ∷ two_true) 1 voted_now
 
--- where no port heard a frame, or no tick came, it is not voted
+-- if no port heard a frame, or no tick came, it is not voted
 none_heard : is_voted (plant 3) 0 (Tick 0 ∷ []) 1 ≡ false
 unfolding second_at
 none_heard = rw (known_first_end, told_nothing) refl

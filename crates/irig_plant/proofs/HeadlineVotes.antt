@@ -41,7 +41,7 @@ the_same (Some truth) c e =
       | inr other ↦ absurd (let on : true ≡ false = rw other at e in cc)
     ]
 
--- so where at most f are untrue, what is voted is the truth
+-- so if at most f are untrue, what is voted is the truth
 voted_is_true : (t : Tells) (r : Redundancy) (truth : Option Claim) (c : Claim) → untrue_ports truth (ports_of t r) ≤ f_of r → vote_of t r ≡ Some c → truth ≡ Some c
 voted_is_true t r truth c few e =
     elim (cases_Bool (differs truth c)) [

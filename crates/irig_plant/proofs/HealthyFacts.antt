@@ -115,7 +115,7 @@ not_late e =
     let there : at 43201 ≡ at 43200 = cc in
     omega (arith, ap (λ (u : UtcSecond). u.sod) there)
 
--- nor one where the slow reader tells the first second, or all edges of a reader come in a row
+-- nor one if the slow reader tells the first second, or all edges of a reader come in a row
 not_at_once : ¬ (healthy_log two_readers 2 ≡ entry 0 1 (tells_second 43201) ∷ entry 1 1 (tells_second 43201) ∷ entry 0 2 (tells_second 43202) ∷ entry 1 2 (tells_second 43202) ∷ [])
 not_at_once e =
     let next : ◌≡◌ {A = Option Entry} (Some (entry 1 1 (silence (lock.Acquiring 1) cause.Acquiring))) (Some (entry 1 1 (tells_second 43201))) = ap second_entry (sym known_log ∙ e) in

@@ -205,7 +205,7 @@ module _ (s : Setup) where
     some_generator : 1 ≤ generators
     some_generator = elim gens.new.count [ inl three ↦ omega (arith, three) | inr five ↦ omega (arith, five) ]
 
-    -- a second is taken where the next one exists
+    -- a second is taken if the next one exists
     second_accepted : (k : ℕ) (ev : List Event) → AtSecond k ev → is_some (second_at s.times k) ≡ true → (AreAccepted s whole_second ev) ↔ (is_some (second_at s.times (k + 1)) ≡ true)
     second_accepted k ev at there = (
       λ h.

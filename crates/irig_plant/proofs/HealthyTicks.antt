@@ -1,4 +1,4 @@
--- Where every port of every tick so far heard just what its generator sends, and no reader was
+-- If every port of every tick so far heard just what its generator sends, and no reader was
 -- restarted: all edges are voted, no premise is broken, and what readers say is known.
 use Rattle.std.specs.Prelude.{is_some, All, ⊤}
 use Rattle.std.specs.List.{Contains}

@@ -130,7 +130,7 @@ true_mark_low t u low =
       ]
     ]
 
--- the mark of a vote at u goes before what was heard earlier on that day, and is the same where
+-- the mark of a vote at u goes before what was heard earlier on that day, and is the same if
 -- both are there
 heard_by : (l : Option Leap) (a b c : Bool) → (c ≡ true → b ≡ true) → mark_or (cond (a && b) (mark_by l) Unspoken) (cond (a && c) (mark_by l) Unspoken) ≡ cond (a && b) (mark_by l) Unspoken
 heard_by l false b c f = refl

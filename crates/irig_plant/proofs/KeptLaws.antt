@@ -1,4 +1,4 @@
--- A log tells the truth where all premises hold.
+-- A log tells the truth if all premises hold.
 use Rattle.std.proofs.Common.{◌≡◌, ℕ, zero, suc, ◌≤◌, All, Bool, true, false, cond, List, [], ◌∷◌, Some, None, refl, nat_lt, arith, rules}
 use Rattle.std.proofs.lemmas.List.Elements.{All-head, All-tail}
 use Rattle.irig_time.specs.Timelines.{TimelineValue, day_length}

@@ -1,4 +1,4 @@
--- That entries and claims are of UTC is a fact which a plant may keep: where it cannot be false, it
+-- That entries and claims are of UTC is a fact which a plant may keep: if it cannot be false, it
 -- is true.
 use Rattle.std.proofs.Common.{List, Option, Some, None, get_or}
 use Rattle.std.specs.Prelude.{All, IfSome}

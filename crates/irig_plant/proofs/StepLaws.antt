@@ -98,7 +98,7 @@ fed_elsewhere s e ev d r other h =
 -- ---- readers
 
 module _ {P : Type 0} {g : Ghosts P} where
-  -- what stands at reader i after the event does so for all, where the event leaves the others
+  -- what stands at reader i after the event does so for all, if the event leaves the others
   pub set_reader : (s : Setup) (ev ev' : List Event) (xs : List (TickedReader P g)) (i : ℕ) (x y : TickedReader P g)
       → length xs ≡ length s.readers → i < length s.readers
       → ((r : ℕ) (d : TickedReader P g) → r < length s.readers → IsTickedReaderAt s ev r (get_or xs r d))
@@ -132,7 +132,7 @@ module _ {P : Type 0} {g : Ghosts P} where
 
 -- ---- generators
 
--- what stands at generator i after the event does so for all, where the event leaves the others
+-- what stands at generator i after the event does so for all, if the event leaves the others
 pub set_generator : (s : Setup) (ev ev' : List Event) (xs : List GeneratorValue) (i : ℕ) (x y : GeneratorValue)
     → length xs ≡ length s.generators → i < length s.generators
     → ((k : ℕ) (d : GeneratorValue) → k < length s.generators → get_or xs k d ≡ generator_at s k ev)

@@ -56,7 +56,7 @@ Ready x n Idle = IsReady x n
 Ready x n (Acquiring h count) = (x.restarted n ≡ false) × IsAcquiring x n h count
 Ready x n (Locked h) = (x.restarted n ≡ false) × IsLocked x n h
 
--- ---- what is said at the tick after the n-th, where T(n + 1) is v
+-- ---- what is said at the tick after the n-th, if T(n + 1) is v
 
 pub data Said (x : VotedEdges) (n : ℕ) (v : UtcSecond) (r : Report) : Type 0 where
   by_vote : IsHeld x (n + 1) → x.voted (n + 1) ≡ true → r ≡ announcement v lock.Locked cause.Voted → Said x n v r
@@ -68,7 +68,7 @@ pub data Said (x : VotedEdges) (n : ℕ) (v : UtcSecond) (r : Report) : Type 0 w
       → IsGuard x (n + 1) → r ≡ silence lock.Unlocked cause.LeapGuard → Said x n v r
   by_silence : ¬ IsHeld x (n + 1) → x.voted (n + 1) ≡ false → (IsHeld x n → x.restarted n ≡ false → ⊥) → r ≡ silence lock.Unlocked cause.NoVote → Said x n v r
 
--- causes where the years have ended
+-- causes if the years have ended
 abbrev pub is_over : Cause → Bool
 is_over cause.NoVote = true
 is_over cause.Expired = true
@@ -92,7 +92,7 @@ claimed : (t : TimelineValue) (n : ℕ) (c : Claim) → IsTrueClaim t (n + 1) c 
 claimed t n c h = let m : h.second.0 ≡ n = omega (arith, h.second.1) in subst (λ (k : ℕ). IsSecond t k c.at) m h.second.2
 
 module _ (x : VotedEdges) (sound : IsTimeline x.times) (table : IsTrueTable x.times x.table) (some : 1 ≤ x.reader_rules.lock_after) where
-  -- ---- a tick without a vote where nothing was held
+  -- ---- a tick without a vote if nothing was held
 
   unheld_on : (n : ℕ) → (IsHeld x n → x.restarted n ≡ false → ⊥) → x.voted (n + 1) ≡ false → ¬ IsHeld x (n + 1)
   unheld_on n f v h = let p : IsHeld x n × (x.restarted n ≡ false) = held_back x n some h (lock_is_before x n some v h) in f p.0 p.1

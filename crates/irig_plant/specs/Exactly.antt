@@ -1,4 +1,4 @@
--- When a reader announces, with what lock, and why it is silent where it is.
+-- When a reader announces, with what lock, and why it is silent if it is.
 -- Source: docs/EXACTLY_WHEN.md.
 use Rattle.std.specs.Prelude.{◌≡◌, ◌↔◌, ◌⊎◌, ℕ, ◌+◌, ◌<◌, ◌≤◌, true, false, List, Some, None, is_some}
 use Rattle.std.specs.List.{Contains}
@@ -30,7 +30,7 @@ pub record IsServed (s : Setup) (ev : List Event) (e : Entry) (v : UtcSecond) : 
 
 -- ---- announces exactly when held
 
--- where T of its edge exists, an entry announces if and only if the edge is held
+-- if T of its edge exists, an entry announces if and only if the edge is held
 pub record AnnouncesWhenHeld (s : Setup) (ev : List Event) (e : Entry) : Type 0 where
   pub exactly : (v : UtcSecond) → IsServed s ev e v
       → (is_some e.report.announce ≡ true) ↔ IsHeld (voted_edges_of s e.reader ev) e.edge
@@ -43,7 +43,7 @@ pub record IsHeldOver (x : VotedEdges) (n : ℕ) (v : UtcSecond) (said : Report)
   pub last : IsLastVote x n age
   pub report : said ≡ announcement v (lock.Holdover age) cause.Held
 
--- by the vote of its edge, and where there is none by a hold
+-- by the vote of its edge, and if there is none by a hold
 pub record IsAnnouncement (x : VotedEdges) (n : ℕ) (v : UtcSecond) (said : Report) : Type 0 where
   pub voted : x.voted n ≡ true → said ≡ announcement v lock.Locked cause.Voted
   pub held : x.voted n ≡ false → IsHeldOver x n v said

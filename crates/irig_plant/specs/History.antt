@@ -139,7 +139,7 @@ Accepts p e = ForHistory p (λ h. refusal h.setup e h.events ≡ None)
 abbrev pub Refuses : {P : Type 0} {g : Ghosts P} → Plant P g → Event → PlantFault → Type 0
 Refuses p e fault = ForHistory p (λ h. refusal h.setup e h.events ≡ Some fault)
 
--- the same, or, if none does, want of memory
+-- the same, or, if none does, no memory
 abbrev pub RefusesAtLast : {P : Type 0} {g : Ghosts P} → Plant P g → Event → PlantFault → Type 0
 RefusesAtLast p e fault = ForHistory p (λ h. IsRefused h.setup e h.events fault)
 

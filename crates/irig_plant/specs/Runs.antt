@@ -22,7 +22,7 @@ abbrev pub MayWantMemory : Event → Type 0
 MayWantMemory (Tick r) = ⊤
 MayWantMemory _ = ⊥
 
--- after ev the event is refused with this fault: its own, or, last of all, want of memory
+-- after ev the event is refused with this fault: its own, or, last of all, no memory
 abbrev pub IsRefused : Setup → Event → List Event → PlantFault → Type 0
 IsRefused s e ev fault =
     (refusal s e ev ≡ Some fault) ⊎ ((refusal s e ev ≡ None) × (fault ≡ Memory) × MayWantMemory e)

@@ -74,7 +74,7 @@ generator_at s g (_ ∷ ev) = generator_at s g ev
 abbrev pub pulses_sent : Setup → ℕ → List Event → List ℕ
 pulses_sent s g ev = widths_of (sent_of (generator_at s g ev) s.times)
 
--- the pulses that it sends at an edge where it has no fault
+-- the pulses that it sends at an edge if it has no fault
 abbrev pub pulses_sent_at : Setup → ℕ → ℕ → List Event → List ℕ
 pulses_sent_at s g edge ev = widths_of (frame_of None (generator_at s g ev) s.times edge)
 

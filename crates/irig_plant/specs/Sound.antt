@@ -5,10 +5,10 @@ use Rattle.irig_vote.specs.Vote.{AreOfUtc}
 use Rattle.irig_plant.specs.declared.entry.Entry.{Entry}
 use Rattle.irig_plant.specs.declared.told_log.ToldEntry.{ToldEntry}
 
--- where the reader announces a second, that is a valid one
+-- if the reader announces a second, that is a valid one
 abbrev pub IsSound : Entry → Type 0
 IsSound e = IfSome e.report.announce IsValid
 
--- where a port claims a second, that is a valid one
+-- if a port claims a second, that is a valid one
 abbrev pub IsToldSoundly : ToldEntry → Type 0
 IsToldSoundly e = AreOfUtc e.told

@@ -15,7 +15,7 @@ pub enum Event {
     GenEdge(u8),
     /// A reader's edge: it votes over what its ports heard, and an entry is logged.
     Tick(u8),
-    /// The frame that a generator now sends comes to a reader. Nothing comes where it is silent.
+    /// The frame that a generator now sends comes to a reader. Nothing comes if it is silent.
     Carry { g: u8, r: u8 },
     /// The same, with the pulse of one element `width` microseconds wide; an element `at` of 100 or
     /// more changes nothing.
@@ -48,7 +48,7 @@ impl Model for Widths {
 }
 
 impl Widths {
-    /// These widths; `Memory` where there is none for them.
+    /// These widths; `Memory` if there is none for them.
     pub fn of(alloc: Global, widths: &[u32]) -> Result<Widths, PlantFault>
         ensures ok { IfOk result (λ w. w ≡ widths.now) }
         ensures memory { IfErr result (λ fault. fault ≡ PlantFault.Memory) }

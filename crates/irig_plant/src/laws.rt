@@ -123,7 +123,7 @@ pub fn announcements_agree()
         → one.edge < other.edge → IsBefore u v }
 {}
 
-/// The premises are needed. A plant of three generators, and one of five, in which f + 1 ports of a
+/// The premises are needed: a plant of three generators, and one of five, in which f + 1 ports of a
 /// reader are untrue at a single tick, and all else is kept, announces a false second there; and so
 /// does one that kept all of that, but for a table.
 pub fn premises_are_needed()
@@ -209,16 +209,17 @@ pub fn healthy_carries_vote()
     ensures told { (s : Setup) (r p : ℕ) (ev : List Event) (c : Claim) → IsTimeline s.times
         → HasGenerators s → truth_at s.times (ticks_of r ev) ≡ Some c → IsHealthyPort s r ev p
         → told_of_widths s.rules (heard_at s r p ev) ≡ Told.Claim c }
-    // Where at least f + 1 ports are healthy and the timeline has a second, the edge is voted.
+    // If at least f + 1 ports are healthy and the timeline has a second, the edge is voted.
     ensures voted { (s : Setup) (r : ℕ) (ev : List Event) (c : Claim) → IsTimeline s.times
         → HasGenerators s → truth_at s.times (ticks_of r ev) ≡ Some c
         → AtLeast (f_in s + 1) (IsHealthyPort s r ev) → is_voted_now s r ev ≡ true }
 {}
 
-/// A reader is available, and recovers.
+/// A reader is available, and recovers: after as many voted edges in a row as it locks after it
+/// announces.
 pub fn runs_are_announced()
     // After as many voted edges in a row as it locks after, with no restart between, an entry
-    // announces under its premises, whatever came before.
+    // announces under its premises, however many votes were missing before.
     ensures locked { (s : Setup) (ev : List Event) (e : Entry) (v : UtcSecond) → IsTimeline s.times
         → All CanLock s.readers → Contains (log_of s ev) e → IsServed s ev e v
         → IsRun (voted_edges_of s e.reader ev) e.edge (setup_at s.readers e.reader).rules.lock_after
@@ -252,7 +253,7 @@ pub fn equal_hearing()
         → HearAlike s r ev t q other → (entry_of s r ev).report ≡ (entry_of t q other).report }
 {}
 
-/// No silent step, whatever is true: where a reader announces at a tick and at its next one, and no
+/// No silent step, whatever is true: if a reader announces at a tick and at its next one, and no
 /// restart came between, the second one follows the first by a mark that its table or a vote gave.
 pub fn no_silent_step()
     ensures { (s : Setup) (r : ℕ) (ev between : List Event) (u v : UtcSecond)
@@ -280,7 +281,7 @@ pub fn damaged_pulses_are_never_untrue()
     // timeline has a second there.
     ensures port { (s : Setup) (r : ℕ) (ev : List Event) (p : ℕ) → IsTimeline s.times
         → HasGenerators s → IsDamagedPort s r ev p → ¬ IsUntruePort s r ev p }
-    // An event of damage makes an empty port such a one, where its generator has no fault and
+    // An event of damage makes an empty port such a one, if its generator has no fault and
     // stands at the edge of the reader's last tick.
     ensures damaged { (s : Setup) (r p : ℕ) (ev : List Event) (i width : ℕ)
         → p < ports_in (redundancy_of (length s.generators))

@@ -55,7 +55,7 @@ impl<P: Port> Plant<P> {
     ///
     /// There must be three or five generators, made with these rules, at edge 0 and without fault,
     /// and 1 to 16 readers whose rules are [`in_range`](irig_reader::in_range). The plant keeps
-    /// copies of their tables. `Memory` where there is none.
+    /// copies of their tables. `Memory` if there is none.
     pub fn new(
         alloc: Global,
         timeline: Timeline,
@@ -118,8 +118,8 @@ impl<P: Port> Plant<P> {
         Ok(ticked)
     }
 
-    /// One event. Refusals come in the order of [`PlantFault`]; a refused event changes nothing.
-    /// Only a tick may want memory, for its entry.
+    /// Takes one event, or answers the first refusal that applies and changes nothing. Refusals come
+    /// in the order of [`PlantFault`]. Only a tick asks for memory, for its entry.
     pub fn apply(&mut self, event: &Event) -> Result<(), PlantFault>
         ensures accepted { OnOk result (Accepts self.old event.now) }
         ensures stands { OnOk result (Follows self.old event.now self.new) }
@@ -162,17 +162,23 @@ impl<P: Port> Plant<P> {
     }
 
     /// What the readers said, in order, since the log was last cleared. What they announced are
-    /// [`valid`](irig_time::valid) seconds, and those of their edges where the premises held. Then
-    /// none gives a false alarm, each announces exactly where its edge is held, and its lock and
-    /// its cause are those that the events give.
+    /// [`valid`](irig_time::valid) seconds, and those of their edges if the premises held. Then
+    /// none gives a false alarm, each announces exactly if its edge is held, and its lock and its
+    /// cause are those that the events give.
     pub fn log(&self) -> &[Entry]
+        // the log of the plant's events, without the entries that were cleared
         ensures entries { ForHistory self.now (λ h.
             result.now ≡ drop h.shown (log_of h.setup h.events)) }
+        // the headline: T of its edge or nothing, under its reader's premises
         ensures truth { ForEntries self.now result.now AnnouncesTruth }
+        // under them no jump, the end of the range only without T, a guard only at a guard edge
         ensures calm { ForEntries self.now result.now GivesNoFalseAlarm }
+        // under them, if T exists, it announces exactly if its edge is held, with the lock and the
+        // cause that the events give
         ensures exactly { ForEntries self.now result.now AnnouncesWhenHeld }
         ensures lock { ForEntries self.now result.now HasItsLock }
         ensures cause { ForEntries self.now result.now HasItsCause }
+        // whatever happened, its second is valid and its reader exists
         ensures valid { All IsSound result.now }
         ensures readers { ForHistory self.now (λ h.
             All (λ e. e.reader < length h.setup.readers) result.now) }

@@ -1,4 +1,4 @@
-//! What ports told, tick by tick, where that is kept.
+//! What ports told, tick by tick, if that is kept.
 
 ghost use Rattle.std.specs.Prelude.{◌≡◌, ◌++◌, ◌∷◌, [], if◌then◌else◌, OnOk, false};
 ghost use Rattle.irig_plant.specs.Room.{HasRoom};
@@ -14,7 +14,7 @@ pub struct ToldEntry {
     pub redundancy: Redundancy,
     /// What they told.
     pub told: Tells,
-    /// What a port tells of a true frame there; none where the timeline has no second for it.
+    /// What a port tells of a true frame there; none if the timeline has no second for it.
     pub truth: Option<Claim>,
 }
 

@@ -89,7 +89,7 @@ frame_claim rules s claim e =
     let high = ltb-false _ _ b.0 in
     (omega (arith, low, high), b.1)
 
--- where the elements are right, what decode answers is the values
+-- if the elements are right, what decode answers is the values
 values_decoded : (s : List Symbol) (c : Coded) → length s ≡ 100 → first_wrong 0 s ≡ None → values_of s ≡ Ok c → decode_result s ≡ Ok c
 unfolding decode_result
 values_decoded s c len right e = rw (le-ltb (length s) 100 (omega arith), le-ltb 100 (length s) (omega arith), right) e

@@ -134,7 +134,7 @@ other-adds ps i o x h =
       | inr e ↦ rw (e.0, e.1) (add-zero (weight_at ps i))
     ]
 
--- the other bit is right where a bit is
+-- the other bit is right if a bit is
 other_right : (i : ℕ) (o : Option Symbol) (x : Symbol) → IsRight i o → IsOtherBit o x → (is_marker_place i ≡ false) × IsRight i (Some x)
 other_right i (Some Zero) One right h = (right, right)
 other_right i (Some One) Zero right h = (right, right)
@@ -205,7 +205,7 @@ still_right s i x h low right = record {
 other_remainder : (m n a b : ℕ) → m + a ≡ n + b → a + b ≡ 1 → m % 2 ≡ n % 2 → ⊥
 other_remainder m n a b e one same = omega (arith, e, one, same)
 
--- where the parity counts it
+-- if the parity counts it
 parity_lost : (rules : Rules) (s : List Symbol) (c : Claim) (i : ℕ) (x : Symbol) → Carries rules s c → i < 76 → IsOtherBit (slice_get s i) x → told_of rules (slice_set s i x) ≡ tells.Fault fault.Parity
 parity_lost rules s c i x h low other =
     let right = right_of rules s c h in
@@ -379,7 +379,7 @@ module _ (rules : Rules) (s : List Symbol) (c : Claim) (i : ℕ) (x : Symbol) (h
   control_is_same : control_of (value control_places (slice_set s i x)) ≡ control_of h.coded.control
   control_is_same = control_after s i x h.reads.len high low ∙ ap control_of (sym h.reads.control)
 
-  -- the claim, where the binary seconds are in order
+  -- the claim, if the binary seconds are in order
   still_carries : SbsAgrees rules.sbs after → Carries rules (slice_set s i x) c
   still_carries agrees = record {
     coded = after;
@@ -478,7 +478,7 @@ unread_told rules s c i x told unread other =
 
 -- ---- all elements
 
--- what is right where a symbol is right is that symbol or the other bit
+-- what is right if a symbol is right is that symbol or the other bit
 same_or_other : (i : ℕ) (y x : Symbol) → IsRight i (Some y) → IsRight i (Some x) → (y ≡ x) ⊎ IsOtherBit (Some y) x
 same_or_other i Zero Zero a b = inl refl
 same_or_other i Zero One a b = inr tt

@@ -105,7 +105,7 @@ early_told rules s f some e =
     rw (ne_eqb (length s) 0 some)
     (fault_cond (nat_lt (length s) 100) (nat_lt 100 (length s)) _ _ (first_wrong 0 s) (frame_told rules s) f (sym (early_part-decoded s) ∙ e) (wrong_told rules s f))
 
--- where there is no early fault
+-- if there is no early fault
 no_fault : (a b : Bool) (x y : FrameFault) (o : Option FrameFault) → cond a (Some x) (cond b (Some y) o) ≡ None → (a ≡ false) × (b ≡ false) × (o ≡ None)
 no_fault true b x y o e = absurd cc
 no_fault false true x y o e = absurd cc

@@ -19,7 +19,7 @@ told_of-heard rules ws =
           long_told rules (symbols_heard ws) (omega arith) ∙ sym (long_told rules (symbols_of ws) (omega arith))
     ]
 
--- one more, where n are kept
+-- one more, if n are kept
 take-push : (n : ℕ) (s : List Symbol) (x : Symbol) → take n (s ++ x ∷ []) ≡ (if nat_lt (length (take n s)) n then take n s ++ x ∷ [] else take n s)
 take-push n s x =
     elim (cases_lt (length s) n) [

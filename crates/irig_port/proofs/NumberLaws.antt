@@ -152,7 +152,7 @@ unfolding values_from values_of
 values-from s =
     rw (two-digits s Second 1 6 3 refl refl refl (omega arith) (omega arith), two-digits s Minute 10 15 3 refl refl refl (omega arith) (omega arith), two-digits s Hour 20 25 2 refl refl refl (omega arith) (omega arith), day-digits s, two-digits s Year 50 55 4 refl refl refl (omega arith) (omega arith), control-from s, sbs-from s) refl
 
--- the parity is looked at where no element is wrong
+-- the parity is looked at if no element is wrong
 told-alike : (wrong : Option FrameFault) (a b : Told) → (wrong ≡ None → a ≡ b) → told_unless wrong a ≡ told_unless wrong b
 told-alike (Some f) a b h = refl
 told-alike None a b h = h refl

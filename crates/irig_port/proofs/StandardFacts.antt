@@ -49,7 +49,7 @@ pub known_order : map (told_of rules)
 unfolding told_of frame_told coded_told ones values_of field_at
 known_order = refl
 
--- the straight binary seconds are compared below second 60, and where the rules say so
+-- the straight binary seconds are compared below second 60, and if the rules say so
 abbrev at_second : ℕ → Coded
 at_second second = record { second = second; minute = 59; hour = 23; day = 366; year = 16; control = 0; sbs = 86398 }
 
@@ -104,7 +104,7 @@ pub known_unread : map (λ i. told_of rules (slice_set plain i One)) unread_plac
 unfolding told_of frame_told coded_told ones values_of field_at control_of offset_in utc_minute
 known_unread = elim (cases_Bool (is_month_end 2)) [ inl e ↦ rw e refl | inr e ↦ rw e refl ]
 
--- where the binary seconds are not compared another bit there changes nothing
+-- if the binary seconds are not compared another bit there changes nothing
 abbrev lenient : Rules
 lenient = record rules { sbs = Ignore }
 

@@ -24,7 +24,7 @@ IsOtherBit (Some Zero) One = ⊤
 IsOtherBit (Some One) Zero = ⊤
 IsOtherBit _ _ = ⊥
 
--- whether the straight binary seconds of a frame with this claim are compared: where the rules say
+-- whether the straight binary seconds of a frame with this claim are compared: if the rules say
 -- so, but for second 60, which is second 86400 of its day
 abbrev pub compares_seconds : SbsUse → Claim → Bool
 compares_seconds Check c = nat_lt c.at.sod 86400

@@ -3,7 +3,7 @@ use Rattle.std.specs.Prelude.{Option, Some, None, Result, Ok, Err}
 use Rattle.irig_frame.specs.declared.fault.FrameFault.{FrameFault}
 use Rattle.irig_frame.specs.declared.fault.FrameFault.TheVariants as fault
 
--- the fault, where it is one of these
+-- the fault, if it is one of these
 abbrev pub early_part : {A : Type 0} → Result A FrameFault → Option FrameFault
 early_part (Ok c) = None
 early_part (Err (fault.Digit f)) = None

@@ -27,7 +27,7 @@ use Rattle.irig_port.specs.declared.told.Told.{Told}
 use Rattle.irig_port.specs.declared.told.Told.TheVariants as tells
 use Rattle.irig_port.specs.Heard.{symbols_of}
 
--- the straight binary seconds are compared where the rules say so and the second is below 60
+-- the straight binary seconds are compared if the rules say so and the second is below 60
 abbrev pub is_sbs_wrong : SbsUse → Coded → Bool
 is_sbs_wrong Check c = nat_lt c.second 60 && not (c.sbs == 3600 * c.hour + 60 * c.minute + c.second)
 is_sbs_wrong Ignore c = false

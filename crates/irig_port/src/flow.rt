@@ -18,7 +18,7 @@ use irig_time::Rules;
 pub struct FlowPort {
     rules: Rules,
     tally: Tally,
-    /// What the port tells, where it was worked out since the last pulse.
+    /// What the port tells, if it was worked out since the last pulse.
     cached: Option<Told>,
     ghost few: { tally.count ≤ 101 },
     ghost whole: { ForSome cached (λ told. tally.count ≡ 100) },
@@ -86,7 +86,7 @@ impl FlowPort {
         }
     }
 
-    // What a frame tells by these rules, where that was worked out.
+    // What a frame tells by these rules, if that was worked out.
     fn cached_by(&self, rules: Rules) -> Option<Told>
         ensures whole { ForSome result (λ told. self.now.tally.count ≡ 100) }
         ensures right { ForSome result (λ told. told ≡ tally_told rules self.now.tally) }

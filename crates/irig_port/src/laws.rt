@@ -36,7 +36,7 @@ pub fn carries_is_told()
         → (told_of rules s ≡ Told.Claim claim) ↔ Carries rules s claim }
 {}
 
-/// One damaged pulse is never untrue: where some symbols tell a claim, the same symbols but for
+/// One damaged pulse is never untrue: if some symbols tell a claim, the same symbols but for
 /// one, whichever it is and whatever stands there now, tell a fault or just this claim.
 pub fn one_damaged_pulse()
     ensures never_untrue { (rules : Rules) (s : List Symbol) (c : Claim) (i : ℕ) (x : Symbol)
@@ -50,7 +50,7 @@ pub fn one_damaged_pulse()
     ensures parity { (rules : Rules) (s : List Symbol) (c : Claim) (i : ℕ) (x : Symbol)
         → told_of rules s ≡ Told.Claim c → i < 76 → IsOtherBit (slice_get s i) x
         → told_of rules (slice_set s i x) ≡ Told.Fault PortFault.Parity }
-    // In the straight binary seconds it is a fault where they are compared, and else no matter.
+    // In the straight binary seconds it is a fault if they are compared, and else no matter.
     ensures binary { (rules : Rules) (s : List Symbol) (c : Claim) (i : ℕ) (x : Symbol)
         → told_of rules s ≡ Told.Claim c → 80 ≤ i → i < 98 → IsOtherBit (slice_get s i) x
         → told_of rules (slice_set s i x)

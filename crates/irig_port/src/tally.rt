@@ -54,7 +54,7 @@ pub struct Tally {
 }
 
 impl Tally {
-    /// Of no symbol.
+    /// The tally of no symbol, as of an empty port.
     pub fn none() -> Tally
         ensures of_none { IsTallyOf result [] }
         ensures empty { result.count ≡ 0 }
@@ -121,7 +121,7 @@ impl Tally {
         }
     }
 
-    // The same as `add` where there are at most 100 symbols. The innermost loop of a plant: nothing
+    // The same as `add` if there are at most 100 symbols. The innermost loop of a plant: nothing
     // branches on the data but the note of a first fault.
     #[inline]
     fn add_in_frame(&mut self, width_us: u32)

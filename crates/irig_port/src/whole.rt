@@ -78,7 +78,7 @@ fn tell(rules: &Rules, symbols: &[Symbol]) -> Told
     tell_values(rules, values)
 }
 
-/// The fault of a frame, where it is one that goes before the parity.
+/// The fault of a frame, if it is one that goes before the parity.
 fn early_fault(values: &Result<Coded, FrameFault>) -> Option<FrameFault>
     ensures { result ≡ early_part values.now }
 {

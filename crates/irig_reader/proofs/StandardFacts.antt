@@ -87,7 +87,7 @@ held sod age = says (Some (at 36523 sod)) (lock.Holdover age) cause.Held
 abbrev hold : ℕ → ℕ → HoldValue
 hold sod age = hold_value (at 36523 sod) age Unspoken
 
--- where a second of that day follows
+-- if a second of that day follows
 module _ (reader_rules : ReaderRules) (sod : ℕ) (room : nat_lt sod 86399 ≡ true) where
   -- the first vote
   first : step_of reader_rules nothing Idle (vote sod) ≡ count_step reader_rules (hold (sod + 1) 0) 1
@@ -201,19 +201,19 @@ pub known_guard : (step_of two nothing (Locked (late_hold 86398 0 Unspoken)) los
 unfolding step_of
 known_guard = (rw december refl, rw december refl, rw december refl, rw december refl)
 
--- where the limit and the guard meet it expires
+-- if the limit and the guard meet it expires
 pub known_limit : step_of (rules 1 4) nothing (Locked (late_hold 86398 4 Unspoken)) lost ≡ stop_step cause.Expired
 unfolding step_of
 known_limit = refl
 
--- no guard where the mark was heard, or the table speaks: 23:59:60, and the next day at once
+-- no guard if the mark was heard, or the table speaks: 23:59:60, and the next day at once
 pub known_leaps : (step_of two nothing (Locked (late_hold 86399 6 Insert)) lost ≡ announce_step (late_hold 86400 7 Insert) (at 6209 86400) (lock.Holdover 7) cause.Held)
     × (step_of two (table 6209 ((6209, leap.Delete) ∷ [])) (Locked (late_hold 86398 6 Unspoken)) lost
     ≡ announce_step (hold_value (at 6210 0) 7 Unspoken) (at 6210 0) (lock.Holdover 7) cause.Held)
 unfolding step_of
 known_leaps = (rw december refl, rw december refl)
 
--- where the years end
+-- if the years end
 pub known_end : (step_of two nothing (Locked (hold 86399 0)) lost ≡ stop_step cause.RangeEnd)
     × (step_of two nothing (Acquiring (hold 86399 0) 1) (vote 86399) ≡ stop_step cause.RangeEnd)
     × (step_of two nothing Idle (vote 86399) ≡ stop_step cause.RangeEnd)

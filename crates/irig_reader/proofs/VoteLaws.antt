@@ -1,4 +1,4 @@
--- A vote is for a valid second where the ports claim valid seconds alone.
+-- A vote is for a valid second if the ports claim valid seconds alone.
 use Rattle.std.proofs.Common.{◌≡◌, ◌<◌, List, [], ◌∷◌, Option, Some, None, All, subst, sym, arith, inl, inr}
 use Rattle.std.specs.Prelude.{IfSome}
 use Rattle.std.proofs.lemmas.Bool.{cases_Bool}

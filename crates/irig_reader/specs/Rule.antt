@@ -17,7 +17,7 @@ use Rattle.irig_reader.specs.declared.rule.State.{State}
 use Rattle.irig_reader.specs.declared.rule.State.TheVariants.{Idle, Acquiring, Locked}
 use Rattle.irig_reader.specs.declared.rule.Step.{Step}
 
--- how many votes that follow one another a reader has counted, where it isn't locked
+-- how many votes that follow one another a reader has counted, if it isn't locked
 abbrev pub count_of : State → ℕ
 count_of Idle = 0
 count_of (Acquiring hold count) = count

@@ -2,7 +2,7 @@
 //!
 //! A [`Reader`] is fed pulses at its ports. At each tick it takes what the ports tell, votes, and
 //! says in a [`Report`] which UTC second begins, or why it says none: it locks after so many votes
-//! that follow one another, holds over without votes for so long, and stops where it would have to
+//! that follow one another, holds over without votes for so long, and stops if it would have to
 //! guess. The rule is this project's profile; no call knows the plant's timeline.
 #![tactic(auto)]
 

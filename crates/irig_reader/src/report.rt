@@ -39,7 +39,7 @@ pub enum Cause {
 /// What a reader says at a tick.
 #[derive(Clone, Copy, PartialEq, Eq)]
 pub struct Report {
-    /// The UTC second that begins at this edge, where it announces one.
+    /// The UTC second that begins at this edge, if it announces one.
     pub announce: Option<UtcSecond>,
     /// Whether it is locked.
     pub lock: Lock,

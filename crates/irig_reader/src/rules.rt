@@ -12,7 +12,7 @@ pub struct ReaderRules {
     pub holdover: u32,
 }
 
-/// Whether both numbers are in their ranges.
+/// Whether the rules of a reader are in their ranges.
 pub fn in_range(rules: &ReaderRules) -> bool
     ensures { IsTrue result ↔ IsReaderRules rules.now }
 {

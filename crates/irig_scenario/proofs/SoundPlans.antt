@@ -43,7 +43,7 @@ pub record IsSound (plan : Plan) : Type 0 where
   pub names : are_names plan.names ≡ true
   pub named : length plan.names ≡ length plan.setup.readers
 
--- ---- what a timeline is refused for is never want of memory
+-- ---- what a timeline is refused for is never a lack of memory
 
 neither_first : {A : Type 0} (o p : Option A) → option_or o p ≡ None → o ≡ None
 neither_first None p h = refl
@@ -151,7 +151,7 @@ with_setup v names plan None are named e h =
 abbrev planned_by : PlantValues → List (List ℕ) → Result Plan Refusal
 planned_by v names = setup_result v >>= (λ setup. Ok (record { setup = setup; names = names }))
 
--- names are given where they are names, and then one for each reader's object
+-- names are given if they are names, and then one for each reader's object
 named_if : (b : Bool) (given names : List (List ℕ)) → are_names given ≡ b → cond b (Ok given) (Err refusal.Names) ≡ Ok names → (are_names names ≡ true) × (given ≡ names)
 named_if true given names e h = let same : given ≡ names = cc in (subst (λ names. are_names names ≡ true) same e, same)
 named_if false given names e h = absurd cc

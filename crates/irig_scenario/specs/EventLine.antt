@@ -19,7 +19,7 @@ use Rattle.irig_values.specs.Forms.{action_of, g, r, at, width, widths, edge, n,
 use Rattle.irig_forms.specs.Keys.{KeyValue}
 use Rattle.irig_forms.specs.Fields.{has_form, natural_at, integer_at, leap_at, reader_at, naturals_at}
 
--- ---- what stands in a line of a form, where it is in range
+-- ---- what stands in a line of a form, if it is in range
 
 -- a natural number
 abbrev pub natural_or_refusal : KeyValue → Data → Result ℕ Refusal

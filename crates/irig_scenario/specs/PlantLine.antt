@@ -25,7 +25,7 @@ use Rattle.irig_values.specs.Names.{names_in}
 
 -- ---- what is refused of the values
 
--- want of memory is no refusal
+-- no memory is no refusal
 abbrev pub refusal_of : LineFault → Option Refusal
 refusal_of (Refused k) = Some k
 refusal_of Memory = None
@@ -107,7 +107,7 @@ plan_in_line line = do
 
 -- ---- answers
 
--- what the values make, seen by `view`, or what is refused of them, unless memory was wanted
+-- what the values make, seen by `view`, or what is refused of them, unless there was no memory
 abbrev pub IsMadeUnlessMemory :
     {A B : Type 0} → (A → B) → Option Refusal → B → Result A LineFault → Type 0
 IsMadeUnlessMemory view refusal made (Ok x) = (refusal ≡ None) × (view x ≡ made)

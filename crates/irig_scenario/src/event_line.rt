@@ -174,7 +174,7 @@ fn command_in_object(
 /// What a line after the plant line asks for, by the names of the plant's readers in order, at most
 /// 16.
 ///
-/// `Refused` with the first reason in the order of docs/FAULTS.md, `Memory` where there was
+/// `Refused` with the first reason in the order of docs/FAULTS.md, `Memory` if there was
 /// none.
 #[tactic(auto, unfolding(crate::specs::EventLine::command_in_line))]
 pub fn event_of_line(

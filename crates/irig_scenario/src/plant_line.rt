@@ -38,7 +38,7 @@ pub struct BuiltPlant {
 
 /// The plant of a plant line: three or five generators, 1 to 16 readers, and as many names.
 ///
-/// `Refused` with the first reason in the order of docs/FAULTS.md, `Memory` where there was
+/// `Refused` with the first reason in the order of docs/FAULTS.md, `Memory` if there was
 /// none.
 #[tactic(auto, unfolding(crate::specs::PlantLine::plan_in_line))]
 pub fn plant_of_line(alloc: Global, line: &[u8]) -> Result<BuiltPlant, LineFault>

@@ -7,7 +7,7 @@ use irig_plant::Event;
 use std::alloc::{AllocError, Global};
 
 /// The events of one second of so many generators and readers: each frame comes to each reader,
-/// each reader ticks, each generator goes to its next edge. Fails for want of memory alone.
+/// each reader ticks, each generator goes to its next edge. Fails only if there is no memory.
 pub fn second_of(alloc: Global, generators: u8, readers: u8) -> Result<Vec<Event>, AllocError>
     ensures { IfOk result (λ events. events.items ≡ second_of generators readers) }
 {

@@ -54,7 +54,7 @@ pub known_whole_lines : map whole_lines (codes "a\nb\n" ∷ codes "a\nb" ∷ cod
 unfolding whole_lines
 known_whole_lines = refl
 
--- the first lines with their newlines, and all where there are no more
+-- the first lines with their newlines, and all if there are no more
 pub known_first_lines : map (λ n. first_lines n (codes "a\n\nb")) (0 ∷ 1 ∷ 2 ∷ 3 ∷ 4 ∷ [])
     ≡ [] ∷ codes "a\n" ∷ codes "a\n\n" ∷ codes "a\n\nb" ∷ codes "a\n\nb" ∷ []
 unfolding first_lines
@@ -373,7 +373,7 @@ wholes ls rest h = go ls (recursion_from_All HasNoNewline ls h)
         let cut : (l ++ 10 ∷ []) ++ unlines ls ++ rest ≡ l ++ (10 ∷ (unlines ls ++ rest)) = simp append_assoc in
         ap whole_lines cut ∙ whole_along l (unlines ls ++ rest) (recursion_from_All (λ b. b ≢ 10) l h.0) ∙ ap (λ z. l ∷ z) (go ls h.1)
 
--- where the log of a line is "a", it stands once the line was read
+-- if the log of a line is "a", it stands once the line was read
 module _ (l : List ℕ) (unlined : HasNoNewline l) (log : log_text (entries_alone true) (meaning_of (l ++ 10 ∷ [])).scene ≡ codes "a") where
   one : (ls : List (List ℕ)) → ls ≡ l ∷ [] → log_text (entries_alone true) (meaning_of (unlines ls)).scene ≡ codes "a"
   one ls e = ap (λ ks. log_text (entries_alone true) (meaning_of (unlines ks)).scene) e ∙ ap (λ bs. log_text (entries_alone true) (meaning_of bs).scene) (append-nil (l ++ 10 ∷ [])) ∙ log

@@ -80,9 +80,9 @@ line_done shown was is in0 in1 in2 out0 out1 out2 n limit l line end run got end
     goes_on shown was is in0 in1 in2 out0 out1 out2 n l run took (subst HasNoNewline (sym same) got.whole)
     (subst (λ l. Consumes in1 in2 (l ++ 10 ∷ [])) (sym same) (as_newline end line in1 in2 ends got.taken))
 
--- ---- the input, where it tells its bytes
+-- ---- the input, if it tells its bytes
 
--- what a line took is followed by what is left, or by nothing where that is not told
+-- what a line took is followed by what is left, or by nothing if that is not told
 known_rest : (was left : Option (List ℕ)) (spelled : List ℕ) → Consumes was left spelled → (rest : List ℕ) × AreBytesOf was (spelled ++ rest)
 known_rest None left spelled took = ([], tt)
 known_rest (Some y) None spelled took = absurd took

@@ -87,7 +87,7 @@ pub known_silence : (silent (lock.Acquiring 1) cause.Acquiring ≡ codes "7 west
 unfolding entry_text digits
 known_silence = (refl, refl, refl, refl, refl, refl)
 
--- an entry without an announcement is written where all are wanted
+-- an entry without an announcement is written if all are wanted
 abbrev log : List Entry
 log = entry 0 1 None lock.Unlocked cause.NoVote ∷ entry 0 2 (Some inserted) lock.Locked cause.Voted ∷ []
 
@@ -115,7 +115,7 @@ pub known_many : (at : Option Scene) (line : List ℕ) → step 1000001 at line 
 unfolding step
 known_many at line = refl
 
--- a line of 65,537 bytes is refused, also a blank one; one byte less is skipped where it is blank
+-- a line of 65,537 bytes is refused, also a blank one; one byte less is skipped if it is blank
 pub known_long : (at : Option Scene) (line : List ℕ) → (length line ≡ 65537 → step 1000000 at line ≡ step_to at (Some refusal.TooLong))
     × (length line ≡ 65536 → is_blank line ≡ true → step 1 at line ≡ step_to at None)
 unfolding step

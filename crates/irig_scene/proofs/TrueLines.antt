@@ -1,4 +1,4 @@
--- What is written tells the truth, where the premises hold.
+-- What is written tells the truth, if the premises hold.
 use Rattle.std.proofs.Common.{◌≡◌, ◌≢◌, ℕ, ◌+◌, ◌^◌, ◌<◌, Bool, true, false, cond, List, [], ◌∷◌, ◌++◌, length, All, Option, Some, None, Result, Ok, Err, refl, ap, sym, subst, ◌∙◌, append_assoc, nat_lt, arith, codes}
 use Rattle.std.specs.Prelude.{⊤, option_and_then, is_some, slice_get}
 use Rattle.std.specs.List.{AllByRecursion}
@@ -231,7 +231,7 @@ none_says (Some k) = never (whole_lines (refusal_text k.line k.refusal)) (refusa
     never (l ∷ ls) h = (h.0.says_kept, never ls h.1)
 none_says None = tt
 
--- the lines of the whole output_shown, where those that were written end so
+-- the lines of the whole output_shown, if those that were written end so
 above_and_more : (shown : Shown) (x w rest : List ℕ) (above : List (List ℕ)) → output_shown x shown ≡ w ++ rest → whole_lines w ≡ above ++ kept_line ∷ [] → whole_lines (output_shown x shown) ≡ above ++ kept_line ∷ (whole_front w rest).0
 above_and_more shown x w rest above is ends =
     ap whole_lines is ∙ (whole_front w rest).1 ∙ ap (λ ls. ls ++ (whole_front w rest).0) ends ∙ append_assoc above (kept_line ∷ []) (whole_front w rest).0

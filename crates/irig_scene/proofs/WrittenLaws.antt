@@ -1,4 +1,4 @@
--- What a run wrote is a front of the log of the bytes that it read.
+-- What a run wrote is a prefix of the log of the bytes that it read.
 use Rattle.std.proofs.Common.{◌≡◌, ◌↔◌, true, ℕ, List, [], ◌++◌, Option, Some, None, Result, Ok, Err, ap, sym, subst, ◌∙◌, append-nil}
 use Rattle.std.specs.Prelude.{IfSome}
 use Rattle.std.specs.Io.KnownBytes.{Appends}
@@ -32,7 +32,7 @@ of_front Fact text fact (Some old) (Some new) part = λ written is.
     let same : part.front ≡ written = append_cancel_left old part.front written (sym part.wrote ∙ is) in
     fact written part.rest (part.whole ∙ ap (λ w. w ++ part.rest) same)
 
--- a fact of each front of the log of bytes is one of what was written for them
+-- a fact of each prefix of the log of bytes is one of what was written for them
 of_run : (Fact : List ℕ → List ℕ → Type 0) (r : Result Outcome SceneFault) (shown : Shown) (was left old new : Option (List ℕ)) → ((x w rest : List ℕ) → output_shown x shown ≡ w ++ rest → Fact x w)
     → RanShown r shown was left old new → IfSome was (λ x. OfWritten old new (Fact x))
 of_run Fact r shown None left old new fact ran = tt

@@ -1,4 +1,4 @@
--- What a run leaves in memory is a front of the log, so what is proved of fronts holds of it.
+-- What a run leaves in memory is a prefix of the log, so what is proved of prefixes holds of it.
 use Rattle.std.proofs.Common.{◌≡◌, ℕ, ◌≤◌, inl, inr, Bool, false, List, [], ◌++◌, length, take, drop, Option, Some, Result, Ok, Err, sym, ap, ◌∙◌, append-nil, append_assoc, subst, arith}
 use Rattle.std.proofs.lemmas.Bool.{cases_lt}
 use Rattle.std.proofs.lemmas.List.{take_all, take-append-drop, length-take}
@@ -31,7 +31,7 @@ front_ran (Err Read) x all left log ran = of_known x all log ran.bytes ran.of_in
 front_ran (Err Write) x all left log ran = of_known x all log ran.bytes ran.of_input (part_of log (output ran.bytes all) ran.ran.0)
 front_ran (Err Memory) x all left log ran = of_known x all log ran.bytes ran.of_input (part_of log (output ran.bytes all) ran.ran.0)
 
--- what memory has of some bytes is a front of them, with room for all or not
+-- what memory has of some bytes is a prefix of them, with room for all or not
 front_over : (old bytes : List ℕ) → IsFront (take (length bytes) (written_over old bytes)) bytes
 front_over old bytes = elim (cases_lt (length old) (length bytes)) [
   | inl less ↦
@@ -47,7 +47,7 @@ front_over old bytes = elim (cases_lt (length old) (length bytes)) [
       (ap (λ m. take (length bytes) m) over ∙ take-append_seam bytes (drop (length bytes) old))
 ]
 
--- what a run leaves in memory, as far as it says, is a front of the log
+-- what a run leaves in memory, as far as it says, is a prefix of the log
 front_left : (x : List ℕ) (all : Bool) (status : ℕ) (log old : List ℕ) → IsRun x all status log → IsFront (take (length log) (written_over old log)) (output x all)
 front_left x all status log old run =
     let ran = front_ran run.answer x all run.left log run.ran in

@@ -26,6 +26,6 @@ pub record IsRun (text : List ℕ) (all : Bool) (status : ℕ) (log : List ℕ) 
   pub numbered : status ≡ status_of answer
   pub ran : Ran answer all (Some text) left (Some []) (Some log)
 
--- what stood in memory, with these bytes over its front, as many as it has room for
+-- what stood in memory, with these bytes over its beginning, as many as it has room for
 abbrev pub written_over : List ℕ → List ℕ → List ℕ
 written_over old bytes = take (length old) bytes ++ drop (length bytes) old

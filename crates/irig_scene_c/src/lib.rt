@@ -17,8 +17,8 @@ use std::alloc::Global;
 /// Runs a scenario, and writes as much of its log into `log` as that has room for; with `all` the
 /// silent entries too. `whole` is then how many bytes the log has.
 ///
-/// 0 where the run was done, and 3 where a line is refused, as the log's last line says. 5 where
-/// there was no memory for the log, and 6 where there was none for the run: `whole` is then how
+/// 0 if the run was done, and 3 if a line is refused, as the log's last line says. 5 if
+/// there was no memory for the log, and 6 if there was none for the run: `whole` is then how
 /// many bytes there were until then, which are the first of the log. (4 is a failed read, of which
 /// a text in memory has none.)
 #[unsafe(no_mangle)]
@@ -34,6 +34,8 @@ pub extern "C" fn irig_run(
     ensures refused { result ≡ 3 → IsSome (meaning_of text.now).refused }
     ensures whole { HasWholeLog result → whole.new ≡ length (output text.now all) }
     ensures front { whole.new ≤ length (output text.now all) }
+    // that many first bytes of the log stand there, as far as there is room, and behind them what
+    // stood there
     ensures log { log.new ≡ written_over log.old (take whole.new (output text.now all)) }
     ensures vouches { VouchesForItself text.now (take whole.new log.new) }
     ensures truth { TellsTruth text.now (take whole.new log.new) }

@@ -35,7 +35,7 @@ fn status_of(answer: &Result<Outcome, SceneFault>) -> u8
     }
 }
 
-/// Writes the bytes over the front of `room`, as many as it has room for.
+/// Writes the bytes over the beginning of `room`, as many as it has room for.
 pub(crate) fn write_over(room: &mut [u8], bytes: &[u8])
     ensures { room.new ≡ written_over room.old bytes.now }
 {

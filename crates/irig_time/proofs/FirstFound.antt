@@ -1,4 +1,4 @@
--- The first in a list that passes a test, where the list is made of parts.
+-- The first in a list that passes a test, if the list is made of parts.
 use Rattle.std.proofs.Common.{◌≡◌, ◌↔◌, ℕ, zero, suc, ◌+◌, ◌<◌, ◌≤◌, Bool, true, false, List, [], ◌∷◌, ◌++◌, map, Option, Some, None, cond, refl, sym, ap, subst, ◌∙◌, arith, ◌⊎◌, inl, inr}
 use Rattle.std.specs.List.{find, flat_map, range_with_len}
 use Rattle.std.proofs.lemmas.Bool.{both_ways}

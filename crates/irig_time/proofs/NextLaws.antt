@@ -51,7 +51,7 @@ unspoken_step t u sound clear =
       ]
     ]
 
--- where a second follows the last one of a day, that day isn't the last
+-- if a second follows the last one of a day, that day isn't the last
 not_last : (t : TimelineValue) (n : ℕ) (u v : UtcSecond) → IsSecond t n u → IsSecond t (n + 1) v → day_length t.leaps u.day ≤ u.sod + 1 → u.day < 36523
 not_last t n u v a b late =
     elim (cases_lt u.day 36523) [

@@ -206,7 +206,7 @@ plain_seconds t total s last day h from to = plain_until t.leaps t.start.day s d
 abbrev second : ℕ → ℕ → UtcSecond
 second day sod = record { day = day; sod = sod }
 
--- where the day is served, the second is found
+-- if the day is served, the second is found
 pub found_in : (t : TimelineValue) (n total : ℕ) (s : Stretch) (last days : ℕ) → Holds t total s last → total ≡ t.start.sod + n → days ≡ min ((total - s.seconds) / 86400) (last - s.day) → s.day + days ≤ 36523
     → IsSecond t n (second (s.day + days) (total - s.seconds - days * 86400))
 found_in t n total s last days h e is served =
@@ -234,7 +234,7 @@ found_in t n total s last days h e is served =
       sum = omega (arith, sum, e, begun, is);
     }
 
--- where it isn't, there is no second
+-- if it isn't, there is no second
 pub late_in : (t : TimelineValue) (n total : ℕ) (s : Stretch) (last days : ℕ) → Holds t total s last → total ≡ t.start.sod + n → days ≡ min ((total - s.seconds) / 86400) (last - s.day) → 36523 < s.day + days
     → (u : UtcSecond) → IsSecond t n u → ⊥
 late_in t n total s last days h e is past u a =
@@ -373,7 +373,7 @@ leap_told leaps first day begun stretches d index from lt low high =
       | inr ge ↦ absurd (other (omega (arith, ge, high)))
     ]
 
--- no leap comes where the last stretch has begun
+-- no leap comes if the last stretch has begun
 pub none_told : (leaps : List (ℕ × Leap)) (first day begun : ℕ) (stretches : List Stretch) (d : Stretch)
     → IsIndex leaps first stretches → begun ≡ length stretches
     → (0 < begun → (get_or stretches (begun - 1) d).day ≤ day) → leap_of leaps day ≡ None

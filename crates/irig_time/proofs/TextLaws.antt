@@ -8,7 +8,7 @@ use Rattle.irig_time.specs.Seconds.{IsValid, minute_of, second_of}
 use Rattle.irig_time.specs.Texts.{date_text, time_text, IsDayText, IsText}
 use Rattle.irig_time.proofs.Dates.{date_of_parts, parts_are}
 
--- r is what the two digits there say, where they are such
+-- r is what the two digits there say, if they are such
 abbrev pub IsTwoAt : List ℕ → ℕ → ℕ → Type 0
 IsTwoAt bytes at r = (n : ℕ) → n < 100 → get_or bytes at 0 ≡ 48 + n / 10 → get_or bytes (at + 1) 0 ≡ 48 + n % 10 → r ≡ n
 
@@ -70,7 +70,7 @@ text_unique u a b h k =
 made : (u : UtcSecond) (d s : ℕ) → d ≡ u.day → s ≡ u.sod → ◌≡◌ {A = UtcSecond} (record { day = d; sod = s }) u
 made u d s ed es = rw (ed, es) refl
 
--- a second's text is read as the second, where its day is read
+-- a second's text is read as the second, if its day is read
 pub second_read : (u : UtcSecond) (bytes : List ℕ) (day h m s : ℕ) → IsValid u → IsText u bytes → day ≡ u.day → IsTwoAt bytes 11 h → IsTwoAt bytes 14 m → IsTwoAt bytes 17 s
     → ◌≡◌ {A = UtcSecond} (record { day = day; sod = h * 3600 + m * 60 + s }) u
 second_read u bytes day h m s valid t same rh rm rs = made u day (h * 3600 + m * 60 + s) same (time_read u bytes h m s valid t rh rm rs)

@@ -1,4 +1,4 @@
--- That a second is of UTC is a fact which a struct may keep: where it cannot be false, it is true.
+-- That a second is of UTC is a fact which a struct may keep: if it cannot be false, it is true.
 use Rattle.std.proofs.Common.{◌≡◌, ◌≤◌, ℕ, true, inl, inr, arith}
 use Rattle.std.proofs.Math.Logic.{∥∥₁_elim}
 use Rattle.std.proofs.lemmas.Bool.{cases_Bool, cases_lt, cases_eq, both_ways}

@@ -1,5 +1,5 @@
 -- What it is for the symbols of a frame to carry a claim: the frame reads as a time, has the
--- parity, its straight binary seconds agree where they are compared, its quality has a vote, and
+-- parity, its straight binary seconds agree if they are compared, its quality has a vote, and
 -- its time and leap bits claim this.
 use Rattle.std.specs.Prelude.{◌≡◌, ◌+◌, ◌*◌, ◌<◌, ◌≤◌, List, Ok}
 use Rattle.irig_frame.specs.declared.symbol.Symbol.{Symbol}
@@ -13,7 +13,7 @@ use Rattle.irig_time.specs.declared.rules.SbsUse.TheVariants.{Check, Ignore}
 use Rattle.irig_time.specs.declared.claim.Claim.{Claim}
 use Rattle.irig_time.specs.Claims.{claim_by}
 
--- the straight binary seconds are those of the coded time, where they are compared: never at second
+-- the straight binary seconds are those of the coded time, if they are compared: never at second
 -- 60
 abbrev pub SbsAgrees : SbsUse → Coded → Type 0
 SbsAgrees Check c = c.second < 60 → c.sbs ≡ 3600 * c.hour + 60 * c.minute + c.second

@@ -10,7 +10,7 @@ use Rattle.jiff_core.specs.Calendar.{days_from_civil, IsCivilDate}
 abbrev pub day_number : ℕ → ℕ → ℕ
 day_number yy doy = 365 * yy + (yy + 3) / 4 + doy - 1
 
--- a year has 366 days where 4 divides it, from 2000 to 2099
+-- a year has 366 days if 4 divides it, from 2000 to 2099
 abbrev pub year_length : ℕ → ℕ
 year_length yy = if yy % 4 == 0 then 366 else 365
 

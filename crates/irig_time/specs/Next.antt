@@ -27,6 +27,6 @@ next_at_month_end u NoLeap = next_day_after 86399 u
 next_at_month_end u Insert = next_day_after 86400 u
 next_at_month_end u Delete = next_day_after 86398 u
 
--- the second after a second, by the mark of its day, where that is known
+-- the second after a second, by the mark of its day, if that is known
 abbrev pub next_of : UtcSecond → Mark → Option UtcSecond
 next_of u mark = if is_month_end u.day then next_at_month_end u mark else next_day_after 86399 u

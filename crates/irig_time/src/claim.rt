@@ -34,7 +34,7 @@ pub enum TimeFault {
     OutOfYears,
     /// Second 60 elsewhere than in 23:59 UTC of a month's last day.
     Second60,
-    /// 23:59:59 UTC of a month's last day, where the frame says that this second is deleted.
+    /// 23:59:59 UTC of a month's last day, and the frame says that this second is deleted.
     DeletedSecond,
 }
 

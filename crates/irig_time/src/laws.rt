@@ -16,8 +16,8 @@ use crate::second::UtcSecond;
 use irig_control::Control;
 use irig_frame::Coded;
 
-/// The time that is coded of a second claims that second: with the offset `-h` where it is added,
-/// and `h` where it is subtracted, `h` being the half hours by which the clock is ahead of UTC.
+/// The time that is coded of a second claims that second: with the offset `-h` if it is added,
+/// and `h` if it is subtracted, `h` being the half hours by which the clock is ahead of UTC.
 pub fn claim_of_coded()
     ensures added { (u : UtcSecond) (h : ℤ) (c : Coded) (k : Control) → IsValid u
         → unsigned_abs h ≤ 31 → IsCodedOf u h c → k.offset_half_hours ≡ neg_ℤ h
@@ -57,7 +57,7 @@ pub fn one_second()
 {}
 
 /// The functions `second_at` and `truth_at` give the second of each number and its true claim,
-/// where there is one.
+/// if there is one.
 pub fn second_is()
     ensures second { (t : TimelineValue) (n : ℕ) (u : UtcSecond)
         → (second_at t n ≡ Some u) ↔ IsSecond t n u }

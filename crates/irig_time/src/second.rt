@@ -20,7 +20,7 @@ pub const LAST_NAMED_DAY: u32 = 36524;
 #[repr(C)]
 #[derive(Clone, Copy, PartialEq, Eq)]
 pub struct UtcSecond {
-    /// The day, counted from 2000-01-01 as day 0; [`FIRST_DAY`] to [`LAST_DAY`] where the second is
+    /// The day, counted from 2000-01-01 as day 0; [`FIRST_DAY`] to [`LAST_DAY`] if the second is
     /// valid.
     pub day: u32,
     /// The second of the day, 0 to 86399, or 86400 for 23:59:60 on a month's last day.
@@ -36,7 +36,7 @@ impl UtcSecond {
     }
 }
 
-/// Whether it is a second from 2000-01-02 to 2099-12-30, where 23:59:60 ends a month.
+/// Whether a second is one from 2000-01-02 to 2099-12-30, in which 23:59:60 ends a month.
 ///
 /// That a leap second comes at the end of a UTC month is ITU-R TF.460.
 pub fn valid(utc: &UtcSecond) -> bool
@@ -49,7 +49,7 @@ pub fn valid(utc: &UtcSecond) -> bool
 /// The second after a [`valid`](crate::valid) second, by what is said of the leap at the end of its
 /// day.
 ///
-/// None past 2099-12-30, and, where nothing is said, after 23:59:58 and 23:59:59 of a month's last
+/// None past 2099-12-30, and, if nothing is said, after 23:59:58 and 23:59:59 of a month's last
 /// day: what follows those is not known.
 pub fn next(utc: UtcSecond, mark: Mark) -> Option<UtcSecond>
     requires { IsValid utc }

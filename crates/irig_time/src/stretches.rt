@@ -73,7 +73,7 @@ fn is_earlier(day: u32, leap: Option<(u32, Leap)>) -> bool
 }
 
 /// The stretch in which so many seconds have passed since the beginning of the first day, and its
-/// last day: the one after the last day served, where no leap ends it.
+/// last day: the one after the last day served, if no leap ends it.
 pub(crate) fn stretch_at(stretches: &[Stretch], total: u64) -> (Stretch, u32)
     requires { IsRising stretches.now }
     ensures { (t : TimelineValue) → IsIndex t.leaps t.start.day stretches.now
@@ -87,7 +87,7 @@ pub(crate) fn stretch_at(stretches: &[Stretch], total: u64) -> (Stretch, u32)
     (stretches[begun - 1], last)
 }
 
-/// How many stretches have begun where so many seconds have passed since the beginning of the
+/// How many stretches have begun once so many seconds have passed since the beginning of the
 /// first.
 fn begun(stretches: &[Stretch], total: u64) -> usize
     requires { IsRising stretches.now }
@@ -102,7 +102,7 @@ fn begun(stretches: &[Stretch], total: u64) -> usize
     low + stretches[low..high].partition_point(|stretch| stretch.seconds <= total)
 }
 
-/// The places among which the search may stay: where leaps come evenly, a few about a guess, else
+/// The places among which the search may stay: if leaps come evenly, a few about a guess, else
 /// all.
 fn window(stretches: &[Stretch], total: u64) -> (usize, usize)
     requires { IsRising stretches.now }

@@ -18,7 +18,7 @@ pub trait Leaps {
     // The table that it stands for.
     ghost says: { Self → TableValue };
 
-    /// What is known of the leap at the end of the day, at most [`LAST_DAY`]: unspoken where it is
+    /// What is known of the leap at the end of the day, at most [`LAST_DAY`]: unspoken if it is
     /// not a month's last or lies past the table's end.
     fn mark(&self, day: u32) -> Mark
         requires { day ≤ LAST_DAY }
@@ -95,7 +95,7 @@ impl LeapTable {
         }
     }
 
-    /// What the table says of the end of the day, at most [`LAST_DAY`]: unspoken where it is not a
+    /// What the table says of the end of the day, at most [`LAST_DAY`]: unspoken if it is not a
     /// month's last or lies past the table's end.
     pub fn mark(&self, day: u32) -> Mark
         requires { day ≤ LAST_DAY }

@@ -100,7 +100,7 @@ fn digits(number: u32) -> [u8; 2]
     [b'0' + (number / 10) as u8, b'0' + (number % 10) as u8]
 }
 
-/// What two bytes say as decimal digits, where they are such.
+/// What two bytes say as decimal digits, if they are such.
 fn two_at(text: &[u8], at: usize) -> u32
     requires { at + 1 < length text.now }
     ensures value { (n : ℕ) → n < 100 → slice_index text.now at ≡ 48 + n / 10

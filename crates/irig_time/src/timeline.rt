@@ -100,6 +100,7 @@ impl Timeline {
         ensures second { (u : UtcSecond) → (result ≡ Some u) ↔ IsSecond self.now number u }
         ensures valid { IfSome result IsValid }
         ensures value { result ≡ second_at self.now number }
+        // there is none from 2^32 on
         ensures early { IfSome result (λ u. number < 2 ^ 32) }
     {
         let total = u64::from(self.start.sod).checked_add(number)?;

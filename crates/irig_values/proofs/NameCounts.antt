@@ -34,7 +34,7 @@ named_count ds names e =
     let count = counted (map name_in ds) found.0 in
     rw (sym found.1) (record { least = count.0; most = count.1; same = length-map ds name_in })
 
--- what follows of their number, where they are kept in a set
+-- what follows of their number, if they are kept in a set
 pub if_counted : {S : Type 0} → (r : Result S LineFault) (names_of : S → List (List ℕ)) (ds : List Data) (Q : S → Type 0)
     → ((s : S) → AreCounted ds (names_of s) → Q s) → IsUnlessMemory names_of (names_in ds) r → IfOk r Q
 if_counted (Ok s) names_of ds Q f e = f s (named_count ds (names_of s) e)

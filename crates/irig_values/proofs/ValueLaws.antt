@@ -113,6 +113,6 @@ found_is : {A : Type 0} (o : Option A) (x : A) → or_else Value o ≡ Ok x → 
 found_is None x e = absurd cc
 found_is (Some y) x e = cc
 
--- so for the values that a line's object has, where there are any
+-- so for the values that a line's object has, if there are any
 pub found_in_range : (version : Version) (d : Data) (v : PlantValues) → or_else Value (plant_values version d) ≡ Ok v → AreInRange d v
 found_in_range version d v e = values_in_range version d v (found_is (plant_values version d) v e)

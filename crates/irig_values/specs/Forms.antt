@@ -14,7 +14,7 @@ use Rattle.serde_json.specs.Data.{Data}
 
 -- ---- the words
 
--- what happens, by its word, where it is no fault
+-- what happens, by its word, if it is no fault
 abbrev pub action_named : List ℕ → Option Action
 action_named word =
     if bytes_eq word (codes "carry") then Some action.Carry

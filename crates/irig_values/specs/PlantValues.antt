@@ -1,4 +1,4 @@
--- The values of a plant line: what its words, numbers and texts stand for, where its shape is
+-- The values of a plant line: what its words, numbers and texts stand for, if its shape is
 -- right.
 -- Source: docs/SCENARIOS.md; the order of refusals is that of docs/FAULTS.md.
 use Rattle.std.specs.Prelude.{ℕ, Bool, false, ◌==◌, ◌||◌, if◌then◌else◌, List, [], length, codes, Option, Some, None, option_and_then, unwrap_or}
@@ -21,7 +21,7 @@ use Rattle.irig_values.specs.PlantShape.{leaps, local, changes, leap_kind, lock_
 -- ---- steps that may have no value
 
 infixl 10 ◌>>=◌
--- the next step, where this one has a value
+-- the next step, if this one has a value
 abbrev pub ◌>>=◌ : {A B : Type 0} → Option A → (A → Option B) → Option B
 o >>= f = option_and_then f o
 
@@ -52,7 +52,7 @@ leap_of d = do
   leap ← leap_at leap_kind d
   Some (day, leap)
 
--- the zone of a generator or a change; no daylight saving, where nothing is said of it
+-- the zone of a generator or a change; no daylight saving, if nothing is said of it
 unfoldable pub zone_of : Data → Option Zone
 zone_of d = do
   half_hours ← integer_at local d
@@ -80,7 +80,7 @@ few_changes_of items = do
   few ← few_items changes.kind items
   all_of change_of few
 
--- no changes, where nothing is said of them
+-- no changes, if nothing is said of them
 abbrev pub changes_if : Option (List Data) → Option (List Change)
 changes_if None = Some []
 changes_if (Some items) = few_changes_of items
@@ -130,7 +130,7 @@ table_of d = do
   leaps ← all_of leap_of items
   Some (until, leaps)
 
--- the empty table, where there is none
+-- the empty table, if there is none
 abbrev pub table_if : Option Data → Option (ℕ × List (ℕ × Leap))
 table_if None = Some (0, [])
 table_if (Some d) = table_of d
@@ -163,7 +163,7 @@ pub record PlantValues : Type 0 where
   pub generators : List GeneratorValues
   pub readers : List ReaderValues
 
--- the values of all parts, where each part has its own
+-- the values of all parts, if each part has its own
 unfoldable pub plant_values : Version → Data → Option PlantValues
 plant_values version d = do
   start ← start_of d

@@ -170,7 +170,7 @@ fn fault_keys_of(kind: FaultKind) -> &'static [Key]
     }
 }
 
-/// The keys of the line that has this value; none where [`action_of`] has none.
+/// The keys of the line that has this value; none if [`action_of`] has none.
 pub fn event_keys(value: &Value) -> Option<&'static [Key]>
     ensures { option_map (λ keys. map key_value keys.now) result
         ≡ option_map keys_of (action_of (view value.now)) }
@@ -178,7 +178,7 @@ pub fn event_keys(value: &Value) -> Option<&'static [Key]>
     Some(keys_of(action_of(value)?))
 }
 
-/// What a line asks for, by its `do` and, of a fault, its `kind`; none where these are no words of
+/// What a line asks for, by its `do` and, of a fault, its `kind`; none if these are no words of
 /// docs/SCENARIOS.md.
 #[tactic(auto, unfolding(crate::specs::Forms::action_of))]
 pub fn action_of(value: &Value) -> Option<Action>

@@ -55,7 +55,7 @@ fn have_names(readers: &[Value]) -> bool
     readers.iter().all(|reader| is_name(name_in(reader)))
 }
 
-// Adds a name behind the others where it is new, and answers whether it is.
+// Adds a name behind the others if it is new, and answers whether it is.
 fn add(alloc: Global, names: &mut IndexSet<String>, name: &str) -> Result<bool, AllocError>
     ensures new { IfOk result (λ is_new. is_new
         ≡ not (list_any (λ other. bytes_eq name.now (string_bytes other)) names.old.keys)) }
@@ -84,7 +84,7 @@ fn reader_names(readers: &[Value], alloc: Global) -> Result<IndexSet<String>, Li
 
 /// The names of a plant line's readers, in order: 1 to 16, none twice.
 ///
-/// `Refused` with `Names` where they are others, `Memory` where there was none.
+/// `Refused` with `Names` if they are others, `Memory` if there was none.
 pub fn names_of(alloc: Global, value: &Value) -> Result<IndexSet<String>, LineFault>
     ensures names { IsUnlessMemory (λ names. texts_of names.keys)
         (names_in (readers_in (view value.now))) result }

@@ -47,7 +47,7 @@ impl Model for PlantValues {
 
 /// The values of a plant line of this version.
 ///
-/// `Refused` with `Value` where one is out of its range, `Memory` where there was none.
+/// `Refused` with `Value` if one is out of its range, `Memory` if there was none.
 #[tactic(auto, unfolding(crate::specs::PlantValues::plant_values))]
 pub fn values_of(alloc: Global, version: Version, value: &Value) -> Result<PlantValues, LineFault>
     ensures { FoundUnlessMemory (λ v. v) (plant_values version (view value.now)) result }

@@ -68,7 +68,7 @@ fn reader_rules_of(value: &Value) -> Option<ReaderRules>
     })
 }
 
-// The end and the leaps of a table; the empty one, where there is none.
+// The end and the leaps of a table; the empty one, if there is none.
 fn table_if(alloc: Global, table: Option<&Value>) -> Result<(u32, Vec<(u32, Leap)>), LineFault>
     ensures { FoundUnlessMemory (λ t. (t.0, t.1.items))
         (table_if (option_map (λ v. view v.now) table.entry)) result }

@@ -89,7 +89,7 @@ many_first f ports (tells.Claim d ∷ ts) c short many some =
     ]
 many_first f ports (t ∷ ts) c short many some = many_first f ports ts c short many (omega (arith, carriers-cons c t ts))
 
--- where they are more than half of the ports, it is the one claim that so many tell
+-- if they are more than half of the ports, it is the one claim that so many tell
 pub enough_told : (enough : ℕ) (ports : List Told) (vote : Option Claim) (c : Claim) → length ports < 2 * enough → vote ≡ first_told (enough - 1) ports ports → (vote ≡ Some c) ↔ (enough ≤ carriers c ports)
 enough_told enough ports vote c short is =
     (λ e. omega (arith, first_many (enough - 1) ports ports c (sym is ∙ e)), λ h. is ∙ many_first (enough - 1) ports ports c (omega arith) (omega arith) (omega arith))

@@ -79,7 +79,7 @@ known_followed = (refl, refl)
 
 -- ---- five ports
 
--- two voices are none, also where another two say another thing
+-- two voices are none, also if another two say another thing
 pub known_pairs_of_five : (five (tell true_claim) (tell true_claim) tells.Silence (tells.Poor 12) (tells.Fault fault.Parity) ≡ None)
     × (five (tell true_claim) (tell earlier) tells.Silence (tell true_claim) (tell earlier) ≡ None)
     × (five (tell true_claim) (tell true_claim) (tell (marked NoLeap)) tells.Silence tells.Silence ≡ None)

@@ -24,7 +24,7 @@ pub struct Tells {
 }
 
 /// The claim that f + 1 ports tell, second and mark both: two of `a`, `b`, `c` under `Three`, three
-/// of all five under `Five`. None where there is no such claim.
+/// of all five under `Five`. None if there is no such claim.
 #[tactic(auto, unfolding(crate::specs::Vote::vote_of))]
 pub fn vote(tells: &Tells, redundancy: Redundancy) -> Option<Claim>
     ensures value { result ≡ vote_of tells.now redundancy }
@@ -37,7 +37,7 @@ pub fn vote(tells: &Tells, redundancy: Redundancy) -> Option<Claim>
     }
 }
 
-/// The claim that at least `enough` of the ports tell, where that is more than half of them.
+/// The claim that at least `enough` of the ports tell, if that is more than half of them.
 fn claim_told_by(enough: usize, ports: &[Told]) -> Option<Claim>
     requires { length ports.now < 2 * enough }
     ensures value { result ≡ first_told (enough - 1) ports.now ports.now }
