@@ -1,7 +1,6 @@
 #!/usr/bin/env python3
 """Tests of study: days made by hand, for which docs/EXACTLY_WHEN.md says what a reader does; random
 days; tables by hand; the committed tables played once more; and what is said of mistakes."""
-import csv
 import shutil
 import subprocess
 import sys

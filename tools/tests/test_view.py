@@ -4,7 +4,6 @@ words; and, if there is a Chromium, what the page does when keys are pressed and
 import base64
 import hashlib
 import json
-import os
 import re
 import subprocess
 import tempfile
