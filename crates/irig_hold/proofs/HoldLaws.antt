@@ -1,8 +1,8 @@
 -- A hold keeps to a timeline.
 use Rattle.std.specs.Prelude.{◌↔◌, ◌==◌, ◌&&◌, nat_lt, Result, Ok, Err}
-use Rattle.std.proofs.Common.{◌≡◌, ℕ, ◌+◌, ◌-◌, ◌<◌, ◌≤◌, ◌⊎◌, Bool, true, false, cond, Option, Some, None, refl, sym, ap, subst, ◌∙◌, arith, inl, inr}
-use Rattle.std.proofs.lemmas.Bool.{both_ways, cases_lt, cases_eq, lt-ltb, le-ltb, le-leb, lt-leb, eq-eqb, ne_eqb, and_from}
-use Rattle.irig_time.proofs.TimeLaws.{one_second}
+use Rattle.std.proofs.Common.{◌≡◌, eqb-true, ℕ, ◌+◌, ◌-◌, ◌<◌, ◌≤◌, ◌⊎◌, Bool, true, false, cond, Option, Some, None, refl, sym, ap, subst, ◌∙◌, arith, inl, inr}
+use Rattle.std.proofs.lemmas.Bool.{both_ways, cases_Bool, cases_lt, cases_eq, lt-ltb, le-ltb, le-leb, lt-leb, eq-eqb, ne_eqb, and_from, and_parts}
+use Rattle.irig_time.proofs.TimeLaws.{one_second, same_second}
 use Rattle.irig_time.proofs.NextLaws.{heard, end, last_day}
 use Rattle.irig_time.specs.declared.second.UtcSecond.{UtcSecond}
 use Rattle.irig_time.specs.declared.mark.Mark.{Mark}
@@ -277,6 +277,52 @@ started_true t table n c h sound claim e =
     let honest : IsHonest t c.at c.mark = subst (IsHonest t c.at) (sym claim.mark) (claim_honest t c.at) in
     let on = leads_on t table n c.at c.mark sound (claimed t n c claim) (claim_leads t table c claim.mark) in
     moved_if_true t n c.at 0 c.mark (next_of c.at (spoken_mark table c.mark c.at.day)) h honest on e
+
+-- ---- whatever a hold stands at and has heard
+
+abbrev IsOfVote : TimelineValue → ℕ → UtcSecond → Outcome → Type 0
+IsOfVote t n u o = IsSecond t (n + 1) u × (o.new.last ≡ u)
+
+outcome_second : (t : TimelineValue) (n : ℕ) (h : HoldValue) (u : UtcSecond) (age : ℕ) (mark : Mark) (o : Option UtcSecond) (w : UtcSecond) → LeadsOn t n o
+    → (outcome_of h (hold_or_stop u age mark o)).answer ≡ Now w → IsOfVote t n w (outcome_of h (hold_or_stop u age mark o))
+outcome_second t n h u age mark None w on e = absurd (stop_is_no_now u.day w e)
+outcome_second t n h u age mark (Some v) w on e =
+    let same : v ≡ w = cc in
+    (subst (IsSecond t (n + 1)) same (on v refl), same)
+
+tested : (c : Claim) (h : HoldValue) → ((c.at.day == h.last.day) && (c.at.sod == h.last.sod)) ≡ true → c.at ≡ h.last
+tested c h for =
+    let parts = and_parts (c.at.day == h.last.day) (c.at.sod == h.last.sod) for in
+    same_second c.at h.last (eqb-true c.at.day h.last.day parts.0) (eqb-true c.at.sod h.last.sod parts.1)
+
+-- a vote that is answered with a second is for the second of the hold
+voted_for : (table : TableValue) (h : HoldValue) (c : Claim) (u : UtcSecond) → (voted_by table h c).answer ≡ Now u → c.at ≡ h.last
+voted_for table h c u e =
+    elim (cases_Bool ((c.at.day == h.last.day) && (c.at.sod == h.last.sod))) [
+      | inl for ↦ tested c h for
+      | inr other ↦ let jump : Jump ≡ Now u = rw other at e in absurd cc
+    ]
+
+pub voted_second : (t : TimelineValue) (table : TableValue) (n : ℕ) (h : HoldValue) (c : Claim) (u : UtcSecond) → IsTimeline t → IsTrueClaim t (n + 1) c
+    → (voted_by table h c).answer ≡ Now u → IsOfVote t n u (voted_by table h c)
+voted_second t table n h c u sound claim e =
+    let at : IsSecond t n h.last = subst (IsSecond t n) (voted_for table h c u e) (claimed t n c claim) in
+    let vote = true_vote t n h c at claim in
+    let mark : Mark = mark_or c.mark h.heard in
+    let leads = vote_leads t table h.last c.mark h.heard vote.told in
+    let answered : (outcome_of h (hold_step table h.last 0 mark)).answer ≡ Now u = rw vote.for at e in
+    rw vote.for (outcome_second t n h h.last 0 mark (next_of h.last (spoken_mark table mark h.last.day)) u (leads_on t table n h.last mark sound at leads) answered)
+
+-- a vote for T(n) is not for a hold at another second
+pub voted_other : (t : TimelineValue) (table : TableValue) (m n : ℕ) (h : HoldValue) (c : Claim) → IsSecond t m h.last → IsTrueClaim t (n + 1) c → ¬ (m ≡ n)
+    → (voted_by table h c).answer ≡ Jump
+voted_other t table m n h c at claim apart =
+    elim (cases_Bool ((c.at.day == h.last.day) && (c.at.sod == h.last.sod))) [
+      | inl for ↦
+          let here : IsSecond t n h.last = subst (IsSecond t n) (tested c h for) (claimed t n c claim) in
+          absurd (apart (omega (arith, at.sum, here.sum)))
+      | inr other ↦ rw other refl
+    ]
 
 -- ---- where T(n + 1) exists
 

@@ -28,6 +28,19 @@ pub fn law_of_hold()
         → IsOnTime t (n + 1) h }
 {}
 
+/// A vote stands on itself: whatever second a hold stands at and whatever it heard, if it answers a
+/// true claim of T(n) with a second, that is T(n + 1). If it stands at another second than T(n), it
+/// answers such a claim with `Jump`.
+pub fn law_of_one_vote()
+    ensures second { (t : TimelineValue) (table : TableValue) (n : ℕ) (h : HoldValue) (c : Claim)
+        (u : UtcSecond) → IsTimeline t → IsTrueClaim t (n + 1) c
+        → (voted_by table h c).answer ≡ Turn.Now u
+        → IsSecond t (n + 1) u × ((voted_by table h c).new.last ≡ u) }
+    ensures jump { (t : TimelineValue) (table : TableValue) (m n : ℕ) (h : HoldValue) (c : Claim)
+        → IsSecond t m h.last → IsTrueClaim t (n + 1) c → ¬ (m ≡ n)
+        → (voted_by table h c).answer ≡ Turn.Jump }
+{}
+
 /// If T(n + 1) exists, a hold goes there from T(n): with a true vote always, and alone unless it
 /// has expired or is guarded. So does one that begins with a true claim of T(n).
 pub fn law_of_steps()

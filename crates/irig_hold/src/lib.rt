@@ -10,4 +10,4 @@ mod hold;
 mod laws;
 
 pub use hold::{Hold, Turn};
-pub use laws::{law_of_hold, law_of_steps, law_of_stops};
+pub use laws::{law_of_hold, law_of_one_vote, law_of_steps, law_of_stops};

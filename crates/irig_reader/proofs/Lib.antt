@@ -1,3 +1,4 @@
 pub mod VoteLaws
 pub mod FedLaws
+pub mod OneEdge
 pub mod StandardFacts

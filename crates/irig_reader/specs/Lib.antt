@@ -2,3 +2,4 @@ pub mod Rules
 pub mod Rule
 pub mod History
 pub mod Readers
+pub mod Clean

@@ -6,11 +6,15 @@
 //! guess. The rule is this project's profile; no call knows the plant's timeline.
 #![tactic(auto)]
 
+mod laws;
 mod reader;
 mod report;
 mod rule;
 mod rules;
 
+pub use laws::{
+    a_lost_tick_is_silent, holdover_is_bounded, misleading_takes_a_majority, voted_seconds_are_true,
+};
 pub use reader::{Reader, Ticked};
 pub use report::{Cause, Lock, Report};
 pub use rule::{State, Step, step_of};

@@ -1,12 +1,17 @@
 //! A reader with its ports.
 
-ghost use Rattle.std.specs.Prelude.{◌≡◌, ◌<◌, ◌==◌, IfSome, ℕ, List, [], length, true, false};
+ghost use Rattle.std.specs.Prelude.{◌≡◌, ◌+◌, ◌<◌, ◌==◌, IfSome, Some, ℕ, List, [], length, true, false};
 ghost use Rattle.irig_frame.specs.declared.symbol.Symbol.{Symbol};
 ghost use Rattle.irig_port.specs.Heard.{symbols_heard};
+ghost use Rattle.irig_time.specs.declared.second.UtcSecond.{UtcSecond};
 ghost use Rattle.irig_time.specs.Seconds.{IsValid};
+ghost use Rattle.irig_time.specs.Timelines.{TimelineValue, IsSecond};
+ghost use Rattle.irig_time.specs.TimelineFaults.{IsTimeline};
 ghost use Rattle.irig_vote.specs.Vote.{ports_in, AreOfUtc};
 ghost use Rattle.irig_reader.specs.Rule.{count_of};
 ghost use Rattle.irig_reader.specs.Rules.{IsReaderRules};
+ghost use Rattle.irig_reader.specs.Clean.{IsClean};
+ghost use Rattle.irig_reader.specs.declared.report.Cause.TheVariants as Cause;
 
 use crate::report::Report;
 use crate::rule::{State, step_of};
@@ -131,6 +136,10 @@ impl<P: Port> Reader<P> {
         ensures ports { self.new.redundancy ≡ self.old.redundancy }
         ensures valid { IfSome result.report.announce IsValid }
         ensures claims { AreOfUtc result.told }
+        // A second that is announced by the vote of a clean edge is the true one, whatever came before.
+        ensures truth { (t : TimelineValue) (n : ℕ) (u : UtcSecond) → IsTimeline t
+            → IsClean t n result.told self.old.redundancy → result.report.cause ≡ Cause.Voted
+            → result.report.announce ≡ Some u → IsSecond t (n + 1) u }
     {
         let told = Tells {
             a: self.a.edge(),

@@ -1,9 +1,12 @@
-use Rattle.std.proofs.Common.{rules, ◌≡◌}
+use Rattle.std.proofs.Common.{rules, ◌≡◌, ◌∙◌, Some, ap, subst}
 use Rattle.irig_port.specs.Heard.{symbols_heard}
 use Rattle.irig_port.proofs.HeardLaws.{told_of-heard}
-use Rattle.irig_reader.specs.Rule.{state_of}
+use Rattle.irig_reader.specs.Rule.{state_of, step_of}
 use Rattle.irig_reader.specs.History.{after_tick}
+use Rattle.irig_reader.specs.declared.rule.Step.{Step}
+use Rattle.irig_reader.specs.declared.report.Cause.TheVariants.{Voted}
 use Rattle.irig_reader.proofs.VoteLaws.{vote_valid}
+use Rattle.irig_reader.proofs.OneEdge.{voted_seconds}
 use Rattle.irig_reader.proofs.reader.Reader.tick.Goals as goal
 
 pub step_of-step-requires-clause-valid : goal.step_of-step-requires-clause-valid
@@ -25,3 +28,9 @@ returns-clause-after g c history s =
     let told = returns-clause-told g c history s in
     let state : c.step_of-step.result.state ≡ state_of history.reader_rules history.table (after_tick history).votes = cc in
     search rules
+
+pub returns-clause-truth : goal.returns-clause-truth
+returns-clause-truth g c t n u sound clean voted says =
+    let step = c.step_of-step.ensures.step ∙ ap (step_of _ _ _) c.vote-vote.ensures.value in
+    voted_seconds t n _ _ _ _ c.args.self.now.redundancy u sound clean
+    (subst (λ (s : Step). s.report.cause ≡ Voted) step voted) (subst (λ (s : Step). s.report.announce ≡ Some u) step says)

@@ -1,0 +1,205 @@
+-- What a reader says at an edge, by what its ports tell at that edge and by nothing before.
+use Rattle.std.proofs.Common.{◌≡◌, ◌==◌, ℕ, ◌+◌, ◌<◌, ◌≤◌, Bool, true, false, cond, Option, Some, None, Result, Ok, Err, refl, sym, subst, ap, ◌∙◌, inl, inr, arith}
+use Rattle.std.specs.Prelude.{nat_le}
+use Rattle.std.proofs.lemmas.Bool.{cases_Bool, leb-false}
+use Rattle.irig_time.specs.declared.second.UtcSecond.{UtcSecond}
+use Rattle.irig_time.specs.declared.mark.Mark.{Mark}
+use Rattle.irig_time.specs.declared.claim.Claim.{Claim}
+use Rattle.irig_time.specs.Next.{next_of}
+use Rattle.irig_time.specs.Timelines.{TimelineValue, IsSecond, IsTrueClaim, truth_at}
+use Rattle.irig_time.specs.TimelineFaults.{IsTimeline}
+use Rattle.irig_time.specs.Tables.{TableValue, spoken_mark}
+use Rattle.irig_time.proofs.SecondAt.{claim_is}
+use Rattle.irig_vote.specs.declared.redundancy.Redundancy.{Redundancy}
+use Rattle.irig_vote.specs.declared.votes.Tells.{Tells}
+use Rattle.irig_vote.specs.Vote.{f_of, ports_of, carriers, others, vote_of}
+use Rattle.irig_vote.proofs.CountLaws.{vote_counts, few_tell_others}
+use Rattle.irig_hold.specs.declared.hold.Turn.{Turn}
+use Rattle.irig_hold.specs.declared.hold.Turn.TheVariants as turn
+use Rattle.irig_hold.specs.Steps.{HoldValue, Outcome, hold_start, hold_or_stop, outcome_of, voted_by, alone_by}
+use Rattle.irig_hold.proofs.HoldLaws.{started_true, voted_second, voted_other}
+use Rattle.irig_reader.specs.declared.rules.ReaderRules.{ReaderRules}
+use Rattle.irig_reader.specs.declared.report.Lock.{Lock}
+use Rattle.irig_reader.specs.declared.report.Lock.TheVariants as lock
+use Rattle.irig_reader.specs.declared.report.Cause.{Cause}
+use Rattle.irig_reader.specs.declared.report.Cause.TheVariants as cause
+use Rattle.irig_reader.specs.declared.rule.State.{State}
+use Rattle.irig_reader.specs.declared.rule.State.TheVariants.{Idle, Acquiring, Locked}
+use Rattle.irig_reader.specs.declared.rule.Step.{Step}
+use Rattle.irig_reader.specs.Rule.{stop_step, announce_step, count_step, cause_of, first_vote_step, later_vote_step_by, locked_step, holdover_step, step_of}
+use Rattle.irig_reader.specs.Clean.{IsClean}
+
+-- what the step announces by a vote is T(n + 1)
+abbrev SaysNext : TimelineValue → ℕ → Step → Type 0
+SaysNext t n step = (u : UtcSecond) → step.report.cause ≡ cause.Voted → step.report.announce ≡ Some u → IsSecond t (n + 1) u
+
+-- ---- a true vote
+
+counted : (t : TimelineValue) (n : ℕ) (rules : ReaderRules) (h : HoldValue) (count : ℕ) → IsSecond t (n + 1) h.last → SaysNext t n (count_step rules h count)
+counted t n rules h count at =
+    either (count == rules.lock_after) (announce_step h h.last lock.Locked cause.Voted) (record { state = Acquiring h count; report = record { announce = None; lock = lock.Acquiring count; cause = cause.Acquiring } })
+    (λ u voted e. let same : h.last ≡ u = cc in subst (IsSecond t (n + 1)) same at)
+    (λ u voted e. absurd cc)
+  where
+    either : (b : Bool) (x y : Step) → SaysNext t n x → SaysNext t n y → SaysNext t n (cond b x y)
+    either true x y p q = p
+    either false x y p q = q
+
+begun : (t : TimelineValue) (n : ℕ) (rules : ReaderRules) (first : Result HoldValue Turn) → ((h : HoldValue) → first ≡ Ok h → IsSecond t (n + 1) h.last) → SaysNext t n (first_vote_step rules first)
+begun t n rules (Ok h) at = counted t n rules h 1 (at h refl)
+begun t n rules (Err stop) at = λ u voted e. absurd cc
+
+joined : (t : TimelineValue) (n : ℕ) (rules : ReaderRules) (count : ℕ) (anew : Step) (answer : Turn) (h : HoldValue) → SaysNext t n anew
+    → ((u : UtcSecond) → answer ≡ turn.Now u → IsSecond t (n + 1) u × (h.last ≡ u)) → SaysNext t n (later_vote_step_by rules count anew answer h)
+joined t n rules count anew (turn.Now u) h first at = let now = at u refl in counted t n rules h (count + 1) (subst (IsSecond t (n + 1)) (sym now.1) now.0)
+joined t n rules count anew turn.Jump h first at = first
+joined t n rules count anew turn.LeapGuard h first at = λ u voted e. absurd cc
+joined t n rules count anew turn.Expired h first at = λ u voted e. absurd cc
+joined t n rules count anew turn.RangeEnd h first at = λ u voted e. absurd cc
+
+locked : (t : TimelineValue) (n : ℕ) (l : Lock) (c : Cause) (answer : Turn) (h : HoldValue) → ((u : UtcSecond) → answer ≡ turn.Now u → IsSecond t (n + 1) u × (h.last ≡ u)) → SaysNext t n (locked_step l c answer h)
+locked t n l c (turn.Now u) h at = λ v voted e. let same : u ≡ v = cc in subst (IsSecond t (n + 1)) same (at u refl).0
+locked t n l c turn.Jump h at = λ u voted e. absurd cc
+locked t n l c turn.LeapGuard h at = λ u voted e. absurd cc
+locked t n l c turn.Expired h at = λ u voted e. absurd cc
+locked t n l c turn.RangeEnd h at = λ u voted e. absurd cc
+
+voted_says : (t : TimelineValue) (n : ℕ) (rules : ReaderRules) (table : TableValue) (state : State) (c : Claim) → IsTimeline t → IsTrueClaim t (n + 1) c → SaysNext t n (step_of rules table state (Some c))
+unfolding step_of
+voted_says t n rules table Idle c sound claim = begun t n rules (hold_start table c) (λ h e. (started_true t table n c h sound claim e).last)
+voted_says t n rules table (Acquiring h count) c sound claim =
+    joined t n rules count _ (voted_by table h c).answer (voted_by table h c).new (begun t n rules (hold_start table c) (λ k e. (started_true t table n c k sound claim e).last))
+    (λ u e. voted_second t table n h c u sound claim e)
+voted_says t n rules table (Locked h) c sound claim = locked t n _ cause.Voted (voted_by table h c).answer (voted_by table h c).new (λ u e. voted_second t table n h c u sound claim e)
+
+-- ---- no vote
+
+held_cause : (l : Lock) (answer : Turn) (h : HoldValue) → (locked_step l cause.Held answer h).report.cause ≡ cause.Voted → ⊥
+held_cause l (turn.Now u) h e = cc
+held_cause l turn.Jump h e = cc
+held_cause l turn.LeapGuard h e = cc
+held_cause l turn.Expired h e = cc
+held_cause l turn.RangeEnd h e = cc
+
+unvoted : (rules : ReaderRules) (table : TableValue) (state : State) → (step_of rules table state None).report.cause ≡ cause.Voted → ⊥
+unfolding step_of
+unvoted rules table Idle e = cc
+unvoted rules table (Acquiring h count) e = cc
+unvoted rules table (Locked h) e = held_cause _ (alone_by table h rules.holdover).answer (alone_by table h rules.holdover).new e
+
+-- ---- what the ports tell
+
+-- a claim that f + 1 ports tell was voted, and led to what is announced
+pub record IsVotedBy (t : TimelineValue) (n : ℕ) (told : Tells) (r : Redundancy) (u : UtcSecond) : Type 0 where
+  pub claim : Claim
+  pub enough : f_of r + 1 ≤ carriers claim (ports_of told r)
+  pub leads : truth_at t n ≡ Some claim → IsSecond t (n + 1) u
+
+pub voted_by_ports : (t : TimelineValue) (n : ℕ) (rules : ReaderRules) (table : TableValue) (state : State) (told : Tells) (r : Redundancy) (u : UtcSecond) → IsTimeline t
+    → (step_of rules table state (vote_of told r)).report.cause ≡ cause.Voted → (step_of rules table state (vote_of told r)).report.announce ≡ Some u → IsVotedBy t n told r u
+voted_by_ports t n rules table state told r u sound voted says = of (vote_of told r) refl voted says
+  where
+    of : (vote : Option Claim) → vote_of told r ≡ vote → (step_of rules table state vote).report.cause ≡ cause.Voted → (step_of rules table state vote).report.announce ≡ Some u → IsVotedBy t n told r u
+    of None is voted says = absurd (unvoted rules table state voted)
+    of (Some c) is voted says = record {
+      claim = c;
+      enough = (vote_counts told r c).0 is;
+      leads = λ truth. voted_says t n rules table state c sound ((claim_is t n c).0 truth) u voted says;
+    }
+
+pub voted_seconds : (t : TimelineValue) (n : ℕ) (rules : ReaderRules) (table : TableValue) (state : State) (told : Tells) (r : Redundancy) (u : UtcSecond) → IsTimeline t → IsClean t n told r
+    → (step_of rules table state (vote_of told r)).report.cause ≡ cause.Voted → (step_of rules table state (vote_of told r)).report.announce ≡ Some u → IsSecond t (n + 1) u
+voted_seconds t n rules table state told r u sound clean voted says =
+    let by = voted_by_ports t n rules table state told r u sound voted says in
+    by.leads (clean.no_other by.claim by.enough)
+
+pub clean_by_few : (t : TimelineValue) (n : ℕ) (told : Tells) (r : Redundancy) (c : Claim) → truth_at t n ≡ Some c → others c (ports_of told r) ≤ f_of r → IsClean t n told r
+clean_by_few t n told r c truth few = record {
+  no_other = λ d enough.
+      let same : d ≡ c = few_tell_others told r c d few ((vote_counts told r d).1 enough) in
+      truth ∙ ap (λ (x : Claim). let o : Option Claim = Some x in o) (sym same);
+}
+
+pub misled : (t : TimelineValue) (n : ℕ) (rules : ReaderRules) (table : TableValue) (state : State) (told : Tells) (r : Redundancy) (u : UtcSecond) → IsTimeline t
+    → (step_of rules table state (vote_of told r)).report.cause ≡ cause.Voted → (step_of rules table state (vote_of told r)).report.announce ≡ Some u → ¬ IsSecond t (n + 1) u
+    → (c : Claim) × (f_of r + 1 ≤ carriers c (ports_of told r)) × ¬ (truth_at t n ≡ Some c)
+misled t n rules table state told r u sound voted says false_second =
+    let by = voted_by_ports t n rules table state told r u sound voted says in
+    (by.claim, by.enough, λ truth. false_second (by.leads truth))
+
+-- ---- a tick that was missed, or came twice
+
+jumped : (l : Lock) (c : Cause) (answer : Turn) (h : HoldValue) → answer ≡ turn.Jump → locked_step l c answer h ≡ stop_step cause.Jump
+jumped l c answer h is = rw is refl
+
+pub lost_tick : (t : TimelineValue) (m n : ℕ) (rules : ReaderRules) (table : TableValue) (h : HoldValue) (told : Tells) (r : Redundancy) (c : Claim) → IsClean t n told r → IsSecond t m h.last → ¬ (m ≡ n)
+    → vote_of told r ≡ Some c → step_of rules table (Locked h) (vote_of told r) ≡ stop_step cause.Jump
+unfolding step_of
+lost_tick t m n rules table h told r c clean at apart is =
+    let claim : IsTrueClaim t (n + 1) c = (claim_is t n c).0 (clean.no_other c ((vote_counts told r c).0 is)) in
+    rw is (jumped lock.Locked cause.Voted (voted_by table h c).answer (voted_by table h c).new (voted_other t table m n h c at claim apart))
+
+-- ---- how long it holds over
+
+-- a holdover of this step is at least 1 and at most the limit
+abbrev IsWithin : ℕ → Step → Type 0
+IsWithin limit step = (a : ℕ) → step.report.lock ≡ lock.Holdover a → (1 ≤ a) × (a ≤ limit)
+
+stop_within : (limit : ℕ) (c : Cause) → IsWithin limit (stop_step c)
+stop_within limit c a e = absurd cc
+
+count_within : (limit : ℕ) (rules : ReaderRules) (h : HoldValue) (count : ℕ) → IsWithin limit (count_step rules h count)
+count_within limit rules h count =
+    either (count == rules.lock_after) (announce_step h h.last lock.Locked cause.Voted) (record { state = Acquiring h count; report = record { announce = None; lock = lock.Acquiring count; cause = cause.Acquiring } })
+    (λ a e. absurd cc) (λ a e. absurd cc)
+  where
+    either : (b : Bool) (x y : Step) → IsWithin limit x → IsWithin limit y → IsWithin limit (cond b x y)
+    either true x y p q = p
+    either false x y p q = q
+
+first_within : (limit : ℕ) (rules : ReaderRules) (first : Result HoldValue Turn) → IsWithin limit (first_vote_step rules first)
+first_within limit rules (Ok h) = count_within limit rules h 1
+first_within limit rules (Err stop) = stop_within limit (cause_of stop)
+
+later_within : (limit : ℕ) (rules : ReaderRules) (count : ℕ) (anew : Step) (answer : Turn) (h : HoldValue) → IsWithin limit anew → IsWithin limit (later_vote_step_by rules count anew answer h)
+later_within limit rules count anew (turn.Now u) h first = count_within limit rules h (count + 1)
+later_within limit rules count anew turn.Jump h first = first
+later_within limit rules count anew turn.LeapGuard h first = stop_within limit cause.LeapGuard
+later_within limit rules count anew turn.Expired h first = stop_within limit cause.Expired
+later_within limit rules count anew turn.RangeEnd h first = stop_within limit cause.RangeEnd
+
+voted_within : (limit : ℕ) (answer : Turn) (h : HoldValue) → IsWithin limit (locked_step lock.Locked cause.Voted answer h)
+voted_within limit (turn.Now u) h a e = absurd cc
+voted_within limit turn.Jump h a e = absurd cc
+voted_within limit turn.LeapGuard h a e = absurd cc
+voted_within limit turn.Expired h a e = absurd cc
+voted_within limit turn.RangeEnd h a e = absurd cc
+
+stepped_within : (limit : ℕ) (h : HoldValue) (from : UtcSecond) (age : ℕ) (mark : Mark) (o : Option UtcSecond) → 1 ≤ age → age ≤ limit → IsWithin limit (holdover_step (outcome_of h (hold_or_stop from age mark o)))
+stepped_within limit h from age mark None least most a e = stop_lock (from.day == 36523) a e
+  where
+    stop_lock : (b : Bool) (a : ℕ) → (locked_step (lock.Holdover h.age) cause.Held (cond b turn.RangeEnd turn.LeapGuard) h).report.lock ≡ lock.Holdover a → (1 ≤ a) × (a ≤ limit)
+    stop_lock true a e = absurd cc
+    stop_lock false a e = absurd cc
+stepped_within limit h from age mark (Some v) least most a e =
+    let same : age ≡ a = cc in
+    (omega (arith, least, same), omega (arith, most, same))
+
+alone_within : (rules : ReaderRules) (table : TableValue) (h : HoldValue) → IsWithin rules.holdover (holdover_step (alone_by table h rules.holdover))
+alone_within rules table h a e =
+    elim (cases_Bool (nat_le rules.holdover h.age)) [
+      | inl long ↦ let stopped : lock.Unlocked ≡ lock.Holdover a = rw long at e in absurd cc
+      | inr short ↦
+          let young : h.age < rules.holdover = leb-false rules.holdover h.age short in
+          stepped_within rules.holdover h h.last (h.age + 1) h.heard (next_of h.last (spoken_mark table h.heard h.last.day)) (omega arith) (omega (arith, young)) a (rw short at e)
+    ]
+
+pub holdover_within : (rules : ReaderRules) (table : TableValue) (state : State) (vote : Option Claim) (a : ℕ) → (step_of rules table state vote).report.lock ≡ lock.Holdover a → (1 ≤ a) × (a ≤ rules.holdover)
+unfolding step_of
+holdover_within rules table Idle None a e = absurd cc
+holdover_within rules table Idle (Some c) a e = first_within rules.holdover rules (hold_start table c) a e
+holdover_within rules table (Acquiring h count) None a e = absurd cc
+holdover_within rules table (Acquiring h count) (Some c) a e =
+    later_within rules.holdover rules count _ (voted_by table h c).answer (voted_by table h c).new (first_within rules.holdover rules (hold_start table c)) a e
+holdover_within rules table (Locked h) (Some c) a e = voted_within rules.holdover (voted_by table h c).answer (voted_by table h c).new a e
+holdover_within rules table (Locked h) None a e = alone_within rules table h a e

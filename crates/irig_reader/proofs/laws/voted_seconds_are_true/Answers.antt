@@ -1,0 +1,8 @@
+use Rattle.irig_reader.proofs.OneEdge.{voted_seconds, clean_by_few}
+use Rattle.irig_reader.proofs.laws.voted_seconds_are_true.Goals as goal
+
+pub returns-clause-second : goal.returns-clause-second
+returns-clause-second c = voted_seconds
+
+pub returns-clause-few : goal.returns-clause-few
+returns-clause-few c = clean_by_few

@@ -1,0 +1,61 @@
+//! Laws of one edge of a reader over its definitions: what it announces there, by what its ports tell
+//! there. They have no code, and speak of values: no call of a reader takes a timeline.
+
+ghost use Rattle.std.specs.Prelude.{◌≡◌, ◌+◌, ◌≤◌, ℕ, Option, Some};
+ghost use Rattle.irig_time.specs.Tables.{TableValue};
+ghost use Rattle.irig_time.specs.Timelines.{TimelineValue, IsSecond, truth_at};
+ghost use Rattle.irig_time.specs.TimelineFaults.{IsTimeline};
+ghost use Rattle.irig_vote.specs.Vote.{carriers, f_of, others, ports_of, vote_of};
+ghost use Rattle.irig_hold.specs.Steps.{HoldValue};
+ghost use Rattle.irig_reader.specs.declared.rule.State.{State};
+ghost use Rattle.irig_reader.specs.Clean.{IsClean};
+ghost use Rattle.irig_reader.specs.Rule.{step_of, stop_step};
+
+use crate::report::{Cause, Lock};
+use crate::rules::ReaderRules;
+use irig_time::{Claim, UtcSecond};
+use irig_vote::{Redundancy, Tells};
+
+/// A voted second is true by its own edge. Let a tick come as T(n + 1) begins, and let no f + 1
+/// ports tell one and the same claim other than the true one of T(n). Then what a reader announces
+/// there by a vote is T(n + 1): wherever it stood, whatever it heard before, whatever its table says
+/// and however many ticks it missed.
+pub fn voted_seconds_are_true()
+    ensures second { (t : TimelineValue) (n : ℕ) (rules : ReaderRules) (table : TableValue)
+        (state : State) (told : Tells) (r : Redundancy) (u : UtcSecond) → IsTimeline t
+        → IsClean t n told r
+        → (step_of rules table state (vote_of told r)).report.cause ≡ Cause.Voted
+        → (step_of rules table state (vote_of told r)).report.announce ≡ Some u
+        → IsSecond t (n + 1) u }
+    // At most f ports that tell another claim than the true one are few enough.
+    ensures few { (t : TimelineValue) (n : ℕ) (told : Tells) (r : Redundancy) (c : Claim)
+        → truth_at t n ≡ Some c → others c (ports_of told r) ≤ f_of r → IsClean t n told r }
+{}
+
+/// To mislead takes a majority: if a reader announces another second than T(n + 1) by a vote, then
+/// at that very tick f + 1 of its ports tell one and the same claim, and it is not the true one.
+pub fn misleading_takes_a_majority()
+    ensures { (t : TimelineValue) (n : ℕ) (rules : ReaderRules) (table : TableValue)
+        (state : State) (told : Tells) (r : Redundancy) (u : UtcSecond) → IsTimeline t
+        → (step_of rules table state (vote_of told r)).report.cause ≡ Cause.Voted
+        → (step_of rules table state (vote_of told r)).report.announce ≡ Some u
+        → ¬ IsSecond t (n + 1) u
+        → (c : Claim) × (f_of r + 1 ≤ carriers c (ports_of told r)) × ¬ (truth_at t n ≡ Some c) }
+{}
+
+/// A tick that was missed or came twice is silent: a locked reader that stands at another second
+/// than T(n), and hears a vote at a clean tick, says nothing, by the cause `Jump`, and has nothing
+/// to go on.
+pub fn a_lost_tick_is_silent()
+    ensures { (t : TimelineValue) (m n : ℕ) (rules : ReaderRules) (table : TableValue)
+        (h : HoldValue) (told : Tells) (r : Redundancy) (c : Claim) → IsClean t n told r
+        → IsSecond t m h.last → ¬ (m ≡ n) → vote_of told r ≡ Some c
+        → step_of rules table (State.Locked h) (vote_of told r) ≡ stop_step Cause.Jump }
+{}
+
+/// Whatever is true, a reader says of a holdover that it has lasted from 1 to `holdover` edges.
+pub fn holdover_is_bounded()
+    ensures { (rules : ReaderRules) (table : TableValue) (state : State) (vote : Option Claim)
+        (edges : ℕ) → (step_of rules table state vote).report.lock ≡ Lock.Holdover edges
+        → (1 ≤ edges) × (edges ≤ rules.holdover) }
+{}
