@@ -2,6 +2,7 @@
 
 ghost use Rattle.std.specs.Prelude.{◌≡◌, ◌↔◌, ◌≤◌, Ok, Err, IfSome, Bool, map, length, slice_set};
 ghost use Rattle.irig_frame.specs.Decoder.{IsCoded, Reads};
+ghost use Rattle.irig_frame.specs.Encoder.{HasUnusedZeros};
 ghost use Rattle.irig_frame.specs.Faults.{decode_result};
 ghost use Rattle.irig_control.specs.Parity.{HasParity, has_parity, data_symbol};
 ghost use Rattle.irig_c.specs.Numbers.{symbol_in, parity_in, code_of_frame};
@@ -19,6 +20,7 @@ use irig_port::PortFault;
 pub extern "C" fn irig_encode(coded: &Coded, symbols: &mut [u8; 100]) -> u32
     ensures answer { (result ≡ 0) ↔ IsCoded coded.now }
     ensures frame { result ≡ 0 → Reads (map symbol_in symbols.new) coded.now }
+    ensures spare { result ≡ 0 → HasUnusedZeros (map symbol_in symbols.new) }
     ensures round_trip { result ≡ 0
         → decode_result (map symbol_in symbols.new) ≡ Ok coded.now }
     ensures refused { (result ≡ 0 → ⊥) → symbols.new ≡ symbols.old }

@@ -1,11 +1,17 @@
 //! A reader that C holds.
 
-ghost use Rattle.std.specs.Prelude.{◌≡◌, ◌↔◌, ◌<◌, ℕ, List, [], IfSome};
+ghost use Rattle.std.specs.Prelude.{◌≡◌, ◌↔◌, ◌+◌, ◌<◌, ℕ, List, [], IfSome, Some};
+ghost use Rattle.irig_time.specs.declared.second.UtcSecond.{UtcSecond};
 ghost use Rattle.irig_time.specs.Seconds.{IsValid};
+ghost use Rattle.irig_time.specs.Timelines.{TimelineValue, IsSecond};
+ghost use Rattle.irig_time.specs.TimelineFaults.{IsTimeline};
+ghost use Rattle.irig_port.specs.Told.{told_of_widths};
 ghost use Rattle.irig_vote.specs.Vote.{ports_in, vote_of, AreOfUtc};
+ghost use Rattle.irig_reader.specs.declared.report.Cause.TheVariants as Cause;
+ghost use Rattle.irig_reader.specs.Clean.{IsClean};
 ghost use Rattle.irig_reader.specs.Rule.{step_of};
 ghost use Rattle.irig_reader.specs.Rules.{IsReaderRules};
-ghost use Rattle.irig_reader.specs.History.{Fed, no_pulses, with_width, with_widths, ReaderHistory, new_history, after_pulse, after_pulses, after_tick, after_restart, report_at_tick};
+ghost use Rattle.irig_reader.specs.History.{Fed, fed_to, no_pulses, with_width, with_widths, ReaderHistory, new_history, after_pulse, after_pulses, after_tick, after_restart, report_at_tick};
 ghost use Rattle.irig_c.specs.declared.state.TheConstants.{IDLE};
 ghost use Rattle.irig_c.specs.Setups.{rules_in, reader_rules_in, redundancy_in};
 ghost use Rattle.irig_c.specs.LeapTables.{table_in, IsTable, code_of_table};
@@ -129,6 +135,12 @@ pub extern "C" fn irig_reader_tick(reader: &mut IrigReader, report: &mut IrigRep
     // whatever lies in its numbers: what the rule makes of them
     ensures said { result ≡ 0 → report_in report.new ≡ (step_in reader.old).report }
     ensures stands { result ≡ 0 → state_in reader.new.state ≡ (step_in reader.old).state }
+    // A second that is announced by the vote of a clean edge is the true one, whatever lies in the
+    // numbers: this needs nothing of the past.
+    ensures truth { (t : TimelineValue) (n : ℕ) (u : UtcSecond) → IsTimeline t
+        → IsClean t n (tells_in reader.old) (redundancy_in reader.old.setup) → result ≡ 0
+        → (report_in report.new).cause ≡ Cause.Voted
+        → (report_in report.new).announce ≡ Some u → IsSecond t (n + 1) u }
 {
     let reader_rules = reader_rules_of(&reader.setup);
     if !in_range(&reader_rules) {
@@ -194,6 +206,9 @@ fn forget(reader: &mut IrigReader)
 pub extern "C" fn irig_reader_port(reader: &IrigReader, port: u8, told: &mut IrigTold) -> u32
     ensures answer { (result ≡ 0) ↔ (port < ports_in (redundancy_in reader.now.setup)) }
     ensures told { result ≡ 0 → told.new ≡ told_in (told_at reader.now port) }
+    // of a reader that has a history: what the pulses say that were fed to the port
+    ensures heard { result ≡ 0 → (h : ReaderHistory) → IsReaderOf reader.now h
+        → told.new ≡ told_in (told_of_widths h.rules (fed_to h.fed port)) }
     ensures refused { (result ≡ 0 → ⊥) → told.new ≡ told.old }
 {
     if !is_port(&reader.setup, port) {

@@ -1,5 +1,11 @@
-use Rattle.std.proofs.Common.{◌≡◌, ◌∙◌, Bool, true, false, sym, ap, subst}
-use Rattle.irig_reader.specs.Rule.{state_of}
+use Rattle.std.proofs.Common.{◌≡◌, ◌∙◌, Bool, true, false, Some, sym, ap, subst}
+use Rattle.irig_reader.specs.declared.report.Cause.TheVariants.{Voted}
+use Rattle.irig_reader.specs.declared.report.Report.{Report}
+use Rattle.irig_reader.specs.Rule.{state_of, step_of}
+use Rattle.irig_reader.proofs.OneEdge.{voted_seconds}
+use Rattle.irig_vote.specs.Vote.{vote_of}
+use Rattle.irig_c.specs.Readers.{tells_in}
+use Rattle.irig_c.specs.Reports.{report_in}
 use Rattle.irig_reader.specs.History.{after_tick, told_at_tick, vote_at_tick}
 use Rattle.irig_reader.proofs.VoteLaws.{vote_valid}
 use Rattle.irig_reader.specs.Rules.{IsReaderRules}
@@ -59,3 +65,12 @@ returns-clause-after c h s =
           (subst (λ (o : ReaderRules). IsState o.lock_after c.state_for_c-reader.result) c.reader_rules_of-reader_rules.ensures
           (c.state_for_c-reader.ensures.state c.reader_rules_of-reader_rules.result.lock_after c.step_of-step.ensures.counting));
     }
+
+pub returns-clause-truth : goal.returns-clause-truth
+returns-clause-truth c t n u sound clean done voted says =
+    let r = c.args.reader.now in
+    let told : c.tells_of.result ≡ tells_in r = c.tells_of.ensures.told in
+    let vote : c.vote-vote.result ≡ vote_of (tells_in r) (redundancy_in r.setup) = cc in
+    let report : report_in c.report_for_c.result ≡ (step_of c.reader_rules_of-reader_rules.result (table_in r.table) c.in-Some.state (vote_of (tells_in r) (redundancy_in r.setup))).report = cc in
+    voted_seconds t n c.reader_rules_of-reader_rules.result (table_in r.table) c.in-Some.state (tells_in r) (redundancy_in r.setup) u sound clean
+    (subst (λ (x : Report). x.cause ≡ Voted) report voted) (subst (λ (x : Report). x.announce ≡ Some u) report says)
