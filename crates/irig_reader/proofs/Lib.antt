@@ -2,3 +2,4 @@ pub mod VoteLaws
 pub mod FedLaws
 pub mod OneEdge
 pub mod StandardFacts
+pub mod CleanFacts

@@ -16,7 +16,7 @@ use Rattle.irig_vote.specs.Vote.{f_of, ports_of, carriers, others, vote_of}
 use Rattle.irig_vote.proofs.CountLaws.{vote_counts, few_tell_others}
 use Rattle.irig_hold.specs.declared.hold.Turn.{Turn}
 use Rattle.irig_hold.specs.declared.hold.Turn.TheVariants as turn
-use Rattle.irig_hold.specs.Steps.{HoldValue, Outcome, hold_start, hold_or_stop, outcome_of, voted_by, alone_by}
+use Rattle.irig_hold.specs.Steps.{HoldValue, hold_start, hold_or_stop, outcome_of, voted_by, alone_by}
 use Rattle.irig_hold.proofs.HoldLaws.{started_true, voted_second, voted_other}
 use Rattle.irig_reader.specs.declared.rules.ReaderRules.{ReaderRules}
 use Rattle.irig_reader.specs.declared.report.Lock.{Lock}

@@ -1,0 +1,77 @@
+-- Edges that are clean and one that isn't, and what a reader then says, so that a wrong definition
+-- does not check. It is noon of 2000-01-31.
+use Rattle.std.proofs.Common.{◌≡◌, ℕ, [], Option, Some, None, refl, sym, ap, ◌∙◌, arith}
+use Rattle.irig_time.proofs.StandardFacts.{known_first_end}
+use Rattle.irig_time.specs.declared.second.UtcSecond.{UtcSecond}
+use Rattle.irig_time.specs.declared.mark.Mark.TheVariants.{Unspoken}
+use Rattle.irig_time.specs.declared.claim.Claim.{Claim}
+use Rattle.irig_time.specs.Timelines.{TimelineValue, times, second_at, truth_at}
+use Rattle.irig_time.specs.Tables.{table}
+use Rattle.irig_port.specs.declared.told.Told.{Told}
+use Rattle.irig_port.specs.declared.told.Told.TheVariants as tells
+use Rattle.irig_vote.specs.declared.redundancy.Redundancy.TheVariants.{Three, Five}
+use Rattle.irig_vote.specs.declared.votes.Tells.{Tells}
+use Rattle.irig_vote.specs.Vote.{vote_of}
+use Rattle.irig_hold.specs.Steps.{HoldValue, hold_value}
+use Rattle.irig_reader.specs.declared.rules.ReaderRules.{ReaderRules}
+use Rattle.irig_reader.specs.declared.report.Lock.TheVariants as lock
+use Rattle.irig_reader.specs.declared.report.Cause.TheVariants as cause
+use Rattle.irig_reader.specs.declared.rule.State.TheVariants.{Locked}
+use Rattle.irig_reader.specs.Rule.{stop_step, announce_step, step_of}
+use Rattle.irig_reader.specs.Clean.{IsClean}
+use Rattle.irig_reader.proofs.OneEdge.{clean_by_few}
+
+abbrev at : ℕ → UtcSecond
+at sod = record { day = 30; sod = sod }
+
+abbrev noon : TimelineValue
+noon = times (at 43200) []
+
+abbrev claim : ℕ → Claim
+claim sod = record { at = at sod; mark = Unspoken }
+
+abbrev tell : ℕ → Told
+tell sod = tells.Claim (claim sod)
+
+-- what three ports tell, and two more
+abbrev three : Told → Told → Told → Tells
+three a b c = record { a = a; b = b; c = c; d = tells.Silence; e = tells.Silence }
+
+truth : truth_at noon 0 ≡ Some (claim 43200)
+unfolding second_at
+truth = rw known_first_end refl
+
+-- one liar of three, and of five two that lie alike
+pub one_lies : IsClean noon 0 (three (tell 43200) (tell 43205) (tell 43200)) Three
+one_lies = clean_by_few noon 0 (three (tell 43200) (tell 43205) (tell 43200)) Three (claim 43200) truth (omega arith)
+
+pub two_of_five_lie : IsClean noon 0 (record { a = tell 43200; b = tell 43205; c = tell 43200; d = tell 43205; e = tell 43200 }) Five
+two_of_five_lie =
+    clean_by_few noon 0 (record { a = tell 43200; b = tell 43205; c = tell 43200; d = tell 43205; e = tell 43200 }) Five (claim 43200) truth (omega arith)
+
+-- two of three that lie alike
+pub two_lie_alike : ¬ IsClean noon 0 (three (tell 43200) (tell 43205) (tell 43205)) Three
+two_lie_alike clean =
+    let told : truth_at noon 0 ≡ Some (claim 43205) = clean.no_other (claim 43205) (omega arith) in
+    let is : ◌≡◌ {A = Option Claim} (Some (claim 43200)) (Some (claim 43205)) = sym truth ∙ told in
+    omega (arith, ap (λ (o : Option Claim). sod_of o) is)
+  where
+    sod_of : Option Claim → ℕ
+    sod_of None = 0
+    sod_of (Some c) = c.at.sod
+
+-- and a reader follows them; one that stands at another second than the vote's is silent
+abbrev rules : ReaderRules
+rules = record { lock_after = 1; holdover = 5 }
+
+abbrev hold : ℕ → HoldValue
+hold sod = hold_value (at sod) 0 Unspoken
+
+pub followed : step_of rules (table 0 []) (Locked (hold 43205)) (vote_of (three (tell 43200) (tell 43205) (tell 43205)) Three)
+    ≡ announce_step (hold 43206) (at 43206) lock.Locked cause.Voted
+unfolding step_of vote_of
+followed = rw known_first_end refl
+
+pub lost : step_of rules (table 0 []) (Locked (hold 43205)) (vote_of (three (tell 43200) (tell 43205) (tell 43200)) Three) ≡ stop_step cause.Jump
+unfolding step_of vote_of
+lost = refl
