@@ -104,10 +104,11 @@ def _table(until: Optional[Day], leaps: Iterable[Leap]) -> c.Table:
 
 class Reader:
     """A reader of IRIG-B: frames come to its ports, and at each edge it announces the second that
-    begins, or is silent, by the reader's rule (docs/READER.md). That rule is what is promised of a
-    reader alone. docs/HEADLINE.md says of the readers of a plant, which follow it too, when what
-    they announce is true: if each ticks once at each second, at most one of three ports, or two of
-    five, makes a false claim at an edge, the leap table is true, and what else stands there.
+    begins, or is silent, by the reader's rule (docs/READER.md). What it announces with the cause
+    "voted" is the true second if the tick comes as that second begins and no two of its three ports
+    (three of five) then tell one and the same wrong time or leap, whatever came before. What it
+    announces with the cause "held" rests on the votes before and on the leap table:
+    docs/HEADLINE.md says when it is true.
 
     lock_after: votes in a row before it announces, 1 to 60
     holdover: edges without a vote at which it goes on, 0 to 1,000,000
