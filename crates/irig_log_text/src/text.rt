@@ -76,8 +76,8 @@ fn is_kept(kept: Option<Report>, report: Report) -> bool
     announce == report.announce && lock == report.lock && cause == report.cause
 }
 
-/// Adds a line for each entry with an announcement, or for each entry if all are shown. Like all that
-/// adds to a text, it fails only if there is no memory.
+/// Adds a line for each entry with an announcement, or for each entry if all are shown. Like all
+/// that adds to a text, it fails only if there is no memory.
 pub fn push_entries(
     text: &mut String,
     last: &mut ReportText,

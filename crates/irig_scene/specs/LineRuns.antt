@@ -42,8 +42,9 @@ IsAt shown (Some player) None = ⊥
 IsAt shown (Some player) (Some x) = IsPlayerAt shown player x
 
 -- a player of this scene did what a line asks for
-pub record RanCommandTo {P : Type 0} {g : Ghosts P} (x : Scene) (events : List Event) (shown : Shown)
-    (player : Player P g) (refusal : Option Refusal) (old new : Bytes) : Type 0 where
+pub record RanCommandTo {P : Type 0} {g : Ghosts P} (x : Scene) (events : List Event)
+    (shown : Shown) (player : Player P g) (refusal : Option Refusal) (old new : Bytes)
+    : Type 0 where
   pub refused : (play x.plan.setup events x.events).refusal ≡ refusal
   pub stands : IsPlayerAt shown player (after_events x events)
   pub grew : OutputGrewBy shown (Some x) (Some (after_events x events)) old new
@@ -67,8 +68,9 @@ RunsCommand was command shown result is old new =
 -- ---- lines
 
 -- a line was taken that does this: its refusal, what stands after it, and what was written
-pub record ProcessedTo {P : Type 0} {g : Ghosts P} (step : Step) (shown : Shown) (from : Option Scene)
-    (player : Option (Player P g)) (refusal : Option Refusal) (old new : Bytes) : Type 0 where
+pub record ProcessedTo {P : Type 0} {g : Ghosts P} (step : Step) (shown : Shown)
+    (from : Option Scene) (player : Option (Player P g)) (refusal : Option Refusal)
+    (old new : Bytes) : Type 0 where
   pub refused : step.refusal ≡ refusal
   pub stands : IsAt shown player step.scene
   pub grew : OutputGrewBy shown from step.scene old new
@@ -76,7 +78,8 @@ pub record ProcessedTo {P : Type 0} {g : Ghosts P} (step : Step) (shown : Shown)
 -- it was taken, or refused, or something failed in the midst of it
 abbrev pub ProcessedLine : {P : Type 0} {g : Ghosts P} → Result (Unit {0}) Stop → Step → Shown
     → Option Scene → Option (Player P g) → Bytes → Bytes → Type 0
-ProcessedLine (Ok done) step shown from player old new = ProcessedTo step shown from player None old new
+ProcessedLine (Ok done) step shown from player old new =
+    ProcessedTo step shown from player None old new
 ProcessedLine (Err (stop.Refused k)) step shown from player old new =
     ProcessedTo step shown from player (Some k) old new
 ProcessedLine (Err (stop.Failed f)) step shown from player old new =
@@ -86,7 +89,8 @@ ProcessedLine (Err (stop.Failed f)) step shown from player old new =
 abbrev pub ProcessesLine : {P : Type 0} {g : Ghosts P} → Option (Player P g) → ℕ → List ℕ → Shown
     → Result (Unit {0}) Stop → Option (Player P g) → Bytes → Bytes → Type 0
 ProcessesLine was n line shown result is old new =
-    (at : Option Scene) → IsAt shown was at → ProcessedLine result (step n at line) shown at is old new
+    (at : Option Scene) → IsAt shown was at
+    → ProcessedLine result (step n at line) shown at is old new
 
 -- a line that isn't skipped, once there is a plant
 abbrev pub ProcessesEventLine : {P : Type 0} {g : Ghosts P} → Player P g → List ℕ → Shown

@@ -40,7 +40,8 @@ pub record OutputGrewBy (shown : Shown) (from to : Option Scene) (old new : Byte
   pub wrote : Appends old new text
 
 -- it grew by a prefix of that
-pub record OutputGrewByPartOf (shown : Shown) (from to : Option Scene) (old new : Bytes) : Type 0 where
+pub record OutputGrewByPartOf (shown : Shown) (from to : Option Scene) (old new : Bytes)
+    : Type 0 where
   pub text : List ℕ
   pub more : log_text shown to ≡ log_text shown from ++ text
   pub wrote : AppendsPart old new text

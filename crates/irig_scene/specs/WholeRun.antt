@@ -19,8 +19,8 @@ left remaining input = remaining (device_of input)
 abbrev pub written : {W : Type 0} → (W → Bytes) → Watched W → Bytes
 written contents output = contents (device_of output)
 
--- a run of `before`, which left `after`, with this answer: what it wrote to the output, `old` before
--- and `new` after, tells the truth
+-- a run of the input `before`, which left `after`, with this answer: what it wrote to the output,
+-- `old` before and `new` after, tells the truth
 pub record RunsTruly {R W : Type 0} (remaining : R → Bytes) (contents : W → Bytes) (shown : Shown)
     (result : Result Outcome SceneFault) (before after : Watched R) (old new : Watched W)
     : Type 0 where

@@ -38,7 +38,8 @@ impl<P: Port> Player<P> {
         requires generators { AreGenerators line.rules line.generators.items }
         requires readers { AreReaders line.readers.items }
         requires names { length line.names.keys ≡ vec_len line.readers }
-        ensures stands { IfOk result (λ player. IsPlayerAt log.shown player (scene (plan_of line) [])) }
+        ensures stands { IfOk result
+            (λ player. IsPlayerAt log.shown player (scene (plan_of line) [])) }
         ensures memory { IfErr result (λ failure. failure ≡ Memory) }
     {
         let BuiltPlant {
