@@ -18,8 +18,9 @@ use Rattle.irig_time.specs.Tables.{TableValue, table_mark, spoken_mark}
 use Rattle.irig_hold.specs.declared.hold.Turn.{Turn}
 use Rattle.irig_hold.specs.declared.hold.Turn.TheVariants.{Now, LeapGuard, Expired, RangeEnd, Jump}
 use Rattle.irig_hold.specs.Steps.{HoldValue, stop_on, mark_kept, hold_after, hold_or_stop, hold_step, hold_start, Outcome, outcome_of, mark_or, voted_by, alone_by}
-use Rattle.irig_hold.specs.Truth.{IsTrueTable, IsOnTime, IsGuarded, HasComeTo}
-use Rattle.irig_hold.proofs.Stepping.{IsLast, free_or_last, next_none, last_waits}
+use Rattle.irig_time.specs.Claims.{IsMarkedLate}
+use Rattle.irig_hold.specs.Truth.{IsTrueTable, IsOnTime, HasHeardLate, IsGuarded, HasComeTo}
+use Rattle.irig_hold.proofs.Stepping.{IsLast, free_or_last, next_none, last_waits, next_follows}
 
 -- what the timeline says of the day of a second
 abbrev truth : TimelineValue → UtcSecond → Mark
@@ -212,7 +213,7 @@ moved_if_true t n u age mark (Some v) new honest on e =
     let same : hold_after u age mark v ≡ new = cc in
     subst (IsOnTime t (n + 1)) same (moved_on_time t n u v age mark honest (on v refl))
 
-stop_is_no_now : (day : ℕ) (u : UtcSecond) → stop_on day ≡ Now u → ⊥
+pub stop_is_no_now : (day : ℕ) (u : UtcSecond) → stop_on day ≡ Now u → ⊥
 stop_is_no_now day u e = elim (stop_is day) [ inl a ↦ let both : RangeEnd ≡ Now u = sym a ∙ e in cc | inr b ↦ let both : LeapGuard ≡ Now u = sym b ∙ e in cc ]
 
 outcome_true : (t : TimelineValue) (n : ℕ) (h : HoldValue) (u : UtcSecond) (age : ℕ) (mark : Mark) (o : Option UtcSecond) (w : UtcSecond) → IsHonest t u mark → LeadsOn t n o
@@ -323,6 +324,108 @@ voted_other t table m n h c at claim apart =
           absurd (apart (omega (arith, at.sum, here.sum)))
       | inr other ↦ rw other refl
     ]
+
+-- ---- marks that are heard in a month's last minute
+
+abbrev Speaks : UtcSecond → Mark → Type 0
+Speaks u mark = (mark ≡ Unspoken) ⊎ ((is_month_end u.day ≡ true) × (86341 ≤ u.sod))
+
+or_speaks : (u : UtcSecond) (mark before : Mark) → Speaks u mark → Speaks u before → Speaks u (mark_or mark before)
+or_speaks u Unspoken before a b = b
+or_speaks u NoLeap before a b = a
+or_speaks u Insert before a b = a
+or_speaks u Delete before a b = a
+
+heard_speaks : (h : HoldValue) → HasHeardLate h → Speaks h.last h.heard
+heard_speaks h late = elim late [ inl none ↦ inl none | inr end ↦ inr (end.0, omega (arith, end.1)) ]
+
+other_day : (u v : UtcSecond) → v.day ≡ u.day + 1 → ¬ (u.day ≡ v.day)
+other_day u v next same = omega (arith, next, same)
+
+moved_late : (u v : UtcSecond) (age : ℕ) (mark from : Mark) → next_of u from ≡ Some v → Speaks u mark → HasHeardLate (hold_after u age mark v)
+moved_late u v age mark from e speaks =
+    elim (next_follows u v from e) [
+      | inl same ↦
+          rw (eq-eqb u.day v.day (sym same.0)) (elim speaks [
+            | inl none ↦ inl none
+            | inr end ↦ inr (subst (λ (d : ℕ). is_month_end d ≡ true) (sym same.0) end.0, omega (arith, same.1, end.1))
+          ])
+      | inr next ↦ rw (ne_eqb u.day v.day (other_day u v next)) (inl refl)
+    ]
+
+outcome_late : (h : HoldValue) (u : UtcSecond) (age : ℕ) (mark : Mark) (o : Option UtcSecond) → HasHeardLate h → ((v : UtcSecond) → o ≡ Some v → HasHeardLate (hold_after u age mark v))
+    → HasHeardLate (outcome_of h (hold_or_stop u age mark o)).new
+outcome_late h u age mark None late moved = late
+outcome_late h u age mark (Some v) late moved = moved v refl
+
+stepped_late : (table : TableValue) (h : HoldValue) (age : ℕ) (mark : Mark) → HasHeardLate h → Speaks h.last mark → HasHeardLate (outcome_of h (hold_step table h.last age mark)).new
+stepped_late table h age mark late speaks =
+    outcome_late h h.last age mark (next_of h.last (spoken_mark table mark h.last.day)) late (λ v e. moved_late h.last v age mark (spoken_mark table mark h.last.day) e speaks)
+
+pub voted_late : (table : TableValue) (h : HoldValue) (c : Claim) → HasHeardLate h → IsMarkedLate c → HasHeardLate (voted_by table h c).new
+voted_late table h c late marked =
+    elim (cases_Bool ((c.at.day == h.last.day) && (c.at.sod == h.last.sod))) [
+      | inl for ↦
+          let told : Speaks h.last c.mark = subst (λ (u : UtcSecond). Speaks u c.mark) (tested c h for) marked in
+          rw for (stepped_late table h 0 (mark_or c.mark h.heard) late (or_speaks h.last c.mark h.heard told (heard_speaks h late)))
+      | inr other ↦ rw other late
+    ]
+
+pub alone_late : (table : TableValue) (h : HoldValue) (limit : ℕ) → HasHeardLate h → HasHeardLate (alone_by table h limit).new
+alone_late table h limit late =
+    elim (cases_lt h.age limit) [
+      | inl lt ↦ rw (lt-leb limit h.age lt) (stepped_late table h (h.age + 1) h.heard late (heard_speaks h late))
+      | inr ge ↦ rw (le-leb limit h.age ge) late
+    ]
+
+started_if_late : (u : UtcSecond) (mark from : Mark) (o : Option UtcSecond) (h : HoldValue) → next_of u from ≡ o → Speaks u mark → hold_or_stop u 0 mark o ≡ Ok h → HasHeardLate h
+started_if_late u mark from None h is speaks e = absurd cc
+started_if_late u mark from (Some v) h is speaks e =
+    let same : hold_after u 0 mark v ≡ h = cc in
+    subst HasHeardLate same (moved_late u v 0 mark from is speaks)
+
+pub started_late : (table : TableValue) (c : Claim) (h : HoldValue) → IsMarkedLate c → hold_start table c ≡ Ok h → HasHeardLate h
+started_late table c h marked e = started_if_late c.at c.mark (spoken_mark table c.mark c.at.day) (next_of c.at (spoken_mark table c.mark c.at.day)) h refl marked e
+
+-- a true vote makes good whatever was heard before: below second 60 it speaks itself, and after that
+-- the day is over
+late_honest : (t : TimelineValue) (u : UtcSecond) (mark before : Mark) → mark ≡ true_mark t.leaps u → Speaks u before → u.sod < 86400 → IsHonest t u (mark_or mark before)
+late_honest t u Unspoken before told speaks low =
+    elim speaks [
+      | inl none ↦ inl none
+      | inr end ↦
+          let true_one : true_mark t.leaps u ≡ truth t u = rw (end.0, le-ltb u.sod 86341 (omega (arith, end.1)), lt-ltb u.sod 86400 low) refl in
+          absurd (truth_speaks (leap_of t.leaps u.day) (sym (told ∙ true_one)))
+    ]
+late_honest t u NoLeap before told speaks low = subst (IsHonest t u) (sym told) (claim_honest t u)
+late_honest t u Insert before told speaks low = subst (IsHonest t u) (sym told) (claim_honest t u)
+late_honest t u Delete before told speaks low = subst (IsHonest t u) (sym told) (claim_honest t u)
+
+moved_by_vote : (t : TimelineValue) (n : ℕ) (u v : UtcSecond) (mark before from : Mark) → mark ≡ true_mark t.leaps u → Speaks u before → next_of u from ≡ Some v → IsSecond t (n + 1) v
+    → IsOnTime t (n + 1) (hold_after u 0 (mark_or mark before) v)
+moved_by_vote t n u v mark before from told speaks e there = record {
+  last = there;
+  heard = elim (next_follows u v from e) [
+    | inl same ↦ kept_honest t u v (mark_or mark before) (late_honest t u mark before told speaks same.2)
+    | inr next ↦ rw (ne_eqb u.day v.day (other_day u v next)) (inl refl)
+  ];
+}
+
+outcome_on_time : (t : TimelineValue) (n : ℕ) (h : HoldValue) (u : UtcSecond) (mark : Mark) (o : Option UtcSecond) (w : UtcSecond) → ((v : UtcSecond) → o ≡ Some v → IsOnTime t (n + 1) (hold_after u 0 mark v))
+    → (outcome_of h (hold_or_stop u 0 mark o)).answer ≡ Now w → IsOnTime t (n + 1) (outcome_of h (hold_or_stop u 0 mark o)).new
+outcome_on_time t n h u mark None w moved e = absurd (stop_is_no_now u.day w e)
+outcome_on_time t n h u mark (Some v) w moved e = moved v refl
+
+pub voted_on_time : (t : TimelineValue) (table : TableValue) (n : ℕ) (h : HoldValue) (c : Claim) (w : UtcSecond) → IsTimeline t → HasHeardLate h → IsTrueClaim t (n + 1) c
+    → (voted_by table h c).answer ≡ Now w → IsOnTime t (n + 1) (voted_by table h c).new
+voted_on_time t table n h c w sound late claim e =
+    let at : IsSecond t n h.last = subst (IsSecond t n) (voted_for table h c w e) (claimed t n c claim) in
+    let vote = true_vote t n h c at claim in
+    let mark : Mark = mark_or c.mark h.heard in
+    let from : Mark = spoken_mark table mark h.last.day in
+    let leads = leads_on t table n h.last mark sound at (vote_leads t table h.last c.mark h.heard vote.told) in
+    let answered : (outcome_of h (hold_step table h.last 0 mark)).answer ≡ Now w = rw vote.for at e in
+    rw vote.for (outcome_on_time t n h h.last mark (next_of h.last from) w (λ v is. moved_by_vote t n h.last v c.mark h.heard from vote.told (heard_speaks h late) is (leads v is)) answered)
 
 -- ---- where T(n + 1) exists
 

@@ -1,5 +1,5 @@
 -- The second after a second: that it is valid, what the mark counts for, and where there is none.
-use Rattle.std.proofs.Common.{◌≡◌, ℕ, ◌+◌, ◌<◌, ◌≤◌, ◌⊎◌, true, Option, Some, None, refl, sym, subst, ◌∙◌, arith, inl, inr}
+use Rattle.std.proofs.Common.{◌≡◌, ℕ, ◌+◌, ◌<◌, ◌≤◌, ◌⊎◌, true, Option, Some, None, refl, sym, ap, subst, ◌∙◌, arith, inl, inr}
 use Rattle.std.proofs.lemmas.Bool.{cases_Bool, cases_lt, cases_eq, lt-ltb, le-ltb, eq-eqb, ne_eqb}
 use Rattle.irig_time.proofs.MonthEnds.{month_end_from_test}
 use Rattle.irig_time.specs.declared.second.UtcSecond.{UtcSecond}
@@ -153,4 +153,53 @@ last_waits u h =
     elim h.late [
       | inl a ↦ rw (h.end, le-ltb u.sod 86398 (omega (arith, a)), lt-ltb u.sod 86400 (omega (arith, a))) refl
       | inr b ↦ rw (h.end, le-ltb u.sod 86398 (omega (arith, b)), lt-ltb u.sod 86400 (omega (arith, b))) refl
+    ]
+
+-- ---- the same day, or the next
+
+-- one second on in the same day, which a second from 86400 on never is, or the next day
+abbrev pub Follows : UtcSecond → UtcSecond → Type 0
+Follows u v = ((v.day ≡ u.day) × (v.sod ≡ u.sod + 1) × (u.sod < 86400)) ⊎ (v.day ≡ u.day + 1)
+
+goes_plain : (u v : UtcSecond) → u.sod < 86400 → some (plain u) ≡ Some v → Follows u v
+goes_plain u v low e =
+    let same : plain u ≡ v = cc in
+    inl (sym (ap (λ (x : UtcSecond). x.day) same), sym (ap (λ (x : UtcSecond). x.sod) same), low)
+
+goes_turned : (u v : UtcSecond) → next_day u ≡ Some v → Follows u v
+goes_turned u v e =
+    elim (cases_eq u.day 36523) [
+      | inl last ↦ let none : None ≡ some v = rw (eq-eqb u.day 36523 last) at e in absurd cc
+      | inr other ↦
+          let next : UtcSecond = record { day = u.day + 1; sod = 0 } in
+          let moved : some next ≡ Some v = rw (ne_eqb u.day 36523 other) at e in
+          let same : next ≡ v = cc in
+          inr (sym (ap (λ (x : UtcSecond). x.day) same))
+    ]
+
+goes_after : (last : ℕ) (u v : UtcSecond) → last ≤ 86400 → next_day_after last u ≡ Some v → Follows u v
+goes_after last u v most e =
+    elim (cases_lt u.sod last) [
+      | inl lt ↦ goes_plain u v (omega (arith, lt, most)) (rw (lt-ltb u.sod last lt) at e)
+      | inr ge ↦ goes_turned u v (rw (le-ltb u.sod last ge) at e)
+    ]
+
+goes_at_end : (u v : UtcSecond) (mark : Mark) → next_at_month_end u mark ≡ Some v → Follows u v
+goes_at_end u v Unspoken e =
+    elim (cases_lt u.sod 86398) [
+      | inl lt ↦ goes_plain u v (omega (arith, lt)) (rw (lt-ltb u.sod 86398 lt) at e)
+      | inr ge ↦ elim (cases_lt u.sod 86400) [
+        | inl lt ↦ let none : None ≡ some v = rw (le-ltb u.sod 86398 ge, lt-ltb u.sod 86400 lt) at e in absurd cc
+        | inr late ↦ goes_turned u v (rw (le-ltb u.sod 86398 ge, le-ltb u.sod 86400 late) at e)
+      ]
+    ]
+goes_at_end u v NoLeap e = goes_after 86399 u v (omega arith) e
+goes_at_end u v Insert e = goes_after 86400 u v (omega arith) e
+goes_at_end u v Delete e = goes_after 86398 u v (omega arith) e
+
+pub next_follows : (u v : UtcSecond) (mark : Mark) → next_of u mark ≡ Some v → Follows u v
+next_follows u v mark e =
+    elim (cases_Bool (is_month_end u.day)) [
+      | inl end ↦ goes_at_end u v mark (rw end at e)
+      | inr other ↦ goes_after 86399 u v (omega arith) (rw other at e)
     ]

@@ -19,6 +19,10 @@ pub record IsOnTime (t : TimelineValue) (n : ℕ) (h : HoldValue) : Type 0 where
   pub last : IsSecond t n h.last
   pub heard : (h.heard ≡ Unspoken) ⊎ (h.heard ≡ mark_by (leap_of t.leaps h.last.day))
 
+-- what the hold heard of a leap, it heard there
+abbrev pub HasHeardLate : HoldValue → Type 0
+HasHeardLate h = (h.heard ≡ Unspoken) ⊎ ((is_month_end h.last.day ≡ true) × (86342 ≤ h.last.sod))
+
 -- the hold has come to 23:59:58 or 23:59:59 of a month's last day, heard nothing of its end, and
 -- the table ends before it
 pub record IsGuarded (table : TableValue) (h : HoldValue) : Type 0 where

@@ -203,3 +203,10 @@ holdover_within rules table (Acquiring h count) (Some c) a e =
     later_within rules.holdover rules count _ (voted_by table h c).answer (voted_by table h c).new (first_within rules.holdover rules (hold_start table c)) a e
 holdover_within rules table (Locked h) (Some c) a e = voted_within rules.holdover (voted_by table h c).answer (voted_by table h c).new a e
 holdover_within rules table (Locked h) None a e = alone_within rules table h a e
+
+-- a vote ends a holdover
+pub voted_holds : (rules : ReaderRules) (table : TableValue) (state : State) (c : Claim) → IsWithin 0 (step_of rules table state (Some c))
+unfolding step_of
+voted_holds rules table Idle c = first_within 0 rules (hold_start table c)
+voted_holds rules table (Acquiring h count) c = later_within 0 rules count _ (voted_by table h c).answer (voted_by table h c).new (first_within 0 rules (hold_start table c))
+voted_holds rules table (Locked h) c = voted_within 0 (voted_by table h c).answer (voted_by table h c).new

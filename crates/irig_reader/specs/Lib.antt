@@ -3,3 +3,4 @@ pub mod Rule
 pub mod History
 pub mod Readers
 pub mod Clean
+pub mod Held

@@ -1,15 +1,18 @@
 //! Laws of one edge of a reader over its definitions: what it announces there, by what its ports tell
 //! there. They have no code, and speak of values: no call of a reader takes a timeline.
 
-ghost use Rattle.std.specs.Prelude.{◌≡◌, ◌+◌, ◌≤◌, ℕ, Option, Some};
+ghost use Rattle.std.specs.Prelude.{◌≡◌, ◌+◌, ◌<◌, ◌≤◌, ℕ, List, [], ◌∷◌, Option, Some};
 ghost use Rattle.irig_time.specs.Tables.{TableValue};
-ghost use Rattle.irig_time.specs.Timelines.{TimelineValue, IsSecond, truth_at};
+ghost use Rattle.irig_time.specs.Timelines.{TimelineValue, IsSecond, IsTrueClaim, truth_at};
 ghost use Rattle.irig_time.specs.TimelineFaults.{IsTimeline};
 ghost use Rattle.irig_vote.specs.Vote.{carriers, f_of, others, ports_of, vote_of};
 ghost use Rattle.irig_hold.specs.Steps.{HoldValue};
+ghost use Rattle.irig_hold.specs.Truth.{IsTrueTable};
 ghost use Rattle.irig_reader.specs.declared.rule.State.{State};
 ghost use Rattle.irig_reader.specs.Clean.{IsClean};
-ghost use Rattle.irig_reader.specs.Rule.{step_of, stop_step};
+ghost use Rattle.irig_reader.specs.Held.{AreMarkedLate, IsSince, then_none};
+ghost use Rattle.irig_reader.specs.History.{ReaderHistory, after_tick};
+ghost use Rattle.irig_reader.specs.Rule.{report_of, step_of, stop_step};
 
 use crate::report::{Cause, Lock};
 use crate::rules::ReaderRules;
@@ -58,4 +61,24 @@ pub fn holdover_is_bounded()
     ensures { (rules : ReaderRules) (table : TableValue) (state : State) (vote : Option Claim)
         (edges : ℕ) → (step_of rules table state vote).report.lock ≡ Lock.Holdover edges
         → (1 ≤ edges) × (edges ≤ rules.holdover) }
+{}
+
+/// A held second is true by the last vote: if a reader announces a second in a holdover of so many
+/// edges, the vote that lies so many edges back was true, each of the edges since was one call, and
+/// the table is true, then the second is the true one.
+pub fn held_seconds_are_true()
+    // The lock says how far back the last vote lies.
+    ensures last { (rules : ReaderRules) (table : TableValue) (vote : Option Claim)
+        (votes : List (Option Claim)) (edges : ℕ)
+        → (report_of rules table vote votes).lock ≡ Lock.Holdover edges
+        → IsSince (vote ∷ votes) edges }
+    ensures second { (t : TimelineValue) (n : ℕ) (rules : ReaderRules) (table : TableValue)
+        (vote : Option Claim) (votes earlier : List (Option Claim)) (c : Claim) (edges : ℕ)
+        (u : UtcSecond) → IsTimeline t → IsTrueTable t table → AreMarkedLate earlier
+        → IsTrueClaim t (n + 1) c → vote ∷ votes ≡ then_none edges (Some c ∷ earlier)
+        → 0 < edges → (report_of rules table vote votes).announce ≡ Some u
+        → IsSecond t (n + 1 + edges) u }
+    // Votes of what ports tell are such as is asked of the earlier ones.
+    ensures none { AreMarkedLate [] }
+    ensures marked { (h : ReaderHistory) → AreMarkedLate h.votes → AreMarkedLate (after_tick h).votes }
 {}

@@ -13,7 +13,8 @@ mod rule;
 mod rules;
 
 pub use laws::{
-    a_lost_tick_is_silent, holdover_is_bounded, misleading_takes_a_majority, voted_seconds_are_true,
+    a_lost_tick_is_silent, held_seconds_are_true, holdover_is_bounded, misleading_takes_a_majority,
+    voted_seconds_are_true,
 };
 pub use reader::{Reader, Ticked};
 pub use report::{Cause, Lock, Report};

@@ -1,7 +1,7 @@
 -- What a frame claims is a valid second.
 use Rattle.std.proofs.Common.{◌≡◌, ℕ, ◌/◌, ◌%◌, ◌<◌, ◌≤◌, Bool, true, false, not, ◌&&◌, cond, eqb, int_lt, Result, Ok, Err, refl, sym, subst, arith, inl, inr, ℤ, pos, negsuc, unsigned_abs}
-use Rattle.std.specs.Prelude.{IfOk}
-use Rattle.std.proofs.lemmas.Bool.{cases_eq, and_parts, eqb-true, eq-eqb, ltb-true, ltb-false}
+use Rattle.std.specs.Prelude.{IfOk, nat_lt}
+use Rattle.std.proofs.lemmas.Bool.{cases_Bool, cases_eq, and_parts, eqb-true, eq-eqb, ltb-true, ltb-false}
 use Rattle.irig_frame.specs.declared.coded.Coded.{Coded}
 use Rattle.irig_control.specs.declared.control.Control.{Control}
 use Rattle.irig_time.specs.declared.second.UtcSecond.{UtcSecond}
@@ -10,7 +10,8 @@ use Rattle.irig_time.specs.declared.claim.TimeFault.{TimeFault}
 use Rattle.irig_time.specs.declared.rules.Sense.{Sense}
 use Rattle.irig_time.specs.Days.{is_month_end}
 use Rattle.irig_time.specs.Seconds.{IsValid}
-use Rattle.irig_time.specs.Claims.{utc_minute, utc_at, is_last_minute, frame_mark, claim_by}
+use Rattle.irig_time.specs.declared.mark.Mark.TheVariants.{Unspoken}
+use Rattle.irig_time.specs.Claims.{utc_minute, utc_at, is_last_minute, frame_mark, claim_by, IsMarkedLate}
 use Rattle.irig_time.proofs.MonthEnds.{month_end_from_test}
 
 -- a test that did not fail, and one that had to hold
@@ -63,3 +64,30 @@ claim_valid sense c k claim small h =
 pub answer_valid : (sense : Sense) (c : Coded) (k : Control) (answer : Result Claim TimeFault) → c.second ≤ 60 → answer ≡ claim_by sense c k → IfOk answer (λ claim. IsValid claim.at)
 answer_valid sense c k (Ok claim) small e = claim_valid sense c k claim small (sym e)
 answer_valid sense c k (Err f) small e = tt
+
+-- what a claim says of a leap it says in a month's last minute
+marked_at : (minute second : ℕ) (k : Control) → IsMarkedLate (record { at = utc_at minute second; mark = frame_mark (is_last_minute minute) second k })
+marked_at minute second k =
+    elim (cases_Bool (is_last_minute minute && (nat_lt 0 second && nat_lt second 60))) [
+      | inl speaks ↦
+          let both = and_parts (is_last_minute minute) (nat_lt 0 second && nat_lt second 60) speaks in
+          let end = and_parts (is_month_end (minute / 1440)) (eqb (minute % 1440) 1439) both.0 in
+          let some = and_parts (nat_lt 0 second) (nat_lt second 60) both.1 in
+          inr (end.0, omega (arith, eqb-true (minute % 1440) 1439 end.1, ltb-true 0 second some.0))
+      | inr silent ↦ inl (rw silent refl)
+    ]
+
+made_is : (c claim : Claim) → ◌≡◌ {A = Result Claim TimeFault} (Ok c) (Ok claim) → c ≡ claim
+made_is c claim h = cc
+
+pub claim_marked : (sense : Sense) (c : Coded) (k : Control) (claim : Claim) → claim_by sense c k ≡ Ok claim → IsMarkedLate claim
+claim_marked sense c k claim h =
+    let z = utc_minute sense c k in
+    let day = passed _ _ _ _ h in
+    let low = passed _ _ _ _ day.1 in
+    let high = needed _ _ _ _ low.1 in
+    let minute = unsigned_abs z in
+    let within = served z low.0 high.0 in
+    let sixty = passed (eqb c.second 60 && not (is_last_minute minute)) _ _ claim high.1 in
+    let deleted = passed _ _ _ _ sixty.1 in
+    subst IsMarkedLate (made_is (record { at = utc_at minute c.second; mark = frame_mark (is_last_minute minute) c.second k }) claim deleted.1) (marked_at minute c.second k)

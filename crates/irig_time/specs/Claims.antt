@@ -1,6 +1,6 @@
 -- What a frame claims: the UTC second by the offset, and what is said of a leap (IEEE 1344-1995,
 -- the IRIG-B annex, with this project's profile of when the leap bits speak).
-use Rattle.std.specs.Prelude.{ℕ, ◌+◌, ◌*◌, ◌/◌, ◌%◌, Bool, not, ◌&&◌, ◌==◌, nat_lt, if◌then◌else◌, Result, Ok, Err, ℤ, pos, ◌+ℤ◌, ◌-ℤ◌, ◌*ℤ◌, int_lt, unsigned_abs, true, false}
+use Rattle.std.specs.Prelude.{◌≡◌, ◌≤◌, ◌⊎◌, ℕ, ◌+◌, ◌*◌, ◌/◌, ◌%◌, Bool, not, ◌&&◌, ◌==◌, nat_lt, if◌then◌else◌, Result, Ok, Err, ℤ, pos, ◌+ℤ◌, ◌-ℤ◌, ◌*ℤ◌, int_lt, unsigned_abs, true, false}
 use Rattle.irig_frame.specs.declared.coded.Coded.{Coded}
 use Rattle.irig_control.specs.declared.control.Control.{Control}
 use Rattle.irig_time.specs.declared.second.UtcSecond.{UtcSecond}
@@ -78,3 +78,7 @@ same_mark _ _ = false
 -- whether two claims are the same, second and mark both
 abbrev pub same_claim : Claim → Claim → Bool
 same_claim c d = same_second c.at d.at && same_mark c.mark d.mark
+
+-- if the claim says something of a leap, it is of a month's last minute, from second 1 on
+abbrev pub IsMarkedLate : Claim → Type 0
+IsMarkedLate c = (c.mark ≡ Unspoken) ⊎ ((is_month_end c.at.day ≡ true) × (86341 ≤ c.at.sod))

@@ -1,0 +1,255 @@
+-- What a reader announces without a vote, by its last vote.
+use Rattle.std.proofs.Common.{◌≡◌, ◌==◌, ℕ, zero, suc, ◌+◌, ◌<◌, ◌≤◌, Bool, true, false, cond, List, [], ◌∷◌, All, Option, Some, None, Result, Ok, Err, refl, sym, subst, ap, ◌∙◌, inl, inr, arith}
+use Rattle.std.specs.Prelude.{nat_le, ◌&&◌, IfSome}
+use Rattle.std.proofs.lemmas.Bool.{cases_Bool}
+use Rattle.std.proofs.lemmas.List.Elements.{All-head, All-tail, All-cons, All-nil}
+use Rattle.irig_time.specs.declared.second.UtcSecond.{UtcSecond}
+use Rattle.irig_time.specs.declared.mark.Mark.{Mark}
+use Rattle.irig_time.specs.declared.claim.Claim.{Claim}
+use Rattle.irig_time.specs.Next.{next_of}
+use Rattle.irig_time.specs.Timelines.{TimelineValue, IsSecond, IsTrueClaim}
+use Rattle.irig_time.specs.TimelineFaults.{IsTimeline}
+use Rattle.irig_time.specs.Claims.{IsMarkedLate}
+use Rattle.irig_time.specs.Tables.{TableValue, spoken_mark}
+use Rattle.irig_hold.specs.declared.hold.Turn.{Turn}
+use Rattle.irig_hold.specs.declared.hold.Turn.TheVariants as turn
+use Rattle.irig_hold.specs.Steps.{HoldValue, hold_start, hold_or_stop, hold_after, mark_or, outcome_of, voted_by, alone_by}
+use Rattle.irig_hold.specs.Truth.{IsTrueTable, IsOnTime, HasHeardLate, HasComeTo}
+use Rattle.irig_reader.proofs.OneEdge.{voted_holds}
+use Rattle.irig_hold.proofs.HoldLaws.{stop_is_no_now, started_true, alone_true, voted_on_time, voted_late, alone_late, started_late}
+use Rattle.irig_reader.specs.declared.rules.ReaderRules.{ReaderRules}
+use Rattle.irig_reader.specs.declared.report.Lock.{Lock}
+use Rattle.irig_reader.specs.declared.report.Lock.TheVariants as lock
+use Rattle.irig_reader.specs.declared.report.Cause.{Cause}
+use Rattle.irig_reader.specs.declared.report.Cause.TheVariants as cause
+use Rattle.irig_reader.specs.declared.rule.State.{State}
+use Rattle.irig_reader.specs.declared.rule.State.TheVariants.{Idle, Acquiring, Locked}
+use Rattle.irig_reader.specs.declared.rule.Step.{Step}
+use Rattle.irig_reader.specs.Rule.{stop_step, announce_step, count_step, first_vote_step, later_vote_step_by, locked_step, holdover_step, step_of, state_of, report_of}
+use Rattle.irig_reader.specs.Held.{then_none, AreMarkedLate, IsSince}
+
+-- a fact of the hold of a state, if it has one
+abbrev IfHold : State → (HoldValue → Type 0) → Type 0
+IfHold Idle P = Unit {0}
+IfHold (Acquiring h count) P = P h
+IfHold (Locked h) P = P h
+
+count_has : (P : HoldValue → Type 0) (rules : ReaderRules) (h : HoldValue) (count : ℕ) → P h → IfHold (count_step rules h count).state P
+count_has P rules h count p =
+    either (count == rules.lock_after) (announce_step h h.last lock.Locked cause.Voted) (record { state = Acquiring h count; report = record { announce = None; lock = lock.Acquiring count; cause = cause.Acquiring } }) p p
+  where
+    either : (b : Bool) (x y : Step) → IfHold x.state P → IfHold y.state P → IfHold (cond b x y).state P
+    either true x y p q = p
+    either false x y p q = q
+
+first_has : (P : HoldValue → Type 0) (rules : ReaderRules) (first : Result HoldValue Turn) → ((h : HoldValue) → first ≡ Ok h → P h) → IfHold (first_vote_step rules first).state P
+first_has P rules (Ok h) p = count_has P rules h 1 (p h refl)
+first_has P rules (Err stop) p = tt
+
+later_has : (P : HoldValue → Type 0) (rules : ReaderRules) (count : ℕ) (anew : Step) (answer : Turn) (h : HoldValue) → IfHold anew.state P → ((u : UtcSecond) → answer ≡ turn.Now u → P h)
+    → IfHold (later_vote_step_by rules count anew answer h).state P
+later_has P rules count anew (turn.Now u) h first p = count_has P rules h (count + 1) (p u refl)
+later_has P rules count anew turn.Jump h first p = first
+later_has P rules count anew turn.LeapGuard h first p = tt
+later_has P rules count anew turn.Expired h first p = tt
+later_has P rules count anew turn.RangeEnd h first p = tt
+
+locked_has : (P : HoldValue → Type 0) (l : Lock) (c : Cause) (answer : Turn) (h : HoldValue) → ((u : UtcSecond) → answer ≡ turn.Now u → P h) → IfHold (locked_step l c answer h).state P
+locked_has P l c (turn.Now u) h p = p u refl
+locked_has P l c turn.Jump h p = tt
+locked_has P l c turn.LeapGuard h p = tt
+locked_has P l c turn.Expired h p = tt
+locked_has P l c turn.RangeEnd h p = tt
+
+-- what holds of a hold that begins with the vote, and of one that answers it, holds of the state
+voted_has : (P : HoldValue → Type 0) (rules : ReaderRules) (table : TableValue) (state : State) (c : Claim) → ((h : HoldValue) → hold_start table c ≡ Ok h → P h)
+    → IfHold state (λ h. (u : UtcSecond) → (voted_by table h c).answer ≡ turn.Now u → P (voted_by table h c).new) → IfHold (step_of rules table state (Some c)).state P
+unfolding step_of
+voted_has P rules table Idle c first later = first_has P rules (hold_start table c) first
+voted_has P rules table (Acquiring h count) c first later =
+    later_has P rules count _ (voted_by table h c).answer (voted_by table h c).new (first_has P rules (hold_start table c) first) later
+voted_has P rules table (Locked h) c first later = locked_has P _ cause.Voted (voted_by table h c).answer (voted_by table h c).new later
+
+-- ---- marks
+
+late_step : (rules : ReaderRules) (table : TableValue) (state : State) (vote : Option Claim) → IfHold state HasHeardLate → IfSome vote IsMarkedLate → IfHold (step_of rules table state vote).state HasHeardLate
+unfolding step_of
+late_step rules table Idle None late marked = tt
+late_step rules table (Acquiring h count) None late marked = tt
+late_step rules table (Locked h) None late marked = locked_has HasHeardLate _ cause.Held (alone_by table h rules.holdover).answer (alone_by table h rules.holdover).new (λ u e. alone_late table h rules.holdover late)
+late_step rules table Idle (Some c) late marked = voted_has HasHeardLate rules table Idle c (λ h e. started_late table c h marked e) tt
+late_step rules table (Acquiring h count) (Some c) late marked =
+    voted_has HasHeardLate rules table (Acquiring h count) c (λ k e. started_late table c k marked e) (λ u e. voted_late table h c late marked)
+late_step rules table (Locked h) (Some c) late marked = voted_has HasHeardLate rules table (Locked h) c (λ k e. started_late table c k marked e) (λ u e. voted_late table h c late marked)
+
+late_state : (rules : ReaderRules) (table : TableValue) (votes : List (Option Claim)) → AreMarkedLate votes → IfHold (state_of rules table votes) HasHeardLate
+late_state rules table [] marked = tt
+late_state rules table (vote ∷ votes) marked = late_step rules table (state_of rules table votes) vote (late_state rules table votes (All-tail (λ v. IfSome v IsMarkedLate) vote votes marked)) (All-head (λ v. IfSome v IsMarkedLate) vote votes marked)
+
+-- ---- where the reader stands
+
+-- a locked reader's hold is on time
+abbrev IfLocked : State → (HoldValue → Type 0) → Type 0
+IfLocked Idle P = Unit {0}
+IfLocked (Acquiring h count) P = Unit {0}
+IfLocked (Locked h) P = P h
+
+locked_of : (P : HoldValue → Type 0) (s : State) → IfHold s P → IfLocked s P
+locked_of P Idle p = tt
+locked_of P (Acquiring h count) p = tt
+locked_of P (Locked h) p = p
+
+by_vote : (t : TimelineValue) (n : ℕ) (rules : ReaderRules) (table : TableValue) (state : State) (c : Claim) → IsTimeline t → IfHold state HasHeardLate → IsTrueClaim t (n + 1) c
+    → IfHold (step_of rules table state (Some c)).state (IsOnTime t (n + 1))
+by_vote t n rules table state c sound late claim = voted_has (IsOnTime t (n + 1)) rules table state c (λ h e. started_true t table n c h sound claim e) (later state late)
+  where
+    later : (s : State) → IfHold s HasHeardLate → IfHold s (λ h. (u : UtcSecond) → (voted_by table h c).answer ≡ turn.Now u → IsOnTime t (n + 1) (voted_by table h c).new)
+    later Idle late = tt
+    later (Acquiring h count) late = λ u e. voted_on_time t table n h c u sound late claim e
+    later (Locked h) late = λ u e. voted_on_time t table n h c u sound late claim e
+
+locked_stays : (P : HoldValue → Type 0) (l : Lock) (answer : Turn) (h : HoldValue) → ((u : UtcSecond) → answer ≡ turn.Now u → P h) → IfLocked (locked_step l cause.Held answer h).state P
+locked_stays P l (turn.Now u) h p = p u refl
+locked_stays P l turn.Jump h p = tt
+locked_stays P l turn.LeapGuard h p = tt
+locked_stays P l turn.Expired h p = tt
+locked_stays P l turn.RangeEnd h p = tt
+
+by_none : (t : TimelineValue) (n : ℕ) (rules : ReaderRules) (table : TableValue) (state : State) → IsTimeline t → IsTrueTable t table → IfLocked state (IsOnTime t n)
+    → IfLocked (step_of rules table state None).state (IsOnTime t (n + 1))
+unfolding step_of
+by_none t n rules table Idle sound true_table at = tt
+by_none t n rules table (Acquiring h count) sound true_table at = tt
+by_none t n rules table (Locked h) sound true_table at =
+    locked_stays (IsOnTime t (n + 1)) _ (alone_by table h rules.holdover).answer (alone_by table h rules.holdover).new (λ u e. (alone_true t table n rules.holdover h u sound true_table at e).on_time)
+
+stands : (t : TimelineValue) (n a : ℕ) (rules : ReaderRules) (table : TableValue) (votes : List (Option Claim)) (c : Claim) → IsTimeline t → IsTrueTable t table → AreMarkedLate votes → IsTrueClaim t (n + 1) c
+    → IfLocked (state_of rules table (then_none a (Some c ∷ votes))) (IsOnTime t (n + 1 + a))
+stands t n zero rules table votes c sound true_table marked claim =
+    let same : n + 1 ≡ n + 1 + 0 = omega arith in
+    subst (λ (m : ℕ). IfLocked (state_of rules table (then_none zero (Some c ∷ votes))) (IsOnTime t m)) same
+    (locked_of (IsOnTime t (n + 1)) _ (by_vote t n rules table (state_of rules table votes) c sound (late_state rules table votes marked) claim))
+stands t n (suc a) rules table votes c sound true_table marked claim =
+    let same : n + 1 + a + 1 ≡ n + 1 + suc a = omega arith in
+    subst (λ (m : ℕ). IfLocked (state_of rules table (then_none (suc a) (Some c ∷ votes))) (IsOnTime t m)) same
+    (by_none t (n + 1 + a) rules table (state_of rules table (then_none a (Some c ∷ votes))) sound true_table (stands t n a rules table votes c sound true_table marked claim))
+
+-- ---- what it then says
+
+held_says : (t : TimelineValue) (n : ℕ) (l : Lock) (answer : Turn) (h : HoldValue) (u : UtcSecond) → ((v : UtcSecond) → answer ≡ turn.Now v → IsSecond t n v) → (locked_step l cause.Held answer h).report.announce ≡ Some u → IsSecond t n u
+held_says t n l (turn.Now v) h u p e = let same : v ≡ u = cc in subst (IsSecond t n) same (p v refl)
+held_says t n l turn.Jump h u p e = absurd cc
+held_says t n l turn.LeapGuard h u p e = absurd cc
+held_says t n l turn.Expired h u p e = absurd cc
+held_says t n l turn.RangeEnd h u p e = absurd cc
+
+none_says : (t : TimelineValue) (n : ℕ) (rules : ReaderRules) (table : TableValue) (state : State) (u : UtcSecond) → IsTimeline t → IsTrueTable t table → IfLocked state (IsOnTime t n)
+    → (step_of rules table state None).report.announce ≡ Some u → IsSecond t (n + 1) u
+unfolding step_of
+none_says t n rules table Idle u sound true_table at e = absurd cc
+none_says t n rules table (Acquiring h count) u sound true_table at e = absurd cc
+none_says t n rules table (Locked h) u sound true_table at e =
+    held_says t (n + 1) _ (alone_by table h rules.holdover).answer (alone_by table h rules.holdover).new u (λ v is. (alone_true t table n rules.holdover h v sound true_table at is).second) e
+
+pub held_seconds : (t : TimelineValue) (n a : ℕ) (rules : ReaderRules) (table : TableValue) (votes : List (Option Claim)) (c : Claim) (u : UtcSecond) → IsTimeline t → IsTrueTable t table → AreMarkedLate votes
+    → IsTrueClaim t (n + 1) c → (report_of rules table None (then_none a (Some c ∷ votes))).announce ≡ Some u → IsSecond t (n + 2 + a) u
+held_seconds t n a rules table votes c u sound true_table marked claim e =
+    let same : n + 1 + a + 1 ≡ n + 2 + a = omega arith in
+    subst (λ (m : ℕ). IsSecond t m u) same (none_says t (n + 1 + a) rules table (state_of rules table (then_none a (Some c ∷ votes))) u sound true_table (stands t n a rules table votes c sound true_table marked claim) e)
+
+-- ---- the age of a hold
+
+begun_age : (u : UtcSecond) (mark : Mark) (o : Option UtcSecond) (h : HoldValue) → hold_or_stop u 0 mark o ≡ Ok h → h.age ≡ 0
+begun_age u mark None h e = absurd cc
+begun_age u mark (Some v) h e = let same : hold_after u 0 mark v ≡ h = cc in sym (ap (λ (k : HoldValue). k.age) same)
+
+outcome_age : (h : HoldValue) (u : UtcSecond) (age : ℕ) (mark : Mark) (o : Option UtcSecond) (w : UtcSecond) → (outcome_of h (hold_or_stop u age mark o)).answer ≡ turn.Now w → (outcome_of h (hold_or_stop u age mark o)).new.age ≡ age
+outcome_age h u age mark None w e = absurd (stop_is_no_now u.day w e)
+outcome_age h u age mark (Some v) w e = refl
+
+voted_age : (table : TableValue) (h : HoldValue) (c : Claim) (w : UtcSecond) → (voted_by table h c).answer ≡ turn.Now w → (voted_by table h c).new.age ≡ 0
+voted_age table h c w e =
+    elim (cases_Bool ((c.at.day == h.last.day) && (c.at.sod == h.last.sod))) [
+      | inl for ↦
+          let mark : Mark = mark_or c.mark h.heard in
+          rw for (outcome_age h h.last 0 mark (next_of h.last (spoken_mark table mark h.last.day)) w (rw for at e))
+      | inr other ↦ let jump : turn.Jump ≡ turn.Now w = rw other at e in absurd cc
+    ]
+
+alone_age : (table : TableValue) (h : HoldValue) (limit : ℕ) (w : UtcSecond) → (alone_by table h limit).answer ≡ turn.Now w → (alone_by table h limit).new.age ≡ h.age + 1
+alone_age table h limit w e =
+    elim (cases_Bool (nat_le limit h.age)) [
+      | inl long ↦ let stopped : turn.Expired ≡ turn.Now w = rw long at e in absurd cc
+      | inr short ↦ rw short (outcome_age h h.last (h.age + 1) h.heard (next_of h.last (spoken_mark table h.heard h.last.day)) w (rw short at e))
+    ]
+
+-- a new vote is the last one, and no edge has come since
+is_last : (c : Claim) (votes : List (Option Claim)) (s : State) → IfHold s (λ h. h.age ≡ 0) → IfLocked s (λ h. IsSince (Some c ∷ votes) h.age)
+is_last c votes Idle young = tt
+is_last c votes (Acquiring h count) young = tt
+is_last c votes (Locked h) young = record { claim = c; earlier = votes; are = rw young refl }
+
+one_more : (votes : List (Option Claim)) (age new : ℕ) → IsSince votes age → new ≡ age + 1 → IsSince (None ∷ votes) new
+one_more votes age new since is =
+    let step : suc age ≡ new = omega (arith, is) in
+    record {
+      claim = since.claim;
+      earlier = since.earlier;
+      are = subst (λ (a : ℕ). None ∷ votes ≡ then_none a (Some since.claim ∷ since.earlier)) step (ap (λ (vs : List (Option Claim)). let o : Option Claim = None in o ∷ vs) since.are);
+    }
+
+none_since : (rules : ReaderRules) (table : TableValue) (votes : List (Option Claim)) (s : State) → IfLocked s (λ h. IsSince votes h.age) → IfLocked (step_of rules table s None).state (λ h. IsSince (None ∷ votes) h.age)
+unfolding step_of
+none_since rules table votes Idle since = tt
+none_since rules table votes (Acquiring h count) since = tt
+none_since rules table votes (Locked h) since =
+    locked_stays (λ k. IsSince (None ∷ votes) k.age) _ (alone_by table h rules.holdover).answer (alone_by table h rules.holdover).new
+    (λ u e. one_more votes h.age (alone_by table h rules.holdover).new.age since (alone_age table h rules.holdover u e))
+
+young : (rules : ReaderRules) (table : TableValue) (state : State) (c : Claim) → IfHold (step_of rules table state (Some c)).state (λ h. h.age ≡ 0)
+young rules table state c =
+    voted_has (λ h. h.age ≡ 0) rules table state c (λ h e. begun_age c.at c.mark (next_of c.at (spoken_mark table c.mark c.at.day)) h e) (later state)
+  where
+    later : (s : State) → IfHold s (λ h. (u : UtcSecond) → (voted_by table h c).answer ≡ turn.Now u → (voted_by table h c).new.age ≡ 0)
+    later Idle = tt
+    later (Acquiring h count) = λ u e. voted_age table h c u e
+    later (Locked h) = λ u e. voted_age table h c u e
+
+since_of : (rules : ReaderRules) (table : TableValue) (votes : List (Option Claim)) → IfLocked (state_of rules table votes) (λ h. IsSince votes h.age)
+since_of rules table [] = tt
+since_of rules table (Some c ∷ votes) = is_last c votes (step_of rules table (state_of rules table votes) (Some c)).state (young rules table (state_of rules table votes) c)
+since_of rules table (None ∷ votes) = none_since rules table votes (state_of rules table votes) (since_of rules table votes)
+
+-- ---- what the lock says
+
+lock_age : (answer : Turn) (h : HoldValue) (a : ℕ) → (locked_step (lock.Holdover h.age) cause.Held answer h).report.lock ≡ lock.Holdover a → (u : UtcSecond) × (answer ≡ turn.Now u) × (h.age ≡ a)
+lock_age (turn.Now u) h a e = let same : h.age ≡ a = cc in (u, refl, same)
+lock_age turn.Jump h a e = absurd cc
+lock_age turn.LeapGuard h a e = absurd cc
+lock_age turn.Expired h a e = absurd cc
+lock_age turn.RangeEnd h a e = absurd cc
+
+lock_since : (rules : ReaderRules) (table : TableValue) (votes : List (Option Claim)) (s : State) (a : ℕ) → IfLocked s (λ h. IsSince votes h.age) → (step_of rules table s None).report.lock ≡ lock.Holdover a → IsSince (None ∷ votes) a
+unfolding step_of
+lock_since rules table votes Idle a since e = absurd cc
+lock_since rules table votes (Acquiring h count) a since e = absurd cc
+lock_since rules table votes (Locked h) a since e =
+    let now = lock_age (alone_by table h rules.holdover).answer (alone_by table h rules.holdover).new a e in
+    one_more votes h.age a since (sym now.2 ∙ alone_age table h rules.holdover now.0 now.1)
+
+-- the lock names the last vote
+pub held_since : (rules : ReaderRules) (table : TableValue) (vote : Option Claim) (votes : List (Option Claim)) (a : ℕ) → (report_of rules table vote votes).lock ≡ lock.Holdover a → IsSince (vote ∷ votes) a
+held_since rules table None votes a e = lock_since rules table votes (state_of rules table votes) a (since_of rules table votes) e
+held_since rules table (Some c) votes a e = absurd (let none = voted_holds rules table (state_of rules table votes) c a e in omega (arith, none.0, none.1))
+
+-- so a held second stands on it
+pub held_is_true : (t : TimelineValue) (n : ℕ) (rules : ReaderRules) (table : TableValue) (vote : Option Claim) (votes earlier : List (Option Claim)) (c : Claim) (a : ℕ) (u : UtcSecond)
+    → IsTimeline t → IsTrueTable t table → AreMarkedLate earlier → IsTrueClaim t (n + 1) c → vote ∷ votes ≡ then_none a (Some c ∷ earlier) → 0 < a
+    → (report_of rules table vote votes).announce ≡ Some u → IsSecond t (n + 1 + a) u
+held_is_true t n rules table vote votes earlier c zero u sound true_table marked claim are some e = absurd (omega (arith, some))
+held_is_true t n rules table (Some d) votes earlier c (suc a) u sound true_table marked claim are some e = absurd cc
+held_is_true t n rules table None votes earlier c (suc a) u sound true_table marked claim are some e =
+    let rest : votes ≡ then_none a (Some c ∷ earlier) = cc in
+    let says : (report_of rules table None (then_none a (Some c ∷ earlier))).announce ≡ Some u = subst (λ (vs : List (Option Claim)). (report_of rules table None vs).announce ≡ Some u) rest e in
+    let same : n + 2 + a ≡ n + 1 + suc a = omega arith in
+    subst (λ (m : ℕ). IsSecond t m u) same (held_seconds t n a rules table earlier c u sound true_table marked claim says)
