@@ -38,7 +38,7 @@ pub fn drive<'a, R: Files + Eprint + AllocGlobal, I: BufRead, O: Write>(
         → (result ≡ 4) ↔ (has_failed input.new ≡ true) }
 {
     let asked = parse(rt.alloc(), words);
-    let request = request_in(&asked);
+    let request = asked.as_ref().ok().copied();
     match answer(rt, asked, input, output) {
         Ok(()) => 0,
         Err(fault) => {
@@ -46,13 +46,6 @@ pub fn drive<'a, R: Files + Eprint + AllocGlobal, I: BufRead, O: Write>(
             tell_more(rt, request, &fault);
             status
         }
-    }
-}
-
-fn request_in<'a>(asked: &Result<Request<'a>, NoRequest>) -> Option<Request<'a>> {
-    match asked {
-        Ok(request) => Some(*request),
-        Err(_) => None,
     }
 }
 

@@ -15,7 +15,6 @@ ghost use Rattle.irig_commands.specs.Serving.{
   Wrote,
   leap_of,
   reads_input,
-  shown,
 };
 
 use crate::explain::{explanation, tell_refusal};
@@ -29,6 +28,12 @@ use std::alloc::Global;
 use std::io::{BufRead, BufReader, Write};
 use std::rt::Files;
 use std::{fs, io};
+
+// Without options a run shows announcements alone.
+const NOTHING_MORE: Shown = Shown {
+    all: false,
+    ports: false,
+};
 
 /// Does what is asked for: runs a scenario, writes a frame or what a frame says, or explains a
 /// number. Neither device may have failed before.
@@ -57,9 +62,9 @@ pub fn serve<'a, R: Files + Eprint + AllocGlobal, I: BufRead, O: Write>(
         → output.new ≡ output.old }
 {
     match request {
-        Request::Plain => run_input(rt, input, output, shown(false, false)),
-        Request::Input { all, ports } => run_input(rt, input, output, shown(all, ports)),
-        Request::Run { file, all, ports } => run_file(rt, file, shown(all, ports), output),
+        Request::Plain => run_input(rt, input, output, NOTHING_MORE),
+        Request::Input { all, ports } => run_input(rt, input, output, Shown { all, ports }),
+        Request::Run { file, all, ports } => run_file(rt, file, Shown { all, ports }, output),
         Request::Frame {
             time,
             local,
@@ -68,12 +73,6 @@ pub fn serve<'a, R: Files + Eprint + AllocGlobal, I: BufRead, O: Write>(
         Request::Read { frame } => show_reading(rt.alloc(), frame, output),
         Request::Explain { number } => show_meaning(rt.alloc(), number, output),
     }
-}
-
-fn shown(all: bool, ports: bool) -> Shown
-    ensures { result ≡ shown all ports }
-{
-    Shown { all, ports }
 }
 
 fn leap_of(pending: Option<Pending>) -> Option<Leap>

@@ -19,13 +19,13 @@ not_of_run (Err Write) h = elim h [ inl e ↦ absurd cc | inr e ↦ absurd cc ]
 not_of_run (Err Memory) h = elim h [ inl e ↦ absurd cc | inr e ↦ absurd cc ]
 
 pub returns-in-Plain-clause-served : goal.returns-in-Plain-clause-served
-returns-in-Plain-clause-served g c = rw (c.in-Plain.is, ← c.shown.ensures) c.run_input.ensures.ran
+returns-in-Plain-clause-served g c = rw c.in-Plain.is c.run_input.ensures.ran
 
 pub returns-in-Input-clause-served : goal.returns-in-Input-clause-served
-returns-in-Input-clause-served g c = rw (c.in-Input.is, ← c.shown-in-Input.ensures) c.run_input-in-Input.ensures.ran
+returns-in-Input-clause-served g c = rw c.in-Input.is c.run_input-in-Input.ensures.ran
 
 pub returns-in-Run-clause-served : goal.returns-in-Run-clause-served
-returns-in-Run-clause-served g c = rw (c.in-Run.is, ← c.shown-in-Run.ensures) c.run_file.ensures.ran
+returns-in-Run-clause-served g c = rw c.in-Run.is c.run_file.ensures.ran
 
 pub returns-in-Plain-clause-unwritten : goal.returns-in-Plain-clause-unwritten
 returns-in-Plain-clause-unwritten g c = λ h.
