@@ -50,7 +50,8 @@ pub extern "C" fn irig_reader_init(
     setup: &IrigSetup,
     table: &IrigTable,
 ) -> u32
-    ensures answer { (result ≡ 0) ↔ (IsReaderRules (reader_rules_in setup.now) × IsTable table.now) }
+    ensures answer { (result ≡ 0)
+        ↔ (IsReaderRules (reader_rules_in setup.now) × IsTable table.now) }
     ensures fault { IsReaderRules (reader_rules_in setup.now) → result ≡ code_of_table table.now }
     ensures refused { (result ≡ 0 → ⊥) → reader.new ≡ reader.old }
     ensures fresh { result ≡ 0 → IsReaderOf reader.new (new_history (rules_in setup.now)

@@ -15,8 +15,8 @@ pub extern "C" fn irig_classify(width_us: u32) -> u8
     number(classify(width_us))
 }
 
-/// The nominal width in microseconds of a pulse of the symbol with this number: 2000 of a 0, 5000 of
-/// a 1, 8000 of a marker; 0 of any other, which is never sent.
+/// The nominal width in microseconds of a pulse of the symbol with this number: 2000 of a 0, 5000
+/// of a 1, 8000 of a marker; 0 of any other, which is never sent.
 #[unsafe(no_mangle)]
 pub extern "C" fn irig_width_us(symbol: u8) -> u32
     ensures width { result ≡ symbols.width_of (symbol_in symbol) }

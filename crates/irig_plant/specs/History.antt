@@ -90,7 +90,8 @@ with_told_kept h = record (with_cleared_log h) { keeps_told = true }
 abbrev pub told_kept : PlantHistory → List ToldEntry
 told_kept h = if h.keeps_told then drop h.shown (told_log_of h.setup h.events) else []
 
--- a cached port of generator k, if there is one: a port that heard just what the generator now sends
+-- a cached port of generator k, if there is one: a port that heard just what the generator now
+-- sends
 abbrev pub IsCachedPort : {P : Type 0} (g : Ghosts P) → Setup → List Event → ℕ → Option P → Type 0
 IsCachedPort g s ev k None = ⊤
 IsCachedPort g s ev k (Some port) = g.stands_for port s.rules (symbols_heard (pulses_sent s k ev))

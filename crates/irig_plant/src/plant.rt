@@ -89,7 +89,8 @@ impl<P: Port> Plant<P> {
     // So many generators of which nothing was carried.
     fn no_cached_ports(alloc: Global, count: usize) -> Result<Vec<Option<P>>, AllocError>
         ensures count { IfOk result (λ cached_ports. vec_len cached_ports ≡ count) }
-        ensures none { IfOk result (λ cached_ports. All (λ cached_port. cached_port ≡ None) cached_ports.items) }
+        ensures none { IfOk result (λ cached_ports.
+            All (λ cached_port. cached_port ≡ None) cached_ports.items) }
     {
         let mut cached_ports = Vec::new(alloc);
         for _ in 0..count {
@@ -118,8 +119,8 @@ impl<P: Port> Plant<P> {
         Ok(ticked)
     }
 
-    /// Takes one event, or answers the first refusal that applies and changes nothing. Refusals come
-    /// in the order of [`PlantFault`]. Only a tick asks for memory, for its entry.
+    /// Takes one event, or answers the first refusal that applies and changes nothing. Refusals
+    /// come in the order of [`PlantFault`]. Only a tick asks for memory, for its entry.
     pub fn apply(&mut self, event: &Event) -> Result<(), PlantFault>
         ensures accepted { OnOk result (Accepts self.old event.now) }
         ensures stands { OnOk result (Follows self.old event.now self.new) }

@@ -82,7 +82,8 @@ impl<P: Port> Plant<P> {
         requires { g < vec_len self.old.generators }
         ensures same { Keeps self.old self.new }
         ensures cached_port { IfSome result (λ cached_port. ForHistory self.old (λ h.
-            P.stands_for cached_port h.setup.rules (symbols_heard (pulses_sent h.setup g h.events)))) }
+            P.stands_for cached_port h.setup.rules
+            (symbols_heard (pulses_sent h.setup g h.events)))) }
         ensures generators { vec_len self.new.generators ≡ vec_len self.old.generators }
         ensures readers { vec_len self.new.readers ≡ vec_len self.old.readers }
     {

@@ -91,7 +91,8 @@ vote_at_tick history = vote_of (told_at_tick history) history.redundancy
 
 -- what the reader then says
 abbrev pub report_at_tick : ReaderHistory → Report
-report_at_tick history = report_of history.reader_rules history.table (vote_at_tick history) history.votes
+report_at_tick history =
+    report_of history.reader_rules history.table (vote_at_tick history) history.votes
 
 -- the history after a tick
 abbrev pub after_tick : ReaderHistory → ReaderHistory

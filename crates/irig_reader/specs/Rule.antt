@@ -90,15 +90,18 @@ unfoldable pub step_of : ReaderRules → TableValue → State → Option Claim �
 step_of reader_rules table Idle None = stop_step cause.NoVote
 step_of reader_rules table Idle (Some c) = first_vote_step reader_rules (hold_start table c)
 step_of reader_rules table (Acquiring h count) None = stop_step cause.NoVote
-step_of reader_rules table (Acquiring h count) (Some c) = later_vote_step reader_rules table h count c
+step_of reader_rules table (Acquiring h count) (Some c) =
+    later_vote_step reader_rules table h count c
 step_of reader_rules table (Locked h) (Some c) = locked_vote_step (voted_by table h c)
 step_of reader_rules table (Locked h) None = holdover_step (alone_by table h reader_rules.holdover)
 
 -- the state after some votes, the newest first
 abbrev pub state_of : ReaderRules → TableValue → List (Option Claim) → State
 state_of reader_rules table [] = Idle
-state_of reader_rules table (vote ∷ votes) = (step_of reader_rules table (state_of reader_rules table votes) vote).state
+state_of reader_rules table (vote ∷ votes) =
+    (step_of reader_rules table (state_of reader_rules table votes) vote).state
 
 -- the report of a vote after some votes, the newest first
 abbrev pub report_of : ReaderRules → TableValue → Option Claim → List (Option Claim) → Report
-report_of reader_rules table vote votes = (step_of reader_rules table (state_of reader_rules table votes) vote).report
+report_of reader_rules table vote votes =
+    (step_of reader_rules table (state_of reader_rules table votes) vote).report

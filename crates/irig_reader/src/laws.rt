@@ -1,5 +1,5 @@
-//! Laws of one edge of a reader over its definitions: what it announces there, by what its ports tell
-//! there. They have no code, and speak of values: no call of a reader takes a timeline.
+//! Laws of one edge of a reader over its definitions: what it announces there, by what its ports
+//! tell there. They have no code, and speak of values: no call of a reader takes a timeline.
 
 ghost use Rattle.std.specs.Prelude.{◌≡◌, ◌+◌, ◌<◌, ◌≤◌, ℕ, List, [], ◌∷◌, Option, Some};
 ghost use Rattle.irig_time.specs.Tables.{TableValue};
@@ -21,8 +21,8 @@ use irig_vote::{Redundancy, Tells};
 
 /// A voted second is true by its own edge. Let a tick come as T(n + 1) begins, and let no f + 1
 /// ports tell one and the same claim other than the true one of T(n). Then what a reader announces
-/// there by a vote is T(n + 1): wherever it stood, whatever it heard before, whatever its table says
-/// and however many ticks it missed.
+/// there by a vote is T(n + 1): wherever it stood, whatever it heard before, whatever its table
+/// says and however many ticks it missed.
 pub fn voted_seconds_are_true()
     ensures second { (t : TimelineValue) (n : ℕ) (rules : ReaderRules) (table : TableValue)
         (state : State) (told : Tells) (r : Redundancy) (u : UtcSecond) → IsTimeline t
@@ -80,5 +80,6 @@ pub fn held_seconds_are_true()
         → IsSecond t (n + 1 + edges) u }
     // Votes of what ports tell are such as is asked of the earlier ones.
     ensures none { AreMarkedLate [] }
-    ensures marked { (h : ReaderHistory) → AreMarkedLate h.votes → AreMarkedLate (after_tick h).votes }
+    ensures marked { (h : ReaderHistory) → AreMarkedLate h.votes
+        → AreMarkedLate (after_tick h).votes }
 {}

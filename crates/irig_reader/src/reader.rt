@@ -136,7 +136,8 @@ impl<P: Port> Reader<P> {
         ensures ports { self.new.redundancy ≡ self.old.redundancy }
         ensures valid { IfSome result.report.announce IsValid }
         ensures claims { AreOfUtc result.told }
-        // A second that is announced by the vote of a clean edge is the true one, whatever came before.
+        // A second that is announced by the vote of a clean edge is the true one, whatever came
+        // before.
         ensures truth { (t : TimelineValue) (n : ℕ) (u : UtcSecond) → IsTimeline t
             → IsClean t n result.told self.old.redundancy → result.report.cause ≡ Cause.Voted
             → result.report.announce ≡ Some u → IsSecond t (n + 1) u }

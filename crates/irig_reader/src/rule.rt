@@ -65,7 +65,8 @@ pub fn step_of<T: Leaps>(
 fn begin<T: Leaps>(reader_rules: ReaderRules, table: &T, claim: Claim) -> Step
     requires valid { IsValid claim.at }
     requires some { 0 < reader_rules.lock_after }
-    ensures step { result ≡ rule.first_vote_step reader_rules (hold_start (T.says table.now) claim) }
+    ensures step { result
+        ≡ rule.first_vote_step reader_rules (hold_start (T.says table.now) claim) }
     ensures counting { rule.count_of result.state < reader_rules.lock_after }
     ensures valid { IfSome result.report.announce IsValid }
 {
@@ -110,7 +111,8 @@ fn follow<T: Leaps>(table: &T, mut hold: Hold, claim: Claim) -> Step
 }
 
 fn hold_over<T: Leaps>(reader_rules: ReaderRules, table: &T, mut hold: Hold) -> Step
-    ensures step { result ≡ rule.holdover_step (alone_by (T.says table.now) hold reader_rules.holdover) }
+    ensures step { result
+        ≡ rule.holdover_step (alone_by (T.says table.now) hold reader_rules.holdover) }
     ensures counting { rule.count_of result.state ≡ 0 }
     ensures valid { IfSome result.report.announce IsValid }
 {
