@@ -7,19 +7,16 @@ ghost use Rattle.std.specs.Str.{bytes_eq};
 ghost use Rattle.std.specs.BTreeMap.{keys};
 ghost use Rattle.serde_json.specs.Find.{get};
 ghost use Rattle.serde_json.specs.View.{view, members_view};
-ghost use Rattle.irig_forms.specs.Json.{all_of, has_only};
+ghost use Rattle.irig_forms.specs.Json.{has_only};
 ghost use Rattle.irig_forms.specs.Keys.{texts_of, key_value, names_of};
-ghost use Rattle.irig_faults.specs.Refusals.{FoundUnlessMemory};
-ghost use Rattle.irig_forms.specs.Fields.{fits, has_form, natural_least, natural_most, integer_least, integer_most, natural_at, integer_at, leap_at, reader_at, few_items, natural_in, naturals_at};
+ghost use Rattle.irig_forms.specs.Fields.{fits, has_form, natural_least, natural_most, integer_least, integer_most, natural_at, integer_at, leap_at, reader_at, few_items, natural_in};
 
 use crate::json::{at_most, integer_within, items_at, natural_within, text_at, whole_at, whole_of};
 use crate::key::{Key, Kind, has_type};
 use crate::keywords::leap_named;
 use indexmap::IndexSet;
-use irig_faults::{LineFault, Refusal};
 use irig_time::Leap;
 use serde_json::{Map, Value};
-use std::alloc::Global;
 
 /// Whether a value is an object with no other keys than these, none missing that must be there, and
 /// at each a value of the right type. Ranges are not asked.
@@ -132,34 +129,8 @@ pub fn few_items(kind: Kind, items: &[Value]) -> Option<&[Value]>
     }
 }
 
-/// The numbers of the list at a key of kind `Naturals`. `Refused` as `Value` if they are too
-/// many or one is out of range, `Memory` if there was none.
-#[tactic(auto, unfolding(crate::specs::Fields::naturals_at))]
-pub fn naturals_at(alloc: Global, key: Key, value: &Value) -> Result<Vec<u32>, LineFault>
-    ensures { FoundUnlessMemory (λ v. v.items)
-        (naturals_at (key_value key) (view value.now)) result }
-{
-    let (count, most) = match key.kind {
-        Kind::Naturals(count, most) => (count, most),
-        _ => return Err(LineFault::Refused(Refusal::Value)),
-    };
-    let items = items_at(value, key.name).ok_or(Refusal::Value)?;
-    let few = at_most(count, items).ok_or(Refusal::Value)?;
-    all_naturals(alloc, most, few)
-}
-
-fn all_naturals(alloc: Global, most: u32, values: &[Value]) -> Result<Vec<u32>, LineFault>
-    ensures { FoundUnlessMemory (λ v. v.items)
-        (all_of (natural_in most) (map view values.now)) result }
-{
-    let mut numbers = Vec::with_capacity(alloc, values.len())?;
-    for value in values {
-        numbers.push(natural_in(most, value).ok_or(Refusal::Value)?)?;
-    }
-    Ok(numbers)
-}
-
-fn natural_in(most: u32, value: &Value) -> Option<u32>
+/// The number that a value is, from 0 to `most`; none of another value.
+pub fn natural_in(most: u32, value: &Value) -> Option<u32>
     ensures { result ≡ natural_in most (view value.now) }
 {
     let number = natural_within(0, u64::from(most), whole_of(value)?)?;

@@ -2,25 +2,9 @@
 
 ghost use Rattle.std.specs.Prelude.{◌≡◌, ◌≤◌, ◌≤ℤ◌, IfSome, map, option_map};
 ghost use Rattle.serde_json.specs.View.{view};
-ghost use Rattle.irig_faults.specs.Refusals.{IsUnlessMemory, or_else};
-ghost use Rattle.irig_forms.specs.Json.{json_of, whole_of, whole_at, text_at, items_in, items_at, at_most, natural_within, integer_within};
+ghost use Rattle.irig_forms.specs.Json.{whole_of, whole_at, text_at, items_in, items_at, at_most, natural_within, integer_within};
 
-use irig_faults::{LineFault, Refusal};
 use serde_json::Value;
-use std::alloc::Global;
-
-/// The value that a line of JSON in UTF-8 is. `Refused` as `Json` if it is none, `Memory` if
-/// there was none.
-#[tactic(auto, using(crate::proofs::JsonLaws::json_of_text, crate::proofs::JsonLaws::no_json))]
-pub fn value_of(alloc: Global, line: &[u8]) -> Result<Value, LineFault>
-    ensures { IsUnlessMemory view (or_else Refusal.Json (json_of line.now)) result }
-{
-    match Value::from_slice(alloc, line) {
-        Ok(value) => Ok(value),
-        Err(error) if error.is_memory() => Err(LineFault::Memory),
-        Err(_) => Err(LineFault::Refused(Refusal::Json)),
-    }
-}
 
 /// The whole number that a value is, from `i64::MIN` to `u64::MAX`; none if it is another value.
 pub fn whole_of(value: &Value) -> Option<i128>

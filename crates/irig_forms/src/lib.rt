@@ -7,8 +7,8 @@ mod key;
 mod keywords;
 
 pub use fields::{
-    few_items, has_form, integer_at, is_named, leap_at, natural_at, naturals_at, reader_at,
+    few_items, has_form, integer_at, is_named, leap_at, natural_at, natural_in, reader_at,
 };
-pub use json::{items_at, text_at, value_of, whole_at, whole_of};
+pub use json::{at_most, items_at, text_at, whole_at, whole_of};
 pub use key::{Key, Kind, Text, has_type};
 pub use keywords::{leap_named, parity_of, sbs_use_of, sense_of};

@@ -10,14 +10,12 @@ ghost use Rattle.irig_scenario.specs.EventLine.{natural_or_refusal, reader_in, f
 
 use indexmap::IndexSet;
 use irig_faults::{LineFault, Refusal};
-use irig_forms::{
-    Key, has_form, integer_at, leap_at, natural_at, naturals_at, reader_at, value_of,
-};
+use irig_forms::{Key, has_form, integer_at, leap_at, natural_at, reader_at};
 use irig_gen::GenFault;
 use irig_plant::{Event, Widths};
 use irig_values::{
     AT, Action, EDGE, EDGES_BY, FaultKind, G, HALF_HOURS_BY, LEAP, N, Q, R, WIDTH, WIDTHS,
-    action_of, keys_of,
+    action_of, keys_of, naturals_at, value_of,
 };
 use serde_json::Value;
 use std::alloc::Global;

@@ -11,12 +11,13 @@ ghost use Rattle.irig_scenario.specs.PlantLine.{IsMadeUnlessMemory, first_of, ti
 
 use indexmap::IndexSet;
 use irig_faults::{LineFault, Refusal};
-use irig_forms::{value_of, whole_at};
+use irig_forms::whole_at;
 use irig_gen::Generator;
 use irig_plant::ReaderSetup;
 use irig_time::{LeapTable, Rules, Timeline};
 use irig_values::{
-    GeneratorValues, PlantValues, ReaderValues, VERSION, is_plant, names_of, values_of, version_of,
+    GeneratorValues, PlantValues, ReaderValues, VERSION, is_plant, names_of, value_of, values_of,
+    version_of,
 };
 use serde_json::Value;
 use std::alloc::Global;

@@ -5,6 +5,7 @@
 mod form;
 mod generator_values;
 mod leap_values;
+mod line;
 mod names;
 mod plant_shape;
 mod plant_values;
@@ -15,6 +16,7 @@ pub use form::{
     R, WIDTH, WIDTHS, action_of, event_keys, keys_of,
 };
 pub use generator_values::GeneratorValues;
+pub use line::{naturals_at, value_of};
 pub use names::names_of;
 pub use plant_shape::{
     VERSION, Version, change_keys, generator_keys, is_plant, leap_keys, plant_keys, reader_keys,
