@@ -265,9 +265,11 @@ uint32_t irig_reader_pulses(irig_reader *reader, uint8_t port, const uint32_t *w
  * second at which it stands is none, its votes are too many, or its rules are out of range. Other
  * numbers that no reader comes to are taken as they are.
  *
- * A second that is announced with the cause IRIG_VOTED is the true one, if the tick comes as that
- * second begins and no two of three ports (three of five) then tell one and the same wrong time or
- * leap. Nothing of the past is needed for that, and any numbers may lie in the reader. */
+ * If it answers 0, a second that is announced with the cause IRIG_VOTED is the true one, provided
+ * that the tick comes as that second begins and no two of three ports (three of five) then tell one
+ * and the same wrong time or leap. Nothing of the past is needed for that, and any numbers may lie in
+ * the reader. A second with the cause IRIG_HELD is true if the last vote was, each second since was
+ * one tick, and the table is right: so call it exactly once for each second. */
 uint32_t irig_reader_tick(irig_reader *reader, irig_report *report);
 
 /* Clears the ports, and forgets what was voted. */

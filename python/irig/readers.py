@@ -107,8 +107,8 @@ class Reader:
     begins, or is silent, by the reader's rule (docs/READER.md). What it announces with the cause
     "voted" is the true second if the tick comes as that second begins and no two of its three ports
     (three of five) then tell one and the same wrong time or leap, whatever came before. What it
-    announces with the cause "held" rests on the votes before and on the leap table:
-    docs/HEADLINE.md says when it is true.
+    announces with the cause "held" is true if the last vote was, each second since was one tick,
+    and the leap table is right (docs/HEADLINE.md).
 
     lock_after: votes in a row before it announces, 1 to 60
     holdover: edges without a vote at which it goes on, 0 to 1,000,000

@@ -7,7 +7,7 @@ ghost use Rattle.irig_gen.specs.Faults.{control_with_fault, limited_offset, sent
 use irig_control::Control;
 use irig_time::Leap;
 
-/// What is wrong with a generator. The frames of the last four have the parity set anew.
+/// What is wrong with a generator. A frame with other bits has the parity set anew.
 #[derive(Clone, Copy, PartialEq, Eq)]
 pub enum GenFault {
     /// It sends nothing.

@@ -46,8 +46,9 @@ pub fn misleading_takes_a_majority()
         → (c : Claim) × (f_of r + 1 ≤ carriers c (ports_of told r)) × ¬ (truth_at t n ≡ Some c) }
 {}
 
-/// A tick that was missed or came twice is silent: a locked reader that stands at another second
-/// than T(n), and hears a vote at a clean tick, says nothing, by the cause `Jump`, and has nothing
+/// After a tick that was missed or came twice no vote makes a false second: a locked reader that
+/// stands at another second than T(n) is silent at its next vote of a clean tick, by the cause
+/// `Jump`. What it holds over before that vote is false by that tick. It then has nothing
 /// to go on.
 pub fn a_lost_tick_is_silent()
     ensures { (t : TimelineValue) (m n : ℕ) (rules : ReaderRules) (table : TableValue)
