@@ -1,38 +1,29 @@
 -- Readers whose ports were kept and whose tables are true stand at the truth, and so their entries
 -- announce it.
-use Rattle.std.proofs.Common.{◌≡◌, ◌↔◌, ◌==◌, ℕ, ◌+◌, ◌-◌, ◌<◌, ◌≤◌, false, List, [], ◌∷◌, ◌++◌, Option, Some, None, get_or, refl, sym, ap, subst, ◌∙◌, arith, inl, inr, ◌⊎◌, eqb-true}
+use Rattle.std.proofs.Common.{◌≡◌, ◌↔◌, ◌==◌, ℕ, ◌+◌, ◌-◌, ◌<◌, ◌≤◌, false, List, [], ◌∷◌, ◌++◌, Option, Some, None, get_or, refl, sym, ap, subst, ◌∙◌, arith, inl, inr, eqb-true}
 use Rattle.std.specs.Prelude.{All}
 use Rattle.std.proofs.lemmas.Bool.{cases_Bool, cases_order}
 use Rattle.std.proofs.lemmas.List.Elements.{All-nil, All-push, All-contains}
 use Rattle.irig_time.specs.declared.second.UtcSecond.{UtcSecond}
-use Rattle.irig_time.specs.declared.claim.Claim.{Claim}
-use Rattle.irig_time.specs.Timelines.{TimelineValue, seconds_in, IsSecond, second_at, truth_at}
+use Rattle.irig_time.specs.Timelines.{TimelineValue, seconds_in, IsSecond, second_at}
 use Rattle.irig_time.specs.TimelineFaults.{IsTimeline}
-use Rattle.irig_time.specs.Tables.{TableValue}
 use Rattle.irig_time.proofs.TimeLaws.{in_order}
-use Rattle.irig_time.proofs.SecondAt.{second_is, claim_is}
+use Rattle.irig_time.proofs.SecondAt.{second_is}
 use Rattle.irig_hold.specs.Truth.{IsTrueTable}
-use Rattle.irig_reader.specs.declared.rules.ReaderRules.{ReaderRules}
 use Rattle.irig_reader.specs.declared.report.Cause.TheVariants.{Jump, RangeEnd}
 use Rattle.irig_reader.specs.declared.rule.State.{State}
 use Rattle.irig_reader.specs.Rule.{step_of, state_of}
 use Rattle.irig_reader.specs.History.{vote_at_tick}
+use Rattle.irig_reader.specs.Standing.{StandsAtTruth}
+use Rattle.irig_reader.proofs.TrueSteps.{IsTrueStep, step_true}
 use Rattle.irig_plant.specs.declared.event.Event.{Event}
 use Rattle.irig_plant.specs.declared.event.Event.TheVariants.{Tick, Restart}
 use Rattle.irig_plant.specs.declared.entry.Entry.{Entry}
 use Rattle.irig_plant.specs.Schedule.{Setup, setup_at, ticks_of, votes_of, history_of, entry_of, log_of}
 use Rattle.irig_plant.specs.Audits.{is_broken_now}
 use Rattle.irig_plant.specs.Premises.{IsKeptUpTo, HasPremises}
-use Rattle.irig_plant.specs.Truth.{Announces, IsBefore, StandsAtTruth, AnnouncesTruth}
+use Rattle.irig_plant.specs.Truth.{Announces, IsBefore, AnnouncesTruth}
 use Rattle.irig_plant.proofs.HeadlineVotes.{vote_is_true}
-use Rattle.irig_plant.proofs.HeadlineRule.{IsTrueStep, alone_step, voted_step}
-
--- one tick, by a vote that is true or none
-step_true : (t : TimelineValue) (n : ℕ) (reader_rules : ReaderRules) (table : TableValue) (state : State) (vote : Option Claim) → IsTimeline t → IsTrueTable t table → StandsAtTruth t n state
-    → (vote ≡ None) ⊎ (vote ≡ truth_at t n) → IsTrueStep t (n + 1) (step_of reader_rules table state vote)
-step_true t n reader_rules table state None sound true_table at vote = alone_step t n reader_rules table state sound true_table at
-step_true t n reader_rules table state (Some c) sound true_table at (inl none) = absurd cc
-step_true t n reader_rules table state (Some c) sound true_table at (inr truth) = voted_step t n reader_rules table state c sound ((claim_is t n c).0 (sym truth)) at
 
 -- ---- the premise, one event earlier
 

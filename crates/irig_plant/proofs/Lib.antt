@@ -6,7 +6,6 @@ pub mod SoundLaws
 pub mod ToldLaws
 pub mod TableLaws
 pub mod HeadlineVotes
-pub mod HeadlineRule
 pub mod Headline
 pub mod AuditLaws
 pub mod PortLaws

@@ -1,24 +1,15 @@
--- What it is for readers and their entries to keep to the truth.
+-- What it is for the entries of a reader to keep to the truth.
 -- Source: docs/HEADLINE.md.
-use Rattle.std.specs.Prelude.{◌≡◌, ℕ, ◌<◌, ◌⊎◌, List, Some, None, ⊤}
+use Rattle.std.specs.Prelude.{◌≡◌, ◌<◌, ◌⊎◌, List, Some, None}
 use Rattle.std.specs.List.{Contains}
 use Rattle.irig_time.specs.declared.second.UtcSecond.{UtcSecond}
 use Rattle.irig_time.specs.Timelines.{TimelineValue, second_at}
-use Rattle.irig_hold.specs.Truth.{IsOnTime}
 use Rattle.irig_reader.specs.declared.report.Cause.TheVariants.{Jump, RangeEnd, LeapGuard}
-use Rattle.irig_reader.specs.declared.rule.State.{State}
-use Rattle.irig_reader.specs.declared.rule.State.TheVariants.{Idle, Acquiring, Locked}
 use Rattle.irig_plant.specs.declared.event.Event.{Event}
 use Rattle.irig_plant.specs.declared.entry.Entry.{Entry}
 use Rattle.irig_plant.specs.Schedule.{Setup, log_of}
 use Rattle.irig_plant.specs.Edges.{voted_edges_of, IsGuard}
 use Rattle.irig_plant.specs.Premises.{HasPremises}
-
--- the reader has nothing to go on, or its hold has come to T(n)
-abbrev pub StandsAtTruth : TimelineValue → ℕ → State → Type 0
-StandsAtTruth t n Idle = ⊤
-StandsAtTruth t n (Acquiring h count) = IsOnTime t n h
-StandsAtTruth t n (Locked h) = IsOnTime t n h
 
 -- under its premises an entry announces T of its edge, or nothing
 pub record AnnouncesTruth (s : Setup) (ev : List Event) (e : Entry) : Type 0 where

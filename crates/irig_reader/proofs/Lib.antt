@@ -1,6 +1,7 @@
 pub mod VoteLaws
 pub mod FedLaws
 pub mod OneEdge
+pub mod TrueSteps
 pub mod HeldEdges
 pub mod MarkedVotes
 pub mod StandardFacts

@@ -4,3 +4,4 @@ pub mod History
 pub mod Readers
 pub mod Clean
 pub mod Held
+pub mod Standing

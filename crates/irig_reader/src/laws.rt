@@ -1,9 +1,9 @@
 //! Laws of one edge of a reader over its definitions: what it announces there, by what its ports
 //! tell there. They have no code, and speak of values: no call of a reader takes a timeline.
 
-ghost use Rattle.std.specs.Prelude.{◌≡◌, ◌+◌, ◌<◌, ◌≤◌, ℕ, List, [], ◌∷◌, Option, Some};
+ghost use Rattle.std.specs.Prelude.{◌≡◌, ◌⊎◌, ◌+◌, ◌<◌, ◌≤◌, ℕ, List, [], ◌∷◌, Option, Some, None};
 ghost use Rattle.irig_time.specs.Tables.{TableValue};
-ghost use Rattle.irig_time.specs.Timelines.{TimelineValue, IsSecond, IsTrueClaim, truth_at};
+ghost use Rattle.irig_time.specs.Timelines.{TimelineValue, EndsAt, IsSecond, IsTrueClaim, truth_at};
 ghost use Rattle.irig_time.specs.TimelineFaults.{IsTimeline};
 ghost use Rattle.irig_vote.specs.Vote.{carriers, f_of, others, ports_of, vote_of};
 ghost use Rattle.irig_hold.specs.Steps.{HoldValue};
@@ -13,6 +13,7 @@ ghost use Rattle.irig_reader.specs.Clean.{IsClean};
 ghost use Rattle.irig_reader.specs.Held.{AreMarkedLate, IsSince, then_none};
 ghost use Rattle.irig_reader.specs.History.{ReaderHistory, after_tick};
 ghost use Rattle.irig_reader.specs.Rule.{report_of, step_of, stop_step};
+ghost use Rattle.irig_reader.specs.Standing.{StandsAtTruth};
 
 use crate::report::{Cause, Lock};
 use crate::rules::ReaderRules;
@@ -83,4 +84,27 @@ pub fn held_seconds_are_true()
     ensures none { AreMarkedLate [] }
     ensures marked { (h : ReaderHistory) → AreMarkedLate h.votes
         → AreMarkedLate (after_tick h).votes }
+{}
+
+/// True votes keep to the truth: a reader with a true table that stands at T(n), or has nothing to
+/// go on, goes by no vote, or by the true claim of T(n), to T(n + 1), or then has nothing to go on.
+/// It announces no other second than T(n + 1).
+pub fn true_votes_keep_to_the_truth()
+    ensures stands { (t : TimelineValue) (n : ℕ) (rules : ReaderRules) (table : TableValue)
+        (state : State) (vote : Option Claim) → IsTimeline t → IsTrueTable t table
+        → StandsAtTruth t n state → (vote ≡ None) ⊎ (vote ≡ truth_at t n)
+        → StandsAtTruth t (n + 1) (step_of rules table state vote).state }
+    ensures second { (t : TimelineValue) (n : ℕ) (rules : ReaderRules) (table : TableValue)
+        (state : State) (vote : Option Claim) (u : UtcSecond) → IsTimeline t
+        → IsTrueTable t table → StandsAtTruth t n state → (vote ≡ None) ⊎ (vote ≡ truth_at t n)
+        → (step_of rules table state vote).report.announce ≡ Some u → IsSecond t (n + 1) u }
+    // Its cause is no false alarm.
+    ensures jump { (t : TimelineValue) (n : ℕ) (rules : ReaderRules) (table : TableValue)
+        (state : State) (vote : Option Claim) → IsTimeline t → IsTrueTable t table
+        → StandsAtTruth t n state → (vote ≡ None) ⊎ (vote ≡ truth_at t n)
+        → ¬ ((step_of rules table state vote).report.cause ≡ Cause.Jump) }
+    ensures range_end { (t : TimelineValue) (n : ℕ) (rules : ReaderRules) (table : TableValue)
+        (state : State) (vote : Option Claim) → IsTimeline t → IsTrueTable t table
+        → StandsAtTruth t n state → (vote ≡ None) ⊎ (vote ≡ truth_at t n)
+        → (step_of rules table state vote).report.cause ≡ Cause.RangeEnd → EndsAt t n }
 {}

@@ -14,7 +14,7 @@ mod rules;
 
 pub use laws::{
     a_lost_tick_is_silent, held_seconds_are_true, holdover_is_bounded, misleading_takes_a_majority,
-    voted_seconds_are_true,
+    true_votes_keep_to_the_truth, voted_seconds_are_true,
 };
 pub use reader::{Reader, Ticked};
 pub use report::{Cause, Lock, Report};

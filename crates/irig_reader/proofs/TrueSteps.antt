@@ -1,15 +1,16 @@
 -- The reader's rule keeps to the truth: by true votes a reader that stands at T(n), or nowhere,
 -- goes to T(n + 1), or nowhere.
-use Rattle.std.proofs.Common.{◌≡◌, ◌==◌, ℕ, ◌+◌, Bool, true, false, cond, Option, Some, None, Result, Ok, Err, refl, subst, inl, inr}
+use Rattle.std.proofs.Common.{◌≡◌, ◌==◌, ◌⊎◌, ℕ, ◌+◌, Bool, true, false, cond, Option, Some, None, Result, Ok, Err, refl, sym, subst, inl, inr}
 use Rattle.std.specs.Prelude.{nat_le}
 use Rattle.std.proofs.lemmas.Bool.{cases_Bool}
 use Rattle.irig_time.specs.declared.second.UtcSecond.{UtcSecond}
 use Rattle.irig_time.specs.declared.mark.Mark.{Mark}
 use Rattle.irig_time.specs.declared.claim.Claim.{Claim}
 use Rattle.irig_time.specs.Next.{next_of}
-use Rattle.irig_time.specs.Timelines.{TimelineValue, IsSecond, IsTrueClaim}
+use Rattle.irig_time.specs.Timelines.{TimelineValue, IsSecond, IsTrueClaim, truth_at}
 use Rattle.irig_time.specs.TimelineFaults.{IsTimeline}
 use Rattle.irig_time.specs.Tables.{TableValue, spoken_mark}
+use Rattle.irig_time.proofs.SecondAt.{claim_is}
 use Rattle.irig_hold.specs.declared.hold.Turn.{Turn}
 use Rattle.irig_hold.specs.declared.hold.Turn.TheVariants as turn
 use Rattle.irig_hold.specs.Steps.{HoldValue, stop_on, hold_or_stop, outcome_of, hold_start, voted_by, alone_by}
@@ -24,7 +25,7 @@ use Rattle.irig_reader.specs.declared.rule.State.{State}
 use Rattle.irig_reader.specs.declared.rule.State.TheVariants.{Idle, Acquiring, Locked}
 use Rattle.irig_reader.specs.declared.rule.Step.{Step}
 use Rattle.irig_reader.specs.Rule.{stop_step, announce_step, count_step, first_vote_step, later_vote_step_by, locked_step, step_of}
-use Rattle.irig_plant.specs.Truth.{StandsAtTruth}
+use Rattle.irig_reader.specs.Standing.{StandsAtTruth}
 
 -- there is no T(n)
 abbrev Ends : TimelineValue → ℕ → Type 0
@@ -160,7 +161,7 @@ goes_alone t n limit table h sound true_table on_time = record {
 -- ---- one edge
 
 -- by no vote
-pub alone_step : (t : TimelineValue) (n : ℕ) (reader_rules : ReaderRules) (table : TableValue) (state : State) → IsTimeline t → IsTrueTable t table → StandsAtTruth t n state
+alone_step : (t : TimelineValue) (n : ℕ) (reader_rules : ReaderRules) (table : TableValue) (state : State) → IsTimeline t → IsTrueTable t table → StandsAtTruth t n state
     → IsTrueStep t (n + 1) (step_of reader_rules table state None)
 unfolding step_of
 alone_step t n reader_rules table Idle sound true_table on_time = no_vote_true t (n + 1)
@@ -170,7 +171,7 @@ alone_step t n reader_rules table (Locked h) sound true_table on_time =
     (goes_alone t n reader_rules.holdover table h sound true_table on_time)
 
 -- by a true vote
-pub voted_step : (t : TimelineValue) (n : ℕ) (reader_rules : ReaderRules) (table : TableValue) (state : State) (c : Claim) → IsTimeline t → IsTrueClaim t (n + 1) c → StandsAtTruth t n state
+voted_step : (t : TimelineValue) (n : ℕ) (reader_rules : ReaderRules) (table : TableValue) (state : State) (c : Claim) → IsTimeline t → IsTrueClaim t (n + 1) c → StandsAtTruth t n state
     → IsTrueStep t (n + 1) (step_of reader_rules table state (Some c))
 unfolding step_of
 voted_step t n reader_rules table Idle c sound claim on_time = begun_true t (n + 1) reader_rules (hold_start table c) (starts t n table c sound claim)
@@ -179,3 +180,10 @@ voted_step t n reader_rules table (Acquiring h count) c sound claim on_time =
     (follows t n table h c sound claim on_time)
 voted_step t n reader_rules table (Locked h) c sound claim on_time =
     locked_true t (n + 1) _ cause.Voted (voted_by table h c).answer (voted_by table h c).new (record { jump = λ e. cc; range_end = λ e. absurd cc }) (follows t n table h c sound claim on_time)
+
+-- by a vote that is none or the true one
+pub step_true : (t : TimelineValue) (n : ℕ) (reader_rules : ReaderRules) (table : TableValue) (state : State) (vote : Option Claim) → IsTimeline t → IsTrueTable t table → StandsAtTruth t n state
+    → (vote ≡ None) ⊎ (vote ≡ truth_at t n) → IsTrueStep t (n + 1) (step_of reader_rules table state vote)
+step_true t n reader_rules table state None sound true_table at vote = alone_step t n reader_rules table state sound true_table at
+step_true t n reader_rules table state (Some c) sound true_table at (inl none) = absurd cc
+step_true t n reader_rules table state (Some c) sound true_table at (inr truth) = voted_step t n reader_rules table state c sound ((claim_is t n c).0 (sym truth)) at
