@@ -27,7 +27,7 @@ use Rattle.irig_plant.specs.Edges.{VotedEdges, voted_edges_of, CanLock, IsGuard,
 use Rattle.irig_plant.specs.Exactly.{announcement, silence, IsServed, AnnouncesWhenHeld, IsAnnouncement, HasItsLock, WasHeld, NoneWithin, SomeWithin, IsSilence, HasItsCause}
 use Rattle.irig_plant.specs.Headline.{KeepsHeadline}
 use Rattle.irig_plant.proofs.Headline.{log_is_true, IsCalm, log_keeps_calm}
-use Rattle.irig_plant.proofs.HeldMarks.{second_before}
+use Rattle.irig_time.proofs.NoGaps.{second_before}
 use Rattle.irig_plant.proofs.CourseLaws.{HasTick, has_tick}
 use Rattle.irig_plant.proofs.TickLaws.{Said, by_vote, by_hold, by_count, by_age, by_guard, by_silence, is_over, Ticked, live, over}
 use Rattle.irig_plant.proofs.Standing.{can_lock, ticked_at}

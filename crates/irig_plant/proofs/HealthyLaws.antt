@@ -12,6 +12,7 @@ use Rattle.irig_time.specs.TimelineFaults.{first_leap_fault, start_fault, IsTime
 use Rattle.irig_time.specs.declared.timeline.TimelineFault.{TimelineFault}
 use Rattle.irig_time.proofs.TimeLaws.{neither}
 use Rattle.irig_time.proofs.SecondAt.{second_is}
+use Rattle.irig_time.proofs.NoGaps.{seconds_before}
 use Rattle.irig_gen.specs.Frames.{GeneratorValue}
 use Rattle.irig_gen.specs.Sent.{frame_of}
 use Rattle.irig_reader.specs.declared.report.Report.{Report}
@@ -30,7 +31,6 @@ use Rattle.irig_plant.specs.Health.{HasGenerators}
 use Rattle.irig_plant.specs.WholeSecond.{second_of, times}
 use Rattle.irig_plant.specs.HealthyPlant.{seconds_of, IsHealthyPlant, healthy_entry, healthy_log}
 use Rattle.irig_plant.proofs.AuditLaws.{kept_is}
-use Rattle.irig_plant.proofs.HeldMarks.{second_before}
 use Rattle.irig_plant.proofs.HealthLaws.{ports_are_generators, frame_kept, sent_plain}
 use Rattle.irig_plant.proofs.SecondEvents.{after_both, carried, carried_to_all, ticked, stepped, Stays, all_carried_stays, heard_by_all, ticked_generator, other_ticks, other_heard, ticks_by_all, emptied, stepped_ticks, stepped_heard, stepped_log, other_step, stepped_by_all}
 use Rattle.irig_plant.proofs.HealthyTicks.{IsHealthyTick, AllHealthy, kept_by_health, says_healthy}
@@ -43,13 +43,6 @@ some_is (Some x) h = (x, refl)
 
 is_there : {A : Type 0} (o : Option A) (x : A) → o ≡ Some x → is_some o ≡ true
 is_there o x e = ap is_some e
-
-seconds_before : (t : TimelineValue) (k n : ℕ) (v : UtcSecond) → IsSecond t (k + n) v → (u : UtcSecond) × IsSecond t k u
-seconds_before t k zero v h = let same : k + 0 ≡ k = omega arith in (v, subst (λ (m : ℕ). IsSecond t m v) same h)
-seconds_before t k (suc n) v h =
-    let next : k + suc n ≡ k + n + 1 = omega arith in
-    let before = second_before t (k + n) v (subst (λ (m : ℕ). IsSecond t m v) next h) in
-    seconds_before t k n before.0 before.1
 
 -- a timeline has no gaps
 pub earlier_there : (t : TimelineValue) (k n : ℕ) → is_some (second_at t (k + n)) ≡ true → is_some (second_at t k) ≡ true

@@ -10,7 +10,7 @@ use Rattle.irig_time.specs.declared.mark.Mark.TheVariants.{Unspoken}
 use Rattle.irig_time.specs.Days.{is_month_end}
 use Rattle.irig_time.specs.Timelines.{TimelineValue, leap_of, day_length, mark_by, seconds_in, IsSecond, true_mark}
 use Rattle.irig_time.specs.Tables.{TableValue}
-use Rattle.irig_time.proofs.TimeLaws.{length_bounds, seconds_to_next, seconds_before_later, in_order, same_second, one_second, new_day}
+use Rattle.irig_time.proofs.TimeLaws.{length_bounds, seconds_before_later, in_order, same_second, one_second, new_day}
 use Rattle.irig_hold.specs.Steps.{HoldValue, mark_or, mark_kept, hold_after}
 use Rattle.irig_hold.specs.Truth.{IsOnTime, IsGuarded}
 
@@ -161,25 +161,3 @@ unheard_since t u since end none =
 pub unheard_by : (t : TimelineValue) (u : UtcSecond) (since : ℕ) → u.sod < 86341 + since → heard_at t u since ≡ Unspoken
 unheard_by t u since near =
     and_none (is_month_end u.day) (nat_le (86341 + since) u.sod) (mark_by (leap_of t.leaps u.day)) (lt-leb (86341 + since) u.sod near)
-
--- ---- the second before: T has no gap
-
-pub second_before : (t : TimelineValue) (n : ℕ) (v : UtcSecond) → IsSecond t (n + 1) v → (u : UtcSecond) × IsSecond t n u
-second_before t n v b =
-    elim (cases_lt 0 v.sod) [
-      | inl later ↦ (record { day = v.day; sod = v.sod - 1 }, record { from = b.from; to = b.to; sod = omega (arith, b.sod); sum = omega (arith, later, b.sum) })
-      | inr first ↦ elim (cases_lt t.start.day v.day) [
-        | inl after ↦
-            let here : v.day - 1 + 1 ≡ v.day = omega arith in
-            let sums : seconds_in t.leaps t.start.day (v.day - t.start.day) ≡ seconds_in t.leaps t.start.day (v.day - 1 - t.start.day) + day_length t.leaps (v.day - 1) =
-            ap (λ (d : ℕ). seconds_in t.leaps t.start.day (d - t.start.day)) (sym here) ∙ seconds_to_next t.leaps t.start.day (v.day - 1) (omega arith) in
-            let long = length_bounds (leap_of t.leaps (v.day - 1)) in (
-              record { day = v.day - 1; sod = day_length t.leaps (v.day - 1) - 1 },
-              record { from = omega arith; to = omega (arith, b.to); sod = omega (arith, long); sum = omega (arith, long, first, sums, b.sum) },
-            )
-        | inr same ↦
-            let none : v.day - t.start.day ≡ 0 = omega (arith, same) in
-            let sums : seconds_in t.leaps t.start.day (v.day - t.start.day) ≡ 0 = ap (seconds_in t.leaps t.start.day) none in
-            absurd (omega (arith, first, sums, b.sum))
-      ]
-    ]

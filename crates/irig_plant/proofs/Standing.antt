@@ -23,7 +23,7 @@ use Rattle.irig_plant.specs.Audits.{is_broken_now}
 use Rattle.irig_plant.specs.Premises.{IsKeptUpTo}
 use Rattle.irig_plant.specs.Edges.{VotedEdges, voted_edges_of, is_voted, is_restarted, CanLock}
 use Rattle.irig_plant.proofs.Headline.{IsFit, state_at}
-use Rattle.irig_plant.proofs.HeldMarks.{second_before}
+use Rattle.irig_time.proofs.NoGaps.{second_before}
 use Rattle.irig_plant.proofs.CourseLaws.{voted_at, restarted_before, restarted_at, none_restarted, none_voted, vote_is_there, vote_is_right}
 use Rattle.irig_plant.proofs.TickLaws.{Standing, Ready, Ticked, live, over, ticks}
 

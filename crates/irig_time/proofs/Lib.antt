@@ -8,6 +8,7 @@ pub mod TimeLaws
 pub mod SecondAt
 pub mod StretchLaws
 pub mod NextLaws
+pub mod NoGaps
 pub mod ClaimLaws
 pub mod CodedLaws
 pub mod TimeShown
