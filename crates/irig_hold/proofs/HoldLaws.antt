@@ -184,7 +184,7 @@ ended t n u mark sound at last none v there =
       | inr month ↦ both_ways (is_month_end u.day) (ap is_month_end last ∙ last_day) month.end
     ]
 
-claimed : (t : TimelineValue) (n : ℕ) (c : Claim) → IsTrueClaim t (n + 1) c → IsSecond t n c.at
+pub claimed : (t : TimelineValue) (n : ℕ) (c : Claim) → IsTrueClaim t (n + 1) c → IsSecond t n c.at
 claimed t n c h = let same : h.second.0 ≡ n = omega (arith, h.second.1) in subst (λ (m : ℕ). IsSecond t m c.at) same h.second.2
 
 -- ---- where a step leads
@@ -291,13 +291,13 @@ outcome_second t n h u age mark (Some v) w on e =
     let same : v ≡ w = cc in
     (subst (IsSecond t (n + 1)) same (on v refl), same)
 
-tested : (c : Claim) (h : HoldValue) → ((c.at.day == h.last.day) && (c.at.sod == h.last.sod)) ≡ true → c.at ≡ h.last
+pub tested : (c : Claim) (h : HoldValue) → ((c.at.day == h.last.day) && (c.at.sod == h.last.sod)) ≡ true → c.at ≡ h.last
 tested c h for =
     let parts = and_parts (c.at.day == h.last.day) (c.at.sod == h.last.sod) for in
     same_second c.at h.last (eqb-true c.at.day h.last.day parts.0) (eqb-true c.at.sod h.last.sod parts.1)
 
 -- a vote that is answered with a second is for the second of the hold
-voted_for : (table : TableValue) (h : HoldValue) (c : Claim) (u : UtcSecond) → (voted_by table h c).answer ≡ Now u → c.at ≡ h.last
+pub voted_for : (table : TableValue) (h : HoldValue) (c : Claim) (u : UtcSecond) → (voted_by table h c).answer ≡ Now u → c.at ≡ h.last
 voted_for table h c u e =
     elim (cases_Bool ((c.at.day == h.last.day) && (c.at.sod == h.last.sod))) [
       | inl for ↦ tested c h for

@@ -2,6 +2,8 @@ pub mod VoteLaws
 pub mod FedLaws
 pub mod OneEdge
 pub mod TrueSteps
+pub mod VotesInARow
+pub mod TrueVotesInARow
 pub mod HeldEdges
 pub mod MarkedVotes
 pub mod StandardFacts

@@ -5,3 +5,4 @@ pub mod Readers
 pub mod Clean
 pub mod Held
 pub mod Standing
+pub mod Locking

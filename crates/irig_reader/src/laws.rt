@@ -12,6 +12,7 @@ ghost use Rattle.irig_reader.specs.declared.rule.State.{State};
 ghost use Rattle.irig_reader.specs.Clean.{IsClean};
 ghost use Rattle.irig_reader.specs.Held.{AreMarkedLate, IsSince, then_none};
 ghost use Rattle.irig_reader.specs.History.{ReaderHistory, after_tick};
+ghost use Rattle.irig_reader.specs.Locking.{IsSilentAfter, FollowsVotes, then_true, voted_report};
 ghost use Rattle.irig_reader.specs.Rule.{report_of, step_of, stop_step};
 ghost use Rattle.irig_reader.specs.Standing.{StandsAtTruth};
 
@@ -107,4 +108,33 @@ pub fn true_votes_keep_to_the_truth()
         (state : State) (vote : Option Claim) → IsTimeline t → IsTrueTable t table
         → StandsAtTruth t n state → (vote ≡ None) ⊎ (vote ≡ truth_at t n)
         → (step_of rules table state vote).report.cause ≡ Cause.RangeEnd → EndsAt t n }
+{}
+
+/// Whatever is true, a reader that is silent announces only by so many votes in a row as its rules
+/// ask, each of the second after the one before it. What it then announces is the second after the
+/// last of them. A reader is silent if it announced nothing at the edge before, after a restart, and
+/// before its first tick.
+pub fn locking_takes_votes_in_a_row()
+    ensures { (rules : ReaderRules) (table : TableValue) (vote : Option Claim)
+        (votes : List (Option Claim)) (u : UtcSecond) → IsSilentAfter rules table votes
+        → (report_of rules table vote votes).announce ≡ Some u
+        → FollowsVotes rules.lock_after (vote ∷ votes) u }
+{}
+
+/// True votes in a row lock a reader, after a jump, a stop, a restart and at the first tick: at the
+/// last of so many as its rules ask it announces the second that begins. It takes no table for that.
+pub fn true_votes_in_a_row_lock()
+    ensures silent { (t : TimelineValue) (n : ℕ) (rules : ReaderRules) (table : TableValue)
+        (vote : Option Claim) (votes earlier : List (Option Claim)) (u : UtcSecond) → IsTimeline t
+        → 1 ≤ rules.lock_after → IsSilentAfter rules table earlier
+        → IsSecond t (n + rules.lock_after) u
+        → vote ∷ votes ≡ then_true t n rules.lock_after earlier
+        → report_of rules table vote votes ≡ voted_report u }
+    // Wherever it stood, one more is enough: a locked reader that stands at another second says
+    // `Jump` at the first of them.
+    ensures any { (t : TimelineValue) (n : ℕ) (rules : ReaderRules) (table : TableValue)
+        (vote : Option Claim) (votes earlier : List (Option Claim)) (u : UtcSecond) → IsTimeline t
+        → 1 ≤ rules.lock_after → IsSecond t (n + 1 + rules.lock_after) u
+        → vote ∷ votes ≡ then_true t n (rules.lock_after + 1) earlier
+        → report_of rules table vote votes ≡ voted_report u }
 {}
