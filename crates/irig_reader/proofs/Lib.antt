@@ -8,3 +8,5 @@ pub mod HeldEdges
 pub mod MarkedVotes
 pub mod StandardFacts
 pub mod CleanFacts
+pub mod LockingFacts
+pub mod HeldFacts
