@@ -7,8 +7,11 @@ ghost use Rattle.irig_time.specs.Timelines.{TimelineValue, IsSecond};
 ghost use Rattle.irig_time.specs.TimelineFaults.{IsTimeline};
 ghost use Rattle.irig_port.specs.Told.{told_of_widths};
 ghost use Rattle.irig_vote.specs.Vote.{ports_in, vote_of, AreOfUtc};
+ghost use Rattle.irig_hold.specs.Truth.{IsTrueTable};
+ghost use Rattle.irig_reader.specs.declared.report.Lock.TheVariants as Lock;
 ghost use Rattle.irig_reader.specs.declared.report.Cause.TheVariants as Cause;
 ghost use Rattle.irig_reader.specs.Clean.{IsClean};
+ghost use Rattle.irig_reader.specs.Held.{IsSince, IsTrueSince};
 ghost use Rattle.irig_reader.specs.Rule.{step_of};
 ghost use Rattle.irig_reader.specs.Rules.{IsReaderRules};
 ghost use Rattle.irig_reader.specs.History.{Fed, fed_to, no_pulses, with_width, with_widths, ReaderHistory, new_history, after_pulse, after_pulses, after_tick, after_restart, report_at_tick};
@@ -142,6 +145,15 @@ pub extern "C" fn irig_reader_tick(reader: &mut IrigReader, report: &mut IrigRep
         → IsClean t n (tells_in reader.old) (redundancy_in reader.old.setup) → result ≡ 0
         → (report_in report.new).cause ≡ Cause.Voted
         → (report_in report.new).announce ≡ Some u → IsSecond t (n + 1) u }
+    // A second that a reader with a history announces without a vote is true by the last one: if
+    // that vote, so many edges back, was true, and so is the table.
+    ensures held { (h : ReaderHistory) (t : TimelineValue) (n edges : ℕ) (u : UtcSecond)
+        → IsReaderOf reader.old h → IsTimeline t → IsTrueTable t h.table
+        → IsTrueSince t n (after_tick h).votes edges → 0 < edges
+        → (report_in report.new).announce ≡ Some u → IsSecond t (n + 1 + edges) u }
+    // The lock says how far back the last vote lies.
+    ensures last { (h : ReaderHistory) (edges : ℕ) → IsReaderOf reader.old h
+        → (report_in report.new).lock ≡ Lock.Holdover edges → IsSince (after_tick h).votes edges }
 {
     let reader_rules = reader_rules_of(&reader.setup);
     if !in_range(&reader_rules) {

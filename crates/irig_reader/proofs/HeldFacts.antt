@@ -1,13 +1,14 @@
 -- Edges without a vote, what a reader then holds over and for how long, and where it stands, so that a
 -- wrong definition does not check. It is noon of 2000-01-31.
-use Rattle.std.proofs.Common.{◌≡◌, ℕ, ◌+◌, ◌≤◌, [], ◌∷◌, Option, Some, None, refl, sym, ap, ◌∙◌, arith, inl, inr}
+use Rattle.std.proofs.Common.{◌≡◌, ℕ, ◌+◌, ◌≤◌, [], ◌∷◌, Option, Some, None, refl, sym, ap, subst, ◌∙◌, arith, inl, inr}
 use Rattle.std.specs.Prelude.{IfSome}
 use Rattle.std.proofs.lemmas.List.Elements.{All-head, All-cons, All-nil}
 use Rattle.irig_time.specs.declared.mark.Mark.TheVariants.{Unspoken, Insert}
 use Rattle.irig_time.specs.declared.claim.Claim.{Claim}
 use Rattle.irig_time.specs.Claims.{IsMarkedLate}
-use Rattle.irig_time.specs.Timelines.{IsSecond}
+use Rattle.irig_time.specs.Timelines.{IsSecond, IsTrueClaim}
 use Rattle.irig_time.specs.Tables.{TableValue, table}
+use Rattle.irig_time.proofs.SecondAt.{claim_is}
 use Rattle.irig_time.proofs.StandardFacts.{known_first_end}
 use Rattle.irig_hold.specs.Steps.{HoldValue, hold_value}
 use Rattle.irig_reader.specs.declared.rules.ReaderRules.{ReaderRules}
@@ -16,9 +17,9 @@ use Rattle.irig_reader.specs.declared.report.Cause.TheVariants as cause
 use Rattle.irig_reader.specs.declared.rule.State.TheVariants.{Idle, Acquiring, Locked}
 use Rattle.irig_reader.specs.declared.rule.Step.{Step}
 use Rattle.irig_reader.specs.Rule.{stop_step, announce_step, step_of, state_of, report_of}
-use Rattle.irig_reader.specs.Held.{AreMarkedLate, IsSince}
+use Rattle.irig_reader.specs.Held.{AreMarkedLate, IsSince, IsTrueSince}
 use Rattle.irig_reader.specs.Standing.{StandsAtTruth}
-use Rattle.irig_reader.proofs.CleanFacts.{at, noon, claim, hold}
+use Rattle.irig_reader.proofs.CleanFacts.{at, noon, claim, hold, truth}
 
 abbrev vote : ℕ → Option Claim
 vote sod = Some (claim sod)
@@ -43,6 +44,17 @@ two_edges_back = record { claim = claim 43200; earlier = []; are = refl }
 
 pub not_two_edges_back : ¬ IsSince (lost ∷ vote 43200 ∷ []) 2
 not_two_edges_back h = let both : lost ∷ vote 43200 ∷ [] ≡ lost ∷ lost ∷ Some h.claim ∷ h.earlier = h.are in cc
+
+-- it was the true claim of T(0), and not of T(1)
+pub true_since : IsTrueSince noon 0 (lost ∷ lost ∷ vote 43200 ∷ []) 2
+true_since = record { claim = claim 43200; earlier = []; are = refl; truth = (claim_is noon 0 (claim 43200)).0 truth }
+
+pub not_true_since : ¬ IsTrueSince noon 1 (lost ∷ lost ∷ vote 43200 ∷ []) 2
+not_true_since h =
+    let both : lost ∷ lost ∷ vote 43200 ∷ [] ≡ lost ∷ lost ∷ Some h.claim ∷ h.earlier = h.are in
+    let same : claim 43200 ≡ h.claim = cc in
+    let truth : IsTrueClaim noon 2 (claim 43200) = subst (IsTrueClaim noon 2) (sym same) h.truth in
+    omega (arith, truth.second.1, truth.second.2.sum)
 
 -- a vote that speaks of no leap, and one that speaks of one at noon
 pub unspoken : AreMarkedLate (lost ∷ vote 43200 ∷ [])

@@ -1,10 +1,14 @@
--- What ports tell of a leap they tell in a month's last minute, and so does a vote over them.
-use Rattle.std.proofs.Common.{◌≡◌, ◌<◌, ℕ, List, [], ◌∷◌, Option, Some, None, All, subst, refl, arith, inl, inr}
+-- What ports tell of a leap they tell in a month's last minute, and so does a vote over them; so a
+-- reader with a history holds over what is true by its last vote.
+use Rattle.std.proofs.Common.{◌≡◌, ◌<◌, ℕ, zero, suc, ◌+◌, List, [], ◌∷◌, Option, Some, None, All, subst, refl, arith, inl, inr}
 use Rattle.std.specs.Prelude.{IfSome}
 use Rattle.std.proofs.lemmas.Bool.{cases_Bool}
 use Rattle.std.proofs.lemmas.List.Elements.{All-cons, All-nil, All-head, All-tail}
 use Rattle.irig_time.specs.declared.rules.Rules.{Rules}
 use Rattle.irig_time.specs.declared.claim.Claim.{Claim}
+use Rattle.irig_time.specs.declared.second.UtcSecond.{UtcSecond}
+use Rattle.irig_time.specs.Timelines.{TimelineValue, IsSecond}
+use Rattle.irig_time.specs.TimelineFaults.{IsTimeline}
 use Rattle.irig_time.specs.Claims.{IsMarkedLate}
 use Rattle.irig_time.proofs.ClaimedSeconds.{claim_marked}
 use Rattle.irig_port.specs.declared.told.Told.{Told}
@@ -17,8 +21,10 @@ use Rattle.irig_vote.specs.declared.redundancy.Redundancy.TheVariants.{Three, Fi
 use Rattle.irig_vote.specs.declared.votes.Tells.{Tells}
 use Rattle.irig_vote.specs.Vote.{ports_of, carriers, is_told}
 use Rattle.irig_vote.proofs.CountLaws.{told_is, carriers-cons, none_of, vote_counts}
-use Rattle.irig_reader.specs.History.{ReaderHistory, told_at_tick, vote_at_tick, after_tick}
-use Rattle.irig_reader.specs.Held.{AreMarkedLate}
+use Rattle.irig_hold.specs.Truth.{IsTrueTable}
+use Rattle.irig_reader.specs.History.{ReaderHistory, told_at_tick, vote_at_tick, report_at_tick, after_tick}
+use Rattle.irig_reader.specs.Held.{then_none, AreMarkedLate, IsTrueSince}
+use Rattle.irig_reader.proofs.HeldEdges.{held_is_true}
 
 abbrev IsMarked : Told → Type 0
 IsMarked told = IfClaim told IsMarkedLate
@@ -55,3 +61,15 @@ votes_marked h marked = All-cons (λ vote. IfSome vote IsMarkedLate) (vote_at_ti
 
 pub none_marked : AreMarkedLate []
 none_marked = All-nil (λ vote. IfSome vote IsMarkedLate)
+
+-- ---- a held second of a reader with a history
+
+earlier_marked : (edges : ℕ) (vote : Option Claim) (votes : List (Option Claim)) → AreMarkedLate (then_none edges (vote ∷ votes)) → AreMarkedLate votes
+earlier_marked zero vote votes marked = All-tail (λ v. IfSome v IsMarkedLate) vote votes marked
+earlier_marked (suc edges) vote votes marked = earlier_marked edges vote votes (All-tail (λ v. IfSome v IsMarkedLate) None (then_none edges (vote ∷ votes)) marked)
+
+pub held_at_tick : (t : TimelineValue) (n : ℕ) (h : ReaderHistory) (edges : ℕ) (u : UtcSecond) → IsTimeline t → IsTrueTable t h.table → AreMarkedLate h.votes
+    → IsTrueSince t n (after_tick h).votes edges → 0 < edges → (report_at_tick h).announce ≡ Some u → IsSecond t (n + 1 + edges) u
+held_at_tick t n h edges u sound true_table marked since some says =
+    held_is_true t n h.reader_rules h.table (vote_at_tick h) h.votes since.earlier since.claim edges u sound true_table
+    (earlier_marked edges (Some since.claim) since.earlier (subst AreMarkedLate since.are (votes_marked h marked))) since.truth since.are some says

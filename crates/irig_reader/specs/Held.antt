@@ -1,7 +1,8 @@
 -- Edges without a vote behind the last vote of a reader.
 -- Source: docs/HEADLINE.md; this project's profile.
-use Rattle.std.specs.Prelude.{◌≡◌, ℕ, zero, suc, List, ◌∷◌, All, Option, Some, None, IfSome}
+use Rattle.std.specs.Prelude.{◌≡◌, ℕ, ◌+◌, zero, suc, List, ◌∷◌, All, Option, Some, None, IfSome}
 use Rattle.irig_time.specs.declared.claim.Claim.{Claim}
+use Rattle.irig_time.specs.Timelines.{TimelineValue, IsTrueClaim}
 use Rattle.irig_time.specs.Claims.{IsMarkedLate}
 
 -- so many edges without a vote, after these votes, the newest first
@@ -18,3 +19,11 @@ pub record IsSince (votes : List (Option Claim)) (edges : ℕ) : Type 0 where
   pub claim : Claim
   pub earlier : List (Option Claim)
   pub are : votes ≡ then_none edges (Some claim ∷ earlier)
+
+-- the last of these votes lies so many edges back, and was the true claim of T(n)
+pub record IsTrueSince (t : TimelineValue) (n : ℕ) (votes : List (Option Claim)) (edges : ℕ)
+    : Type 0 where
+  pub claim : Claim
+  pub earlier : List (Option Claim)
+  pub are : votes ≡ then_none edges (Some claim ∷ earlier)
+  pub truth : IsTrueClaim t (n + 1) claim

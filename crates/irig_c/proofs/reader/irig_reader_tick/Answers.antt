@@ -1,5 +1,6 @@
 use Rattle.std.proofs.Common.{◌≡◌, ◌∙◌, Bool, true, false, Some, sym, ap, subst}
 use Rattle.irig_reader.specs.declared.report.Cause.TheVariants.{Voted}
+use Rattle.irig_reader.specs.declared.report.Lock.TheVariants.{Holdover}
 use Rattle.irig_reader.specs.declared.report.Report.{Report}
 use Rattle.irig_reader.specs.Rule.{state_of, step_of}
 use Rattle.irig_reader.proofs.OneEdge.{voted_seconds}
@@ -8,6 +9,8 @@ use Rattle.irig_c.specs.Readers.{tells_in}
 use Rattle.irig_c.specs.Reports.{report_in}
 use Rattle.irig_reader.specs.History.{after_tick, told_at_tick, vote_at_tick}
 use Rattle.irig_reader.proofs.VoteLaws.{vote_valid}
+use Rattle.irig_reader.proofs.HeldEdges.{held_since}
+use Rattle.irig_reader.proofs.MarkedVotes.{votes_marked, held_at_tick}
 use Rattle.irig_reader.specs.Rules.{IsReaderRules}
 use Rattle.irig_reader.specs.declared.rules.ReaderRules.{ReaderRules}
 use Rattle.irig_c.specs.declared.table.IrigTable.{IrigTable}
@@ -60,6 +63,7 @@ returns-clause-after c h s =
       redundancy = ap (λ (x : IrigSetup). redundancy_in x) setup ∙ s.redundancy;
       heard = ports;
       state = c.state_for_c-reader.ensures.is ∙ after;
+      marked = votes_marked h s.marked;
       in_range = subst (λ (x : IrigSetup). IsReaderRules (reader_rules_in x)) (sym setup) s.in_range;
       is_state = subst (λ (x : IrigSetup). IsState x.lock_after c.state_for_c-reader.result) (sym setup)
           (subst (λ (o : ReaderRules). IsState o.lock_after c.state_for_c-reader.result) c.reader_rules_of-reader_rules.ensures
@@ -74,3 +78,11 @@ returns-clause-truth c t n u sound clean done voted says =
     let report : report_in c.report_for_c.result ≡ (step_of c.reader_rules_of-reader_rules.result (table_in r.table) c.in-Some.state (vote_of (tells_in r) (redundancy_in r.setup))).report = cc in
     voted_seconds t n c.reader_rules_of-reader_rules.result (table_in r.table) c.in-Some.state (tells_in r) (redundancy_in r.setup) u sound clean
     (subst (λ (x : Report). x.cause ≡ Voted) report voted) (subst (λ (x : Report). x.announce ≡ Some u) report says)
+
+pub returns-clause-held : goal.returns-clause-held
+returns-clause-held c h t n edges u s sound true_table since some says =
+    held_at_tick t n h edges u sound true_table s.marked since some (subst (λ (x : Report). x.announce ≡ Some u) (returns-clause-report c h s) says)
+
+pub returns-clause-last : goal.returns-clause-last
+returns-clause-last c h edges s says =
+    held_since h.reader_rules h.table (vote_at_tick h) h.votes edges (subst (λ (x : Report). x.lock ≡ Holdover edges) (returns-clause-report c h s) says)
