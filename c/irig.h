@@ -268,9 +268,9 @@ uint32_t irig_reader_pulses(irig_reader *reader, uint8_t port, const uint32_t *w
  * If it answers 0, a second that is announced with the cause IRIG_VOTED is the true one, provided
  * that the tick comes as that second begins and no two of three ports (three of five) then tell one
  * and the same wrong time or leap. Nothing of the past is needed for that, and any numbers may lie in
- * the reader. In a reader that irig_reader_init made, a second with the cause IRIG_HELD is true if the
- * last vote was, each second since was one tick, and the table is right; that vote lies `lock_count`
- * ticks back. So call it exactly once for each second. */
+ * the reader. In a reader that irig_reader_init made, a second with the cause IRIG_HELD is true if
+ * the last vote was, each second since was one tick, and the table is right; that vote lies
+ * `lock_count` ticks back. So call it exactly once for each second. */
 uint32_t irig_reader_tick(irig_reader *reader, irig_report *report);
 
 /* Clears the ports, and forgets what was voted. */
