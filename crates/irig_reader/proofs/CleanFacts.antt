@@ -82,3 +82,12 @@ misled_by_two = (claim 43205, omega arith, λ told. apart (sym truth ∙ told))
 
 pub one_misleads_none : ¬ ((c : Claim) × (f_of Three + 1 ≤ carriers c (ports_of (three (tell 43200) (tell 43205) (tell 43200)) Three)) × ¬ (truth_at noon 0 ≡ Some c))
 one_misleads_none h = h.2 (one_lies.no_other h.0 h.1)
+
+-- under one liar the vote is the true claim, and under two that lie alike it isn't
+pub voted_truth : vote_of (three (tell 43200) (tell 43205) (tell 43200)) Three ≡ truth_at noon 0
+unfolding vote_of
+voted_truth = sym truth
+
+pub voted_lie : ¬ (vote_of (three (tell 43200) (tell 43205) (tell 43205)) Three ≡ truth_at noon 0)
+unfolding vote_of
+voted_lie h = apart (sym truth ∙ sym h)

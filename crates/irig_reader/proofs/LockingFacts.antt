@@ -16,7 +16,7 @@ use Rattle.irig_reader.specs.declared.rule.State.TheVariants.{Idle, Acquiring, L
 use Rattle.irig_reader.specs.declared.report.Report.{Report}
 use Rattle.irig_reader.specs.Rule.{stop_step, announce_step, count_step, step_of, state_of, report_of}
 use Rattle.irig_reader.specs.Locking.{IsSilentAfter, IsNextByMark, FollowsVotes, then_true, voted_report}
-use Rattle.irig_reader.proofs.CleanFacts.{at, noon, claim, hold}
+use Rattle.irig_reader.proofs.CleanFacts.{at, noon, claim, hold, truth}
 
 abbrev vote : ℕ → Option Claim
 vote sod = Some (claim sod)
@@ -105,10 +105,6 @@ pub lost_between : (report_of two nothing lost (vote 43200 ∷ [])).announce ≡
 lost_between = rw (first, unlocked, report_of, state_of) refl
 
 -- ---- true votes
-
-truth : truth_at noon 0 ≡ vote 43200
-unfolding second_at
-truth = rw known_first_end refl
 
 next_truth : truth_at noon 1 ≡ vote 43201
 unfolding second_at

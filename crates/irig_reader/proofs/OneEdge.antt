@@ -1,5 +1,5 @@
 -- What a reader says at an edge, by what its ports tell at that edge and by nothing before.
-use Rattle.std.proofs.Common.{◌≡◌, ◌==◌, ℕ, ◌+◌, ◌<◌, ◌≤◌, Bool, true, false, cond, Option, Some, None, Result, Ok, Err, refl, sym, subst, ap, ◌∙◌, inl, inr, arith}
+use Rattle.std.proofs.Common.{◌≡◌, ◌==◌, ℕ, ◌+◌, ◌<◌, ◌≤◌, Bool, true, false, cond, Option, Some, None, Result, Ok, Err, refl, sym, subst, ap, ◌∙◌, inl, inr, ◌⊎◌, arith}
 use Rattle.std.specs.Prelude.{nat_le}
 use Rattle.std.proofs.lemmas.Bool.{cases_Bool, leb-false}
 use Rattle.irig_time.specs.declared.second.UtcSecond.{UtcSecond}
@@ -119,6 +119,13 @@ clean_by_few t n told r c truth few = record {
       let same : d ≡ c = few_tell_others told r c d few ((vote_counts told r d).1 enough) in
       truth ∙ ap (λ (x : Claim). let o : Option Claim = Some x in o) (sym same);
 }
+
+pub clean_vote : (t : TimelineValue) (n : ℕ) (told : Tells) (r : Redundancy) → IsClean t n told r → (vote_of told r ≡ None) ⊎ (vote_of told r ≡ truth_at t n)
+clean_vote t n told r clean = of (vote_of told r) refl
+  where
+    of : (vote : Option Claim) → vote_of told r ≡ vote → (vote ≡ None) ⊎ (vote ≡ truth_at t n)
+    of None is = inl refl
+    of (Some c) is = inr (sym (clean.no_other c ((vote_counts told r c).0 is)))
 
 pub misled : (t : TimelineValue) (n : ℕ) (rules : ReaderRules) (table : TableValue) (state : State) (told : Tells) (r : Redundancy) (u : UtcSecond) → IsTimeline t
     → (step_of rules table state (vote_of told r)).report.cause ≡ cause.Voted → (step_of rules table state (vote_of told r)).report.announce ≡ Some u → ¬ IsSecond t (n + 1) u

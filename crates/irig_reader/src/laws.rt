@@ -1,5 +1,6 @@
-//! Laws of one edge of a reader over its definitions: what it announces there, by what its ports
-//! tell there. They have no code, and speak of values: no call of a reader takes a timeline.
+//! Laws of a reader over its definitions: what it announces at an edge, by what its ports tell
+//! there or by its votes so far. They have no code, and speak of values: no call of a reader takes
+//! a timeline.
 
 ghost use Rattle.std.specs.Prelude.{◌≡◌, ◌⊎◌, ◌+◌, ◌<◌, ◌≤◌, ℕ, List, [], ◌∷◌, Option, Some, None};
 ghost use Rattle.irig_time.specs.Tables.{TableValue};
@@ -35,6 +36,9 @@ pub fn voted_seconds_are_true()
     // At most f ports that tell another claim than the true one are few enough.
     ensures few { (t : TimelineValue) (n : ℕ) (told : Tells) (r : Redundancy) (c : Claim)
         → truth_at t n ≡ Some c → others c (ports_of told r) ≤ f_of r → IsClean t n told r }
+    // The vote of such an edge is none, or the true one.
+    ensures vote { (t : TimelineValue) (n : ℕ) (told : Tells) (r : Redundancy) → IsClean t n told r
+        → (vote_of told r ≡ None) ⊎ (vote_of told r ≡ truth_at t n) }
 {}
 
 /// To mislead takes a majority: if a reader announces another second than T(n + 1) by a vote, then
@@ -110,9 +114,9 @@ pub fn true_votes_keep_to_the_truth()
         → (step_of rules table state vote).report.cause ≡ Cause.RangeEnd → EndsAt t n }
 {}
 
-/// Whatever is true, a reader that is silent announces only by so many votes in a row as its rules
-/// ask, each of the second after the one before it. What it then announces is the second after the
-/// last of them. A reader is silent if it announced nothing at the edge before, after a restart, and
+/// Whatever is true, a silent reader announces only by so many votes in a row as its rules ask,
+/// each of the second after the one before it. What it then announces is the second after the last
+/// of them. A reader is silent if it announced nothing at the edge before, after a restart, and
 /// before its first tick.
 pub fn locking_takes_votes_in_a_row()
     ensures { (rules : ReaderRules) (table : TableValue) (vote : Option Claim)
@@ -121,8 +125,9 @@ pub fn locking_takes_votes_in_a_row()
         → FollowsVotes rules.lock_after (vote ∷ votes) u }
 {}
 
-/// True votes in a row lock a reader, after a jump, a stop, a restart and at the first tick: at the
-/// last of so many as its rules ask it announces the second that begins. It takes no table for that.
+/// True votes in a row lock a silent reader, as it is after a jump, a stop, a restart and before
+/// its first tick: at the last of so many as its rules ask it announces the second that begins,
+/// whatever its table says.
 pub fn true_votes_in_a_row_lock()
     ensures silent { (t : TimelineValue) (n : ℕ) (rules : ReaderRules) (table : TableValue)
         (vote : Option Claim) (votes earlier : List (Option Claim)) (u : UtcSecond) → IsTimeline t
@@ -130,8 +135,8 @@ pub fn true_votes_in_a_row_lock()
         → IsSecond t (n + rules.lock_after) u
         → vote ∷ votes ≡ then_true t n rules.lock_after earlier
         → report_of rules table vote votes ≡ voted_report u }
-    // Wherever it stood, one more is enough: a locked reader that stands at another second says
-    // `Jump` at the first of them.
+    // Of any reader one more is enough: a locked one that stands at another second says `Jump` at
+    // the first of them, and counts the others.
     ensures any { (t : TimelineValue) (n : ℕ) (rules : ReaderRules) (table : TableValue)
         (vote : Option Claim) (votes earlier : List (Option Claim)) (u : UtcSecond) → IsTimeline t
         → 1 ≤ rules.lock_after → IsSecond t (n + 1 + rules.lock_after) u
