@@ -10,7 +10,6 @@ use Rattle.irig_time.specs.declared.claim.TimeFault.{TimeFault}
 use Rattle.irig_time.specs.declared.rules.Sense.{Sense}
 use Rattle.irig_time.specs.Days.{is_month_end}
 use Rattle.irig_time.specs.Seconds.{IsValid}
-use Rattle.irig_time.specs.declared.mark.Mark.TheVariants.{Unspoken}
 use Rattle.irig_time.specs.Claims.{utc_minute, utc_at, is_last_minute, frame_mark, claim_by, IsMarkedLate}
 use Rattle.irig_time.proofs.MonthEnds.{month_end_from_test}
 
