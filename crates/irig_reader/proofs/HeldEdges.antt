@@ -1,8 +1,8 @@
 -- What a reader announces without a vote, by its last vote.
-use Rattle.std.proofs.Common.{◌≡◌, ◌==◌, ℕ, zero, suc, ◌+◌, ◌<◌, ◌≤◌, Bool, true, false, cond, List, [], ◌∷◌, All, Option, Some, None, Result, Ok, Err, refl, sym, subst, ap, ◌∙◌, inl, inr, arith}
+use Rattle.std.proofs.Common.{◌≡◌, ◌==◌, ℕ, zero, suc, ◌+◌, ◌<◌, Bool, true, false, cond, List, [], ◌∷◌, Option, Some, None, Result, Ok, Err, refl, sym, subst, ap, ◌∙◌, inl, inr, arith}
 use Rattle.std.specs.Prelude.{nat_le, ◌&&◌, IfSome}
 use Rattle.std.proofs.lemmas.Bool.{cases_Bool}
-use Rattle.std.proofs.lemmas.List.Elements.{All-head, All-tail, All-cons, All-nil}
+use Rattle.std.proofs.lemmas.List.Elements.{All-head, All-tail}
 use Rattle.irig_time.specs.declared.second.UtcSecond.{UtcSecond}
 use Rattle.irig_time.specs.declared.mark.Mark.{Mark}
 use Rattle.irig_time.specs.declared.claim.Claim.{Claim}
@@ -14,7 +14,7 @@ use Rattle.irig_time.specs.Tables.{TableValue, spoken_mark}
 use Rattle.irig_hold.specs.declared.hold.Turn.{Turn}
 use Rattle.irig_hold.specs.declared.hold.Turn.TheVariants as turn
 use Rattle.irig_hold.specs.Steps.{HoldValue, hold_start, hold_or_stop, hold_after, mark_or, outcome_of, voted_by, alone_by}
-use Rattle.irig_hold.specs.Truth.{IsTrueTable, IsOnTime, HasHeardLate, HasComeTo}
+use Rattle.irig_hold.specs.Truth.{IsTrueTable, IsOnTime, HasHeardLate}
 use Rattle.irig_reader.proofs.OneEdge.{voted_holds}
 use Rattle.irig_hold.proofs.HoldLaws.{stop_is_no_now, started_true, alone_true, voted_on_time, voted_late, alone_late, started_late}
 use Rattle.irig_reader.specs.declared.rules.ReaderRules.{ReaderRules}
@@ -25,7 +25,7 @@ use Rattle.irig_reader.specs.declared.report.Cause.TheVariants as cause
 use Rattle.irig_reader.specs.declared.rule.State.{State}
 use Rattle.irig_reader.specs.declared.rule.State.TheVariants.{Idle, Acquiring, Locked}
 use Rattle.irig_reader.specs.declared.rule.Step.{Step}
-use Rattle.irig_reader.specs.Rule.{stop_step, announce_step, count_step, first_vote_step, later_vote_step_by, locked_step, holdover_step, step_of, state_of, report_of}
+use Rattle.irig_reader.specs.Rule.{announce_step, count_step, first_vote_step, later_vote_step_by, locked_step, step_of, state_of, report_of}
 use Rattle.irig_reader.specs.Held.{then_none, AreMarkedLate, IsSince}
 
 -- a fact of the hold of a state, if it has one

@@ -5,3 +5,4 @@ pub mod HeldEdges
 pub mod MarkedVotes
 pub mod StandardFacts
 pub mod CleanFacts
+pub mod CleanHearing

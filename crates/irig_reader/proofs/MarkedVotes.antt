@@ -1,5 +1,5 @@
 -- What ports tell of a leap they tell in a month's last minute, and so does a vote over them.
-use Rattle.std.proofs.Common.{◌≡◌, ◌<◌, ℕ, List, [], ◌∷◌, Option, Some, None, All, subst, sym, refl, arith, inl, inr}
+use Rattle.std.proofs.Common.{◌≡◌, ◌<◌, ℕ, List, [], ◌∷◌, Option, Some, None, All, subst, refl, arith, inl, inr}
 use Rattle.std.specs.Prelude.{IfSome}
 use Rattle.std.proofs.lemmas.Bool.{cases_Bool}
 use Rattle.std.proofs.lemmas.List.Elements.{All-cons, All-nil, All-head, All-tail}
@@ -10,12 +10,12 @@ use Rattle.irig_time.proofs.ClaimedSeconds.{claim_marked}
 use Rattle.irig_port.specs.declared.told.Told.{Told}
 use Rattle.irig_port.specs.declared.told.Told.TheVariants as tells
 use Rattle.irig_port.specs.Heard.{symbols_of}
-use Rattle.irig_port.specs.Told.{IfClaim, told_of, told_of_widths}
+use Rattle.irig_port.specs.Told.{IfClaim, told_of_widths}
 use Rattle.irig_port.proofs.CarriesLaws.{carries_is_told}
 use Rattle.irig_vote.specs.declared.redundancy.Redundancy.{Redundancy}
 use Rattle.irig_vote.specs.declared.redundancy.Redundancy.TheVariants.{Three, Five}
 use Rattle.irig_vote.specs.declared.votes.Tells.{Tells}
-use Rattle.irig_vote.specs.Vote.{ports_of, carriers, is_told, vote_of}
+use Rattle.irig_vote.specs.Vote.{ports_of, carriers, is_told}
 use Rattle.irig_vote.proofs.CountLaws.{told_is, carriers-cons, none_of, vote_counts}
 use Rattle.irig_reader.specs.History.{ReaderHistory, told_at_tick, vote_at_tick, after_tick}
 use Rattle.irig_reader.specs.Held.{AreMarkedLate}

@@ -1,7 +1,7 @@
 //! Laws of one edge of a reader over its definitions: what it announces there, by what its ports
 //! tell there. They have no code, and speak of values: no call of a reader takes a timeline.
 
-ghost use Rattle.std.specs.Prelude.{◌≡◌, ◌+◌, ◌<◌, ◌≤◌, ℕ, List, [], ◌∷◌, Option, Some};
+ghost use Rattle.std.specs.Prelude.{◌≡◌, ◌↔◌, ◌+◌, ◌<◌, ◌≤◌, ℕ, List, [], ◌∷◌, Option, Some};
 ghost use Rattle.irig_time.specs.Tables.{TableValue};
 ghost use Rattle.irig_time.specs.Timelines.{TimelineValue, IsSecond, IsTrueClaim, truth_at};
 ghost use Rattle.irig_time.specs.TimelineFaults.{IsTimeline};
@@ -9,9 +9,9 @@ ghost use Rattle.irig_vote.specs.Vote.{carriers, f_of, others, ports_of, vote_of
 ghost use Rattle.irig_hold.specs.Steps.{HoldValue};
 ghost use Rattle.irig_hold.specs.Truth.{IsTrueTable};
 ghost use Rattle.irig_reader.specs.declared.rule.State.{State};
-ghost use Rattle.irig_reader.specs.Clean.{IsClean};
+ghost use Rattle.irig_reader.specs.Clean.{IsClean, HaveHeardCleanly};
 ghost use Rattle.irig_reader.specs.Held.{AreMarkedLate, IsSince, then_none};
-ghost use Rattle.irig_reader.specs.History.{ReaderHistory, after_tick};
+ghost use Rattle.irig_reader.specs.History.{ReaderHistory, fed_to, told_at_tick, after_tick};
 ghost use Rattle.irig_reader.specs.Rule.{report_of, step_of, stop_step};
 
 use crate::report::{Cause, Lock};
@@ -33,6 +33,10 @@ pub fn voted_seconds_are_true()
     // At most f ports that tell another claim than the true one are few enough.
     ensures few { (t : TimelineValue) (n : ℕ) (told : Tells) (r : Redundancy) (c : Claim)
         → truth_at t n ≡ Some c → others c (ports_of told r) ≤ f_of r → IsClean t n told r }
+    // The same, said of the pulses that the ports heard.
+    ensures heard { (t : TimelineValue) (n : ℕ) (h : ReaderHistory)
+        → IsClean t n (told_at_tick h) h.redundancy
+        ↔ HaveHeardCleanly t n h.rules h.redundancy (fed_to h.fed) }
 {}
 
 /// To mislead takes a majority: if a reader announces another second than T(n + 1) by a vote, then

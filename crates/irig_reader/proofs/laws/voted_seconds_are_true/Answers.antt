@@ -1,3 +1,4 @@
+use Rattle.irig_reader.proofs.CleanHearing.{clean_hearing}
 use Rattle.irig_reader.proofs.OneEdge.{voted_seconds, clean_by_few}
 use Rattle.irig_reader.proofs.laws.voted_seconds_are_true.Goals as goal
 
@@ -6,3 +7,6 @@ returns-clause-second c = voted_seconds
 
 pub returns-clause-few : goal.returns-clause-few
 returns-clause-few c = clean_by_few
+
+pub returns-clause-heard : goal.returns-clause-heard
+returns-clause-heard c = clean_hearing
