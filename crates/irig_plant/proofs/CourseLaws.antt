@@ -2,7 +2,7 @@
 -- its votes are.
 use Rattle.std.specs.Prelude.{◌==◌, ◌&&◌, is_some}
 use Rattle.std.proofs.Common.{◌≡◌, ℕ, ◌+◌, ◌<◌, ◌≤◌, Bool, true, false, List, [], ◌∷◌, ◌++◌, length, Option, Some, None, inl, inr, refl, sym, ap, subst, ◌∙◌, arith, eqb-true}
-use Rattle.std.proofs.lemmas.Bool.{false≢true, cases_Bool, cases_lt, eq-eqb, ne_eqb, and_right, ltb-false, ltb-true, lt-ltb, le-ltb}
+use Rattle.std.proofs.lemmas.Bool.{false≢true, cases_Bool, cases_lt, eq-eqb, ne_eqb, and_right, ltb-true, lt-ltb, le-ltb}
 use Rattle.irig_time.specs.declared.claim.Claim.{Claim}
 use Rattle.irig_time.specs.Timelines.{truth_at, IsTrueClaim}
 use Rattle.irig_time.proofs.SecondAt.{claim_is}
@@ -14,10 +14,10 @@ use Rattle.irig_reader.specs.History.{told_at_tick, vote_at_tick}
 use Rattle.irig_plant.specs.declared.event.Event.{Event}
 use Rattle.irig_plant.specs.declared.event.Event.TheVariants.{Tick, Restart}
 use Rattle.irig_vote.specs.Vote.{redundancy_of}
-use Rattle.irig_plant.specs.Schedule.{Setup, ticks_of, history_of}
+use Rattle.irig_plant.specs.Schedule.{ports_now, Setup, ticks_of, history_of}
 use Rattle.irig_plant.specs.Audits.{untrue_ports, is_broken_now}
-use Rattle.irig_plant.specs.Edges.{is_carried, ports_now, is_voted_now, is_voted, is_restarted, IsVoted, IsRestarted}
-use Rattle.irig_plant.proofs.HeadlineVotes.{true_vote, vote_is_true}
+use Rattle.irig_plant.specs.Edges.{is_carried, is_voted_now, is_voted, is_restarted, IsVoted, IsRestarted}
+use Rattle.irig_plant.proofs.HeadlineVotes.{ports_told, few_untrue_told, true_vote, vote_is_true}
 
 -- ---- later events
 
@@ -138,7 +138,8 @@ vote_is_there s r ev kept =
     let redundancy = redundancy_of (length s.generators) in
     let told = told_at_tick (history_of s r ev) in
     let truth = truth_at s.times (ticks_of r ev) in
-    vote_there told redundancy truth (vote_at_tick (history_of s r ev)) (ltb-false (f_of redundancy) (untrue_ports truth (ports_of told redundancy)) kept) refl
+    vote_there told redundancy truth (vote_at_tick (history_of s r ev)) (few_untrue_told s r ev kept) refl
+    ∙ ap (λ ports. is_carried (f_of redundancy) ports truth) (ports_told s r ev)
 
 pub vote_is_right : (s : Setup) (r : ℕ) (ev : List Event) (c : Claim) → is_broken_now s r ev ≡ false → vote_at_tick (history_of s r ev) ≡ Some c → IsTrueClaim s.times (ticks_of r ev + 1) c
 vote_is_right s r ev c kept e =

@@ -19,7 +19,7 @@ use Rattle.irig_plant.specs.declared.entry.Entry.{Entry}
 use Rattle.irig_plant.specs.declared.setup.ReaderSetup.{ReaderSetup}
 use Rattle.irig_plant.specs.Audits.{is_true_table, first_false, is_broken_now, tick_of_reader, first_broken}
 use Rattle.irig_plant.specs.Edges.{VotedEdges, is_voted_now, is_voted, IsVoted, IsRestarted, voted_edges_of, IsGuard, HasVote, IsHeld, KeepsLock, IsRun, IsLongestRun, IsLastVote}
-use Rattle.irig_plant.specs.Ports.{AreRising, AtLeast, AtMost}
+use Rattle.irig_vote.specs.Counts.{AreRising, AtLeast, AtMost}
 use Rattle.irig_plant.specs.Premises.{IsKeptUpTo, HasPremises, IsKept}
 use Rattle.irig_plant.specs.Truth.{AnnouncesTruth, GivesNoFalseAlarm, IsTruthful, IsBefore}
 use Rattle.irig_plant.specs.Exactly.{announcement, silence, IsServed, AnnouncesWhenHeld, IsAnnouncement, HasItsLock, HasAnnounced, WasHeld, IsSilence, HasItsCause}

@@ -28,7 +28,8 @@ use Rattle.irig_plant.specs.declared.entry.Entry.{Entry}
 use Rattle.irig_plant.specs.Widths.{widths_of}
 use Rattle.irig_plant.specs.Schedule.{Setup, no_generator, setup_at, generator_at, heard_at, pulses_sent, pulses_sent_at, ticks_of, log_of}
 use Rattle.irig_plant.specs.Edges.{VotedEdges, voted_edges_of, is_voted_now, CanLock, IsHeld, IsRun, KeepsLock}
-use Rattle.irig_plant.specs.Ports.{AtLeast, f_in, IsTruePort}
+use Rattle.irig_vote.specs.Counts.{AtLeast}
+use Rattle.irig_plant.specs.Ports.{f_in, IsTruePort}
 use Rattle.irig_plant.specs.Health.{HasGenerators, IsHealthyPort}
 use Rattle.irig_plant.specs.History.{IsNew}
 use Rattle.irig_plant.specs.Exactly.{announcement, IsServed, AnnouncesWhenHeld, IsAnnouncement, HasItsLock}

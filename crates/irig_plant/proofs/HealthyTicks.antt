@@ -25,7 +25,8 @@ use Rattle.irig_plant.specs.declared.event.Event.TheVariants.{Tick, Restart}
 use Rattle.irig_plant.specs.Schedule.{Setup, setup_at, heard_at, ticks_of, entry_of, log_of}
 use Rattle.irig_plant.specs.Audits.{is_broken_now}
 use Rattle.irig_plant.specs.Edges.{voted_edges_of, is_voted_now, is_voted, is_restarted, CanLock, IsHeld, IsRun}
-use Rattle.irig_plant.specs.Ports.{AtLeast, AtMost, f_in, IsTruePort, IsUntruePort}
+use Rattle.irig_vote.specs.Counts.{AtLeast, AtMost}
+use Rattle.irig_plant.specs.Ports.{f_in, IsTruePort, IsUntruePort}
 use Rattle.irig_plant.specs.Premises.{IsKeptUpTo, IsKept}
 use Rattle.irig_plant.specs.Exactly.{silence, IsServed, AnnouncesWhenHeld, WasHeld, IsSilence, HasItsCause}
 use Rattle.irig_plant.specs.Health.{IsHealthyPort}

@@ -36,7 +36,8 @@ use Rattle.irig_plant.specs.declared.setup.ReaderSetup.{ReaderSetup}
 use Rattle.irig_plant.specs.Widths.{widths_of}
 use Rattle.irig_plant.specs.Schedule.{Setup, setup, no_generator, ticks_of, history_of}
 use Rattle.irig_plant.specs.Audits.{is_broken_now}
-use Rattle.irig_plant.specs.Ports.{AtMost, IsUntruePort}
+use Rattle.irig_vote.specs.Counts.{AtMost}
+use Rattle.irig_plant.specs.Ports.{IsUntruePort}
 use Rattle.irig_plant.specs.Premises.{IsKeptUpTo, HasTrueTable, IsKept}
 use Rattle.irig_plant.specs.Exactly.{announcement}
 use Rattle.irig_plant.specs.History.{IsNew, AreReaders}

@@ -13,15 +13,13 @@ use Rattle.irig_time.specs.Tables.{TableValue, table_mark}
 use Rattle.irig_port.specs.declared.told.Told.{Told}
 use Rattle.irig_port.specs.declared.told.Told.TheVariants as tells
 use Rattle.irig_time.specs.Claims.{same_mark, same_claim}
-use Rattle.irig_vote.specs.Vote.{f_of, ports_of}
-use Rattle.irig_reader.specs.History.{told_at_tick}
+use Rattle.irig_vote.specs.Vote.{f_of, redundancy_of}
 use Rattle.irig_plant.specs.declared.event.Event.{Event}
 use Rattle.irig_plant.specs.declared.event.Event.TheVariants.{Tick}
 use Rattle.irig_plant.specs.declared.audit.Audit.{Audit}
 use Rattle.irig_plant.specs.declared.audit.Audit.TheVariants.{Kept, Broken, FalseTable}
 use Rattle.irig_plant.specs.declared.setup.ReaderSetup.{ReaderSetup}
-use Rattle.irig_vote.specs.Vote.{redundancy_of}
-use Rattle.irig_plant.specs.Schedule.{Setup, ticks_of, history_of}
+use Rattle.irig_plant.specs.Schedule.{Setup, ports_now, ticks_of}
 
 -- ---- tables
 
@@ -64,8 +62,7 @@ untrue_ports truth ports = count_by (is_untrue truth) ports
 abbrev pub is_broken_now : Setup → ℕ → List Event → Bool
 is_broken_now s r ev =
     nat_lt (f_of (redundancy_of (length s.generators)))
-    (untrue_ports (truth_at s.times (ticks_of r ev))
-    (ports_of (told_at_tick (history_of s r ev)) (redundancy_of (length s.generators))))
+    (untrue_ports (truth_at s.times (ticks_of r ev)) (ports_now s r ev))
 
 -- a tick of a reader
 pub record TickOfReader : Type 0 where

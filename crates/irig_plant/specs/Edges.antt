@@ -8,23 +8,15 @@ use Rattle.irig_time.specs.Days.{is_month_end}
 use Rattle.irig_time.specs.Timelines.{TimelineValue, second_at, truth_at, IsTrueClaim}
 use Rattle.irig_time.specs.Tables.{TableValue}
 use Rattle.irig_port.specs.declared.told.Told.{Told}
-use Rattle.irig_vote.specs.Vote.{f_of, ports_of, carriers}
+use Rattle.irig_vote.specs.Vote.{f_of, carriers}
 use Rattle.irig_reader.specs.declared.rules.ReaderRules.{ReaderRules}
-use Rattle.irig_reader.specs.History.{told_at_tick}
 use Rattle.irig_plant.specs.declared.event.Event.{Event}
 use Rattle.irig_plant.specs.declared.event.Event.TheVariants.{Tick, Restart}
 use Rattle.irig_plant.specs.declared.setup.ReaderSetup.{ReaderSetup}
 use Rattle.irig_vote.specs.Vote.{redundancy_of}
-use Rattle.irig_plant.specs.Schedule.{Setup, fed_at, setup_at, history_with, ticks_of}
+use Rattle.irig_plant.specs.Schedule.{Setup, setup_at, ports_now, ticks_of}
 
 -- ---- voted edges and restarts
-
--- what the ports of r tell of what they heard, at a tick of r that comes now; its votes do not
--- matter
-abbrev pub ports_now : Setup → ℕ → List Event → List Told
-ports_now s r ev =
-    ports_of (told_at_tick (history_with s r (fed_at s r ev) []))
-    (redundancy_of (length s.generators))
 
 -- whether more than f of the ports carry the claim, if there is one
 abbrev pub is_carried : ℕ → List Told → Option Claim → Bool

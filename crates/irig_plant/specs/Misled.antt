@@ -8,7 +8,8 @@ use Rattle.irig_plant.specs.declared.event.Event.{Event}
 use Rattle.irig_plant.specs.declared.event.Event.TheVariants.{Tick}
 use Rattle.irig_plant.specs.Schedule.{Setup, ticks_of, entry_of}
 use Rattle.irig_plant.specs.Runs.{events_after, AreAccepted}
-use Rattle.irig_plant.specs.Ports.{AtMost, f_in, IsUntruePort}
+use Rattle.irig_vote.specs.Counts.{AtMost}
+use Rattle.irig_plant.specs.Ports.{f_in, IsUntruePort}
 use Rattle.irig_plant.specs.Premises.{IsKeptUpTo, IsKept}
 use Rattle.irig_plant.specs.History.{AreReaders}
 use Rattle.irig_plant.specs.Health.{HasGenerators}

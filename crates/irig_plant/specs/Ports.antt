@@ -1,6 +1,6 @@
 -- What the ports of a reader carry at a tick, as relations over what they heard.
 -- Source: docs/HEADLINE.md, the premises; docs/EXACTLY_WHEN.md, voted edges.
-use Rattle.std.specs.Prelude.{ℕ, ◌+◌, ◌<◌, ◌≤◌, List, [], ◌∷◌, length, All, ⊤}
+use Rattle.std.specs.Prelude.{ℕ, ◌+◌, ◌<◌, List, length}
 use Rattle.irig_time.specs.declared.claim.Claim.{Claim}
 use Rattle.irig_time.specs.Timelines.{IsTrueClaim}
 use Rattle.irig_time.specs.Carries.{Carries}
@@ -8,27 +8,6 @@ use Rattle.irig_port.specs.Heard.{symbols_of}
 use Rattle.irig_vote.specs.Vote.{f_of, ports_in, redundancy_of}
 use Rattle.irig_plant.specs.declared.event.Event.{Event}
 use Rattle.irig_plant.specs.Schedule.{Setup, heard_at, ticks_of}
-
--- ---- how many numbers are such
-
--- numbers in rising order, from this one on
-abbrev pub AreRising : ℕ → List ℕ → Type 0
-AreRising from [] = ⊤
-AreRising from (n ∷ ns) = (from ≤ n) × AreRising (n + 1) ns
-
--- at least so many are such: there is a list of them, each once
-pub record AtLeast (count : ℕ) (IsSuch : ℕ → Type 0) : Type 0 where
-  pub numbers : List ℕ
-  pub rising : AreRising 0 numbers
-  pub such : All IsSuch numbers
-  pub many : count ≤ length numbers
-
--- at most so many are such: no list of them, each once, is longer
-abbrev pub AtMost : ℕ → (ℕ → Type 0) → Type 0
-AtMost count IsSuch =
-    (numbers : List ℕ) → AreRising 0 numbers → All IsSuch numbers → length numbers ≤ count
-
--- ---- ports
 
 -- how many ports of a reader may be untrue: f of 2f + 1
 abbrev pub f_in : Setup → ℕ

@@ -2,7 +2,8 @@
 -- is then logged. Lists of events and of votes are written newest first, so that what was "since
 -- the last .." comes first in them.
 -- Source: docs/PLANT.md, events and what a list of them says.
-use Rattle.std.specs.Prelude.{ℕ, ◌+◌, Bool, false, ◌==◌, ◌&&◌, if◌then◌else◌, pos, List, [], ◌∷◌, ◌++◌, length, Option, Some, None, slice_index_or}
+use Rattle.std.specs.Prelude.{ℕ, ◌+◌, Bool, false, ◌==◌, ◌&&◌, if◌then◌else◌, pos, List, [], ◌∷◌, ◌++◌, length, map, Option, Some, None, slice_index_or}
+use Rattle.std.specs.List.{range_with_len}
 use Rattle.irig_control.specs.declared.parity.Parity.TheVariants.{Even}
 use Rattle.irig_time.specs.declared.rules.Rules.{Rules}
 use Rattle.irig_time.specs.declared.rules.Sense.TheVariants.{Add}
@@ -13,7 +14,9 @@ use Rattle.irig_time.specs.Tables.{table}
 use Rattle.irig_gen.specs.declared.fault.GenFault.{GenFault}
 use Rattle.irig_gen.specs.Frames.{GeneratorValue, gen}
 use Rattle.irig_gen.specs.Sent.{frame_of, sent_of}
-use Rattle.irig_vote.specs.Vote.{redundancy_of}
+use Rattle.irig_port.specs.declared.told.Told.{Told}
+use Rattle.irig_port.specs.Told.{told_of_widths}
+use Rattle.irig_vote.specs.Vote.{ports_in, redundancy_of}
 use Rattle.irig_reader.specs.History.{Fed, ReaderHistory, told_at_tick, vote_at_tick, report_at_tick}
 use Rattle.irig_plant.specs.declared.event.Event.{Event}
 use Rattle.irig_plant.specs.declared.event.Event.TheVariants.{GenEdge, Tick, Carry, Damage, Replay, Raw, Fault, Repair, Restart}
@@ -130,6 +133,15 @@ fed_at s r ev = record {
   d = heard_at s r 3 ev;
   e = heard_at s r 4 ev;
 }
+
+-- what port p of reader r tells of that, at a tick of r that comes now
+abbrev pub told_now : Setup → ℕ → List Event → ℕ → Told
+told_now s r ev p = told_of_widths s.rules (heard_at s r p ev)
+
+-- what each of its ports tells: as many as there are generators, three or five
+abbrev pub ports_now : Setup → ℕ → List Event → List Told
+ports_now s r ev =
+    map (told_now s r ev) (range_with_len 0 (ports_in (redundancy_of (length s.generators))))
 
 -- ---- readers
 

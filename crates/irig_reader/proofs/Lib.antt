@@ -10,3 +10,4 @@ pub mod StandardFacts
 pub mod CleanFacts
 pub mod LockingFacts
 pub mod HeldFacts
+pub mod CleanHearing

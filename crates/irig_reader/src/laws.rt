@@ -2,7 +2,7 @@
 //! there or by its votes so far. They have no code, and speak of values: no call of a reader takes
 //! a timeline.
 
-ghost use Rattle.std.specs.Prelude.{◌≡◌, ◌⊎◌, ◌+◌, ◌<◌, ◌≤◌, ℕ, List, [], ◌∷◌, Option, Some, None};
+ghost use Rattle.std.specs.Prelude.{◌≡◌, ◌⊎◌, ◌↔◌, ◌+◌, ◌<◌, ◌≤◌, ℕ, List, [], ◌∷◌, Option, Some, None};
 ghost use Rattle.irig_time.specs.Tables.{TableValue};
 ghost use Rattle.irig_time.specs.Timelines.{TimelineValue, EndsAt, IsSecond, IsTrueClaim, truth_at};
 ghost use Rattle.irig_time.specs.TimelineFaults.{IsTimeline};
@@ -10,9 +10,9 @@ ghost use Rattle.irig_vote.specs.Vote.{carriers, f_of, others, ports_of, vote_of
 ghost use Rattle.irig_hold.specs.Steps.{HoldValue};
 ghost use Rattle.irig_hold.specs.Truth.{IsTrueTable};
 ghost use Rattle.irig_reader.specs.declared.rule.State.{State};
-ghost use Rattle.irig_reader.specs.Clean.{IsClean};
+ghost use Rattle.irig_reader.specs.Clean.{IsClean, HaveHeardCleanly};
 ghost use Rattle.irig_reader.specs.Held.{AreMarkedLate, IsSince, then_none};
-ghost use Rattle.irig_reader.specs.History.{ReaderHistory, after_tick};
+ghost use Rattle.irig_reader.specs.History.{ReaderHistory, fed_to, told_at_tick, after_tick};
 ghost use Rattle.irig_reader.specs.Locking.{IsSilentAfter, FollowsVotes, then_true, voted_report};
 ghost use Rattle.irig_reader.specs.Rule.{report_of, step_of, stop_step};
 ghost use Rattle.irig_reader.specs.Standing.{StandsAtTruth};
@@ -39,6 +39,10 @@ pub fn voted_seconds_are_true()
     // The vote of such an edge is none, or the true one.
     ensures vote { (t : TimelineValue) (n : ℕ) (told : Tells) (r : Redundancy) → IsClean t n told r
         → (vote_of told r ≡ None) ⊎ (vote_of told r ≡ truth_at t n) }
+    // The same, said of the pulses that the ports heard.
+    ensures heard { (t : TimelineValue) (n : ℕ) (h : ReaderHistory)
+        → IsClean t n (told_at_tick h) h.redundancy
+        ↔ HaveHeardCleanly t n h.rules h.redundancy (fed_to h.fed) }
 {}
 
 /// To mislead takes a majority: if a reader announces another second than T(n + 1) by a vote, then

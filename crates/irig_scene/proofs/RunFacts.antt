@@ -28,6 +28,7 @@ use Rattle.irig_plant.specs.declared.audit.Audit.{Audit}
 use Rattle.irig_plant.specs.declared.audit.Audit.TheVariants.{Kept, Broken}
 use Rattle.irig_plant.proofs.KeptLaws.{empty_true}
 use Rattle.irig_device.specs.Lines.{HasNoNewline}
+use Rattle.irig_faults.specs.declared.refusal.Refusal.{Refusal}
 use Rattle.irig_faults.specs.declared.refusal.Refusal.TheVariants.{Json, NoPlant}
 use Rattle.irig_faults.specs.Refusals.{number_of}
 use Rattle.irig_values.specs.Names.{are_names, is_name}
@@ -40,7 +41,7 @@ use Rattle.irig_scene.specs.declared.outcome.Outcome.{Outcome}
 use Rattle.irig_scene.specs.declared.fault.SceneFault.TheVariants as fault
 use Rattle.irig_log_text.specs.Text.{entries_alone, refusal_text}
 use Rattle.irig_scene.specs.Scene.{Scene, scene, step, Refused, meaning, meaning_from, meaning_of, refusal_at, audit_in, log_text}
-use Rattle.irig_scene.specs.Run.{IsDone, IsRefused, StoppedReading, IsOfOneLine, StoppedInLine, AreBytesOf, read_of, Ran}
+use Rattle.irig_scene.specs.Run.{IsDone, IsRefused, AreTaken, StoppedReading, IsOfOneLine, StoppedInLine, AreBytesOf, read_of, Ran}
 use Rattle.irig_log_text.proofs.LogLaws.{not_newline}
 use Rattle.irig_log_text.proofs.LogLaws.{NoNewline, shows_digit, shown_once, one_whole, whole_along}
 use Rattle.irig_log_text.proofs.WordLaws.{AreNames}
@@ -351,12 +352,12 @@ not_two_lines h = elim h.is [
 -- a read failed after two empty lines and a part: they say nothing, so nothing is written
 stopped : StoppedReading (codes "\n\n ") (entries_alone true) (Some (codes "\n\n ")) (Some []) (Some (codes "a")) (Some (codes "a"))
 unfolding meaning_from step lines
-stopped = record { whole = [] ∷ [] ∷ []; part = codes " "; lined = All-from_recursion HasNoNewline ([] ∷ [] ∷ []) (All-from_recursion (λ b. b ≢ 10) [] tt, (All-from_recursion (λ b. b ≢ 10) [] tt, tt)); unlined = All-from_recursion (λ b. b ≢ 10) (codes " ") (search arith); rest = []; of_bytes = refl; read = refl; wrote = refl }
+stopped = record { whole = [] ∷ [] ∷ []; part = codes " "; lined = All-from_recursion HasNoNewline ([] ∷ [] ∷ []) (All-from_recursion (λ b. b ≢ 10) [] tt, (All-from_recursion (λ b. b ≢ 10) [] tt, tt)); taken = (refl, (refl, tt)); unlined = All-from_recursion (λ b. b ≢ 10) (codes " ") (search arith); rest = []; of_bytes = refl; read = refl; wrote = refl }
 
 -- and stopped in the part, or in the second line
 stopped_in : StoppedInLine (codes "\n\n ") (entries_alone true) (Some (codes "\n\n ")) (Some []) (Some (codes "a")) (Some (codes "a"))
 unfolding meaning_from step lines
-stopped_in = record { whole = [] ∷ [] ∷ []; part = codes " "; lined = All-from_recursion HasNoNewline ([] ∷ [] ∷ []) (All-from_recursion (λ b. b ≢ 10) [] tt, (All-from_recursion (λ b. b ≢ 10) [] tt, tt)); in_hand = record { line = codes " "; unlined = All-from_recursion (λ b. b ≢ 10) (codes " ") (search arith); is = inl refl }; rest = []; of_bytes = refl; read = refl; more = []; wrote = refl }
+stopped_in = record { whole = [] ∷ [] ∷ []; part = codes " "; lined = All-from_recursion HasNoNewline ([] ∷ [] ∷ []) (All-from_recursion (λ b. b ≢ 10) [] tt, (All-from_recursion (λ b. b ≢ 10) [] tt, tt)); taken = (refl, (refl, tt)); in_hand = record { line = codes " "; unlined = All-from_recursion (λ b. b ≢ 10) (codes " ") (search arith); is = inl refl }; rest = []; of_bytes = refl; read = refl; more = []; wrote = refl }
 
 -- lines are cut in one way
 no_whole : (l : List ℕ) → NoNewline l → whole_lines l ≡ []
@@ -372,6 +373,17 @@ wholes ls rest h = go ls (recursion_from_All HasNoNewline ls h)
     go (l ∷ ls) h =
         let cut : (l ++ 10 ∷ []) ++ unlines ls ++ rest ≡ l ++ (10 ∷ (unlines ls ++ rest)) = simp append_assoc in
         ap whole_lines cut ∙ whole_along l (unlines ls ++ rest) (recursion_from_All (λ b. b ≢ 10) l h.0) ∙ ap (λ z. l ∷ z) (go ls h.1)
+
+-- no read that failed after a line that is refused
+not_past_a_refusal : (l : List ℕ) (k : Refusal) (old new : Option (List ℕ)) → HasNoNewline l → (step 1 None l).refusal ≡ Some k
+    → ¬ StoppedReading (l ++ 10 ∷ []) (entries_alone true) (Some (l ++ 10 ∷ [])) (Some []) old new
+not_past_a_refusal l k old new unlined refused h =
+    let bytes : unlines h.whole ++ h.part ≡ l ++ 10 ∷ [] = sym (h.read ∙ append-nil (unlines h.whole ++ h.part)) in
+    let cut : h.whole ++ whole_lines h.part ≡ l ∷ [] = sym (wholes h.whole h.part h.lined) ∙ ap whole_lines bytes ∙ one_whole l (recursion_from_All (λ b. b ≢ 10) l unlined) in
+    let whole : h.whole ≡ l ∷ [] = sym (append-nil h.whole) ∙ ap (λ ls. h.whole ++ ls) (sym (no_whole h.part (recursion_from_All (λ b. b ≢ 10) h.part h.unlined))) ∙ cut in
+    let taken : AreTaken (l ∷ []) 1 None = subst (λ ls. AreTaken ls 1 None) whole h.taken in
+    let clash : ◌≡◌ {A = Option Refusal} None (Some k) = sym taken.0 ∙ refused in
+    absurd cc
 
 -- if the log of a line is "a", it stands once the line was read
 module _ (l : List ℕ) (unlined : HasNoNewline l) (log : log_text (entries_alone true) (meaning_of (l ++ 10 ∷ [])).scene ≡ codes "a") where

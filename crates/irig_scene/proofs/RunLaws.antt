@@ -21,7 +21,7 @@ use Rattle.irig_device.specs.Watched.{AppendsPart}
 use Rattle.irig_scene.specs.Faults.{IsFaultOfReading}
 use Rattle.irig_scene.specs.Scene.{Scene, Step, step_to, step, Meaning, meaning, refusal_at, meaning_from, meaning_of, meaning_at_end, log_text, text_of, output_shown}
 use Rattle.irig_scene.specs.PlayerRuns.{OutputGrewBy}
-use Rattle.irig_scene.specs.Run.{IsOfOneLine, StoppedInLine, read_of, RanOn, AreBytesOf, RanShown}
+use Rattle.irig_scene.specs.Run.{AreTaken, IsOfOneLine, StoppedInLine, read_of, RanOn, AreBytesOf, RanShown}
 use Rattle.irig_scene.specs.LineRuns.{IsAt, ProcessedTo, RanRest, WrotePart, WroteRefusal, too_long, IsOfLine, EndsRun}
 use Rattle.irig_scene.proofs.SecondsPlayed.{nothing_grew, grew_on}
 use Rattle.irig_scene.proofs.LineLaws.{line_first, no_line, lines_after, Opens, opens}
@@ -35,6 +35,7 @@ pub record HasRun {P : Type 0} {g : Ghosts P} (shown : Shown) (player : Option (
   pub stands : IsAt shown player at
   pub past : List (List ℕ)
   pub whole : All HasNoNewline past
+  pub taken : (rest : List (List ℕ)) → AreTaken rest n at → AreTaken (past ++ rest) 1 None
   pub took : Consumes in0 in1 (unlines past)
   pub count : n ≡ length past + 1
   pub means : (rest : List (List ℕ)) → meaning_from (past ++ rest) 1 None ≡ meaning_from rest n at
@@ -47,6 +48,7 @@ has_begun shown in0 out0 =
       stands = tt;
       past = [];
       whole = search rules;
+      taken = λ rest more. more;
       took = Consumes-nil in0;
       count = refl;
       means = λ rest. refl;
@@ -65,6 +67,7 @@ goes_on shown was is in0 in1 in2 out0 out1 out2 n l run took h read =
       stands = took.stands;
       past = run.past ++ l ∷ [];
       whole = All-push HasNoNewline _ _ run.whole h;
+      taken = λ rest more. subst (λ ls. AreTaken ls 1 None) (sym (append_assoc run.past (l ∷ []) rest)) (run.taken (l ∷ rest) (took.refused, more));
       took = subst (Consumes in0 in2) (sym grown) (Consumes-trans in0 in1 in2 _ _ run.took read);
       count = omega (arith, run.count, length-append run.past (l ∷ []));
       means = λ rest. ap (λ ls. meaning_from ls 1 None) (append_assoc run.past (l ∷ []) rest) ∙ run.means (l ∷ rest) ∙ meaning_goes l rest n run.at took.refused;
@@ -121,14 +124,15 @@ reads_refused Read x read spelled n k is shown one = tt
 reads_refused Write x read spelled n k is shown one = one
 reads_refused Memory x read spelled n k is shown one = one
 
-stopped_in_line : (x rest : List ℕ) (shown : Shown) (was left out0 out1 out2 : Option (List ℕ)) (past : List (List ℕ)) (spelled : List ℕ) (at : Option Scene) (m : Meaning) → All HasNoNewline past → x ≡ (unlines past ++ spelled) ++ rest → Consumes was left (unlines past ++ spelled)
+stopped_in_line : (x rest : List ℕ) (shown : Shown) (was left out0 out1 out2 : Option (List ℕ)) (past : List (List ℕ)) (spelled : List ℕ) (at : Option Scene) (m : Meaning) → All HasNoNewline past → AreTaken past 1 None → x ≡ (unlines past ++ spelled) ++ rest → Consumes was left (unlines past ++ spelled)
     → OutputGrewBy shown None at out0 out1 → (meaning_of (unlines past)).scene ≡ at → WrotePart shown at m out1 out2 → IsOfOneLine spelled → StoppedInLine x shown was left out0 out2
-stopped_in_line x rest shown was left out0 out1 out2 past spelled at m lined of_bytes took grew means here one =
+stopped_in_line x rest shown was left out0 out1 out2 past spelled at m lined taken of_bytes took grew means here one =
     record {
       whole = past;
       part = spelled;
       rest = rest;
       lined = lined;
+      taken = taken;
       in_hand = one;
       of_bytes = of_bytes;
       read = took;
@@ -136,21 +140,21 @@ stopped_in_line x rest shown was left out0 out1 out2 past spelled at m lined of_
       wrote = Appends-trans out0 out1 out2 _ _ (subst (Appends out0 out1) (sym (ap (log_text shown) means ∙ grew.more)) grew.wrote) here.wrote.wrote;
     }
 
-conclude : (r : Result Outcome SceneFault) (x rest : List ℕ) (shown : Shown) (was left out0 out1 out2 : Option (List ℕ)) (past : List (List ℕ)) (spelled : List ℕ) (at : Option Scene) → All HasNoNewline past → x ≡ (unlines past ++ spelled) ++ rest → Consumes was left (unlines past ++ spelled)
+conclude : (r : Result Outcome SceneFault) (x rest : List ℕ) (shown : Shown) (was left out0 out1 out2 : Option (List ℕ)) (past : List (List ℕ)) (spelled : List ℕ) (at : Option Scene) → All HasNoNewline past → AreTaken past 1 None → x ≡ (unlines past ++ spelled) ++ rest → Consumes was left (unlines past ++ spelled)
     → OutputGrewBy shown None at out0 out1 → (meaning_of (unlines past)).scene ≡ at → RanRest r (meaning_of x) (length (lines x)) shown at out1 out2 → ReadsFor r x (unlines past ++ spelled) spelled → RanOn r x shown was left out0 out2
-conclude (Ok o) x rest shown was left out0 out1 out2 past spelled at lined of_bytes took grew means here reads =
+conclude (Ok o) x rest shown was left out0 out1 out2 past spelled at lined taken of_bytes took grew means here reads =
     let h = rest_on (Ok o) (meaning_of x) (length (lines x)) shown None at out0 out1 out2 grew here in
     (subst (Appends out0 out2) (sym h.1.is) h.1.wrote, h.0, subst (Consumes was left) (sym reads) took)
-conclude (Err (Refused line number)) x rest shown was left out0 out1 out2 past spelled at lined of_bytes took grew means here reads =
+conclude (Err (Refused line number)) x rest shown was left out0 out1 out2 past spelled at lined taken of_bytes took grew means here reads =
     let h = rest_on (Err (Refused line number)) (meaning_of x) (length (lines x)) shown None at out0 out1 out2 grew here in
     (subst (Appends out0 out2) (sym h.1.is) h.1.wrote, h.0, subst (Consumes was left) (sym reads) took)
-conclude (Err Read) x rest shown was left out0 out1 out2 past spelled at lined of_bytes took grew means here reads = absurd here
-conclude (Err Write) x rest shown was left out0 out1 out2 past spelled at lined of_bytes took grew means here reads =
+conclude (Err Read) x rest shown was left out0 out1 out2 past spelled at lined taken of_bytes took grew means here reads = absurd here
+conclude (Err Write) x rest shown was left out0 out1 out2 past spelled at lined taken of_bytes took grew means here reads =
     let h = rest_on (Err Write) (meaning_of x) (length (lines x)) shown None at out0 out1 out2 grew here in
-    (subst (AppendsPart out0 out2) (sym h.is) h.wrote, stopped_in_line x rest shown was left out0 out1 out2 past spelled at (meaning_of x) lined of_bytes took grew means here reads)
-conclude (Err Memory) x rest shown was left out0 out1 out2 past spelled at lined of_bytes took grew means here reads =
+    (subst (AppendsPart out0 out2) (sym h.is) h.wrote, stopped_in_line x rest shown was left out0 out1 out2 past spelled at (meaning_of x) lined taken of_bytes took grew means here reads)
+conclude (Err Memory) x rest shown was left out0 out1 out2 past spelled at lined taken of_bytes took grew means here reads =
     let h = rest_on (Err Memory) (meaning_of x) (length (lines x)) shown None at out0 out1 out2 grew here in
-    (subst (AppendsPart out0 out2) (sym h.is) h.wrote, stopped_in_line x rest shown was left out0 out1 out2 past spelled at (meaning_of x) lined of_bytes took grew means here reads)
+    (subst (AppendsPart out0 out2) (sym h.is) h.wrote, stopped_in_line x rest shown was left out0 out1 out2 past spelled at (meaning_of x) lined taken of_bytes took grew means here reads)
 
 module _ {P : Type 0} {g : Ghosts P} (shown : Shown) (player : Option (Player P g)) (in0 in1 out0 out1 : Option (List ℕ)) (n : ℕ) (run : HasRun shown player in0 in1 out0 out1 n) where
   -- the lines that are left mean what all of them mean
@@ -167,6 +171,9 @@ module _ {P : Type 0} {g : Ghosts P} (shown : Shown) (player : Option (Player P 
       let cut : lines (unlines run.past) ≡ run.past ++ [] = ap lines (sym (append-nil (unlines run.past))) ∙ lines_after run.past [] run.whole ∙ ap (λ more. run.past ++ more) no_line in
       ap (λ (m : Meaning). m.scene) (ap (λ ls. meaning_from ls 1 None) cut ∙ run.means [] ∙ meaning_ends n run.at) ∙ ended_scene n run.at
 
+  past_taken : AreTaken run.past 1 None
+  past_taken = subst (λ ls. AreTaken ls 1 None) (append-nil run.past) (run.taken [] tt)
+
   of_parts : (spelled rest y : List ℕ) → y ≡ spelled ++ rest → unlines run.past ++ y ≡ (unlines run.past ++ spelled) ++ rest
   of_parts spelled rest y begins = ap (λ y. unlines run.past ++ y) begins ∙ sym (append_assoc (unlines run.past) spelled rest)
 
@@ -181,7 +188,7 @@ module _ {P : Type 0} {g : Ghosts P} (shown : Shown) (player : Option (Player P 
       record {
         bytes = x;
         of_input = all_bytes in0 in1 (unlines run.past) y run.took of_y;
-        ran = conclude r x rest shown in0 in2 out0 out1 out2 run.past spelled run.at run.whole (of_parts spelled rest y begins) (Consumes-trans in0 in1 in2 _ _ run.took took) run.grew past_scene
+        ran = conclude r x rest shown in0 in2 out0 out1 out2 run.past spelled run.at run.whole past_taken (of_parts spelled rest y begins) (Consumes-trans in0 in1 in2 _ _ run.took took) run.grew past_scene
             (subst (λ (w : Meaning). RanRest r w (length (lines x)) shown run.at out1 out2) (sym (left_means y)) counted) reads;
       }
 
@@ -285,6 +292,7 @@ module _ {P : Type 0} {g : Ghosts P} (shown : Shown) (player : Option (Player P 
             part = got.part;
             rest = known.0;
             lined = run.whole;
+            taken = past_taken;
             unlined = got.whole;
             of_bytes = of_parts got.part known.0 (got.part ++ known.0) refl;
             read = Consumes-trans in0 in1 in2 _ _ run.took got.taken;

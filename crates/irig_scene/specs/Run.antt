@@ -1,6 +1,6 @@
 -- A run: its answer, how much of the input was read, and by how much the output grew.
 -- Source: docs/OUTPUT.md; this project's profile.
-use Rattle.std.specs.Prelude.{◌≡◌, ℕ, Bool, List, [], ◌∷◌, ◌++◌, length, Option, Some, None, Result, Ok, Err, ⊤, ◌⊎◌, All}
+use Rattle.std.specs.Prelude.{◌≡◌, ℕ, ◌+◌, Bool, List, [], ◌∷◌, ◌++◌, length, Option, Some, None, Result, Ok, Err, ⊤, ◌⊎◌, All}
 use Rattle.std.specs.Io.KnownBytes.{Appends, Consumes}
 use Rattle.irig_scene.specs.declared.outcome.Outcome.{Outcome}
 use Rattle.irig_scene.specs.declared.fault.SceneFault.{SceneFault}
@@ -11,7 +11,7 @@ use Rattle.irig_device.specs.Watched.{AppendsPart}
 use Rattle.irig_device.specs.Lines.{Bytes, HasNoNewline}
 use Rattle.irig_scene.specs.Lines.{lines, unlines, shown_by}
 use Rattle.irig_log_text.specs.declared.shown.Shown.{Shown}
-use Rattle.irig_scene.specs.Scene.{Scene, Meaning, Refused as RefusedLine, meaning_of, log_text, output_shown, audit_in, refusal_at}
+use Rattle.irig_scene.specs.Scene.{Scene, step, Meaning, Refused as RefusedLine, meaning_of, log_text, output_shown, audit_in, refusal_at}
 use Rattle.irig_log_text.specs.Text.{entries_alone}
 
 -- ---- the whole run
@@ -30,12 +30,20 @@ pub record IsRefused (m : Meaning) (line number : ℕ) : Type 0 where
   pub first : m.refused ≡ Some (refusal_at line refusal)
   pub numbered : number ≡ number_of refusal
 
--- after a failed read: the whole lines of x before the failure, and the log of what they mean
+-- none of these lines is refused, from number n on after some scene
+abbrev pub AreTaken : List (List ℕ) → ℕ → Option Scene → Type 0
+AreTaken [] n at = ⊤
+AreTaken (line ∷ lines) n at =
+    ((step n at line).refusal ≡ None) × AreTaken lines (n + 1) (step n at line).scene
+
+-- after a failed read: the whole lines of x before the failure, none of which is refused, and the
+-- log of what they mean
 pub record StoppedReading (x : List ℕ) (shown : Shown) (was left old new : Bytes) : Type 0 where
   pub whole : List (List ℕ)
   pub part : List ℕ
   pub rest : List ℕ
   pub lined : All HasNoNewline whole
+  pub taken : AreTaken whole 1 None
   pub unlined : HasNoNewline part
   pub of_bytes : x ≡ (unlines whole ++ part) ++ rest
   pub read : Consumes was left (unlines whole ++ part)
@@ -47,13 +55,14 @@ pub record IsOfOneLine (part : List ℕ) : Type 0 where
   pub unlined : HasNoNewline line
   pub is : (part ≡ line) ⊎ (part ≡ line ++ 10 ∷ [])
 
--- stopped in a line of x that is in hand: nothing after it was read, and the log of what the lines
--- before it mean was written whole
+-- stopped in a line of x that is in hand: none before it is refused, nothing after it was read, and
+-- the log of what the lines before it mean was written whole
 pub record StoppedInLine (x : List ℕ) (shown : Shown) (was left old new : Bytes) : Type 0 where
   pub whole : List (List ℕ)
   pub part : List ℕ
   pub rest : List ℕ
   pub lined : All HasNoNewline whole
+  pub taken : AreTaken whole 1 None
   pub in_hand : IsOfOneLine part
   pub of_bytes : x ≡ (unlines whole ++ part) ++ rest
   pub read : Consumes was left (unlines whole ++ part)

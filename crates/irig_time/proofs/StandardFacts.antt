@@ -8,8 +8,8 @@ use Rattle.irig_time.specs.declared.rules.Sense.TheVariants.{Add}
 use Rattle.irig_time.specs.declared.rules.SbsUse.TheVariants.{Check}
 use Rattle.irig_time.specs.declared.rules.TheConstants.Rules.{PLAIN}
 use Rattle.irig_time.specs.declared.second.TheConstants.{FIRST_DAY, LAST_DAY}
-use Rattle.irig_time.specs.Days.{day_number, year_length, IsMonthEnd, is_month_end}
-use Rattle.irig_time.proofs.MonthEnds.{month_end_before, month_end_served}
+use Rattle.irig_time.specs.Days.{day_number, year_length, IsMonthEnd, four_years, is_month_end}
+use Rattle.irig_time.proofs.MonthEnds.{month_end_served}
 use Rattle.irig_time.specs.Seconds.{minute_of, second_of}
 use Rattle.irig_time.specs.Texts.{date_text, time_text}
 use Rattle.irig_control.specs.declared.control.Control.{Control}
@@ -57,12 +57,18 @@ month_end_6209 = (pos 2017, 1, (((omega arith, omega arith), (omega arith, omega
 -- the test says so, and so of 2000-01-31; it says of 2099-12-31, which isn't served, that it ends
 -- none
 pub known_month_end : is_month_end 6209 ≡ true
-unfolding days_from_civil day_count days_of_years days_of_months
-known_month_end = month_end_before 6209 2017 1 (omega arith) (omega arith) (omega arith) (omega arith) refl
+unfolding is_month_end four_years
+known_month_end = refl
 
 pub known_first_end : is_month_end 30 ≡ true
-unfolding is_month_end days_from_civil day_count days_of_years days_of_months
+unfolding is_month_end four_years
 known_first_end = refl
+
+-- February of 2000 and of 2016 has 29 days, that of 2001 and of 2099 has 28; and the last month that
+-- is served ends with 2099-11-30
+pub known_februaries : map is_month_end (58 ∷ 59 ∷ 424 ∷ 425 ∷ 5902 ∷ 5903 ∷ 36218 ∷ 36219 ∷ 36493 ∷ []) ≡ false ∷ true ∷ true ∷ false ∷ false ∷ true ∷ true ∷ false ∷ true ∷ []
+unfolding is_month_end four_years
+known_februaries = refl
 
 pub known_last_end : ¬ (is_month_end 36524 ≡ true)
 known_last_end h = omega (arith, month_end_served 36524 h)

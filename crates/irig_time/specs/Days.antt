@@ -1,9 +1,8 @@
 -- Days, counted from 2000-01-01, which is day 0 here and day 10957 from 1970-01-01; and their
 -- dates.
 -- Source: the Gregorian calendar from 2000 to 2099; the dates of days are those of jiff_core.
-use Rattle.std.specs.Prelude.{◌≡◌, ℕ, ◌+◌, ◌-◌, ◌*◌, ◌/◌, ◌%◌, ◌==◌, if◌then◌else◌, Bool, ℤ, pos}
-use Rattle.std.specs.Ordering.{int_eq}
-use Rattle.std.specs.List.{list_any, range_with_len}
+use Rattle.std.specs.Prelude.{◌≡◌, ℕ, ◌+◌, ◌-◌, ◌*◌, ◌/◌, ◌%◌, ◌==◌, ◌&&◌, ◌||◌, nat_le, nat_lt, if◌then◌else◌, Bool, false, ℤ, pos, List, [], ◌∷◌, ◌++◌}
+use Rattle.irig_time.specs.declared.second.TheConstants.{LAST_DAY}
 use Rattle.jiff_core.specs.Calendar.{days_from_civil, IsCivilDate}
 
 -- the number of a day by its year from 2000 and its place in the year, from 1
@@ -22,12 +21,21 @@ IsDateOf day y m d = IsCivilDate y m d × (days_from_civil y m d ≡ pos (day + 
 abbrev pub IsMonthEnd : ℕ → Type 0
 IsMonthEnd day = (y : ℤ) × (m : ℕ) × IsDateOf (day + 1) y m 1
 
--- whether this month of the year begins on the day
-abbrev pub begins_on : ℕ → ℕ → ℕ → Bool
-begins_on day year month = int_eq (days_from_civil (pos year) month 1) (pos (day + 10957))
+-- the days of the months of a year, by those of its February
+abbrev pub months_with : ℕ → List ℕ
+months_with february =
+    31 ∷ february ∷ 31 ∷ 30 ∷ 31 ∷ 30 ∷ 31 ∷ 31 ∷ 30 ∷ 31 ∷ 30 ∷ 31 ∷ []
 
--- the same as a test: some month from 2000 to 2099 begins on the next day
+-- those of four years from a leap year on: from 2000 to 2099 every fourth year is one
+unfoldable pub four_years : List ℕ
+four_years = months_with 29 ++ (months_with 28 ++ (months_with 28 ++ months_with 28))
+
+-- whether one of these months ends with the day, the first day of the first month being day 1
+abbrev pub ends_one : ℕ → List ℕ → Bool
+ends_one day [] = false
+ends_one day (month ∷ months) =
+    day == month || (nat_lt month day && ends_one (day - month) months)
+
+-- the same as a test, of the days served: four years have 1461 days
 unfoldable pub is_month_end : ℕ → Bool
-is_month_end day =
-    list_any (λ year. list_any (begins_on (day + 1) year) (range_with_len 1 12))
-    (range_with_len 2000 100)
+is_month_end day = nat_le day LAST_DAY && ends_one (day % 1461 + 1) four_years

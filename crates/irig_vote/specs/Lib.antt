@@ -1,1 +1,2 @@
 pub mod Vote
+pub mod Counts

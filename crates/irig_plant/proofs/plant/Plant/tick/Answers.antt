@@ -10,6 +10,7 @@ use Rattle.irig_plant.specs.Sound.{IsSound}
 use Rattle.irig_plant.specs.Schedule.{ticks_of, history_of, entry_of, log_of, told_log_of, told_entry_of}
 use Rattle.irig_plant.specs.Audits.{tick_of_reader, is_broken_now, first_false, first_broken}
 use Rattle.irig_plant.specs.History.{IsTickedReaderAt}
+use Rattle.irig_plant.proofs.HeadlineVotes.{ports_told}
 use Rattle.irig_plant.proofs.ListLaws.{drop-push}
 use Rattle.irig_plant.proofs.ToldLaws.{told_length, one_kept, claimed_after}
 use Rattle.irig_plant.proofs.StepLaws.{set_reader, cached_port_after, tick_other, tick_here, audit_tick}
@@ -90,5 +91,5 @@ returns-clause-stands g c = λ h p.
       few = omega (arith, p.few, length-append (log_of s ev) (entry_of s r ev ∷ []));
       is_kept = c.push.ensures.kept ∙ c.reserve-2.ensures.kept ∙ p.is_kept;
       told = c.push.ensures.pushed ∙ rw (c.reserve-2.ensures.kept, c.reserve-2.ensures.same, p.is_kept, p.told, truth, told, p.redundancy) (one_kept h.keeps_told h.shown (told_log_of s ev) (told_entry_of s r ev) (omega (arith, p.few, told_length s ev)));
-      audit = c.audit_after-self.ensures ∙ rw (p.audit, truth, told, p.redundancy, first.ticked) (audit_tick (first_false s.times 0 s.readers) (first_broken s ev) (tick_of_reader r (ticks_of r ev + 1)) (is_broken_now s r ev));
+      audit = c.audit_after-self.ensures ∙ rw (p.audit, truth, told, p.redundancy, first.ticked, ports_told s r ev) (audit_tick (first_false s.times 0 s.readers) (first_broken s ev) (tick_of_reader r (ticks_of r ev + 1)) (is_broken_now s r ev));
     }

@@ -1,0 +1,54 @@
+-- An edge is clean by what the ports tell exactly if it is by what they heard.
+use Rattle.std.proofs.Common.{◌≡◌, ◌↔◌, ℕ, ◌+◌, ◌<◌, ◌≤◌, true, map, refl, ap, ◌∙◌, arith}
+use Rattle.std.specs.List.{range_with_len}
+use Rattle.irig_time.specs.declared.claim.Claim.{Claim}
+use Rattle.irig_time.specs.Timelines.{TimelineValue}
+use Rattle.irig_time.proofs.SecondAt.{claim_is}
+use Rattle.irig_port.specs.declared.told.Told.{Told}
+use Rattle.irig_port.specs.Heard.{symbols_of}
+use Rattle.irig_port.specs.Told.{told_of_widths}
+use Rattle.irig_port.proofs.CarriesLaws.{carries_is_told}
+use Rattle.irig_vote.specs.declared.redundancy.Redundancy.{Redundancy}
+use Rattle.irig_vote.specs.declared.redundancy.Redundancy.TheVariants.{Three, Five}
+use Rattle.irig_vote.specs.declared.votes.Tells.{Tells}
+use Rattle.irig_vote.specs.Vote.{f_of, ports_in, ports_of, is_told, carriers}
+use Rattle.irig_vote.specs.Counts.{AtLeast}
+use Rattle.irig_vote.proofs.CountLaws.{told_is, same_itself}
+use Rattle.irig_vote.proofs.NumberedLaws.{count_from, at_least}
+use Rattle.irig_reader.specs.History.{ReaderHistory, fed_to, told_at_tick}
+use Rattle.irig_reader.specs.Clean.{IsClean, IsCarrier, HaveHeardCleanly}
+
+-- what five ports tell, by their numbers
+abbrev pub tells_from : (ℕ → Told) → Tells
+tells_from tell = record { a = tell 0; b = tell 1; c = tell 2; d = tell 3; e = tell 4 }
+
+pub ports_are : (tell : ℕ → Told) (redundancy : Redundancy) → ports_of (tells_from tell) redundancy ≡ map tell (range_with_len 0 (ports_in redundancy))
+ports_are tell Three = refl
+ports_are tell Five = refl
+
+module _ (h : ReaderHistory) (c : Claim) where
+  abbrev tell : ℕ → Told
+  tell p = told_of_widths h.rules (fed_to h.fed p)
+
+  abbrev Carrier : ℕ → Type 0
+  Carrier = IsCarrier h.rules h.redundancy (fed_to h.fed) c
+
+  carrier_tells : (p : ℕ) → Carrier p → (p < ports_in h.redundancy) × (is_told c (tell p) ≡ true)
+  carrier_tells p is = (is.is_port, ap (is_told c) ((carries_is_told h.rules (symbols_of (fed_to h.fed p)) c).1 is.carries) ∙ same_itself c)
+
+  is_carrier : (p : ℕ) → p < ports_in h.redundancy → is_told c (tell p) ≡ true → Carrier p
+  is_carrier p low told = record { is_port = low; carries = (carries_is_told h.rules (symbols_of (fed_to h.fed p)) c).0 (told_is c (tell p) told) }
+
+  counted : carriers c (ports_of (told_at_tick h) h.redundancy) ≡ count_from (is_told c) tell 0 (ports_in h.redundancy)
+  counted = ap (carriers c) (ports_are tell h.redundancy)
+
+  pub enough_carry : (enough : ℕ) → (enough ≤ carriers c (ports_of (told_at_tick h) h.redundancy)) ↔ AtLeast enough Carrier
+  enough_carry enough =
+      let counts = at_least (is_told c) tell Carrier (ports_in h.redundancy) carrier_tells is_carrier enough in
+      (λ many. counts.0 (omega (arith, many, counted)), λ many. omega (arith, counts.1 many, counted))
+
+pub clean_hearing : (t : TimelineValue) (n : ℕ) (h : ReaderHistory) → IsClean t n (told_at_tick h) h.redundancy ↔ HaveHeardCleanly t n h.rules h.redundancy (fed_to h.fed)
+clean_hearing t n h = (
+  λ clean. record { no_other = λ c many. (claim_is t n c).0 (clean.no_other c ((enough_carry h c (f_of h.redundancy + 1)).1 many)) },
+  λ heard. record { no_other = λ c many. (claim_is t n c).1 (heard.no_other c ((enough_carry h c (f_of h.redundancy + 1)).0 many)) },
+)
