@@ -17,6 +17,8 @@ pub mod TickLaws
 pub mod CourseLaws
 pub mod Standing
 pub mod ExactLaws
+pub mod NumberedCounts
+pub mod OwnEdge
 pub mod HealthLaws
 pub mod DamageLaws
 pub mod HearingLaws
