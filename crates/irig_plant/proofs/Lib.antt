@@ -19,6 +19,8 @@ pub mod Standing
 pub mod ExactLaws
 pub mod NumberedCounts
 pub mod OwnEdge
+pub mod LastVotes
+pub mod HealingLaws
 pub mod HealthLaws
 pub mod DamageLaws
 pub mod HearingLaws

@@ -20,3 +20,4 @@ pub mod Misled
 pub mod WholeSecond
 pub mod HealthyPlant
 pub mod OwnEdge
+pub mod Healing

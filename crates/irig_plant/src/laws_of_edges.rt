@@ -1,15 +1,21 @@
 //! Laws of what an entry owes to the ports of its reader at its own tick and since its last vote:
 //! what it costs to mislead a reader, and how one heals. They have no code.
 
-ghost use Rattle.std.specs.Prelude.{◌≡◌, ◌+◌, ◌↔◌, false, ℕ, List, All};
+ghost use Rattle.std.specs.Prelude.{◌≡◌, ◌+◌, ◌<◌, ◌≤◌, ◌↔◌, false, ℕ, List, All};
+ghost use Rattle.std.specs.List.{Contains};
 ghost use Rattle.irig_time.specs.Timelines.{IsTrueClaim};
 ghost use Rattle.irig_time.specs.TimelineFaults.{IsTimeline};
-ghost use Rattle.irig_plant.specs.Schedule.{Setup, ticks_of, log_of};
+ghost use Rattle.irig_plant.specs.Schedule.{Setup, setup_at, ticks_of, log_of};
 ghost use Rattle.irig_plant.specs.Audits.{is_broken_now};
 ghost use Rattle.irig_plant.specs.Ports.{AtLeast, f_in, HasHeard};
+ghost use Rattle.irig_plant.specs.Premises.{IsKeptUpTo};
+ghost use Rattle.irig_plant.specs.Truth.{IsTruthful};
 ghost use Rattle.irig_plant.specs.OwnEdge.{IsCleanNow, IsTrueByItsEdge, HasItsMajority};
+ghost use Rattle.irig_plant.specs.Healing.{HasVoteAt, RestsOnAVote, RestsOnItsMajority, IsCleanBetween, IsCleanSince, IsTrueIfClean};
 
+use crate::entry::Entry;
 use crate::event::Event;
+use irig_reader::Cause;
 use irig_time::Claim;
 
 /// A tick is clean exactly if each claim that f + 1 ports of the reader heard is true there.
@@ -36,4 +42,45 @@ pub fn entries_stand_on_their_own_edge()
 pub fn false_votes_have_their_majority()
     ensures { (s : Setup) (ev : List Event) → IsTimeline s.times
         → All (HasItsMajority s ev) (log_of s ev) }
+{}
+
+/// What is announced rests on the last vote, whatever is true: that of the very edge, or held since
+/// for as many edges as the lock says, and at most for `holdover`.
+pub fn announcements_rest_on_a_vote()
+    ensures rests { (s : Setup) (ev : List Event) → All (RestsOnAVote s ev) (log_of s ev) }
+    // An entry by a vote has one at its edge.
+    ensures voted { (s : Setup) (ev : List Event) (e : Entry) → Contains (log_of s ev) e
+        → e.report.cause ≡ Cause.Voted → HasVoteAt s e.reader e.edge ev }
+{}
+
+/// A false second has its majority, be it voted or held: if a reader with a true table announces
+/// what is not the second of its edge, then at the tick of the vote on which that rests f + 1 ports
+/// heard what carries one and the same claim, and it was not true there.
+pub fn false_seconds_have_their_majority()
+    ensures { (s : Setup) (ev : List Event) → IsTimeline s.times
+        → All (RestsOnItsMajority s ev) (log_of s ev) }
+{}
+
+/// A misled reader heals by itself. Let its table be true, and all its ticks clean after its m-th.
+pub fn misled_readers_heal()
+    // If an entry is false after that, it is held, and lies at most `holdover` edges further.
+    ensures held { (s : Setup) (m : ℕ) (ev : List Event) (e : Entry) → IsCleanSince s m ev e
+        → ¬ IsTruthful s.times e → (e.report.cause ≡ Cause.Held)
+        × (e.edge ≤ m + (setup_at s.readers e.reader).rules.holdover) }
+    // So each entry that lies further announces the second of its edge, or nothing.
+    ensures over { (s : Setup) (m : ℕ) (ev : List Event) (e : Entry) → IsCleanSince s m ev e
+        → m + (setup_at s.readers e.reader).rules.holdover < e.edge → IsTruthful s.times e }
+    // And so does each one from the first vote on.
+    ensures healed { (s : Setup) (m k : ℕ) (ev : List Event) (e : Entry) → IsCleanSince s m ev e
+        → HasVoteAt s e.reader k ev → m < k → k ≤ e.edge → IsTruthful s.times e }
+{}
+
+/// Clean ticks are enough for the headline: an entry announces the second of its edge, or nothing,
+/// if its reader's table is true and all its ticks so far were clean.
+pub fn clean_ticks_are_enough()
+    ensures entries { (s : Setup) (ev : List Event) → IsTimeline s.times
+        → All (IsTrueIfClean s ev) (log_of s ev) }
+    // The premise of the headline asks for more.
+    ensures kept { (s : Setup) (r n : ℕ) (ev : List Event) → IsKeptUpTo s r n ev
+        → IsCleanBetween s r 0 n ev }
 {}

@@ -35,7 +35,9 @@ pub use laws::{
     votes_are_at_voted_edges, votes_are_true,
 };
 pub use laws_of_edges::{
-    clean_ports, entries_stand_on_their_own_edge, false_votes_have_their_majority,
+    announcements_rest_on_a_vote, clean_ports, clean_ticks_are_enough,
+    entries_stand_on_their_own_edge, false_seconds_have_their_majority,
+    false_votes_have_their_majority, misled_readers_heal,
 };
 pub use plant::Plant;
 pub use setup::ReaderSetup;
