@@ -1,7 +1,7 @@
 -- What is announced rests on the last vote: so a false second has its false majority there, and a
 -- reader heals whose ticks are clean again.
-use Rattle.std.proofs.Common.{◌≡◌, ℕ, ◌+◌, ◌<◌, ◌≤◌, List, [], ◌∷◌, ◌++◌, All, length, Option, Some, None, refl, sym, ap, subst, ◌∙◌, arith, inl, inr}
-use Rattle.std.proofs.lemmas.Bool.{eq-eqb, cases_lt}
+use Rattle.std.proofs.Common.{false, ◌≡◌, ℕ, ◌+◌, ◌<◌, ◌≤◌, List, [], ◌∷◌, ◌++◌, All, length, Option, Some, None, refl, sym, ap, subst, ◌∙◌, arith, inl, inr}
+use Rattle.std.proofs.lemmas.Bool.{eq-eqb, cases_Bool, cases_lt}
 use Rattle.std.proofs.lemmas.List.{append_assoc}
 use Rattle.std.proofs.lemmas.List.Elements.{All-contains}
 use Rattle.irig_time.specs.declared.second.UtcSecond.{UtcSecond}
@@ -26,15 +26,16 @@ use Rattle.irig_reader.specs.History.{told_at_tick, vote_at_tick}
 use Rattle.irig_reader.proofs.OneEdge.{IsVotedBy, voted_by_ports, holdover_within}
 use Rattle.irig_reader.proofs.HeldEdges.{held_since, held_is_true}
 use Rattle.irig_plant.specs.declared.event.Event.{Event}
-use Rattle.irig_plant.specs.declared.event.Event.TheVariants.{Tick}
+use Rattle.irig_plant.specs.declared.event.Event.TheVariants.{Tick, Restart}
 use Rattle.irig_plant.specs.declared.entry.Entry.{Entry}
 use Rattle.irig_plant.specs.Schedule.{Setup, setup_at, ticks_of, votes_of, history_of, entry_of, log_of}
 use Rattle.irig_plant.specs.Premises.{IsKeptUpTo}
+use Rattle.irig_plant.specs.Edges.{is_restarted, IsRestarted}
 use Rattle.irig_plant.specs.Truth.{IsTruthful}
 use Rattle.irig_plant.specs.OwnEdge.{IsCleanNow, HasFalseMajority}
 use Rattle.irig_plant.specs.Healing.{HasVoteAt, RestsOn, RestsOnAVote, RestsOnItsMajority, IsCleanBetween, IsCleanSince, IsTrueIfClean}
-use Rattle.irig_plant.proofs.CourseLaws.{ticks_grow, ticks_now}
-use Rattle.irig_plant.proofs.LastVotes.{IsVoteBack, vote_back, none_since, marked_late, IsVotedNow, IsHeldNow, vote_says, none_says, none_not_voted}
+use Rattle.irig_plant.proofs.CourseLaws.{ticks_grow, ticks_now, restarted_by_test}
+use Rattle.irig_plant.proofs.LastVotes.{IsVoteBack, vote_back, none_since, unbroken_since, marked_late, IsVotedNow, IsHeldNow, vote_says, none_says, none_not_voted}
 use Rattle.irig_plant.proofs.OwnEdge.{claim_heard, kept_is_clean, false_second}
 use Rattle.irig_plant.proofs.ExactLaws.{log_at}
 
@@ -115,15 +116,15 @@ module _ (s : Setup) (r : ℕ) (ev : List Event) where
 
 -- ---- entries
 
--- an earlier tick is one of the events before
-split_within : (r : ℕ) (later ev l e : List Event) → later ++ (Tick r ∷ ev) ≡ l ++ (Tick r ∷ e) → ticks_of r e ≤ ticks_of r ev → (m : List Event) × (Tick r ∷ ev ≡ m ++ (Tick r ∷ e))
-split_within r [] ev l e is low = (l, is)
-split_within r (x ∷ later) ev [] e is low =
+-- what comes before the next tick is one of the events before
+split_within : (r : ℕ) (x : Event) (later ev l e : List Event) → later ++ (Tick r ∷ ev) ≡ l ++ (x ∷ e) → ticks_of r e ≤ ticks_of r ev → (m : List Event) × (Tick r ∷ ev ≡ m ++ (x ∷ e))
+split_within r x [] ev l e is low = (l, is)
+split_within r x (y ∷ later) ev [] e is low =
     let rest : later ++ (Tick r ∷ ev) ≡ e = cc in
     absurd (omega (arith, low, ap (ticks_of r) rest, ticks_grow r later (Tick r ∷ ev), ticks_now r ev))
-split_within r (x ∷ later) ev (y ∷ l) e is low =
-    let rest : later ++ (Tick r ∷ ev) ≡ l ++ (Tick r ∷ e) = cc in
-    split_within r later ev l e rest low
+split_within r x (y ∷ later) ev (z ∷ l) e is low =
+    let rest : later ++ (Tick r ∷ ev) ≡ l ++ (x ∷ e) = cc in
+    split_within r x later ev l e rest low
 
 -- the tick of the vote on which an entry rests
 pub record IsTraced (s : Setup) (ev : List Event) (e : Entry) (u : UtcSecond) : Type 0 where
@@ -138,10 +139,23 @@ pub record IsTraced (s : Setup) (ev : List Event) (e : Entry) (u : UtcSecond) : 
 none_later : (s : Setup) (all : List Event) (r age k j : ℕ) (later ev : List Event) (c : Claim) (votes : List (Option Claim)) → all ≡ later ++ (Tick r ∷ ev) → votes_of s r (Tick r ∷ ev) ≡ then_none age (Some c ∷ votes)
     → k + age ≡ ticks_of r ev + 1 → HasVoteAt s r j all → j ≤ ticks_of r ev + 1 → j ≤ k
 none_later s all r age k j later ev c votes is are back h low =
-    let part = split_within r later ev h.later h.earlier (sym is ∙ h.tick) (omega (arith, low, h.edge)) in
+    let part = split_within r (Tick r) later ev h.later h.earlier (sym is ∙ h.tick) (omega (arith, low, h.edge)) in
     let since : ticks_of r h.earlier + 1 + age ≤ ticks_of r (part.0 ++ (Tick r ∷ h.earlier)) =
     none_since s r age part.0 h.earlier c h.claim votes (subst (λ (es : List Event). votes_of s r es ≡ then_none age (Some c ∷ votes)) part.1 are) h.vote in
     omega (arith, since, ap (ticks_of r) part.1, ticks_now r ev, back, h.edge)
+
+none_restarted : (s : Setup) (all : List Event) (r age k i : ℕ) (later ev : List Event) (c : Claim) (votes : List (Option Claim)) → all ≡ later ++ (Tick r ∷ ev) → votes_of s r (Tick r ∷ ev) ≡ then_none age (Some c ∷ votes)
+    → k + age ≡ ticks_of r ev + 1 → k ≤ i → i < ticks_of r ev + 1 → is_restarted r all i ≡ false
+none_restarted s all r age k i later ev c votes is are back from low =
+    elim (cases_Bool (is_restarted r all i)) [
+      | inl broken ↦
+          let h : IsRestarted r all i = restarted_by_test r all i broken in
+          let part = split_within r (Restart r) later ev h.later h.earlier (sym is ∙ h.restart) (omega (arith, low, h.edge)) in
+          let since : ticks_of r h.earlier + age < ticks_of r (part.0 ++ (Restart r ∷ h.earlier)) =
+          unbroken_since s r age part.0 h.earlier c votes (subst (λ (es : List Event). votes_of s r es ≡ then_none age (Some c ∷ votes)) part.1 are) in
+          absurd (omega (arith, since, ap (ticks_of r) part.1, ticks_now r ev, back, from, h.edge))
+      | inr unbroken ↦ unbroken
+    ]
 
 traced_by : (s : Setup) (all : List Event) (r : ℕ) (later ev : List Event) → all ≡ later ++ (Tick r ∷ ev) → (u : UtcSecond) (by : IsByVote s r ev u) → votes_of s r (Tick r ∷ ev) ≡ then_none by.age (Some by.claim ∷ by.votes)
     → IsVoteBack s r by.age (Tick r ∷ ev) by.claim by.votes → IsTraced s all (entry_of s r ev) u
@@ -157,6 +171,7 @@ traced_by s all r later ev is u by are at =
       rests = record {
         vote = record { later = later ++ at.later; earlier = at.earlier; tick = tick; edge = refl; claim = by.claim; vote = at.vote };
         last = λ j h low. none_later s all r by.age (ticks_of r at.earlier + 1) j later ev by.claim by.votes is are back h low;
+        unbroken = λ i from low. none_restarted s all r by.age (ticks_of r at.earlier + 1) i later ev by.claim by.votes is are back from low;
         age = by.age;
         back = back;
         near = by.near;

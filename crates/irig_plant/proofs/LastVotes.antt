@@ -1,5 +1,5 @@
 -- Where the last vote of a reader lies among its events, and what is announced by it.
-use Rattle.std.proofs.Common.{◌≡◌, ◌==◌, ℕ, zero, suc, ◌+◌, ◌≤◌, Bool, true, false, cond, List, [], ◌∷◌, ◌++◌, Option, Some, None, Result, Ok, Err, refl, sym, ap, ◌∙◌, arith, inl, inr, eqb-true}
+use Rattle.std.proofs.Common.{length, ◌<◌, ◌≡◌, ◌==◌, ℕ, zero, suc, ◌+◌, ◌≤◌, Bool, true, false, cond, List, [], ◌∷◌, ◌++◌, Option, Some, None, Result, Ok, Err, refl, sym, ap, ◌∙◌, arith, inl, inr, eqb-true}
 use Rattle.std.proofs.lemmas.Bool.{cases_Bool, eq-eqb}
 use Rattle.irig_time.specs.declared.second.UtcSecond.{UtcSecond}
 use Rattle.irig_time.specs.declared.claim.Claim.{Claim}
@@ -107,6 +107,28 @@ none_since s r age (Restart x ∷ later) ev c d votes is vote =
       | inr other ↦ none_since s r age later ev c d votes (rw other at is) vote
     ]
 none_since s r age (e ∷ later) ev c d votes is vote = none_since s r age later ev c d votes is vote
+
+-- nor a restart: there are no more votes than ticks after one
+after_restart : (s : Setup) (r : ℕ) (later ev : List Event) → length (votes_of s r (later ++ (Restart r ∷ ev))) + ticks_of r ev ≤ ticks_of r (later ++ (Restart r ∷ ev))
+after_restart s r [] ev = rw (eq-eqb r r refl) (omega arith)
+after_restart s r (Tick x ∷ later) ev =
+    elim (cases_Bool (x == r)) [
+      | inl here ↦ rw here (omega (arith, after_restart s r later ev))
+      | inr other ↦ rw other (after_restart s r later ev)
+    ]
+after_restart s r (Restart x ∷ later) ev =
+    elim (cases_Bool (x == r)) [
+      | inl here ↦ rw here (omega (arith, ticks_grow r later (Restart r ∷ ev)))
+      | inr other ↦ rw other (after_restart s r later ev)
+    ]
+after_restart s r (e ∷ later) ev = after_restart s r later ev
+
+so_long : (age : ℕ) (c : Claim) (votes : List (Option Claim)) → age < length (then_none age (Some c ∷ votes))
+so_long zero c votes = omega arith
+so_long (suc age) c votes = omega (arith, so_long age c votes)
+
+pub unbroken_since : (s : Setup) (r age : ℕ) (later ev : List Event) (c : Claim) (votes : List (Option Claim)) → votes_of s r (later ++ (Restart r ∷ ev)) ≡ then_none age (Some c ∷ votes) → ticks_of r ev + age < ticks_of r (later ++ (Restart r ∷ ev))
+unbroken_since s r age later ev c votes is = omega (arith, after_restart s r later ev, ap (λ (vs : List (Option Claim)). length vs) is, so_long age c votes)
 
 -- votes speak of a leap in a month's last minute alone
 pub marked_late : (s : Setup) (r : ℕ) (ev : List Event) → AreMarkedLate (votes_of s r ev)

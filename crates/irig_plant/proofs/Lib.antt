@@ -28,6 +28,8 @@ pub mod SteadyLaws
 pub mod RangeLaws
 pub mod StandardFacts
 pub mod HeadlineFacts
+pub mod HealingPlant
+pub mod HealingFacts
 pub mod DamageFacts
 pub mod NoonPlants
 pub mod LeapPlant

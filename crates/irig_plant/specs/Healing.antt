@@ -1,6 +1,6 @@
 -- What an announced second rests on, and how a reader heals that was misled.
 -- Source: docs/HEADLINE.md; this project's profile.
-use Rattle.std.specs.Prelude.{◌≡◌, ℕ, ◌+◌, ◌<◌, ◌≤◌, List, ◌∷◌, ◌++◌, Some}
+use Rattle.std.specs.Prelude.{◌≡◌, ℕ, ◌+◌, ◌<◌, ◌≤◌, false, List, [], ◌∷◌, ◌++◌, Some}
 use Rattle.std.specs.List.{Contains}
 use Rattle.irig_time.specs.declared.second.UtcSecond.{UtcSecond}
 use Rattle.irig_time.specs.declared.claim.Claim.{Claim}
@@ -13,7 +13,10 @@ use Rattle.irig_plant.specs.declared.event.Event.{Event}
 use Rattle.irig_plant.specs.declared.event.Event.TheVariants.{Tick}
 use Rattle.irig_plant.specs.declared.entry.Entry.{Entry}
 use Rattle.irig_plant.specs.Schedule.{Setup, setup_at, ticks_of, history_of, log_of}
+use Rattle.irig_plant.specs.Edges.{is_restarted}
 use Rattle.irig_plant.specs.Truth.{IsTruthful}
+use Rattle.irig_plant.specs.Runs.{events_after}
+use Rattle.irig_plant.specs.Misled.{Takes}
 use Rattle.irig_plant.specs.OwnEdge.{IsCleanNow, HasFalseMajority}
 
 -- ---- what a second rests on
@@ -28,10 +31,11 @@ pub record HasVoteAt (s : Setup) (r k : ℕ) (ev : List Event) : Type 0 where
   pub vote : vote_at_tick (history_of s r earlier) ≡ Some claim
 
 -- an entry rests on the vote of edge k: its reader's last one up to the entry, at most `holdover`
--- edges back; it is locked by that vote, or has held over since
+-- edges back, with no restart since; it is locked by that vote, or has held over since
 pub record RestsOn (s : Setup) (ev : List Event) (e : Entry) (k : ℕ) : Type 0 where
   pub vote : HasVoteAt s e.reader k ev
   pub last : (j : ℕ) → HasVoteAt s e.reader j ev → j ≤ e.edge → j ≤ k
+  pub unbroken : (i : ℕ) → k ≤ i → i < e.edge → is_restarted e.reader ev i ≡ false
   pub age : ℕ
   pub back : k + age ≡ e.edge
   pub near : age ≤ (setup_at s.readers e.reader).rules.holdover
@@ -70,3 +74,14 @@ pub record IsCleanSince (s : Setup) (m : ℕ) (ev : List Event) (e : Entry) : Ty
 pub record IsTrueIfClean (s : Setup) (ev : List Event) (e : Entry) : Type 0 where
   pub second : IsTrueTable s.times (setup_at s.readers e.reader).table
       → IsCleanBetween s e.reader 0 e.edge ev → IsTruthful s.times e
+
+-- the plant takes these events, and the reader holds over; as many edges after the m-th tick as it
+-- does so at most, an entry is still false, though all ticks since are clean
+pub record IsFalseToTheEnd (s : Setup) (m : ℕ) (ev : List Event) (e : Entry) : Type 0 where
+  pub events : List Event
+  pub in_order : events_after events [] ≡ ev
+  pub takes : Takes s events
+  pub since : IsCleanSince s m ev e
+  pub untrue : ¬ IsTruthful s.times e
+  pub holds_over : 0 < (setup_at s.readers e.reader).rules.holdover
+  pub to_the_end : e.edge ≡ m + (setup_at s.readers e.reader).rules.holdover

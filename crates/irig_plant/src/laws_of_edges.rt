@@ -11,7 +11,7 @@ ghost use Rattle.irig_plant.specs.Ports.{AtLeast, f_in, HasHeard};
 ghost use Rattle.irig_plant.specs.Premises.{IsKeptUpTo};
 ghost use Rattle.irig_plant.specs.Truth.{IsTruthful};
 ghost use Rattle.irig_plant.specs.OwnEdge.{IsCleanNow, IsTrueByItsEdge, HasItsMajority};
-ghost use Rattle.irig_plant.specs.Healing.{HasVoteAt, RestsOnAVote, RestsOnItsMajority, IsCleanBetween, IsCleanSince, IsTrueIfClean};
+ghost use Rattle.irig_plant.specs.Healing.{HasVoteAt, RestsOnAVote, RestsOnItsMajority, IsCleanBetween, IsCleanSince, IsTrueIfClean, IsFalseToTheEnd};
 
 use crate::entry::Entry;
 use crate::event::Event;
@@ -73,6 +73,12 @@ pub fn misled_readers_heal()
     // And so does each one from the first vote on.
     ensures healed { (s : Setup) (m k : ℕ) (ev : List Event) (e : Entry) → IsCleanSince s m ev e
         → HasVoteAt s e.reader k ev → m < k → k ≤ e.edge → IsTruthful s.times e }
+{}
+
+/// That bound is reached: there is a plant that still announces a false second `holdover` edges
+/// after its last unclean tick.
+pub fn healing_takes_the_holdover()
+    ensures { (s : Setup) × (m : ℕ) × (ev : List Event) × (e : Entry) × IsFalseToTheEnd s m ev e }
 {}
 
 /// Clean ticks are enough for the headline: an entry announces the second of its edge, or nothing,
