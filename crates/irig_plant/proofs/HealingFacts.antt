@@ -1,8 +1,8 @@
 -- Instances of the records of clean ticks and of healing that hold, and instances that do not, so
 -- that none of their fields can be dropped or turned. Newest events come first.
-use Rattle.std.proofs.Common.{◌≡◌, ℕ, ◌+◌, ◌<◌, ◌≤◌, true, List, [], ◌∷◌, ◌++◌, Option, Some, None, refl, sym, ap, subst, ◌∙◌, arith, inl, inr}
+use Rattle.std.proofs.Common.{All, ◌≡◌, ℕ, ◌+◌, ◌<◌, ◌≤◌, true, List, [], ◌∷◌, ◌++◌, Option, Some, None, refl, sym, ap, subst, ◌∙◌, arith, inl, inr}
 use Rattle.std.proofs.lemmas.Bool.{false≢true, cases_Bool, cases_lt}
-use Rattle.std.proofs.lemmas.List.Elements.{All-nil, All-cons, Contains-push}
+use Rattle.std.proofs.lemmas.List.Elements.{All-contains, All-nil, All-cons, Contains-push, Contains-append_left}
 use Rattle.irig_time.specs.declared.second.UtcSecond.{UtcSecond}
 use Rattle.irig_time.specs.declared.claim.Claim.{Claim}
 use Rattle.irig_time.specs.Timelines.{second_at, truth_at, IsTrueClaim}
@@ -33,16 +33,17 @@ use Rattle.irig_reader.specs.Rules.{IsReaderRules}
 use Rattle.irig_plant.specs.History.{AreReaders}
 use Rattle.irig_plant.specs.Audits.{is_broken_now}
 use Rattle.irig_plant.specs.Exactly.{announcement}
-use Rattle.irig_plant.specs.Ports.{AtLeast, HasHeard, IsUntruePort}
+use Rattle.irig_plant.specs.Ports.{AtLeast, AtMost, HasHeard, IsUntruePort}
 use Rattle.irig_plant.specs.Truth.{IsTruthful}
 use Rattle.irig_plant.specs.OwnEdge.{IsCleanNow, IsCleanAt, IsTrueByItsEdge, HasFalseMajority, HasItsMajority}
-use Rattle.irig_plant.specs.Healing.{HasVoteAt, RestsOn, RestsOnAVote, RestsOnItsMajority, IsCleanBetween, IsCleanSince, IsTrueIfClean, IsFalseToTheEnd}
+use Rattle.irig_plant.specs.Healing.{HasVoteAt, RestsOn, RestsOnAVote, RestsOnItsMajority, IsCleanBetween, IsCleanSince, IsTrueIfClean, IsFalseToTheEnd, IsFalseEdge}
 use Rattle.irig_plant.proofs.KeptLaws.{empty_true}
 use Rattle.irig_plant.proofs.CourseLaws.{ticks_grow, ticks_now}
 use Rattle.irig_plant.proofs.NoonPlants.{at, noon, rules, plant, three_generators, claim_0, told_0, told_nothing, two_stale}
-use Rattle.irig_plant.proofs.HealingPlant.{holder, holding, is_timeline, misled, held_once, held_twice, claim_of, truth_1, told_2, first_vote, stale_vote, silent_vote, says_4}
+use Rattle.irig_plant.proofs.HealingPlant.{holder, holding, is_timeline, misled, held_once, held_twice, claim_of, truth_1, told_2, first_vote, stale_vote, silent_vote, says_2, says_3, says_4}
 use Rattle.irig_plant.proofs.OwnEdge.{clean_by_ports}
 use Rattle.irig_plant.proofs.PortLaws.{broken_by_ports}
+use Rattle.irig_plant.proofs.ExactLaws.{log_at}
 
 -- an entry of the reader
 abbrev entry : ℕ → ℕ → Lock → Cause → Entry
@@ -381,6 +382,94 @@ false_to_the_end = record {
 -- the bound belongs to the last unclean tick
 not_to_the_end : ¬ IsFalseToTheEnd holding 1 held_twice fourth
 not_to_the_end h = not_clean_since_1 h.since
+
+-- ---- one unclean tick costs three false seconds, as the reader holds over for two
+
+abbrev second : Entry
+second = entry_of holding 0 two_stale
+
+abbrev third : Entry
+third = entry_of holding 0 misled
+
+second_false : ¬ IsTruthful noon second
+unfolding second_at
+second_false h = another (sym (h.second (at 43201) (ap (λ (r : Report). r.announce) says_2)))
+
+third_false : ¬ IsTruthful noon third
+unfolding second_at
+third_false h =
+    let is : ◌≡◌ {A = Option UtcSecond} (Some (at 43203)) (Some (at 43202)) = h.second (at 43202) (ap (λ (r : Report). r.announce) says_3) in
+    let same : at 43203 ≡ at 43202 = cc in
+    omega (arith, ap (λ (u : UtcSecond). u.sod) same)
+
+abbrev IsFalseOne : ℕ → Type 0
+IsFalseOne n = IsFalseEdge holding 0 held_twice n
+
+false_edge_2 : IsFalseOne 2
+false_edge_2 = record {
+  entry = second;
+  logged = Contains-append_left (log_of holding held_once) (fourth ∷ []) second (Contains-append_left (log_of holding misled) (third ∷ []) second (Contains-push (log_of holding two_stale) second));
+  reader = refl;
+  edge = refl;
+  untrue = second_false;
+}
+
+false_edge_3 : IsFalseOne 3
+false_edge_3 = record {
+  entry = third;
+  logged = Contains-append_left (log_of holding held_once) (fourth ∷ []) third (Contains-push (log_of holding misled) third);
+  reader = refl;
+  edge = refl;
+  untrue = third_false;
+}
+
+false_edge_4 : IsFalseOne 4
+false_edge_4 = record { entry = fourth; logged = Contains-push (log_of holding held_once) fourth; reader = refl; edge = refl; untrue = false_at_4 }
+
+three_false : AtLeast 3 IsFalseOne
+three_false = record {
+  numbers = 2 ∷ 3 ∷ 4 ∷ [];
+  rising = (omega arith, (omega arith, (omega arith, tt)));
+  such = All-cons IsFalseOne 2 (3 ∷ 4 ∷ []) false_edge_2 (All-cons IsFalseOne 3 (4 ∷ []) false_edge_3 (All-cons IsFalseOne 4 [] false_edge_4 (All-nil IsFalseOne)));
+  many = omega arith;
+}
+
+-- what has not come is not false
+abbrev HasCome : Entry → Type 0
+HasCome e = e.edge ≤ ticks_of e.reader held_twice
+
+all_come : All HasCome (log_of holding held_twice)
+all_come = log_at holding held_twice HasCome come [] held_twice refl
+  where
+    come : (r : ℕ) (later ev : List Event) → held_twice ≡ later ++ (Tick r ∷ ev) → HasCome (entry_of holding r ev)
+    come r later ev is = omega (arith, ap (ticks_of r) is, ticks_grow r later (Tick r ∷ ev), ticks_now r ev)
+
+no_false_edge_5 : ¬ IsFalseOne 5
+no_false_edge_5 h =
+    let four : ticks_of h.entry.reader held_twice ≡ 4 = rw h.reader refl in
+    omega (arith, All-contains HasCome (log_of holding held_twice) h.entry all_come h.logged, four, h.edge)
+
+-- the second tick alone has a false majority
+lied_at_2_alone : (k : ℕ) → HasFalseMajority holding 0 k held_twice → k ≡ 2
+lied_at_2_alone k h = of h.later h.tick
+  where
+    clean : IsCleanNow holding 0 h.earlier → k ≡ 2
+    clean now = absurd (h.untrue (subst (λ (n : ℕ). IsTrueClaim noon n h.claim) (sym h.edge) ((clean_by_ports holding 0 h.earlier).0 now h.claim h.ports)))
+
+    of : (later : List Event) → held_twice ≡ later ++ (Tick 0 ∷ h.earlier) → k ≡ 2
+    of [] is = let same : held_once ≡ h.earlier = cc in clean (subst (IsCleanNow holding 0) same (none_clean misled))
+    of (x ∷ []) is = let same : misled ≡ h.earlier = cc in clean (subst (IsCleanNow holding 0) same (none_clean two_stale))
+    of (x ∷ y ∷ later) is =
+        let rest : misled ≡ later ++ (Tick 0 ∷ h.earlier) = cc in
+        elim (cases_lt (ticks_of 0 h.earlier) 1) [
+          | inl first ↦ clean (clean_to_1.ticks later h.earlier rest (omega arith) first)
+          | inr more ↦ omega (arith, more, h.edge, ap (ticks_of 0) rest, ticks_grow 0 later (Tick 0 ∷ h.earlier), ticks_now 0 h.earlier)
+        ]
+
+one_majority : AtMost 1 (λ k. HasFalseMajority holding 0 k held_twice)
+one_majority [] rising lied = omega arith
+one_majority (k ∷ []) rising lied = omega arith
+one_majority (k ∷ j ∷ ks) rising lied = absurd (omega (arith, rising.1.0, lied_at_2_alone k (lied 0 k (omega arith)), lied_at_2_alone j (lied 1 j (omega arith))))
 
 -- ---- clean ticks alone
 

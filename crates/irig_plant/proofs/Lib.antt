@@ -21,6 +21,7 @@ pub mod NumberedCounts
 pub mod OwnEdge
 pub mod LastVotes
 pub mod HealingLaws
+pub mod PriceLaws
 pub mod HealthLaws
 pub mod DamageLaws
 pub mod HearingLaws

@@ -18,10 +18,10 @@ use Rattle.irig_vote.specs.declared.redundancy.Redundancy.{Redundancy}
 use Rattle.irig_vote.specs.declared.redundancy.Redundancy.TheVariants.{Three, Five}
 use Rattle.irig_vote.specs.declared.votes.Tells.{Tells}
 use Rattle.irig_vote.specs.Vote.{ports_in, ports_of, is_told, carriers, redundancy_of}
-use Rattle.irig_vote.proofs.CountLaws.{told_is, same_is, same_itself}
+use Rattle.irig_vote.proofs.CountLaws.{told_is, same_is, same_itself, vote_counts}
 use Rattle.irig_reader.specs.declared.report.Cause.TheVariants.{Voted}
 use Rattle.irig_reader.specs.Rule.{state_of}
-use Rattle.irig_reader.specs.History.{told_at_tick}
+use Rattle.irig_reader.specs.History.{told_at_tick, vote_at_tick}
 use Rattle.irig_reader.proofs.OneEdge.{voted_seconds, misled}
 use Rattle.irig_plant.specs.declared.event.Event.{Event}
 use Rattle.irig_plant.specs.declared.event.Event.TheVariants.{Tick}
@@ -30,7 +30,7 @@ use Rattle.irig_plant.specs.Schedule.{Setup, setup_at, heard_at, ticks_of, votes
 use Rattle.irig_plant.specs.Audits.{is_broken_now}
 use Rattle.irig_plant.specs.Ports.{AtLeast, f_in, HasHeard, IsUntruePort}
 use Rattle.irig_plant.specs.Truth.{IsTruthful}
-use Rattle.irig_plant.specs.OwnEdge.{IsCleanNow, IsTrueByItsEdge, HasFalseMajority, HasItsMajority}
+use Rattle.irig_plant.specs.OwnEdge.{IsCleanNow, IsCleanAt, IsTrueByItsEdge, HasFalseMajority, HasItsMajority}
 use Rattle.irig_plant.proofs.NumberedCounts.{at_least}
 use Rattle.irig_plant.proofs.PortLaws.{kept_by_ports}
 use Rattle.irig_plant.proofs.ExactLaws.{log_at}
@@ -95,6 +95,44 @@ module _ (s : Setup) (r : ℕ) (ev : List Event) where
                 } in
                 absurd (omega (arith, heard.many, (kept_by_ports s r ev).0 kept heard.numbers heard.rising untrue))
           ]
+
+  -- and exactly if it has no vote, or the true one
+  pub clean_by_vote : IsCleanNow s r ev ↔ ((vote_at_tick (history_of s r ev) ≡ None) ⊎ (vote_at_tick (history_of s r ev) ≡ truth_at s.times (ticks_of r ev)))
+  clean_by_vote = (λ clean. at_most (vote_at_tick (history_of s r ev)) refl clean, λ vote. record { no_other = λ c enough. told c enough vote })
+    where
+      at_most : (vote : Option Claim) → vote_at_tick (history_of s r ev) ≡ vote → IsCleanNow s r ev → (vote_at_tick (history_of s r ev) ≡ None) ⊎ (vote_at_tick (history_of s r ev) ≡ truth_at s.times (ticks_of r ev))
+      at_most None is clean = inl is
+      at_most (Some c) is clean = inr (is ∙ sym (clean.no_other c ((vote_counts (told_at_tick (history_of s r ev)) (redundancy_of (length s.generators)) c).0 is)))
+
+      told : (c : Claim) → f_in s + 1 ≤ carriers c ports → (vote_at_tick (history_of s r ev) ≡ None) ⊎ (vote_at_tick (history_of s r ev) ≡ truth_at s.times (ticks_of r ev)) → truth_at s.times (ticks_of r ev) ≡ Some c
+      told c enough vote =
+          let is : vote_at_tick (history_of s r ev) ≡ Some c = (vote_counts (told_at_tick (history_of s r ev)) (redundancy_of (length s.generators)) c).1 enough in
+          elim vote [
+            | inl none ↦ let clash : ◌≡◌ {A = Option Claim} None (Some c) = sym none ∙ is in absurd cc
+            | inr same ↦ sym same ∙ is
+          ]
+
+  -- one that is not clean has its false majority
+  pub unclean_majority : ¬ IsCleanNow s r ev → HasFalseMajority s r (ticks_of r ev + 1) (Tick r ∷ ev)
+  unclean_majority unclean = of (vote_at_tick (history_of s r ev)) refl
+    where
+      of : (vote : Option Claim) → vote_at_tick (history_of s r ev) ≡ vote → HasFalseMajority s r (ticks_of r ev + 1) (Tick r ∷ ev)
+      of None is = absurd (unclean (clean_by_vote.1 (inl is)))
+      of (Some c) is = record {
+        later = [];
+        earlier = ev;
+        tick = refl;
+        edge = refl;
+        claim = c;
+        ports = (claim_heard c).0 ((vote_counts (told_at_tick (history_of s r ev)) (redundancy_of (length s.generators)) c).0 is);
+        untrue = λ true_claim. unclean (clean_by_vote.1 (inr (is ∙ sym ((claim_is s.times (ticks_of r ev) c).1 true_claim))));
+      }
+
+-- and none that is clean
+pub clean_unlied : (s : Setup) (r n : ℕ) (ev : List Event) → IsCleanAt s r n ev → ¬ HasFalseMajority s r n ev
+clean_unlied s r n ev clean h =
+    let now : IsCleanNow s r h.earlier = clean.ticks h.later h.earlier h.tick (sym h.edge) in
+    h.untrue (subst (λ (k : ℕ). IsTrueClaim s.times k h.claim) (sym h.edge) ((clean_by_ports s r h.earlier).0 now h.claim h.ports))
 
 -- ---- entries
 

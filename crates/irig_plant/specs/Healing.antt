@@ -85,3 +85,13 @@ pub record IsFalseToTheEnd (s : Setup) (m : ℕ) (ev : List Event) (e : Entry) :
   pub untrue : ¬ IsTruthful s.times e
   pub holds_over : 0 < (setup_at s.readers e.reader).rules.holdover
   pub to_the_end : e.edge ≡ m + (setup_at s.readers e.reader).rules.holdover
+
+-- ---- how many are false
+
+-- what r announces at its n-th tick is not T of that edge
+pub record IsFalseEdge (s : Setup) (r : ℕ) (ev : List Event) (n : ℕ) : Type 0 where
+  pub entry : Entry
+  pub logged : Contains (log_of s ev) entry
+  pub reader : entry.reader ≡ r
+  pub edge : entry.edge ≡ n
+  pub untrue : ¬ IsTruthful s.times entry

@@ -1,29 +1,41 @@
 //! Laws of what an entry owes to the ports of its reader at its own tick and since its last vote:
 //! what it costs to mislead a reader, and how one heals. They have no code.
 
-ghost use Rattle.std.specs.Prelude.{◌≡◌, ◌+◌, ◌<◌, ◌≤◌, ◌↔◌, false, ℕ, List, All};
+ghost use Rattle.std.specs.Prelude.{◌≡◌, ◌+◌, ◌*◌, ◌<◌, ◌≤◌, ◌↔◌, ◌⊎◌, false, ℕ, None, List, ◌∷◌, All};
 ghost use Rattle.std.specs.List.{Contains};
-ghost use Rattle.irig_time.specs.Timelines.{IsTrueClaim};
+ghost use Rattle.irig_time.specs.Timelines.{truth_at, IsTrueClaim};
 ghost use Rattle.irig_time.specs.TimelineFaults.{IsTimeline};
-ghost use Rattle.irig_plant.specs.Schedule.{Setup, setup_at, ticks_of, log_of};
+ghost use Rattle.irig_hold.specs.Truth.{IsTrueTable};
+ghost use Rattle.irig_reader.specs.History.{vote_at_tick};
+ghost use Rattle.irig_plant.specs.Schedule.{Setup, setup_at, ticks_of, history_of, log_of};
 ghost use Rattle.irig_plant.specs.Audits.{is_broken_now};
-ghost use Rattle.irig_plant.specs.Ports.{AtLeast, f_in, HasHeard};
+ghost use Rattle.irig_plant.specs.Ports.{AtLeast, AtMost, f_in, HasHeard};
 ghost use Rattle.irig_plant.specs.Premises.{IsKeptUpTo};
 ghost use Rattle.irig_plant.specs.Truth.{IsTruthful};
-ghost use Rattle.irig_plant.specs.OwnEdge.{IsCleanNow, IsTrueByItsEdge, HasItsMajority};
-ghost use Rattle.irig_plant.specs.Healing.{HasVoteAt, RestsOnAVote, RestsOnItsMajority, IsCleanBetween, IsCleanSince, IsTrueIfClean, IsFalseToTheEnd};
+ghost use Rattle.irig_plant.specs.OwnEdge.{IsCleanNow, IsCleanAt, IsTrueByItsEdge, HasFalseMajority, HasItsMajority};
+ghost use Rattle.irig_plant.specs.Healing.{HasVoteAt, RestsOnAVote, RestsOnItsMajority, IsCleanBetween, IsCleanSince, IsTrueIfClean, IsFalseToTheEnd, IsFalseEdge};
 
 use crate::entry::Entry;
 use crate::event::Event;
 use irig_reader::Cause;
 use irig_time::Claim;
 
-/// A tick is clean exactly if each claim that f + 1 ports of the reader heard is true there.
-pub fn clean_ports()
-    ensures { (s : Setup) (r : ℕ) (ev : List Event)
+/// What a clean tick is: one at which each claim that f + 1 ports of the reader heard is true.
+pub fn clean_ticks()
+    ensures ports { (s : Setup) (r : ℕ) (ev : List Event)
         → IsCleanNow s r ev
         ↔ ((c : Claim) → AtLeast (f_in s + 1) (λ p. HasHeard s r p ev c)
         → IsTrueClaim s.times (ticks_of r ev + 1) c) }
+    // It is one without a vote, or with a vote for the true claim.
+    ensures vote { (s : Setup) (r : ℕ) (ev : List Event)
+        → IsCleanNow s r ev
+        ↔ ((vote_at_tick (history_of s r ev) ≡ None)
+        ⊎ (vote_at_tick (history_of s r ev) ≡ truth_at s.times (ticks_of r ev))) }
+    // It has no false majority, and one that is not clean has.
+    ensures clean { (s : Setup) (r n : ℕ) (ev : List Event) → IsCleanAt s r n ev
+        → ¬ HasFalseMajority s r n ev }
+    ensures unclean { (s : Setup) (r : ℕ) (ev : List Event) → ¬ IsCleanNow s r ev
+        → HasFalseMajority s r (ticks_of r ev + 1) (Event.Tick r ∷ ev) }
 {}
 
 /// A voted entry stands on its own edge: if its tick is clean, an entry announces by a vote the
@@ -73,12 +85,26 @@ pub fn misled_readers_heal()
     // And so does each one from the first vote on.
     ensures healed { (s : Setup) (m k : ℕ) (ev : List Event) (e : Entry) → IsCleanSince s m ev e
         → HasVoteAt s e.reader k ev → m < k → k ≤ e.edge → IsTruthful s.times e }
+    // So at most `holdover` false seconds follow, however long the reader runs.
+    ensures few { (s : Setup) (r m : ℕ) (ev : List Event) → IsTimeline s.times
+        → IsTrueTable s.times (setup_at s.readers r).table
+        → IsCleanBetween s r m (ticks_of r ev) ev
+        → AtMost (setup_at s.readers r).rules.holdover (λ n. (m < n) × IsFalseEdge s r ev n) }
 {}
 
 /// That bound is reached: there is a plant that still announces a false second `holdover` edges
 /// after its last unclean tick.
 pub fn healing_takes_the_holdover()
     ensures { (s : Setup) × (m : ℕ) × (ev : List Event) × (e : Entry) × IsFalseToTheEnd s m ev e }
+{}
+
+/// What it costs to mislead a reader with a true table: if at most so many of its ticks have a false
+/// majority, it announces at most `holdover` + 1 false seconds for each of them.
+pub fn false_seconds_have_their_price()
+    ensures { (s : Setup) (r : ℕ) (ev : List Event) (count : ℕ) → IsTimeline s.times
+        → IsTrueTable s.times (setup_at s.readers r).table
+        → AtMost count (λ k. HasFalseMajority s r k ev)
+        → AtMost (count * ((setup_at s.readers r).rules.holdover + 1)) (IsFalseEdge s r ev) }
 {}
 
 /// Clean ticks are enough for the headline: an entry announces the second of its edge, or nothing,

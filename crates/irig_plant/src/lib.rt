@@ -35,9 +35,10 @@ pub use laws::{
     votes_are_at_voted_edges, votes_are_true,
 };
 pub use laws_of_edges::{
-    announcements_rest_on_a_vote, clean_ports, clean_ticks_are_enough,
+    announcements_rest_on_a_vote, clean_ticks, clean_ticks_are_enough,
     entries_stand_on_their_own_edge, false_seconds_have_their_majority,
-    false_votes_have_their_majority, healing_takes_the_holdover, misled_readers_heal,
+    false_seconds_have_their_price, false_votes_have_their_majority, healing_takes_the_holdover,
+    misled_readers_heal,
 };
 pub use plant::Plant;
 pub use setup::ReaderSetup;
