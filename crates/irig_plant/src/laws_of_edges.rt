@@ -98,8 +98,8 @@ pub fn healing_takes_the_holdover()
     ensures { (s : Setup) × (m : ℕ) × (ev : List Event) × (e : Entry) × IsFalseToTheEnd s m ev e }
 {}
 
-/// What it costs to mislead a reader with a true table: if at most so many of its ticks have a false
-/// majority, it announces at most `holdover` + 1 false seconds for each of them.
+/// What it costs to mislead a reader with a true table: if at most so many of its ticks have a
+/// false majority, it announces at most `holdover` + 1 false seconds for each of them.
 pub fn false_seconds_have_their_price()
     ensures { (s : Setup) (r : ℕ) (ev : List Event) (count : ℕ) → IsTimeline s.times
         → IsTrueTable s.times (setup_at s.readers r).table
