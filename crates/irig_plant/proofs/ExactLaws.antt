@@ -100,7 +100,7 @@ kept_less : (s : Setup) (r n m : ℕ) (ev : List Event) → IsKeptUpTo s r n ev 
 kept_less s r n m ev kept less = record { ticks = λ later earlier is low. kept.ticks later earlier is (omega arith) }
 
 -- what each entry has as one of its events
-log_at : (s : Setup) (all : List Event) (R : Entry → Type 0) → ((r : ℕ) (later ev : List Event) → all ≡ later ++ (Tick r ∷ ev) → R (entry_of s r ev))
+pub log_at : (s : Setup) (all : List Event) (R : Entry → Type 0) → ((r : ℕ) (later ev : List Event) → all ≡ later ++ (Tick r ∷ ev) → R (entry_of s r ev))
     → (later ev : List Event) → all ≡ later ++ ev → All R (log_of s ev)
 log_at s all R each later [] is = All-nil R
 log_at s all R each later (Tick r ∷ ev) is =

@@ -16,6 +16,11 @@ pub mod TickLaws
 pub mod CourseLaws
 pub mod Standing
 pub mod ExactLaws
+pub mod NumberedCounts
+pub mod OwnEdge
+pub mod LastVotes
+pub mod HealingLaws
+pub mod PriceLaws
 pub mod HealthLaws
 pub mod DamageLaws
 pub mod HearingLaws
@@ -23,6 +28,8 @@ pub mod SteadyLaws
 pub mod RangeLaws
 pub mod StandardFacts
 pub mod HeadlineFacts
+pub mod HealingPlant
+pub mod HealingFacts
 pub mod DamageFacts
 pub mod NoonPlants
 pub mod LeapPlant

@@ -19,3 +19,5 @@ pub mod Steadiness
 pub mod Misled
 pub mod WholeSecond
 pub mod HealthyPlant
+pub mod OwnEdge
+pub mod Healing

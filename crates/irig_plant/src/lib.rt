@@ -14,6 +14,7 @@ mod entry;
 mod event;
 mod fault;
 mod laws;
+mod laws_of_edges;
 mod plant;
 mod pulses;
 mod setup;
@@ -32,6 +33,12 @@ pub use laws::{
     no_silent_step, premises_are_needed, readers_keep_to_the_truth, runs_are_announced,
     silences_tell_their_cause, true_frames_tell_the_truth, true_tables, voted_ports,
     votes_are_at_voted_edges, votes_are_true,
+};
+pub use laws_of_edges::{
+    announcements_rest_on_a_vote, clean_ticks, clean_ticks_are_enough,
+    entries_stand_on_their_own_edge, false_seconds_have_their_majority,
+    false_seconds_have_their_price, false_votes_have_their_majority, healing_takes_the_holdover,
+    misled_readers_heal,
 };
 pub use plant::Plant;
 pub use setup::ReaderSetup;
