@@ -32,3 +32,4 @@ pub mod SecondEvents
 pub mod HealthyTicks
 pub mod HealthyLaws
 mod HealthyFacts
+pub mod BrokenLogs
