@@ -3,3 +3,4 @@ pub mod WordLaws
 pub mod LogLaws
 pub mod LastLines
 pub mod RowLaws
+pub mod BrokenLines

@@ -106,15 +106,15 @@ lines_of_entries names (e ∷ es) rest h =
 
 -- ---- what a line shows
 
-abbrev NoBlank : List ℕ → Type 0
+abbrev pub NoBlank : List ℕ → Type 0
 NoBlank l = AllByRecursion (λ b. b ≢ 32) l
 
-word_no_blank : (l : List ℕ) → IsWord l → NoBlank l
+pub word_no_blank : (l : List ℕ) → IsWord l → NoBlank l
 word_no_blank [] h = tt
 word_no_blank (b ∷ bs) h = (λ e. omega (arith, h.0, e), word_no_blank bs h.1)
 
 -- what stands before the first blank, and after it
-split : (a b s t : List ℕ) → NoBlank a → NoBlank b → a ++ (32 ∷ s) ≡ b ++ (32 ∷ t) → (a ≡ b) × (s ≡ t)
+pub split : (a b s t : List ℕ) → NoBlank a → NoBlank b → a ++ (32 ∷ s) ≡ b ++ (32 ∷ t) → (a ≡ b) × (s ≡ t)
 split [] [] s t h k e = (refl, cc)
 split [] (y ∷ ys) s t h k e = let same : y ≡ 32 = cc in absurd (k.0 same)
 split (x ∷ xs) [] s t h k e = let same : x ≡ 32 = cc in absurd (h.0 same)

@@ -1,6 +1,6 @@
 -- What the lines of a log show.
 -- Source: docs/OUTPUT.md.
-use Rattle.std.specs.Prelude.{◌≡◌, ◌≢◌, ℕ, ◌^◌, ◌<◌, ◌==◌, List, [], ◌∷◌, ◌++◌, length, if◌then◌else◌, All}
+use Rattle.std.specs.Prelude.{◌≡◌, ◌≢◌, ℕ, ◌^◌, ◌<◌, ◌==◌, List, [], ◌∷◌, ◌++◌, length, codes, if◌then◌else◌, All}
 use Rattle.std.specs.Fmt.{decimal}
 use Rattle.irig_log_text.specs.Text.{name_at}
 
@@ -27,3 +27,8 @@ pub record Shows (names : List (List ℕ)) (line : List ℕ) (reader edge : ℕ)
 -- the line is no entry line
 abbrev pub ShowsNothing : List (List ℕ) → List ℕ → Type 0
 ShowsNothing names line = (r n : ℕ) (time : List ℕ) → ¬ Shows names line r n time
+
+-- the last line of a log whose premises first broke at this edge of the reader with this name
+abbrev pub broken_line : ℕ → List ℕ → List ℕ
+broken_line edge name =
+    codes "premises broken: edge " ++ (decimal edge ++ (codes " reader " ++ name))

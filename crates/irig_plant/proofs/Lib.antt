@@ -38,3 +38,4 @@ pub mod SecondEvents
 pub mod HealthyTicks
 pub mod HealthyLaws
 mod HealthyFacts
+pub mod BrokenLogs

@@ -4,3 +4,4 @@ pub mod SoundPlans
 pub mod BlankLines
 pub mod PlainLines
 pub mod StandardFacts
+pub mod NamesAndTimes

@@ -1,2 +1,3 @@
 pub mod EventLine
 pub mod PlantLine
+pub mod NamesAndTimes

@@ -8,10 +8,12 @@ pub mod ReadLaws
 pub mod NameLaws
 pub mod RunLaws
 pub mod TrueLines
+pub mod PlantLines
 pub mod WrittenLaws
 pub mod PortLineLaws
 pub mod HealthyRuns
 pub mod HealthyFacts
 pub mod RunFacts
+pub mod VouchedFacts
 pub mod PortFacts
 pub mod StandardFacts

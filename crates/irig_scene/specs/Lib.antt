@@ -4,6 +4,7 @@ pub mod Faults
 pub mod PlayerRuns
 pub mod Run
 pub mod LogLines
+pub mod VouchedLines
 pub mod WholeRun
 pub mod LineRuns
 pub mod HealthyRun

@@ -9,6 +9,7 @@ use Rattle.irig_scene.specs.declared.outcome.Outcome.{Outcome}
 use Rattle.irig_scene.specs.declared.fault.SceneFault.{SceneFault}
 use Rattle.irig_scene.specs.declared.fault.SceneFault.TheVariants.{Read, Write}
 use Rattle.irig_scene.specs.LogLines.{OfWritten, TellsTruth, VouchesForItself}
+use Rattle.irig_scene.specs.VouchedLines.{VouchesByPlantLine}
 use Rattle.irig_scene.specs.Run.{RanShown}
 
 -- what the input has left, by what a device of its kind has left
@@ -28,6 +29,9 @@ pub record RunsTruly {R W : Type 0} (remaining : R → Bytes) (contents : W → 
   -- that shows a time shows T of its edge
   pub vouches : IfSome (left remaining before) (λ x.
       OfWritten (written contents old) (written contents new) (VouchesForItself x))
+  -- the same by the plant line of the bytes alone
+  pub vouches_by_plant_line : IfSome (left remaining before) (λ x.
+      OfWritten (written contents old) (written contents new) (VouchesByPlantLine x))
   -- the headline over bytes: each whole line written that shows a time shows T of its edge, if its
   -- reader's table is true and its ports were kept up to that edge
   pub truth : IfSome (left remaining before) (λ x.

@@ -1,7 +1,7 @@
 //! Laws of scenarios over their definitions. They have no code.
 
 ghost use Rattle.std.specs.Prelude.{◌≡◌, ◌<◌, ◌≤◌, ◌^◌, ◌++◌, ℕ, Bool, Some, None, Option, is_some, List, [], ◌∷◌, All, codes, length, true, false};
-ghost use Rattle.irig_time.specs.Timelines.{second_at};
+ghost use Rattle.irig_time.specs.Timelines.{TimelineValue, second_at};
 ghost use Rattle.irig_plant.specs.HealthyPlant.{seconds_of, healthy_log};
 ghost use Rattle.irig_plant.specs.Premises.{IsKept};
 ghost use Rattle.irig_plant.specs.Runs.{events_after};
@@ -17,6 +17,7 @@ ghost use Rattle.irig_log_text.specs.Text.{entry_text, entries_text, port_line, 
 ghost use Rattle.irig_scene.specs.PortLines.{is_port_line, without_port_lines, ports_too};
 ghost use Rattle.irig_log_text.specs.LogLines.{whole_lines, Shows, ShowsNothing};
 ghost use Rattle.irig_scene.specs.LogLines.{TellsTruth, VouchesForItself};
+ghost use Rattle.irig_scene.specs.VouchedLines.{IsPlantLineOf, VouchesByPlantLine};
 
 use irig_plant::{Entry, ToldEntry};
 
@@ -35,6 +36,16 @@ pub fn logs_are_true()
         → output x all ≡ written ++ rest → TellsTruth x written }
     ensures vouches { (x : List ℕ) (all : Bool) (written rest : List ℕ)
         → output x all ≡ written ++ rest → VouchesForItself x written }
+    // The same by the plant line of the bytes alone.
+    ensures plant_line { (x : List ℕ) (all : Bool) (written rest : List ℕ)
+        → output x all ≡ written ++ rest → VouchesByPlantLine x written }
+{}
+
+/// The plant line of some bytes says one list of names and one timeline.
+pub fn plant_lines_read_one_way()
+    ensures { (x : List ℕ) (names other : List (List ℕ)) (times more : TimelineValue)
+        → IsPlantLineOf x names times → IsPlantLineOf x other more
+        → (names ≡ other) × (times ≡ more) }
 {}
 
 /// The line of an entry shows its edge, reader and time, and nothing else; a last line shows

@@ -17,7 +17,7 @@ pub use fault::{OUT_OF_MEMORY, READ_FAILED, REFUSED, SceneFault, WRITE_FAILED};
 pub use irig_log_text::Shown;
 pub use laws::{
     a_second_has_a_tick_a_reader, entries_are_true, healthy_scenarios_announce, lines_read_one_way,
-    logs_are_true, port_lines_stand_apart,
+    logs_are_true, plant_lines_read_one_way, port_lines_stand_apart,
 };
 pub use outcome::Outcome;
 pub use refused_line::RefusedLine;
