@@ -33,7 +33,8 @@ use Rattle.irig_reader.specs.Rules.{IsReaderRules}
 use Rattle.irig_plant.specs.History.{AreReaders}
 use Rattle.irig_plant.specs.Audits.{is_broken_now}
 use Rattle.irig_plant.specs.Exactly.{announcement}
-use Rattle.irig_plant.specs.Ports.{AtLeast, AtMost, HasHeard, IsUntruePort}
+use Rattle.irig_vote.specs.Counts.{AtLeast, AtMost}
+use Rattle.irig_plant.specs.Ports.{HasHeard, IsUntruePort}
 use Rattle.irig_plant.specs.Truth.{IsTruthful}
 use Rattle.irig_plant.specs.OwnEdge.{IsCleanNow, IsCleanAt, IsTrueByItsEdge, HasFalseMajority, HasItsMajority}
 use Rattle.irig_plant.specs.Healing.{HasVoteAt, RestsOn, RestsOnAVote, RestsOnItsMajority, IsCleanBetween, IsCleanSince, IsTrueIfClean, IsFalseToTheEnd, IsFalseEdge}

@@ -16,7 +16,6 @@ pub mod TickLaws
 pub mod CourseLaws
 pub mod Standing
 pub mod ExactLaws
-pub mod NumberedCounts
 pub mod OwnEdge
 pub mod LastVotes
 pub mod HealingLaws

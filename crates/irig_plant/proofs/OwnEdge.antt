@@ -28,10 +28,11 @@ use Rattle.irig_plant.specs.declared.event.Event.TheVariants.{Tick}
 use Rattle.irig_plant.specs.declared.entry.Entry.{Entry}
 use Rattle.irig_plant.specs.Schedule.{Setup, setup_at, heard_at, ticks_of, votes_of, history_of, entry_of, log_of}
 use Rattle.irig_plant.specs.Audits.{is_broken_now}
-use Rattle.irig_plant.specs.Ports.{AtLeast, f_in, HasHeard, IsUntruePort}
+use Rattle.irig_vote.specs.Counts.{AtLeast}
+use Rattle.irig_plant.specs.Ports.{f_in, HasHeard, IsUntruePort}
 use Rattle.irig_plant.specs.Truth.{IsTruthful}
 use Rattle.irig_plant.specs.OwnEdge.{IsCleanNow, IsCleanAt, IsTrueByItsEdge, HasFalseMajority, HasItsMajority}
-use Rattle.irig_plant.proofs.NumberedCounts.{at_least}
+use Rattle.irig_vote.proofs.NumberedLaws.{at_least}
 use Rattle.irig_plant.proofs.PortLaws.{kept_by_ports}
 use Rattle.irig_plant.proofs.ExactLaws.{log_at}
 

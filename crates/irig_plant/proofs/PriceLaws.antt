@@ -10,7 +10,7 @@ use Rattle.irig_plant.specs.declared.event.Event.{Event}
 use Rattle.irig_plant.specs.declared.event.Event.TheVariants.{Tick}
 use Rattle.irig_plant.specs.declared.entry.Entry.{Entry}
 use Rattle.irig_plant.specs.Schedule.{Setup, setup_at, ticks_of, log_of}
-use Rattle.irig_plant.specs.Ports.{AreRising, AtMost}
+use Rattle.irig_vote.specs.Counts.{AreRising, AtMost}
 use Rattle.irig_plant.specs.OwnEdge.{HasFalseMajority}
 use Rattle.irig_plant.specs.Healing.{RestsOnItsMajority, IsCleanBetween, IsCleanSince, IsFalseEdge}
 use Rattle.irig_plant.proofs.CourseLaws.{ticks_grow, ticks_now}

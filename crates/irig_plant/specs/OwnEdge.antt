@@ -11,7 +11,8 @@ use Rattle.irig_plant.specs.declared.event.Event.{Event}
 use Rattle.irig_plant.specs.declared.event.Event.TheVariants.{Tick}
 use Rattle.irig_plant.specs.declared.entry.Entry.{Entry}
 use Rattle.irig_plant.specs.Schedule.{Setup, ticks_of, history_of}
-use Rattle.irig_plant.specs.Ports.{AtLeast, f_in, HasHeard}
+use Rattle.irig_vote.specs.Counts.{AtLeast}
+use Rattle.irig_plant.specs.Ports.{f_in, HasHeard}
 use Rattle.irig_plant.specs.Truth.{IsTruthful}
 
 -- ---- clean ticks
