@@ -9,11 +9,13 @@ pub mod NameLaws
 pub mod RunLaws
 pub mod TrueLines
 pub mod PlantLines
+pub mod BrokenLogs
 pub mod WrittenLaws
 pub mod PortLineLaws
 pub mod HealthyRuns
 pub mod HealthyFacts
 pub mod RunFacts
 pub mod VouchedFacts
+pub mod BrokenFacts
 pub mod PortFacts
 pub mod StandardFacts

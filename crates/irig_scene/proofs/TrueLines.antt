@@ -179,7 +179,7 @@ module _ (x : Scene) (names : AreNames x.plan.names) where
   both EntryFact [] h few = tt
   both EntryFact (e ∷ es) h few = ((few.0, h.0), both EntryFact es h.1 few.1)
 
-time_of : (t : TimelineValue) (n : ℕ) (o : Option UtcSecond) (time : List ℕ) → time ≡ time_shown_text o → time ≢ codes "-" → ((u : UtcSecond) → o ≡ Some u → second_at t n ≡ Some u) → IsTimeOf t n time
+pub time_of : (t : TimelineValue) (n : ℕ) (o : Option UtcSecond) (time : List ℕ) → time ≡ time_shown_text o → time ≢ codes "-" → ((u : UtcSecond) → o ≡ Some u → second_at t n ≡ Some u) → IsTimeOf t n time
 time_of t n None time same full h = absurd (full same)
 time_of t n (Some u) time same full h = record { second = u; is_true = h u refl; written = same }
 

@@ -5,6 +5,7 @@ pub mod PlayerRuns
 pub mod Run
 pub mod LogLines
 pub mod VouchedLines
+pub mod BrokenLogs
 pub mod WholeRun
 pub mod LineRuns
 pub mod HealthyRun

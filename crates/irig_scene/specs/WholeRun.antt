@@ -10,6 +10,7 @@ use Rattle.irig_scene.specs.declared.fault.SceneFault.{SceneFault}
 use Rattle.irig_scene.specs.declared.fault.SceneFault.TheVariants.{Read, Write}
 use Rattle.irig_scene.specs.LogLines.{OfWritten, TellsTruth, VouchesForItself}
 use Rattle.irig_scene.specs.VouchedLines.{VouchesByPlantLine}
+use Rattle.irig_scene.specs.BrokenLogs.{VouchesUntilBroken}
 use Rattle.irig_scene.specs.Run.{RanShown}
 
 -- what the input has left, by what a device of its kind has left
@@ -32,6 +33,11 @@ pub record RunsTruly {R W : Type 0} (remaining : R → Bytes) (contents : W → 
   -- the same by the plant line of the bytes alone
   pub vouches_by_plant_line : IfSome (left remaining before) (λ x.
       OfWritten (written contents old) (written contents new) (VouchesByPlantLine x))
+  -- a broken log vouches too: if the last whole line written says which edge of which reader broke
+  -- the premises, each line above of that reader is true that shows an earlier edge, and each line
+  -- of any reader that stands before the one of that edge
+  pub vouches_until_broken : IfSome (left remaining before) (λ x.
+      OfWritten (written contents old) (written contents new) (VouchesUntilBroken x))
   -- the headline over bytes: each whole line written that shows a time shows T of its edge, if its
   -- reader's table is true and its ports were kept up to that edge
   pub truth : IfSome (left remaining before) (λ x.

@@ -17,6 +17,7 @@ ghost use Rattle.irig_log_text.specs.Text.{entry_text, entries_text, port_line, 
 ghost use Rattle.irig_scene.specs.PortLines.{is_port_line, without_port_lines, ports_too};
 ghost use Rattle.irig_log_text.specs.LogLines.{whole_lines, Shows, ShowsNothing};
 ghost use Rattle.irig_scene.specs.LogLines.{TellsTruth, VouchesForItself};
+ghost use Rattle.irig_scene.specs.BrokenLogs.{VouchesUntilBroken};
 ghost use Rattle.irig_scene.specs.VouchedLines.{IsPlantLineOf, VouchesByPlantLine};
 
 use irig_plant::{Entry, ToldEntry};
@@ -39,6 +40,9 @@ pub fn logs_are_true()
     // The same by the plant line of the bytes alone.
     ensures plant_line { (x : List ℕ) (all : Bool) (written rest : List ℕ)
         → output x all ≡ written ++ rest → VouchesByPlantLine x written }
+    // If the last line says which edge broke the premises, the lines until then are true.
+    ensures broken { (x : List ℕ) (all : Bool) (written rest : List ℕ)
+        → output x all ≡ written ++ rest → VouchesUntilBroken x written }
 {}
 
 /// The plant line of some bytes says one list of names and one timeline.

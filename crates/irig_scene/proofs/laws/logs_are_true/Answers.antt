@@ -1,6 +1,7 @@
 use Rattle.irig_log_text.specs.Text.{entries_alone}
 use Rattle.irig_scene.proofs.TrueLines.{tells_truth, vouches_for_itself}
 use Rattle.irig_scene.proofs.PlantLines.{vouches_by_plant_line}
+use Rattle.irig_scene.proofs.BrokenLogs.{vouches_until_broken}
 use Rattle.irig_scene.proofs.laws.logs_are_true.Goals as goal
 
 pub returns-clause-truth : goal.returns-clause-truth
@@ -11,3 +12,6 @@ returns-clause-vouches _ = λ x all w rest is. vouches_for_itself (entries_alone
 
 pub returns-clause-plant_line : goal.returns-clause-plant_line
 returns-clause-plant_line _ = λ x all w rest is. vouches_by_plant_line (entries_alone all) x w rest is
+
+pub returns-clause-broken : goal.returns-clause-broken
+returns-clause-broken _ = λ x all w rest is. vouches_until_broken (entries_alone all) x w rest is
