@@ -37,13 +37,13 @@ use Rattle.irig_plant.proofs.PortLaws.{voted_by_ports}
 use Rattle.irig_plant.proofs.FrameLaws.{true_frame_told}
 use Rattle.irig_plant.proofs.ExactLaws.{log_when_held, log_tells_lock}
 
--- ---- whatever happens to a generator, its frames without fault stay the same
+-- ---- whatever happens to a generator, its frames without fault stay the same, and those with one
 
-same_frame : (x : GeneratorValue) (edge since : ℕ) (fault : Option GenFault) (t : TimelineValue) (n : ℕ) → frame_of None (record x { edge = edge; fault = fault; since = since }) t n ≡ frame_of None x t n
+same_frame : (sent : Option GenFault) (x : GeneratorValue) (edge since : ℕ) (fault : Option GenFault) (t : TimelineValue) (n : ℕ) → frame_of sent (record x { edge = edge; fault = fault; since = since }) t n ≡ frame_of sent x t n
 unfolding frame_of
-same_frame x edge since fault t n = by_second (second_at t n)
+same_frame sent x edge since fault t n = by_second (second_at t n)
   where
-    by_second : (o : Option UtcSecond) → frame_with None (record x { edge = edge; fault = fault; since = since }) t o ≡ frame_with None x t o
+    by_second : (o : Option UtcSecond) → frame_with sent (record x { edge = edge; fault = fault; since = since }) t o ≡ frame_with sent x t o
     by_second None = refl
     by_second (Some u) = refl
 
@@ -51,21 +51,24 @@ either : (P : GeneratorValue → Type 0) (b : Bool) (x y : GeneratorValue) → P
 either P true x y h k = h
 either P false x y h k = k
 
+pub faulted_frame_kept : (sent : Option GenFault) (s : Setup) (g : ℕ) (ev : List Event) (n : ℕ) → frame_of sent (generator_at s g ev) s.times n ≡ frame_of sent (generator_at s g []) s.times n
+faulted_frame_kept sent s g [] n = refl
+faulted_frame_kept sent s g (GenEdge k ∷ ev) n =
+    let x = generator_at s g ev in
+    let was = faulted_frame_kept sent s g ev n in
+    either (λ y. frame_of sent y s.times n ≡ frame_of sent (generator_at s g []) s.times n) (k == g) _ x (same_frame sent x (x.edge + 1) x.since x.fault s.times n ∙ was) was
+faulted_frame_kept sent s g (Fault k kind ∷ ev) n =
+    let x = generator_at s g ev in
+    let was = faulted_frame_kept sent s g ev n in
+    either (λ y. frame_of sent y s.times n ≡ frame_of sent (generator_at s g []) s.times n) (k == g) _ x (same_frame sent x x.edge x.edge (Some kind) s.times n ∙ was) was
+faulted_frame_kept sent s g (Repair k ∷ ev) n =
+    let x = generator_at s g ev in
+    let was = faulted_frame_kept sent s g ev n in
+    either (λ y. frame_of sent y s.times n ≡ frame_of sent (generator_at s g []) s.times n) (k == g) _ x (same_frame sent x x.edge x.since None s.times n ∙ was) was
+faulted_frame_kept sent s g (e ∷ ev) n = faulted_frame_kept sent s g ev n
+
 pub frame_kept : (s : Setup) (g : ℕ) (ev : List Event) (n : ℕ) → frame_of None (generator_at s g ev) s.times n ≡ frame_of None (generator_at s g []) s.times n
-frame_kept s g [] n = refl
-frame_kept s g (GenEdge k ∷ ev) n =
-    let x = generator_at s g ev in
-    let was = frame_kept s g ev n in
-    either (λ y. frame_of None y s.times n ≡ frame_of None (generator_at s g []) s.times n) (k == g) _ x (same_frame x (x.edge + 1) x.since x.fault s.times n ∙ was) was
-frame_kept s g (Fault k kind ∷ ev) n =
-    let x = generator_at s g ev in
-    let was = frame_kept s g ev n in
-    either (λ y. frame_of None y s.times n ≡ frame_of None (generator_at s g []) s.times n) (k == g) _ x (same_frame x x.edge x.edge (Some kind) s.times n ∙ was) was
-frame_kept s g (Repair k ∷ ev) n =
-    let x = generator_at s g ev in
-    let was = frame_kept s g ev n in
-    either (λ y. frame_of None y s.times n ≡ frame_of None (generator_at s g []) s.times n) (k == g) _ x (same_frame x x.edge x.since None s.times n ∙ was) was
-frame_kept s g (e ∷ ev) n = frame_kept s g ev n
+frame_kept = faulted_frame_kept None
 
 -- ---- healthy ports
 

@@ -37,11 +37,11 @@ use Rattle.irig_plant.proofs.HealthyTicks.{IsHealthyTick, AllHealthy, kept_by_he
 
 -- ---- the seconds of a timeline
 
-some_is : {A : Type 0} (o : Option A) → is_some o ≡ true → (x : A) × (o ≡ Some x)
+pub some_is : {A : Type 0} (o : Option A) → is_some o ≡ true → (x : A) × (o ≡ Some x)
 some_is None h = absurd cc
 some_is (Some x) h = (x, refl)
 
-is_there : {A : Type 0} (o : Option A) (x : A) → o ≡ Some x → is_some o ≡ true
+pub is_there : {A : Type 0} (o : Option A) (x : A) → o ≡ Some x → is_some o ≡ true
 is_there o x e = ap is_some e
 
 -- a timeline has no gaps
@@ -71,7 +71,7 @@ first_there t line =
     } in
     is_there (second_at t 0) t.start ((second_is t 0 t.start).1 at)
 
-truth_there : (t : TimelineValue) (k : ℕ) → is_some (second_at t k) ≡ true → (c : Claim) × (truth_at t k ≡ Some c)
+pub truth_there : (t : TimelineValue) (k : ℕ) → is_some (second_at t k) ≡ true → (c : Claim) × (truth_at t k ≡ Some c)
 truth_there t k h =
     let u = some_is (second_at t k) h in
     (true_claim t.leaps u.0, ap (option_map (true_claim t.leaps)) u.1)
@@ -95,11 +95,11 @@ module _ (s : Setup) where
 
   -- ---- where whole seconds leave a plant
 
-  record AtSecond (k : ℕ) (ev : List Event) : Type 0 where
-    ticks : (r : ℕ) → r < readers → ticks_of r ev ≡ k
-    empty : (r p : ℕ) → r < readers → heard_at s r p ev ≡ []
-    edges : (g : ℕ) → g < generators → (generator_at s g ev).edge ≡ k
-    plain : (g : ℕ) → g < generators → (generator_at s g ev).fault ≡ None
+  pub record AtSecond (k : ℕ) (ev : List Event) : Type 0 where
+    pub ticks : (r : ℕ) → r < readers → ticks_of r ev ≡ k
+    pub empty : (r p : ℕ) → r < readers → heard_at s r p ev ≡ []
+    pub edges : (g : ℕ) → g < generators → (generator_at s g ev).edge ≡ k
+    pub plain : (g : ℕ) → g < generators → (generator_at s g ev).fault ≡ None
 
   at_start : HasGenerators s → AtSecond 0 []
   at_start gens = record {
@@ -150,7 +150,7 @@ module _ (s : Setup) where
 
   -- ---- what is accepted
 
-  both_accepted : (a b ev : List Event) → AreAccepted s a ev → AreAccepted s b (events_after a ev) → AreAccepted s (a ++ b) ev
+  pub both_accepted : (a b ev : List Event) → AreAccepted s a ev → AreAccepted s b (events_after a ev) → AreAccepted s (a ++ b) ev
   both_accepted [] b ev h k = k
   both_accepted (e ∷ a) b ev h k = (h.0, both_accepted a b (e ∷ ev) h.1 k)
 
@@ -199,7 +199,7 @@ module _ (s : Setup) where
     some_generator = elim gens.new.count [ inl three ↦ omega (arith, three) | inr five ↦ omega (arith, five) ]
 
     -- a second is taken if the next one exists
-    second_accepted : (k : ℕ) (ev : List Event) → AtSecond k ev → is_some (second_at s.times k) ≡ true → (AreAccepted s whole_second ev) ↔ (is_some (second_at s.times (k + 1)) ≡ true)
+    pub second_accepted : (k : ℕ) (ev : List Event) → AtSecond k ev → is_some (second_at s.times k) ≡ true → (AreAccepted s whole_second ev) ↔ (is_some (second_at s.times (k + 1)) ≡ true)
     second_accepted k ev at there = (
       λ h.
           let late = parts_accepted (carried_to_all generators 0 readers) (ticked 0 readers ++ stepped 0 generators) ev h in
@@ -300,12 +300,12 @@ module _ (s : Setup) where
           log = rest.log ∙ append_assoc (log_of s ev) (entry_of s r ev ∷ []) others ∙ ap (λ (e : Entry). log_of s ev ++ e ∷ others) (entry_there k r ev v second here.ticks now);
         }
 
-    record HasHealthyLog (k : ℕ) (ev : List Event) : Type 0 where
-      at : AtSecond k ev
-      healthy : AllHealthy s ev
-      log : log_of s ev ≡ healthy_log s k
+    pub record HasHealthyLog (k : ℕ) (ev : List Event) : Type 0 where
+      pub at : AtSecond k ev
+      pub healthy : AllHealthy s ev
+      pub log : log_of s ev ≡ healthy_log s k
 
-    one_second : (k : ℕ) (ev : List Event) → HasHealthyLog k ev → is_some (second_at s.times (k + 1)) ≡ true → HasHealthyLog (k + 1) (events_after whole_second ev)
+    pub one_second : (k : ℕ) (ev : List Event) → HasHealthyLog k ev → is_some (second_at s.times (k + 1)) ≡ true → HasHealthyLog (k + 1) (events_after whole_second ev)
     one_second k ev h there =
         let truth = truth_there s.times k (earlier_there s.times k 1 there) in
         let next = some_is (second_at s.times (k + 1)) there in
@@ -325,7 +325,7 @@ module _ (s : Setup) where
         let rest = many_seconds n (k + 1) (events_after whole_second ev) (one_second k ev h (earlier_there s.times (k + 1) n last)) last in
         subst (λ (es : List Event). HasHealthyLog (k + suc n) es) (sym (after_both whole_second (times n whole_second) ev)) (subst (λ (m : ℕ). HasHealthyLog m (events_after (times n whole_second) (events_after whole_second ev))) (sym next) rest)
 
-    from_start : (n : ℕ) → is_some (second_at s.times n) ≡ true → HasHealthyLog n (events_after (seconds_of s n) [])
+    pub from_start : (n : ℕ) → is_some (second_at s.times n) ≡ true → HasHealthyLog n (events_after (seconds_of s n) [])
     from_start n there =
         let same : 0 + n ≡ n = omega arith in
         subst (λ (m : ℕ). HasHealthyLog m (events_after (seconds_of s n) [])) same

@@ -21,6 +21,7 @@ pub mod LastVotes
 pub mod HealingLaws
 pub mod PriceLaws
 pub mod HealthLaws
+pub mod CarryLaws
 pub mod DamageLaws
 pub mod HearingLaws
 pub mod SteadyLaws
@@ -32,9 +33,11 @@ pub mod HealingFacts
 pub mod DamageFacts
 pub mod NoonPlants
 pub mod LeapPlant
+pub mod LockPlant
 pub mod KeptLaws
 pub mod SecondEvents
 pub mod HealthyTicks
 pub mod HealthyLaws
 mod HealthyFacts
+mod HealthFacts
 pub mod BrokenLogs

@@ -195,6 +195,13 @@ sourced_by : (reader_rules : ReaderRules) (table : TableValue) (votes : List (Op
 sourced_by reader_rules table [] = tt
 sourced_by reader_rules table (vote ∷ votes) = (step_says reader_rules table votes (state_of reader_rules table votes) vote (sourced_by reader_rules table votes)).state
 
+-- a step that announces leaves the reader locked, at the second that it announces
+pub announced_locked : (reader_rules : ReaderRules) (table : TableValue) (votes : List (Option Claim)) (vote : Option Claim) (u : UtcSecond) → (report_of reader_rules table vote votes).announce ≡ Some u
+    → (h : HoldValue) × (state_of reader_rules table (vote ∷ votes) ≡ Locked h) × (h.last ≡ u)
+announced_locked reader_rules table votes vote u says =
+    let at = (step_says reader_rules table votes (state_of reader_rules table votes) vote (sourced_by reader_rules table votes)).second u says in
+    (at.0, at.1, at.2)
+
 -- two steps that announce
 pub steps_follow : (reader_rules : ReaderRules) (table : TableValue) (votes : List (Option Claim)) (one two : Option Claim) (u v : UtcSecond)
     → (report_of reader_rules table one votes).announce ≡ Some u → (report_of reader_rules table two (one ∷ votes)).announce ≡ Some v → FollowsByMark table (two ∷ one ∷ votes) u v

@@ -15,6 +15,7 @@ ghost use Rattle.irig_hold.specs.Truth.{IsTrueTable};
 ghost use Rattle.irig_vote.specs.Vote.{ports_in, redundancy_of};
 ghost use Rattle.irig_reader.specs.History.{vote_at_tick};
 ghost use Rattle.irig_reader.specs.Rule.{state_of};
+ghost use Rattle.irig_reader.specs.Rules.{IsReaderRules};
 ghost use Rattle.irig_reader.specs.Standing.{StandsAtTruth};
 ghost use Rattle.irig_plant.specs.Schedule.{Setup, setup_at, generator_at, heard_at, ticks_of, votes_of, history_of, entry_of, log_of};
 ghost use Rattle.irig_plant.specs.Audits.{is_true_table, is_broken_now, audit_of};
@@ -41,7 +42,7 @@ use crate::event::Event;
 use crate::plant::Plant;
 use irig_frame::Symbol;
 use irig_port::{Port, Told};
-use irig_reader::{Cause, Lock};
+use irig_reader::{Cause, Lock, ReaderRules};
 use irig_time::{Claim, UtcSecond};
 
 /// Two plants with the same history have equal logs and the same audit, whatever ports their
@@ -127,7 +128,7 @@ pub fn announcements_agree()
 
 /// The premises are needed: a plant of three generators, and one of five, in which f + 1 ports of a
 /// reader are untrue at a single tick, and all else is kept, announces a false second there; and so
-/// does one that kept all of that, but for a table.
+/// does one that kept all of that, but for a table. No rules of a reader help.
 pub fn premises_are_needed()
     ensures three { (s : Setup) × (ev : List Event) × (r : ℕ) × (u : UtcSecond)
         × (length s.generators ≡ 3) × IsMisled s ev r u }
@@ -135,6 +136,10 @@ pub fn premises_are_needed()
         × (length s.generators ≡ 5) × IsMisled s ev r u }
     ensures table { (s : Setup) × (ev : List Event) × (r : ℕ) × (u : UtcSecond)
         × IsMisledByTable s ev r u }
+    // Whatever the rules of a reader, after however many votes in a row it locks, there is a plant
+    // with such a reader that is misled so at a month's end.
+    ensures lock { (rules : ReaderRules) → IsReaderRules rules → (s : Setup) × (ev : List Event)
+        × (r : ℕ) × (u : UtcSecond) × ((setup_at s.readers r).rules ≡ rules) × IsMisled s ev r u }
 {}
 
 /// No false alarm: under its premises the cause of an entry is no jump, the end of the range only

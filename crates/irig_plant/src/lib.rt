@@ -15,6 +15,7 @@ mod event;
 mod fault;
 mod laws;
 mod laws_of_edges;
+mod laws_of_health;
 mod plant;
 mod pulses;
 mod setup;
@@ -40,6 +41,7 @@ pub use laws_of_edges::{
     false_seconds_have_their_price, false_votes_have_their_majority, healing_takes_the_holdover,
     misled_readers_heal,
 };
+pub use laws_of_health::{healthy_ports_stay_healthy, whole_carries_vote};
 pub use plant::Plant;
 pub use setup::ReaderSetup;
 pub use told_log::ToldEntry;

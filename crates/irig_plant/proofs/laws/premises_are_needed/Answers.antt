@@ -1,5 +1,6 @@
 use Rattle.std.proofs.Common.{refl}
 use Rattle.irig_plant.proofs.LeapPlant as minute
+use Rattle.irig_plant.proofs.LockPlant as lock
 use Rattle.irig_plant.proofs.NoonPlants.{at, plant, two_stale, three_stale, three_misled, five_misled}
 use Rattle.irig_plant.proofs.laws.premises_are_needed.Goals as goal
 
@@ -11,3 +12,8 @@ returns-clause-five _ = (plant 5, three_stale, 0, at 43201, refl, five_misled)
 
 pub returns-clause-table : goal.returns-clause-table
 returns-clause-table _ = (minute.plant, minute.silent 58, 0, record { day = 31; sod = 0 }, minute.misled_by_table)
+
+pub returns-clause-lock : goal.returns-clause-lock
+returns-clause-lock _ = λ rules in_range.
+    let misled = lock.locked_misled rules in_range in
+    (lock.plant rules in_range, misled.0, 0, lock.new_year, refl, misled.1)
