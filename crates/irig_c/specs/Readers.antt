@@ -7,7 +7,6 @@ use Rattle.irig_port.specs.Tallies.{IsTallyOf, tally_told}
 use Rattle.irig_vote.specs.declared.votes.Tells.{Tells}
 use Rattle.irig_vote.specs.Vote.{vote_of}
 use Rattle.irig_reader.specs.declared.rule.Step.{Step}
-use Rattle.irig_reader.specs.Held.{AreMarkedLate}
 use Rattle.irig_reader.specs.History.{Fed, fed_to, ReaderHistory}
 use Rattle.irig_reader.specs.Rules.{IsReaderRules}
 use Rattle.irig_reader.specs.Rule.{state_of, step_of}
@@ -41,7 +40,6 @@ pub record IsReaderOf (r : IrigReader) (h : ReaderHistory) : Type 0 where
   pub redundancy : redundancy_in r.setup ≡ h.redundancy
   pub heard : HaveHeard r.ports h.fed
   pub state : state_in r.state ≡ state_of h.reader_rules h.table h.votes
-  pub marked : AreMarkedLate h.votes
   pub in_range : IsReaderRules (reader_rules_in r.setup)
   pub is_state : IsState r.setup.lock_after r.state
 

@@ -11,7 +11,7 @@ ghost use Rattle.irig_hold.specs.Truth.{IsTrueTable};
 ghost use Rattle.irig_reader.specs.declared.report.Lock.TheVariants as Lock;
 ghost use Rattle.irig_reader.specs.declared.report.Cause.TheVariants as Cause;
 ghost use Rattle.irig_reader.specs.Clean.{IsClean};
-ghost use Rattle.irig_reader.specs.Held.{IsSince, IsTrueSince};
+ghost use Rattle.irig_reader.specs.Held.{AreMarkedLate, IsSince, IsTrueSince};
 ghost use Rattle.irig_reader.specs.Rule.{step_of};
 ghost use Rattle.irig_reader.specs.Rules.{IsReaderRules};
 ghost use Rattle.irig_reader.specs.History.{Fed, fed_to, no_pulses, with_width, with_widths, ReaderHistory, new_history, after_pulse, after_pulses, after_tick, after_restart, report_at_tick};
@@ -146,11 +146,14 @@ pub extern "C" fn irig_reader_tick(reader: &mut IrigReader, report: &mut IrigRep
         → (report_in report.new).cause ≡ Cause.Voted
         → (report_in report.new).announce ≡ Some u → IsSecond t (n + 1) u }
     // A second that a reader with a history announces without a vote is true by the last one: if
-    // that vote, so many edges back, was true, and so is the table.
+    // that vote, so many edges back, was true, and so is the table. The votes of the history have
+    // to be such as ports tell; those that the calls make are (`marked`).
     ensures held { (h : ReaderHistory) (t : TimelineValue) (n edges : ℕ) (u : UtcSecond)
-        → IsReaderOf reader.old h → IsTimeline t → IsTrueTable t h.table
+        → IsReaderOf reader.old h → AreMarkedLate h.votes → IsTimeline t → IsTrueTable t h.table
         → IsTrueSince t n (after_tick h).votes edges → 0 < edges
         → (report_in report.new).announce ≡ Some u → IsSecond t (n + 1 + edges) u }
+    ensures marked { (h : ReaderHistory) → AreMarkedLate h.votes
+        → AreMarkedLate (after_tick h).votes }
     // The lock says how far back the last vote lies.
     ensures last { (h : ReaderHistory) (edges : ℕ) → IsReaderOf reader.old h
         → (report_in report.new).lock ≡ Lock.Holdover edges → IsSince (after_tick h).votes edges }

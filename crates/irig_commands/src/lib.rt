@@ -9,4 +9,4 @@ mod request;
 
 pub use fault::{Fault, report};
 pub use program::drive;
-pub use request::serve;
+pub use request::{run_input, serve};

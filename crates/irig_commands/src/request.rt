@@ -85,7 +85,12 @@ fn leap_of(pending: Option<Pending>) -> Option<Leap>
     }
 }
 
-fn run_input<R: Eprint + AllocGlobal, I: BufRead, O: Write>(
+/// Runs the scenario on an input: the standard one, or a FILE that was opened. Neither device may
+/// have failed before.
+///
+/// `Refused` if a line of it is refused, which the standard error then explains; `Read` if the
+/// input can't be read to its end, `Write` if the output fails; `Memory` if there was none.
+pub fn run_input<R: Eprint + AllocGlobal, I: BufRead, O: Write>(
     rt: &R,
     input: &mut Watched<I>,
     output: &mut Watched<O>,

@@ -63,7 +63,6 @@ returns-clause-after c h s =
       redundancy = ap (λ (x : IrigSetup). redundancy_in x) setup ∙ s.redundancy;
       heard = ports;
       state = c.state_for_c-reader.ensures.is ∙ after;
-      marked = votes_marked h s.marked;
       in_range = subst (λ (x : IrigSetup). IsReaderRules (reader_rules_in x)) (sym setup) s.in_range;
       is_state = subst (λ (x : IrigSetup). IsState x.lock_after c.state_for_c-reader.result) (sym setup)
           (subst (λ (o : ReaderRules). IsState o.lock_after c.state_for_c-reader.result) c.reader_rules_of-reader_rules.ensures
@@ -80,9 +79,12 @@ returns-clause-truth c t n u sound clean done voted says =
     (subst (λ (x : Report). x.cause ≡ Voted) report voted) (subst (λ (x : Report). x.announce ≡ Some u) report says)
 
 pub returns-clause-held : goal.returns-clause-held
-returns-clause-held c h t n edges u s sound true_table since some says =
-    held_at_tick t n h edges u sound true_table s.marked since some (subst (λ (x : Report). x.announce ≡ Some u) (returns-clause-report c h s) says)
+returns-clause-held c h t n edges u s marked sound true_table since some says =
+    held_at_tick t n h edges u sound true_table marked since some (subst (λ (x : Report). x.announce ≡ Some u) (returns-clause-report c h s) says)
 
 pub returns-clause-last : goal.returns-clause-last
 returns-clause-last c h edges s says =
     held_since h.reader_rules h.table (vote_at_tick h) h.votes edges (subst (λ (x : Report). x.lock ≡ Holdover edges) (returns-clause-report c h s) says)
+
+pub returns-clause-marked : goal.returns-clause-marked
+returns-clause-marked c h marked = votes_marked h marked
