@@ -147,13 +147,12 @@ pub extern "C" fn irig_reader_tick(reader: &mut IrigReader, report: &mut IrigRep
         → (report_in report.new).announce ≡ Some u → IsSecond t (n + 1) u }
     // A second that a reader with a history announces without a vote is true by the last one: if
     // that vote, so many edges back, was true, and so is the table. The votes of the history have
-    // to be such as ports tell; those that the calls make are (`marked`).
+    // to be such as ports tell; those that these calls make are (irig_reader, the law
+    // `held_seconds_are_true`).
     ensures held { (h : ReaderHistory) (t : TimelineValue) (n edges : ℕ) (u : UtcSecond)
         → IsReaderOf reader.old h → AreMarkedLate h.votes → IsTimeline t → IsTrueTable t h.table
         → IsTrueSince t n (after_tick h).votes edges → 0 < edges
         → (report_in report.new).announce ≡ Some u → IsSecond t (n + 1 + edges) u }
-    ensures marked { (h : ReaderHistory) → AreMarkedLate h.votes
-        → AreMarkedLate (after_tick h).votes }
     // The lock says how far back the last vote lies.
     ensures last { (h : ReaderHistory) (edges : ℕ) → IsReaderOf reader.old h
         → (report_in report.new).lock ≡ Lock.Holdover edges → IsSince (after_tick h).votes edges }

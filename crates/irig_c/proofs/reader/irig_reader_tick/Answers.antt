@@ -10,7 +10,7 @@ use Rattle.irig_c.specs.Reports.{report_in}
 use Rattle.irig_reader.specs.History.{after_tick, told_at_tick, vote_at_tick}
 use Rattle.irig_reader.proofs.VoteLaws.{vote_valid}
 use Rattle.irig_reader.proofs.HeldEdges.{held_since}
-use Rattle.irig_reader.proofs.MarkedVotes.{votes_marked, held_at_tick}
+use Rattle.irig_reader.proofs.MarkedVotes.{held_at_tick}
 use Rattle.irig_reader.specs.Rules.{IsReaderRules}
 use Rattle.irig_reader.specs.declared.rules.ReaderRules.{ReaderRules}
 use Rattle.irig_c.specs.declared.table.IrigTable.{IrigTable}
@@ -85,6 +85,3 @@ returns-clause-held c h t n edges u s marked sound true_table since some says =
 pub returns-clause-last : goal.returns-clause-last
 returns-clause-last c h edges s says =
     held_since h.reader_rules h.table (vote_at_tick h) h.votes edges (subst (λ (x : Report). x.lock ≡ Holdover edges) (returns-clause-report c h s) says)
-
-pub returns-clause-marked : goal.returns-clause-marked
-returns-clause-marked c h marked = votes_marked h marked

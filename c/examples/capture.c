@@ -1,0 +1,84 @@
+/* A reader behind three lines of IRIG-B, or five, as the interrupts of a microcontroller: pulses are
+ * measured, frames are found, and the reader is ticked at each edge. docs/WIRES.md says why, and what
+ * this makes true.
+ *
+ * A tick belongs at the edge itself, when each line has ended a frame and none has a pulse of the
+ * next. If more than half of the lines agree on an edge within a millisecond, it is that one; if not,
+ * it is a second after the last by the board's own clock, and the tick comes 5 ms late, since the
+ * lines come first. */
+#include "capture.h"
+
+static const uint32_t SECOND_US = 1000000;
+static const uint32_t ELEMENT_US = 10000;
+static const uint32_t AGREE_US = 1000;
+static const uint32_t PATIENCE_US = 5000;
+
+
+static irig_reader reader;
+static irig_sync sync[LINES];
+static uint32_t rise_us[LINES];      /* the leading edge of the pulse that a line has now */
+static uint32_t frame_end_us[LINES]; /* where the frame ends that a line has heard whole */
+static bool has_frame[LINES];        /* since the last tick */
+static uint32_t last_edge_us;
+static uint32_t next_edge_us;
+
+/* Asks for a tick at an edge, so much later than it. */
+static void tick_at(uint32_t edge_us, uint32_t wait_us) {
+    next_edge_us = edge_us;
+    compare_at(edge_us + wait_us);
+}
+
+uint32_t capture_init(const irig_setup *setup, const irig_table *table) {
+    for (int line = 0; line < LINES; line++) {
+        irig_sync_init(&sync[line]);
+        has_frame[line] = false;
+    }
+    /* So that the first edge on which lines agree is one. */
+    last_edge_us = timer_now() - SECOND_US;
+    return irig_reader_init(&reader, setup, table);
+}
+
+/* Whether more than half of the lines end a frame where this one does. */
+static bool is_agreed(uint8_t line) {
+    int agreed = 0;
+    for (int other = 0; other < LINES; other++)
+        agreed += has_frame[other] &&
+                  frame_end_us[line] - frame_end_us[other] + AGREE_US <= 2 * AGREE_US;
+    return agreed > LINES / 2;
+}
+
+/* A frame has been heard whole: its last pulse has ended, and its edge comes in two milliseconds. */
+static void on_frame(uint8_t line) {
+    frame_end_us[line] = rise_us[line] + ELEMENT_US;
+    has_frame[line] = true;
+    if (!is_agreed(line)) return;
+    if (frame_end_us[line] - last_edge_us > SECOND_US / 2) {
+        tick_at(frame_end_us[line], 0);
+    } else {
+        /* This clock has ticked for that edge already. The lines say where it was. */
+        last_edge_us = frame_end_us[line];
+        tick_at(last_edge_us + SECOND_US, PATIENCE_US);
+    }
+}
+
+void on_capture(uint8_t line, bool is_high, uint32_t time_us) {
+    if (is_high) {
+        rise_us[line] = time_us;
+        return;
+    }
+    uint32_t width_us = time_us - rise_us[line];
+    if (irig_reader_hear(&reader, &sync[line], line, rise_us[line], width_us) == 100)
+        on_frame(line);
+}
+
+void on_compare(void) {
+    irig_report report;
+    last_edge_us = next_edge_us;
+    for (int line = 0; line < LINES; line++) {
+        has_frame[line] = false;
+        irig_sync_idle(&sync[line], timer_now());
+    }
+    irig_reader_tick(&reader, &report);
+    on_second(&report, last_edge_us);
+    tick_at(last_edge_us + SECOND_US, PATIENCE_US);
+}

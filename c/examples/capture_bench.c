@@ -1,0 +1,78 @@
+/* A board for capture.c without hardware: it plays changes of lines from its standard input, a row
+ * for each as `time_us level level level`, and prints what the reader says at each edge, as a line of
+ * a log. tests/waves.py makes such rows of a scenario.
+ *
+ * The words are `lock_after` and `holdover`; then, of a reader with a leap table, its last day, and
+ * the day of each inserted leap second, counted from 2000-01-01. */
+#include "capture.h"
+
+#include <stdio.h>
+#include <stdlib.h>
+
+static uint32_t now_us;
+static uint32_t due_us;
+static bool is_due;
+static unsigned edges;
+
+uint32_t timer_now(void) { return now_us; }
+
+void compare_at(uint32_t time_us) {
+    due_us = time_us;
+    is_due = true;
+}
+
+void on_second(const irig_report *report, uint32_t edge_us) {
+    static const char *const lock[] = {"unlocked", "acquiring", "locked", "holdover"};
+    static const char *const cause[] = {"voted",   "held",       "acquiring", "no-vote",
+                                        "expired", "leap-guard", "jump",      "range-end"};
+    char text[21] = "-";
+    char count[12] = "";
+    (void)edge_us;
+    if (report->announces) irig_second_write(&(irig_utc){report->day, report->sod}, text);
+    if (report->lock_count > 0) snprintf(count, sizeof count, ":%u", (unsigned)report->lock_count);
+    printf("%u relay %s %s%s %s\n", ++edges, text, lock[report->lock], count,
+           cause[report->cause]);
+}
+
+/* Lets the timer run on, and calls for what was asked for meanwhile. The timer wraps. */
+static void run_until(uint32_t time_us) {
+    while (is_due && due_us - now_us <= time_us - now_us) {
+        now_us = due_us;
+        is_due = false;
+        on_compare();
+    }
+    now_us = time_us;
+}
+
+/* Plays the next row. False behind the last. */
+static bool play_row(void) {
+    static bool level[LINES];
+    bool is_high[LINES];
+    unsigned long long time_us;
+    if (scanf("%llu", &time_us) != 1) return false;
+    for (int line = 0; line < LINES; line++) {
+        int next;
+        if (scanf("%d", &next) != 1) return false;
+        is_high[line] = next != 0;
+    }
+    run_until((uint32_t)time_us);
+    for (uint8_t line = 0; line < LINES; line++)
+        if (is_high[line] != level[line])
+            on_capture(line, level[line] = is_high[line], now_us);
+    return true;
+}
+
+int main(int count, char **words) {
+    if (count < 3 || count > 4 + 64) return 2;
+    irig_setup setup = {.redundancy = LINES == 5 ? IRIG_FIVE_PORTS : IRIG_THREE_PORTS,
+                        .lock_after = (uint8_t)atoi(words[1]),
+                        .holdover = (uint32_t)atoi(words[2])};
+    irig_table table = {0};
+    if (count > 3) table.until = (uint32_t)atoi(words[3]);
+    for (int word = 4; word < count; word++)
+        table.leaps[table.len++].day = (uint32_t)atoi(words[word]);
+    if (capture_init(&setup, &table) != IRIG_DONE) return 2;
+    while (play_row()) {
+    }
+    return 0;
+}
