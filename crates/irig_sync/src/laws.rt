@@ -1,0 +1,70 @@
+//! Laws of the synchroniser over its definitions. They have no code.
+
+ghost use Rattle.std.specs.Prelude.{◌≡◌, ◌↔◌, ◌<◌, ◌≤◌, ◌+◌, ◌-◌, ◌%◌, ◌^◌, ℕ, true, List, [], ◌∷◌};
+ghost use Rattle.irig_frame.specs.declared.symbol.Symbol.{Symbol};
+ghost use Rattle.irig_frame.specs.Decoder.{Reads};
+ghost use Rattle.irig_sync.specs.declared.sync.Sync.{Sync};
+ghost use Rattle.irig_sync.specs.Sync.{flag, idle_of, is_marker, is_on_time, clock_gap, place_of};
+ghost use Rattle.irig_sync.specs.Lines.{Pulse, IsSyncOf, IsInTurn, place_after, AreOnTime, ArePlacesFrom, IsTrueLine, IsTimeOf, StandAt, IsAfter, IsSyncAt, IsSoon};
+
+use irig_frame::Coded;
+
+/// A pulse more: what [`Sync::pulse`](crate::Sync::pulse) leaves is of the pulses with this one, if
+/// less than a turn of the clock lies between.
+pub fn one_pulse_more()
+    ensures { (s : Sync) (pulses : List Pulse) (time width : ℕ) → IsSyncOf s pulses
+        → IsInTurn pulses time
+        → IsSyncOf (record {
+          rise_us = time % 2 ^ 32;
+          place = place_of s (time % 2 ^ 32) width;
+          was_marker = flag (is_marker width);
+        }) (record { rise = time; width = width } ∷ pulses) }
+{}
+
+/// What is counted came on time: of as many last pulses as the place says, each but the first came
+/// on time behind the one before. So in step no pulse was lost, and none came between.
+pub fn counted_are_on_time()
+    ensures { (pulses : List Pulse) → AreOnTime (place_after pulses) pulses }
+{}
+
+/// Of a line of true frames no hundred symbols in a row but a whole frame read as a time.
+pub fn no_rotation()
+    ensures { (line : ℕ → Symbol) (k : ℕ) (s : List Symbol) (c : Coded)
+        → IsTrueLine line → StandAt line k s → Reads s c → k % 100 ≡ 0 }
+{}
+
+/// From any state, on a line of true frames that is heard from its a-th element on, each pulse from
+/// the 101st on is counted as the element that it is: so each frame that begins then is whole.
+pub fn found_after_101_pulses()
+    ensures { (line : ℕ → Symbol) (a : ℕ) (places : ℕ → ℕ) → IsTrueLine line
+        → ArePlacesFrom line a places → (k : ℕ) → a + 100 ≤ k → places k ≡ k % 100 + 1 }
+{}
+
+/// A pulse of a line that comes behind another one, whatever was lost between, is on time exactly
+/// if it is that of the next element: so no loss moves a symbol. (Less than a turn of the clock
+/// lies between: see [`no_wrap`].)
+pub fn no_slip()
+    ensures { (start j k before time : ℕ) → IsTimeOf start j before → IsTimeOf start k time
+        → j < k → time - before < 2 ^ 32
+        → (is_on_time (clock_gap (before % 2 ^ 32) (time % 2 ^ 32)) ≡ true) ↔ (k ≡ j + 1) }
+{}
+
+/// The clock's wrap never shows: if [`Sync::idle`](crate::Sync::idle) is called at least once in
+/// half an hour, each pulse has the place that it would have by a clock that does not wrap, however
+/// long the line was silent.
+pub fn no_wrap()
+    ensures first { (s : Sync) (now : ℕ) → IsSyncOf s [] → IsSyncAt s [] now }
+    ensures place { (s : Sync) (pulses : List Pulse) (now time width : ℕ) → IsSyncAt s pulses now
+        → IsAfter pulses time → IsSoon now time → place_of s (time % 2 ^ 32) width
+        ≡ place_after (record { rise = time; width = width } ∷ pulses) }
+    ensures pulse { (s : Sync) (pulses : List Pulse) (now time width : ℕ) → IsSyncAt s pulses now
+        → IsAfter pulses time → IsSoon now time
+        → IsSyncAt (record {
+          rise_us = time % 2 ^ 32;
+          place = place_of s (time % 2 ^ 32) width;
+          was_marker = flag (is_marker width);
+        })
+        (record { rise = time; width = width } ∷ pulses) time }
+    ensures idle { (s : Sync) (pulses : List Pulse) (now time : ℕ) → IsSyncAt s pulses now
+        → now ≤ time → IsSoon now time → IsSyncAt (idle_of s (time % 2 ^ 32)) pulses time }
+{}
