@@ -4,3 +4,7 @@ pub mod LogLaws
 pub mod LastLines
 pub mod RowLaws
 pub mod BrokenLines
+pub mod PortWordLaws
+pub mod VotedTicks
+pub mod NextLines
+pub mod PortWordFacts

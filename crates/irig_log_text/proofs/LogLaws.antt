@@ -113,6 +113,9 @@ pub word_no_blank : (l : List ℕ) → IsWord l → NoBlank l
 word_no_blank [] h = tt
 word_no_blank (b ∷ bs) h = (λ e. omega (arith, h.0, e), word_no_blank bs h.1)
 
+pub time_no_blank : (o : Option UtcSecond) → NoBlank (time_shown_text o)
+time_no_blank o = word_no_blank (time_shown_text o) (time_word o)
+
 -- what stands before the first blank, and after it
 pub split : (a b s t : List ℕ) → NoBlank a → NoBlank b → a ++ (32 ∷ s) ≡ b ++ (32 ∷ t) → (a ≡ b) × (s ≡ t)
 split [] [] s t h k e = (refl, cc)

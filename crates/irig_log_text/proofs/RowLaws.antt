@@ -85,7 +85,7 @@ fault_word fault =
     words_join (decimal (number_of fault)) _ (decimal_word (number_of fault)) (words_join (codes ":") _ colon
     (words_join (name_of fault) (detail_text (codes ":") (detail_of fault)) (fault_name_word fault) (detail_word (detail_of fault))))
 
-told_word : (truth : Option Claim) (told : Told) → IsWord (port_word truth told)
+pub told_word : (truth : Option Claim) (told : Told) → IsWord (port_word truth told)
 told_word truth tells.Silence = word_by_test (codes "silence") refl
 told_word truth (tells.Fault fault) = words_join (codes "fault:") _ (word_by_test (codes "fault:") refl) (fault_word fault)
 told_word truth (tells.Poor quality) = words_join (codes "poor:") _ (word_by_test (codes "poor:") refl) (decimal_word quality)

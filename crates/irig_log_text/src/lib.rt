@@ -1,6 +1,7 @@
 //! The text of a log: the lines of its entries, of what ports told, and its last line.
 #![tactic(auto)]
 
+mod laws;
 mod port_text;
 mod shown;
 mod text;

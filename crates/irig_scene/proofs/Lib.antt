@@ -10,12 +10,14 @@ pub mod RunLaws
 pub mod TrueLines
 pub mod PlantLines
 pub mod BrokenLogs
-pub mod WrittenLaws
 pub mod PortLineLaws
+pub mod VouchedByPorts
+pub mod WrittenLaws
 pub mod HealthyRuns
 pub mod HealthyFacts
 pub mod RunFacts
 pub mod VouchedFacts
 pub mod BrokenFacts
+pub mod ByPortsFacts
 pub mod PortFacts
 pub mod StandardFacts

@@ -35,7 +35,7 @@ digit_first : (l rest : List ℕ) → 0 < length l → IsNumber l → is_port_li
 digit_first [] rest some h = absurd (omega (arith, some))
 digit_first (x ∷ xs) rest some h = elim (eqb_tells x 32) [ inl e ↦ absurd (omega (arith, e.1, h.0.0)) | inr e ↦ e.0 ]
 
-entry_is_none : (names : List (List ℕ)) (e : Entry) → e.edge < 2 ^ 64 → is_port_line (entry_line names e) ≡ false
+pub entry_is_none : (names : List (List ℕ)) (e : Entry) → e.edge < 2 ^ 64 → is_port_line (entry_line names e) ≡ false
 entry_is_none names e few = digit_first (decimal e.edge) _ (decimal_nonempty e.edge few) (decimal_number e.edge)
 
 -- all that is left of the lines of ticks
@@ -63,7 +63,7 @@ text_of_entry_rows names all es = text_of_rows names (filter (λ e. all || is_so
 
 -- ---- last lines
 
-refusal_is_none : (n : ℕ) (k : Refusal) → is_port_line (refusal_line n k) ≡ false
+pub refusal_is_none : (n : ℕ) (k : Refusal) → is_port_line (refusal_line n k) ≡ false
 unfolding refusal_line
 refusal_is_none n k = refl
 

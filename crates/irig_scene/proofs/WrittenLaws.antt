@@ -14,10 +14,12 @@ use Rattle.irig_scene.specs.Run.{RanOn, RanShown}
 use Rattle.irig_scene.specs.LogLines.{OfWritten, TellsTruth, VouchesForItself}
 use Rattle.irig_scene.specs.VouchedLines.{VouchesByPlantLine}
 use Rattle.irig_scene.specs.BrokenLogs.{VouchesUntilBroken}
+use Rattle.irig_scene.specs.VouchedByPorts.{VouchesByPorts}
 use Rattle.irig_scene.specs.WholeRun.{RunsTruly, left, written}
 use Rattle.irig_scene.proofs.TrueLines.{tells_truth, vouches_for_itself}
 use Rattle.irig_scene.proofs.PlantLines.{vouches_by_plant_line}
 use Rattle.irig_scene.proofs.BrokenLogs.{vouches_until_broken}
+use Rattle.irig_scene.proofs.VouchedByPorts.{vouches_by_ports}
 
 whole_part : (old new : Option (List ℕ)) (text : List ℕ) → Appends old new text → AppendsPart old new text
 whole_part old new text wrote = record { front = text; rest = []; whole = sym (append-nil text); wrote = wrote }
@@ -53,6 +55,7 @@ runs_truly remaining contents shown result before after old new ran read write =
       vouches = of_run VouchesForItself result shown (left remaining before) (left remaining after) (written contents old) (written contents new) (vouches_for_itself shown) ran;
       vouches_by_plant_line = of_run VouchesByPlantLine result shown (left remaining before) (left remaining after) (written contents old) (written contents new) (vouches_by_plant_line shown) ran;
       vouches_until_broken = of_run VouchesUntilBroken result shown (left remaining before) (left remaining after) (written contents old) (written contents new) (vouches_until_broken shown) ran;
+      vouches_by_ports = of_run VouchesByPorts result shown (left remaining before) (left remaining after) (written contents old) (written contents new) (vouches_by_ports shown) ran;
       truth = of_run TellsTruth result shown (left remaining before) (left remaining after) (written contents old) (written contents new) (tells_truth shown) ran;
       ran = ran;
       read = read;

@@ -6,6 +6,7 @@ pub mod Run
 pub mod LogLines
 pub mod VouchedLines
 pub mod BrokenLogs
+pub mod VouchedByPorts
 pub mod WholeRun
 pub mod LineRuns
 pub mod HealthyRun

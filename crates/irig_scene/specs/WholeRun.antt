@@ -11,6 +11,7 @@ use Rattle.irig_scene.specs.declared.fault.SceneFault.TheVariants.{Read, Write}
 use Rattle.irig_scene.specs.LogLines.{OfWritten, TellsTruth, VouchesForItself}
 use Rattle.irig_scene.specs.VouchedLines.{VouchesByPlantLine}
 use Rattle.irig_scene.specs.BrokenLogs.{VouchesUntilBroken}
+use Rattle.irig_scene.specs.VouchedByPorts.{VouchesByPorts}
 use Rattle.irig_scene.specs.Run.{RanShown}
 
 -- what the input has left, by what a device of its kind has left
@@ -38,6 +39,10 @@ pub record RunsTruly {R W : Type 0} (remaining : R → Bytes) (contents : W → 
   -- of any reader that stands before the one of that edge
   pub vouches_until_broken : IfSome (left remaining before) (λ x.
       OfWritten (written contents old) (written contents new) (VouchesUntilBroken x))
+  -- a log with port lines vouches line by line, whatever its last line says: the line of a vote is
+  -- true by the port line behind it, unless most ports told one and the same untrue claim there
+  pub vouches_by_ports : IfSome (left remaining before) (λ x.
+      OfWritten (written contents old) (written contents new) (VouchesByPorts x))
   -- the headline over bytes: each whole line written that shows a time shows T of its edge, if its
   -- reader's table is true and its ports were kept up to that edge
   pub truth : IfSome (left remaining before) (λ x.

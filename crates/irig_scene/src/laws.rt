@@ -1,6 +1,6 @@
 //! Laws of scenarios over their definitions. They have no code.
 
-ghost use Rattle.std.specs.Prelude.{◌≡◌, ◌<◌, ◌≤◌, ◌^◌, ◌++◌, ℕ, Bool, Some, None, Option, is_some, List, [], ◌∷◌, All, codes, length, true, false};
+ghost use Rattle.std.specs.Prelude.{◌≡◌, ◌<◌, ◌≤◌, ◌^◌, ◌++◌, ℕ, Bool, Some, None, Option, is_some, List, [], ◌∷◌, All, codes, length, map, true, false};
 ghost use Rattle.irig_time.specs.Timelines.{TimelineValue, second_at};
 ghost use Rattle.irig_plant.specs.HealthyPlant.{seconds_of, healthy_log};
 ghost use Rattle.irig_plant.specs.Premises.{IsKept};
@@ -13,13 +13,17 @@ ghost use Rattle.irig_scenario.specs.PlantLine.{Plan};
 ghost use Rattle.irig_scene.specs.HealthyRun.{IsOfSeconds, IsHealthyRun, HasTimeLine};
 ghost use Rattle.irig_scene.specs.Scene.{Scene, scene, Refused, meaning, meaning_of, ending_text, output, output_shown};
 ghost use Rattle.irig_scene.specs.PlayerRuns.{ticks_among};
-ghost use Rattle.irig_log_text.specs.Text.{entry_text, entries_text, port_line, time_shown_text};
+ghost use Rattle.irig_log_text.specs.Text.{entry_text, entries_text, port_line, port_word, time_shown_text};
 ghost use Rattle.irig_scene.specs.PortLines.{is_port_line, without_port_lines, ports_too};
 ghost use Rattle.irig_log_text.specs.LogLines.{whole_lines, Shows, ShowsNothing};
+ghost use Rattle.irig_log_text.specs.PortWords.{ShowsWords};
+ghost use Rattle.irig_vote.specs.Vote.{ports_of};
 ghost use Rattle.irig_scene.specs.LogLines.{TellsTruth, VouchesForItself};
 ghost use Rattle.irig_scene.specs.BrokenLogs.{VouchesUntilBroken};
+ghost use Rattle.irig_scene.specs.VouchedByPorts.{VouchesByPorts};
 ghost use Rattle.irig_scene.specs.VouchedLines.{IsPlantLineOf, VouchesByPlantLine};
 
+use irig_log_text::Shown;
 use irig_plant::{Entry, ToldEntry};
 
 /// If the premises hold for all readers and ticks of the events that the bytes give, each entry of
@@ -43,6 +47,10 @@ pub fn logs_are_true()
     // If the last line says which edge broke the premises, the lines until then are true.
     ensures broken { (x : List ℕ) (all : Bool) (written rest : List ℕ)
         → output x all ≡ written ++ rest → VouchesUntilBroken x written }
+    // With port lines too, the line of a vote is true by the one behind it, whatever the last line
+    // says.
+    ensures ports { (shown : Shown) (x written rest : List ℕ)
+        → output_shown x shown ≡ written ++ rest → VouchesByPorts x written }
 {}
 
 /// The plant line of some bytes says one list of names and one timeline.
@@ -52,8 +60,8 @@ pub fn plant_lines_read_one_way()
         → (names ≡ other) × (times ≡ more) }
 {}
 
-/// The line of an entry shows its edge, reader and time, and nothing else; a last line shows
-/// nothing.
+/// The line of an entry shows its edge, reader and time, the port line of a tick its edge, reader
+/// and words, and each nothing else; a last line shows nothing.
 pub fn lines_read_one_way()
     ensures entry { (names : List (List ℕ)) (e : Entry) → are_names names ≡ true
         → e.edge < 2 ^ 64 → e.reader < length names
@@ -62,6 +70,15 @@ pub fn lines_read_one_way()
     ensures one_way { (names : List (List ℕ)) (line : List ℕ) (r n q m : ℕ) (time other : List ℕ)
         → are_names names ≡ true → Shows names line r n time → Shows names line q m other
         → (r ≡ q) × (n ≡ m) × (time ≡ other) }
+    ensures words { (names : List (List ℕ)) (e : Entry) (t : ToldEntry) → are_names names ≡ true
+        → e.edge < 2 ^ 64 → e.reader < length names
+        → (line : List ℕ) × (port_line names e t ≡ line ++ codes "\n")
+        × ShowsWords names line e.reader e.edge
+        (map (port_word t.truth) (ports_of t.told t.redundancy)) }
+    ensures words_one_way { (names : List (List ℕ)) (line : List ℕ) (r n q m : ℕ)
+        (words others : List (List ℕ)) → are_names names ≡ true
+        → ShowsWords names line r n words → ShowsWords names line q m others
+        → (r ≡ q) × (n ≡ m) × (words ≡ others) }
     ensures last { (x : Scene) (refused : Option Refused) → are_names x.plan.names ≡ true
         → All (ShowsNothing x.plan.names) (whole_lines (ending_text refused (Some x))) }
 {}

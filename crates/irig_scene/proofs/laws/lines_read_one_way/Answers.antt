@@ -1,5 +1,6 @@
 use Rattle.irig_scene.proofs.NameLaws.{are_names_named}
 use Rattle.irig_log_text.proofs.LogLaws.{entry_is_shown, shown_once}
+use Rattle.irig_log_text.proofs.PortWordLaws.{port_is_shown, words_once}
 use Rattle.irig_scene.proofs.TrueLines.{last_shows_nothing}
 use Rattle.irig_scene.proofs.laws.lines_read_one_way.Goals as goal
 
@@ -10,6 +11,14 @@ pub returns-clause-one_way : goal.returns-clause-one_way
 returns-clause-one_way _ = λ names line r n q m time other named one two.
     let same = shown_once names line r n q m time other (are_names_named names named) one two in
     (same.reader, same.edge, same.time_is)
+
+pub returns-clause-words : goal.returns-clause-words
+returns-clause-words _ = λ names e t named few known. port_is_shown names e t few known
+
+pub returns-clause-words_one_way : goal.returns-clause-words_one_way
+returns-clause-words_one_way _ = λ names line r n q m words others named one two.
+    let same = words_once names line r n q m words others (are_names_named names named) one two in
+    (same.reader, same.edge, same.words_are)
 
 pub returns-clause-last : goal.returns-clause-last
 returns-clause-last _ = λ x refused named. last_shows_nothing x (are_names_named x.plan.names named) refused
