@@ -1,6 +1,6 @@
--- Rounds of events: what a plant runs between two times that its log is let go, and how many entries
--- stand then.
--- Source: docs/SCENARIOS.md, whole seconds.
+-- Rounds: the events that a plant runs between two times that its log is let go, and how many
+-- entries stand then.
+-- Source: docs/SCENARIOS.md, whole seconds; this project's profile.
 use Rattle.std.specs.Prelude.{◌≡◌, ◌≤◌, ℕ, ◌+◌, List, [], ◌∷◌, length, vec_len, Option}
 use Rattle.irig_port.specs.declared.port.Port.{Ghosts}
 use Rattle.irig_plant.specs.declared.event.Event.{Event}
@@ -27,13 +27,13 @@ ticks_among (_ ∷ es) = ticks_among es
 
 -- ---- how many entries stand, whatever happened to the plant
 
--- something happened to a plant
+-- a plant has some history
 pub record HasSomeHistory {P : Type 0} {g : Ghosts P} (plant : Plant P g) : Type 0 where
   pub history : PlantHistory
   pub stands : HasPlantHistory plant history
 
--- a plant has run events: its readers are as many, and no more entries stand than there are ticks
--- among the events
+-- a plant let its log go and ran events, up to a fault if there was one: it has as many readers as
+-- before, and no more entries stand than there are ticks among the events
 pub record RanRound {P : Type 0} {g : Ghosts P} (was : Plant P g) (events : List Event)
     (is : Plant P g) : Type 0 where
   pub happened : HasSomeHistory is

@@ -59,7 +59,11 @@ impl<P: Port> Player<P> {
             rounds.keep_told();
         }
         let text = LogText::new(alloc);
-        Ok(Player { rounds, names, text })
+        Ok(Player {
+            rounds,
+            names,
+            text,
+        })
     }
 
     /// The readers' names, in order.

@@ -17,7 +17,7 @@ use irig_scenario::second_of;
 use irig_time::{Rules, Timeline};
 use std::alloc::Global;
 
-/// Events of which the entries stand together.
+/// Events whose entries stand in the log together.
 #[derive(Drop)]
 pub(crate) enum Round {
     /// One event.
@@ -26,13 +26,13 @@ pub(crate) enum Round {
     Second,
 }
 
-/// A plant, in whose log the entries of its last round stand alone, and the events of a whole
-/// second of it.
+/// A plant whose log has the entries of its last round alone, and the events of its whole second.
 #[derive(Drop)]
 pub(crate) struct Rounds<P: Port> {
     plant: Plant<P>,
     second: Vec<Event>,
     ghost happened: { ∥ HasSomeHistory plant ∥₁ },
+    // It has 1 to 16 readers, and its second no more ticks.
     ghost least: { 1 ≤ vec_len plant.readers },
     ghost most: { vec_len plant.readers ≤ 16 },
     ghost ticks: { ticks_among second.items ≤ vec_len plant.readers },
@@ -98,10 +98,7 @@ impl<P: Port> Rounds<P> {
 }
 
 // Lets the log go, and runs events up to the first that is refused, whose refusal it answers.
-fn run_events<P: Port>(
-    plant: &mut Plant<P>,
-    events: &[Event],
-) -> Result<Option<Refusal>, Failure>
+fn run_events<P: Port>(plant: &mut Plant<P>, events: &[Event]) -> Result<Option<Refusal>, Failure>
     ensures runs { IfOk result (Runs plant.old events.now plant.new) }
     ensures round { HasSomeHistory plant.old → RanRound plant.old events.now plant.new }
     ensures memory { IfErr result (λ failure. failure ≡ Memory) }

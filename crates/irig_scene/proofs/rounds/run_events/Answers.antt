@@ -6,6 +6,21 @@ use Rattle.irig_scene.proofs.PlayLaws.{play_all, play_until}
 use Rattle.irig_scene.proofs.RoundLaws.{few_stand, ran_round, ticks_until}
 use Rattle.irig_scene.proofs.rounds.run_events.Goals as goal
 
+pub returns-in-Ok-clause-round : goal.returns-in-Ok-clause-round
+returns-in-Ok-clause-round g c = λ was.
+    ran_round _ _ was.history c.args.events.now c.args.events.now (omega arith) was.stands
+    (c.in-Ok.ensures.stands (with_cleared_log was.history) (c.clear_log.ensures was.history was.stands))
+
+pub returns-in-Some-clause-round : goal.returns-in-Some-clause-round
+returns-in-Some-clause-round g c = λ was.
+    ran_round _ _ was.history (take c.in-Err.refused.index c.args.events.now) c.args.events.now (ticks_until c.in-Err.refused.index c.args.events.now) was.stands
+    (c.in-Err.ensures.stands_before (with_cleared_log was.history) (c.clear_log.ensures was.history was.stands))
+
+pub returns-in-None-clause-round : goal.returns-in-None-clause-round
+returns-in-None-clause-round g c = λ was.
+    ran_round _ _ was.history (take c.in-Err.refused.index c.args.events.now) c.args.events.now (ticks_until c.in-Err.refused.index c.args.events.now) was.stands
+    (c.in-Err.ensures.stands_before (with_cleared_log was.history) (c.clear_log.ensures was.history was.stands))
+
 pub returns-in-Ok-clause-runs : goal.returns-in-Ok-clause-runs
 returns-in-Ok-clause-runs g c = λ shown x gone p.
     let h = c.clear_log.ensures (history_past gone shown x) p in
@@ -29,18 +44,3 @@ returns-in-Some-clause-runs g c = λ shown x gone p.
       stands = stands;
       few = few_stand x _ _ stands.log;
     }
-
-pub returns-in-Ok-clause-round : goal.returns-in-Ok-clause-round
-returns-in-Ok-clause-round g c = λ was.
-    ran_round _ _ was.history c.args.events.now c.args.events.now (omega arith) was.stands
-    (c.in-Ok.ensures.stands (with_cleared_log was.history) (c.clear_log.ensures was.history was.stands))
-
-pub returns-in-Some-clause-round : goal.returns-in-Some-clause-round
-returns-in-Some-clause-round g c = λ was.
-    ran_round _ _ was.history (take c.in-Err.refused.index c.args.events.now) c.args.events.now (ticks_until c.in-Err.refused.index c.args.events.now) was.stands
-    (c.in-Err.ensures.stands_before (with_cleared_log was.history) (c.clear_log.ensures was.history was.stands))
-
-pub returns-in-None-clause-round : goal.returns-in-None-clause-round
-returns-in-None-clause-round g c = λ was.
-    ran_round _ _ was.history (take c.in-Err.refused.index c.args.events.now) c.args.events.now (ticks_until c.in-Err.refused.index c.args.events.now) was.stands
-    (c.in-Err.ensures.stands_before (with_cleared_log was.history) (c.clear_log.ensures was.history was.stands))
