@@ -1,3 +1,4 @@
+pub mod RoundLaws
 pub mod PlayLaws
 pub mod SecondsPlayed
 pub mod StepLaws

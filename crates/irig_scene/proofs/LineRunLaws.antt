@@ -23,9 +23,9 @@ use Rattle.irig_scenario.specs.PlantLine.{Plan}
 use Rattle.irig_log_text.specs.Text.{refusal_text}
 use Rattle.irig_device.specs.Watched.{AppendsPart}
 use Rattle.irig_scene.specs.Scene.{Scene, scene, events_of, Step, step_to, step_of_plan, step_of_line, step, step_of_command, Meaning, meaning, refusal_at, meaning_at_end, log_text, text_of}
-use Rattle.irig_scene.specs.PlayerRuns.{OutputGrewBy, OutputGrewByPartOf}
+use Rattle.irig_scene.specs.PlayerRuns.{IsPlayerAt, OutputGrewBy, OutputGrewByPartOf, Played}
 use Rattle.irig_scene.specs.Faults.{fault_of, stop_of}
-use Rattle.irig_scene.specs.LineRuns.{IsPlayerAt, IsAt, RanCommand, ProcessedTo, ProcessedLine, ProcessesLine, ProcessesEventLine, MakesPlayer, WroteRest, WrotePart, RanRest, WroteRefusal}
+use Rattle.irig_scene.specs.LineRuns.{IsAt, ProcessedTo, ProcessedLine, ProcessesLine, ProcessesEventLine, MakesPlayer, WroteRest, WrotePart, RanRest, WroteRefusal}
 use Rattle.irig_scene.proofs.SecondsPlayed.{nothing_grew}
 use Rattle.irig_log_text.proofs.TextLaws.{no_lines}
 use Rattle.irig_scene.proofs.StepLaws.{IsFront, front_of_step, front_commanded, step_taken}
@@ -145,7 +145,7 @@ following_takes r was player is n line shown old new same few short full follows
 
 -- what an event line asks for was done
 pub acted_takes : {P : Type 0} {g : Ghosts P} (r : Result (Unit {0}) Stop) (x : Scene) (c : Result Command Refusal) (command : Command) (shown : Shown) (player : Player P g) (old new : Option (List ℕ)) → c ≡ Ok command
-    → RanCommand r x (events_of x.plan command) shown player old new → ProcessedLine r (step_of_command x c) shown (Some x) (Some player) old new
+    → Played r x (events_of x.plan command) shown player old new → ProcessedLine r (step_of_command x c) shown (Some x) (Some player) old new
 acted_takes (Ok done) x c command shown player old new is acted =
     subst (λ (c : Result Command Refusal). ProcessedLine (Ok done) (step_of_command x c) shown (Some x) (Some player) old new) (sym is)
     (record { refused = acted.refused; stands = acted.stands; grew = acted.grew })

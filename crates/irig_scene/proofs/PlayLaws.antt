@@ -1,10 +1,7 @@
 -- Events that are played, by what a plant says of them.
-use Rattle.std.proofs.Common.{◌≡◌, ℕ, zero, suc, ◌+◌, ◌-◌, ◌<◌, ◌≤◌, List, [], ◌∷◌, ◌++◌, take, length, Option, Some, None, true, false, refl, ap, sym, ◌∙◌, arith, inl, inr, slice_get, drop, append-nil, append_assoc, length-append, cond, subst, map}
+use Rattle.std.proofs.Common.{◌≡◌, ℕ, zero, suc, ◌<◌, List, [], ◌∷◌, ◌++◌, take, length, Option, Some, None, true, false, refl, ap, sym, ◌∙◌, arith, inl, inr, slice_get, drop, append-nil, append_assoc, cond, subst}
 use Rattle.std.specs.Prelude.{IfSome, option_and_then}
-use Rattle.std.specs.List.{flat_map, range_with_len}
-use Rattle.std.proofs.lemmas.List.FromFn.{length-range_with_len}
 use Rattle.std.proofs.Math.Seq.{drop-append_seam}
-use Rattle.std.proofs.lemmas.List.{length-drop}
 use Rattle.irig_plant.specs.declared.event.Event.{Event}
 use Rattle.irig_plant.specs.declared.event.Event.TheVariants.{GenEdge, Tick, Carry, Damage, Replay, Raw, Fault, Repair, Restart}
 use Rattle.irig_plant.specs.declared.entry.Entry.{Entry}
@@ -19,14 +16,16 @@ use Rattle.irig_plant.proofs.ToldLaws.{told_length}
 use Rattle.irig_plant.specs.Runs.{events_after, AreAccepted, IsRefused}
 use Rattle.irig_faults.specs.declared.refusal.Refusal.{Refusal}
 use Rattle.irig_scenario.specs.PlantLine.{Plan}
-use Rattle.irig_plant.specs.WholeSecond.{carries, ticks, steps, second_of}
 use Rattle.irig_log_text.specs.declared.shown.Shown.{Shown}
 use Rattle.irig_scene.specs.Scene.{refusal_as}
 use Rattle.irig_scene.specs.Scene.{Play, play, play_by, unless_refused, Scene, scene, log_text}
 use Rattle.std.specs.Io.KnownBytes.{Appends}
 use Rattle.std.proofs.KnownBytes.{Appends-nil}
 use Rattle.irig_device.specs.Watched.{AppendsPart}
-use Rattle.irig_scene.specs.PlayerRuns.{history_shown, after_events, ticks_among, OutputGrewBy, OutputGrewByPartOf}
+use Rattle.irig_scene.specs.declared.player.Player.{Player}
+use Rattle.irig_scene.specs.declared.rounds.Round.{Round}
+use Rattle.irig_scene.specs.Rounds.{events_in, history_shown, RunsFor, Runs}
+use Rattle.irig_scene.specs.PlayerRuns.{second_in, IsPlayerAt, after_events, OutputGrewBy, OutputGrewByPartOf}
 use Rattle.irig_log_text.specs.Text.{lines_text}
 use Rattle.irig_log_text.proofs.TextLaws.{lines_join, same_lines}
 
@@ -94,36 +93,7 @@ grows_by_play s (e ∷ es) ev =
     grows_unless s (option_and_then refusal_as (refusal s e ev)) ev (play s es (e ∷ ev))
     (grows_on s ev (e ∷ ev) (play s es (e ∷ ev)).events (grows_by s e ev) (grows_by_play s es (e ∷ ev)))
 
--- ---- how much it grows
-
--- by an entry a tick
-few_by : (s : Setup) (e : Event) (es ev : List Event) → length (log_of s (e ∷ ev)) + ticks_among es ≤ length (log_of s ev) + ticks_among (e ∷ es)
-few_by s (Tick r) es ev = omega (arith, length-append (log_of s ev) (entry_of s r ev ∷ []))
-few_by s (GenEdge g) es ev = omega arith
-few_by s (Carry g r) es ev = omega arith
-few_by s (Damage g r at width) es ev = omega arith
-few_by s (Replay g r edge) es ev = omega arith
-few_by s (Raw g r widths) es ev = omega arith
-few_by s (Fault g kind) es ev = omega arith
-few_by s (Repair g) es ev = omega arith
-few_by s (Restart r) es ev = omega arith
-
-few_unless : (s : Setup) (k : Option Refusal) (ev : List Event) (rest : Play) (n : ℕ) → length (log_of s rest.events) ≤ length (log_of s ev) + n → length (log_of s (unless_refused k ev rest).events) ≤ length (log_of s ev) + n
-few_unless s None ev rest n h = h
-few_unless s (Some k) ev rest n h = omega arith
-
-few_by_play : (s : Setup) (es ev : List Event) → length (log_of s (play s es ev).events) ≤ length (log_of s ev) + ticks_among es
-few_by_play s [] ev = omega arith
-few_by_play s (e ∷ es) ev =
-    few_unless s (option_and_then refusal_as (refusal s e ev)) ev (play s es (e ∷ ev)) (ticks_among (e ∷ es))
-    (omega (arith, few_by s e es ev, few_by_play s es (e ∷ ev)))
-
-pub few_stand : (x : Scene) (events : List Event) (entries : List Entry)
-    → entries ≡ drop (length (log_of x.plan.setup x.events)) (log_of x.plan.setup (play x.plan.setup events x.events).events) → length entries ≤ ticks_among events
-few_stand x events entries e =
-    let left : length entries ≡ length (log_of x.plan.setup (play x.plan.setup events x.events).events) - length (log_of x.plan.setup x.events) =
-    ap length e ∙ length-drop (length (log_of x.plan.setup x.events)) (log_of x.plan.setup (play x.plan.setup events x.events).events) in
-    omega (arith, left, few_by_play x.plan.setup events x.events)
+-- ---- its text
 
 -- what a log has more is what is left of it past the other
 more_is : {X : Type 0} (a b more : List X) → b ≡ a ++ more → drop (length a) b ≡ more
@@ -190,6 +160,13 @@ nothing_shown x events shown out =
       wrote = record { front = []; rest = text; whole = refl; wrote = Appends-nil out };
     }
 
+-- ---- a round of a player
+
+pub round_ran : {P : Type 0} {g : Ghosts P} (shown : Shown) (x : Scene) (player : Player P g) (round : Round) (is : Plant P g) (k : Option Refusal) → IsPlayerAt shown player x
+    → Runs player.rounds.plant (events_in player.rounds.second.items round) is k → RunsFor shown x (events_in (second_in x.plan) round) is k
+round_ran shown x player round is k at ran =
+    subst (λ (second : List Event). RunsFor shown x (events_in second round) is k) at.second (ran shown x at.gone at.plant)
+
 -- ---- a plant to which nothing has happened
 
 pub begun_with_ports : {P : Type 0} {g : Ghosts P} (p : Plant P g) (shown : Shown) (plan : Plan) → shown.ports ≡ true → HasPlantHistory p (with_told_kept (beginning plan.setup)) → HasPlantHistory p (history_shown shown (scene plan []))
@@ -197,45 +174,3 @@ begun_with_ports p shown plan e h = subst (λ b. HasPlantHistory p (record (hist
 
 pub begun_without_ports : {P : Type 0} {g : Ghosts P} (p : Plant P g) (shown : Shown) (plan : Plan) → shown.ports ≡ false → HasPlantHistory p (beginning plan.setup) → HasPlantHistory p (history_shown shown (scene plan []))
 begun_without_ports p shown plan e h = subst (λ b. HasPlantHistory p (record (history_shown shown (scene plan [])) { keeps_told = b })) (sym e) h
-
--- ---- the ticks of a whole second
-
-ticks_join : (a b : List Event) → ticks_among (a ++ b) ≡ ticks_among a + ticks_among b
-ticks_join [] b = omega arith
-ticks_join (Tick r ∷ es) b = omega (arith, ticks_join es b)
-ticks_join (GenEdge g ∷ es) b = ticks_join es b
-ticks_join (Carry g r ∷ es) b = ticks_join es b
-ticks_join (Damage g r at width ∷ es) b = ticks_join es b
-ticks_join (Replay g r edge ∷ es) b = ticks_join es b
-ticks_join (Raw g r widths ∷ es) b = ticks_join es b
-ticks_join (Fault g kind ∷ es) b = ticks_join es b
-ticks_join (Repair g ∷ es) b = ticks_join es b
-ticks_join (Restart r ∷ es) b = ticks_join es b
-
-ticks_of_ticks : (rs : List ℕ) → ticks_among (map (λ r. Tick r) rs) ≡ length rs
-ticks_of_ticks [] = refl
-ticks_of_ticks (r ∷ rs) = omega (arith, ticks_of_ticks rs)
-
-ticks_of_steps : (gs : List ℕ) → ticks_among (map (λ g. GenEdge g) gs) ≡ 0
-ticks_of_steps [] = refl
-ticks_of_steps (g ∷ gs) = ticks_of_steps gs
-
-ticks_of_frames : (r : ℕ) (gs : List ℕ) → ticks_among (map (λ g. Carry g r) gs) ≡ 0
-ticks_of_frames r [] = refl
-ticks_of_frames r (g ∷ gs) = ticks_of_frames r gs
-
-ticks_of_carries : (gs rs : List ℕ) → ticks_among (flat_map (λ r. map (λ g. Carry g r) gs) rs) ≡ 0
-ticks_of_carries gs [] = refl
-ticks_of_carries gs (r ∷ rs) = omega (arith, ticks_join (map (λ g. Carry g r) gs) (flat_map (λ r. map (λ g. Carry g r) gs) rs), ticks_of_frames r gs, ticks_of_carries gs rs)
-
-pub ticks_of_second : (generators readers : ℕ) → ticks_among (second_of generators readers) ≡ readers
-ticks_of_second generators readers =
-    omega (
-      arith,
-      ticks_join (carries generators readers) (ticks readers ++ steps generators),
-      ticks_join (ticks readers) (steps generators),
-      ticks_of_carries (range_with_len 0 generators) (range_with_len 0 readers),
-      ticks_of_ticks (range_with_len 0 readers),
-      length-range_with_len 0 readers,
-      ticks_of_steps (range_with_len 0 generators),
-    )

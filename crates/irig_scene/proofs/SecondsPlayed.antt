@@ -6,7 +6,7 @@ use Rattle.irig_plant.specs.declared.event.Event.{Event}
 use Rattle.irig_plant.specs.Schedule.{Setup}
 use Rattle.irig_plant.specs.Refusals.{refusal}
 use Rattle.irig_port.specs.declared.port.Port.{Ghosts}
-use Rattle.irig_scene.specs.declared.stage.Stage.{Stage}
+use Rattle.irig_scene.specs.declared.player.Player.{Player}
 use Rattle.irig_faults.specs.declared.refusal.Refusal.{Refusal}
 use Rattle.irig_log_text.specs.declared.shown.Shown.{Shown}
 use Rattle.irig_scene.specs.Scene.{refusal_as}
@@ -14,7 +14,7 @@ use Rattle.irig_plant.specs.WholeSecond.{times}
 use Rattle.irig_scene.specs.Scene.{Scene, scene, Play, play, unless_refused, log_text}
 use Rattle.irig_scene.specs.declared.stop.Stop.{Stop}
 use Rattle.irig_scene.specs.declared.stop.Stop.TheVariants.{Refused, Failed}
-use Rattle.irig_scene.specs.PlayerRuns.{IsStageAt, after_events, OutputGrewBy, OutputGrewByPartOf, PlaysFor, Played}
+use Rattle.irig_scene.specs.PlayerRuns.{IsPlayerAt, after_events, OutputGrewBy, OutputGrewByPartOf, PlaysFor, Played}
 use Rattle.irig_log_text.specs.Text.{lines_text}
 use Rattle.irig_scene.proofs.PlayLaws.{LogGrows, log_keeps, grows_by_play, lines_grow}
 
@@ -108,29 +108,29 @@ grows_past s a b ev (Some r) h =
 
 -- ---- a plant
 
-plays_alike : {P : Type 0} {g : Ghosts P} (x : Scene) (a b : List Event) (shown : Shown) (p : Stage P g) (k : Option Refusal) (o0 o1 : Option (List ℕ))
+plays_alike : {P : Type 0} {g : Ghosts P} (x : Scene) (a b : List Event) (shown : Shown) (p : Player P g) (k : Option Refusal) (o0 o1 : Option (List ℕ))
     → play x.plan.setup a x.events ≡ play x.plan.setup b x.events → PlaysFor x a shown p k o0 o1 → PlaysFor x b shown p k o0 o1
 plays_alike x a b shown p k o0 o1 e h =
     record {
       refused = ap (λ (q : Play). q.refusal) (sym e) ∙ h.refused;
-      stands = subst (λ (q : Play). IsStageAt shown p (scene x.plan q.events)) e h.stands;
+      stands = subst (λ (q : Play). IsPlayerAt shown p (scene x.plan q.events)) e h.stands;
       grew = subst (λ (q : Play). OutputGrewBy shown (Some x) (Some (scene x.plan q.events)) o0 o1) e h.grew;
     }
 
 -- and then others
-then_plays : {P : Type 0} {g : Ghosts P} (x : Scene) (a b : List Event) (shown : Shown) (p q : Stage P g) (k : Option Refusal) (o0 o1 o2 : Option (List ℕ))
+then_plays : {P : Type 0} {g : Ghosts P} (x : Scene) (a b : List Event) (shown : Shown) (p q : Player P g) (k : Option Refusal) (o0 o1 o2 : Option (List ℕ))
     → PlaysFor x a shown p None o0 o1 → PlaysFor (after_events x a) b shown q k o1 o2 → PlaysFor x (a ++ b) shown q k o0 o2
 then_plays x a b shown p q k o0 o1 o2 h l =
     let s = x.plan.setup in
     let e = sym (plays_on s a b x.events h.refused) in
     record {
       refused = ap (λ (r : Play). r.refusal) (sym e) ∙ l.refused;
-      stands = subst (λ (r : Play). IsStageAt shown q (scene x.plan r.events)) e l.stands;
+      stands = subst (λ (r : Play). IsPlayerAt shown q (scene x.plan r.events)) e l.stands;
       grew = subst (λ (r : Play). OutputGrewBy shown (Some x) (Some (scene x.plan r.events)) o0 o2) e
           (grew_on shown (Some x) (Some (after_events x a)) (Some (after_events (after_events x a) b)) o0 o1 o2 h.grew l.grew);
     }
 
-fails_on : {P : Type 0} {g : Ghosts P} (x : Scene) (a b rest : List Event) (shown : Shown) (p : Stage P g) (o0 o1 o2 : Option (List ℕ))
+fails_on : {P : Type 0} {g : Ghosts P} (x : Scene) (a b rest : List Event) (shown : Shown) (p : Player P g) (o0 o1 o2 : Option (List ℕ))
     → PlaysFor x a shown p None o0 o1 → OutputGrewByPartOf shown (Some (after_events x a)) (Some (after_events (after_events x a) b)) o1 o2
     → OutputGrewByPartOf shown (Some x) (Some (after_events x ((a ++ b) ++ rest))) o0 o2
 fails_on x a b rest shown p o0 o1 o2 h l =
@@ -143,17 +143,17 @@ fails_on x a b rest shown p o0 o1 o2 h l =
 
 -- ---- whole seconds
 
-pub no_second : {P : Type 0} {g : Ghosts P} (x : Scene) (es : List Event) (shown : Shown) (p : Stage P g) (out : Option (List ℕ)) → IsStageAt shown p x → PlaysFor x (times 0 es) shown p None out out
+pub no_second : {P : Type 0} {g : Ghosts P} (x : Scene) (es : List Event) (shown : Shown) (p : Player P g) (out : Option (List ℕ)) → IsPlayerAt shown p x → PlaysFor x (times 0 es) shown p None out out
 no_second x es shown p out h = record { refused = refl; stands = h; grew = nothing_grew shown (Some x) out }
 
-pub second_more : {P : Type 0} {g : Ghosts P} (x : Scene) (i : ℕ) (es : List Event) (shown : Shown) (p q : Stage P g) (o0 o1 o2 : Option (List ℕ))
+pub second_more : {P : Type 0} {g : Ghosts P} (x : Scene) (i : ℕ) (es : List Event) (shown : Shown) (p q : Player P g) (o0 o1 o2 : Option (List ℕ))
     → PlaysFor x (times i es) shown p None o0 o1 → PlaysFor (after_events x (times i es)) es shown q None o1 o2 → PlaysFor x (times (i + 1) es) shown q None o0 o2
 second_more x i es shown p q o0 o1 o2 h l =
     plays_alike x (times i es ++ es) (times (i + 1) es) shown q None o0 o2
     (ap (λ more. play x.plan.setup more x.events) (sym (one_time_more i es)))
     (then_plays x (times i es) es shown p q None o0 o1 o2 h l)
 
-stops_at : {P : Type 0} {g : Ghosts P} (x : Scene) (i n : ℕ) (es : List Event) (shown : Shown) (p q : Stage P g) (r : Refusal) (o0 o1 o2 : Option (List ℕ)) → i < n
+stops_at : {P : Type 0} {g : Ghosts P} (x : Scene) (i n : ℕ) (es : List Event) (shown : Shown) (p q : Player P g) (r : Refusal) (o0 o1 o2 : Option (List ℕ)) → i < n
     → PlaysFor x (times i es) shown p None o0 o1 → PlaysFor (after_events x (times i es)) es shown q (Some r) o1 o2 → PlaysFor x (times n es) shown q (Some r) o0 o2
 stops_at x i n es shown p q r o0 o1 o2 lt h l =
     let both = then_plays x (times i es) es shown p q (Some r) o0 o1 o2 h l in
@@ -161,7 +161,7 @@ stops_at x i n es shown p q r o0 o1 o2 lt h l =
     (sym (ap (λ more. play x.plan.setup more x.events) (times_left i n es lt) ∙ plays_no_further x.plan.setup (times i es ++ es) (times (n - (i + 1)) es) x.events r both.refused))
     both
 
-second_fails : {P : Type 0} {g : Ghosts P} (x : Scene) (i n : ℕ) (es : List Event) (shown : Shown) (p : Stage P g) (o0 o1 o2 : Option (List ℕ)) → i < n
+second_fails : {P : Type 0} {g : Ghosts P} (x : Scene) (i n : ℕ) (es : List Event) (shown : Shown) (p : Player P g) (o0 o1 o2 : Option (List ℕ)) → i < n
     → PlaysFor x (times i es) shown p None o0 o1
     → OutputGrewByPartOf shown (Some (after_events x (times i es))) (Some (after_events (after_events x (times i es)) es)) o1 o2
     → OutputGrewByPartOf shown (Some x) (Some (after_events x (times n es))) o0 o2
@@ -170,7 +170,7 @@ second_fails x i n es shown p o0 o1 o2 lt h part =
     (fails_on x (times i es) es (times (n - (i + 1)) es) shown p o0 o1 o2 h part)
 
 -- a second that ends the events
-pub second_ends : {P : Type 0} {g : Ghosts P} (stop : Stop) (x : Scene) (i n : ℕ) (es : List Event) (shown : Shown) (p q : Stage P g) (o0 o1 o2 : Option (List ℕ)) → i < n
+pub second_ends : {P : Type 0} {g : Ghosts P} (stop : Stop) (x : Scene) (i n : ℕ) (es : List Event) (shown : Shown) (p q : Player P g) (o0 o1 o2 : Option (List ℕ)) → i < n
     → PlaysFor x (times i es) shown p None o0 o1 → Played (Err stop) (after_events x (times i es)) es shown q o1 o2 → Played (Err stop) x (times n es) shown q o0 o2
 second_ends (Refused r) x i n es shown p q o0 o1 o2 lt h l = stops_at x i n es shown p q r o0 o1 o2 lt h l
 second_ends (Failed f) x i n es shown p q o0 o1 o2 lt h l = second_fails x i n es shown p o0 o1 o2 lt h l

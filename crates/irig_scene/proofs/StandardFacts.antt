@@ -1,6 +1,6 @@
 -- Known lines, seconds, steps and texts of scenarios, so that a wrong definition does not check.
-use Rattle.std.proofs.Common.{◌≡◌, ℕ, true, false, List, [], ◌∷◌, map, length, Option, Some, None, Ok, Err, pos, refl, sym}
-use Rattle.std.specs.Prelude.{codes}
+use Rattle.std.proofs.Common.{◌≡◌, ◌≤◌, ℕ, ◌+◌, true, false, List, [], ◌∷◌, map, length, Option, Some, None, Ok, Err, pos, refl, sym, arith}
+use Rattle.std.specs.Prelude.{codes, vec_len}
 use Rattle.std.specs.Fmt.{digits}
 use Rattle.irig_control.specs.declared.parity.Parity.TheVariants.{Even}
 use Rattle.irig_time.specs.declared.second.UtcSecond.{UtcSecond}
@@ -15,16 +15,22 @@ use Rattle.irig_reader.specs.declared.report.Lock.{Lock}
 use Rattle.irig_reader.specs.declared.report.Lock.TheVariants as lock
 use Rattle.irig_reader.specs.declared.report.Cause.{Cause}
 use Rattle.irig_reader.specs.declared.report.Cause.TheVariants as cause
+use Rattle.irig_port.specs.declared.port.Port.{Ghosts}
 use Rattle.irig_plant.specs.declared.entry.Entry.{Entry}
+use Rattle.irig_plant.specs.declared.event.Event.{Event}
+use Rattle.irig_plant.specs.declared.plant.Plant.{Plant}
 use Rattle.irig_plant.specs.declared.event.Event.TheVariants.{GenEdge, Tick, Carry, Restart}
 use Rattle.irig_plant.specs.declared.audit.Audit.TheVariants.{Kept, Broken, FalseTable}
 use Rattle.irig_plant.specs.declared.setup.ReaderSetup.{ReaderSetup}
 use Rattle.irig_plant.specs.Schedule.{Setup, setup}
+use Rattle.irig_plant.specs.WholeSecond.{second_of, times as seconds}
 use Rattle.irig_scenario.specs.declared.event_line.Command.TheVariants as command
 use Rattle.irig_faults.specs.declared.refusal.Refusal.TheVariants as refusal
 use Rattle.irig_scene.specs.Lines.{lines, unlines, is_blank, limit_of}
 use Rattle.irig_scenario.specs.PlantLine.{Plan}
 use Rattle.irig_log_text.specs.Text.{entry_text, entries_text, audit_text, refusal_text}
+use Rattle.irig_scene.specs.declared.rounds.Round.TheVariants as round
+use Rattle.irig_scene.specs.Rounds.{events_in, ticks_among, RanRound}
 use Rattle.irig_scene.specs.Scene.{Scene, scene, play, play_by, step_to, step_of_command, step, refusal_at, meaning, meaning_from, meaning_of, output}
 
 -- ---- lines
@@ -45,6 +51,22 @@ known_blanks = refl
 -- 65,536 bytes of a line up to number 1,000,000, and none of a later one
 pub known_limits : map limit_of (1 ∷ 1000000 ∷ 1000001 ∷ []) ≡ 65536 ∷ 65536 ∷ 0 ∷ []
 known_limits = refl
+
+-- ---- rounds
+
+-- one event is a round, and has one tick at most; a whole second of three clocks and two readers has two
+pub known_rounds : (events_in (second_of 3 2) (round.Event (Tick 1)) ≡ Tick 1 ∷ [])
+    × (events_in (second_of 3 2) round.Second ≡ second_of 3 2)
+    × (map ticks_among ((Tick 1 ∷ []) ∷ (Restart 1 ∷ []) ∷ second_of 3 2 ∷ []) ≡ 1 ∷ 0 ∷ 2 ∷ [])
+known_rounds = (refl, refl, refl)
+
+-- two seconds are no round of that plant: they have more ticks than there are readers
+pub two_seconds_are_no_round : ticks_among (seconds 2 (second_of 3 2)) ≤ 2 → ⊥
+two_seconds_are_no_round few = absurd (omega (arith, few))
+
+-- with one entry no more than it has ticks, no plant has run a round
+pub one_entry_is_too_many : {P : Type 0} {g : Ghosts P} (was is : Plant P g) (events : List Event) → vec_len is.log ≡ ticks_among events + 1 → RanRound was events is → ⊥
+one_entry_is_too_many was is events more ran = absurd (omega (arith, more, ran.few))
 
 -- ---- refusals
 

@@ -1,6 +1,7 @@
 pub mod Lines
 pub mod Scene
 pub mod Faults
+pub mod Rounds
 pub mod PlayerRuns
 pub mod Run
 pub mod LogLines

@@ -3,7 +3,6 @@
 use Rattle.std.specs.Prelude.{◌≡◌, ℕ, ◌+◌, List, [], ◌∷◌, ◌++◌, length, Option, Some, None, Result, Ok, Err, ⊤, ◌-◌, nat_lt, if◌then◌else◌}
 use Rattle.std.specs.Io.KnownBytes.{Appends}
 use Rattle.irig_port.specs.declared.port.Port.{Ghosts}
-use Rattle.irig_plant.specs.declared.event.Event.{Event}
 use Rattle.irig_scene.specs.declared.outcome.Outcome.{Outcome}
 use Rattle.irig_scene.specs.declared.player.Player.{Player}
 use Rattle.irig_scene.specs.declared.fault.SceneFault.{SceneFault}
@@ -20,50 +19,17 @@ use Rattle.irig_log_text.specs.Text.{refusal_text}
 use Rattle.irig_scenario.specs.EventLine.{command_in_line}
 use Rattle.irig_scene.specs.Run.{IsDone, IsRefused}
 use Rattle.irig_device.specs.Watched.{AppendsPart}
-use Rattle.irig_scenario.specs.declared.event_line.Command.{Command}
 use Rattle.irig_log_text.specs.declared.shown.Shown.{Shown}
-use Rattle.irig_scene.specs.PlayerRuns.{IsStageAt, after_events, OutputGrewBy, OutputGrewByPartOf}
-use Rattle.irig_plant.specs.WholeSecond.{second_of}
+use Rattle.irig_scene.specs.PlayerRuns.{IsPlayerAt, OutputGrewBy, OutputGrewByPartOf}
 use Rattle.irig_scenario.specs.PlantLine.{Plan, plan_in_line}
-use Rattle.irig_scene.specs.Scene.{Scene, scene, play, events_of, Step, step, step_of_command, Meaning, meaning_from, meaning_at_end, log_text, text_of}
+use Rattle.irig_scene.specs.Scene.{Scene, scene, Step, step, step_of_command, Meaning, meaning_from, meaning_at_end, log_text, text_of}
 
--- a player stands as a scene leaves it
-pub record IsPlayerAt {P : Type 0} {g : Ghosts P} (shown : Shown) (player : Player P g)
-    (x : Scene) : Type 0 where
-  pub stage : IsStageAt shown player.stage x
-  pub second : player.second.items
-      ≡ second_of (length x.plan.setup.generators) (length x.plan.setup.readers)
-
--- the same, before the plant line too
+-- a player, or none before the plant line, stands as a scene leaves it
 abbrev pub IsAt : {P : Type 0} {g : Ghosts P} → Shown → Option (Player P g) → Option Scene → Type 0
 IsAt shown None None = ⊤
 IsAt shown None (Some x) = ⊥
 IsAt shown (Some player) None = ⊥
 IsAt shown (Some player) (Some x) = IsPlayerAt shown player x
-
--- a player of this scene did what a line asks for
-pub record RanCommandTo {P : Type 0} {g : Ghosts P} (x : Scene) (events : List Event)
-    (shown : Shown) (player : Player P g) (refusal : Option Refusal) (old new : Bytes)
-    : Type 0 where
-  pub refused : (play x.plan.setup events x.events).refusal ≡ refusal
-  pub stands : IsPlayerAt shown player (after_events x events)
-  pub grew : OutputGrewBy shown (Some x) (Some (after_events x events)) old new
-
--- it did all of that, or up to a refusal, or something failed in the midst of it
-abbrev pub RanCommand : {P : Type 0} {g : Ghosts P} → Result (Unit {0}) Stop → Scene → List Event
-    → Shown → Player P g → Bytes → Bytes → Type 0
-RanCommand (Ok done) x events shown player old new = RanCommandTo x events shown player None old new
-RanCommand (Err (stop.Refused k)) x events shown player old new =
-    RanCommandTo x events shown player (Some k) old new
-RanCommand (Err (stop.Failed f)) x events shown player old new =
-    OutputGrewByPartOf shown (Some x) (Some (after_events x events)) old new
-
--- what a line asks for, whatever scene the player is of
-abbrev pub RunsCommand : {P : Type 0} {g : Ghosts P} → Player P g → Command → Shown
-    → Result (Unit {0}) Stop → Player P g → Bytes → Bytes → Type 0
-RunsCommand was command shown result is old new =
-    (x : Scene) → IsPlayerAt shown was x
-    → RanCommand result x (events_of x.plan command) shown is old new
 
 -- ---- lines
 

@@ -1,7 +1,6 @@
 //! Scenarios: the text of a plant and of what happens in it, line by line, to the text of its log.
 #![tactic(auto)]
 
-mod events;
 mod fault;
 mod laws;
 mod line;
@@ -9,8 +8,8 @@ mod log_writer;
 mod outcome;
 mod player;
 mod refused_line;
+mod rounds;
 mod run;
-mod stage;
 mod stop;
 
 pub use fault::{OUT_OF_MEMORY, READ_FAILED, REFUSED, SceneFault, WRITE_FAILED};

@@ -1,4 +1,4 @@
-//! A plant that plays the events of lines.
+//! A plant that plays the events of lines, with what is written of it.
 
 ghost use Rattle.std.specs.Prelude.{◌≡◌, ◌≤◌, [], IfOk, IfErr, length, ◌||◌};
 ghost use Rattle.irig_device.specs.Watched.{device_of, has_failed};
@@ -7,31 +7,35 @@ ghost use Rattle.irig_scene.specs.Faults.{stopped_write};
 
 use crate::log_writer::{LogText, LogWriter};
 use crate::refused_line::RefusedLine;
-use crate::stage::Stage;
+use crate::rounds::{Round, Rounds};
 use crate::stop::{Failure, Stop};
 use indexmap::IndexSet;
 use irig_device::Watched;
 use irig_gen::Generator;
-use irig_plant::{Audit, Event, Plant};
+use irig_plant::Audit;
 use irig_port::Port;
-use irig_scenario::{BuiltPlant, Command, second_of};
+use irig_scenario::{BuiltPlant, Command};
 use std::alloc::{AllocError, Global};
 use std::io::Write;
 
-/// A plant on its stage, and the events of a whole second of it.
+/// A plant in rounds, its readers' names, and the text of its log.
 #[derive(Drop)]
 pub(crate) struct Player<P: Port> {
-    stage: Stage<P>,
-    second: Vec<Event>,
+    rounds: Rounds<P>,
+    names: IndexSet<String>,
+    text: LogText,
+    ghost few: { length names.keys ≤ 16 },
 }
 
 impl<P: Port> Player<P> {
     ghost use Rattle.std.specs.Prelude.{vec_len};
     ghost use Rattle.irig_plant.specs.History.{AreGenerators, AreReaders};
+    ghost use Rattle.irig_plant.specs.WholeSecond.{times};
     ghost use Rattle.irig_log_text.specs.declared.shown.Shown.{Shown};
     ghost use Rattle.irig_scenario.specs.PlantLine.{plan_of};
-    ghost use Rattle.irig_scene.specs.Scene.{Scene as SceneOf, scene, audit_in};
-    ghost use Rattle.irig_scene.specs.LineRuns.{IsPlayerAt, RunsCommand};
+    ghost use Rattle.irig_scene.specs.Scene.{Scene as SceneOf, scene, audit_in, events_of};
+    ghost use Rattle.irig_scene.specs.PlayerRuns.{IsPlayerAt, Plays, second_in};
+    ghost use Rattle.irig_scene.specs.Rounds.{events_in};
 
     /// The player of a plant to which nothing has happened, for what is to be shown.
     pub(crate) fn new(line: BuiltPlant, log: LogWriter) -> Result<Player<P>, Failure>
@@ -50,27 +54,24 @@ impl<P: Port> Player<P> {
             names,
         } = line;
         let LogWriter { alloc, shown } = log;
-        let second = second_of(alloc, generators.len() as u8, readers.len() as u8);
-        let plant = Plant::new(alloc, timeline, generators, rules, &readers);
-        match (plant, second) {
-            (Ok(mut plant), Ok(second)) => {
-                if shown.ports {
-                    plant.keep_told();
-                }
-                let text = LogText::new(alloc);
-                let stage = Stage { plant, names, text };
-                Ok(Player { stage, second })
-            }
-            _ => Err(Failure::Memory),
+        let mut rounds = Rounds::new(alloc, timeline, generators, rules, &readers)?;
+        if shown.ports {
+            rounds.keep_told();
         }
+        let text = LogText::new(alloc);
+        Ok(Player {
+            rounds,
+            names,
+            text,
+        })
     }
 
     /// The readers' names, in order.
     pub(crate) fn names(&self) -> &IndexSet<String>
-        ensures names { result.now ≡ self.now.stage.names }
+        ensures names { result.now ≡ self.now.names }
         ensures few { length result.now.keys ≤ 16 }
     {
-        &self.stage.names
+        &self.names
     }
 
     /// The audit so far.
@@ -78,14 +79,13 @@ impl<P: Port> Player<P> {
         ensures { (shown : Shown) (x : SceneOf) → IsPlayerAt shown self.now x
             → result ≡ audit_in x }
     {
-        self.stage.plant.audit()
+        self.rounds.plant().audit()
     }
 
     /// What explains the refusal of this line.
     pub(crate) fn refused(self, alloc: Global, line: Vec<u8>) -> RefusedLine {
-        let Player { stage, .. } = self;
-        let Stage { plant, names, .. } = stage;
-        let edges = match edges_of(alloc, plant.generators()) {
+        let Player { rounds, names, .. } = self;
+        let edges = match edges_of(alloc, rounds.plant().generators()) {
             Ok(edges) => edges,
             Err(_) => Vec::new(alloc),
         };
@@ -99,13 +99,58 @@ impl<P: Port> Player<P> {
         log: LogWriter,
         output: &mut Watched<W>,
     ) -> Result<(), Stop>
-        ensures runs { RunsCommand self.old command log.shown result self.new
+        ensures runs { Plays self.old (λ plan. events_of plan command) log.shown result self.new
             (W.contents (device_of output.old)) (W.contents (device_of output.new)) }
         ensures note { has_failed output.new ≡ (has_failed output.old || stopped_write result) }
     {
         match command {
-            Command::Event(event) => self.stage.play(&[event], log, output),
-            Command::Seconds(count) => { self.stage.play_seconds(&self.second, count, log, output) }
+            Command::Event(event) => self.play(Round::Event(event), log, output),
+            Command::Seconds(count) => self.play_seconds(count, log, output),
+        }
+    }
+
+    // Plays so many whole seconds, up to an event that is refused, and writes what the readers said
+    // after each second.
+    fn play_seconds<W: Write>(
+        &mut self,
+        count: u32,
+        log: LogWriter,
+        output: &mut Watched<W>,
+    ) -> Result<(), Stop>
+        ensures plays { Plays self.old (λ plan. times count (second_in plan)) log.shown result
+            self.new (W.contents (device_of output.old)) (W.contents (device_of output.new)) }
+        ensures note { has_failed output.new ≡ (has_failed output.old || stopped_write result) }
+    {
+        for _ in 0..count {
+            self.play(Round::Second, log, output)?;
+        }
+        Ok(())
+    }
+
+    // Plays a round up to the first event that is refused, and writes what the readers said, before
+    // a refusal too.
+    fn play<W: Write>(
+        &mut self,
+        round: Round,
+        log: LogWriter,
+        output: &mut Watched<W>,
+    ) -> Result<(), Stop>
+        ensures plays { Plays self.old (λ plan. events_in (second_in plan) round) log.shown result
+            self.new (W.contents (device_of output.old)) (W.contents (device_of output.new)) }
+        ensures note { has_failed output.new ≡ (has_failed output.old || stopped_write result) }
+    {
+        let refusal = self.rounds.run(round)?;
+        let plant = self.rounds.plant();
+        log.write_log(
+            &mut self.text,
+            &self.names,
+            plant.log(),
+            plant.told(),
+            output,
+        )?;
+        match refusal {
+            None => Ok(()),
+            Some(refusal) => Err(Stop::Refused(refusal)),
         }
     }
 }
