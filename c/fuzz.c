@@ -30,6 +30,17 @@ static int try_reader(int is_near) {
     for (size_t i = 0; i < count; i++) widths_us[i] = (uint32_t)(rand() % 12000);
     irig_reader_pulses(reader, (uint8_t)(rand() % 8), widths_us, count);
     free(widths_us);
+    irig_sync *sync = malloc(sizeof *sync);
+    fill(sync, sizeof *sync);
+    for (int i = 0; i < 20; i++) {
+        uint8_t place = irig_reader_hear(reader, sync, (uint8_t)(rand() % 8),
+                                         sync->rise_us + (uint32_t)(rand() % 12000),
+                                         (uint32_t)(rand() % 12000));
+        if (place > 100 && place != IRIG_NO_PORT) abort();
+        if (irig_sync_pulse(sync, (uint32_t)rand(), (uint32_t)(rand() % 12000)) > 100) abort();
+        irig_sync_idle(sync, (uint32_t)rand());
+    }
+    free(sync);
     for (uint8_t port = 0; port < 6; port++) irig_reader_port(reader, port, told);
     int announced = irig_reader_tick(reader, report) == IRIG_DONE && report->announces;
     if (announced && (report->day < 1 || report->day > 36523 || report->sod > 86400)) abort();

@@ -6,9 +6,9 @@
  * along. A call takes less than 2 KB of stack.
  *
  * Pointers. A pointer must lead to one whole, aligned object that no other call reads or writes
- * meanwhile. A null pointer is answered with IRIG_VALUE (see IRIG_NO_NULL_TESTS at the end). What a
- * structure holds is no duty of the caller: any numbers may lie in it, each call returns, and what
- * is announced is a valid second.
+ * meanwhile. A null pointer is answered with IRIG_VALUE, or as the call says (see
+ * IRIG_NO_NULL_TESTS at the end). What a structure holds is no duty of the caller: any numbers may
+ * lie in it, each call returns, and what is announced is a valid second.
  *
  * Answers. 0 is done. Any other answer is the number of a fault, and nothing was changed; those of
  * a frame have more beside it: `IRIG_FAULT(answer)` is the number, `IRIG_DETAIL(answer)` what it
@@ -170,6 +170,19 @@ typedef struct irig_reader {
 IRIG_ASSERT(sizeof(irig_reader) == 672 && offsetof(irig_reader, table) == 12 &&
             offsetof(irig_reader, state) == 532 && offsetof(irig_reader, ports) == 552);
 
+/* Where a line stands in its frame: one for each line, so that each may have its interrupt. Whatever
+ * lies in it, on a line of true frames each pulse from the 101st on has its place. */
+typedef struct irig_sync {
+    uint32_t rise_us;   /* the leading edge of its last pulse */
+    uint8_t place;      /* of that pulse in its frame, 1 to 100; any other is out of step */
+    uint8_t was_marker; /* 0 no; any other: that pulse was a marker, or the line is idle */
+} irig_sync;
+IRIG_ASSERT(sizeof(irig_sync) == 8 && offsetof(irig_sync, place) == 4 &&
+            offsetof(irig_sync, was_marker) == 5);
+
+/* What irig_reader_hear answers if there is no such port; any place is below. */
+enum { IRIG_NO_PORT = 255 };
+
 enum { IRIG_UNLOCKED = 0, IRIG_ACQUIRING = 1, IRIG_LOCKED = 2, IRIG_HOLDOVER = 3 };
 enum {
     IRIG_VOTED = 0,
@@ -261,6 +274,35 @@ uint32_t irig_reader_pulse(irig_reader *reader, uint8_t port, uint32_t width_us)
 uint32_t irig_reader_pulses(irig_reader *reader, uint8_t port, const uint32_t *widths_us,
                             size_t count);
 
+/* Begins with a line on which nothing came. */
+void irig_sync_init(irig_sync *sync);
+
+/* The place in its frame of the next pulse of a line, once it has ended:
+ *
+ *     0           out of step: it belongs to no frame that is known
+ *     1           the first of a frame, element 0: it rose at a second's edge
+ *     2 to 99
+ *     100         the last, element 99: an edge comes 10 ms after it rose
+ *
+ * `rise_us` is the time of its leading edge, by a clock of microseconds that wraps at 2^32, and
+ * `width_us` its width. A pulse is on time if it rises 9,000 to 10,999 us after the one before. A
+ * marker that comes behind a marker, or not on time, is the first of a frame, and so is a pulse on
+ * time behind the hundredth. Any other pulse that is not on time (behind a lost one, a glitch) is out
+ * of step, and so are those behind it until a frame begins. A null pointer is out of step. */
+uint8_t irig_sync_pulse(irig_sync *sync, uint32_t rise_us, uint32_t width_us);
+
+/* Puts a line out of step that has been idle for a second. To be called at each tick, and at least
+ * once in half an hour: without it a pulse that comes 71 minutes late could be taken for one on time,
+ * since the clock wraps. */
+void irig_sync_idle(irig_sync *sync, uint32_t now_us);
+
+/* A pulse of the line at a port, 0 to 2 of three, 0 to 4 of five: its place, as irig_sync_pulse
+ * answers it. The port is emptied where a frame begins, and fed what has a place; so what it claims
+ * at a tick is carried by the last hundred pulses before it, each on time behind the one before.
+ * IRIG_NO_PORT. docs/WIRES.md says when to tick, and what a fault on the line does. */
+uint8_t irig_reader_hear(irig_reader *reader, irig_sync *sync, uint8_t port, uint32_t rise_us,
+                         uint32_t width_us);
+
 /* An edge: what the reader says by what its ports heard; they are then empty. IRIG_VALUE if the
  * second at which it stands is none, its votes are too many, or its rules are out of range. Other
  * numbers that no reader comes to are taken as they are.
@@ -282,7 +324,8 @@ uint32_t irig_reader_port(const irig_reader *reader, uint8_t port, irig_told *to
 #ifndef IRIG_NO_NULL_TESTS
 
 /* Each call again, by which a null pointer is answered with IRIG_VALUE; by `irig_has_parity` with
- * no, and a call without an answer then does nothing. IRIG_NO_NULL_TESTS leaves them out. */
+ * no, by `irig_sync_pulse` with 0, by `irig_reader_hear` with IRIG_NO_PORT, and a call without an
+ * answer then does nothing. IRIG_NO_NULL_TESTS leaves them out. */
 
 static inline uint32_t irig_tested_encode(const irig_coded *coded, uint8_t *symbols) {
     return coded && symbols ? irig_encode(coded, symbols) : (uint32_t)IRIG_VALUE;
@@ -349,6 +392,25 @@ static inline uint32_t irig_tested_reader_pulses(irig_reader *reader, uint8_t po
                                : (uint32_t)IRIG_VALUE;
 }
 
+static inline void irig_tested_sync_init(irig_sync *sync) {
+    if (sync) irig_sync_init(sync);
+}
+
+static inline uint8_t irig_tested_sync_pulse(irig_sync *sync, uint32_t rise_us,
+                                             uint32_t width_us) {
+    return sync ? irig_sync_pulse(sync, rise_us, width_us) : (uint8_t)0;
+}
+
+static inline void irig_tested_sync_idle(irig_sync *sync, uint32_t now_us) {
+    if (sync) irig_sync_idle(sync, now_us);
+}
+
+static inline uint8_t irig_tested_reader_hear(irig_reader *reader, irig_sync *sync, uint8_t port,
+                                              uint32_t rise_us, uint32_t width_us) {
+    return reader && sync ? irig_reader_hear(reader, sync, port, rise_us, width_us)
+                          : (uint8_t)IRIG_NO_PORT;
+}
+
 static inline uint32_t irig_tested_reader_tick(irig_reader *reader, irig_report *report) {
     return reader && report ? irig_reader_tick(reader, report) : (uint32_t)IRIG_VALUE;
 }
@@ -376,6 +438,10 @@ static inline uint32_t irig_tested_reader_port(const irig_reader *reader, uint8_
 #define irig_reader_init irig_tested_reader_init
 #define irig_reader_pulse irig_tested_reader_pulse
 #define irig_reader_pulses irig_tested_reader_pulses
+#define irig_sync_init irig_tested_sync_init
+#define irig_sync_pulse irig_tested_sync_pulse
+#define irig_sync_idle irig_tested_sync_idle
+#define irig_reader_hear irig_tested_reader_hear
 #define irig_reader_tick irig_tested_reader_tick
 #define irig_reader_restart irig_tested_reader_restart
 #define irig_reader_port irig_tested_reader_port

@@ -11,6 +11,7 @@ static irig_claim claim;
 static irig_setup setup = {.lock_after = 1};
 static irig_table table;
 static irig_reader reader;
+static irig_sync sync;
 static irig_report report;
 static irig_told told;
 static uint8_t symbols[100];
@@ -65,11 +66,21 @@ static void try_reader(void) {
     irig_reader_restart(NULL);
 }
 
+static void try_lines(void) {
+    irig_sync_init(NULL);
+    irig_sync_idle(NULL, 0);
+    if (irig_sync_pulse(NULL, 0, 8000) != 0) exit(1);
+    if (irig_reader_hear(NULL, &sync, 0, 0, 8000) != IRIG_NO_PORT) exit(1);
+    if (irig_reader_hear(&reader, NULL, 0, 0, 8000) != IRIG_NO_PORT) exit(1);
+}
+
 int main(void) {
     /* Without a null pointer the same calls are done. */
     if (irig_coded_of(&second, 0, &coded) || irig_reader_init(&reader, &setup, &table)) return 1;
     try_codec();
     try_seconds();
     try_reader();
-    return 0;
+    try_lines();
+    irig_sync_init(&sync);
+    return irig_reader_hear(&reader, &sync, 0, 0, 8000) == 1 ? 0 : 1;
 }

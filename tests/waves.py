@@ -299,8 +299,8 @@ def main() -> None:
         if levels[line] != level:
             levels[line] = level
             print(time, *levels)
-    # The lines stay as they are for another second.
-    print(FIRST_EDGE_US + len(seconds) * SECOND_US + SECOND_US // 100, *levels)
+    # The lines stay as they are until the last tick has come, as late as it may.
+    print(FIRST_EDGE_US + len(seconds) * SECOND_US + ELEMENT_US + max(late), *levels)
 
 
 if __name__ == "__main__":

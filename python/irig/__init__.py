@@ -7,6 +7,7 @@ codec, the proved reader, and the proved runner of scenarios.
     has_parity, with_parity     the parity bit
     widths, symbols, classify   pulses and symbols
     Reader                      a reader with three or five ports
+    Sync                        which element of a frame a pulse on a line is
     run, read_log               scenarios to logs
     Fault, Refused              what they raise
 
@@ -27,6 +28,7 @@ from .frames import (
     widths,
     with_parity,
 )
+from .lines import Sync
 from .readers import Faulty, Leap, Poor, Reader, Report, Silence, Told, read
 from .scenes import (
     Announced,
@@ -64,6 +66,7 @@ __all__ = [
     "Second",
     "Silence",
     "Silent",
+    "Sync",
     "TableBroken",
     "Told",
     "Verdict",

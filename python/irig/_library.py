@@ -88,6 +88,10 @@ class Reader(Structure):
     _fields_ = [("setup", Setup), ("table", Table), ("state", State), ("ports", Tally * 5)]
 
 
+class Sync(Structure):
+    _fields_ = [("rise_us", c_uint32), ("place", c_uint8), ("was_marker", c_uint8)]
+
+
 class Report(Structure):
     _fields_ = [
         ("announces", c_uint8),
@@ -103,6 +107,7 @@ class Told(Structure):
     _fields_ = [("kind", c_uint8), ("quality", c_uint8), ("fault", c_uint32), ("claim", Claim)]
 
 
+NO_PORT = 255
 Symbols = c_uint8 * 100
 Text = ctypes.c_char * 20
 
@@ -144,6 +149,12 @@ reader_init = _call(_irig, "irig_reader_init", c_uint32, _to(Reader), _to(Setup)
 reader_pulse = _call(_irig, "irig_reader_pulse", c_uint32, _to(Reader), c_uint8, c_uint32)
 reader_pulses = _call(
     _irig, "irig_reader_pulses", c_uint32, _to(Reader), c_uint8, _to(c_uint32), c_size_t
+)
+sync_init = _call(_irig, "irig_sync_init", None, _to(Sync))
+sync_pulse = _call(_irig, "irig_sync_pulse", c_uint8, _to(Sync), c_uint32, c_uint32)
+sync_idle = _call(_irig, "irig_sync_idle", None, _to(Sync), c_uint32)
+reader_hear = _call(
+    _irig, "irig_reader_hear", c_uint8, _to(Reader), _to(Sync), c_uint8, c_uint32, c_uint32
 )
 reader_tick = _call(_irig, "irig_reader_tick", c_uint32, _to(Reader), _to(Report))
 reader_restart = _call(_irig, "irig_reader_restart", None, _to(Reader))

@@ -4,7 +4,7 @@ from __future__ import annotations
 import ctypes
 from array import array
 from dataclasses import dataclass
-from typing import Iterable, Literal, Optional, Tuple, Union
+from typing import Iterable, Literal, Optional, Tuple, Union, overload
 
 from . import _library as c
 from .faults import Detail, Fault, MEANINGS, VALUE, check, detail_of, filled, fitting, words_of
@@ -12,8 +12,10 @@ from .frames import Frame, widths
 from .seconds import Claim, Day, Second, claim_held, day_number
 from .words import CAUSES, LOCKS, Cause, Kind, Lock, Parity, Sbs, Sense, number_of
 
-# What a reader's state begins with: another form of its numbers is another word.
-FORM = "irig reader 1"
+# What a reader's state begins with: another form of its numbers is another word. The first form had
+# no lines.
+FORM = "irig reader 2"
+FIRST_FORM = "irig reader 1"
 
 
 @dataclass(frozen=True)
@@ -102,6 +104,14 @@ def _table(until: Optional[Day], leaps: Iterable[Leap]) -> c.Table:
     return table
 
 
+def _fresh_lines() -> "ctypes.Array[c.Sync]":
+    """Where each of five lines stands on which nothing came."""
+    lines = (c.Sync * 5)()
+    for line in lines:
+        c.sync_init(line)
+    return lines
+
+
 class Reader:
     """A reader of IRIG-B: frames come to its ports, and at each edge it announces the second that
     begins, or is silent, by the reader's rule (docs/READER.md). What it announces with the cause
@@ -146,6 +156,7 @@ class Reader:
             holdover=holdover,
         )
         self._held = c.Reader()
+        self._lines = _fresh_lines()
         check(c.reader_init(self._held, setup, _table(until, leaps)))
 
     def pulse(self, port: int, width_us: int) -> None:
@@ -163,9 +174,42 @@ class Reader:
         place = (ctypes.c_uint32 * count).from_buffer(held) if count else (ctypes.c_uint32 * 1)()
         check(c.reader_pulses(self._held, fitting(ctypes.c_uint8, port, "the port"), place, count))
 
-    def hear(self, port: int, frame: Frame) -> None:
-        """The pulses of a frame at a port."""
-        self.pulses(port, widths(frame))
+    @overload
+    def hear(self, port: int, frame: Frame) -> None: ...
+
+    @overload
+    def hear(self, port: int, rise_us: int, width_us: int) -> int: ...
+
+    def hear(
+        self, port: int, what: Union[Frame, int], width_us: Optional[int] = None
+    ) -> Optional[int]:
+        """`hear(port, frame)`: the pulses of a frame at a port.
+
+        `hear(port, rise_us, width_us)`: a pulse of the line at a port, once it has ended: when it
+        rose and how wide it is, in microseconds; of a time the lowest 32 bits count. It answers the
+        pulse's place in its frame, 1 to 100, or 0 out of step. The port is emptied where a frame
+        begins, and hears what has a place (docs/WIRES.md)."""
+        if width_us is None:
+            if isinstance(what, int):
+                raise TypeError("hear takes a port and a frame, or a port, rise_us and width_us")
+            self.pulses(port, widths(what))
+            return None
+        if not isinstance(what, int):
+            raise TypeError("hear takes a port, rise_us and width_us; rise_us is a number")
+        number = fitting(ctypes.c_uint8, port, "the port").value
+        width = fitting(ctypes.c_uint32, width_us, "the width")
+        line = self._lines[min(number, len(self._lines) - 1)]
+        place = int(c.reader_hear(self._held, line, number, what & 0xFFFFFFFF, width))
+        if place == c.NO_PORT:
+            raise Fault(VALUE, reason=f"there is no port {port}")
+        return place
+
+    def idle(self, now_us: int) -> None:
+        """Puts each line out of step whose last pulse rose a second ago or earlier. To be called at
+        each edge if pulses come by `hear(port, rise_us, width_us)`, and at least once in half an
+        hour."""
+        for line in self._lines:
+            c.sync_idle(line, now_us & 0xFFFFFFFF)
 
     def tick(self) -> Report:
         """The edge: what the reader says by what its ports heard since the last. They are then
@@ -204,13 +248,20 @@ class Reader:
         return f"Reader(lock_after={self.lock_after}, holdover={self.holdover}, ports={self.ports})"
 
     def __getstate__(self) -> Tuple[str, bytes]:
-        return FORM, bytes(self._held)
+        return FORM, bytes(self._held) + bytes(self._lines)
 
     def __setstate__(self, state: Tuple[str, bytes]) -> None:
         form, numbers = state
-        if form != FORM or len(numbers) != ctypes.sizeof(c.Reader):
+        lines = _fresh_lines()
+        size = ctypes.sizeof(c.Reader)
+        if form == FIRST_FORM:
+            numbers += bytes(lines)
+        elif form != FORM:
+            numbers = b""
+        if len(numbers) != size + ctypes.sizeof(lines):
             raise Fault(VALUE, reason="these are the numbers of a reader of another version")
         self._held = c.Reader.from_buffer_copy(numbers)
+        self._lines = type(lines).from_buffer_copy(numbers, size)
 
 
 def read(

@@ -11,6 +11,7 @@
 mod control;
 mod fault;
 mod frame;
+mod line;
 mod reader;
 mod report;
 mod second;

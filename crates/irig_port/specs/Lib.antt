@@ -1,5 +1,6 @@
 pub mod Heard
 pub mod Told
+pub mod Hearing
 pub mod Early
 pub mod Bits
 pub mod Tallies

@@ -7,6 +7,7 @@
 #![tactic(auto)]
 
 mod flow;
+mod hearing;
 mod laws;
 mod port;
 mod table;
@@ -16,6 +17,7 @@ mod verdict;
 mod whole;
 
 pub use flow::FlowPort;
+pub use hearing::hear;
 pub use laws::{carries_is_told, cut_at_101, one_damaged_pulse, telling_of_reading};
 pub use port::Port;
 pub use tally::{FirstFault, Tally};

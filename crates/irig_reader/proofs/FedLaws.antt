@@ -5,10 +5,12 @@ use Rattle.std.proofs.lemmas.Bool.{cases_Bool, ne_eqb}
 use Rattle.std.proofs.lemmas.List.{length-map, length-take}
 use Rattle.irig_frame.specs.Symbols.{symbol_of}
 use Rattle.irig_port.specs.Heard.{symbols_heard, symbols_of}
+use Rattle.irig_port.specs.Hearing.{heard_at}
+use Rattle.irig_port.proofs.HeardLaws.{heard-push}
 use Rattle.irig_vote.specs.Vote.{ports_in}
 use Rattle.irig_vote.specs.declared.redundancy.Redundancy.{Redundancy}
 use Rattle.irig_vote.specs.declared.redundancy.Redundancy.TheVariants.{Three, Five}
-use Rattle.irig_reader.specs.History.{Fed, with_width, with_widths}
+use Rattle.irig_reader.specs.History.{Fed, with_width, with_widths, widths_at}
 
 pub feed_all-nil : (fed : Fed) (port : ℕ) → with_widths fed port [] ≡ fed
 feed_all-nil fed port =
@@ -59,3 +61,14 @@ none_heard (w ∷ ws) =
 pub at_most_five : (redundancy : Redundancy) → ports_in redundancy ≤ 5
 at_most_five Three = omega arith
 at_most_five Five = omega arith
+
+-- a port stands for the symbols of its pulses, after one with a place too
+pub heard-place : (place : ℕ) (ws : List ℕ) (w : ℕ) → symbols_heard (widths_at place ws w) ≡ heard_at place (symbols_heard ws) w
+heard-place place ws w =
+    elim (cases_Bool (place == 0)) [
+      | inl t0 ↦ rw t0 refl
+      | inr f0 ↦ elim (cases_Bool (place == 1)) [
+        | inl t1 ↦ rw (f0, t1) refl
+        | inr f1 ↦ rw (f0, f1) (heard-push ws w)
+      ]
+    ]

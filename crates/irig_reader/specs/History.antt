@@ -75,6 +75,28 @@ after_pulse history port width = record history { fed = with_width history.fed p
 abbrev pub after_pulses : ReaderHistory → ℕ → List ℕ → ReaderHistory
 after_pulses history port widths = record history { fed = with_widths history.fed port widths }
 
+-- the pulses at a port after one that has this place in its frame: out of step the same, at place 1,
+-- where a frame begins, this pulse alone, and else one more
+abbrev pub widths_at : ℕ → List ℕ → ℕ → List ℕ
+widths_at place widths width =
+    if place == 0 then widths else (if place == 1 then width ∷ [] else widths ++ width ∷ [])
+
+-- a port's pulses are these
+abbrev pub with_port : Fed → ℕ → List ℕ → Fed
+with_port fed port widths =
+    if port == 0 then record fed { a = widths }
+    else (if port == 1 then record fed { b = widths }
+    else (if port == 2 then record fed { c = widths }
+    else (if port == 3 then record fed { d = widths }
+    else record fed { e = widths })))
+
+-- the history with a pulse more on the line of a port, with this place in its frame
+abbrev pub after_hearing : ReaderHistory → ℕ → ℕ → ℕ → ReaderHistory
+after_hearing history port place width =
+    record history {
+      fed = with_port history.fed port (widths_at place (fed_to history.fed port) width);
+    }
+
 -- what the ports tell at a tick that comes now
 abbrev pub told_at_tick : ReaderHistory → Tells
 told_at_tick history = record {

@@ -1,7 +1,8 @@
 //! A reader with its ports.
 
-ghost use Rattle.std.specs.Prelude.{◌≡◌, ◌+◌, ◌<◌, ◌==◌, IfSome, Some, ℕ, List, [], length, true, false};
+ghost use Rattle.std.specs.Prelude.{◌≡◌, ◌+◌, ◌<◌, ◌≤◌, ◌==◌, IfSome, Some, ℕ, List, [], length, true, false};
 ghost use Rattle.irig_frame.specs.declared.symbol.Symbol.{Symbol};
+ghost use Rattle.irig_sync.specs.Sync.{flag, is_marker, place_of};
 ghost use Rattle.irig_port.specs.Heard.{symbols_heard};
 ghost use Rattle.irig_time.specs.declared.second.UtcSecond.{UtcSecond};
 ghost use Rattle.irig_time.specs.Seconds.{IsValid};
@@ -16,7 +17,8 @@ ghost use Rattle.irig_reader.specs.declared.report.Cause.TheVariants as Cause;
 use crate::report::Report;
 use crate::rule::{State, step_of};
 use crate::rules::ReaderRules;
-use irig_port::Port;
+use irig_port::{Port, hear};
+use irig_sync::Sync;
 use irig_time::{LeapTable, Rules};
 use irig_vote::{Redundancy, Tells, vote};
 use std::mem;
@@ -48,7 +50,7 @@ pub struct Reader<P: Port> {
 }
 
 impl<P: Port> Reader<P> {
-    ghost use Rattle.irig_reader.specs.History.{new_history, after_pulse, after_pulses, told_at_tick, report_at_tick, after_tick, after_restart, fed_to};
+    ghost use Rattle.irig_reader.specs.History.{new_history, after_pulse, after_pulses, after_hearing, told_at_tick, report_at_tick, after_tick, after_restart, fed_to};
     ghost use Rattle.irig_reader.specs.Readers.{Advances, ForReaderHistory, HasReaderHistory};
 
     /// A reader to which nothing has happened, with rules that are [`in_range`](crate::in_range).
@@ -99,6 +101,31 @@ impl<P: Port> Reader<P> {
     {
         for width_us in widths_us {
             self.pulse(port, *width_us);
+        }
+    }
+
+    /// A pulse of the line at one of the ports, through the line's synchroniser: its place in its
+    /// frame, 1 to 100, or 0 out of step. It rose at `rise_us`, in microseconds of a clock that
+    /// wraps at 2^32, and is `width_us` microseconds wide.
+    ///
+    /// The port is emptied where a frame begins, and is fed what has a place. To be ticked as a
+    /// second begins, behind the hundredth pulse of a frame and before the first of the next has
+    /// ended; [`Sync::idle`] keeps the clock's wrap from showing.
+    pub fn hear(&mut self, port: u8, sync: &mut Sync, rise_us: u32, width_us: u32) -> u8
+        requires { port < ports_in self.old.redundancy }
+        ensures place { result ≡ place_of sync.old rise_us width_us }
+        ensures few { result ≤ 100 }
+        ensures sync { sync.new ≡ record { rise_us = rise_us; place = result;
+            was_marker = flag (is_marker width_us) } }
+        ensures fed { Advances self.old self.new (λ h. after_hearing h port result width_us) }
+        ensures ports { self.new.redundancy ≡ self.old.redundancy }
+    {
+        match port {
+            0 => hear(&mut self.a, sync, rise_us, width_us),
+            1 => hear(&mut self.b, sync, rise_us, width_us),
+            2 => hear(&mut self.c, sync, rise_us, width_us),
+            3 => hear(&mut self.d, sync, rise_us, width_us),
+            _ => hear(&mut self.e, sync, rise_us, width_us),
         }
     }
 

@@ -17,7 +17,8 @@ abbrev pub place_after : List Pulse → ℕ
 place_after [] = 0
 place_after (p ∷ []) = flag (is_marker p.width)
 place_after (p ∷ (q ∷ ps)) =
-    place_at (is_on_time (p.rise - q.rise)) (is_marker p.width) (is_marker q.width) (place_after (q ∷ ps))
+    place_at (is_on_time (p.rise - q.rise)) (is_marker p.width) (is_marker q.width)
+    (place_after (q ∷ ps))
 
 -- the last pulse that came; where none came, a marker begins a frame
 abbrev pub IsLast : Sync → List Pulse → Type 0

@@ -1,0 +1,112 @@
+//! A line that C holds: where it stands in its frame, and a reader that hears through it.
+
+ghost use Rattle.std.specs.Prelude.{◌≡◌, ◌↔◌, ◌≤◌, ◌<◌, ℕ, List, []};
+ghost use Rattle.irig_frame.specs.declared.symbol.Symbol.{Symbol};
+ghost use Rattle.irig_frame.specs.Symbols.{symbol_of};
+ghost use Rattle.irig_port.specs.Heard.{symbols_heard, with_symbol};
+ghost use Rattle.irig_port.specs.Tallies.{IsTallyOf};
+ghost use Rattle.irig_reader.specs.History.{Fed, ReaderHistory, after_hearing, fed_to, widths_at, with_port};
+ghost use Rattle.irig_sync.specs.Lines.{IsSyncOf};
+ghost use Rattle.irig_sync.specs.Sync.{flag, idle_of, is_marker, place_of};
+ghost use Rattle.irig_vote.specs.Vote.{ports_in};
+ghost use Rattle.irig_c.specs.Readers.{HaveHeard, IsReaderOf};
+ghost use Rattle.irig_c.specs.Setups.{redundancy_in};
+
+use crate::reader::IrigReader;
+use crate::setup::is_port;
+use irig_port::Tally;
+use irig_sync::Sync;
+
+/// What is answered of a port that is not there; every place is below.
+const NO_PORT: u8 = 255;
+
+/// Begins with a line on which nothing came.
+#[unsafe(no_mangle)]
+pub extern "C" fn irig_sync_init(sync: &mut Sync)
+    ensures { IsSyncOf sync.new [] }
+{
+    *sync = Sync::none();
+}
+
+/// The place in its frame of the next pulse of a line, 1 to 100, or 0 out of step. It rose at
+/// `rise_us`, in microseconds of a clock that wraps at 2^32, and is `width_us` microseconds wide.
+#[unsafe(no_mangle)]
+pub extern "C" fn irig_sync_pulse(sync: &mut Sync, rise_us: u32, width_us: u32) -> u8
+    ensures place { result ≡ place_of sync.old rise_us width_us }
+    ensures few { result ≤ 100 }
+    ensures new { sync.new ≡ record {
+      rise_us = rise_us;
+      place = result;
+      was_marker = flag (is_marker width_us);
+    } }
+{
+    sync.pulse(rise_us, width_us)
+}
+
+/// Puts a line out of step that has been idle for a second, by a clock that wraps at 2^32: to be
+/// called at each tick, and at least once in half an hour.
+#[unsafe(no_mangle)]
+pub extern "C" fn irig_sync_idle(sync: &mut Sync, now_us: u32)
+    ensures { sync.new ≡ idle_of sync.old now_us }
+{
+    sync.idle(now_us);
+}
+
+/// A pulse of the line at a port, through the line's synchroniser: its place, as
+/// [`irig_sync_pulse`] answers it. The port is emptied where a frame begins, and fed what has a
+/// place. 255 if there is no such port, and nothing is changed.
+#[unsafe(no_mangle)]
+pub extern "C" fn irig_reader_hear(
+    reader: &mut IrigReader,
+    sync: &mut Sync,
+    port: u8,
+    rise_us: u32,
+    width_us: u32,
+) -> u8
+    ensures answer { (result ≡ 255) ↔ (ports_in (redundancy_in reader.old.setup) ≤ port) }
+    ensures refused { result ≡ 255 → (reader.new ≡ reader.old) × (sync.new ≡ sync.old) }
+    ensures place { (result ≡ 255 → ⊥) → result ≡ place_of sync.old rise_us width_us }
+    ensures sync { (result ≡ 255 → ⊥) → sync.new ≡ record {
+      rise_us = rise_us;
+      place = result;
+      was_marker = flag (is_marker width_us);
+    } }
+    ensures fed { (result ≡ 255 → ⊥) → (h : ReaderHistory) → IsReaderOf reader.old h
+        → IsReaderOf reader.new (after_hearing h port result width_us) }
+{
+    if !is_port(&reader.setup, port) {
+        return NO_PORT;
+    }
+    let place = sync.pulse(rise_us, width_us);
+    hear_at(&mut reader.ports, port, place, width_us);
+    place
+}
+
+/// A pulse with this place in its frame at one of five ports.
+fn hear_at(ports: &mut [Tally; 5], port: u8, place: u8, width_us: u32)
+    requires { port < 5 }
+    ensures { (fed : Fed) → HaveHeard ports.old fed → HaveHeard ports.new
+        (with_port fed port (widths_at place (fed_to fed port) width_us)) }
+{
+    ports[usize::from(port)] = heard(ports[usize::from(port)], place, width_us);
+}
+
+/// What a port has heard after a pulse with this place in its frame.
+fn heard(tally: Tally, place: u8, width_us: u32) -> Tally
+    ensures { (widths : List ℕ) → IsTallyOf tally (symbols_heard widths)
+        → IsTallyOf result (symbols_heard (widths_at place widths width_us)) }
+{
+    match place {
+        0 => tally,
+        1 => with_pulse(Tally::none(), width_us),
+        _ => with_pulse(tally, width_us),
+    }
+}
+
+fn with_pulse(mut tally: Tally, width_us: u32) -> Tally
+    ensures { (s : List Symbol) → IsTallyOf tally s
+        → IsTallyOf result (with_symbol s (symbol_of width_us)) }
+{
+    tally.add(width_us);
+    tally
+}

@@ -1,0 +1,121 @@
+"""Lines: pulses with their times, as docs/WIRES.md and c/irig.h have them."""
+from __future__ import annotations
+
+import copy
+import pickle
+import unittest
+from typing import Iterator
+
+import irig
+from irig import Reader, Sync
+
+ELEMENT_US = 10_000
+WRAP = 1 << 32
+FRAME = irig.frame("2016-12-31T23:59:60Z")
+
+
+def pulses(frame: str, start_us: int) -> Iterator[tuple[int, int]]:
+    """When each pulse of a frame rises, and how wide it is."""
+    for element, width in enumerate(irig.widths(frame)):
+        yield start_us + ELEMENT_US * element, width
+
+
+class Lines(unittest.TestCase):
+    def test_the_places_of_a_frame(self) -> None:
+        for start_us in (0, 123_456, WRAP - 500_000, 7 * WRAP - 10):
+            sync = Sync()
+            places = [sync.pulse(*pulse) for pulse in pulses(FRAME, start_us)]
+            self.assertEqual(places, list(range(1, 101)))
+            # Behind the hundredth comes the first of the next.
+            self.assertEqual(sync.pulse(start_us + 100 * ELEMENT_US, 8000), 1)
+
+    def test_what_is_not_on_time(self) -> None:
+        for late_us, place in ((-1001, 0), (-1000, 3), (0, 3), (999, 3), (1000, 0), (10_000, 0)):
+            sync = Sync()
+            sync.pulse(0, 8000)
+            sync.pulse(ELEMENT_US, 2000)
+            self.assertEqual(sync.pulse(2 * ELEMENT_US + late_us, 5000), place, late_us)
+            self.assertEqual(sync.place, place)
+
+    def test_a_marker_begins_a_frame(self) -> None:
+        sync = Sync()
+        sync.pulse(0, 2000)
+        self.assertEqual(sync.pulse(ELEMENT_US, 8000), 0)  # alone, out of step
+        self.assertEqual(sync.pulse(2 * ELEMENT_US, 8000), 1)  # behind a marker
+        self.assertEqual(sync.pulse(5 * ELEMENT_US, 8000), 1)  # behind a pause
+
+    def test_an_idle_line(self) -> None:
+        # 2^32 us late is on time by a clock that wraps, unless the line was seen to be idle.
+        for idles, place in (((), 2), ((1_000_000,), 0), ((999_999,), 2)):
+            sync = Sync()
+            sync.pulse(0, 8000)
+            for now_us in idles:
+                sync.idle(now_us)
+            self.assertEqual(sync.pulse(WRAP + ELEMENT_US, 2000), place)
+
+    def test_copies_go_on_alone(self) -> None:
+        sync = Sync()
+        sync.pulse(0, 8000)
+        for twin in (copy.copy(sync), copy.deepcopy(sync), pickle.loads(pickle.dumps(sync))):
+            self.assertEqual(twin.pulse(ELEMENT_US, 2000), 2)
+            self.assertEqual(repr(sync), "Sync(place=1)")
+        form, numbers = sync.__getstate__()
+        self.assertRaises(irig.Fault, sync.__setstate__, ("another", numbers))
+        self.assertRaises(irig.Fault, sync.__setstate__, (form, numbers[:-1]))
+
+    def test_what_is_out_of_its_range(self) -> None:
+        self.assertRaises(irig.Fault, Sync().pulse, 0, -1)
+        self.assertRaises(irig.Fault, Sync().pulse, 0, WRAP)
+
+
+class Hearing(unittest.TestCase):
+    def test_a_reader_hears_three_lines(self) -> None:
+        reader = Reader(lock_after=1)
+        for port, late_us in enumerate((0, 300, 700)):
+            for rise_us, width_us in pulses(FRAME, 5_000_000 + late_us):
+                place = reader.hear(port, rise_us, width_us)
+            self.assertEqual(place, 100)
+        reader.idle(6_000_000)
+        self.assertEqual(str(reader.tick()), "2017-01-01T00:00:00Z locked voted")
+
+    def test_a_lost_pulse_is_short(self) -> None:
+        reader = Reader()
+        for number, pulse in enumerate(pulses(FRAME, 0)):
+            if number != 50:
+                reader.hear(0, *pulse)
+        self.assertEqual(str(reader.port(0)), "fault 1 Short 50")
+
+    def test_half_a_frame_and_then_a_whole_one(self) -> None:
+        reader = Reader()
+        for pulse in list(pulses(FRAME, 0))[40:]:
+            reader.hear(0, *pulse)
+        for pulse in pulses(irig.frame("2017-01-01T00:00:00Z"), 1_000_000):
+            reader.hear(0, *pulse)
+        self.assertEqual(str(reader.port(0)), "claim 2017-01-01T00:00:00Z unspoken")
+
+    def test_a_port_that_is_not_there(self) -> None:
+        reader = Reader()
+        for port in (3, 5, 255, 256, -1):
+            self.assertRaises(irig.Fault, reader.hear, port, 0, 8000)
+        self.assertEqual(Reader(ports=5).hear(4, 0, 8000), 1)
+
+    def test_words_of_another_kind(self) -> None:
+        self.assertRaises(TypeError, Reader().hear, 0, 8000)
+        self.assertRaises(TypeError, Reader().hear, 0, FRAME, 8000)
+
+    def test_copies_keep_their_lines(self) -> None:
+        reader = Reader()
+        for pulse in list(pulses(FRAME, 0))[:60]:
+            reader.hear(1, *pulse)
+        for twin in (copy.copy(reader), pickle.loads(pickle.dumps(reader))):
+            self.assertEqual(twin.hear(1, 60 * ELEMENT_US, 2000), 61)
+
+    def test_a_reader_without_lines_is_taken_up(self) -> None:
+        reader = Reader()
+        _, numbers = reader.__getstate__()
+        reader.__setstate__(("irig reader 1", numbers[:672]))
+        self.assertEqual(reader.hear(0, 0, 8000), 1)
+
+
+if __name__ == "__main__":
+    unittest.main()
