@@ -44,7 +44,8 @@ flag b = if b then 1 else 0
 -- the place of the next pulse
 abbrev pub place_of : Sync → ℕ → ℕ → ℕ
 place_of s rise width =
-    place_at (is_on_time (clock_gap s.rise_us rise)) (is_marker width) (not (s.was_marker == 0)) s.place
+    place_at (is_on_time (clock_gap s.rise_us rise)) (is_marker width) (not (s.was_marker == 0))
+    s.place
 
 -- a line is idle whose last pulse rose a second or more behind; what lies 2^31 us or more behind by
 -- the clock lies ahead
