@@ -494,7 +494,7 @@ same_or_other i Zero Bad a b = absurd b
 same_or_other i One Bad a b = absurd b
 same_or_other i Marker Bad a b = absurd b
 
-right_or_not : (i : ℕ) (x : Symbol) → IsRight i (Some x) ⊎ ((f : FrameFault) × (element_fault i x ≡ Some f))
+pub right_or_not : (i : ℕ) (x : Symbol) → IsRight i (Some x) ⊎ ((f : FrameFault) × (element_fault i x ≡ Some f))
 right_or_not i Bad = inr (frame_fault.Pulse i, refl)
 right_or_not i Marker = elim (cases_Bool (is_marker_place i)) [ inl e ↦ inl e | inr e ↦ inr (frame_fault.Marker i, rw e refl) ]
 right_or_not i Zero = elim (cases_Bool (is_marker_place i)) [ inl e ↦ inr (frame_fault.Marker i, rw e refl) | inr e ↦ inl e ]

@@ -8,4 +8,7 @@ pub mod TableLaws
 pub mod NumberLaws
 pub mod FrameLaws
 pub mod DamageLaws
+pub mod RunLaws
+pub mod FaultLaws
 pub mod StandardFacts
+pub mod HearingFacts

@@ -27,10 +27,10 @@ use Rattle.irig_port.specs.Told.{is_sbs_wrong, claim_told, coded_told, frame_tol
 use Rattle.irig_port.specs.Damage.{IsFaultOr, IsOtherBit, compares_seconds, unread_places}
 
 -- 2000-01-03T00:00:00Z
-abbrev plain : List Symbol
+abbrev pub plain : List Symbol
 plain = symbols (codes "P00000000P000000000P000000000P110000000P000000000P000000000P000000000P000000000P000000000P000000000P")
 
-abbrev rules : Rules
+abbrev pub rules : Rules
 rules = record { parity = Even; sense = Add; sbs = Check }
 
 -- a wrong length
@@ -82,7 +82,7 @@ known_limit = refl
 -- ---- one damaged pulse
 
 -- 2000-01-03, so many seconds after midnight
-abbrev on_day_2 : ℕ → Claim
+abbrev pub on_day_2 : ℕ → Claim
 on_day_2 sod = record { at = record { day = 2; sod = sod }; mark = Unspoken }
 
 -- the plain frame tells a claim

@@ -1,6 +1,7 @@
 pub mod Heard
 pub mod Told
 pub mod Hearing
+pub mod OwnClaims
 pub mod Early
 pub mod Bits
 pub mod Tallies

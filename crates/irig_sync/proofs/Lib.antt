@@ -1,2 +1,5 @@
 pub mod LineLaws
+pub mod FaultLaws
+pub mod CostLaws
 pub mod StandardFacts
+pub mod FaultFacts

@@ -38,7 +38,7 @@ only_whole line k s c right stands reads =
 
 -- ---- a line is found
 
-marks : (line : ℕ → Symbol) → IsTrueLine line → (k : ℕ) → is_marker_symbol (line k) ≡ is_marker_place (k % 100)
+pub marks : (line : ℕ → Symbol) → IsTrueLine line → (k : ℕ) → is_marker_symbol (line k) ≡ is_marker_place (k % 100)
 marks line right k = of (line k) (right k)
   where
     of : (x : Symbol) → IsRight (k % 100) (Some x) → is_marker_symbol x ≡ is_marker_place (k % 100)
@@ -47,7 +47,7 @@ marks line right k = of (line k) (right k)
     of One h = sym h
     of Bad h = absurd h
 
-step_at : (n : ℕ) → n < 100 → place_at true (is_marker_place ((n + 1) % 100)) (is_marker_place n) (n + 1) ≡ (n + 1) % 100 + 1
+pub step_at : (n : ℕ) → n < 100 → place_at true (is_marker_place ((n + 1) % 100)) (is_marker_place n) (n + 1) ≡ (n + 1) % 100 + 1
 step_at n h =
     eqb-true _ _ (agree_below_at (λ k. eqb (place_at true (is_marker_place ((k + 1) % 100)) (is_marker_place k) (k + 1)) ((k + 1) % 100 + 1)) (λ _. true) 100 n refl h)
 
@@ -157,7 +157,7 @@ one_more s pulses time width h near = record { place = next_place s pulses time 
 
 -- ---- no slip
 
-on_time_is : (g : ℕ) → (is_on_time g ≡ true) ↔ ((9000 ≤ g) × (g < 11000))
+pub on_time_is : (g : ℕ) → (is_on_time g ≡ true) ↔ ((9000 ≤ g) × (g < 11000))
 on_time_is g = search rules
 
 pub slips_not : (start j k before time : ℕ) → IsTimeOf start j before → IsTimeOf start k time → j < k → time - before < 2 ^ 32

@@ -14,7 +14,7 @@ use Rattle.irig_frame.specs.declared.fault.FrameFault.TheVariants as fault
 use Rattle.irig_frame.specs.Faults.{first_wrong}
 use Rattle.irig_sync.specs.declared.sync.Sync.{Sync}
 use Rattle.irig_sync.specs.Sync.{is_marker_symbol, is_marker, is_on_time, clock_gap, place_at, place_behind, place_of, is_idle, idle_of}
-use Rattle.irig_sync.specs.Lines.{Pulse, place_after, AreOnTime, IsTrueLine, ArePlacesFrom, StandAt, IsTimeOf, IsInTurn, IsLive, IsIdle, IsSyncAt, IsSoon}
+use Rattle.irig_sync.specs.Lines.{Pulse, place_after, AreOnTime, symbols_of_last, IsTrueLine, ArePlacesFrom, StandAt, IsTimeOf, IsInTurn, IsLive, IsIdle, IsSyncAt, IsSoon}
 
 -- either side of each bound: 9,000 to 10,999 us are on time, a lost pulse's 20 ms are not
 pub known_gaps : map is_on_time (0 ∷ 1000 ∷ 8999 ∷ 9000 ∷ 10000 ∷ 10999 ∷ 11000 ∷ 20000 ∷ [])
@@ -52,7 +52,7 @@ known_idle = refl
 -- ---- some pulses
 
 -- a pulse each 10 ms, the oldest first, of these widths; what follows has them the newest first
-abbrev pulse : ℕ → ℕ → Pulse
+abbrev pub pulse : ℕ → ℕ → Pulse
 pulse rise width = record { rise = rise; width = width }
 
 -- a marker, a second one 10 ms later, and a bit: the second marker begins a frame
@@ -67,6 +67,10 @@ known_begun = refl
 pub known_after : (place_after (pulse 30000 2000 ∷ begun) ≡ 3) × (place_after (pulse 40000 2000 ∷ begun) ≡ 0)
     × (place_after (pulse 21000 500 ∷ begun) ≡ 0) × (place_after (pulse 31000 2000 ∷ (pulse 21000 500 ∷ begun)) ≡ 0)
 known_after = (refl, refl, refl, refl)
+
+-- the symbols of the last two, the oldest first; of more than there are, those that there are
+pub known_symbols : (symbols_of_last 2 begun ≡ Marker ∷ Zero ∷ []) × (symbols_of_last 5 begun ≡ Marker ∷ Marker ∷ Zero ∷ []) × (symbols_of_last 0 begun ≡ [])
+known_symbols = (refl, refl, refl)
 
 -- the last two came on time, and three did; of four there are not so many, and of two one came 20 ms
 -- behind
@@ -119,10 +123,10 @@ known_at = (
 -- ---- a line of frames
 
 -- 2016-12-31T23:59:59 once a second
-abbrev element : ℕ → Symbol
+abbrev pub element : ℕ → Symbol
 element i = get_or (symbols (codes "P10010101P100101010P110000100P011000110P110000000P011001000P100000000P000001000P111111101P000101010P")) i Bad
 
-abbrev line : ℕ → Symbol
+abbrev pub line : ℕ → Symbol
 line k = element (k % 100)
 
 -- the line's symbols from its k-th on

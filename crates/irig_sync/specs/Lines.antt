@@ -1,8 +1,9 @@
 -- Lines: the pulses that came, and a line of true frames. Times here are those of a clock that does
 -- not wrap.
 -- Source: docs/FRAME.md; IRIG Standard 200-16, format B.
-use Rattle.std.specs.Prelude.{◌≡◌, ℕ, suc, ◌+◌, ◌-◌, ◌*◌, ◌%◌, ◌^◌, ◌<◌, ◌≤◌, ◌⊎◌, true, List, [], ◌∷◌, Some, slice_get, ⊤}
+use Rattle.std.specs.Prelude.{◌≡◌, ℕ, suc, ◌+◌, ◌-◌, ◌*◌, ◌%◌, ◌^◌, ◌<◌, ◌≤◌, ◌⊎◌, true, List, [], ◌∷◌, ◌++◌, Some, slice_get, ⊤}
 use Rattle.irig_frame.specs.declared.symbol.Symbol.{Symbol}
+use Rattle.irig_frame.specs.Symbols.{symbol_of}
 use Rattle.irig_frame.specs.Decoder.{IsRight}
 use Rattle.irig_sync.specs.declared.sync.Sync.{Sync}
 use Rattle.irig_sync.specs.Sync.{is_marker_symbol, is_marker, is_on_time, place_at, flag}
@@ -41,6 +42,11 @@ AreOnTime (suc (suc n)) (p ∷ (q ∷ ps)) =
     (is_on_time (p.rise - q.rise) ≡ true) × AreOnTime (suc n) (q ∷ ps)
 AreOnTime (suc (suc n)) _ = ⊥
 AreOnTime _ _ = ⊤
+
+-- the symbols of the last n of some pulses, the oldest first; the pulses are the newest first
+abbrev pub symbols_of_last : ℕ → List Pulse → List Symbol
+symbols_of_last (suc n) (p ∷ ps) = symbols_of_last n ps ++ symbol_of p.width ∷ []
+symbols_of_last _ _ = []
 
 -- a line of true frames: a marker at each marker element of a frame, and a 0 or a 1 elsewhere
 abbrev pub IsTrueLine : (ℕ → Symbol) → Type 0

@@ -1,11 +1,12 @@
 //! Laws of the synchroniser over its definitions. They have no code.
 
-ghost use Rattle.std.specs.Prelude.{◌≡◌, ◌↔◌, ◌<◌, ◌≤◌, ◌+◌, ◌-◌, ◌%◌, ◌^◌, ℕ, true, List, [], ◌∷◌};
+ghost use Rattle.std.specs.Prelude.{◌≡◌, ◌↔◌, ◌⊎◌, ◌<◌, ◌≤◌, ◌+◌, ◌-◌, ◌*◌, ◌/◌, ◌%◌, ◌^◌, ℕ, suc, true, List, [], ◌∷◌, length};
 ghost use Rattle.irig_frame.specs.declared.symbol.Symbol.{Symbol};
 ghost use Rattle.irig_frame.specs.Decoder.{Reads};
 ghost use Rattle.irig_sync.specs.declared.sync.Sync.{Sync};
 ghost use Rattle.irig_sync.specs.Sync.{flag, idle_of, is_marker, is_on_time, clock_gap, place_of};
 ghost use Rattle.irig_sync.specs.Lines.{Pulse, IsSyncOf, IsInTurn, place_after, AreOnTime, ArePlacesFrom, IsTrueLine, IsTimeOf, StandAt, IsAfter, IsSyncAt, IsSoon};
+ghost use Rattle.irig_sync.specs.OneFault.{ArePulsesBefore, HasOneFault, LeavesTheNext};
 
 use irig_frame::Coded;
 
@@ -67,4 +68,20 @@ pub fn no_wrap()
         (record { rise = time; width = width } ∷ pulses) time }
     ensures idle { (s : Sync) (pulses : List Pulse) (now time : ℕ) → IsSyncAt s pulses now
         → now ≤ time → IsSoon now time → IsSyncAt (idle_of s (time % 2 ^ 32)) pulses time }
+{}
+
+/// A fault costs the places of its own frame alone: on a line of true frames, heard for a hundred
+/// pulses, each pulse has the place of its element, and it has so again from the next frame's first
+/// pulse on if one pulse was lost, or other ones came in its place.
+///
+/// At a frame's last element the first of the next frame has to be left: see `LeavesTheNext`.
+pub fn a_fault_costs_its_own_frame()
+    ensures in_step { (line : ℕ → Symbol) (start k : ℕ) (p : Pulse) (ps : List Pulse)
+        → IsTrueLine line → ArePulsesBefore line start (suc k) (p ∷ ps) → 100 ≤ length ps
+        → place_after (p ∷ ps) ≡ k % 100 + 1 }
+    ensures behind { (line : ℕ → Symbol) (start : ℕ) (pulses : List Pulse) → IsTrueLine line
+        → (h : HasOneFault line start pulses)
+        → (h.element % 100 < 99) ⊎ LeavesTheNext start h.element h.fault h.before
+        → 100 * (h.element / 100 + 1) ≤ h.element + length h.after
+        → place_after pulses ≡ (h.element + length h.after) % 100 + 1 }
 {}

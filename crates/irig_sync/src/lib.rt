@@ -15,6 +15,7 @@ mod laws;
 mod sync;
 
 pub use laws::{
-    counted_are_on_time, found_after_101_pulses, no_rotation, no_slip, no_wrap, one_pulse_more,
+    a_fault_costs_its_own_frame, counted_are_on_time, found_after_101_pulses, no_rotation, no_slip,
+    no_wrap, one_pulse_more,
 };
 pub use sync::Sync;

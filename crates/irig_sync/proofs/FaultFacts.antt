@@ -1,0 +1,89 @@
+-- Lines of which one pulse is at fault, worked by hand, so that a wrong definition does not check.
+use Rattle.std.proofs.Common.{◌≡◌, ℕ, zero, suc, ◌+◌, ◌*◌, ◌%◌, ◌≤◌, List, [], ◌∷◌, ◌++◌, length, drop, get_or, Some, refl, sym, ap, subst, ◌∙◌, arith, inl, inr}
+use Rattle.irig_frame.specs.declared.symbol.Symbol.{Symbol}
+use Rattle.irig_frame.specs.declared.symbol.Symbol.TheVariants.{Zero, One, Marker, Bad}
+use Rattle.irig_frame.specs.Symbols.{symbol_of, width_of}
+use Rattle.irig_frame.specs.Decoder.{IsRight}
+use Rattle.irig_sync.specs.Lines.{Pulse, place_after}
+use Rattle.irig_sync.specs.OneFault.{ArePulsesBefore, HasOneFault, LeavesTheNext}
+use Rattle.irig_sync.proofs.StandardFacts.{pulse, line, known_line}
+
+-- n pulses of the line from its j-th on, of nominal times and widths, the newest first
+abbrev pulses : ℕ → ℕ → List Pulse
+pulses j zero = []
+pulses j (suc n) = pulse (10000 * (j + n)) (width_of (line (j + n))) ∷ pulses j n
+
+same_symbol : (x : Symbol) → symbol_of (width_of x) ≡ x
+same_symbol Zero = refl
+same_symbol One = refl
+same_symbol Marker = refl
+same_symbol Bad = refl
+
+in_time : (j n k : ℕ) → k ≡ j + n → ArePulsesBefore line 0 k (pulses j n)
+in_time j zero k e = tt
+in_time j (suc n) k e =
+    let same : suc (j + n) ≡ k = omega (arith, e) in
+    subst (λ (i : ℕ). ArePulsesBefore line 0 i (pulses j (suc n))) same (((omega arith, omega arith), same_symbol (line (j + n))), in_time j n (j + n) refl)
+
+-- they are those of elements in a row. So is one 0.4 ms late and 7 ms wide; not one 0.5 ms late, or
+-- 5 ms wide, or of the element before
+pub known_pulses : ArePulsesBefore line 0 103 (pulses 100 3) × ArePulsesBefore line 0 1 (pulse 400 7000 ∷ []) × ¬ ArePulsesBefore line 0 1 (pulse 500 8000 ∷ [])
+    × ¬ ArePulsesBefore line 0 1 (pulse 0 5000 ∷ []) × ¬ ArePulsesBefore line 0 2 (pulses 0 1)
+known_pulses = (in_time 100 3 103 refl, (((omega arith, omega arith), refl), tt), λ h. absurd (omega (arith, ((h.0).0).1)), λ h. absurd (let it : ◌≡◌ {A = Symbol} One Marker = (h.0).1 in cc), λ h. absurd (omega (arith, ((h.0).0).0)))
+
+-- of two frames element 50 is lost, or late by 3 ms, or cut in two, or there is a glitch behind it
+pub known_faults : HasOneFault line 0 (pulses 51 149 ++ pulses 0 50) × HasOneFault line 0 (pulses 51 149 ++ (pulse 503000 2000 ∷ pulses 0 50))
+    × HasOneFault line 0 (pulses 51 149 ++ (pulse 501000 1000 ∷ (pulse 500000 500 ∷ pulses 0 50))) × HasOneFault line 0 (pulses 51 149 ++ (pulse 505000 20 ∷ pulses 0 51))
+known_faults = (
+  record { element = 50; after = pulses 51 149; fault = []; before = pulses 0 50; parts = refl; few = omega arith; later = in_time 51 149 200 refl; earlier = in_time 0 50 50 refl },
+  record { element = 50; after = pulses 51 149; fault = pulse 503000 2000 ∷ []; before = pulses 0 50; parts = refl; few = omega arith; later = in_time 51 149 200 refl; earlier = in_time 0 50 50 refl },
+  record { element = 50; after = pulses 51 149; fault = pulse 501000 1000 ∷ (pulse 500000 500 ∷ []); before = pulses 0 50; parts = refl; few = omega arith; later = in_time 51 149 200 refl; earlier = in_time 0 50 50 refl },
+  record { element = 50; after = pulses 51 149; fault = pulse 505000 20 ∷ (pulse 500000 (width_of (line 50)) ∷ []); before = pulses 0 50; parts = refl; few = omega arith; later = in_time 51 149 200 refl; earlier = in_time 0 50 50 refl },
+)
+
+-- three glitches are no single fault
+abbrev glitch : Pulse
+glitch = pulse 0 20
+
+not_of_line : (k : ℕ) (p : Pulse) → p ≡ glitch → symbol_of p.width ≡ line k → ⊥
+not_of_line k p e h =
+    let bad : Bad ≡ line k = ap (λ (q : Pulse). symbol_of q.width) (sym e) ∙ h in
+    subst (λ (x : Symbol). IsRight (k % 100) (Some x)) (sym bad) (known_line.0 k)
+
+pub known_refused : ¬ HasOneFault line 0 (glitch ∷ (glitch ∷ (glitch ∷ [])))
+known_refused h = of (h.after) (h.fault) (h.before) (h.parts) (h.few) (length (h.after) + suc h.element) h.element (h.later) (h.earlier)
+  where
+    head_at : (n : ℕ) (ps qs : List Pulse) → ps ≡ qs → get_or (drop n qs) 0 glitch ≡ get_or (drop n ps) 0 glitch
+    head_at n ps qs e = ap (λ (l : List Pulse). get_or (drop n l) 0 glitch) (sym e)
+
+    first_bad : (k : ℕ) (p : Pulse) (ps : List Pulse) → p ≡ glitch → ArePulsesBefore line 0 k (p ∷ ps) → ⊥
+    first_bad zero p ps e later = later
+    first_bad (suc k) p ps e later = not_of_line k p e ((later.0).1)
+
+    of : (after fault before : List Pulse) → glitch ∷ (glitch ∷ (glitch ∷ [])) ≡ after ++ (fault ++ before) → length fault ≤ 2 → (k j : ℕ) → ArePulsesBefore line 0 k after → ArePulsesBefore line 0 j before → ⊥
+    of (p ∷ after) fault before e few k j later earlier = first_bad k p after (head_at 0 _ (p ∷ (after ++ (fault ++ before))) e) later
+    of [] [] [] e few k j later earlier = absurd (let long = ap (length {A = Pulse}) e in omega (arith, long))
+    of [] [] (p ∷ before) e few k j later earlier = first_bad j p before (head_at 0 _ (p ∷ before) e) earlier
+    of [] (x ∷ []) [] e few k j later earlier = absurd (let long = ap (length {A = Pulse}) e in omega (arith, long))
+    of [] (x ∷ []) (p ∷ before) e few k j later earlier = first_bad j p before (head_at 1 _ (x ∷ (p ∷ before)) e) earlier
+    of [] (x ∷ (y ∷ [])) [] e few k j later earlier = absurd (let long = ap (length {A = Pulse}) e in omega (arith, long))
+    of [] (x ∷ (y ∷ [])) (p ∷ before) e few k j later earlier = first_bad j p before (head_at 2 _ (x ∷ (y ∷ (p ∷ before))) e) earlier
+    of [] (x ∷ (y ∷ (z ∷ more))) before e few k j later earlier = absurd (omega (arith, few))
+
+-- ---- what a fault costs
+
+-- with element 50 lost the frame's last pulse has no place, and all of the next frame have
+pub known_costs : (place_after (pulses 0 100) ≡ 100) × (place_after (pulses 51 49 ++ pulses 0 50) ≡ 0) × (place_after (pulses 51 50 ++ pulses 0 50) ≡ 1) × (place_after (pulses 51 149 ++ pulses 0 50) ≡ 100)
+known_costs = (refl, refl, refl, refl)
+
+-- a frame's last pulse that is lost, or a bit, or late, leaves the next frame its first
+pub known_leaves : LeavesTheNext 0 99 [] (pulses 0 99) × LeavesTheNext 0 99 (pulse 990000 5000 ∷ []) (pulses 0 99) × LeavesTheNext 0 99 (pulse 993000 8000 ∷ []) (pulses 0 99)
+    × (place_after (pulse 1000000 8000 ∷ pulses 0 99) ≡ 1) × (place_after (pulse 1000000 8000 ∷ (pulse 990000 5000 ∷ pulses 0 99)) ≡ 1) × (place_after (pulse 1000000 8000 ∷ (pulse 993000 8000 ∷ pulses 0 99)) ≡ 1)
+known_leaves = (tt, inr ((omega arith, omega arith), refl), inl refl, refl, refl, refl)
+
+-- one that is cut in its first millisecond, so that a bit is left of it, does not: the next frame's
+-- first pulse has no place. Cut 1.5 ms behind its leading edge it does
+pub known_cut : ¬ LeavesTheNext 0 99 (pulse 990900 5900 ∷ (pulse 990000 500 ∷ [])) (pulses 0 99) × (place_after (pulse 1000000 8000 ∷ (pulse 990900 5900 ∷ (pulse 990000 500 ∷ pulses 0 99))) ≡ 0)
+    × LeavesTheNext 0 99 (pulse 991500 5300 ∷ (pulse 990000 500 ∷ [])) (pulses 0 99) × (place_after (pulse 1000000 8000 ∷ (pulse 991500 5300 ∷ (pulse 990000 500 ∷ pulses 0 99))) ≡ 1)
+known_cut =
+    (λ h. elim h [ inl marker ↦ absurd cc | inr late ↦ absurd (omega (arith, late)) ], refl, inr (omega arith), refl)
