@@ -40,8 +40,8 @@ pub record RanRound {P : Type 0} {g : Ghosts P} (was : Plant P g) (events : List
   pub readers : vec_len is.readers ≡ vec_len was.readers
   pub few : vec_len is.log ≤ ticks_among events
 
--- what holds between rounds, with the events of a whole second: there are 1 to 16 readers, the second
--- has no more ticks, and no more entries stand
+-- what holds between rounds: there are 1 to 16 readers, a whole second has no more ticks than that,
+-- and no more entries stand
 pub record AreRounds {P : Type 0} {g : Ghosts P} (plant : Plant P g) (second : List Event)
     : Type 0 where
   pub happened : ∥ HasSomeHistory plant ∥₁
