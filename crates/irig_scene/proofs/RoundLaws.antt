@@ -18,7 +18,7 @@ use Rattle.irig_plant.specs.Runs.{events_after}
 use Rattle.irig_plant.specs.Schedule.{Setup, log_of, entry_of}
 use Rattle.irig_plant.specs.WholeSecond.{carries, ticks, steps, second_of}
 use Rattle.irig_scene.specs.Scene.{Scene, Play, play, unless_refused, refusal_as}
-use Rattle.irig_scene.specs.Rounds.{ticks_among, HasSomeHistory, RanRound}
+use Rattle.irig_scene.specs.Rounds.{ticks_among, HasSomeHistory, RanRound, AreRounds}
 
 -- ---- ticks among events
 
@@ -142,13 +142,6 @@ told_round was is becomes some =
     }
 
 -- ---- what rounds keep
-
-pub record AreRounds {P : Type 0} {g : Ghosts P} (plant : Plant P g) (second : List Event) : Type 0 where
-  pub happened : ∥ HasSomeHistory plant ∥₁
-  pub least : 1 ≤ vec_len plant.readers
-  pub most : vec_len plant.readers ≤ 16
-  pub ticks : ticks_among second ≤ vec_len plant.readers
-  pub few : vec_len plant.log ≤ vec_len plant.readers
 
 -- a bound is known once something happened
 known_bound : {T : Type 0} {a b : ℕ} → ∥ T ∥₁ → (T → a ≤ b) → a ≤ b

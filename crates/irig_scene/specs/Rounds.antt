@@ -40,6 +40,16 @@ pub record RanRound {P : Type 0} {g : Ghosts P} (was : Plant P g) (events : List
   pub readers : vec_len is.readers ≡ vec_len was.readers
   pub few : vec_len is.log ≤ ticks_among events
 
+-- what holds between rounds: there are 1 to 16 readers, a whole second has no more ticks than that,
+-- and no more entries stand
+pub record AreRounds {P : Type 0} {g : Ghosts P} (plant : Plant P g) (second : List Event)
+    : Type 0 where
+  pub happened : ∥ HasSomeHistory plant ∥₁
+  pub least : 1 ≤ vec_len plant.readers
+  pub most : vec_len plant.readers ≤ 16
+  pub ticks : ticks_among second ≤ vec_len plant.readers
+  pub few : vec_len plant.log ≤ vec_len plant.readers
+
 -- ---- what a round does to the plant of a scene
 
 -- the history of a plant: so many entries of its log were let go, and it keeps what ports told if

@@ -12,9 +12,9 @@ use crate::stop::{Failure, Stop};
 use indexmap::IndexSet;
 use irig_device::Watched;
 use irig_gen::Generator;
-use irig_plant::Audit;
+use irig_plant::{Audit, Plant};
 use irig_port::Port;
-use irig_scenario::{BuiltPlant, Command};
+use irig_scenario::{BuiltPlant, Command, second_of};
 use std::alloc::{AllocError, Global};
 use std::io::Write;
 
@@ -54,16 +54,23 @@ impl<P: Port> Player<P> {
             names,
         } = line;
         let LogWriter { alloc, shown } = log;
-        let mut rounds = Rounds::new(alloc, timeline, generators, rules, &readers)?;
-        if shown.ports {
-            rounds.keep_told();
+        let second = second_of(alloc, generators.len() as u8, readers.len() as u8);
+        let plant = Plant::new(alloc, timeline, generators, rules, &readers);
+        match (plant, second) {
+            (Ok(plant), Ok(second)) => {
+                let mut rounds = Rounds::new(plant, second);
+                if shown.ports {
+                    rounds.keep_told();
+                }
+                let text = LogText::new(alloc);
+                Ok(Player {
+                    rounds,
+                    names,
+                    text,
+                })
+            }
+            _ => Err(Failure::Memory),
         }
-        let text = LogText::new(alloc);
-        Ok(Player {
-            rounds,
-            names,
-            text,
-        })
     }
 
     /// The readers' names, in order.

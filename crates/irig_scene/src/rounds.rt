@@ -1,21 +1,15 @@
 //! A plant that runs its events in rounds.
 
-ghost use Rattle.std.specs.Prelude.{◌≡◌, ◌≤◌, IfOk, IfErr, length, vec_len};
-ghost use Rattle.irig_plant.specs.History.{AreGenerators, AreReaders, HasPlantHistory, Becomes, beginning, with_told_kept};
-ghost use Rattle.irig_plant.specs.Schedule.{setup};
-ghost use Rattle.irig_plant.specs.WholeSecond.{second_of};
+ghost use Rattle.std.specs.Prelude.{◌≡◌, ◌≤◌, IfOk, IfErr, vec_len};
+ghost use Rattle.irig_plant.specs.History.{Becomes, with_told_kept};
 ghost use Rattle.irig_scene.specs.declared.stop.Failure.TheVariants.{Memory};
 ghost use Rattle.irig_scene.specs.Scene.{refusal_as};
 ghost use Rattle.irig_scene.specs.Rounds.{ticks_among, HasSomeHistory, RanRound, Runs};
 
 use crate::stop::Failure;
 use irig_faults::Refusal;
-use irig_gen::Generator;
-use irig_plant::{Event, Plant, PlantFault, ReaderSetup};
+use irig_plant::{Event, Plant, PlantFault};
 use irig_port::Port;
-use irig_scenario::second_of;
-use irig_time::{Rules, Timeline};
-use std::alloc::Global;
 
 /// Events whose entries stand in the log together.
 #[derive(Drop)]
@@ -41,30 +35,15 @@ pub(crate) struct Rounds<P: Port> {
 }
 
 impl<P: Port> Rounds<P> {
-    ghost use Rattle.irig_scene.specs.Rounds.{events_in};
+    ghost use Rattle.irig_scene.specs.Rounds.{AreRounds, events_in};
 
-    /// A plant to which nothing has happened; `Memory` if there is none for it.
-    pub(crate) fn new(
-        alloc: Global,
-        timeline: Timeline,
-        generators: Vec<Generator>,
-        rules: Rules,
-        readers: &[ReaderSetup],
-    ) -> Result<Rounds<P>, Failure>
-        requires generators { AreGenerators rules generators.items }
-        requires readers { AreReaders readers.now }
-        ensures stands { IfOk result (λ rounds. HasPlantHistory rounds.plant
-            (beginning (setup timeline generators.items rules readers.now))) }
-        ensures second { IfOk result (λ rounds. rounds.second.items
-            ≡ second_of (vec_len generators) (length readers.now)) }
-        ensures memory { IfErr result (λ failure. failure ≡ Memory) }
+    /// This plant in rounds, with the events of its whole second.
+    pub(crate) fn new(plant: Plant<P>, second: Vec<Event>) -> Rounds<P>
+        requires { AreRounds plant second.items }
+        ensures plant { result.plant ≡ plant }
+        ensures second { result.second ≡ second }
     {
-        let second = second_of(alloc, generators.len() as u8, readers.len() as u8);
-        let plant = Plant::new(alloc, timeline, generators, rules, readers);
-        match (plant, second) {
-            (Ok(plant), Ok(second)) => Ok(Rounds { plant, second }),
-            _ => Err(Failure::Memory),
-        }
+        Rounds { plant, second }
     }
 
     /// Lets the log go, and from now on keeps beside each of its entries what the ports told.

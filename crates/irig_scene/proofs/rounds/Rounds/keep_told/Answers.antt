@@ -1,5 +1,6 @@
 use Rattle.std.proofs.Common.{[], arith}
-use Rattle.irig_scene.proofs.RoundLaws.{AreRounds, rounds_kept, told_round}
+use Rattle.irig_scene.specs.Rounds.{AreRounds}
+use Rattle.irig_scene.proofs.RoundLaws.{rounds_kept, told_round}
 use Rattle.irig_scene.proofs.rounds.Rounds.keep_told.Goals as goal
 
 pub invariant_of-self : goal.invariant_of-self
