@@ -1,5 +1,5 @@
 -- One fault of a line is never untrue.
-use Rattle.std.proofs.Common.{◌≡◌, ℕ, zero, suc, ◌+◌, ◌-◌, ◌*◌, ◌/◌, ◌%◌, ◌<◌, ◌≤◌, ◌⊎◌, ◌&&◌, Bool, true, false, not, cond, eqb, nat_lt, List, [], ◌∷◌, ◌++◌, length, drop, slice_get, slice_set, Option, Some, None, refl, sym, subst, ap, ◌∙◌, arith, inl, inr}
+use Rattle.std.proofs.Common.{◌≡◌, ℕ, zero, suc, ◌+◌, ◌-◌, ◌*◌, ◌/◌, ◌%◌, ◌<◌, ◌≤◌, ◌⊎◌, ◌&&◌, Bool, true, false, not, cond, eqb, nat_lt, List, [], ◌∷◌, ◌++◌, length, drop, take, slice_get, slice_set, Option, Some, None, refl, sym, subst, ap, ◌∙◌, arith, inl, inr}
 use Rattle.std.specs.Option.{option_or}
 use Rattle.std.proofs.lemmas.Bool.{agree_below_at, and_parts, cases_eq, cases_lt, ne_eqb, ltb-true}
 use Rattle.std.proofs.lemmas.List.{set-append_right, length-set}
@@ -12,8 +12,8 @@ use Rattle.irig_frame.specs.Decoder.{IsRight}
 use Rattle.irig_frame.specs.Faults.{element_fault, first_wrong}
 use Rattle.irig_sync.specs.declared.sync.Sync.{Sync}
 use Rattle.irig_sync.specs.Lines.{Pulse, place_after, AreOnTime, IsTrueLine, symbols_of_last}
-use Rattle.irig_sync.specs.FaultyLines.{ArePulsesBefore, ArePulsesLeft, HasOneFault, LeavesTheNext}
-use Rattle.irig_sync.proofs.FaultLaws.{row, row-get, put_one, last-first, of_row, Holds, one_less, holds, left_in_row, left_less}
+use Rattle.irig_sync.specs.FaultyLines.{ArePulsesBefore, ArePulsesLeft, HasOneFault, HasOneFaultInAHundred, LeavesTheNext}
+use Rattle.irig_sync.proofs.FaultLaws.{row, row-get, put_one, last-first, of_row, Holds, one_less, holds, last-take, on-take, left_in_row, left_less}
 use Rattle.irig_sync.proofs.CostLaws.{in_step, own_frame}
 use Rattle.irig_control.proofs.ParityLaws.{get-set_same, get-set_other}
 use Rattle.irig_time.specs.declared.rules.Rules.{Rules}
@@ -230,6 +230,15 @@ one_fault rules line claims start heard s pulses now tell h hears = unless_whole
     let late : ℕ = hears.run.late in
     holds_told rules line claims tell heard all (holds line start (drop late pulses) heard (one_less line start pulses h late) all
     (hears.run.symbols ∙ ap (λ (n : ℕ). symbols_of_last n (drop late pulses)) count) (subst (λ (n : ℕ). AreOnTime n (drop late pulses)) count (hears.run.on_time))))
+
+pub seldom : (rules : Rules) (line : ℕ → Symbol) (claims : ℕ → Claim) (start : ℕ) (heard : List Symbol) (s : Sync) (pulses : List Pulse) (now : ℕ) → TellsClaims rules line claims → HasOneFaultInAHundred line start pulses → IsHearing heard s pulses now
+    → IsFaultOrOwn line claims heard (told_of rules heard)
+seldom rules line claims start heard s pulses now tell h hears = unless_whole rules line claims heard (λ all.
+    let count : hears.run.count ≡ 100 = sym (hears.run.all) ∙ all in
+    let late : ℕ = hears.run.late in
+    holds_told rules line claims tell heard all (holds line start (take 100 (drop late pulses)) heard (h late) all
+    (hears.run.symbols ∙ ap (λ (n : ℕ). symbols_of_last n (drop late pulses)) count ∙ sym (last-take 100 (drop late pulses)))
+    (on-take 100 (drop late pulses) (subst (λ (n : ℕ). AreOnTime n (drop late pulses)) count (hears.run.on_time)))))
 
 pub losses : (rules : Rules) (line : ℕ → Symbol) (claims : ℕ → Claim) (start k : ℕ) (heard : List Symbol) (s : Sync) (pulses : List Pulse) (now : ℕ) → TellsClaims rules line claims → ArePulsesLeft line start k pulses → IsHearing heard s pulses now
     → IsFaultOrOwn line claims heard (told_of rules heard)

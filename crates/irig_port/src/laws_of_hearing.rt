@@ -5,7 +5,7 @@ ghost use Rattle.irig_frame.specs.declared.symbol.Symbol.{Symbol};
 ghost use Rattle.irig_sync.specs.declared.sync.Sync.{Sync};
 ghost use Rattle.irig_sync.specs.Sync.{idle_of};
 ghost use Rattle.irig_sync.specs.Lines.{Pulse, IsSyncOf, IsSoon, place_after, symbols_of_last};
-ghost use Rattle.irig_sync.specs.FaultyLines.{ArePulsesBefore, ArePulsesLeft, HasOneFault, LeavesTheNext};
+ghost use Rattle.irig_sync.specs.FaultyLines.{ArePulsesBefore, ArePulsesLeft, HasOneFault, HasOneFaultInAHundred, LeavesTheNext};
 ghost use Rattle.irig_port.specs.Told.{told_of};
 ghost use Rattle.irig_port.specs.Hearing.{IsHearing, IsOfRun, heard_of_last};
 ghost use Rattle.irig_port.specs.OwnClaims.{TellsClaims, IsFaultOrOwn};
@@ -37,9 +37,15 @@ pub fn claims_are_of_a_run()
 /// doubled, cut in two or of another width, or to which one was added, a port tells at any time a
 /// fault, silence, or the claim of the frame that it heard.
 pub fn one_fault_is_never_untrue()
-    ensures { (rules : Rules) (line : ℕ → Symbol) (claims : ℕ → Claim) (start : ℕ)
+    ensures once { (rules : Rules) (line : ℕ → Symbol) (claims : ℕ → Claim) (start : ℕ)
         (heard : List Symbol) (s : Sync) (pulses : List Pulse) (now : ℕ)
         → TellsClaims rules line claims → HasOneFault line start pulses
+        → IsHearing heard s pulses now
+        → IsFaultOrOwn line claims heard (told_of rules heard) }
+    // Or one of each hundred pulses in a row.
+    ensures again { (rules : Rules) (line : ℕ → Symbol) (claims : ℕ → Claim) (start : ℕ)
+        (heard : List Symbol) (s : Sync) (pulses : List Pulse) (now : ℕ)
+        → TellsClaims rules line claims → HasOneFaultInAHundred line start pulses
         → IsHearing heard s pulses now
         → IsFaultOrOwn line claims heard (told_of rules heard) }
 {}

@@ -1,11 +1,13 @@
 -- Lines of which one pulse is at fault, worked by hand, so that a wrong definition does not check.
-use Rattle.std.proofs.Common.{◌≡◌, ℕ, zero, suc, ◌+◌, ◌*◌, ◌%◌, ◌≤◌, List, [], ◌∷◌, ◌++◌, length, drop, get_or, Some, refl, sym, ap, subst, ◌∙◌, arith, inl, inr}
+use Rattle.std.proofs.Common.{◌≡◌, ℕ, zero, suc, ◌+◌, ◌*◌, ◌%◌, ◌≤◌, List, [], ◌∷◌, ◌++◌, length, drop, take, ◌-◌, get_or, Some, refl, sym, ap, subst, ◌∙◌, arith, inl, inr}
+use Rattle.std.proofs.lemmas.List.{take_all, length-drop}
 use Rattle.irig_frame.specs.declared.symbol.Symbol.{Symbol}
 use Rattle.irig_frame.specs.declared.symbol.Symbol.TheVariants.{Zero, One, Marker, Bad}
 use Rattle.irig_frame.specs.Symbols.{symbol_of, width_of}
 use Rattle.irig_frame.specs.Decoder.{IsRight}
 use Rattle.irig_sync.specs.Lines.{Pulse, pulse_at, place_after}
-use Rattle.irig_sync.specs.FaultyLines.{ArePulsesBefore, ArePulsesLeft, HasOneFault, LeavesTheNext}
+use Rattle.irig_sync.specs.FaultyLines.{ArePulsesBefore, ArePulsesLeft, HasOneFault, HasOneFaultInAHundred, LeavesTheNext}
+use Rattle.irig_sync.proofs.FaultLaws.{one_less}
 use Rattle.irig_sync.proofs.StandardFacts.{line, known_line}
 
 -- n pulses of the line from its j-th on, of nominal times and widths, the newest first
@@ -77,6 +79,21 @@ known_refused h = of (h.after) (h.fault) (h.before) (h.parts) (h.few) (length (h
     of [] (x ∷ (y ∷ [])) [] e few k j later earlier = absurd (let long = ap (length {A = Pulse}) e in omega (arith, long))
     of [] (x ∷ (y ∷ [])) (p ∷ before) e few k j later earlier = first_bad j p before (head_at 2 _ (x ∷ (y ∷ (p ∷ before))) e) earlier
     of [] (x ∷ (y ∷ (z ∷ more))) before e few k j later earlier = absurd (omega (arith, few))
+
+-- nor are they one fault in a hundred; of less than a hundred pulses one fault is one
+abbrev some_lost : List Pulse
+some_lost = pulses 51 9 ++ pulses 0 50
+
+pub known_seldom : HasOneFaultInAHundred line 0 some_lost × ¬ HasOneFaultInAHundred line 0 (glitch ∷ (glitch ∷ (glitch ∷ [])))
+known_seldom = (seldom, λ h. known_refused (h 0))
+  where
+    lost : HasOneFault line 0 some_lost
+    lost = record { element = 50; after = pulses 51 9; fault = []; before = pulses 0 50; parts = refl; few = omega arith; later = in_time 51 9 60 refl; earlier = in_time 0 50 50 refl }
+
+    seldom : (n : ℕ) → HasOneFault line 0 (take 100 (drop n some_lost))
+    seldom n =
+        let long : length (drop n some_lost) ≡ 59 - n = length-drop n some_lost in
+        subst (HasOneFault line 0) (sym (take_all 100 (drop n some_lost) (omega (arith, long)))) (one_less line 0 some_lost lost n)
 
 -- ---- what a fault costs
 

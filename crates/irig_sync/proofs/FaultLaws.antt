@@ -1,6 +1,6 @@
 -- A hundred pulses on time, of a line of which one is at fault, are those of elements in a row, but
 -- for one or two.
-use Rattle.std.proofs.Common.{◌≡◌, ℕ, zero, suc, ◌+◌, ◌-◌, ◌<◌, ◌≤◌, ◌⊎◌, true, List, [], ◌∷◌, ◌++◌, length, length-append, map, drop, slice_get, slice_set, Some, refl, sym, subst, ap, ◌∙◌, arith, inl, inr}
+use Rattle.std.proofs.Common.{◌≡◌, ℕ, zero, suc, ◌+◌, ◌-◌, ◌<◌, ◌≤◌, ◌⊎◌, true, List, [], ◌∷◌, ◌++◌, length, length-append, map, drop, take, slice_get, slice_set, Some, refl, sym, subst, ap, ◌∙◌, arith, inl, inr}
 use Rattle.std.specs.List.{range_with_len}
 use Rattle.std.proofs.lemmas.Bool.{cases_eq, cases_lt}
 use Rattle.std.proofs.lemmas.List.{append_assoc, append-nil, set-append_right}
@@ -59,6 +59,19 @@ last-few : (n : ℕ) (ps : List Pulse) → length (symbols_of_last n ps) ≤ len
 last-few zero ps = omega arith
 last-few (suc n) [] = omega arith
 last-few (suc n) (p ∷ ps) = let more = length-append (symbols_of_last n ps) (symbol_of p.width ∷ []) in omega (arith, more, last-few n ps)
+
+-- the pulses before do not matter
+pub last-take : (n : ℕ) (ps : List Pulse) → symbols_of_last n (take n ps) ≡ symbols_of_last n ps
+last-take zero ps = refl
+last-take (suc n) [] = refl
+last-take (suc n) (p ∷ ps) = ap (λ (s : List Symbol). s ++ symbol_of p.width ∷ []) (last-take n ps)
+
+pub on-take : (n : ℕ) (ps : List Pulse) → AreOnTime n ps → AreOnTime n (take n ps)
+on-take zero ps h = tt
+on-take (suc zero) ps h = tt
+on-take (suc (suc n)) [] h = absurd h
+on-take (suc (suc n)) (p ∷ []) h = absurd h
+on-take (suc (suc n)) (p ∷ (q ∷ ps)) h = (h.0, on-take (suc n) (q ∷ ps) (h.1))
 
 module _ (line : ℕ → Symbol) (start : ℕ) where
   pub of_row : (k n : ℕ) (ps : List Pulse) → ArePulsesBefore line start k ps → n ≤ length ps → (n ≤ k) × (symbols_of_last n ps ≡ row line (k - n) n)

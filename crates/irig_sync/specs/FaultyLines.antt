@@ -1,6 +1,6 @@
 -- A line of frames of which pulses are lost, or one is at fault.
 -- Source: this project's profile.
-use Rattle.std.specs.Prelude.{◌≡◌, ℕ, zero, suc, ◌+◌, ◌*◌, ◌<◌, ◌≤◌, ◌⊎◌, true, List, [], ◌∷◌, ◌++◌, length, ⊤}
+use Rattle.std.specs.Prelude.{◌≡◌, ℕ, zero, suc, ◌+◌, ◌*◌, ◌<◌, ◌≤◌, ◌⊎◌, true, List, [], ◌∷◌, ◌++◌, length, take, drop, ⊤}
 use Rattle.irig_frame.specs.declared.symbol.Symbol.{Symbol}
 use Rattle.irig_frame.specs.Symbols.{symbol_of}
 use Rattle.irig_sync.specs.Sync.{is_marker}
@@ -37,6 +37,11 @@ pub record HasOneFault (line : ℕ → Symbol) (start : ℕ) (pulses : List Puls
   pub few : length fault ≤ 2
   pub later : ArePulsesBefore line start (length after + suc element) after
   pub earlier : ArePulsesBefore line start element before
+
+-- of each hundred pulses in a row one at most is at fault
+abbrev pub HasOneFaultInAHundred : (ℕ → Symbol) → ℕ → List Pulse → Type 0
+HasOneFaultInAHundred line start pulses =
+    (n : ℕ) → HasOneFault line start (take 100 (drop n pulses))
 
 -- what came in place of a frame's last pulse, the k-th, leaves the next frame its first element:
 -- the pulse was lost; or it is a marker, at any time, or comes at its time and in step, of any
