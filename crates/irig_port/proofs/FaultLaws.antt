@@ -1,5 +1,5 @@
 -- One fault of a line is never untrue.
-use Rattle.std.proofs.Common.{◌≡◌, ℕ, zero, suc, ◌+◌, ◌-◌, ◌*◌, ◌/◌, ◌%◌, ◌<◌, ◌≤◌, ◌⊎◌, ◌&&◌, Bool, true, false, not, cond, eqb, nat_lt, List, [], ◌∷◌, ◌++◌, length, drop, slice_get, slice_set, Option, Some, None, refl, sym, subst, ap, ◌∙◌, arith, inl, inr}
+use Rattle.std.proofs.Common.{◌≡◌, ℕ, zero, suc, ◌+◌, ◌-◌, ◌*◌, ◌/◌, ◌%◌, ◌<◌, ◌≤◌, ◌⊎◌, ◌&&◌, Bool, true, false, not, cond, eqb, nat_lt, List, [], ◌∷◌, ◌++◌, length, drop, take, slice_get, slice_set, Option, Some, None, refl, sym, subst, ap, ◌∙◌, arith, inl, inr}
 use Rattle.std.specs.Option.{option_or}
 use Rattle.std.proofs.lemmas.Bool.{agree_below_at, and_parts, cases_eq, cases_lt, ne_eqb, ltb-true}
 use Rattle.std.proofs.lemmas.List.{set-append_right, length-set}
@@ -12,8 +12,8 @@ use Rattle.irig_frame.specs.Decoder.{IsRight}
 use Rattle.irig_frame.specs.Faults.{element_fault, first_wrong}
 use Rattle.irig_sync.specs.declared.sync.Sync.{Sync}
 use Rattle.irig_sync.specs.Lines.{Pulse, place_after, AreOnTime, IsTrueLine, symbols_of_last}
-use Rattle.irig_sync.specs.OneFault.{ArePulsesBefore, HasOneFault, LeavesTheNext}
-use Rattle.irig_sync.proofs.FaultLaws.{row, row-get, put_one, last-first, of_row, Holds, one_less, holds}
+use Rattle.irig_sync.specs.FaultyLines.{ArePulsesBefore, ArePulsesLeft, HasOneFault, HasOneFaultInAHundred, LeavesTheNext}
+use Rattle.irig_sync.proofs.FaultLaws.{row, row-get, put_one, last-first, of_row, Holds, one_less, holds, last-take, on-take, left_in_row, left_less}
 use Rattle.irig_sync.proofs.CostLaws.{in_step, own_frame}
 use Rattle.irig_control.proofs.ParityLaws.{get-set_same, get-set_other}
 use Rattle.irig_time.specs.declared.rules.Rules.{Rules}
@@ -209,24 +209,48 @@ module _ (rules : Rules) (line : ℕ → Symbol) (claims : ℕ → Claim) (tell 
   holds_told (inr (inl h)) = begin_told (h.0) (h.1) (h.2) (h.3)
   holds_told (inr (inr h)) = end_told (h.0) (h.1) (h.2) (h.3)
 
-pub one_fault : (rules : Rules) (line : ℕ → Symbol) (claims : ℕ → Claim) (start : ℕ) (heard : List Symbol) (s : Sync) (pulses : List Pulse) (now : ℕ) → TellsClaims rules line claims → HasOneFault line start pulses → IsHearing heard s pulses now
-    → IsFaultOrOwn line claims heard (told_of rules heard)
-one_fault rules line claims start heard s pulses now tell h hears =
+-- what is no whole frame is a fault, or silence
+unless_whole : (rules : Rules) (line : ℕ → Symbol) (claims : ℕ → Claim) (heard : List Symbol) → (length heard ≡ 100 → IsFaultOrOwn line claims heard (told_of rules heard)) → IsFaultOrOwn line claims heard (told_of rules heard)
+unless_whole rules line claims heard whole =
     elim (cases_eq (length heard) 0) [
       | inl none ↦ subst (IsFaultOrOwn line claims heard) (sym (none_told rules heard none)) tt
       | inr some ↦ elim (cases_lt (length heard) 100) [
         | inl short ↦ subst (IsFaultOrOwn line claims heard) (sym (short_told rules heard (length heard) refl some short)) tt
         | inr many ↦ elim (cases_lt 100 (length heard)) [
           | inl long ↦ subst (IsFaultOrOwn line claims heard) (sym (long_told rules heard long)) tt
-          | inr most ↦
-              let all : length heard ≡ 100 = omega (arith, many, most) in
-              let count : hears.run.count ≡ 100 = sym (hears.run.all) ∙ all in
-              let late : ℕ = hears.run.late in
-              holds_told rules line claims tell heard all (holds line start (drop late pulses) heard (one_less line start pulses h late) all
-              (hears.run.symbols ∙ ap (λ (n : ℕ). symbols_of_last n (drop late pulses)) count) (subst (λ (n : ℕ). AreOnTime n (drop late pulses)) count (hears.run.on_time)))
+          | inr most ↦ whole (omega (arith, many, most))
         ]
       ]
     ]
+
+pub one_fault : (rules : Rules) (line : ℕ → Symbol) (claims : ℕ → Claim) (start : ℕ) (heard : List Symbol) (s : Sync) (pulses : List Pulse) (now : ℕ) → TellsClaims rules line claims → HasOneFault line start pulses → IsHearing heard s pulses now
+    → IsFaultOrOwn line claims heard (told_of rules heard)
+one_fault rules line claims start heard s pulses now tell h hears = unless_whole rules line claims heard (λ all.
+    let count : hears.run.count ≡ 100 = sym (hears.run.all) ∙ all in
+    let late : ℕ = hears.run.late in
+    holds_told rules line claims tell heard all (holds line start (drop late pulses) heard (one_less line start pulses h late) all
+    (hears.run.symbols ∙ ap (λ (n : ℕ). symbols_of_last n (drop late pulses)) count) (subst (λ (n : ℕ). AreOnTime n (drop late pulses)) count (hears.run.on_time))))
+
+pub seldom : (rules : Rules) (line : ℕ → Symbol) (claims : ℕ → Claim) (start : ℕ) (heard : List Symbol) (s : Sync) (pulses : List Pulse) (now : ℕ) → TellsClaims rules line claims → HasOneFaultInAHundred line start pulses → IsHearing heard s pulses now
+    → IsFaultOrOwn line claims heard (told_of rules heard)
+seldom rules line claims start heard s pulses now tell h hears = unless_whole rules line claims heard (λ all.
+    let count : hears.run.count ≡ 100 = sym (hears.run.all) ∙ all in
+    let late : ℕ = hears.run.late in
+    holds_told rules line claims tell heard all (holds line start (take 100 (drop late pulses)) heard (h late) all
+    (hears.run.symbols ∙ ap (λ (n : ℕ). symbols_of_last n (drop late pulses)) count ∙ sym (last-take 100 (drop late pulses)))
+    (on-take 100 (drop late pulses) (subst (λ (n : ℕ). AreOnTime n (drop late pulses)) count (hears.run.on_time)))))
+
+pub losses : (rules : Rules) (line : ℕ → Symbol) (claims : ℕ → Claim) (start k : ℕ) (heard : List Symbol) (s : Sync) (pulses : List Pulse) (now : ℕ) → TellsClaims rules line claims → ArePulsesLeft line start k pulses → IsHearing heard s pulses now
+    → IsFaultOrOwn line claims heard (told_of rules heard)
+losses rules line claims start k heard s pulses now tell h hears = unless_whole rules line claims heard (λ all.
+    let count : hears.run.count ≡ 100 = sym (hears.run.all) ∙ all in
+    let late : ℕ = hears.run.late in
+    let left = left_less line start k pulses h late in
+    in_row (drop late pulses) (left.0) (left.1) all (hears.run.symbols ∙ ap (λ (n : ℕ). symbols_of_last n (drop late pulses)) count) (subst (λ (n : ℕ). AreOnTime n (drop late pulses)) count (hears.run.on_time)))
+  where
+    in_row : (ps : List Pulse) (j : ℕ) → ArePulsesLeft line start j ps → length heard ≡ 100 → heard ≡ symbols_of_last 100 ps → AreOnTime 100 ps → IsFaultOrOwn line claims heard (told_of rules heard)
+    in_row [] j left all is on = absurd on
+    in_row (p ∷ ps) j left all is on = let it = left_in_row line start 99 j p ps left on in near_told rules line claims tell heard all (it.0) 0 (line (it.0)) (is ∙ it.2)
 
 -- ---- the other frames
 

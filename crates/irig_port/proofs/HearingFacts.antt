@@ -1,13 +1,14 @@
 -- What a port holds that hears a line, worked by hand, so that a wrong definition does not check.
-use Rattle.std.proofs.Common.{◌≡◌, ℕ, zero, suc, ◌+◌, ◌*◌, ◌%◌, List, [], ◌∷◌, map, drop, length, take, slice_set, get_or, refl, sym, ap, ◌∙◌, arith, inl, inr}
+use Rattle.std.proofs.Common.{◌≡◌, ℕ, zero, suc, ◌+◌, ◌*◌, ◌%◌, ◌<◌, List, [], ◌∷◌, map, drop, length, take, slice_set, get_or, refl, sym, ap, ◌∙◌, arith, inl, inr}
 use Rattle.std.specs.List.{range_with_len}
+use Rattle.std.proofs.lemmas.Bool.{cases_eq}
 use Rattle.std.proofs.lemmas.List.{length-set}
 use Rattle.std.proofs.lemmas.List.FromFn.{length-map-range_with_len}
 use Rattle.irig_frame.specs.declared.symbol.Symbol.{Symbol}
 use Rattle.irig_frame.specs.declared.symbol.Symbol.TheVariants.{Zero, One, Marker, Bad}
 use Rattle.irig_frame.specs.Symbols.{width_of}
 use Rattle.irig_sync.specs.declared.sync.Sync.{Sync}
-use Rattle.irig_sync.specs.Lines.{Pulse, place_after, symbols_of_last}
+use Rattle.irig_sync.specs.Lines.{Pulse, pulse_at, place_after, symbols_of_last}
 use Rattle.irig_time.specs.declared.claim.Claim.{Claim}
 use Rattle.irig_port.specs.declared.told.PortFault.TheVariants as fault
 use Rattle.irig_port.specs.declared.told.Told.{Told}
@@ -23,9 +24,6 @@ use Rattle.irig_port.proofs.StandardFacts.{plain, rules, on_day_2, known_claim}
 pub known_heard : (map (λ place. heard_at place (One ∷ []) 2000) (0 ∷ 1 ∷ 2 ∷ 100 ∷ []) ≡ (One ∷ []) ∷ (Zero ∷ []) ∷ (One ∷ Zero ∷ []) ∷ (One ∷ Zero ∷ []) ∷ [])
 known_heard = refl
 
-abbrev pulse : ℕ → ℕ → Pulse
-pulse rise width = record { rise = rise; width = width }
-
 -- the frame of 2000-01-03T00:00:00Z once a second
 abbrev line : ℕ → Symbol
 line k = get_or plain (k % 100) Bad
@@ -33,7 +31,7 @@ line k = get_or plain (k % 100) Bad
 -- its first k pulses, the newest first
 abbrev pulses : ℕ → List Pulse
 pulses zero = []
-pulses (suc k) = pulse (10000 * k) (width_of (line k)) ∷ pulses k
+pulses (suc k) = pulse_at (10000 * k) (width_of (line k)) ∷ pulses k
 
 -- the first pulse is a marker behind a pause, and begins the frame. So of 100 pulses the port holds
 -- all, of 101 the last, and of 150 the last 50
@@ -46,33 +44,47 @@ known_emptied = refl
 
 -- a glitch 5 ms behind the frame has no place, and the port still holds the frame: what it holds is
 -- not always of the last pulses that came
-pub known_late : (place_after (pulse 995000 20 ∷ pulses 100) ≡ 0) × (heard_of_last 101 (pulse 995000 20 ∷ pulses 100) ≡ plain)
+pub known_late : (place_after (pulse_at 995000 20 ∷ pulses 100) ≡ 0) × (heard_of_last 101 (pulse_at 995000 20 ∷ pulses 100) ≡ plain)
 known_late = (refl, refl)
 
 -- a bit, and 30 ms later the first two pulses of a frame: the run is of the last two
 abbrev begun : List Pulse
-begun = pulse 40000 2000 ∷ (pulse 30000 8000 ∷ (pulse 0 5000 ∷ []))
+begun = pulse_at 40000 2000 ∷ (pulse_at 30000 8000 ∷ (pulse_at 0 5000 ∷ []))
 
 pub known_run : IsRun (Marker ∷ Zero ∷ []) 2 begun
-known_run = record { late = 0; count = 2; symbols = refl; all = refl; on_time = (refl, tt); step = inr (refl, omega arith) }
+known_run = record { late = 0; count = 2; symbols = refl; all = refl; on_time = (refl, tt); out = λ i h. absurd (omega (arith, h)); step = inr (refl, omega arith) }
 
 -- out of step a pulse came behind them
-pub known_late_run : IsRun (Marker ∷ Zero ∷ []) 0 (pulse 45000 20 ∷ begun)
-known_late_run = record { late = 1; count = 2; symbols = refl; all = refl; on_time = (refl, tt); step = inl refl }
+pub known_late_run : IsRun (Marker ∷ Zero ∷ []) 0 (pulse_at 45000 20 ∷ begun)
+known_late_run = record { late = 1; count = 2; symbols = refl; all = refl; on_time = (refl, tt); out = out; step = inl refl }
+  where
+    out : (i : ℕ) → i < 1 → place_after (drop i (pulse_at 45000 20 ∷ begun)) ≡ 0
+    out zero h = refl
+    out (suc i) h = absurd (omega (arith, h))
 
 -- in step the port holds no other symbols, and no more than the place says
-pub known_no_run : ¬ IsRun (One ∷ []) 1 (pulse 0 8000 ∷ []) × ¬ IsRun (Marker ∷ Zero ∷ []) 1 begun
+pub known_no_run : ¬ IsRun (One ∷ []) 1 (pulse_at 0 8000 ∷ []) × ¬ IsRun (Marker ∷ Zero ∷ []) 1 begun
 known_no_run = (
   λ r. elim (r.step) [
     | inl out ↦ absurd (omega (arith, out))
     | inr inside ↦
-        let same : symbols_of_last r.count (drop r.late (pulse 0 8000 ∷ [])) ≡ Marker ∷ [] =
-        ap (λ (n : ℕ). symbols_of_last n (drop r.late (pulse 0 8000 ∷ []))) (sym (r.all)) ∙ ap (λ (n : ℕ). symbols_of_last 1 (drop n (pulse 0 8000 ∷ []))) (inside.0) in
+        let same : symbols_of_last r.count (drop r.late (pulse_at 0 8000 ∷ [])) ≡ Marker ∷ [] =
+        ap (λ (n : ℕ). symbols_of_last n (drop r.late (pulse_at 0 8000 ∷ []))) (sym (r.all)) ∙ ap (λ (n : ℕ). symbols_of_last 1 (drop n (pulse_at 0 8000 ∷ []))) (inside.0) in
         let other : get_or (One ∷ []) 0 Bad ≡ get_or (Marker ∷ []) 0 Bad = ap (λ (s : List Symbol). get_or s 0 Bad) (r.symbols ∙ same) in
         absurd cc
   ],
   λ r. elim (r.step) [ inl out ↦ absurd (omega (arith, out)) | inr inside ↦ absurd (let two = r.all in omega (arith, two, inside.1)) ],
 )
+
+-- a pulse that was in step did not come late
+pub known_not_late : ¬ IsRun (Marker ∷ []) 0 begun
+known_not_late r = elim (cases_eq (r.late) 0) [
+  | inl none ↦
+      let same : symbols_of_last r.count (drop r.late begun) ≡ Zero ∷ [] = ap (λ (n : ℕ). symbols_of_last n (drop r.late begun)) (sym (r.all)) ∙ ap (λ (n : ℕ). symbols_of_last 1 (drop n begun)) none in
+      let other : Marker ≡ Zero = ap (λ (s : List Symbol). get_or s 0 Bad) (r.symbols ∙ same) in
+      absurd cc
+  | inr some ↦ absurd (let place : 2 ≡ 0 = r.out 0 (omega (arith, some)) in omega (arith, place))
+]
 
 -- so it is heard, until a second after the last pulse
 abbrev numbers : Sync
@@ -117,14 +129,18 @@ known_not_own h = absurd (let same : 99 ≡ length (slice_set (frame_at line (h.
 
 -- a hundred pulses in a row carry the plain frame's claim, also if a glitch came behind them, out of
 -- step; if it came in step they are not the last
-pub known_of_run : IsOfRun rules (on_day_2 0) plain 0 (pulse 995000 20 ∷ pulses 100) × ¬ IsOfRun rules (on_day_2 0) plain 100 (pulse 995000 20 ∷ pulses 100)
+pub known_of_run : IsOfRun rules (on_day_2 0) plain 0 (pulse_at 995000 20 ∷ pulses 100) × ¬ IsOfRun rules (on_day_2 0) plain 100 (pulse_at 995000 20 ∷ pulses 100)
 known_of_run = (
-  record { late = 1; symbols = refl; on_time = counted (pulses 100); carries = (carries_is_told rules plain (on_day_2 0)).0 known_claim; step = inl refl },
+  record { late = 1; symbols = refl; on_time = counted (pulses 100); carries = (carries_is_told rules plain (on_day_2 0)).0 known_claim; out = out; step = inl refl },
   λ r. elim (r.step) [
     | inl out ↦ absurd (omega (arith, out))
     | inr none ↦
-        let last : plain ≡ symbols_of_last 100 (pulse 995000 20 ∷ pulses 100) = r.symbols ∙ ap (λ (n : ℕ). symbols_of_last 100 (drop n (pulse 995000 20 ∷ pulses 100))) none in
+        let last : plain ≡ symbols_of_last 100 (pulse_at 995000 20 ∷ pulses 100) = r.symbols ∙ ap (λ (n : ℕ). symbols_of_last 100 (drop n (pulse_at 995000 20 ∷ pulses 100))) none in
         let other : get_or plain 99 Marker ≡ Bad = ap (λ (s : List Symbol). get_or s 99 Marker) last in
         absurd cc
   ],
 )
+  where
+    out : (i : ℕ) → i < 1 → place_after (drop i (pulse_at 995000 20 ∷ pulses 100)) ≡ 0
+    out zero h = refl
+    out (suc i) h = absurd (omega (arith, h))

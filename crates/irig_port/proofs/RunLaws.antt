@@ -4,8 +4,8 @@ use Rattle.std.proofs.lemmas.Bool.{ltb-true, ltb-false}
 use Rattle.irig_frame.specs.declared.symbol.Symbol.{Symbol}
 use Rattle.irig_frame.specs.Symbols.{symbol_of}
 use Rattle.irig_sync.specs.declared.sync.Sync.{Sync}
-use Rattle.irig_sync.specs.Sync.{is_marker, is_on_time, place_at, place_behind, place_of, flag}
-use Rattle.irig_sync.specs.Lines.{Pulse, place_after, AreOnTime, IsAfter, IsSyncAt, IsSoon, symbols_of_last}
+use Rattle.irig_sync.specs.Sync.{is_marker, is_on_time, place_at, place_behind, place_of, pulse_of, flag}
+use Rattle.irig_sync.specs.Lines.{Pulse, pulse_at, place_after, AreOnTime, IsAfter, IsSyncAt, IsSoon, symbols_of_last}
 use Rattle.irig_sync.proofs.LineLaws.{place_at_time, pulse_at_time}
 use Rattle.irig_time.specs.declared.rules.Rules.{Rules}
 use Rattle.irig_time.specs.declared.claim.Claim.{Claim}
@@ -43,15 +43,19 @@ places true false was place = behind place
 places false false was place = inl refl
 
 -- out of step the port stays as it is, and one more pulse came late
-out_of_step : (heard : List Symbol) (place new : ℕ) (p : Pulse) (pulses : List Pulse) → IsRun heard place pulses → new ≡ 0 → IsRun (heard_at new heard p.width) new (p ∷ pulses)
-out_of_step heard place new p pulses r e =
+out_of_step : (heard : List Symbol) (place new : ℕ) (p : Pulse) (pulses : List Pulse) → IsRun heard place pulses → new ≡ place_after (p ∷ pulses) → new ≡ 0 → IsRun (heard_at new heard p.width) new (p ∷ pulses)
+out_of_step heard place new p pulses r is e =
     subst (λ (n : ℕ). IsRun (heard_at n heard p.width) n (p ∷ pulses)) (sym e)
-    (record { late = suc r.late; count = r.count; symbols = r.symbols; all = r.all; on_time = r.on_time; step = inl refl })
+    (record { late = suc r.late; count = r.count; symbols = r.symbols; all = r.all; on_time = r.on_time; out = out; step = inl refl })
+  where
+    out : (i : ℕ) → i < suc r.late → place_after (drop i (p ∷ pulses)) ≡ 0
+    out zero h = sym is ∙ e
+    out (suc i) h = r.out i (omega (arith, h))
 
 begun : (heard : List Symbol) (new : ℕ) (p : Pulse) (pulses : List Pulse) → new ≡ 1 → IsRun (heard_at new heard p.width) new (p ∷ pulses)
 begun heard new p pulses e =
     subst (λ (n : ℕ). IsRun (heard_at n heard p.width) n (p ∷ pulses)) (sym e)
-    (record { late = 0; count = 1; symbols = refl; all = refl; on_time = tt; step = inr (refl, omega arith) })
+    (record { late = 0; count = 1; symbols = refl; all = refl; on_time = tt; out = λ i h. absurd (omega (arith, h)); step = inr (refl, omega arith) })
 
 one_more : (n : ℕ) (p q : Pulse) (ps : List Pulse) → is_on_time (p.rise - q.rise) ≡ true → AreOnTime n (q ∷ ps) → AreOnTime (suc n) (p ∷ (q ∷ ps))
 one_more zero p q ps on h = tt
@@ -77,25 +81,26 @@ counted heard place new p q ps r on e some few = elim (r.step) [
         symbols = now ∙ ap (λ (s : List Symbol). s ++ symbol_of p.width ∷ []) stands;
         all = ap length now ∙ length-append heard (symbol_of p.width ∷ []) ∙ (let more : length heard + 1 ≡ suc r.count = omega (arith, long) in more);
         on_time = one_more r.count p q ps on on_time;
+        out = λ i h. absurd (omega (arith, h));
         step = inr (refl, omega (arith, e, least));
       }
 ]
 
 -- by what the place is: of an out-of-step line, and of one on which a pulse came before
-by_out : (heard : List Symbol) (place new : ℕ) (on : Bool) (p : Pulse) (pulses : List Pulse) → IsRun heard place pulses → place ≡ 0 → Places on place new → IsRun (heard_at new heard p.width) new (p ∷ pulses)
+by_out : (heard : List Symbol) (place new : ℕ) (on : Bool) (p : Pulse) (pulses : List Pulse) → IsRun heard place pulses → new ≡ place_after (p ∷ pulses) → place ≡ 0 → Places on place new → IsRun (heard_at new heard p.width) new (p ∷ pulses)
 unfolding Places
-by_out heard place new on p pulses r out c = elim c [
-  | inl e ↦ out_of_step heard place new p pulses r e
+by_out heard place new on p pulses r is out c = elim c [
+  | inl e ↦ out_of_step heard place new p pulses r is e
   | inr more ↦ elim more [
     | inl e ↦ begun heard new p pulses e
     | inr on ↦ absurd (let some = on.2 in omega (arith, out, some))
   ]
 ]
 
-by_place : (heard : List Symbol) (place new : ℕ) (p q : Pulse) (ps : List Pulse) → IsRun heard place (q ∷ ps) → Places (is_on_time (p.rise - q.rise)) place new → IsRun (heard_at new heard p.width) new (p ∷ (q ∷ ps))
+by_place : (heard : List Symbol) (place new : ℕ) (p q : Pulse) (ps : List Pulse) → IsRun heard place (q ∷ ps) → new ≡ place_after (p ∷ (q ∷ ps)) → Places (is_on_time (p.rise - q.rise)) place new → IsRun (heard_at new heard p.width) new (p ∷ (q ∷ ps))
 unfolding Places
-by_place heard place new p q ps r c = elim c [
-  | inl e ↦ out_of_step heard place new p (q ∷ ps) r e
+by_place heard place new p q ps r is c = elim c [
+  | inl e ↦ out_of_step heard place new p (q ∷ ps) r is e
   | inr more ↦ elim more [
     | inl e ↦ begun heard new p (q ∷ ps) e
     | inr on ↦ counted heard place new p q ps r (on.0) (on.1) (on.2) (on.3)
@@ -103,32 +108,32 @@ by_place heard place new p q ps r c = elim c [
 ]
 
 run_more : (heard : List Symbol) (s : Sync) (pulses : List Pulse) (now time width : ℕ) → IsSyncAt s pulses now → IsRun heard s.place pulses → IsAfter pulses time → IsSoon now time
-    → IsRun (heard_at (place_of s (time % 2 ^ 32) width) heard width) (place_of s (time % 2 ^ 32) width) (record { rise = time; width = width } ∷ pulses)
+    → IsRun (heard_at (place_of s (time % 2 ^ 32) width) heard width) (place_of s (time % 2 ^ 32) width) (pulse_at time width ∷ pulses)
 run_more heard s [] now time width (inl live) r after soon = absurd (live.1)
 run_more heard s (q ∷ ps) now time width (inl live) r after soon =
     let same : place_of s (time % 2 ^ 32) width ≡ place_at (is_on_time (time - q.rise)) (is_marker width) (is_marker q.width) s.place =
     place_at_time s (q ∷ ps) now time width (inl live) after soon ∙ ap (place_at (is_on_time (time - q.rise)) (is_marker width) (is_marker q.width)) (sym (live.0).place) in
-    by_place heard s.place (place_of s (time % 2 ^ 32) width) (record { rise = time; width = width }) q ps r
+    by_place heard s.place (place_of s (time % 2 ^ 32) width) (pulse_at time width) q ps r (place_at_time s (q ∷ ps) now time width (inl live) after soon)
     (subst (Places (is_on_time (time - q.rise)) s.place) (sym same) (places (is_on_time (time - q.rise)) (is_marker width) (is_marker q.width) s.place))
 run_more heard s pulses now time width (inr out) r after soon =
-    by_out heard s.place (place_of s (time % 2 ^ 32) width) _ (record { rise = time; width = width }) pulses r ((out.0).0) (places _ (is_marker width) _ s.place)
+    by_out heard s.place (place_of s (time % 2 ^ 32) width) _ (pulse_at time width) pulses r (place_at_time s pulses now time width (inr out) after soon) ((out.0).0) (places _ (is_marker width) _ s.place)
 
 hears_more : (heard : List Symbol) (s : Sync) (pulses : List Pulse) (now time width : ℕ) → IsHearing heard s pulses now → IsAfter pulses time → IsSoon now time
-    → IsHearing (heard_at (place_of s (time % 2 ^ 32) width) heard width) (record { rise_us = time % 2 ^ 32; place = place_of s (time % 2 ^ 32) width; was_marker = flag (is_marker width) }) (record { rise = time; width = width } ∷ pulses) time
+    → IsHearing (heard_at (place_of s (time % 2 ^ 32) width) heard width) (pulse_of s (time % 2 ^ 32) width) (pulse_at time width ∷ pulses) time
 hears_more heard s pulses now time width h after soon = record {
   sync = pulse_at_time s pulses now time width h.sync after soon;
   run = run_more heard s pulses now time width h.sync h.run after soon;
 }
 
 -- the same, as a call says it
-pub hears : (heard : List Symbol) (s t : Sync) (pulses : List Pulse) (now time rise width place : ℕ) → place ≡ place_of s rise width → t ≡ record { rise_us = rise; place = place; was_marker = flag (is_marker width) }
-    → IsHearing heard s pulses now → rise ≡ time % 2 ^ 32 → IsAfter pulses time → IsSoon now time → IsHearing (heard_at place heard width) t (record { rise = time; width = width } ∷ pulses) time
+pub hears : (heard : List Symbol) (s t : Sync) (pulses : List Pulse) (now time rise width place : ℕ) → place ≡ place_of s rise width → t ≡ pulse_of s rise width
+    → IsHearing heard s pulses now → rise ≡ time % 2 ^ 32 → IsAfter pulses time → IsSoon now time → IsHearing (heard_at place heard width) t (pulse_at time width ∷ pulses) time
 hears heard s t pulses now time rise width place at left h e after soon =
     let there : place ≡ place_of s (time % 2 ^ 32) width = at ∙ ap (λ (r : ℕ). place_of s r width) e in
-    let after_it : t ≡ record { rise_us = time % 2 ^ 32; place = place_of s (time % 2 ^ 32) width; was_marker = flag (is_marker width) } =
-    left ∙ ap (λ (r : ℕ). record { rise_us = r; place = place; was_marker = flag (is_marker width) }) e ∙ ap (λ (n : ℕ). record { rise_us = time % 2 ^ 32; place = n; was_marker = flag (is_marker width) }) there in
-    subst (λ (n : ℕ). IsHearing (heard_at n heard width) t (record { rise = time; width = width } ∷ pulses) time) (sym there)
-    (subst (λ (u : Sync). IsHearing (heard_at (place_of s (time % 2 ^ 32) width) heard width) u (record { rise = time; width = width } ∷ pulses) time) (sym after_it) (hears_more heard s pulses now time width h after soon))
+    let after_it : t ≡ pulse_of s (time % 2 ^ 32) width =
+    left ∙ ap (λ (r : ℕ). pulse_of s r width) e in
+    subst (λ (n : ℕ). IsHearing (heard_at n heard width) t (pulse_at time width ∷ pulses) time) (sym there)
+    (subst (λ (u : Sync). IsHearing (heard_at (place_of s (time % 2 ^ 32) width) heard width) u (pulse_at time width ∷ pulses) time) (sym after_it) (hears_more heard s pulses now time width h after soon))
 
 pub claim_of_run : (rules : Rules) (claim : Claim) (heard : List Symbol) (s : Sync) (pulses : List Pulse) (now : ℕ) → IsHearing heard s pulses now → told_of rules heard ≡ tells.Claim claim → IsOfRun rules claim heard s.place pulses
 claim_of_run rules claim heard s pulses now h e =
@@ -140,6 +145,7 @@ claim_of_run rules claim heard s pulses now h e =
       symbols = h.run.symbols ∙ ap (λ (n : ℕ). symbols_of_last n (drop h.run.late pulses)) whole;
       on_time = subst (λ (n : ℕ). AreOnTime n (drop h.run.late pulses)) whole (h.run.on_time);
       carries = carries;
+      out = h.run.out;
       step = elim (h.run.step) [ inl out ↦ inl out | inr inside ↦ inr (inside.0) ];
     }
 

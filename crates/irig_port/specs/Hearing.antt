@@ -1,6 +1,6 @@
 -- A port that hears through a synchroniser: what it stands for.
 -- Source: this project's profile.
-use Rattle.std.specs.Prelude.{◌≡◌, ℕ, suc, ◌≤◌, ◌==◌, ◌⊎◌, if◌then◌else◌, List, [], ◌∷◌, length, drop}
+use Rattle.std.specs.Prelude.{◌≡◌, ℕ, suc, ◌<◌, ◌≤◌, ◌==◌, ◌⊎◌, if◌then◌else◌, List, [], ◌∷◌, length, drop}
 use Rattle.irig_frame.specs.declared.symbol.Symbol.{Symbol}
 use Rattle.irig_frame.specs.Symbols.{symbol_of}
 use Rattle.irig_sync.specs.declared.sync.Sync.{Sync}
@@ -25,13 +25,14 @@ heard_of_last (suc n) (p ∷ ps) =
 heard_of_last _ _ = []
 
 -- the symbols are those of so many pulses in a row, each but the first on time behind the one
--- before. As many `late` ones came behind them; these were out of step, and the line still is
+-- before. As many `late` ones came behind them; each of these was out of step, and so is the line
 pub record IsRun (heard : List Symbol) (place : ℕ) (pulses : List Pulse) : Type 0 where
   pub late : ℕ
   pub count : ℕ
   pub symbols : heard ≡ symbols_of_last count (drop late pulses)
   pub all : length heard ≡ count
   pub on_time : AreOnTime count (drop late pulses)
+  pub out : (i : ℕ) → i < late → place_after (drop i pulses) ≡ 0
   pub step : (place ≡ 0) ⊎ ((late ≡ 0) × (count ≤ place))
 
 -- the symbols are what a port stands for that heard these pulses, the newest first, through this
@@ -40,12 +41,13 @@ pub record IsHearing (heard : List Symbol) (s : Sync) (pulses : List Pulse) (now
   pub sync : IsSyncAt s pulses now
   pub run : IsRun heard s.place pulses
 
--- the claim is carried by the last hundred pulses, each but the first on time behind the one
--- before, and by nothing else. As many `late` ones came behind them; these were out of step
+-- the claim is carried by a hundred pulses in a row, each but the first on time behind the one
+-- before, and by nothing else. As many `late` ones came behind them; each of these was out of step
 pub record IsOfRun (rules : Rules) (claim : Claim) (heard : List Symbol) (place : ℕ)
     (pulses : List Pulse) : Type 0 where
   pub late : ℕ
   pub symbols : heard ≡ symbols_of_last 100 (drop late pulses)
   pub on_time : AreOnTime 100 (drop late pulses)
   pub carries : Carries rules heard claim
+  pub out : (i : ℕ) → i < late → place_after (drop i pulses) ≡ 0
   pub step : (place ≡ 0) ⊎ (late ≡ 0)

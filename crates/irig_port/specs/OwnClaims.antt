@@ -17,8 +17,8 @@ frame_at line f = map line (range_with_len (100 * f) 100)
 abbrev pub TellsClaims : Rules → (ℕ → Symbol) → (ℕ → Claim) → Type 0
 TellsClaims rules line claims = (f : ℕ) → told_of rules (frame_at line f) ≡ tells.Claim (claims f)
 
--- what is told of these symbols is a fault, or silence, or the claim of the frame of which they are,
--- with at most one symbol changed; never a poor frame
+-- what is told of these symbols is a fault, or silence, or the claim of the frame of which they
+-- are, with at most one symbol changed; never a poor frame
 abbrev pub IsFaultOrOwn : (ℕ → Symbol) → (ℕ → Claim) → List Symbol → Told → Type 0
 IsFaultOrOwn line claims heard (tells.Claim c) =
     (f : ℕ) × (i : ℕ) × (x : Symbol) × (heard ≡ slice_set (frame_at line f) i x) × (c ≡ claims f)

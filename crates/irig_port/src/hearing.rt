@@ -3,8 +3,8 @@
 ghost use Rattle.std.specs.Prelude.{◌≡◌, ◌≤◌, ◌%◌, ◌^◌, ℕ, List, ◌∷◌};
 ghost use Rattle.irig_frame.specs.declared.symbol.Symbol.{Symbol};
 ghost use Rattle.irig_time.specs.declared.rules.Rules.{Rules};
-ghost use Rattle.irig_sync.specs.Sync.{flag, is_marker, place_of};
-ghost use Rattle.irig_sync.specs.Lines.{Pulse, IsAfter, IsSoon};
+ghost use Rattle.irig_sync.specs.Sync.{place_of, pulse_of};
+ghost use Rattle.irig_sync.specs.Lines.{Pulse, pulse_at, IsAfter, IsSoon};
 ghost use Rattle.irig_port.specs.Hearing.{heard_at, IsHearing};
 
 use crate::port::Port;
@@ -19,17 +19,13 @@ use irig_sync::Sync;
 pub fn hear<P: Port>(port: &mut P, sync: &mut Sync, rise_us: u32, width_us: u32) -> u8
     ensures place { result ≡ place_of sync.old rise_us width_us }
     ensures few { result ≤ 100 }
-    ensures sync { sync.new ≡ record {
-      rise_us = rise_us;
-      place = result;
-      was_marker = flag (is_marker width_us);
-    } }
+    ensures sync { sync.new ≡ pulse_of sync.old rise_us width_us }
     ensures heard { (rules : Rules) (s : List Symbol) → P.stands_for port.old rules s
         → P.stands_for port.new rules (heard_at result s width_us) }
     ensures run { (heard : List Symbol) (pulses : List Pulse) (now time : ℕ)
         → IsHearing heard sync.old pulses now → rise_us ≡ time % 2 ^ 32 → IsAfter pulses time
         → IsSoon now time → IsHearing (heard_at result heard width_us) sync.new
-        (record { rise = time; width = width_us } ∷ pulses) time }
+        (pulse_at time width_us ∷ pulses) time }
 {
     let place = sync.pulse(rise_us, width_us);
     if place == 1 {

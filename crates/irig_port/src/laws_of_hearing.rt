@@ -5,7 +5,7 @@ ghost use Rattle.irig_frame.specs.declared.symbol.Symbol.{Symbol};
 ghost use Rattle.irig_sync.specs.declared.sync.Sync.{Sync};
 ghost use Rattle.irig_sync.specs.Sync.{idle_of};
 ghost use Rattle.irig_sync.specs.Lines.{Pulse, IsSyncOf, IsSoon, place_after, symbols_of_last};
-ghost use Rattle.irig_sync.specs.OneFault.{ArePulsesBefore, HasOneFault, LeavesTheNext};
+ghost use Rattle.irig_sync.specs.FaultyLines.{ArePulsesBefore, ArePulsesLeft, HasOneFault, HasOneFaultInAHundred, LeavesTheNext};
 ghost use Rattle.irig_port.specs.Told.{told_of};
 ghost use Rattle.irig_port.specs.Hearing.{IsHearing, IsOfRun, heard_of_last};
 ghost use Rattle.irig_port.specs.OwnClaims.{TellsClaims, IsFaultOrOwn};
@@ -25,8 +25,8 @@ pub fn hearing_goes_on()
         → IsHearing heard (idle_of s (time % 2 ^ 32)) pulses time }
 {}
 
-/// A claim is carried by the last hundred pulses that were in step, each on time behind the one
-/// before, and by nothing else.
+/// A claim is carried by the last hundred pulses that were in step, each but the first on time
+/// behind the one before, and by nothing else. What came behind them was out of step.
 pub fn claims_are_of_a_run()
     ensures { (rules : Rules) (claim : Claim) (heard : List Symbol) (s : Sync)
         (pulses : List Pulse) (now : ℕ) → IsHearing heard s pulses now
@@ -37,9 +37,25 @@ pub fn claims_are_of_a_run()
 /// doubled, cut in two or of another width, or to which one was added, a port tells at any time a
 /// fault, silence, or the claim of the frame that it heard.
 pub fn one_fault_is_never_untrue()
-    ensures { (rules : Rules) (line : ℕ → Symbol) (claims : ℕ → Claim) (start : ℕ)
+    ensures once { (rules : Rules) (line : ℕ → Symbol) (claims : ℕ → Claim) (start : ℕ)
         (heard : List Symbol) (s : Sync) (pulses : List Pulse) (now : ℕ)
         → TellsClaims rules line claims → HasOneFault line start pulses
+        → IsHearing heard s pulses now
+        → IsFaultOrOwn line claims heard (told_of rules heard) }
+    // Or one of each hundred pulses in a row.
+    ensures again { (rules : Rules) (line : ℕ → Symbol) (claims : ℕ → Claim) (start : ℕ)
+        (heard : List Symbol) (s : Sync) (pulses : List Pulse) (now : ℕ)
+        → TellsClaims rules line claims → HasOneFaultInAHundred line start pulses
+        → IsHearing heard s pulses now
+        → IsFaultOrOwn line claims heard (told_of rules heard) }
+{}
+
+/// Lost pulses are never untrue, however many are lost: a port tells a fault, silence, or the claim
+/// of the frame that it heard.
+pub fn lost_pulses_are_never_untrue()
+    ensures { (rules : Rules) (line : ℕ → Symbol) (claims : ℕ → Claim) (start k : ℕ)
+        (heard : List Symbol) (s : Sync) (pulses : List Pulse) (now : ℕ)
+        → TellsClaims rules line claims → ArePulsesLeft line start k pulses
         → IsHearing heard s pulses now
         → IsFaultOrOwn line claims heard (told_of rules heard) }
 {}
@@ -51,9 +67,9 @@ pub fn a_port_holds_its_place()
         → heard_of_last n pulses ≡ symbols_of_last (place_after pulses) pulses }
 {}
 
-/// A fault costs no other frame: on a line of frames, heard for a hundred pulses, a port that was
-/// not emptied within a frame tells its claim at its end, before the fault, and again from the next
-/// frame on.
+/// A fault costs no other frame: once a line of frames was heard for a hundred pulses, a port that
+/// was not emptied within a frame tells the frame's claim at its end, before the fault and again
+/// from the next frame on.
 ///
 /// At a frame's last element the first of the next frame has to be left: see `LeavesTheNext`.
 pub fn other_frames_are_told()

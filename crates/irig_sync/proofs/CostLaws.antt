@@ -6,7 +6,7 @@ use Rattle.irig_frame.specs.declared.symbol.Symbol.{Symbol}
 use Rattle.irig_frame.specs.FieldTable.{is_marker_place}
 use Rattle.irig_sync.specs.Sync.{is_marker_symbol, is_marker, is_on_time, place_at}
 use Rattle.irig_sync.specs.Lines.{Pulse, place_after, IsTrueLine, IsTimeOf}
-use Rattle.irig_sync.specs.OneFault.{IsPulseOf, ArePulsesBefore, HasOneFault, LeavesTheNext}
+use Rattle.irig_sync.specs.FaultyLines.{IsPulseOf, ArePulsesBefore, HasOneFault, LeavesTheNext}
 use Rattle.irig_sync.proofs.LineLaws.{marks, step_at, on_time_is}
 use Rattle.irig_sync.proofs.FaultLaws.{of_row}
 

@@ -1,6 +1,6 @@
 -- A hundred pulses on time, of a line of which one is at fault, are those of elements in a row, but
 -- for one or two.
-use Rattle.std.proofs.Common.{◌≡◌, ℕ, zero, suc, ◌+◌, ◌-◌, ◌<◌, ◌≤◌, ◌⊎◌, List, [], ◌∷◌, ◌++◌, length, length-append, map, drop, slice_get, slice_set, Some, refl, sym, subst, ap, ◌∙◌, arith, inl, inr}
+use Rattle.std.proofs.Common.{◌≡◌, ℕ, zero, suc, ◌+◌, ◌-◌, ◌<◌, ◌≤◌, ◌⊎◌, true, List, [], ◌∷◌, ◌++◌, length, length-append, map, drop, take, slice_get, slice_set, Some, refl, sym, subst, ap, ◌∙◌, arith, inl, inr}
 use Rattle.std.specs.List.{range_with_len}
 use Rattle.std.proofs.lemmas.Bool.{cases_eq, cases_lt}
 use Rattle.std.proofs.lemmas.List.{append_assoc, append-nil, set-append_right}
@@ -9,8 +9,9 @@ use Rattle.std.proofs.lemmas.Option.{slice_get-get_or}
 use Rattle.irig_frame.specs.declared.symbol.Symbol.{Symbol}
 use Rattle.irig_frame.specs.declared.symbol.Symbol.TheVariants.{Bad}
 use Rattle.irig_frame.specs.Symbols.{symbol_of}
+use Rattle.irig_sync.specs.Sync.{is_on_time}
 use Rattle.irig_sync.specs.Lines.{Pulse, AreOnTime, symbols_of_last}
-use Rattle.irig_sync.specs.OneFault.{IsPulseOf, ArePulsesBefore, HasOneFault}
+use Rattle.irig_sync.specs.FaultyLines.{IsPulseOf, ArePulsesBefore, ArePulsesLeft, HasOneFault}
 use Rattle.irig_sync.proofs.LineLaws.{on_time_is}
 
 -- ---- elements in a row
@@ -58,6 +59,19 @@ last-few : (n : ℕ) (ps : List Pulse) → length (symbols_of_last n ps) ≤ len
 last-few zero ps = omega arith
 last-few (suc n) [] = omega arith
 last-few (suc n) (p ∷ ps) = let more = length-append (symbols_of_last n ps) (symbol_of p.width ∷ []) in omega (arith, more, last-few n ps)
+
+-- the pulses before do not matter
+pub last-take : (n : ℕ) (ps : List Pulse) → symbols_of_last n (take n ps) ≡ symbols_of_last n ps
+last-take zero ps = refl
+last-take (suc n) [] = refl
+last-take (suc n) (p ∷ ps) = ap (λ (s : List Symbol). s ++ symbol_of p.width ∷ []) (last-take n ps)
+
+pub on-take : (n : ℕ) (ps : List Pulse) → AreOnTime n ps → AreOnTime n (take n ps)
+on-take zero ps h = tt
+on-take (suc zero) ps h = tt
+on-take (suc (suc n)) [] h = absurd h
+on-take (suc (suc n)) (p ∷ []) h = absurd h
+on-take (suc (suc n)) (p ∷ (q ∷ ps)) h = (h.0, on-take (suc n) (q ∷ ps) (h.1))
 
 module _ (line : ℕ → Symbol) (start : ℕ) where
   pub of_row : (k n : ℕ) (ps : List Pulse) → ArePulsesBefore line start k ps → n ≤ length ps → (n ≤ k) × (symbols_of_last n ps ≡ row line (k - n) n)
@@ -153,9 +167,9 @@ module _ (line : ℕ → Symbol) (start : ℕ) where
   joint k p a q qs few later on =
       let one : length (p ∷ a) + suc k ≡ suc (length a + suc k) = omega arith in
       let old = oldest line start (suc k) (length a + suc k) p a refl (subst (λ (i : ℕ). ArePulsesBefore line start i (p ∷ a)) one later) in
-      let long : length (p ∷ a) ≡ length (old.0) + 1 = ap (length {A = Pulse}) (old.2) ∙ length-append (old.0) (old.1 ∷ []) in
+      let long : length (p ∷ a) ≡ length (old.0) + 1 = ap (length {A = Pulse}) {y = old.0 ++ (old.1 ∷ [])} (old.2) ∙ length-append (old.0) (old.1 ∷ []) in
       let hundred : 100 ≡ length (old.0) + suc (suc (98 - length (old.0))) = omega (arith, long, few) in
-      let same : (p ∷ a) ++ (q ∷ qs) ≡ old.0 ++ (old.1 ∷ (q ∷ qs)) = ap (λ (l : List Pulse). l ++ (q ∷ qs)) (old.2) ∙ append_assoc (old.0) (old.1 ∷ []) (q ∷ qs) in
+      let same : (p ∷ a) ++ (q ∷ qs) ≡ old.0 ++ (old.1 ∷ (q ∷ qs)) = ap (λ (l : List Pulse). l ++ (q ∷ qs)) {y = old.0 ++ (old.1 ∷ [])} (old.2) ∙ append_assoc (old.0) (old.1 ∷ []) (q ∷ qs) in
       let behind = on_rest (old.0) (old.1 ∷ (q ∷ qs)) (suc (suc (98 - length (old.0)))) (subst (λ (n : ℕ). AreOnTime n (old.0 ++ (old.1 ∷ (q ∷ qs)))) hundred (subst (AreOnTime 100) same on)) in
       let times = apart (old.1) q qs (98 - length (old.0)) behind in
       (old.1, old.3, times.0, times.1)
@@ -291,3 +305,35 @@ module _ (line : ℕ → Symbol) (start : ℕ) where
         | inl few ↦ any (h.element) (h.before) heard (h.earlier) all (h.after) (h.fault) (h.few) (h.later) few same (subst (AreOnTime 100) (h.parts) on)
         | inr many ↦ inl (in_row (h.element) (h.before) heard (h.earlier) all (h.after) (length (h.after) + suc (h.element)) (h.later) (same ∙ last-first 100 (h.after) (h.fault ++ h.before) many))
       ]
+
+  -- ---- lost pulses
+
+  -- on time behind another one comes the next element alone
+  next_is : (i j : ℕ) (p q : Pulse) → IsPulseOf line start j p → IsPulseOf line start i q → i < j → is_on_time (p.rise - q.rise) ≡ true → j ≡ suc i
+  next_is i j p q h g less on =
+      let it = (on_time_is (p.rise - q.rise)).0 on in
+      let t = h.0 in let u = g.0 in
+      omega (arith, t.0, t.1, u.0, u.1, less, it.0, it.1)
+
+  -- so many on time are those of elements in a row
+  pub left_in_row : (n k : ℕ) (p : Pulse) (ps : List Pulse) → (h : ArePulsesLeft line start k (p ∷ ps)) → AreOnTime (suc n) (p ∷ ps)
+      → (b : ℕ) × (h.0 ≡ b + n) × (symbols_of_last (suc n) (p ∷ ps) ≡ row line b (suc n))
+  left_in_row zero k p ps h on =
+      (h.0, (let same : h.0 ≡ h.0 + 0 = omega arith in same), ap (λ (x : Symbol). x ∷ []) ((h.2).1))
+  left_in_row (suc n) k p [] h on = absurd on
+  left_in_row (suc n) k p (q ∷ ps) h on =
+      let before = left_in_row n (h.0) q ps (h.3) (on.1) in
+      let next : h.0 ≡ suc ((h.3).0) = next_is ((h.3).0) (h.0) p q (h.2) ((h.3).2) ((h.3).1) (on.0) in
+      let last : (h.3).0 ≡ before.0 + n = before.1 in
+      let here : h.0 ≡ before.0 + suc n = omega (arith, next, last) in
+      let one : suc n + 1 ≡ suc (suc n) = omega arith in (
+        before.0,
+        here,
+        ap (λ (s : List Symbol). s ++ symbol_of p.width ∷ []) (before.2) ∙ ap (λ (x : Symbol). row line (before.0) (suc n) ++ x ∷ []) ((h.2).1)
+            ∙ sym (map-range_with_len_more line (before.0) (suc n) (h.0) (sym here)) ∙ ap (row line (before.0)) one,
+      )
+
+  pub left_less : (k : ℕ) (ps : List Pulse) → ArePulsesLeft line start k ps → (n : ℕ) → (j : ℕ) × ArePulsesLeft line start j (drop n ps)
+  left_less k ps h zero = (k, h)
+  left_less k [] h (suc n) = (k, h)
+  left_less k (p ∷ ps) h (suc n) = left_less (h.0) ps (h.3) n

@@ -7,8 +7,8 @@ use Rattle.irig_frame.specs.declared.coded.Coded.{Coded}
 use Rattle.irig_frame.specs.FieldTable.{is_marker_place}
 use Rattle.irig_frame.specs.Decoder.{IsRight, Reads}
 use Rattle.irig_sync.specs.declared.sync.Sync.{Sync}
-use Rattle.irig_sync.specs.Sync.{is_marker_symbol, is_marker, is_on_time, clock_gap, place_at, place_behind, place_of, flag}
-use Rattle.irig_sync.specs.Lines.{Pulse, IsSyncOf, IsInTurn, place_after, AreOnTime, ArePlacesFrom, IsTrueLine, IsTimeOf, StandAt, IsAfter, IsLive, IsIdle, IsOut, IsSyncAt, IsSoon}
+use Rattle.irig_sync.specs.Sync.{is_marker_symbol, is_marker, is_on_time, clock_gap, place_at, place_behind, place_of, pulse_of, flag}
+use Rattle.irig_sync.specs.Lines.{Pulse, pulse_at, IsSyncOf, IsInTurn, place_after, AreOnTime, ArePlacesFrom, IsTrueLine, IsTimeOf, StandAt, IsAfter, IsLive, IsIdle, IsOut, IsSyncAt, IsSoon}
 
 -- ---- no rotation
 
@@ -144,7 +144,7 @@ late_place true false place = refl
 late_place false true place = refl
 late_place false false place = refl
 
-pub next_place : (s : Sync) (pulses : List Pulse) (time width : ℕ) → IsSyncOf s pulses → IsInTurn pulses time → place_of s (time % 2 ^ 32) width ≡ place_after (record { rise = time; width = width } ∷ pulses)
+pub next_place : (s : Sync) (pulses : List Pulse) (time width : ℕ) → IsSyncOf s pulses → IsInTurn pulses time → place_of s (time % 2 ^ 32) width ≡ place_after (pulse_at time width ∷ pulses)
 next_place s [] time width h near =
     let a = h.place in let b = h.last in rw (a, b) (fresh_place _ _)
 next_place s (q ∷ ps) time width h near =
@@ -152,7 +152,7 @@ next_place s (q ∷ ps) time width h near =
     rw (a, b, c, gap_is q.rise time near.0 near.1, read_flag (is_marker q.width)) refl
 
 pub one_more : (s : Sync) (pulses : List Pulse) (time width : ℕ) → IsSyncOf s pulses → IsInTurn pulses time
-    → IsSyncOf (record { rise_us = time % 2 ^ 32; place = place_of s (time % 2 ^ 32) width; was_marker = flag (is_marker width) }) (record { rise = time; width = width } ∷ pulses)
+    → IsSyncOf (pulse_of s (time % 2 ^ 32) width) (pulse_at time width ∷ pulses)
 one_more s pulses time width h near = record { place = next_place s pulses time width h near; last = (refl, refl) }
 
 -- ---- no slip
@@ -176,7 +176,7 @@ far_gap g h = grind (arith, h)
 out_place : (s : Sync) (rise width : ℕ) → IsOut s → place_of s rise width ≡ flag (is_marker width)
 out_place s rise width h = let a = h.0 in let b = h.1 in rw (a, b) (fresh_place _ _)
 
-idle_place : (pulses : List Pulse) (now time width : ℕ) → IsIdle pulses now → IsSoon now time → flag (is_marker width) ≡ place_after (record { rise = time; width = width } ∷ pulses)
+idle_place : (pulses : List Pulse) (now time width : ℕ) → IsIdle pulses now → IsSoon now time → flag (is_marker width) ≡ place_after (pulse_at time width ∷ pulses)
 idle_place [] now time width idle soon = refl
 idle_place (q ∷ ps) now time width idle soon =
     rw (far_gap (time - q.rise) (omega (arith, idle, soon.0))) (sym (late_place (is_marker width) (is_marker q.width) (place_after (q ∷ ps))))
@@ -186,13 +186,13 @@ live_turn [] now time live after soon = absurd live
 live_turn (q ∷ ps) now time live after soon = (after, omega (arith, live.1, soon.1))
 
 pub place_at_time : (s : Sync) (pulses : List Pulse) (now time width : ℕ) → IsSyncAt s pulses now → IsAfter pulses time → IsSoon now time
-    → place_of s (time % 2 ^ 32) width ≡ place_after (record { rise = time; width = width } ∷ pulses)
+    → place_of s (time % 2 ^ 32) width ≡ place_after (pulse_at time width ∷ pulses)
 place_at_time s pulses now time width h after soon = elim h [
   | inl live ↦ next_place s pulses time width live.0 (live_turn pulses now time live.1 after soon)
   | inr out ↦ out_place s (time % 2 ^ 32) width out.0 ∙ idle_place pulses now time width out.1 soon
 ]
 
 pub pulse_at_time : (s : Sync) (pulses : List Pulse) (now time width : ℕ) → IsSyncAt s pulses now → IsAfter pulses time → IsSoon now time
-    → IsSyncAt (record { rise_us = time % 2 ^ 32; place = place_of s (time % 2 ^ 32) width; was_marker = flag (is_marker width) }) (record { rise = time; width = width } ∷ pulses) time
+    → IsSyncAt (pulse_of s (time % 2 ^ 32) width) (pulse_at time width ∷ pulses) time
 pulse_at_time s pulses now time width h after soon =
     inl (record { place = place_at_time s pulses now time width h after soon; last = (refl, refl) }, (omega arith, omega arith))

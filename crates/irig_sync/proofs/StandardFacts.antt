@@ -14,7 +14,7 @@ use Rattle.irig_frame.specs.declared.fault.FrameFault.TheVariants as fault
 use Rattle.irig_frame.specs.Faults.{first_wrong}
 use Rattle.irig_sync.specs.declared.sync.Sync.{Sync}
 use Rattle.irig_sync.specs.Sync.{is_marker_symbol, is_marker, is_on_time, clock_gap, place_at, place_behind, place_of, is_idle, idle_of}
-use Rattle.irig_sync.specs.Lines.{Pulse, place_after, AreOnTime, symbols_of_last, IsTrueLine, ArePlacesFrom, StandAt, IsTimeOf, IsInTurn, IsLive, IsIdle, IsSyncAt, IsSoon}
+use Rattle.irig_sync.specs.Lines.{Pulse, pulse_at, place_after, AreOnTime, symbols_of_last, IsTrueLine, ArePlacesFrom, StandAt, IsTimeOf, IsInTurn, IsLive, IsIdle, IsSyncAt, IsSoon}
 
 -- either side of each bound: 9,000 to 10,999 us are on time, a lost pulse's 20 ms are not
 pub known_gaps : map is_on_time (0 ∷ 1000 ∷ 8999 ∷ 9000 ∷ 10000 ∷ 10999 ∷ 11000 ∷ 20000 ∷ [])
@@ -52,20 +52,17 @@ known_idle = refl
 -- ---- some pulses
 
 -- a pulse each 10 ms, the oldest first, of these widths; what follows has them the newest first
-abbrev pub pulse : ℕ → ℕ → Pulse
-pulse rise width = record { rise = rise; width = width }
-
 -- a marker, a second one 10 ms later, and a bit: the second marker begins a frame
 abbrev begun : List Pulse
-begun = pulse 20000 2000 ∷ pulse 10000 8000 ∷ pulse 0 8000 ∷ []
+begun = pulse_at 20000 2000 ∷ pulse_at 10000 8000 ∷ pulse_at 0 8000 ∷ []
 
 pub known_begun : place_after begun ≡ 2
 known_begun = refl
 
 -- the next bit is counted; 20 ms later it is not, and a glitch 1 ms behind is not, nor what follows
 -- it 10 ms later
-pub known_after : (place_after (pulse 30000 2000 ∷ begun) ≡ 3) × (place_after (pulse 40000 2000 ∷ begun) ≡ 0)
-    × (place_after (pulse 21000 500 ∷ begun) ≡ 0) × (place_after (pulse 31000 2000 ∷ (pulse 21000 500 ∷ begun)) ≡ 0)
+pub known_after : (place_after (pulse_at 30000 2000 ∷ begun) ≡ 3) × (place_after (pulse_at 40000 2000 ∷ begun) ≡ 0)
+    × (place_after (pulse_at 21000 500 ∷ begun) ≡ 0) × (place_after (pulse_at 31000 2000 ∷ (pulse_at 21000 500 ∷ begun)) ≡ 0)
 known_after = (refl, refl, refl, refl)
 
 -- the symbols of the last two, the oldest first; of more than there are, those that there are
@@ -74,7 +71,7 @@ known_symbols = (refl, refl, refl)
 
 -- the last two came on time, and three did; of four there are not so many, and of two one came 20 ms
 -- behind
-pub known_on_time : AreOnTime 2 begun × AreOnTime 3 begun × ¬ AreOnTime 4 begun × ¬ AreOnTime 2 (pulse 40000 2000 ∷ begun)
+pub known_on_time : AreOnTime 2 begun × AreOnTime 3 begun × ¬ AreOnTime 4 begun × ¬ AreOnTime 2 (pulse_at 40000 2000 ∷ begun)
 known_on_time = ((refl, tt), (refl, (refl, tt)), λ h. h.1.1, λ h. absurd (let it = h.0 in cc))
 
 -- the times of a line's third element, if it began at 1000
@@ -93,7 +90,7 @@ numbers = record { rise_us = 20000; place = 2; was_marker = 0 }
 
 -- a bit that comes then has no place, but by the clock alone it would be counted; once a second of
 -- silence was told it is not
-pub known_turn : (place_after (pulse turn_later 2000 ∷ begun) ≡ 0) × (place_of numbers (turn_later % 2 ^ 32) 2000 ≡ 3)
+pub known_turn : (place_after (pulse_at turn_later 2000 ∷ begun) ≡ 0) × (place_of numbers (turn_later % 2 ^ 32) 2000 ≡ 3)
     × (place_of (idle_of numbers 1020000) (turn_later % 2 ^ 32) 2000 ≡ 0) × (place_of (idle_of numbers 1020000) (turn_later % 2 ^ 32) 8000 ≡ 1)
 known_turn = (refl, refl, refl, refl)
 

@@ -13,6 +13,9 @@ pub record Pulse : Type 0 where
   pub rise : ℕ
   pub width : ℕ
 
+abbrev pub pulse_at : ℕ → ℕ → Pulse
+pulse_at rise width = record { rise = rise; width = width }
+
 -- the place of the last of some pulses, the newest first; a marker on an idle line begins a frame
 abbrev pub place_after : List Pulse → ℕ
 place_after [] = 0

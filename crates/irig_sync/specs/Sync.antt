@@ -47,6 +47,11 @@ place_of s rise width =
     place_at (is_on_time (clock_gap s.rise_us rise)) (is_marker width) (not (s.was_marker == 0))
     s.place
 
+-- the numbers behind the next pulse
+abbrev pub pulse_of : Sync → ℕ → ℕ → Sync
+pulse_of s rise width =
+    record { rise_us = rise; place = place_of s rise width; was_marker = flag (is_marker width) }
+
 -- a line is idle whose last pulse rose a second or more behind; what lies 2^31 us or more behind by
 -- the clock lies ahead
 abbrev pub is_idle : ℕ → Bool

@@ -4,9 +4,9 @@ ghost use Rattle.std.specs.Prelude.{◌≡◌, ◌↔◌, ◌⊎◌, ◌<◌, �
 ghost use Rattle.irig_frame.specs.declared.symbol.Symbol.{Symbol};
 ghost use Rattle.irig_frame.specs.Decoder.{Reads};
 ghost use Rattle.irig_sync.specs.declared.sync.Sync.{Sync};
-ghost use Rattle.irig_sync.specs.Sync.{flag, idle_of, is_marker, is_on_time, clock_gap, place_of};
-ghost use Rattle.irig_sync.specs.Lines.{Pulse, IsSyncOf, IsInTurn, place_after, AreOnTime, ArePlacesFrom, IsTrueLine, IsTimeOf, StandAt, IsAfter, IsSyncAt, IsSoon};
-ghost use Rattle.irig_sync.specs.OneFault.{ArePulsesBefore, HasOneFault, LeavesTheNext};
+ghost use Rattle.irig_sync.specs.Sync.{is_on_time, clock_gap, place_of, pulse_of, idle_of};
+ghost use Rattle.irig_sync.specs.Lines.{Pulse, pulse_at, IsSyncOf, IsInTurn, place_after, AreOnTime, ArePlacesFrom, IsTrueLine, IsTimeOf, StandAt, IsAfter, IsSyncAt, IsSoon};
+ghost use Rattle.irig_sync.specs.FaultyLines.{ArePulsesBefore, HasOneFault, LeavesTheNext};
 
 use irig_frame::Coded;
 
@@ -15,11 +15,7 @@ use irig_frame::Coded;
 pub fn one_pulse_more()
     ensures { (s : Sync) (pulses : List Pulse) (time width : ℕ) → IsSyncOf s pulses
         → IsInTurn pulses time
-        → IsSyncOf (record {
-          rise_us = time % 2 ^ 32;
-          place = place_of s (time % 2 ^ 32) width;
-          was_marker = flag (is_marker width);
-        }) (record { rise = time; width = width } ∷ pulses) }
+        → IsSyncOf (pulse_of s (time % 2 ^ 32) width) (pulse_at time width ∷ pulses) }
 {}
 
 /// What is counted came on time: of as many last pulses as the place says, each but the first came
@@ -57,15 +53,10 @@ pub fn no_wrap()
     ensures first { (s : Sync) (now : ℕ) → IsSyncOf s [] → IsSyncAt s [] now }
     ensures place { (s : Sync) (pulses : List Pulse) (now time width : ℕ) → IsSyncAt s pulses now
         → IsAfter pulses time → IsSoon now time → place_of s (time % 2 ^ 32) width
-        ≡ place_after (record { rise = time; width = width } ∷ pulses) }
+        ≡ place_after (pulse_at time width ∷ pulses) }
     ensures pulse { (s : Sync) (pulses : List Pulse) (now time width : ℕ) → IsSyncAt s pulses now
         → IsAfter pulses time → IsSoon now time
-        → IsSyncAt (record {
-          rise_us = time % 2 ^ 32;
-          place = place_of s (time % 2 ^ 32) width;
-          was_marker = flag (is_marker width);
-        })
-        (record { rise = time; width = width } ∷ pulses) time }
+        → IsSyncAt (pulse_of s (time % 2 ^ 32) width) (pulse_at time width ∷ pulses) time }
     ensures idle { (s : Sync) (pulses : List Pulse) (now time : ℕ) → IsSyncAt s pulses now
         → now ≤ time → IsSoon now time → IsSyncAt (idle_of s (time % 2 ^ 32)) pulses time }
 {}

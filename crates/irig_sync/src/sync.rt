@@ -1,7 +1,7 @@
 //! Where a line stands in its frame.
 
 ghost use Rattle.std.specs.Prelude.{◌≡◌, ◌≤◌, []};
-ghost use Rattle.irig_sync.specs.Sync.{is_marker, is_on_time, clock_gap, place_behind, place_of, flag, idle_of};
+ghost use Rattle.irig_sync.specs.Sync.{is_on_time, clock_gap, place_behind, place_of, pulse_of, idle_of};
 ghost use Rattle.irig_sync.specs.Lines.{IsSyncOf};
 
 use irig_frame::{Symbol, classify};
@@ -47,11 +47,7 @@ impl Sync {
     pub fn pulse(&mut self, rise_us: u32, width_us: u32) -> u8
         ensures place { result ≡ place_of self.old rise_us width_us }
         ensures few { result ≤ 100 }
-        ensures new { self.new ≡ record {
-          rise_us = rise_us;
-          place = result;
-          was_marker = flag (is_marker width_us);
-        } }
+        ensures new { self.new ≡ pulse_of self.old rise_us width_us }
     {
         let is_on_time = is_on_time(self.rise_us, rise_us);
         let is_marker = classify(width_us) == Symbol::Marker;

@@ -1,6 +1,7 @@
 use crate::texts::{LEAP_DAY, frame};
 use irig_frame::{FrameFault, Symbol};
-use irig_port::{FlowPort, Port, PortFault, Told, WholePort};
+use irig_port::{FlowPort, Port, PortFault, Told, WholePort, hear};
+use irig_sync::Sync;
 use irig_time::{Claim, Mark, Rules, UtcSecond};
 use std::process::Abort;
 
@@ -38,4 +39,36 @@ fn tells_of_what_came_last<P: Port>(rt: &impl Abort) {
 fn an_edge_tells_of_the_pulses_since_the_port_was_empty(rt: HostRuntime) {
     tells_of_what_came_last::<WholePort>(&rt);
     tells_of_what_came_last::<FlowPort>(&rt);
+}
+
+/// Hears a pulse each 10 ms, and answers the last one's place.
+fn listen<P: Port>(port: &mut P, sync: &mut Sync, from_us: u32, symbols: &[Symbol]) -> u8 {
+    let mut rise_us = from_us;
+    let mut place = 0;
+    for symbol in symbols {
+        place = hear(port, sync, rise_us, symbol.width_us());
+        rise_us = rise_us.wrapping_add(10_000);
+    }
+    place
+}
+
+// From element 60 of a frame on, of which the clock wraps within the next one.
+fn finds_a_frame<P: Port>(rt: &impl Abort) {
+    let symbols = frame(LEAP_DAY);
+    let (_, rest) = symbols.split_at(60);
+    let mut port = P::fresh(Rules::PLAIN);
+    let mut sync = Sync::none();
+    assert!(rt; listen(&mut port, &mut sync, 4_294_000_000, rest) == 0);
+    assert!(rt; listen(&mut port, &mut sync, 4_294_400_000, &symbols) == 100);
+    assert!(rt; port.edge() == LEAP_DAY_TOLD);
+    sync.idle(1_422_703);
+    assert!(rt; sync.place == 100);
+    sync.idle(1_422_704);
+    assert!(rt; sync.place == 0 && hear(&mut port, &mut sync, 1_430_000, 8000) == 1);
+}
+
+#[test]
+fn a_line_is_heard_from_the_first_of_its_frames_on(rt: HostRuntime) {
+    finds_a_frame::<WholePort>(&rt);
+    finds_a_frame::<FlowPort>(&rt);
 }

@@ -1,6 +1,6 @@
--- A line of frames of which one pulse is at fault.
+-- A line of frames of which pulses are lost, or one is at fault.
 -- Source: this project's profile.
-use Rattle.std.specs.Prelude.{◌≡◌, ℕ, zero, suc, ◌+◌, ◌*◌, ◌≤◌, ◌⊎◌, true, List, [], ◌∷◌, ◌++◌, length, ⊤}
+use Rattle.std.specs.Prelude.{◌≡◌, ℕ, zero, suc, ◌+◌, ◌*◌, ◌<◌, ◌≤◌, ◌⊎◌, true, List, [], ◌∷◌, ◌++◌, length, take, drop, ⊤}
 use Rattle.irig_frame.specs.declared.symbol.Symbol.{Symbol}
 use Rattle.irig_frame.specs.Symbols.{symbol_of}
 use Rattle.irig_sync.specs.Sync.{is_marker}
@@ -18,6 +18,13 @@ ArePulsesBefore line start (suc k) (p ∷ ps) =
     IsPulseOf line start k p × ArePulsesBefore line start k ps
 ArePulsesBefore line start zero (p ∷ ps) = ⊥
 
+-- the pulses, the newest first, are those of some elements before the k-th, in order: any others
+-- were lost
+abbrev pub ArePulsesLeft : (ℕ → Symbol) → ℕ → ℕ → List Pulse → Type 0
+ArePulsesLeft line start k [] = ⊤
+ArePulsesLeft line start k (p ∷ ps) =
+    (j : ℕ) × (j < k) × IsPulseOf line start j p × ArePulsesLeft line start j ps
+
 -- the pulses, the newest first, are those of a line, of which one is at fault. In place of that
 -- element's pulse came none (it was lost), or another one, of any time and width (it was late, or
 -- early, or damaged), or two (it was doubled, or cut in two, or one was added beside it)
@@ -30,6 +37,11 @@ pub record HasOneFault (line : ℕ → Symbol) (start : ℕ) (pulses : List Puls
   pub few : length fault ≤ 2
   pub later : ArePulsesBefore line start (length after + suc element) after
   pub earlier : ArePulsesBefore line start element before
+
+-- of each hundred pulses in a row one at most is at fault
+abbrev pub HasOneFaultInAHundred : (ℕ → Symbol) → ℕ → List Pulse → Type 0
+HasOneFaultInAHundred line start pulses =
+    (n : ℕ) → HasOneFault line start (take 100 (drop n pulses))
 
 -- what came in place of a frame's last pulse, the k-th, leaves the next frame its first element:
 -- the pulse was lost; or it is a marker, at any time, or comes at its time and in step, of any
