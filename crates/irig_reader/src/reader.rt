@@ -115,8 +115,11 @@ impl<P: Port> Reader<P> {
         requires { port < ports_in self.old.redundancy }
         ensures place { result ≡ place_of sync.old rise_us width_us }
         ensures few { result ≤ 100 }
-        ensures sync { sync.new ≡ record { rise_us = rise_us; place = result;
-            was_marker = flag (is_marker width_us) } }
+        ensures sync { sync.new ≡ record {
+          rise_us = rise_us;
+          place = result;
+          was_marker = flag (is_marker width_us);
+        } }
         ensures fed { Advances self.old self.new (λ h. after_hearing h port result width_us) }
         ensures ports { self.new.redundancy ≡ self.old.redundancy }
     {
