@@ -170,8 +170,8 @@ typedef struct irig_reader {
 IRIG_ASSERT(sizeof(irig_reader) == 672 && offsetof(irig_reader, table) == 12 &&
             offsetof(irig_reader, state) == 532 && offsetof(irig_reader, ports) == 552);
 
-/* Where a line stands in its frame: one for each line, so that each may have its interrupt. Whatever
- * lies in it, on a line of true frames each pulse from the 101st on has its place. */
+/* Where a line stands in its frame: one for each line. Whatever lies in it, on a line of true frames
+ * each pulse from the 101st on has its place. */
 typedef struct irig_sync {
     uint32_t rise_us;   /* the leading edge of its last pulse */
     uint8_t place;      /* of that pulse in its frame, 1 to 100; any other is out of step */
@@ -291,21 +291,23 @@ void irig_sync_init(irig_sync *sync);
  * of step, and so are those behind it until a frame begins. A null pointer is out of step. */
 uint8_t irig_sync_pulse(irig_sync *sync, uint32_t rise_us, uint32_t width_us);
 
-/* Puts a line out of step that has been idle for a second. To be called at each tick, and at least
- * once in half an hour: without it a pulse that comes 71 minutes late could be taken for one on time,
- * since the clock wraps. */
+/* Puts a line out of step that has been idle for a second. To be called at each tick, before or
+ * behind it, and at least once in half an hour: without it a pulse that comes 71 minutes late could
+ * be taken for one on time, since the clock wraps. */
 void irig_sync_idle(irig_sync *sync, uint32_t now_us);
 
 /* A pulse of the line at a port, 0 to 2 of three, 0 to 4 of five: its place, as irig_sync_pulse
  * answers it. The port is emptied where a frame begins, and fed what has a place; so what it claims
  * at a tick is carried by the last hundred pulses before it, each on time behind the one before.
- * IRIG_NO_PORT. docs/WIRES.md says when to tick, and what a fault on the line does. */
+ * IRIG_NO_PORT. Calls for several lines of one reader, and its tick, must not interrupt one another.
+ * docs/WIRES.md says when to tick, and what a fault on the line does. */
 uint8_t irig_reader_hear(irig_reader *reader, irig_sync *sync, uint8_t port, uint32_t rise_us,
                          uint32_t width_us);
 
 /* An edge: what the reader says by what its ports heard; they are then empty. IRIG_VALUE if the
- * second at which it stands is none, its votes are too many, or its rules are out of range. Other
- * numbers that no reader comes to are taken as they are.
+ * second at which it stands is none, its votes are too many, or its rules are out of range: then the
+ * report is not written, nothing is announced, and irig_reader_init begins afresh. Other numbers that
+ * no reader comes to are taken as they are.
  *
  * If it answers 0, a second that is announced with the cause IRIG_VOTED is the true one, provided
  * that the tick comes as that second begins and no two of three ports (three of five) then tell one

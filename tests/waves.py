@@ -15,6 +15,8 @@ from __future__ import annotations
 
 import argparse
 import json
+import os
+import sys
 from collections.abc import Iterable, Iterator, Sequence
 from dataclasses import dataclass, field, replace
 from datetime import date, timedelta
@@ -282,6 +284,9 @@ def main() -> None:
     late = [int(word) for word in told.late.split(",")]
     lines = told.scenario.read_text().splitlines()
     plant = json.loads(lines[0])
+    count = len(plant["generators"])
+    if len(late) < count:
+        words.error(f"--late wants {count} times, one for each line")
     if told.words:
         print(words_of(plant))
         return
@@ -293,8 +298,10 @@ def main() -> None:
     )
     if told.pull:
         line, begin, end = (int(word) for word in told.pull.split(","))
+        if line >= count:
+            words.error(f"--pull names line {line}; there are 0 to {count - 1}")
         changes = sorted(pulled(changes, line, begin * 1000, end * 1000))
-    levels = [0] * len(plant["generators"])
+    levels = [0] * count
     for time, line, level in changes:
         if levels[line] != level:
             levels[line] = level
@@ -304,4 +311,8 @@ def main() -> None:
 
 
 if __name__ == "__main__":
-    main()
+    try:
+        main()
+        sys.stdout.flush()
+    except BrokenPipeError:  # whoever reads has enough
+        os.dup2(os.open(os.devnull, os.O_WRONLY), sys.stdout.fileno())

@@ -3,9 +3,9 @@
  * this makes true.
  *
  * A tick belongs at the edge itself, when each line has ended a frame and none has a pulse of the
- * next. If more than half of the lines agree on an edge within a millisecond, it is that one; if not,
- * it is a second after the last by the board's own clock, and the tick comes 5 ms late, since the
- * lines come first. */
+ * next. If more than half of the lines end a frame within a millisecond, it is the earliest of their
+ * edges; if not, it is a second after the last by the board's own clock, and the tick comes 5 ms late,
+ * since lines that do come are earlier. */
 #include "capture.h"
 
 static const uint32_t SECOND_US = 1000000;
@@ -14,11 +14,14 @@ static const uint32_t AGREE_US = 1000;
 static const uint32_t PATIENCE_US = 5000;
 
 
+static irig_setup setup;
+static irig_table table;
 static irig_reader reader;
 static irig_sync sync[LINES];
 static uint32_t rise_us[LINES];      /* the leading edge of the pulse that a line has now */
 static uint32_t frame_end_us[LINES]; /* where the frame ends that a line has heard whole */
 static bool has_frame[LINES];        /* since the last tick */
+static bool has_edge;                /* the lines have agreed on one since the last tick */
 static uint32_t last_edge_us;
 static uint32_t next_edge_us;
 
@@ -28,35 +31,46 @@ static void tick_at(uint32_t edge_us, uint32_t wait_us) {
     compare_at(edge_us + wait_us);
 }
 
-uint32_t capture_init(const irig_setup *setup, const irig_table *table) {
+uint32_t capture_init(const irig_setup *wanted, const irig_table *known) {
+    setup = *wanted;
+    table = *known;
+    has_edge = false;
     for (int line = 0; line < LINES; line++) {
         irig_sync_init(&sync[line]);
         has_frame[line] = false;
     }
     /* So that the first edge on which lines agree is one. */
     last_edge_us = timer_now() - SECOND_US;
-    return irig_reader_init(&reader, setup, table);
+    return irig_reader_init(&reader, &setup, &table);
 }
 
-/* Whether more than half of the lines end a frame where this one does. */
-static bool is_agreed(uint8_t line) {
+/* Whether more than half of the lines end a frame within a millisecond of this one. Their edge is the
+ * earliest of theirs: no line has then begun its next frame. */
+static bool is_agreed(uint8_t line, uint32_t *edge_us) {
     int agreed = 0;
-    for (int other = 0; other < LINES; other++)
-        agreed += has_frame[other] &&
-                  frame_end_us[line] - frame_end_us[other] + AGREE_US <= 2 * AGREE_US;
+    *edge_us = frame_end_us[line];
+    for (int other = 0; other < LINES; other++) {
+        if (!has_frame[other] ||
+            frame_end_us[line] - frame_end_us[other] + AGREE_US > 2 * AGREE_US)
+            continue;
+        agreed++;
+        if (frame_end_us[other] - *edge_us > UINT32_MAX / 2) *edge_us = frame_end_us[other];
+    }
     return agreed > LINES / 2;
 }
 
 /* A frame has been heard whole: its last pulse has ended, and its edge comes in two milliseconds. */
 static void on_frame(uint8_t line) {
+    uint32_t edge_us;
     frame_end_us[line] = rise_us[line] + ELEMENT_US;
     has_frame[line] = true;
-    if (!is_agreed(line)) return;
-    if (frame_end_us[line] - last_edge_us > SECOND_US / 2) {
-        tick_at(frame_end_us[line], 0);
+    if (has_edge || !is_agreed(line, &edge_us)) return;
+    has_edge = true;
+    if (edge_us - last_edge_us > SECOND_US / 2) {
+        tick_at(edge_us, 0);
     } else {
         /* This clock has ticked for that edge already. The lines say where it was. */
-        last_edge_us = frame_end_us[line];
+        last_edge_us = edge_us;
         tick_at(last_edge_us + SECOND_US, PATIENCE_US);
     }
 }
@@ -72,13 +86,16 @@ void on_capture(uint8_t line, bool is_high, uint32_t time_us) {
 }
 
 void on_compare(void) {
-    irig_report report;
+    irig_report report = {.lock = IRIG_UNLOCKED, .cause = IRIG_NO_VOTE};
     last_edge_us = next_edge_us;
+    has_edge = false;
     for (int line = 0; line < LINES; line++) {
         has_frame[line] = false;
         irig_sync_idle(&sync[line], timer_now());
     }
-    irig_reader_tick(&reader, &report);
+    /* If its numbers are those of no reader, it announces nothing, and begins afresh. */
+    if (irig_reader_tick(&reader, &report) != IRIG_DONE)
+        irig_reader_init(&reader, &setup, &table);
     on_second(&report, last_edge_us);
     tick_at(last_edge_us + SECOND_US, PATIENCE_US);
 }

@@ -2,8 +2,9 @@
  * that compares.
  *
  * The timer counts microseconds in 32 bits, and wraps. The board calls `on_capture` at each change of
- * a line and `on_compare` when the timer comes to the time that was asked for. Neither may interrupt
- * the other. capture_bench.c is such a board, which plays pulses from a file. */
+ * a line and `on_compare` when the timer comes to the time that was asked for. None of these calls may
+ * interrupt another, of whichever line, since all of them use the one reader: give their interrupts
+ * one priority. capture_bench.c is such a board, which plays pulses from a file. */
 #ifndef CAPTURE_H
 #define CAPTURE_H
 

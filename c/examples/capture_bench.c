@@ -52,8 +52,11 @@ static bool play_row(void) {
     if (scanf("%llu", &time_us) != 1) return false;
     for (int line = 0; line < LINES; line++) {
         int next;
-        if (scanf("%d", &next) != 1) return false;
-        is_high[line] = next != 0;
+        if (scanf("%d", &next) != 1 || (next != 0 && next != 1)) {
+            fprintf(stderr, "capture: a row is a time and %d levels\n", LINES);
+            exit(2);
+        }
+        is_high[line] = next == 1;
     }
     run_until((uint32_t)time_us);
     for (uint8_t line = 0; line < LINES; line++)
@@ -63,7 +66,10 @@ static bool play_row(void) {
 }
 
 int main(int count, char **words) {
-    if (count < 3 || count > 4 + 64) return 2;
+    if (count < 3 || count > 4 + 64) {
+        fprintf(stderr, "capture: wants lock_after and holdover; then a table's last day, and days\n");
+        return 2;
+    }
     irig_setup setup = {.redundancy = LINES == 5 ? IRIG_FIVE_PORTS : IRIG_THREE_PORTS,
                         .lock_after = (uint8_t)atoi(words[1]),
                         .holdover = (uint32_t)atoi(words[2])};

@@ -2,6 +2,7 @@
 from __future__ import annotations
 
 import ctypes
+from operator import index
 from typing import Tuple
 
 from . import _library as c
@@ -26,12 +27,12 @@ class Sync:
         """The place of the next pulse in its frame, 1 to 100, or 0 out of step. It rose at this
         time in microseconds and is so many wide; of a time the lowest 32 bits count."""
         width = fitting(ctypes.c_uint32, width_us, "the width")
-        return int(c.sync_pulse(self._held, rise_us & 0xFFFFFFFF, width))
+        return int(c.sync_pulse(self._held, index(rise_us) & 0xFFFFFFFF, width))
 
     def idle(self, now_us: int) -> None:
         """Puts the line out of step if its last pulse rose a second ago or earlier. To be called at
         each edge, and at least once in half an hour."""
-        c.sync_idle(self._held, now_us & 0xFFFFFFFF)
+        c.sync_idle(self._held, index(now_us) & 0xFFFFFFFF)
 
     @property
     def place(self) -> int:

@@ -4,6 +4,7 @@ from __future__ import annotations
 import ctypes
 from array import array
 from dataclasses import dataclass
+from operator import index
 from typing import Iterable, Literal, Optional, Tuple, Union, overload
 
 from . import _library as c
@@ -181,7 +182,12 @@ class Reader:
     def hear(self, port: int, rise_us: int, width_us: int) -> int: ...
 
     def hear(
-        self, port: int, what: Union[Frame, int], width_us: Optional[int] = None
+        self,
+        port: int,
+        frame: Union[Frame, int, None] = None,
+        width_us: Optional[int] = None,
+        *,
+        rise_us: Optional[int] = None,
     ) -> Optional[int]:
         """`hear(port, frame)`: the pulses of a frame at a port.
 
@@ -189,17 +195,18 @@ class Reader:
         rose and how wide it is, in microseconds; of a time the lowest 32 bits count. It answers the
         pulse's place in its frame, 1 to 100, or 0 out of step. The port is emptied where a frame
         begins, and hears what has a place (docs/WIRES.md)."""
-        if width_us is None:
-            if isinstance(what, int):
+        if width_us is None and rise_us is None and frame is not None:
+            if isinstance(frame, (int, float)):
                 raise TypeError("hear takes a port and a frame, or a port, rise_us and width_us")
-            self.pulses(port, widths(what))
+            self.pulses(port, widths(frame))
             return None
-        if not isinstance(what, int):
-            raise TypeError("hear takes a port, rise_us and width_us; rise_us is a number")
+        rise = frame if rise_us is None else rise_us
+        if width_us is None or not isinstance(rise, int):
+            raise TypeError("hear takes a port, rise_us and width_us, all of them whole numbers")
         number = fitting(ctypes.c_uint8, port, "the port").value
         width = fitting(ctypes.c_uint32, width_us, "the width")
         line = self._lines[min(number, len(self._lines) - 1)]
-        place = int(c.reader_hear(self._held, line, number, what & 0xFFFFFFFF, width))
+        place = int(c.reader_hear(self._held, line, number, rise & 0xFFFFFFFF, width))
         if place == c.NO_PORT:
             raise Fault(VALUE, reason=f"there is no port {port}")
         return place
@@ -209,7 +216,7 @@ class Reader:
         each edge if pulses come by `hear(port, rise_us, width_us)`, and at least once in half an
         hour."""
         for line in self._lines:
-            c.sync_idle(line, now_us & 0xFFFFFFFF)
+            c.sync_idle(line, index(now_us) & 0xFFFFFFFF)
 
     def tick(self) -> Report:
         """The edge: what the reader says by what its ports heard since the last. They are then

@@ -102,6 +102,11 @@ class Hearing(unittest.TestCase):
     def test_words_of_another_kind(self) -> None:
         self.assertRaises(TypeError, Reader().hear, 0, 8000)
         self.assertRaises(TypeError, Reader().hear, 0, FRAME, 8000)
+        self.assertRaises(TypeError, Reader().hear, 0, 5000.5, 8000)
+        self.assertRaises(TypeError, Reader().hear, 0)
+        self.assertRaises(TypeError, Reader().idle, 1.0)
+        self.assertRaises(TypeError, Sync().pulse, 0.5, 8000)
+        self.assertEqual(Reader().hear(0, rise_us=5, width_us=8000), 1)
 
     def test_copies_keep_their_lines(self) -> None:
         reader = Reader()

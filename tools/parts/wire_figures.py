@@ -73,7 +73,7 @@ def frame_figure() -> Figure:
     figure = Figure(figsize=(9.0, 2.9))
     pulses = frames(2)
     first = figure.add_axes([0.03, 0.22, 0.60, 0.52])
-    draw_stretch(first, pulses, -5000, 125_000)
+    draw_stretch(first, pulses, -5000, 120_000)
     last = figure.add_axes([0.67, 0.22, 0.30, 0.52])
     draw_stretch(last, pulses, 955_000, 1_030_000)
     for axes, edge, side in ((first, 0, "left"), (last, 1000, "right")):
@@ -107,11 +107,11 @@ def edge_figure() -> Figure:
     begin, end = (-ELEMENT_US + 8000 + max(apart)) / 1000, (8000 + min(apart)) / 1000
     axes.add_patch(Rectangle((begin, 0.2), end - begin, 3.4, color="#009E73", alpha=0.15, lw=0))
     axes.text((begin + end) / 2, 3.75, "a tick here is right", size=SMALL, ha="center", color="#00664B")
-    for time, name in ((0.0, "the edge"), (5.0, "the board's\nown clock, late")):
+    for time, name in ((0.0, "the edge"), (5.0, "own clock, only if\nlines do not agree")):
         axes.axvline(time, ymax=0.83, color="black", lw=1, ls=(0, (3, 2)))
         axes.text(time + 0.2, 0.02, name, size=SMALL, va="top")
     axes.text(-6.0, 0.02, "element 99", size=SMALL, ha="center", va="top")
-    axes.text(14.0, 0.02, "element 1", size=SMALL, ha="center", va="top")
+    axes.text(17.0, 0.02, "element 1", size=SMALL, ha="center", va="top")
     plain(axes)
     axes.set_xlim(-25, 25)
     axes.set_ylim(-0.6, 4.1)
@@ -164,12 +164,12 @@ def strips() -> list[Strip]:
         Strip("it is another symbol", changed(at, (rise, 7000 - width if width < 5000 else 2000)), rise),
         Strip("it is 8 ms wide", changed(at, (rise, 8000)), rise),
         Strip("it is cut in two", changed(at, (rise, 800), (rise + 1000, width - 1000)), rise),
-        Strip("a glitch behind it", [*line[: at + 1], (rise + 9000, 20), *line[at + 1 :]], rise + 9000),
+        Strip("a glitch behind it", [*line[: at + 1], (rise + 7000, 20), *line[at + 1 :]], rise + 7000),
         Strip("it is 1.5 ms late", changed(at, (rise + 1500, width)), rise),
         Strip("the last pulse is lost", changed(199), last),
         Strip("the first pulse is lost", changed(200), first),
         Strip("the cable is out for 0.8 s", [*line[:150], *line[230:]], line[150][0]),
-        Strip("then the line is 3 ms late",
+        Strip("and is plugged in 3 ms late",
               [*line[:150], *((time + 3000, wide) for time, wide in line[230:])], line[150][0]),
     ]
 
@@ -191,7 +191,7 @@ def draw_strip(axes: Axes, strip: Strip, foot: float) -> None:
         colour, height = (BLUE, 0.5) if is_counted else (ORANGE, 0.25)
         axes.add_patch(Rectangle((begin, foot), end - begin, height, color=colour, lw=0))
     if strip.at is not None:
-        axes.plot([strip.at / SECOND_US], [foot + 0.62], "v", ms=5, color="black")
+        axes.plot([strip.at / SECOND_US], [foot - 0.1], "^", ms=5, color="black")
     for edge, told in enumerate(strip.told, 1):
         is_right = told == "ok"
         axes.text(edge - 0.02, foot + 0.66, told, size=SMALL, ha="right", va="center",
@@ -211,12 +211,12 @@ def faults_figure() -> Figure:
         axes.axvline(edge, color=GREY, lw=0.8, ls=(0, (3, 2)), zorder=0)
     plain(axes)
     axes.set_xlim(0, edges)
-    axes.set_ylim(-0.15, len(rows))
+    axes.set_ylim(-0.25, len(rows))
     axes.set_xticks(range(edges + 1))
     axes.set_xlabel("seconds; at each edge stands what the port then tells", size=SMALL)
     figure.text(0.03, 1 - 0.3 / height, "What a fault does", size=LARGE, weight="bold")
-    figure.text(0.03, 1 - 0.55 / height, "blue: pulses that have a place in their frame; low and orange: out of"
-                " step; the triangle is the fault", size=SMALL, color="#444444")
+    figure.text(0.03, 1 - 0.55 / height, "blue bar: pulses that have a place in their frame; thin orange bar:"
+                " out of step; the triangle is the fault", size=SMALL, color="#444444")
     return figure
 
 
