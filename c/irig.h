@@ -369,7 +369,8 @@ static inline uint32_t irig_tested_second_write(const irig_utc *second, char *te
     return second && text ? irig_second_write(second, text) : (uint32_t)IRIG_VALUE;
 }
 
-static inline uint32_t irig_tested_second_read(const char *text, irig_count count, irig_utc *second) {
+static inline uint32_t irig_tested_second_read(const char *text, irig_count count,
+                                               irig_utc *second) {
     return text && second ? irig_second_read(text, count, second) : (uint32_t)IRIG_VALUE;
 }
 
