@@ -1,48 +1,120 @@
 /* Random numbers in every structure, and random frames, at their exact sizes: nothing may happen
- * but answers. Compile with -fsanitize=address,undefined. The word is how many. */
+ * but answers. Compile with -fsanitize=address,undefined. The word is how many. What it prints of all
+ * answers is the same on every processor. */
 #include "irig.h"
 
 #include <stdio.h>
 #include <stdlib.h>
 
+/* The same numbers with every C library: xorshift of 32 bits. */
+static uint32_t next(void) {
+    static uint32_t state = 1;
+    state ^= state << 13;
+    state ^= state >> 17;
+    state ^= state << 5;
+    return state;
+}
+
+static uint32_t below(uint32_t end) { return (next() >> 8) % end; }
+
+/* Takes down an answer: FNV-1a over words. */
+static uint32_t answers = 2166136261u;
+
+static void note(uint32_t answer) { answers = (answers ^ answer) * 16777619u; }
+
 static void fill(void *object, size_t size) {
     unsigned char *bytes = object;
-    for (size_t i = 0; i < size; i++) bytes[i] = (unsigned char)(rand() & 7 ? rand() % 3 : rand());
+    for (size_t i = 0; i < size; i++) bytes[i] = (unsigned char)(below(8) ? below(3) : below(256));
+}
+
+static void note_claim(const irig_claim *claim) {
+    note(claim->at.day);
+    note(claim->at.sod);
+    note(claim->mark);
+}
+
+static void note_told(const irig_told *told) {
+    note(told->kind);
+    note(told->quality);
+    note(told->fault);
+    note_claim(&told->claim);
+}
+
+static void note_report(const irig_report *report) {
+    note(report->announces);
+    note(report->lock);
+    note(report->cause);
+    note(report->lock_count);
+    note(report->day);
+    note(report->sod);
+}
+
+static void note_coded(const irig_coded *coded) {
+    note(coded->second);
+    note(coded->minute);
+    note(coded->hour);
+    note(coded->day);
+    note(coded->year);
+    note(coded->control);
+    note(coded->sbs);
+}
+
+/* Pulses at ports of a reader, one by one and many at once. */
+static void feed(irig_reader *reader) {
+    for (int i = 0; i < 20; i++) {
+        uint8_t port = (uint8_t)below(8);
+        note(irig_reader_pulse(reader, port, below(12000)));
+    }
+    uint32_t count = below(130);
+    uint8_t port = (uint8_t)below(8);
+    uint32_t *widths_us = malloc((count ? count : 1) * sizeof *widths_us);
+    for (uint32_t i = 0; i < count; i++) widths_us[i] = below(12000);
+    note(irig_reader_pulses(reader, port, widths_us, count));
+    free(widths_us);
+}
+
+static void hear(irig_reader *reader) {
+    irig_sync *sync = malloc(sizeof *sync);
+    fill(sync, sizeof *sync);
+    for (int i = 0; i < 20; i++) {
+        uint8_t port = (uint8_t)below(8);
+        uint32_t rise_us = sync->rise_us + below(12000), width_us = below(12000);
+        uint8_t place = irig_reader_hear(reader, sync, port, rise_us, width_us);
+        if (place > 100 && place != IRIG_NO_PORT) abort();
+        note(place);
+        rise_us = next();
+        place = irig_sync_pulse(sync, rise_us, width_us);
+        if (place > 100) abort();
+        note(place);
+        irig_sync_idle(sync, next());
+    }
+    free(sync);
 }
 
 /* A reader of garbage, or one whose rules and second are of a reader. */
-static int try_reader(int is_near) {
+static int try_reader(bool is_near) {
     irig_reader *reader = malloc(sizeof *reader);
     irig_report *report = malloc(sizeof *report);
     irig_told *told = malloc(sizeof *told);
     fill(reader, sizeof *reader);
     if (is_near) {
-        reader->setup.lock_after = (uint8_t)(1 + rand() % 60);
-        reader->setup.holdover = (uint32_t)(rand() % 1000001);
-        reader->state.day = (uint32_t)(1 + rand() % 36523);
-        reader->state.sod = (uint32_t)(rand() % 86400);
+        reader->setup.lock_after = (uint8_t)(1 + below(60));
+        reader->setup.holdover = below(1000001);
+        reader->state.day = 1 + below(36523);
+        reader->state.sod = below(86400);
         reader->state.count = 0;
     }
-    for (int i = 0; i < 20; i++)
-        irig_reader_pulse(reader, (uint8_t)(rand() % 8), (uint32_t)(rand() % 12000));
-    size_t count = (size_t)(rand() % 130);
-    uint32_t *widths_us = malloc((count ? count : 1) * sizeof *widths_us);
-    for (size_t i = 0; i < count; i++) widths_us[i] = (uint32_t)(rand() % 12000);
-    irig_reader_pulses(reader, (uint8_t)(rand() % 8), widths_us, count);
-    free(widths_us);
-    irig_sync *sync = malloc(sizeof *sync);
-    fill(sync, sizeof *sync);
-    for (int i = 0; i < 20; i++) {
-        uint8_t place = irig_reader_hear(reader, sync, (uint8_t)(rand() % 8),
-                                         sync->rise_us + (uint32_t)(rand() % 12000),
-                                         (uint32_t)(rand() % 12000));
-        if (place > 100 && place != IRIG_NO_PORT) abort();
-        if (irig_sync_pulse(sync, (uint32_t)rand(), (uint32_t)(rand() % 12000)) > 100) abort();
-        irig_sync_idle(sync, (uint32_t)rand());
+    feed(reader);
+    hear(reader);
+    for (uint8_t port = 0; port < 6; port++) {
+        uint32_t answer = irig_reader_port(reader, port, told);
+        note(answer);
+        if (answer == IRIG_DONE) note_told(told);
     }
-    free(sync);
-    for (uint8_t port = 0; port < 6; port++) irig_reader_port(reader, port, told);
-    int announced = irig_reader_tick(reader, report) == IRIG_DONE && report->announces;
+    uint32_t answer = irig_reader_tick(reader, report);
+    note(answer);
+    if (answer == IRIG_DONE) note_report(report);
+    int announced = answer == IRIG_DONE && report->announces;
     if (announced && (report->day < 1 || report->day > 36523 || report->sod > 86400)) abort();
     irig_reader_restart(reader);
     free(told);
@@ -51,8 +123,9 @@ static int try_reader(int is_near) {
     return announced;
 }
 
+/* Symbols and coded times of garbage. */
 static void try_frame(void) {
-    size_t count = (size_t)(rand() % 130);
+    uint32_t count = below(130);
     uint8_t *symbols = malloc(count ? count : 1);
     irig_coded *coded = malloc(sizeof *coded);
     irig_control *control = malloc(sizeof *control);
@@ -62,10 +135,16 @@ static void try_frame(void) {
     fill(coded, sizeof *coded);
     fill(control, sizeof *control);
     fill(frame, 100);
-    irig_claim_of(coded, control, (uint8_t)rand(), claim);
-    irig_encode(coded, frame);
-    irig_set_parity(frame, (uint8_t)rand());
-    irig_decode(symbols, count, coded);
+    uint32_t answer = irig_claim_of(coded, control, (uint8_t)below(256), claim);
+    note(answer);
+    if (answer == IRIG_DONE) note_claim(claim);
+    note(irig_encode(coded, frame));
+    irig_set_parity(frame, (uint8_t)below(256));
+    for (int i = 0; i < 100; i++) note(frame[i]);
+    note(irig_has_parity(frame, (uint8_t)below(2)));
+    answer = irig_decode(symbols, count, coded);
+    note(answer);
+    if (answer == IRIG_DONE) note_coded(coded);
     free(frame);
     free(claim);
     free(control);
@@ -73,14 +152,57 @@ static void try_frame(void) {
     free(symbols);
 }
 
+/* A second's way into a frame and back, and its text. */
+static void try_second(void) {
+    irig_utc second = {below(36600), below(86402)};
+    irig_utc following = {0, 0}, read = {0, 0};
+    irig_coded coded = {0}, decoded = {0};
+    irig_control control = {0};
+    uint8_t symbols[100];
+    char text[20] = "";
+    if (below(4) == 0) second = (irig_utc){6209, 86340 + below(62)};
+    note(irig_second_next(&second, (uint8_t)below(5), &following));
+    note(following.day ^ following.sod);
+    note(irig_second_write(&second, text));
+    for (int i = 0; i < 20; i++) note((uint8_t)text[i]);
+    note(irig_second_read(text, 20, &read));
+    note(read.day ^ read.sod);
+    note(irig_coded_of(&second, (int8_t)((int)below(80) - 40), &coded));
+    note(irig_control_unpack(below(1u << 19), &control));
+    note(irig_control_pack(&control, &coded.control));
+    note(coded.control);
+    if (irig_encode(&coded, symbols) != IRIG_DONE) return;
+    irig_set_parity(symbols, IRIG_ODD);
+    for (int i = 0; i < 100; i++) note(irig_classify(irig_width_us(symbols[i])));
+    note(irig_decode(symbols, 100, &decoded));
+    note_coded(&decoded);
+    irig_claim claim = {0};
+    note(irig_claim_of(&decoded, &control, IRIG_ADD, &claim));
+    note_claim(&claim);
+}
+
+/* A table of garbage, or one of month ends. */
+static void try_table(void) {
+    irig_setup setup = {.lock_after = (uint8_t)below(62), .holdover = below(1000002)};
+    irig_table table = {.until = below(36600), .len = below(66)};
+    irig_reader reader;
+    uint32_t day = 30 + below(2);
+    for (int i = 0; i < 64; i++) {
+        table.leaps[i] = (irig_leap){day, below(2)};
+        day += below(20) ? 1461 : below(400);
+    }
+    note(irig_reader_init(&reader, &setup, &table));
+}
+
 int main(int argc, char **argv) {
     int runs = argc > 1 ? atoi(argv[1]) : 1000;
     int announced = 0;
-    srand(1);
     for (int run = 0; run < runs; run++) {
         announced += try_reader(run & 1);
         try_frame();
+        try_second();
+        try_table();
     }
-    printf("%d runs, %d announced\n", runs, announced);
+    printf("%d runs, %d announced, answers %08lx\n", runs, announced, (unsigned long)answers);
     return 0;
 }

@@ -32,6 +32,14 @@ extern "C" {
 #define IRIG_ASSERT(fact) _Static_assert(fact, "the layout that the library was built for")
 #endif
 
+/* How many of something: 64 bits on every machine, as the library counts. */
+#if SIZE_MAX > UINT32_MAX
+typedef size_t irig_count;
+#else
+typedef uint64_t irig_count;
+#endif
+IRIG_ASSERT(sizeof(irig_count) == 8);
+
 /* ---- answers */
 
 #define IRIG_FAULT(answer) ((answer) & 255u)
@@ -232,7 +240,7 @@ uint32_t irig_encode(const irig_coded *coded, uint8_t symbols[100]);
 
 /* Reads `count` symbols as a frame. IRIG_SHORT to IRIG_RANGE, the first that applies; parity and
  * straight binary seconds are not compared. */
-uint32_t irig_decode(const uint8_t *symbols, size_t count, irig_coded *coded);
+uint32_t irig_decode(const uint8_t *symbols, irig_count count, irig_coded *coded);
 
 /* Whether the ones at elements 1 to 75 have the parity. */
 bool irig_has_parity(const uint8_t symbols[100], uint8_t parity);
@@ -254,7 +262,7 @@ uint32_t irig_second_next(const irig_utc *second, uint8_t mark, irig_utc *follow
 uint32_t irig_second_write(const irig_utc *second, char text[20]);
 
 /* Reads such a text of `count` characters. IRIG_VALUE. */
-uint32_t irig_second_read(const char *text, size_t count, irig_utc *second);
+uint32_t irig_second_read(const char *text, irig_count count, irig_utc *second);
 
 /* Gives the coded time of a second, -31 to 31 half hours from UTC, control bits 0. IRIG_VALUE. */
 uint32_t irig_coded_of(const irig_utc *second, int8_t local_half_hours, irig_coded *coded);
@@ -272,7 +280,7 @@ uint32_t irig_reader_pulse(irig_reader *reader, uint8_t port, uint32_t width_us)
 
 /* Pulses at a port, one after another, as many as `count` says. IRIG_VALUE. */
 uint32_t irig_reader_pulses(irig_reader *reader, uint8_t port, const uint32_t *widths_us,
-                            size_t count);
+                            irig_count count);
 
 /* Begins with a line on which nothing came. */
 void irig_sync_init(irig_sync *sync);
@@ -333,7 +341,7 @@ static inline uint32_t irig_tested_encode(const irig_coded *coded, uint8_t *symb
     return coded && symbols ? irig_encode(coded, symbols) : (uint32_t)IRIG_VALUE;
 }
 
-static inline uint32_t irig_tested_decode(const uint8_t *symbols, size_t count,
+static inline uint32_t irig_tested_decode(const uint8_t *symbols, irig_count count,
                                           irig_coded *coded) {
     return symbols && coded ? irig_decode(symbols, count, coded) : (uint32_t)IRIG_VALUE;
 }
@@ -363,7 +371,8 @@ static inline uint32_t irig_tested_second_write(const irig_utc *second, char *te
     return second && text ? irig_second_write(second, text) : (uint32_t)IRIG_VALUE;
 }
 
-static inline uint32_t irig_tested_second_read(const char *text, size_t count, irig_utc *second) {
+static inline uint32_t irig_tested_second_read(const char *text, irig_count count,
+                                               irig_utc *second) {
     return text && second ? irig_second_read(text, count, second) : (uint32_t)IRIG_VALUE;
 }
 
@@ -389,7 +398,7 @@ static inline uint32_t irig_tested_reader_pulse(irig_reader *reader, uint8_t por
 }
 
 static inline uint32_t irig_tested_reader_pulses(irig_reader *reader, uint8_t port,
-                                                 const uint32_t *widths_us, size_t count) {
+                                                 const uint32_t *widths_us, irig_count count) {
     return reader && widths_us ? irig_reader_pulses(reader, port, widths_us, count)
                                : (uint32_t)IRIG_VALUE;
 }

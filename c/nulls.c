@@ -20,7 +20,7 @@ static char text[20] = "2016-12-31T00:00:00Z";
 
 static void refused(uint32_t answer, const char *call) {
     if (answer == IRIG_VALUE) return;
-    fprintf(stderr, "%s answers %u\n", call, answer);
+    fprintf(stderr, "%s answers %u\n", call, (unsigned)answer);
     exit(1);
 }
 

@@ -1,7 +1,8 @@
 /* Without a C library, as on a device: a frame is made, read back, and heard by a reader. The exit
  * status is the second that the reader then announces, 60, or 1 if anything went otherwise.
+ * bare_start.c is what there is below it, of Linux or of a board.
  *
- *     cc -nostdlib -static -ffreestanding -I.. bare.c libirig.a -lgcc
+ *     cc -nostdlib -static -ffreestanding -I.. bare.c bare_start.c libirig.a -lgcc
  */
 #include "irig.h"
 
@@ -42,7 +43,7 @@ static int make(const irig_utc *second, uint8_t symbols[100]) {
 }
 
 /* The last figures of the second that is announced after 23:59:58 and 23:59:59 of 2016-12-31. */
-static int announced(void) {
+int main(void) {
     irig_setup setup = {.lock_after = 2, .holdover = 10};
     irig_table table = {0};
     irig_utc second = {6209, 86398};
@@ -60,12 +61,3 @@ static int announced(void) {
     if (!report.announces || report.day != 6209) return 1;
     return (int)report.sod - 86340;
 }
-
-/* Ends the program by Linux's call 60, `exit`. */
-__attribute__((noreturn)) void run(void) {
-    __asm__ volatile("syscall" : : "a"(60L), "D"((long)announced()));
-    __builtin_unreachable();
-}
-
-/* Where the program begins; a function expects its stack as a call leaves it. */
-__asm__(".globl _start\n_start: xor %ebp, %ebp\n and $-16, %rsp\n call run\n");

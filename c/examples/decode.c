@@ -31,9 +31,9 @@ static const char *name_of(uint32_t number) {
 
 static void print_fault(uint32_t fault) {
     uint32_t number = IRIG_FAULT(fault), detail = IRIG_DETAIL(fault);
-    printf("fault %u %s", number, name_of(number));
+    printf("fault %u %s", (unsigned)number, name_of(number));
     if (number == IRIG_SHORT || number == IRIG_PULSE || number == IRIG_MARKER_FAULT)
-        printf(" %u", detail);
+        printf(" %u", (unsigned)detail);
     if (number == IRIG_DIGIT || number == IRIG_RANGE) printf(" %s", field[detail]);
     printf("\n");
 }

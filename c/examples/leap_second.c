@@ -41,7 +41,7 @@ int main(void) {
         if (report.announces)
             irig_second_write(&(irig_utc){report.day, report.sod}, text);
         if (report.lock_count > 0)
-            snprintf(count, sizeof count, ":%u", report.lock_count);
+            snprintf(count, sizeof count, ":%u", (unsigned)report.lock_count);
         printf("%d relay %s %s%s %s\n", edge, text, lock[report.lock], count,
                cause[report.cause]);
     }
