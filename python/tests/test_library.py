@@ -22,6 +22,7 @@ STRUCTURES = {
     "irig_state": _library.State,
     "irig_tally": _library.Tally,
     "irig_reader": _library.Reader,
+    "irig_sync": _library.Sync,
     "irig_report": _library.Report,
     "irig_told": _library.Told,
 }
