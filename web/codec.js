@@ -27,7 +27,7 @@ class Codec {
 
   ask(call, ...words) { // places and numbers; a place is 64 bits wide
     const given = words.map((word) => (Number.isInteger(word) ? word : BigInt(word.at)));
-    return this.calls[`irig_${call}`](...given) >>> 0;
+    return this.calls[`irig_c_${call}`](...given) >>> 0;
   }
 
   at(name) { return { at: this[name] }; }

@@ -90,7 +90,7 @@ function run_of(module, text, all, most, room, on_growth) {
   if (!from || !whole) return ended(NO_MEMORY, new Uint8Array(0));
   if (!log) return ended(NO_LOG, new Uint8Array(0));
   new Uint8Array(memory.buffer).set(text, Number(from));
-  const status = calls.irig_run(from, BigInt(text.length), all ? 1 : 0, log, BigInt(room), whole) & 255;
+  const status = calls.irig_scene_c_run(from, BigInt(text.length), all ? 1 : 0, log, BigInt(room), whole) & 255;
   const length = Number(new DataView(memory.buffer).getBigUint64(Number(whole), true));
   if (length > room) return run_of(module, text, all, most, length, on_growth);
   return ended(status, new Uint8Array(memory.buffer, Number(log), length).slice());

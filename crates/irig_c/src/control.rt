@@ -48,7 +48,7 @@ fn for_c(control: &Control) -> IrigControl
 
 /// Makes the number of the control bits. 26 if they have no room for a value.
 #[unsafe(no_mangle)]
-pub extern "C" fn irig_control_pack(control: &IrigControl, word: &mut u32) -> u32
+pub extern "C" fn irig_c_control_pack(control: &IrigControl, word: &mut u32) -> u32
     ensures answer { (result ≡ 0) ↔ IsControl (control_in control.now) }
     ensures word { result ≡ 0 → word.new ≡ word_of (control_in control.now) }
     ensures refused { (result ≡ 0 → ⊥) → word.new ≡ word.old }
@@ -63,7 +63,7 @@ pub extern "C" fn irig_control_pack(control: &IrigControl, word: &mut u32) -> u3
 
 /// Says what a number of control bits means. 26 if it is not below 2^18.
 #[unsafe(no_mangle)]
-pub extern "C" fn irig_control_unpack(word: u32, control: &mut IrigControl) -> u32
+pub extern "C" fn irig_c_control_unpack(word: u32, control: &mut IrigControl) -> u32
     ensures answer { (result ≡ 0) ↔ (word < 2 ^ 18) }
     ensures meaning { result ≡ 0 → control_in control.new ≡ control_of word }
     ensures refused { (result ≡ 0 → ⊥) → control.new ≡ control.old }

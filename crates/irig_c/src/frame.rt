@@ -17,7 +17,7 @@ use irig_port::PortFault;
 /// Writes the frame of a coded time, the elements without a field 0. 26 if a value is out of its
 /// range.
 #[unsafe(no_mangle)]
-pub extern "C" fn irig_encode(coded: &Coded, symbols: &mut [u8; 100]) -> u32
+pub extern "C" fn irig_c_encode(coded: &Coded, symbols: &mut [u8; 100]) -> u32
     ensures answer { (result ≡ 0) ↔ IsCoded coded.now }
     ensures frame { result ≡ 0 → Reads (map symbol_in symbols.new) coded.now }
     ensures spare { result ≡ 0 → HasUnusedZeros (map symbol_in symbols.new) }
@@ -34,7 +34,7 @@ pub extern "C" fn irig_encode(coded: &Coded, symbols: &mut [u8; 100]) -> u32
 
 /// Reads the symbols of a frame: what they code, or their first fault.
 #[unsafe(no_mangle)]
-pub extern "C" fn irig_decode(symbols: &[u8], coded: &mut Coded) -> u32
+pub extern "C" fn irig_c_decode(symbols: &[u8], coded: &mut Coded) -> u32
     ensures answer { result ≡ code_of_frame (decode_result (map symbol_in symbols.now)) }
     ensures coded { result ≡ 0 → decode_result (map symbol_in symbols.now) ≡ Ok coded.new }
     ensures refused { (result ≡ 0 → ⊥) → coded.new ≡ coded.old }
@@ -73,7 +73,7 @@ fn length_fault(symbols: &[u8]) -> Option<FrameFault>
 
 /// Whether the frame has the parity: 0 is even, any other odd.
 #[unsafe(no_mangle)]
-pub extern "C" fn irig_has_parity(symbols: &[u8; 100], parity: u8) -> bool
+pub extern "C" fn irig_c_has_parity(symbols: &[u8; 100], parity: u8) -> bool
     ensures { result ≡ has_parity (parity_in parity) (map symbol_in symbols.now) }
 {
     parity_ok(&symbols_of(symbols), parity_of(parity))
@@ -81,7 +81,7 @@ pub extern "C" fn irig_has_parity(symbols: &[u8; 100], parity: u8) -> bool
 
 /// Gives the frame the parity, 0 even and any other odd, by element 75.
 #[unsafe(no_mangle)]
-pub extern "C" fn irig_set_parity(symbols: &mut [u8; 100], parity: u8)
+pub extern "C" fn irig_c_set_parity(symbols: &mut [u8; 100], parity: u8)
     ensures parity { HasParity (parity_in parity) (map symbol_in symbols.new) }
     ensures others { (b : Bool) × (map symbol_in symbols.new
         ≡ slice_set (map symbol_in symbols.old) 75 (data_symbol b)) }

@@ -22,7 +22,7 @@ const NO_PORT: u8 = 255;
 
 /// Begins with a line on which nothing came.
 #[unsafe(no_mangle)]
-pub extern "C" fn irig_sync_init(sync: &mut Sync)
+pub extern "C" fn irig_c_sync_init(sync: &mut Sync)
     ensures { IsSyncOf sync.new [] }
 {
     *sync = Sync::none();
@@ -31,7 +31,7 @@ pub extern "C" fn irig_sync_init(sync: &mut Sync)
 /// The place in its frame of the next pulse of a line, 1 to 100, or 0 out of step. It rose at
 /// `rise_us`, in microseconds of a clock that wraps at 2^32, and is `width_us` microseconds wide.
 #[unsafe(no_mangle)]
-pub extern "C" fn irig_sync_pulse(sync: &mut Sync, rise_us: u32, width_us: u32) -> u8
+pub extern "C" fn irig_c_sync_pulse(sync: &mut Sync, rise_us: u32, width_us: u32) -> u8
     ensures place { result ≡ place_of sync.old rise_us width_us }
     ensures few { result ≤ 100 }
     ensures new { sync.new ≡ record {
@@ -46,17 +46,17 @@ pub extern "C" fn irig_sync_pulse(sync: &mut Sync, rise_us: u32, width_us: u32) 
 /// Puts a line out of step that has been idle for a second, by a clock that wraps at 2^32: to be
 /// called at each tick, and at least once in half an hour.
 #[unsafe(no_mangle)]
-pub extern "C" fn irig_sync_idle(sync: &mut Sync, now_us: u32)
+pub extern "C" fn irig_c_sync_idle(sync: &mut Sync, now_us: u32)
     ensures { sync.new ≡ idle_of sync.old now_us }
 {
     sync.idle(now_us);
 }
 
 /// A pulse of the line at a port, through the line's synchroniser: its place, as
-/// [`irig_sync_pulse`] answers it. The port is emptied where a frame begins, and fed what has a
+/// [`irig_c_sync_pulse`] answers it. The port is emptied where a frame begins, and fed what has a
 /// place. 255 if there is no such port, and nothing is changed.
 #[unsafe(no_mangle)]
-pub extern "C" fn irig_reader_hear(
+pub extern "C" fn irig_c_reader_hear(
     reader: &mut IrigReader,
     sync: &mut Sync,
     port: u8,

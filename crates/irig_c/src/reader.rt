@@ -48,7 +48,7 @@ pub struct IrigReader {
 /// Makes a reader to which nothing has happened. 26 if a rule of the setup is out of its range; 31
 /// to 34 for the first fault of the table.
 #[unsafe(no_mangle)]
-pub extern "C" fn irig_reader_init(
+pub extern "C" fn irig_c_reader_init(
     reader: &mut IrigReader,
     setup: &IrigSetup,
     table: &IrigTable,
@@ -75,7 +75,7 @@ pub extern "C" fn irig_reader_init(
 
 /// A pulse at a port, `width_us` microseconds wide. 26 if there is no such port.
 #[unsafe(no_mangle)]
-pub extern "C" fn irig_reader_pulse(reader: &mut IrigReader, port: u8, width_us: u32) -> u32
+pub extern "C" fn irig_c_reader_pulse(reader: &mut IrigReader, port: u8, width_us: u32) -> u32
     ensures answer { (result ≡ 0) ↔ (port < ports_in (redundancy_in reader.old.setup)) }
     ensures refused { (result ≡ 0 → ⊥) → reader.new ≡ reader.old }
     ensures fed { result ≡ 0 → (h : ReaderHistory) → IsReaderOf reader.old h
@@ -100,7 +100,7 @@ fn feed(ports: &mut [Tally; 5], port: u8, width_us: u32)
 /// Pulses at a port, one after another, each of a width in microseconds. 26 if there is no such
 /// port.
 #[unsafe(no_mangle)]
-pub extern "C" fn irig_reader_pulses(reader: &mut IrigReader, port: u8, widths_us: &[u32]) -> u32
+pub extern "C" fn irig_c_reader_pulses(reader: &mut IrigReader, port: u8, widths_us: &[u32]) -> u32
     ensures answer { (result ≡ 0) ↔ (port < ports_in (redundancy_in reader.old.setup)) }
     ensures refused { (result ≡ 0 → ⊥) → reader.new ≡ reader.old }
     ensures fed { result ≡ 0 → (h : ReaderHistory) → IsReaderOf reader.old h
@@ -126,7 +126,7 @@ fn feed_all(ports: &mut [Tally; 5], port: u8, widths_us: &[u32])
 /// 26 if the second at which it stands is none, its votes are too many or its rules are out of
 /// range. Other numbers that no reader comes to are taken as they are.
 #[unsafe(no_mangle)]
-pub extern "C" fn irig_reader_tick(reader: &mut IrigReader, report: &mut IrigReport) -> u32
+pub extern "C" fn irig_c_reader_tick(reader: &mut IrigReader, report: &mut IrigReport) -> u32
     ensures refused { (result ≡ 0 → ⊥) → (reader.new ≡ reader.old) × (report.new ≡ report.old) }
     ensures valid { result ≡ 0 → IfSome (report_in report.new).announce IsValid }
     // of a reader that has a history: it is never refused, reports what the rule gives, and goes on
@@ -199,7 +199,7 @@ fn empty(reader: &mut IrigReader)
 
 /// Clears the ports, and forgets what was voted.
 #[unsafe(no_mangle)]
-pub extern "C" fn irig_reader_restart(reader: &mut IrigReader)
+pub extern "C" fn irig_c_reader_restart(reader: &mut IrigReader)
     ensures { (h : ReaderHistory) → IsReaderOf reader.old h
         → IsReaderOf reader.new (after_restart h) }
 {
@@ -218,7 +218,7 @@ fn forget(reader: &mut IrigReader)
 
 /// Says what a port would tell if the edge came now. 26 if there is no such port.
 #[unsafe(no_mangle)]
-pub extern "C" fn irig_reader_port(reader: &IrigReader, port: u8, told: &mut IrigTold) -> u32
+pub extern "C" fn irig_c_reader_port(reader: &IrigReader, port: u8, told: &mut IrigTold) -> u32
     ensures answer { (result ≡ 0) ↔ (port < ports_in (redundancy_in reader.now.setup)) }
     ensures told { result ≡ 0 → told.new ≡ told_in (told_at reader.now port) }
     // of a reader that has a history: what the pulses say that were fed to the port

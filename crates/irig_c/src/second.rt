@@ -49,7 +49,7 @@ pub(crate) fn claim_for_c(claim: &Claim) -> IrigClaim
 /// in [`IrigClaim`]. 26 if the second is none from 2000-01-02 to 2099-12-30, or none is known to
 /// follow.
 #[unsafe(no_mangle)]
-pub extern "C" fn irig_second_next(second: &UtcSecond, mark: u8, following: &mut UtcSecond) -> u32
+pub extern "C" fn irig_c_second_next(second: &UtcSecond, mark: u8, following: &mut UtcSecond) -> u32
     ensures next { result ≡ 0
         → IsValid second.now × (next_of second.now (mark_in mark) ≡ Some following.new) }
     ensures none { (result ≡ 0 → ⊥)
@@ -71,7 +71,7 @@ pub extern "C" fn irig_second_next(second: &UtcSecond, mark: u8, following: &mut
 /// Writes the text of a second, `YYYY-MM-DDTHH:MM:SSZ` without an end. 26 if the second is none
 /// from 2000-01-02 to 2099-12-30.
 #[unsafe(no_mangle)]
-pub extern "C" fn irig_second_write(second: &UtcSecond, text: &mut [u8; 20]) -> u32
+pub extern "C" fn irig_c_second_write(second: &UtcSecond, text: &mut [u8; 20]) -> u32
     ensures answer { (result ≡ 0) ↔ IsValid second.now }
     ensures text { result ≡ 0 → IsText second.now text.new }
     ensures refused { (result ≡ 0 → ⊥) → text.new ≡ text.old }
@@ -83,9 +83,9 @@ pub extern "C" fn irig_second_write(second: &UtcSecond, text: &mut [u8; 20]) -> 
     0
 }
 
-/// Reads the text of a second, as [`irig_second_write`] writes it. 26 if it is no such text.
+/// Reads the text of a second, as [`irig_c_second_write`] writes it. 26 if it is no such text.
 #[unsafe(no_mangle)]
-pub extern "C" fn irig_second_read(text: &[u8], second: &mut UtcSecond) -> u32
+pub extern "C" fn irig_c_second_read(text: &[u8], second: &mut UtcSecond) -> u32
     ensures read { result ≡ 0 → IsValid second.new × IsText second.new text.now }
     ensures none { (result ≡ 0 → ⊥)
         → (u : UtcSecond) → IsValid u → IsText u text.now → ⊥ }
@@ -103,7 +103,7 @@ pub extern "C" fn irig_second_read(text: &[u8], second: &mut UtcSecond) -> u32
 /// Gives the coded time of a second in a zone, -31 to 31 half hours from UTC, with control bits 0.
 /// 26 if the second or the zone is out of its range.
 #[unsafe(no_mangle)]
-pub extern "C" fn irig_coded_of(second: &UtcSecond, local_half_hours: i8, coded: &mut Coded) -> u32
+pub extern "C" fn irig_c_coded_of(second: &UtcSecond, local_half_hours: i8, coded: &mut Coded) -> u32
     ensures answer { (result ≡ 0) ↔ (IsValid second.now × (unsigned_abs local_half_hours ≤ 31)) }
     ensures coded { result ≡ 0 → IsCodedOf second.now local_half_hours coded.new }
     ensures refused { (result ≡ 0 → ⊥) → coded.new ≡ coded.old }
@@ -119,7 +119,7 @@ pub extern "C" fn irig_coded_of(second: &UtcSecond, local_half_hours: i8, coded:
 /// if `sense` is 0, and subtracted if it is any other. 26 if a value is out of its range, or the
 /// number of a fault of the time.
 #[unsafe(no_mangle)]
-pub extern "C" fn irig_claim_of(
+pub extern "C" fn irig_c_claim_of(
     coded: &Coded,
     control: &IrigControl,
     sense: u8,

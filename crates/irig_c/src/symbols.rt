@@ -9,7 +9,7 @@ use irig_frame::{Symbol, classify};
 /// The symbol of a pulse of this width in microseconds: 0 or 1 for these bits, 2 for a marker, 3
 /// for a width of none.
 #[unsafe(no_mangle)]
-pub extern "C" fn irig_classify(width_us: u32) -> u8
+pub extern "C" fn irig_c_classify(width_us: u32) -> u8
     ensures { result ≡ number_of_symbol (symbols.symbol_of width_us) }
 {
     number(classify(width_us))
@@ -18,7 +18,7 @@ pub extern "C" fn irig_classify(width_us: u32) -> u8
 /// The nominal width in microseconds of a pulse of the symbol with this number: 2000 of a 0, 5000
 /// of a 1, 8000 of a marker; 0 of any other, which is never sent.
 #[unsafe(no_mangle)]
-pub extern "C" fn irig_width_us(symbol: u8) -> u32
+pub extern "C" fn irig_c_width_us(symbol: u8) -> u32
     ensures width { result ≡ symbols.width_of (symbol_in symbol) }
     ensures classified { symbols.symbol_of result ≡ symbol_in symbol }
 {

@@ -28,7 +28,7 @@ use Rattle.irig_time.proofs.TextValueLaws.{day_text_spells}
 use Rattle.irig_port.specs.declared.told.Told.{Told}
 use Rattle.irig_port.specs.declared.told.Told.TheVariants as tells
 use Rattle.irig_vote.specs.declared.redundancy.Redundancy.{Redundancy}
-use Rattle.irig_vote.specs.declared.redundancy.Redundancy.TheVariants.{Three, Five}
+use Rattle.irig_vote.specs.declared.redundancy.Redundancy.TheVariants.{One, Three, Five}
 use Rattle.irig_vote.specs.declared.votes.Tells.{Tells}
 use Rattle.irig_vote.specs.Vote.{f_of, ports_of, is_told, carriers, IsOfUtc, AreOfUtc}
 use Rattle.irig_vote.proofs.CountLaws.{carriers-cons, none_of, told_is, same_is, same_itself}
@@ -214,6 +214,7 @@ same_or_other (Some d) c =
     ]
 
 enough_many : (told : Tells) (r : Redundancy) (c : Claim) → f_of r + 1 ≤ carriers c (ports_of told r) → length (ports_of told r) < 2 * carriers c (ports_of told r)
+enough_many told One c enough = omega (arith, enough)
 enough_many told Three c enough = omega (arith, enough)
 enough_many told Five c enough = omega (arith, enough)
 
@@ -227,6 +228,7 @@ true_by_words truth told r c valid none enough =
     ]
 
 ports_of_utc : (told : Tells) (r : Redundancy) → AreOfUtc told → AllByRecursion IsOfUtc (ports_of told r)
+ports_of_utc told One h = (h.a, tt)
 ports_of_utc told Three h = (h.a, (h.b, (h.c, tt)))
 ports_of_utc told Five h = (h.a, (h.b, (h.c, (h.d, (h.e, tt)))))
 

@@ -88,6 +88,7 @@ fn push_ports(text: &mut String, entry: &ToldEntry) -> Result<(), AllocError>
 {
     let told = entry.told;
     match entry.redundancy {
+        Redundancy::One => push_words(text, entry.truth, &[told.a]),
         Redundancy::Three => push_words(text, entry.truth, &[told.a, told.b, told.c]),
         Redundancy::Five => {
             let ports = [told.a, told.b, told.c, told.d, told.e];

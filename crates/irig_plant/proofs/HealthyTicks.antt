@@ -13,7 +13,7 @@ use Rattle.irig_port.specs.declared.told.Told.TheVariants as tells
 use Rattle.irig_port.specs.Heard.{symbols_of}
 use Rattle.irig_port.proofs.CarriesLaws.{carries_is_told}
 use Rattle.irig_vote.specs.declared.redundancy.Redundancy.{Redundancy}
-use Rattle.irig_vote.specs.declared.redundancy.Redundancy.TheVariants.{Three, Five}
+use Rattle.irig_vote.specs.declared.redundancy.Redundancy.TheVariants.{One, Three, Five}
 use Rattle.irig_vote.specs.Vote.{f_of, ports_in, redundancy_of}
 use Rattle.irig_reader.specs.declared.report.Lock.TheVariants as lock
 use Rattle.irig_reader.specs.declared.report.Cause.TheVariants as cause
@@ -66,6 +66,12 @@ unrestarted s r i (e ∷ ev) h = unrestarted s r i ev h
 -- ---- a healthy tick is voted, and breaks no premise
 
 majority : (redundancy : Redundancy) (IsSuch : ℕ → Type 0) → ((p : ℕ) → p < ports_in redundancy → IsSuch p) → AtLeast (f_of redundancy + 1) IsSuch
+majority One IsSuch all = record {
+  numbers = 0 ∷ [];
+  rising = (omega arith, tt);
+  such = All-cons IsSuch 0 [] (all 0 (omega arith)) (All-nil IsSuch);
+  many = omega arith;
+}
 majority Three IsSuch all = record {
   numbers = 0 ∷ 1 ∷ [];
   rising = (omega arith, (omega arith, tt));

@@ -15,7 +15,7 @@ use Rattle.irig_port.specs.Heard.{symbols_of}
 use Rattle.irig_port.specs.Told.{told_of_widths}
 use Rattle.irig_port.proofs.CarriesLaws.{carries_is_told}
 use Rattle.irig_vote.specs.declared.redundancy.Redundancy.{Redundancy}
-use Rattle.irig_vote.specs.declared.redundancy.Redundancy.TheVariants.{Three, Five}
+use Rattle.irig_vote.specs.declared.redundancy.Redundancy.TheVariants.{One, Three, Five}
 use Rattle.irig_vote.specs.declared.votes.Tells.{Tells}
 use Rattle.irig_vote.specs.Vote.{ports_in, ports_of, is_told, carriers, redundancy_of}
 use Rattle.irig_vote.proofs.CountLaws.{told_is, same_is, same_itself, vote_counts}
@@ -45,6 +45,7 @@ abbrev tells_from : (ℕ → Told) → Tells
 tells_from tell = record { a = tell 0; b = tell 1; c = tell 2; d = tell 3; e = tell 4 }
 
 ports_are : (tell : ℕ → Told) (redundancy : Redundancy) → ports_of (tells_from tell) redundancy ≡ map tell (range_with_len 0 (ports_in redundancy))
+ports_are tell One = refl
 ports_are tell Three = refl
 ports_are tell Five = refl
 

@@ -105,6 +105,7 @@ fn untrue_ports(truth: Claim, told: &Tells, redundancy: Redundancy) -> u8
     ensures { result ≡ audits.untrue_ports (Some truth) (ports_of told.now redundancy) }
 {
     match redundancy {
+        Redundancy::One => untrue_in(truth, &[told.a]),
         Redundancy::Three => untrue_in(truth, &[told.a, told.b, told.c]),
         Redundancy::Five => untrue_in(truth, &[told.a, told.b, told.c, told.d, told.e]),
     }

@@ -9,7 +9,7 @@ use Rattle.irig_time.specs.Timelines.{TimelineValue, times, second_at, truth_at}
 use Rattle.irig_time.specs.Tables.{table}
 use Rattle.irig_port.specs.declared.told.Told.{Told}
 use Rattle.irig_port.specs.declared.told.Told.TheVariants as tells
-use Rattle.irig_vote.specs.declared.redundancy.Redundancy.TheVariants.{Three, Five}
+use Rattle.irig_vote.specs.declared.redundancy.Redundancy.TheVariants.{One, Three, Five}
 use Rattle.irig_vote.specs.declared.votes.Tells.{Tells}
 use Rattle.irig_vote.specs.Vote.{f_of, ports_of, carriers, vote_of}
 use Rattle.irig_hold.specs.Steps.{HoldValue, hold_value}
@@ -41,6 +41,13 @@ pub truth : truth_at noon 0 ≡ Some (claim 43200)
 unfolding second_at
 truth = rw known_first_end refl
 
+-- the only port, whatever others would tell; it may be silent
+pub alone : (told : Told) → IsClean noon 0 (three (tell 43200) told told) One
+alone told = clean_by_few noon 0 (three (tell 43200) told told) One (claim 43200) truth (omega arith)
+
+pub alone_silent : IsClean noon 0 (three tells.Silence tells.Silence tells.Silence) One
+alone_silent = clean_by_few noon 0 (three tells.Silence tells.Silence tells.Silence) One (claim 43200) truth (omega arith)
+
 -- one liar of three, and of five two that lie alike
 pub one_lies : IsClean noon 0 (three (tell 43200) (tell 43205) (tell 43200)) Three
 one_lies = clean_by_few noon 0 (three (tell 43200) (tell 43205) (tell 43200)) Three (claim 43200) truth (omega arith)
@@ -56,6 +63,9 @@ sod_of (Some c) = c.at.sod
 
 apart : ¬ (◌≡◌ {A = Option Claim} (Some (claim 43200)) (Some (claim 43205)))
 apart is = omega (arith, ap (λ (o : Option Claim). sod_of o) is)
+
+pub alone_lies : ¬ IsClean noon 0 (three (tell 43205) (tell 43200) (tell 43200)) One
+alone_lies clean = apart (sym truth ∙ clean.no_other (claim 43205) (omega arith))
 
 pub two_lie_alike : ¬ IsClean noon 0 (three (tell 43200) (tell 43205) (tell 43205)) Three
 two_lie_alike clean = apart (sym truth ∙ clean.no_other (claim 43205) (omega arith))

@@ -9,7 +9,7 @@ use Rattle.irig_port.specs.Hearing.{heard_at}
 use Rattle.irig_port.proofs.HeardLaws.{heard-push}
 use Rattle.irig_vote.specs.Vote.{ports_in}
 use Rattle.irig_vote.specs.declared.redundancy.Redundancy.{Redundancy}
-use Rattle.irig_vote.specs.declared.redundancy.Redundancy.TheVariants.{Three, Five}
+use Rattle.irig_vote.specs.declared.redundancy.Redundancy.TheVariants.{One, Three, Five}
 use Rattle.irig_reader.specs.History.{Fed, with_width, with_widths, widths_at}
 
 pub feed_all-nil : (fed : Fed) (port : ℕ) → with_widths fed port [] ≡ fed
@@ -59,6 +59,7 @@ none_heard (w ∷ ws) =
 
 -- the last place is 4
 pub at_most_five : (redundancy : Redundancy) → ports_in redundancy ≤ 5
+at_most_five One = omega arith
 at_most_five Three = omega arith
 at_most_five Five = omega arith
 

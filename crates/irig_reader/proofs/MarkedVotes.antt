@@ -17,7 +17,7 @@ use Rattle.irig_port.specs.Heard.{symbols_of}
 use Rattle.irig_port.specs.Told.{IfClaim, told_of_widths}
 use Rattle.irig_port.proofs.CarriesLaws.{carries_is_told}
 use Rattle.irig_vote.specs.declared.redundancy.Redundancy.{Redundancy}
-use Rattle.irig_vote.specs.declared.redundancy.Redundancy.TheVariants.{Three, Five}
+use Rattle.irig_vote.specs.declared.redundancy.Redundancy.TheVariants.{One, Three, Five}
 use Rattle.irig_vote.specs.declared.votes.Tells.{Tells}
 use Rattle.irig_vote.specs.Vote.{ports_of, carriers, is_told}
 use Rattle.irig_vote.proofs.CountLaws.{told_is, carriers-cons, none_of, vote_counts}
@@ -46,6 +46,7 @@ marked_claim (told ∷ ports) claim marked some =
     ]
 
 all_marked : (r : Redundancy) (t : Tells) → IsMarked t.a → IsMarked t.b → IsMarked t.c → IsMarked t.d → IsMarked t.e → All IsMarked (ports_of t r)
+all_marked One t a b c d e = search (All-cons IsMarked, All-nil IsMarked)
 all_marked Three t a b c d e = search (All-cons IsMarked, All-nil IsMarked)
 all_marked Five t a b c d e = search (All-cons IsMarked, All-nil IsMarked)
 

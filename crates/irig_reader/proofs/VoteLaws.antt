@@ -8,7 +8,7 @@ use Rattle.irig_time.specs.Seconds.{IsValid}
 use Rattle.irig_port.specs.declared.told.Told.{Told}
 use Rattle.irig_port.specs.Told.{IfClaim}
 use Rattle.irig_vote.specs.declared.redundancy.Redundancy.{Redundancy}
-use Rattle.irig_vote.specs.declared.redundancy.Redundancy.TheVariants.{Three, Five}
+use Rattle.irig_vote.specs.declared.redundancy.Redundancy.TheVariants.{One, Three, Five}
 use Rattle.irig_vote.specs.declared.votes.Tells.{Tells}
 use Rattle.irig_vote.specs.Vote.{ports_of, carriers, is_told, vote_of}
 use Rattle.irig_vote.proofs.CountLaws.{told_is, carriers-cons, none_of, vote_counts}
@@ -25,6 +25,7 @@ sound_claim (told ∷ ports) claim sound some =
     ]
 
 all_sound : (redundancy : Redundancy) (t : Tells) → IsSound t.a → IsSound t.b → IsSound t.c → IsSound t.d → IsSound t.e → All IsSound (ports_of t redundancy)
+all_sound One t a b c d e = search (All-cons IsSound, All-nil IsSound)
 all_sound Three t a b c d e = search (All-cons IsSound, All-nil IsSound)
 all_sound Five t a b c d e = search (All-cons IsSound, All-nil IsSound)
 

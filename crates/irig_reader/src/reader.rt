@@ -32,9 +32,9 @@ pub struct Ticked {
     pub told: Tells,
 }
 
-/// A reader with three or five ports. It knows no timeline.
+/// A reader with one port, three or five. It knows no timeline.
 ///
-/// Of three ports `d` and `e` are fed nothing.
+/// Of one port `b` to `e` are fed nothing, of three `d` and `e`.
 #[derive(Drop)]
 pub struct Reader<P: Port> {
     a: P,
@@ -77,8 +77,8 @@ impl<P: Port> Reader<P> {
         }
     }
 
-    /// A pulse at one of the ports, `width_us` microseconds wide. The port is 0 to 2 of three, 0 to
-    /// 4 of five.
+    /// A pulse at one of the ports, `width_us` microseconds wide. The port is 0 of one, 0 to 2 of
+    /// three, 0 to 4 of five.
     pub fn pulse(&mut self, port: u8, width_us: u32)
         requires { port < ports_in self.old.redundancy }
         ensures fed { Advances self.old self.new (λ h. after_pulse h port width_us) }

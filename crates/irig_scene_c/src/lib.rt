@@ -22,7 +22,7 @@ use std::alloc::Global;
 /// many bytes there were until then, which are the first of the log. (4 is a failed read, of which
 /// a text in memory has none.)
 #[unsafe(no_mangle)]
-pub extern "C" fn irig_run(
+pub extern "C" fn irig_scene_c_run(
     alloc: Global,
     text: &[u8],
     all: bool,

@@ -8,7 +8,7 @@ use Rattle.irig_port.specs.declared.told.Told.TheVariants as tells
 use Rattle.irig_time.specs.Claims.{same_claim}
 use Rattle.irig_vote.specs.Vote.{f_of, ports_of, is_told, carriers, first_told, vote_of, is_other, others}
 use Rattle.irig_vote.specs.declared.redundancy.Redundancy.{Redundancy}
-use Rattle.irig_vote.specs.declared.redundancy.Redundancy.TheVariants.{Three, Five}
+use Rattle.irig_vote.specs.declared.redundancy.Redundancy.TheVariants.{One, Three, Five}
 use Rattle.irig_vote.specs.declared.votes.Tells.{Tells}
 
 pub carriers-cons : (c : Claim) (t : Told) (ts : List Told) → carriers c (t ∷ ts) ≡ cond (is_told c t) 1 0 + carriers c ts
@@ -98,6 +98,7 @@ enough_told enough ports vote c short is =
 
 pub vote_counts : (t : Tells) (r : Redundancy) (c : Claim) → (vote_of t r ≡ Some c) ↔ (f_of r + 1 ≤ carriers c (ports_of t r))
 unfolding vote_of
+vote_counts t One c = enough_told 1 (ports_of t One) (vote_of t One) c (omega arith) refl
 vote_counts t Three c = enough_told 2 (ports_of t Three) (vote_of t Three) c (omega arith) refl
 vote_counts t Five c = enough_told 3 (ports_of t Five) (vote_of t Five) c (omega arith) refl
 

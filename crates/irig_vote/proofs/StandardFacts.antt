@@ -7,11 +7,11 @@ use Rattle.irig_time.specs.declared.claim.TimeFault.TheVariants as time_fault
 use Rattle.irig_port.specs.declared.told.Told.{Told}
 use Rattle.irig_port.specs.declared.told.Told.TheVariants as tells
 use Rattle.irig_port.specs.declared.told.PortFault.TheVariants as fault
-use Rattle.irig_vote.specs.declared.redundancy.Redundancy.TheVariants.{Three, Five}
+use Rattle.irig_vote.specs.declared.redundancy.Redundancy.TheVariants.{One, Three, Five}
 use Rattle.irig_vote.specs.Vote.{f_of, ports_in, vote_of}
 
--- of three ports one may be untrue, of five two
-pub known_numbers : (map f_of (Three ∷ Five ∷ []) ≡ 1 ∷ 2 ∷ []) × (map ports_in (Three ∷ Five ∷ []) ≡ 3 ∷ 5 ∷ [])
+-- of one port none may be untrue, of three one, of five two
+pub known_numbers : (map f_of (One ∷ Three ∷ Five ∷ []) ≡ 0 ∷ 1 ∷ 2 ∷ []) × (map ports_in (One ∷ Three ∷ Five ∷ []) ≡ 1 ∷ 3 ∷ 5 ∷ [])
 known_numbers = (refl, refl)
 
 -- ---- what ports tell
@@ -34,6 +34,10 @@ day_before = record true_claim { at = record { day = 6208; sod = 86399 } }
 abbrev tell : Claim → Told
 tell c = tells.Claim c
 
+-- of one port
+abbrev one : Told → Option Claim
+one a = vote_of (record { a = a; b = tells.Silence; c = tells.Silence; d = tells.Silence; e = tells.Silence }) One
+
 -- of three ports
 abbrev three : Told → Told → Told → Option Claim
 three a b c = vote_of (record { a = a; b = b; c = c; d = tells.Silence; e = tells.Silence }) Three
@@ -45,6 +49,16 @@ five a b c d e = vote_of (record { a = a; b = b; c = c; d = d; e = e }) Five
 -- no claim, or another one
 abbrev untrue : List Told
 untrue = tells.Silence ∷ tells.Poor 12 ∷ tells.Fault fault.Parity ∷ tells.Fault fault.Sbs ∷ tells.Fault (fault.Time time_fault.NoSuchDay) ∷ tell earlier ∷ []
+
+-- ---- one port
+
+-- its claim is the vote, and nothing else is one; no other port is asked
+pub known_alone : (map one untrue ≡ None ∷ None ∷ None ∷ None ∷ None ∷ Some earlier ∷ [])
+    × (one (tell true_claim) ≡ Some true_claim)
+    × (vote_of (record { a = tell true_claim; b = tell earlier; c = tell earlier; d = tell earlier; e = tell earlier }) One ≡ Some true_claim)
+    × (vote_of (record { a = tells.Silence; b = tell true_claim; c = tell true_claim; d = tell true_claim; e = tell true_claim }) One ≡ None)
+unfolding vote_of
+known_alone = (refl, refl, refl, refl)
 
 -- ---- three ports
 

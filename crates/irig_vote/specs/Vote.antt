@@ -1,5 +1,5 @@
 -- The vote: of 2f + 1 ports, the claim that at least f + 1 tell.
--- Source: docs/PORTS.md; this project's profile: two of three ports, three of five.
+-- Source: docs/PORTS.md; this project's profile: two of three ports, three of five, the only one.
 use Rattle.std.specs.Prelude.{ℕ, Bool, false, ◌==◌, not, nat_lt, if◌then◌else◌, List, [], ◌∷◌, count_by, Option, Some, None}
 use Rattle.irig_time.specs.declared.claim.Claim.{Claim}
 use Rattle.irig_time.specs.Claims.{same_claim}
@@ -8,25 +8,28 @@ use Rattle.irig_port.specs.declared.told.Told.{Told}
 use Rattle.irig_port.specs.declared.told.Told.TheVariants as tells
 use Rattle.irig_port.specs.Told.{IfClaim}
 use Rattle.irig_vote.specs.declared.redundancy.Redundancy.{Redundancy}
-use Rattle.irig_vote.specs.declared.redundancy.Redundancy.TheVariants.{Three, Five}
+use Rattle.irig_vote.specs.declared.redundancy.Redundancy.TheVariants.{One, Three, Five}
 use Rattle.irig_vote.specs.declared.votes.Tells.{Tells}
 
 -- how many ports may be untrue
 abbrev pub f_of : Redundancy → ℕ
+f_of One = 0
 f_of Three = 1
 f_of Five = 2
 
 -- how many ports there are
 abbrev pub ports_in : Redundancy → ℕ
+ports_in One = 1
 ports_in Three = 3
 ports_in Five = 5
 
--- three ports or five
+-- of a plant with three generators or five
 abbrev pub redundancy_of : ℕ → Redundancy
 redundancy_of ports = if ports == 3 then Three else Five
 
 -- what they tell
 abbrev pub ports_of : Tells → Redundancy → List Told
+ports_of t One = t.a ∷ []
 ports_of t Three = t.a ∷ t.b ∷ t.c ∷ []
 ports_of t Five = t.a ∷ t.b ∷ t.c ∷ t.d ∷ t.e ∷ []
 

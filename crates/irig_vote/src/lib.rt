@@ -2,7 +2,8 @@
 //!
 //! A plant has 2f + 1 generators, and each reader a port for each. As at most f of them send untrue
 //! frames, a claim that f + 1 ports tell is true: [`vote`] gives it. The vote is defined by
-//! counting, in `specs/Vote.antt`. That f is 1 or 2 is this project's profile.
+//! counting, in `specs/Vote.antt`. That f is 1 or 2 is this project's profile. A reader alone may have
+//! one port, and f is then 0: its vote is what that port claims.
 #![tactic(auto)]
 
 mod laws;

@@ -8,10 +8,11 @@ use crate::redundancy::Redundancy;
 use irig_port::Told;
 use irig_time::Claim;
 
-/// What each port of a reader tells at an edge. Of three ports `d` and `e` are not there.
+/// What each port of a reader tells at an edge. Of one port only `a` is there, of three
+/// `d` and `e` are not.
 #[derive(Clone, Copy, PartialEq, Eq)]
 pub struct Tells {
-    /// The port of generator 0.
+    /// The port of generator 0, or the only one.
     pub a: Told,
     /// The port of generator 1.
     pub b: Told,
@@ -23,8 +24,8 @@ pub struct Tells {
     pub e: Told,
 }
 
-/// The claim that f + 1 ports tell, second and mark both: two of `a`, `b`, `c` under `Three`, three
-/// of all five under `Five`. None if there is no such claim.
+/// The claim that f + 1 ports tell, second and mark both: `a` alone under `One`, two of `a`, `b`, `c`
+/// under `Three`, three of all five under `Five`. None if there is no such claim.
 #[tactic(auto, unfolding(crate::specs::Vote::vote_of))]
 pub fn vote(tells: &Tells, redundancy: Redundancy) -> Option<Claim>
     ensures value { result ≡ vote_of tells.now redundancy }
@@ -32,6 +33,7 @@ pub fn vote(tells: &Tells, redundancy: Redundancy) -> Option<Claim>
         ↔ (f_of redundancy + 1 ≤ carriers claim (ports_of tells.now redundancy)) }
 {
     match redundancy {
+        Redundancy::One => claim_told_by(1, &[tells.a]),
         Redundancy::Three => claim_told_by(2, &[tells.a, tells.b, tells.c]),
         Redundancy::Five => claim_told_by(3, &[tells.a, tells.b, tells.c, tells.d, tells.e]),
     }

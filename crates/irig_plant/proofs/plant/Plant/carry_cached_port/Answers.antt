@@ -2,7 +2,7 @@ use Rattle.std.proofs.Common.{◌<◌, ◌≤◌, ◌∷◌, length, Some, refl,
 use Rattle.irig_port.specs.Heard.{symbols_heard}
 use Rattle.irig_vote.specs.Vote.{ports_in}
 use Rattle.irig_vote.specs.declared.redundancy.Redundancy.{Redundancy}
-use Rattle.irig_vote.specs.declared.redundancy.Redundancy.TheVariants.{Three, Five}
+use Rattle.irig_vote.specs.declared.redundancy.Redundancy.TheVariants.{One, Three, Five}
 use Rattle.irig_plant.specs.declared.event.Event.TheVariants.{Carry}
 use Rattle.irig_plant.specs.Schedule.{delivery, history_of, pulses_sent}
 use Rattle.irig_plant.specs.History.{IsCachedPort}
@@ -10,6 +10,7 @@ use Rattle.irig_plant.proofs.StepLaws.{set_reader, set_cached_port, feed_other, 
 use Rattle.irig_plant.proofs.plant.Plant.carry_cached_port.Goals as goal
 
 at_most_five : (redundancy : Redundancy) → ports_in redundancy ≤ 5
+at_most_five One = omega arith
 at_most_five Three = omega arith
 at_most_five Five = omega arith
 

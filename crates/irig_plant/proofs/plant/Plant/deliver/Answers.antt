@@ -2,7 +2,7 @@ use Rattle.std.proofs.Common.{◌<◌, ◌≤◌, List, [], ◌∷◌, length, d
 use Rattle.std.specs.Prelude.{if◌then◌else◌}
 use Rattle.irig_vote.specs.Vote.{ports_in}
 use Rattle.irig_vote.specs.declared.redundancy.Redundancy.{Redundancy}
-use Rattle.irig_vote.specs.declared.redundancy.Redundancy.TheVariants.{Three, Five}
+use Rattle.irig_vote.specs.declared.redundancy.Redundancy.TheVariants.{One, Three, Five}
 use Rattle.irig_plant.specs.declared.told_log.ToldEntry.{ToldEntry}
 use Rattle.irig_plant.specs.Schedule.{delivery, history_of}
 use Rattle.irig_plant.specs.Audits.{first_false, verdict}
@@ -10,6 +10,7 @@ use Rattle.irig_plant.proofs.StepLaws.{set_reader, cached_port_after, delivers, 
 use Rattle.irig_plant.proofs.plant.Plant.deliver.Goals as goal
 
 at_most_five : (redundancy : Redundancy) → ports_in redundancy ≤ 5
+at_most_five One = omega arith
 at_most_five Three = omega arith
 at_most_five Five = omega arith
 

@@ -1,4 +1,4 @@
-use Rattle.irig_c.proofs.second.irig_second_read.Goals as goal
+use Rattle.irig_c.proofs.second.irig_c_second_read.Goals as goal
 
 pub returns-in-Some-clause-read : goal.returns-in-Some-clause-read
 returns-in-Some-clause-read c ok = (c.read_text.ensures.exact c.in-Some.utc).0 c.in-Some.is

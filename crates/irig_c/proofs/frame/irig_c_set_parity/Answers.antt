@@ -3,7 +3,7 @@ use Rattle.irig_frame.specs.declared.symbol.Symbol.TheVariants.{Zero}
 use Rattle.irig_control.specs.Parity.{data_symbol}
 use Rattle.irig_c.specs.Numbers.{symbol_in}
 use Rattle.irig_c.proofs.SymbolsBack.{set_back}
-use Rattle.irig_c.proofs.frame.irig_set_parity.Goals as goal
+use Rattle.irig_c.proofs.frame.irig_c_set_parity.Goals as goal
 
 pub returns-clause-parity : goal.returns-clause-parity
 returns-clause-parity c =

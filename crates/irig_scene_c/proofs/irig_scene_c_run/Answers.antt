@@ -1,7 +1,7 @@
 use Rattle.std.proofs.Common.{◌∙◌, ap, rules}
 use Rattle.irig_scene_c.specs.Runs.{written_over}
 use Rattle.irig_scene_c.proofs.RunLaws.{vouches_left, truth_left}
-use Rattle.irig_scene_c.proofs.irig_run.Goals as goal
+use Rattle.irig_scene_c.proofs.irig_scene_c_run.Goals as goal
 
 pub returns-clause-vouches : goal.returns-clause-vouches
 returns-clause-vouches c =

@@ -6,7 +6,7 @@ use Rattle.irig_c.specs.Setups.{redundancy_in}
 use Rattle.irig_c.specs.Reports.{told_in}
 use Rattle.irig_c.specs.Readers.{told_at}
 use Rattle.irig_c.proofs.TellsLaws.{port_tells}
-use Rattle.irig_c.proofs.reader.irig_reader_port.Goals as goal
+use Rattle.irig_c.proofs.reader.irig_c_reader_port.Goals as goal
 
 at_most_five : (r : Redundancy) → ports_in r ≤ 5
 at_most_five Three = omega arith

@@ -19,7 +19,7 @@ use Rattle.irig_c.specs.declared.setup.IrigSetup.{IrigSetup}
 use Rattle.irig_c.specs.Setups.{rules_in, reader_rules_in, redundancy_in}
 use Rattle.irig_c.specs.States.{IsState}
 use Rattle.irig_c.proofs.TellsLaws.{tells_are}
-use Rattle.irig_c.proofs.reader.irig_reader_tick.Goals as goal
+use Rattle.irig_c.proofs.reader.irig_c_reader_tick.Goals as goal
 
 never : ◌≡◌ {A = Bool} false true → ⊥
 never h = absurd cc
