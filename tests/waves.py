@@ -6,11 +6,12 @@ Frames and generators are written anew here, by docs/FRAME.md and docs/GENERATOR
 made of these waves owes nothing to the program's. Each second has its pulses at 10 ms from its edge
 on, and the first edge comes after 50 ms. A restart is no matter of wires, and left out.
 
-    tests/waves.py SCENARIO [--late US,US,US] [--pull LINE,FROM_MS,TO_MS]
+    tests/waves.py SCENARIO [--late US,US,US] [--pull LINE,FROM_MS,TO_MS] [--line LINE]
     tests/waves.py SCENARIO --words
 
 --late: by how much the pulses of each line come later; --pull: the cable of a line is pulled out
-then, and plugged in again; --words: prints how the reader is set up, as the bench takes it."""
+then, and plugged in again; --line: that line alone, for a reader of one port; --words: prints how
+the reader is set up, as the bench takes it."""
 from __future__ import annotations
 
 import argparse
@@ -279,6 +280,7 @@ def main() -> None:
     words.add_argument("scenario", type=Path, metavar="SCENARIO")
     words.add_argument("--late", metavar="US,US,US", default="0,0,0,0,0")
     words.add_argument("--pull", metavar="LINE,FROM_MS,TO_MS")
+    words.add_argument("--line", metavar="LINE", type=int)
     words.add_argument("--words", action="store_true")
     told = words.parse_args()
     late = [int(word) for word in told.late.split(",")]
@@ -301,13 +303,16 @@ def main() -> None:
         if line >= count:
             words.error(f"--pull names line {line}; there are 0 to {count - 1}")
         changes = sorted(pulled(changes, line, begin * 1000, end * 1000))
-    levels = [0] * count
+    if told.line not in (None, *range(count)):
+        words.error(f"--line names line {told.line}; there are 0 to {count - 1}")
+    levels = {line: 0 for line in range(count) if told.line in (None, line)}
     for time, line, level in changes:
-        if levels[line] != level:
+        if levels.get(line, level) != level:
             levels[line] = level
-            print(time, *levels)
+            print(time, *levels.values())
     # The lines stay as they are until the last tick has come, as late as it may.
-    print(FIRST_EDGE_US + len(seconds) * SECOND_US + ELEMENT_US + max(late), *levels)
+    end = FIRST_EDGE_US + len(seconds) * SECOND_US + ELEMENT_US + max(late)
+    print(end, *levels.values())
 
 
 if __name__ == "__main__":
