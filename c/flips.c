@@ -199,11 +199,11 @@ static bool is_alike(const said *a, const said *b) {
 
 /* Whether a byte of a reader belongs to no number. */
 static bool is_padding(size_t byte) {
-    size_t ports_at = offsetof(irig_reader, ports);
+    size_t state_at = offsetof(irig_reader, state), ports_at = offsetof(irig_reader, ports);
     size_t of_port = (byte - ports_at) % sizeof(irig_tally);
-    if (byte >= ports_at && byte < offsetof(irig_reader, check))
-        return of_port == 6 || of_port == 7;
-    return (byte >= 5 && byte < 8) || byte == offsetof(irig_reader, state) + 3;
+    if (byte < state_at) return byte >= 5 && byte < 8;
+    if (byte < ports_at) return byte == state_at + 3 || byte >= state_at + sizeof(irig_state);
+    return byte < offsetof(irig_reader, check) && (of_port == 6 || of_port == 7);
 }
 
 static void flip(irig_reader *reader, int bit) {
