@@ -1,6 +1,6 @@
 -- The leaps that numbers give, and what is wrong with them.
 -- Source: docs/TIME.md, leap tables; docs/FAULTS.md for the numbers.
-use Rattle.std.specs.Prelude.{◌≡◌, ℕ, ◌==◌, nat_lt, if◌then◌else◌, Option, Some, None, min, take, map}
+use Rattle.std.specs.Prelude.{◌≡◌, ℕ, ◌==◌, ◌&&◌, Bool, true, List, [], ◌∷◌, nat_le, nat_lt, if◌then◌else◌, Option, Some, None, min, take, map}
 use Rattle.irig_time.specs.declared.second.TheConstants.{LAST_DAY}
 use Rattle.irig_time.specs.declared.leap.Leap.{Leap}
 use Rattle.irig_time.specs.declared.leap.Leap.TheVariants.{Insert, Delete}
@@ -18,6 +18,15 @@ leap_in l = (l.day, if l.kind == 0 then Insert else Delete)
 -- the table: of the leaps those that count
 abbrev pub table_in : IrigTable → TableValue
 table_in t = table t.until (map leap_in (take (min t.len 64) t.leaps))
+
+-- whether the kind of each leap has a meaning
+abbrev pub are_kinds : List IrigLeap → Bool
+are_kinds [] = true
+are_kinds (l ∷ ls) = nat_le l.kind 1 && are_kinds ls
+
+-- the kind of each leap that counts has one
+abbrev pub HasKinds : IrigTable → Type 0
+HasKinds t = are_kinds (take (min t.len 64) t.leaps) ≡ true
 
 -- what is wrong with it, if anything
 abbrev pub fault_in_table : IrigTable → Option TableFault

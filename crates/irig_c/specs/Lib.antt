@@ -3,5 +3,9 @@ pub mod Controls
 pub mod Setups
 pub mod LeapTables
 pub mod States
+pub mod Tallies
+pub mod CheckWord
+pub mod Standings
+pub mod Voices
 pub mod Reports
 pub mod Readers

@@ -1,5 +1,5 @@
 -- What it is for the numbers that C holds to be those of a reader with a history.
-use Rattle.std.specs.Prelude.{◌≡◌, ◌<◌, ℕ, List, slice_index_or}
+use Rattle.std.specs.Prelude.{◌≡◌, ◌<◌, ℕ, List}
 use Rattle.irig_port.specs.declared.tally.Tally.{Tally}
 use Rattle.irig_port.specs.declared.told.Told.{Told}
 use Rattle.irig_port.specs.Heard.{symbols_heard}
@@ -8,20 +8,13 @@ use Rattle.irig_vote.specs.declared.votes.Tells.{Tells}
 use Rattle.irig_vote.specs.Vote.{vote_of}
 use Rattle.irig_reader.specs.declared.rule.Step.{Step}
 use Rattle.irig_reader.specs.History.{Fed, fed_to, ReaderHistory}
-use Rattle.irig_reader.specs.Rules.{IsReaderRules}
 use Rattle.irig_reader.specs.Rule.{state_of, step_of}
 use Rattle.irig_c.specs.declared.reader.IrigReader.{IrigReader}
-use Rattle.irig_c.specs.Setups.{rules_in, reader_rules_in, redundancy_in}
+use Rattle.irig_c.specs.Setups.{rules_in, reader_rules_in, redundancy_in, IsSetup}
 use Rattle.irig_c.specs.LeapTables.{table_in}
 use Rattle.irig_c.specs.States.{state_in, IsState}
-
--- a tally of no pulse
-abbrev pub no_tally : Tally
-no_tally = record { count = 0; wrong = record { kind = 0; element = 0 }; time = 0; control = 0 }
-
--- what a port heard
-abbrev pub tally_at : List Tally → ℕ → Tally
-tally_at ports port = slice_index_or ports port no_tally
+use Rattle.irig_c.specs.Tallies.{tally_at}
+use Rattle.irig_c.specs.CheckWord.{IsSealed}
 
 -- the five ports heard what was fed to them
 abbrev pub HaveHeard : List Tally → Fed → Type 0
@@ -40,8 +33,15 @@ pub record IsReaderOf (r : IrigReader) (h : ReaderHistory) : Type 0 where
   pub redundancy : redundancy_in r.setup ≡ h.redundancy
   pub heard : HaveHeard r.ports h.fed
   pub state : state_in r.state ≡ state_of h.reader_rules h.table h.votes
-  pub in_range : IsReaderRules (reader_rules_in r.setup)
+  pub setup : IsSetup r.setup
   pub is_state : IsState r.setup.lock_after r.state
+  pub sealed : IsSealed r
+
+-- a tick accepts the numbers
+pub record IsAccepted (r : IrigReader) : Type 0 where
+  pub setup : IsSetup r.setup
+  pub is_state : IsState r.setup.lock_after r.state
+  pub sealed : IsSealed r
 
 -- what the ports tell
 abbrev pub tells_in : IrigReader → Tells

@@ -11,6 +11,9 @@ use Rattle.irig_c.specs.declared.second.IrigClaim.{IrigClaim}
 use Rattle.irig_c.specs.declared.report.IrigReport.{IrigReport}
 use Rattle.irig_c.specs.declared.report.IrigTold.{IrigTold}
 use Rattle.irig_c.specs.Numbers.{code_of, claim_for}
+use Rattle.irig_c.specs.Controls.{flag_in}
+use Rattle.irig_c.specs.declared.voices.Voices.{Voices}
+use Rattle.irig_c.specs.Voices.{voices_of}
 
 -- the number of a lock
 abbrev pub number_of_lock : Lock → ℕ
@@ -60,6 +63,19 @@ report_in r = record {
   announce = if r.announces == 0 then None else Some (record { day = r.day; sod = r.sod });
   lock = lock_in r.lock r.lock_count;
   cause = cause_in r.cause;
+}
+
+-- what it says of the ports
+abbrev pub voices_in : IrigReport → Voices
+voices_in r = record {
+  agreed = r.agreed;
+  differed = r.differed;
+  faulty = r.faulty;
+  poor = r.poor;
+  quality = r.quality;
+  zone =
+      if r.has_local == 0 then None
+      else Some (record { local_half_hours = r.local_half_hours; dst = flag_in r.dst });
 }
 
 -- a claim of nothing

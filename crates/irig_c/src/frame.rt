@@ -1,18 +1,24 @@
 //! Frames.
 
-ghost use Rattle.std.specs.Prelude.{◌≡◌, ◌↔◌, ◌≤◌, Ok, Err, IfSome, Bool, map, length, slice_set};
+ghost use Rattle.std.specs.Prelude.{◌≡◌, ◌↔◌, ◌≤◌, ◌&&◌, nat_le, Ok, Err, IfSome, Bool, map, length, slice_set, unsigned_abs};
 ghost use Rattle.irig_frame.specs.Decoder.{IsCoded, Reads};
 ghost use Rattle.irig_frame.specs.Encoder.{HasUnusedZeros};
 ghost use Rattle.irig_frame.specs.Faults.{decode_result};
+ghost use Rattle.irig_control.specs.Control.{IsControl};
 ghost use Rattle.irig_control.specs.Parity.{HasParity, has_parity, data_symbol};
+ghost use Rattle.irig_time.specs.Frames.{IsFrameOfSecond, frame_of_second};
+ghost use Rattle.irig_time.specs.Seconds.{IsValid};
+ghost use Rattle.irig_c.specs.Controls.{control_in};
 ghost use Rattle.irig_c.specs.Numbers.{symbol_in, parity_in, code_of_frame};
 
+use crate::control::{IrigControl, control_of_c};
 use crate::fault::{OUT_OF_RANGE, code};
 use crate::setup::parity_of;
 use crate::symbols::{number, numbers_of, symbols_of};
 use irig_control::{parity_ok, set_parity};
 use irig_frame::{Coded, FrameFault, decode, encode, in_range};
 use irig_port::PortFault;
+use irig_time::{UtcSecond, frame_of_second, valid};
 
 /// Writes the frame of a coded time, the elements without a field 0. 26 if a value is out of its
 /// range.
@@ -71,22 +77,60 @@ fn length_fault(symbols: &[u8]) -> Option<FrameFault>
     None
 }
 
-/// Whether the frame has the parity: 0 is even, any other odd.
+/// Whether the frame has the parity: 0 is even, 1 odd. It has no other.
 #[unsafe(no_mangle)]
 pub extern "C" fn irig_c_has_parity(symbols: &[u8; 100], parity: u8) -> bool
-    ensures { result ≡ has_parity (parity_in parity) (map symbol_in symbols.now) }
+    ensures { result ≡ (nat_le parity 1 && has_parity (parity_in parity) (map symbol_in symbols.now)) }
 {
-    parity_ok(&symbols_of(symbols), parity_of(parity))
+    parity <= 1 && parity_ok(&symbols_of(symbols), parity_of(parity))
 }
 
-/// Gives the frame the parity, 0 even and any other odd, by element 75.
+/// Gives the frame the parity, 0 even and 1 odd, by element 75. 26 if it is another number.
 #[unsafe(no_mangle)]
-pub extern "C" fn irig_c_set_parity(symbols: &mut [u8; 100], parity: u8)
-    ensures parity { HasParity (parity_in parity) (map symbol_in symbols.new) }
-    ensures others { (b : Bool) × (map symbol_in symbols.new
+pub extern "C" fn irig_c_set_parity(symbols: &mut [u8; 100], parity: u8) -> u32
+    ensures answer { (result ≡ 0) ↔ (parity ≤ 1) }
+    ensures parity { result ≡ 0 → HasParity (parity_in parity) (map symbol_in symbols.new) }
+    ensures others { result ≡ 0 → (b : Bool) × (map symbol_in symbols.new
         ≡ slice_set (map symbol_in symbols.old) 75 (data_symbol b)) }
+    ensures refused { (result ≡ 0 → ⊥) → symbols.new ≡ symbols.old }
 {
+    if parity > 1 {
+        return OUT_OF_RANGE;
+    }
     let mut frame = symbols_of(symbols);
     set_parity(&mut frame, parity_of(parity));
     symbols[75] = number(frame[75]);
+    0
+}
+
+/// Writes the frame of a second with these control bits and this parity, 0 even and 1 odd, by a
+/// clock -31 to 31 half hours ahead of UTC; unused bits and elements are 0. 26 if a value is out of
+/// its range.
+#[unsafe(no_mangle)]
+pub extern "C" fn irig_c_frame_of(
+    second: &UtcSecond,
+    local_half_hours: i8,
+    control: &IrigControl,
+    parity: u8,
+    symbols: &mut [u8; 100],
+) -> u32
+    ensures answer { (result ≡ 0) ↔ ((IsValid second.now × (unsigned_abs local_half_hours ≤ 31))
+        × (IsControl (control_in control.now) × (parity ≤ 1))) }
+    ensures frame { result ≡ 0 → IsFrameOfSecond (parity_in parity) second.now local_half_hours
+        (control_in control.now) (map symbol_in symbols.new) }
+    ensures value { result ≡ 0 → map symbol_in symbols.new
+        ≡ frame_of_second (parity_in parity) second.now local_half_hours (control_in control.now) }
+    ensures refused { (result ≡ 0 → ⊥) → symbols.new ≡ symbols.old }
+{
+    let control = control_of_c(control);
+    if !valid(second)
+        || local_half_hours.unsigned_abs() > 31
+        || !irig_control::in_range(&control)
+        || parity > 1
+    {
+        return OUT_OF_RANGE;
+    }
+    let frame = frame_of_second(parity_of(parity), second, local_half_hours, &control);
+    *symbols = numbers_of(&frame);
+    0
 }

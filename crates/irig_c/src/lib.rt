@@ -8,6 +8,7 @@
 //! what C holds.
 #![tactic(auto)]
 
+mod check_word;
 mod control;
 mod fault;
 mod frame;
@@ -16,9 +17,12 @@ mod reader;
 mod report;
 mod second;
 mod setup;
+mod standing;
 mod state;
 mod symbols;
 mod table;
+mod voices;
+mod zone;
 
 pub use control::IrigControl;
 pub use reader::IrigReader;

@@ -1,18 +1,16 @@
 //! A line that C holds: where it stands in its frame, and a reader that hears through it.
 
-ghost use Rattle.std.specs.Prelude.{◌≡◌, ◌↔◌, ◌≤◌, ◌<◌, ℕ, List, []};
-ghost use Rattle.irig_frame.specs.declared.symbol.Symbol.{Symbol};
-ghost use Rattle.irig_frame.specs.Symbols.{symbol_of};
-ghost use Rattle.irig_port.specs.Heard.{symbols_heard, with_symbol};
+ghost use Rattle.std.specs.Prelude.{◌≡◌, ◌↔◌, ◌≤◌, ℕ, List, []};
+ghost use Rattle.irig_port.specs.Heard.{symbols_heard};
 ghost use Rattle.irig_port.specs.Tallies.{IsTallyOf};
-ghost use Rattle.irig_reader.specs.History.{Fed, ReaderHistory, after_hearing, fed_to, widths_at, with_port};
+ghost use Rattle.irig_reader.specs.History.{ReaderHistory, after_hearing, widths_at};
 ghost use Rattle.irig_sync.specs.Lines.{IsSyncOf};
 ghost use Rattle.irig_sync.specs.Sync.{flag, idle_of, is_marker, place_of};
-ghost use Rattle.irig_vote.specs.Vote.{ports_in};
-ghost use Rattle.irig_c.specs.Readers.{HaveHeard, IsReaderOf};
-ghost use Rattle.irig_c.specs.Setups.{redundancy_in};
+ghost use Rattle.irig_c.specs.CheckWord.{IsSealed};
+ghost use Rattle.irig_c.specs.Readers.{IsReaderOf};
+ghost use Rattle.irig_c.specs.Setups.{IsPort};
 
-use crate::reader::IrigReader;
+use crate::reader::{IrigReader, set_port, with_pulse};
 use crate::setup::is_port;
 use irig_port::Tally;
 use irig_sync::Sync;
@@ -63,7 +61,7 @@ pub extern "C" fn irig_c_reader_hear(
     rise_us: u32,
     width_us: u32,
 ) -> u8
-    ensures answer { (result ≡ 255) ↔ (ports_in (redundancy_in reader.old.setup) ≤ port) }
+    ensures answer { (result ≡ 255 → ⊥) ↔ IsPort reader.old.setup port }
     ensures refused { result ≡ 255 → (reader.new ≡ reader.old) × (sync.new ≡ sync.old) }
     ensures place { (result ≡ 255 → ⊥) → result ≡ place_of sync.old rise_us width_us }
     ensures sync { (result ≡ 255 → ⊥) → sync.new ≡ record {
@@ -73,22 +71,16 @@ pub extern "C" fn irig_c_reader_hear(
     } }
     ensures fed { (result ≡ 255 → ⊥) → (h : ReaderHistory) → IsReaderOf reader.old h
         → IsReaderOf reader.new (after_hearing h port result width_us) }
+    // the check word is right exactly if it was
+    ensures sealed { IsSealed reader.new ↔ IsSealed reader.old }
 {
     if !is_port(&reader.setup, port) {
         return NO_PORT;
     }
     let place = sync.pulse(rise_us, width_us);
-    hear_at(&mut reader.ports, port, place, width_us);
+    let tally = heard(reader.ports[usize::from(port)], place, width_us);
+    set_port(reader, port, tally);
     place
-}
-
-/// A pulse with this place in its frame at one of five ports.
-fn hear_at(ports: &mut [Tally; 5], port: u8, place: u8, width_us: u32)
-    requires { port < 5 }
-    ensures { (fed : Fed) → HaveHeard ports.old fed → HaveHeard ports.new
-        (with_port fed port (widths_at place (fed_to fed port) width_us)) }
-{
-    ports[usize::from(port)] = heard(ports[usize::from(port)], place, width_us);
 }
 
 /// What a port has heard after a pulse with this place in its frame.
@@ -101,12 +93,4 @@ fn heard(tally: Tally, place: u8, width_us: u32) -> Tally
         1 => with_pulse(Tally::none(), width_us),
         _ => with_pulse(tally, width_us),
     }
-}
-
-fn with_pulse(mut tally: Tally, width_us: u32) -> Tally
-    ensures { (s : List Symbol) → IsTallyOf tally s
-        → IsTallyOf result (with_symbol s (symbol_of width_us)) }
-{
-    tally.add(width_us);
-    tally
 }

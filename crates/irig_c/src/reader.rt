@@ -1,34 +1,44 @@
 //! A reader that C holds.
 
-ghost use Rattle.std.specs.Prelude.{◌≡◌, ◌↔◌, ◌+◌, ◌<◌, ℕ, List, [], IfSome, Some};
+ghost use Rattle.std.specs.Prelude.{◌≡◌, ◌↔◌, ◌+◌, ◌%◌, ◌^◌, ◌<◌, ℕ, List, [], IfSome, IsTrue, Some, is_some};
+ghost use Rattle.irig_frame.specs.declared.symbol.Symbol.{Symbol};
+ghost use Rattle.irig_frame.specs.Symbols.{symbol_of};
 ghost use Rattle.irig_time.specs.declared.second.UtcSecond.{UtcSecond};
 ghost use Rattle.irig_time.specs.Seconds.{IsValid};
 ghost use Rattle.irig_time.specs.Timelines.{TimelineValue, IsSecond};
 ghost use Rattle.irig_time.specs.TimelineFaults.{IsTimeline};
+ghost use Rattle.irig_port.specs.Heard.{symbols_heard, with_symbol};
+ghost use Rattle.irig_port.specs.Tallies.{IsTallyOf};
 ghost use Rattle.irig_port.specs.Told.{told_of_widths};
-ghost use Rattle.irig_vote.specs.Vote.{ports_in, vote_of, AreOfUtc};
+ghost use Rattle.irig_vote.specs.Vote.{AreOfUtc};
 ghost use Rattle.irig_hold.specs.Truth.{IsTrueTable};
 ghost use Rattle.irig_reader.specs.declared.report.Lock.TheVariants as Lock;
 ghost use Rattle.irig_reader.specs.declared.report.Cause.TheVariants as Cause;
 ghost use Rattle.irig_reader.specs.Clean.{IsClean};
 ghost use Rattle.irig_reader.specs.Held.{AreMarkedLate, IsSince, IsTrueSince};
-ghost use Rattle.irig_reader.specs.Rule.{step_of};
-ghost use Rattle.irig_reader.specs.Rules.{IsReaderRules};
-ghost use Rattle.irig_reader.specs.History.{Fed, fed_to, no_pulses, with_width, with_widths, ReaderHistory, new_history, after_pulse, after_pulses, after_tick, after_restart, report_at_tick};
+ghost use Rattle.irig_reader.specs.Rule.{count_of};
+ghost use Rattle.irig_reader.specs.History.{fed_to, no_pulses, with_port, ReaderHistory, new_history, after_pulse, after_pulses, after_tick, after_restart, report_at_tick, told_at_tick};
 ghost use Rattle.irig_c.specs.declared.state.TheConstants.{IDLE};
-ghost use Rattle.irig_c.specs.Setups.{rules_in, reader_rules_in, redundancy_in};
-ghost use Rattle.irig_c.specs.LeapTables.{table_in, IsTable, code_of_table};
-ghost use Rattle.irig_c.specs.States.{state_in, IsState};
-ghost use Rattle.irig_c.specs.Reports.{report_in, told_in};
-ghost use Rattle.irig_c.specs.Readers.{IsReaderOf, HaveHeard, tells_in, told_at, step_in};
+ghost use Rattle.irig_c.specs.Numbers.{sense_in};
+ghost use Rattle.irig_c.specs.Setups.{rules_in, reader_rules_in, redundancy_in, IsPort, IsSetup};
+ghost use Rattle.irig_c.specs.LeapTables.{table_in, HasKinds, IsTable, code_of_table};
+ghost use Rattle.irig_c.specs.States.{state_in};
+ghost use Rattle.irig_c.specs.CheckWord.{IsSealed, setup_numbers, table_numbers, weighted};
+ghost use Rattle.irig_c.specs.Reports.{report_in, told_in, voices_in};
+ghost use Rattle.irig_c.specs.Voices.{voices_of};
+ghost use Rattle.irig_c.specs.Readers.{IsAccepted, IsReaderOf, HaveHeard, tells_in, told_at, step_in};
 
+use crate::check_word::{check_of, fixed_sum, ports_sum, state_sum, tally_sum};
 use crate::fault::OUT_OF_RANGE;
 use crate::report::{IrigReport, IrigTold, report_for_c, told_for_c};
-use crate::setup::{IrigSetup, is_port, reader_rules_of, redundancy_of, rules_of};
+use crate::setup::{
+    IrigSetup, is_port, is_setup, reader_rules_of, redundancy_of, rules_of, sense_of,
+};
 use crate::state::{IDLE, IrigState, state_for_c, state_of};
-use crate::table::{IrigTable, table_fault};
+use crate::table::{IrigTable, has_kinds, table_fault};
+use crate::voices::voices_of;
 use irig_port::Tally;
-use irig_reader::{in_range, step_of};
+use irig_reader::{State, step_of};
 use irig_vote::{Tells, vote};
 
 /// A reader, all of it plain numbers. It may be copied, kept and taken up again.
@@ -41,12 +51,16 @@ pub struct IrigReader {
     pub table: IrigTable,
     /// Where it stands.
     pub state: IrigState,
-    /// What each port heard since the last edge, of three ports the first three.
+    /// What each port heard since the last edge, of three ports the first three, of one the first.
     pub ports: [Tally; 5],
+    /// What all other numbers add up to, each times a weight of its own: it tells if one of them is
+    /// changed by anything but these calls.
+    pub check: u64,
 }
 
-/// Makes a reader to which nothing has happened. 26 if a rule of the setup is out of its range; 31
-/// to 34 for the first fault of the table.
+/// Makes a reader to which nothing has happened. 26 if a number of the setup has no meaning or is
+/// out of its range, or a leap that counts has another kind; then 31 to 34 for the first fault of
+/// the table.
 #[unsafe(no_mangle)]
 pub extern "C" fn irig_c_reader_init(
     reader: &mut IrigReader,
@@ -54,13 +68,13 @@ pub extern "C" fn irig_c_reader_init(
     table: &IrigTable,
 ) -> u32
     ensures answer { (result ≡ 0)
-        ↔ (IsReaderRules (reader_rules_in setup.now) × IsTable table.now) }
-    ensures fault { IsReaderRules (reader_rules_in setup.now) → result ≡ code_of_table table.now }
+        ↔ (IsSetup setup.now × (HasKinds table.now × IsTable table.now)) }
+    ensures fault { IsSetup setup.now → HasKinds table.now → result ≡ code_of_table table.now }
     ensures refused { (result ≡ 0 → ⊥) → reader.new ≡ reader.old }
     ensures fresh { result ≡ 0 → IsReaderOf reader.new (new_history (rules_in setup.now)
         (reader_rules_in setup.now) (table_in table.now) (redundancy_in setup.now)) }
 {
-    if !in_range(&reader_rules_of(setup)) {
+    if !is_setup(setup) || !has_kinds(table) {
         return OUT_OF_RANGE;
     }
     let fault = table_fault(table);
@@ -70,63 +84,78 @@ pub extern "C" fn irig_c_reader_init(
     reader.setup = *setup;
     reader.table = *table;
     forget(reader);
+    reader.check = check_of(fixed_sum(setup, table), reader);
     0
 }
 
 /// A pulse at a port, `width_us` microseconds wide. 26 if there is no such port.
 #[unsafe(no_mangle)]
 pub extern "C" fn irig_c_reader_pulse(reader: &mut IrigReader, port: u8, width_us: u32) -> u32
-    ensures answer { (result ≡ 0) ↔ (port < ports_in (redundancy_in reader.old.setup)) }
+    ensures answer { (result ≡ 0) ↔ IsPort reader.old.setup port }
     ensures refused { (result ≡ 0 → ⊥) → reader.new ≡ reader.old }
     ensures fed { result ≡ 0 → (h : ReaderHistory) → IsReaderOf reader.old h
         → IsReaderOf reader.new (after_pulse h port width_us) }
+    // the check word is right exactly if it was
+    ensures sealed { IsSealed reader.new ↔ IsSealed reader.old }
 {
     if !is_port(&reader.setup, port) {
         return OUT_OF_RANGE;
     }
-    feed(&mut reader.ports, port, width_us);
+    let tally = with_pulse(reader.ports[usize::from(port)], width_us);
+    set_port(reader, port, tally);
     0
 }
 
-/// A pulse at one of five ports.
-fn feed(ports: &mut [Tally; 5], port: u8, width_us: u32)
-    requires { port < 5 }
-    ensures { (fed : Fed) → HaveHeard ports.old fed
-        → HaveHeard ports.new (with_width fed port width_us) }
+pub(crate) fn with_pulse(mut tally: Tally, width_us: u32) -> Tally
+    ensures { (s : List Symbol) → IsTallyOf tally s
+        → IsTallyOf result (with_symbol s (symbol_of width_us)) }
 {
-    ports[usize::from(port)].add(width_us);
+    tally.add(width_us);
+    tally
 }
 
 /// Pulses at a port, one after another, each of a width in microseconds. 26 if there is no such
 /// port.
 #[unsafe(no_mangle)]
 pub extern "C" fn irig_c_reader_pulses(reader: &mut IrigReader, port: u8, widths_us: &[u32]) -> u32
-    ensures answer { (result ≡ 0) ↔ (port < ports_in (redundancy_in reader.old.setup)) }
+    ensures answer { (result ≡ 0) ↔ IsPort reader.old.setup port }
     ensures refused { (result ≡ 0 → ⊥) → reader.new ≡ reader.old }
     ensures fed { result ≡ 0 → (h : ReaderHistory) → IsReaderOf reader.old h
         → IsReaderOf reader.new (after_pulses h port widths_us.now) }
+    // the check word is right exactly if it was
+    ensures sealed { IsSealed reader.new ↔ IsSealed reader.old }
 {
     if !is_port(&reader.setup, port) {
         return OUT_OF_RANGE;
     }
-    feed_all(&mut reader.ports, port, widths_us);
+    let mut tally = reader.ports[usize::from(port)];
+    tally.add_all(widths_us);
+    set_port(reader, port, tally);
     0
 }
 
-/// Pulses at one of five ports.
-fn feed_all(ports: &mut [Tally; 5], port: u8, widths_us: &[u32])
+/// Puts what a port heard in the place of what it heard before, and renews the check word by the
+/// difference: a wrong one stays wrong.
+pub(crate) fn set_port(reader: &mut IrigReader, port: u8, tally: Tally)
     requires { port < 5 }
-    ensures { (fed : Fed) → HaveHeard ports.old fed
-        → HaveHeard ports.new (with_widths fed port widths_us.now) }
+    ensures heard { (h : ReaderHistory) (widths : List ℕ) → IsReaderOf reader.old h
+        → IsTallyOf tally (symbols_heard widths)
+        → IsReaderOf reader.new (record h { fed = with_port h.fed port widths }) }
+    ensures sealed { IsSealed reader.new ↔ IsSealed reader.old }
 {
-    ports[usize::from(port)].add_all(widths_us);
+    let place = usize::from(port);
+    let before = tally_sum(port, &reader.ports[place]);
+    let after = tally_sum(port, &tally);
+    reader.ports[place] = tally;
+    reader.check = reader.check.wrapping_sub(before).wrapping_add(after);
 }
 
 /// An edge: what the reader says, by what its ports heard since the last one. They are then empty.
-/// 26 if the second at which it stands is none, its votes are too many or its rules are out of
-/// range. Other numbers that no reader comes to are taken as they are.
+/// 26 if a number of its setup or its state has no meaning or is out of its range, or the check word
+/// is not that of its numbers.
 #[unsafe(no_mangle)]
 pub extern "C" fn irig_c_reader_tick(reader: &mut IrigReader, report: &mut IrigReport) -> u32
+    ensures answer { (result ≡ 0) ↔ IsAccepted reader.old }
     ensures refused { (result ≡ 0 → ⊥) → (reader.new ≡ reader.old) × (report.new ≡ report.old) }
     ensures valid { result ≡ 0 → IfSome (report_in report.new).announce IsValid }
     // of a reader that has a history: it is never refused, reports what the rule gives, and goes on
@@ -139,6 +168,12 @@ pub extern "C" fn irig_c_reader_tick(reader: &mut IrigReader, report: &mut IrigR
     // whatever lies in its numbers: what the rule makes of them
     ensures said { result ≡ 0 → report_in report.new ≡ (step_in reader.old).report }
     ensures stands { result ≡ 0 → state_in reader.new.state ≡ (step_in reader.old).state }
+    // how the ports stand to the vote, and what the frames of those that agree say beside the time
+    ensures voices { result ≡ 0 → voices_in report.new ≡ voices_of (tells_in reader.old)
+        (redundancy_in reader.old.setup) (sense_in reader.old.setup.sense) reader.old.ports }
+    // the same by what was fed to them
+    ensures heard { (h : ReaderHistory) → IsReaderOf reader.old h → voices_in report.new
+        ≡ voices_of (told_at_tick h) h.redundancy h.rules.sense reader.old.ports }
     // A second that is announced by the vote of a clean edge is the true one, whatever lies in the
     // numbers: this needs nothing of the past.
     ensures truth { (t : TimelineValue) (n : ℕ) (u : UtcSecond) → IsTimeline t
@@ -157,19 +192,42 @@ pub extern "C" fn irig_c_reader_tick(reader: &mut IrigReader, report: &mut IrigR
     ensures last { (h : ReaderHistory) (edges : ℕ) → IsReaderOf reader.old h
         → (report_in report.new).lock ≡ Lock.Holdover edges → IsSince (after_tick h).votes edges }
 {
-    let reader_rules = reader_rules_of(&reader.setup);
-    if !in_range(&reader_rules) {
-        return OUT_OF_RANGE;
-    }
-    let Some(state) = state_of(&reader.state, reader_rules.lock_after) else {
+    let fixed = fixed_sum(&reader.setup, &reader.table);
+    let Some(state) = accepted_state(fixed, reader) else {
         return OUT_OF_RANGE;
     };
-    let vote = vote(&tells_of(reader), redundancy_of(&reader.setup));
+    let reader_rules = reader_rules_of(&reader.setup);
+    let tells = tells_of(reader);
+    let redundancy = redundancy_of(&reader.setup);
+    let vote = vote(&tells, redundancy);
     let step = step_of(reader_rules, &reader.table, state, vote);
-    *report = report_for_c(&step.report);
+    let voices = voices_of(
+        &tells,
+        redundancy,
+        vote,
+        sense_of(reader.setup.sense),
+        &reader.ports,
+    );
+    *report = report_for_c(&step.report, &voices);
     empty(reader);
     reader.state = state_for_c(&step.state);
+    reader.check = check_of(fixed, reader);
     0
+}
+
+/// The state of a reader that a tick accepts, if `fixed` is what setup and table add to its check
+/// word.
+fn accepted_state(fixed: u64, reader: &IrigReader) -> Option<State>
+    requires { fixed ≡ (weighted 3 (setup_numbers reader.now.setup)
+        + weighted 15 (table_numbers reader.now.table)) % 2 ^ 64 }
+    ensures accepted { IsTrue (is_some result) ↔ IsAccepted reader.now }
+    ensures is { IfSome result (λ s. s ≡ state_in reader.now.state) }
+    ensures counting { IfSome result (λ s. count_of s < reader.now.setup.lock_after) }
+{
+    if !is_setup(&reader.setup) || reader.check != check_of(fixed, reader) {
+        return None;
+    }
+    state_of(&reader.state, reader.setup.lock_after)
 }
 
 /// What the ports tell. Each claim is of a valid second.
@@ -192,24 +250,31 @@ fn empty(reader: &mut IrigReader)
     ensures setup { reader.new.setup ≡ reader.old.setup }
     ensures table { reader.new.table ≡ reader.old.table }
     ensures state { reader.new.state ≡ reader.old.state }
+    ensures check { reader.new.check ≡ reader.old.check }
     ensures ports { HaveHeard reader.new.ports no_pulses }
 {
     reader.ports = [Tally::none(); 5];
 }
 
-/// Clears the ports, and forgets what was voted.
+/// Clears the ports, and forgets what was voted. A reader whose check word is wrong stays so.
 #[unsafe(no_mangle)]
 pub extern "C" fn irig_c_reader_restart(reader: &mut IrigReader)
-    ensures { (h : ReaderHistory) → IsReaderOf reader.old h
+    ensures restarted { (h : ReaderHistory) → IsReaderOf reader.old h
         → IsReaderOf reader.new (after_restart h) }
+    // the check word is right exactly if it was
+    ensures sealed { IsSealed reader.new ↔ IsSealed reader.old }
 {
+    let before = state_sum(&reader.state).wrapping_add(ports_sum(&reader.ports));
     forget(reader);
+    let after = state_sum(&reader.state).wrapping_add(ports_sum(&reader.ports));
+    reader.check = reader.check.wrapping_sub(before).wrapping_add(after);
 }
 
 fn forget(reader: &mut IrigReader)
     ensures setup { reader.new.setup ≡ reader.old.setup }
     ensures table { reader.new.table ≡ reader.old.table }
     ensures state { reader.new.state ≡ IDLE }
+    ensures check { reader.new.check ≡ reader.old.check }
     ensures ports { HaveHeard reader.new.ports no_pulses }
 {
     empty(reader);
@@ -219,7 +284,7 @@ fn forget(reader: &mut IrigReader)
 /// Says what a port would tell if the edge came now. 26 if there is no such port.
 #[unsafe(no_mangle)]
 pub extern "C" fn irig_c_reader_port(reader: &IrigReader, port: u8, told: &mut IrigTold) -> u32
-    ensures answer { (result ≡ 0) ↔ (port < ports_in (redundancy_in reader.now.setup)) }
+    ensures answer { (result ≡ 0) ↔ IsPort reader.now.setup port }
     ensures told { result ≡ 0 → told.new ≡ told_in (told_at reader.now port) }
     // of a reader that has a history: what the pulses say that were fed to the port
     ensures heard { result ≡ 0 → (h : ReaderHistory) → IsReaderOf reader.now h

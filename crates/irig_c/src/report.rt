@@ -1,10 +1,13 @@
 //! What a reader says, and what a port tells, in numbers.
 
 ghost use Rattle.std.specs.Prelude.{◌≡◌};
-ghost use Rattle.irig_c.specs.Reports.{report_in, number_of_lock, count_of_lock, number_of_cause, told_in};
+ghost use Rattle.irig_c.specs.Controls.{flag_in};
+ghost use Rattle.irig_c.specs.Reports.{report_in, voices_in, number_of_lock, count_of_lock, number_of_cause, told_in};
 
 use crate::fault::code;
 use crate::second::{IrigClaim, NO_CLAIM, claim_for_c};
+use crate::voices::Voices;
+use crate::zone::Zone;
 use irig_port::Told;
 use irig_reader::{Cause, Lock, Report};
 use irig_time::UtcSecond;
@@ -19,12 +22,28 @@ pub struct IrigReport {
     pub lock: u8,
     /// 0 voted, 1 held, 2 acquiring, 3 no vote, 4 expired, 5 leap guard, 6 jump, 7 range end.
     pub cause: u8,
+    /// The ports that told the claim that was voted: bit p is port p.
+    pub agreed: u8,
     /// The votes so far while it is acquiring, the edges since the last vote in holdover, else 0.
     pub lock_count: u32,
     /// The day of the second, or 0.
     pub day: u32,
     /// The second of that day, or 0.
     pub sod: u32,
+    /// The ports that told another claim, or one while none was voted.
+    pub differed: u8,
+    /// The ports that told a fault.
+    pub faulty: u8,
+    /// The ports that told a quality without a vote.
+    pub poor: u8,
+    /// The worst quality of the frames of the ports that agreed, 0 to 9; 15 if none was voted.
+    pub quality: u8,
+    /// 1 if so many of these frames as a vote takes are of one zone, else 0.
+    pub has_local: u8,
+    /// Local time minus UTC in that zone, in half hours, or 0.
+    pub local_half_hours: i8,
+    /// 1 if it is daylight saving time there, else 0.
+    pub dst: u8,
 }
 
 /// What a port tells.
@@ -41,22 +60,40 @@ pub struct IrigTold {
     pub claim: IrigClaim,
 }
 
-pub(crate) fn report_for_c(report: &Report) -> IrigReport
-    ensures { report_in result ≡ report.now }
+pub(crate) fn report_for_c(report: &Report, voices: &Voices) -> IrigReport
+    ensures report { report_in result ≡ report.now }
+    ensures voices { voices_in result ≡ voices.now }
 {
     let utc = match report.announce {
         Some(utc) => utc,
         None => UtcSecond { day: 0, sod: 0 },
     };
+    let zone = match voices.zone {
+        Some(zone) => zone,
+        None => NO_ZONE,
+    };
     IrigReport {
         announces: u8::from(report.announce.is_some()),
         lock: lock_number(report.lock),
         cause: cause_number(report.cause),
+        agreed: voices.agreed,
         lock_count: lock_count(report.lock),
         day: utc.day,
         sod: utc.sod,
+        differed: voices.differed,
+        faulty: voices.faulty,
+        poor: voices.poor,
+        quality: voices.quality,
+        has_local: u8::from(voices.zone.is_some()),
+        local_half_hours: zone.local_half_hours,
+        dst: u8::from(zone.dst),
     }
 }
+
+const NO_ZONE: Zone = Zone {
+    local_half_hours: 0,
+    dst: false,
+};
 
 fn lock_number(lock: Lock) -> u8
     ensures { result ≡ number_of_lock lock }

@@ -46,17 +46,17 @@ pub(crate) fn claim_for_c(claim: &Claim) -> IrigClaim
 }
 
 /// Gives the second after a second, by what is said of the leap at the end of its day, a mark as
-/// in [`IrigClaim`]. 26 if the second is none from 2000-01-02 to 2099-12-30, or none is known to
-/// follow.
+/// in [`IrigClaim`]. 26 if the mark is none of these, the second is none from 2000-01-02 to
+/// 2099-12-30, or none is known to follow.
 #[unsafe(no_mangle)]
 pub extern "C" fn irig_c_second_next(second: &UtcSecond, mark: u8, following: &mut UtcSecond) -> u32
     ensures next { result ≡ 0
-        → IsValid second.now × (next_of second.now (mark_in mark) ≡ Some following.new) }
+        → (mark ≤ 3) × (IsValid second.now × (next_of second.now (mark_in mark) ≡ Some following.new)) }
     ensures none { (result ≡ 0 → ⊥)
-        → IsValid second.now → next_of second.now (mark_in mark) ≡ None }
+        → mark ≤ 3 → IsValid second.now → next_of second.now (mark_in mark) ≡ None }
     ensures refused { (result ≡ 0 → ⊥) → following.new ≡ following.old }
 {
-    if !valid(second) {
+    if !valid(second) || mark > 3 {
         return OUT_OF_RANGE;
     }
     match next(*second, mark_of(mark)) {
@@ -103,7 +103,11 @@ pub extern "C" fn irig_c_second_read(text: &[u8], second: &mut UtcSecond) -> u32
 /// Gives the coded time of a second in a zone, -31 to 31 half hours from UTC, with control bits 0.
 /// 26 if the second or the zone is out of its range.
 #[unsafe(no_mangle)]
-pub extern "C" fn irig_c_coded_of(second: &UtcSecond, local_half_hours: i8, coded: &mut Coded) -> u32
+pub extern "C" fn irig_c_coded_of(
+    second: &UtcSecond,
+    local_half_hours: i8,
+    coded: &mut Coded,
+) -> u32
     ensures answer { (result ≡ 0) ↔ (IsValid second.now × (unsigned_abs local_half_hours ≤ 31)) }
     ensures coded { result ≡ 0 → IsCodedOf second.now local_half_hours coded.new }
     ensures refused { (result ≡ 0 → ⊥) → coded.new ≡ coded.old }
@@ -116,8 +120,8 @@ pub extern "C" fn irig_c_coded_of(second: &UtcSecond, local_half_hours: i8, code
 }
 
 /// Says which second of UTC a coded time claims with these control bits, if the offset is added
-/// if `sense` is 0, and subtracted if it is any other. 26 if a value is out of its range, or the
-/// number of a fault of the time.
+/// if `sense` is 0, and subtracted if it is 1. 26 if a value is out of its range, or the number of
+/// a fault of the time.
 #[unsafe(no_mangle)]
 pub extern "C" fn irig_c_claim_of(
     coded: &Coded,
@@ -125,14 +129,14 @@ pub extern "C" fn irig_c_claim_of(
     sense: u8,
     claim: &mut IrigClaim,
 ) -> u32
-    ensures answer { IsCoded coded.now → IsControl (control_in control.now)
+    ensures answer { sense ≤ 1 → IsCoded coded.now → IsControl (control_in control.now)
         → result ≡ code_of_claim (claim_by (sense_in sense) coded.now (control_in control.now)) }
-    ensures claim { result ≡ 0 → (IsCoded coded.now × IsControl (control_in control.now))
+    ensures claim { result ≡ 0 → ((sense ≤ 1) × (IsCoded coded.now × IsControl (control_in control.now)))
         × (claim_by (sense_in sense) coded.now (control_in control.now) ≡ Ok (claim_in claim.new)) }
     ensures refused { (result ≡ 0 → ⊥) → claim.new ≡ claim.old }
 {
     let control = control_of_c(control);
-    if !irig_frame::in_range(coded) || !irig_control::in_range(&control) {
+    if sense > 1 || !irig_frame::in_range(coded) || !irig_control::in_range(&control) {
         return OUT_OF_RANGE;
     }
     match claim_of(coded, &control, sense_of(sense)) {

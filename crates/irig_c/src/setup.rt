@@ -1,12 +1,11 @@
 //! How a reader is set up.
 
 ghost use Rattle.std.specs.Prelude.{◌≡◌, ◌↔◌, ◌<◌, IsTrue};
-ghost use Rattle.irig_vote.specs.Vote.{ports_in};
 ghost use Rattle.irig_c.specs.Numbers.{parity_in, sense_in};
-ghost use Rattle.irig_c.specs.Setups.{rules_in, reader_rules_in, redundancy_in};
+ghost use Rattle.irig_c.specs.Setups.{rules_in, reader_rules_in, redundancy_in, IsPort, IsSetup};
 
 use irig_control::Parity;
-use irig_reader::ReaderRules;
+use irig_reader::{ReaderRules, in_range};
 use irig_time::{Rules, SbsUse, Sense};
 use irig_vote::Redundancy;
 
@@ -14,13 +13,13 @@ use irig_vote::Redundancy;
 #[repr(C)]
 #[derive(Clone, Copy, Drop)]
 pub struct IrigSetup {
-    /// 0 is even, any other odd.
+    /// 0 is even, 1 odd.
     pub parity: u8,
-    /// 0 adds the offset to the coded time, any other subtracts it.
+    /// 0 adds the offset to the coded time, 1 subtracts it.
     pub sense: u8,
-    /// 0 compares the straight binary seconds, any other ignores them.
+    /// 0 compares the straight binary seconds, 1 ignores them.
     pub sbs: u8,
-    /// 0 is three ports, any other five.
+    /// 0 is three ports, 1 five, 2 one.
     pub redundancy: u8,
     /// The votes after which it announces, 1 to 60.
     pub lock_after: u8,
@@ -74,14 +73,31 @@ pub(crate) fn redundancy_of(setup: &IrigSetup) -> Redundancy
 {
     match setup.redundancy {
         0 => Redundancy::Three,
-        _ => Redundancy::Five,
+        1 => Redundancy::Five,
+        _ => Redundancy::One,
     }
 }
 
 /// Whether there is such a port.
 #[inline]
 pub(crate) fn is_port(setup: &IrigSetup, port: u8) -> bool
-    ensures { IsTrue result ↔ (port < ports_in (redundancy_in setup.now)) }
+    ensures { IsTrue result ↔ IsPort setup.now port }
 {
-    port < 3 || (port < 5 && setup.redundancy != 0)
+    match setup.redundancy {
+        0 => port < 3,
+        1 => port < 5,
+        2 => port < 1,
+        _ => false,
+    }
+}
+
+/// Whether each number has a meaning, and the rules are in range.
+pub(crate) fn is_setup(setup: &IrigSetup) -> bool
+    ensures { IsTrue result ↔ IsSetup setup.now }
+{
+    setup.parity <= 1
+        && setup.sense <= 1
+        && setup.sbs <= 1
+        && setup.redundancy <= 2
+        && in_range(&reader_rules_of(setup))
 }

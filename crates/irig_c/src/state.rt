@@ -1,6 +1,6 @@
 //! Where a reader stands, in numbers.
 
-ghost use Rattle.std.specs.Prelude.{◌≡◌, ◌<◌, ℕ, IfSome, IsTrue, is_some};
+ghost use Rattle.std.specs.Prelude.{◌≡◌, ◌↔◌, ◌<◌, ℕ, IfSome, IsTrue, is_some};
 ghost use Rattle.irig_reader.specs.Rule.{count_of};
 ghost use Rattle.irig_c.specs.Numbers.{mark_in, number_of_mark};
 ghost use Rattle.irig_c.specs.States.{state_in, IsState};
@@ -13,12 +13,12 @@ use irig_time::{Mark, UtcSecond, valid};
 #[repr(C)]
 #[derive(Clone, Copy, Drop)]
 pub struct IrigState {
-    /// 0 is idle, 1 acquiring, any other locked.
+    /// 0 is idle, 1 acquiring, 2 locked.
     pub kind: u8,
     /// The votes so far while it is acquiring.
     pub count: u8,
     /// What it heard of the leap at the end of the day: 0 nothing, 1 that there is none, 2 an
-    /// insertion, any other a deletion.
+    /// insertion, 3 a deletion.
     pub heard: u8,
     /// The day of the second at which it stands.
     pub day: u32,
@@ -38,13 +38,13 @@ pub(crate) const IDLE: IrigState = IrigState {
     age: 0,
 };
 
-/// The state, unless its second is none, or its votes are too many for a reader that locks after so
-/// many.
+/// The state, unless a number has no meaning, its second is none, or its votes are too many for a
+/// reader that locks after so many.
 pub(crate) fn state_of(state: &IrigState, lock_after: u8) -> Option<State>
     requires { 0 < lock_after }
     ensures is { IfSome result (λ s. s ≡ state_in state.now) }
     ensures counting { IfSome result (λ s. count_of s < lock_after) }
-    ensures there { IsState lock_after state.now → IsTrue (is_some result) }
+    ensures there { IsTrue (is_some result) ↔ IsState lock_after state.now }
 {
     if state.kind == 0 {
         return Some(State::Idle);
@@ -53,17 +53,15 @@ pub(crate) fn state_of(state: &IrigState, lock_after: u8) -> Option<State>
         day: state.day,
         sod: state.sod,
     };
-    if !valid(&last) {
+    if !valid(&last) || state.heard > 3 {
         return None;
     }
     let hold = Hold::of(last, state.age, mark_of(state.heard));
-    if state.kind == 1 {
-        if state.count >= lock_after {
-            return None;
-        }
-        return Some(State::Acquiring(hold, state.count));
+    match state.kind {
+        1 if state.count < lock_after => Some(State::Acquiring(hold, state.count)),
+        2 => Some(State::Locked(hold)),
+        _ => None,
     }
-    Some(State::Locked(hold))
 }
 
 pub(crate) fn state_for_c(state: &State) -> IrigState

@@ -1,7 +1,7 @@
 //! Symbols as numbers.
 
 ghost use Rattle.std.specs.Prelude.{◌≡◌, length, map};
-ghost use Rattle.irig_frame.specs.Symbols as symbols;
+ghost use Rattle.irig_frame.specs.Symbols as frame;
 ghost use Rattle.irig_c.specs.Numbers.{symbol_in, number_of_symbol};
 
 use irig_frame::{Symbol, classify};
@@ -10,7 +10,7 @@ use irig_frame::{Symbol, classify};
 /// for a width of none.
 #[unsafe(no_mangle)]
 pub extern "C" fn irig_c_classify(width_us: u32) -> u8
-    ensures { result ≡ number_of_symbol (symbols.symbol_of width_us) }
+    ensures { result ≡ number_of_symbol (frame.symbol_of width_us) }
 {
     number(classify(width_us))
 }
@@ -19,10 +19,24 @@ pub extern "C" fn irig_c_classify(width_us: u32) -> u8
 /// of a 1, 8000 of a marker; 0 of any other, which is never sent.
 #[unsafe(no_mangle)]
 pub extern "C" fn irig_c_width_us(symbol: u8) -> u32
-    ensures width { result ≡ symbols.width_of (symbol_in symbol) }
-    ensures classified { symbols.symbol_of result ≡ symbol_in symbol }
+    ensures width { result ≡ frame.width_of (symbol_in symbol) }
+    ensures classified { frame.symbol_of result ≡ symbol_in symbol }
 {
     symbol_of(symbol).width_us()
+}
+
+/// The nominal width in microseconds of each symbol of a frame, as [`irig_c_width_us`] gives it.
+#[unsafe(no_mangle)]
+pub extern "C" fn irig_c_widths_us(symbols: &[u8; 100], widths_us: &mut [u32; 100])
+    ensures { widths_us.new ≡ map (λ number. frame.width_of (symbol_in number)) symbols.now }
+{
+    *widths_us = symbols.map(width_of);
+}
+
+fn width_of(number: u8) -> u32
+    ensures { result ≡ frame.width_of (symbol_in number) }
+{
+    symbol_of(number).width_us()
 }
 
 pub(crate) fn symbol_of(number: u8) -> Symbol

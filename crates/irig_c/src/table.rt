@@ -1,8 +1,8 @@
 //! The leaps that a reader knows beforehand.
 
-ghost use Rattle.std.specs.Prelude.{◌≡◌, ◌↔◌, ◌≤◌, ◌<◌, [], length, map};
+ghost use Rattle.std.specs.Prelude.{◌≡◌, ◌↔◌, ◌≤◌, ◌<◌, [], IsTrue, length, map, min, take};
 ghost use Rattle.irig_time.specs.Timelines.{leap_of};
-ghost use Rattle.irig_c.specs.LeapTables.{leap_in, table_in, IsTable, code_of_table};
+ghost use Rattle.irig_c.specs.LeapTables.{are_kinds, leap_in, table_in, HasKinds, IsTable, code_of_table};
 
 use crate::fault::table_code;
 use arrayvec::ArrayVec;
@@ -14,7 +14,7 @@ use irig_time::{LAST_DAY, Leap, Leaps, Mark, TableFault, month_end};
 pub struct IrigLeap {
     /// The day, counted from 2000-01-01 as day 0.
     pub day: u32,
-    /// 0 is inserted, any other deleted.
+    /// 0 is inserted, 1 deleted.
     pub kind: u32,
 }
 
@@ -51,6 +51,7 @@ impl IrigTable {
     fn listed(&self) -> &[IrigLeap]
         ensures leaps { map leap_in result.now ≡ (table_in self.now).leaps }
         ensures few { length result.now ≤ 64 }
+        ensures first { result.now ≡ take (min self.now.len 64) self.now.leaps }
     {
         let count = (self.len as usize).min(64);
         &self.leaps[..count]
@@ -75,6 +76,24 @@ fn kind_of(leap: IrigLeap) -> Leap
         0 => Leap::Insert,
         _ => Leap::Delete,
     }
+}
+
+/// Whether the kind of each leap that counts has a meaning.
+pub(crate) fn has_kinds(table: &IrigTable) -> bool
+    ensures { IsTrue result ↔ HasKinds table.now }
+{
+    are_kinds(table.listed())
+}
+
+fn are_kinds(leaps: &[IrigLeap]) -> bool
+    ensures { result ≡ are_kinds leaps.now }
+{
+    for leap in leaps {
+        if leap.kind > 1 {
+            return false;
+        }
+    }
+    true
 }
 
 /// 0, or the number of the table's first fault.

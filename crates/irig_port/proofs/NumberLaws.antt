@@ -19,7 +19,9 @@ use Rattle.irig_port.specs.Bits.{time_bits, control_bits, bits_at, field_from, v
 use Rattle.irig_port.specs.declared.told.PortFault.TheVariants as fault
 use Rattle.irig_port.specs.declared.told.Told.TheVariants as tells
 use Rattle.irig_port.specs.declared.tally.Tally.{Tally}
-use Rattle.irig_port.specs.Tallies.{fault_in, tally_told, IsTallyOf}
+use Rattle.irig_frame.specs.declared.coded.Coded.{Coded}
+use Rattle.irig_frame.specs.Decoder.{Reads}
+use Rattle.irig_port.specs.Tallies.{control_word_in, fault_in, tally_told, IsTallyOf}
 use Rattle.irig_port.proofs.ToldLaws.{none_told, short_told, long_told, whole_told}
 use Rattle.irig_port.proofs.SumLaws.{held, value-held, first_wrong-push}
 use Rattle.irig_port.proofs.BitLaws.{doubling, time-push, time-kept, control-push, control-kept, time-digit, control-digit, ones-counted}
@@ -151,6 +153,10 @@ values-from : (s : List Symbol) → values_from (time_bits s) (control_bits s) �
 unfolding values_from values_of
 values-from s =
     rw (two-digits s Second 1 6 3 refl refl refl (omega arith) (omega arith), two-digits s Minute 10 15 3 refl refl refl (omega arith) (omega arith), two-digits s Hour 20 25 2 refl refl refl (omega arith) (omega arith), day-digits s, two-digits s Year 50 55 4 refl refl refl (omega arith) (omega arith), control-from s, sbs-from s) refl
+
+-- the control bits of a frame
+pub word_is_read : (t : Tally) (s : List Symbol) (c : Coded) → IsTallyOf t s → Reads s c → control_word_in t ≡ c.control
+word_is_read t s c h reads = rw (h.controlled (omega (arith, reads.len))) (sym (reads.control ∙ control-from s))
 
 -- the parity is looked at if no element is wrong
 told-alike : (wrong : Option FrameFault) (a b : Told) → (wrong ≡ None → a ≡ b) → told_unless wrong a ≡ told_unless wrong b

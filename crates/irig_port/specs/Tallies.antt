@@ -1,6 +1,6 @@
 -- What the numbers of a tally say: what they tell, and of which symbols they are.
 -- Source: docs/PORTS.md; this project's profile.
-use Rattle.std.specs.Prelude.{◌==◌, nat_lt, if◌then◌else◌, List, Option, Some, None}
+use Rattle.std.specs.Prelude.{ℕ, ◌+◌, ◌*◌, ◌==◌, nat_lt, if◌then◌else◌, List, Option, Some, None}
 use Rattle.irig_frame.specs.declared.symbol.Symbol.{Symbol}
 use Rattle.irig_frame.specs.declared.fault.FrameFault.{FrameFault}
 use Rattle.irig_frame.specs.declared.fault.FrameFault.TheVariants as frame_fault
@@ -10,7 +10,7 @@ use Rattle.irig_port.specs.declared.told.Told.{Told}
 use Rattle.irig_port.specs.declared.told.Told.TheVariants as tells
 use Rattle.irig_port.specs.declared.tally.FirstFault.{FirstFault}
 use Rattle.irig_port.specs.declared.tally.Tally.{Tally}
-use Rattle.irig_port.specs.Bits.{frame_from, IsOf}
+use Rattle.irig_port.specs.Bits.{bits_at, frame_from, IsOf}
 
 -- the fault of the lowest wrong element, if one is wrong
 abbrev pub fault_in : FirstFault → Option FrameFault
@@ -26,6 +26,10 @@ tally_told rules t =
     else (if nat_lt t.count 100 then tells.Fault (fault.Frame (frame_fault.Short t.count))
     else (if nat_lt 100 t.count then tells.Fault (fault.Frame frame_fault.Long)
     else frame_from rules (fault_in t.wrong) t.time t.control))
+
+-- the number of the control bits, without the marker between them
+abbrev pub control_word_in : Tally → ℕ
+control_word_in t = bits_at t.control 0 9 + 512 * bits_at t.control 10 9
 
 -- the numbers are those of these symbols
 abbrev pub IsTallyOf : Tally → List Symbol → Type 0

@@ -5,13 +5,14 @@ ghost use Rattle.std.specs.Option.{option_or};
 ghost use Rattle.irig_frame.specs.declared.symbol.Symbol.{Symbol};
 ghost use Rattle.irig_frame.specs.FieldTable.{is_marker_place};
 ghost use Rattle.irig_frame.specs.Symbols.{symbol_of};
-ghost use Rattle.irig_frame.specs.Decoder.{least, most, IsCoded};
+ghost use Rattle.irig_frame.specs.declared.coded.Coded.{Coded};
+ghost use Rattle.irig_frame.specs.Decoder.{least, most, IsCoded, Reads};
 ghost use Rattle.irig_frame.specs.Faults.{element_fault, first_wrong};
 ghost use Rattle.irig_time.specs.Seconds.{IsValid};
 ghost use Rattle.irig_port.specs.Heard.{with_symbol, symbols_of, symbols_heard};
 ghost use Rattle.irig_port.specs.Told.{told_of, IfClaim};
 ghost use Rattle.irig_port.specs.Bits.{bits_at, bits_from, counted_ones, field_from, values_from, frame_from};
-ghost use Rattle.irig_port.specs.Tallies.{fault_in, tally_told, IsTallyOf};
+ghost use Rattle.irig_port.specs.Tallies.{control_word_in, fault_in, tally_told, IsTallyOf};
 
 use crate::table::{Widths, widths_of};
 use crate::told::{PortFault, Told};
@@ -154,6 +155,17 @@ impl Tally {
         ensures valid { IfClaim result (λ claim. IsValid claim.at) }
     {
         self.tell_exactly(rules)
+    }
+
+    /// The number of the control bits, below 2^18, as [`irig_control::unpack`] takes it: of 100
+    /// symbols that read as a frame, the frame's.
+    pub fn control_word(&self) -> u32
+        ensures exact { result ≡ control_word_in self.now }
+        ensures frame { (s : List Symbol) (coded : Coded) → IsTallyOf self.now s → Reads s coded
+            → result ≡ coded.control }
+        ensures few { result < 2 ^ 18 }
+    {
+        bits_at(self.control, 0, 9) + 512 * bits_at(self.control, 10, 9)
     }
 
     // Apart from `tell`, whose second clause follows from the first one here.

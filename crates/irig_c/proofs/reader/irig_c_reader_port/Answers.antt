@@ -1,6 +1,6 @@
 use Rattle.std.proofs.Common.{rules, ◌≡◌, ◌<◌, ◌≤◌, arith, ap, ◌∙◌}
 use Rattle.irig_vote.specs.declared.redundancy.Redundancy.{Redundancy}
-use Rattle.irig_vote.specs.declared.redundancy.Redundancy.TheVariants.{Three, Five, One}
+use Rattle.irig_vote.specs.declared.redundancy.Redundancy.TheVariants.{One, Three, Five}
 use Rattle.irig_vote.specs.Vote.{ports_in}
 use Rattle.irig_c.specs.Setups.{redundancy_in}
 use Rattle.irig_c.specs.Reports.{told_in}
@@ -9,9 +9,9 @@ use Rattle.irig_c.proofs.TellsLaws.{port_tells}
 use Rattle.irig_c.proofs.reader.irig_c_reader_port.Goals as goal
 
 at_most_five : (r : Redundancy) → ports_in r ≤ 5
+at_most_five One = omega arith
 at_most_five Three = omega arith
 at_most_five Five = omega arith
-at_most_five One = omega arith
 
 pub returns-clause-heard : goal.returns-clause-heard
 returns-clause-heard c done h s =

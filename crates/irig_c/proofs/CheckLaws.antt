@@ -1,0 +1,43 @@
+-- What the numbers of a reader add up to, by 64 bits.
+use Rattle.std.proofs.Common.{◌≡◌, ◌↔◌, ℕ, ◌+◌, ◌-◌, ◌*◌, ◌<◌, ◌≤◌, ◌%◌, ◌^◌, List, [], ◌∷◌, ◌++◌, length, slice_set, refl, sym, ap, ◌∙◌, arith, inl, inr, length-append}
+use Rattle.irig_c.specs.declared.table.IrigLeap.{IrigLeap}
+use Rattle.irig_c.specs.declared.reader.IrigReader.{IrigReader}
+use Rattle.irig_c.specs.CheckWord.{check_of, leap_numbers, numbers_of, port_numbers, setup_numbers, state_numbers, table_numbers, weighted}
+
+-- ---- parts
+
+weighted-append : (w : ℕ) (a b : List ℕ) → weighted w (a ++ b) ≡ weighted w a + weighted (w + 2 * length a) b
+weighted-append w [] b =
+    let same : w ≡ w + 2 * 0 = omega arith in
+    omega (arith, ap (λ (x : ℕ). weighted x b) same)
+weighted-append w (n ∷ ns) b =
+    let same : w + 2 + 2 * length ns ≡ w + 2 * length (n ∷ ns) = omega arith in
+    let rest : weighted (w + 2) (ns ++ b) ≡ weighted (w + 2) ns + weighted (w + 2 + 2 * length ns) b = weighted-append (w + 2) ns b in
+    let moved : weighted (w + 2 + 2 * length ns) b ≡ weighted (w + 2 * length (n ∷ ns)) b = ap (λ (x : ℕ). weighted x b) same in
+    ap (λ (x : ℕ). w * n + x) (rest ∙ ap (λ (x : ℕ). weighted (w + 2) ns + x) moved) ∙ three (w * n) (weighted (w + 2) ns) (weighted (w + 2 * length (n ∷ ns)) b)
+  where
+    three : (a c d : ℕ) → a + (c + d) ≡ a + c + d
+    three a c d = omega arith
+
+-- the same, if the second weight is known
+append_at : (w v : ℕ) (a b : List ℕ) → w + 2 * length a ≡ v → weighted w (a ++ b) ≡ weighted w a + weighted v b
+append_at w v a b same = weighted-append w a b ∙ ap (λ (x : ℕ). weighted w a + weighted x b) same
+
+length-leaps : (ls : List IrigLeap) → length (leap_numbers ls) ≡ 2 * length ls
+length-leaps [] = refl
+length-leaps (l ∷ ls) = omega (arith, length-leaps ls)
+
+-- what all numbers add up to is what their parts do
+pub by_parts : (r : IrigReader) → length r.table.leaps ≡ 64
+    → weighted 3 (numbers_of r) ≡ weighted 3 (setup_numbers r.setup) + weighted 15 (table_numbers r.table) + weighted 275 (state_numbers r.state) + weighted 287 (port_numbers r.ports)
+by_parts r long =
+    let setup = setup_numbers r.setup in
+    let table = table_numbers r.table in
+    let state = state_numbers r.state in
+    let ports = port_numbers r.ports in
+    let leaps = length-leaps r.table.leaps in
+    let two = length-append setup table in
+    let three = length-append (setup ++ table) state in
+    append_at 3 287 (setup ++ table ++ state) ports (omega (arith, leaps, long, two, three))
+    ∙ ap (λ (n : ℕ). n + weighted 287 ports)
+    (append_at 3 275 (setup ++ table) state (omega (arith, leaps, long, two)) ∙ ap (λ (n : ℕ). n + weighted 275 state) (append_at 3 15 setup table (omega arith)))

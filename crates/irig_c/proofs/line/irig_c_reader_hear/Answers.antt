@@ -1,0 +1,14 @@
+use Rattle.std.proofs.Common.{rules, ◌<◌}
+use Rattle.irig_port.specs.Heard.{symbols_heard}
+use Rattle.irig_port.specs.Tallies.{IsTallyOf}
+use Rattle.irig_reader.specs.History.{fed_to, widths_at}
+use Rattle.irig_c.specs.Tallies.{tally_at}
+use Rattle.irig_c.proofs.line.irig_c_reader_hear.Goals as goal
+
+pub returns-clause-fed : goal.returns-clause-fed
+returns-clause-fed c there h s =
+    let port = c.args.port in
+    let here : port < 5 = search rules in
+    let widths = fed_to h.fed port in
+    let was : IsTallyOf (tally_at c.args.reader.now.ports c.from.result) (symbols_heard widths) = rw c.from.ensures (s.heard port here) in
+    c.set_port.ensures.heard h (widths_at c.pulse-place.result widths c.args.width_us) s (c.heard-tally.ensures widths was)

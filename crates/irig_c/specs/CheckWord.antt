@@ -1,0 +1,67 @@
+-- The check word of a reader: what its numbers add up to, each times an odd weight of its own.
+-- Source: this library's own.
+use Rattle.std.specs.Prelude.{ℕ, ◌≡◌, ◌+◌, ◌*◌, ◌%◌, ◌^◌, ◌<◌, ◌⊎◌, List, [], ◌∷◌, ◌++◌}
+use Rattle.irig_port.specs.declared.tally.Tally.{Tally}
+use Rattle.irig_c.specs.declared.reader.IrigReader.{IrigReader}
+use Rattle.irig_c.specs.declared.setup.IrigSetup.{IrigSetup}
+use Rattle.irig_c.specs.declared.state.IrigState.{IrigState}
+use Rattle.irig_c.specs.declared.table.IrigLeap.{IrigLeap}
+use Rattle.irig_c.specs.declared.table.IrigTable.{IrigTable}
+use Rattle.irig_c.specs.Tallies.{tally_at}
+
+-- the numbers of a setup
+abbrev pub setup_numbers : IrigSetup → List ℕ
+setup_numbers s =
+    s.parity ∷ s.sense ∷ s.sbs ∷ s.redundancy ∷ s.lock_after ∷ s.holdover ∷ []
+
+-- the numbers of leaps
+abbrev pub leap_numbers : List IrigLeap → List ℕ
+leap_numbers [] = []
+leap_numbers (l ∷ ls) = l.day ∷ l.kind ∷ leap_numbers ls
+
+-- the numbers of a table, also of the leaps that do not count
+abbrev pub table_numbers : IrigTable → List ℕ
+table_numbers t = t.until ∷ t.len ∷ leap_numbers t.leaps
+
+-- the numbers of a state
+abbrev pub state_numbers : IrigState → List ℕ
+state_numbers s = s.kind ∷ s.count ∷ s.heard ∷ s.day ∷ s.sod ∷ s.age ∷ []
+
+-- the numbers of what a port heard
+abbrev pub tally_numbers : Tally → List ℕ
+tally_numbers t = t.count ∷ t.wrong.kind ∷ t.wrong.element ∷ t.time ∷ t.control ∷ []
+
+-- the numbers of five ports
+abbrev pub port_numbers : List Tally → List ℕ
+port_numbers ports =
+    tally_numbers (tally_at ports 0) ++ tally_numbers (tally_at ports 1)
+    ++ tally_numbers (tally_at ports 2) ++ tally_numbers (tally_at ports 3)
+    ++ tally_numbers (tally_at ports 4)
+
+-- all numbers of a reader but the check word
+abbrev pub numbers_of : IrigReader → List ℕ
+numbers_of r =
+    setup_numbers r.setup ++ table_numbers r.table ++ state_numbers r.state ++ port_numbers r.ports
+
+-- what numbers add up to, the first one times this weight, each other times two more
+abbrev pub weighted : ℕ → List ℕ → ℕ
+weighted weight [] = 0
+weighted weight (n ∷ ns) = weight * n + weighted (weight + 2) ns
+
+-- the check word that belongs to these numbers
+unfoldable pub check_of : IrigReader → ℕ
+check_of r = weighted 3 (numbers_of r) % 2 ^ 64
+
+-- the reader has it
+abbrev pub IsSealed : IrigReader → Type 0
+IsSealed r = r.check ≡ check_of r
+
+-- two lists of numbers of 64 bits are alike but for one number
+abbrev pub AreOneApart : List ℕ → List ℕ → Type 0
+AreOneApart (m ∷ ms) (n ∷ ns) =
+    ((m < 2 ^ 64) × (n < 2 ^ 64) × (m ≡ n → ⊥) × (ms ≡ ns)) ⊎ ((m ≡ n) × AreOneApart ms ns)
+AreOneApart _ _ = ⊥
+
+-- one number of a reader is another one in the other reader
+abbrev pub IsOneNumberApart : IrigReader → IrigReader → Type 0
+IsOneNumberApart r q = AreOneApart (r.check ∷ numbers_of r) (q.check ∷ numbers_of q)

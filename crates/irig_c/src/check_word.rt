@@ -1,0 +1,107 @@
+//! The check word of a reader: what its numbers add up to, each times an odd weight of its own.
+
+ghost use Rattle.std.specs.Prelude.{◌≡◌, ◌+◌, ◌*◌, ◌%◌, ◌^◌, ◌<◌, ◌≤◌, length};
+ghost use Rattle.irig_c.specs.CheckWord.{check_of, leap_numbers, port_numbers, setup_numbers, state_numbers, table_numbers, tally_numbers, weighted};
+
+use crate::reader::IrigReader;
+use crate::setup::IrigSetup;
+use crate::state::IrigState;
+use crate::table::{IrigLeap, IrigTable};
+use irig_port::Tally;
+
+/// What setup and table add to the check word. They never change.
+pub(crate) fn fixed_sum(setup: &IrigSetup, table: &IrigTable) -> u64
+    ensures { result ≡ (weighted 3 (setup_numbers setup.now)
+        + weighted 15 (table_numbers table.now)) % 2 ^ 64 }
+{
+    setup_sum(setup).wrapping_add(table_sum(table))
+}
+
+fn setup_sum(setup: &IrigSetup) -> u64
+    ensures value { result ≡ weighted 3 (setup_numbers setup.now) }
+    ensures few { result < 2 ^ 60 }
+{
+    3 * u64::from(setup.parity)
+        + 5 * u64::from(setup.sense)
+        + 7 * u64::from(setup.sbs)
+        + 9 * u64::from(setup.redundancy)
+        + 11 * u64::from(setup.lock_after)
+        + 13 * u64::from(setup.holdover)
+}
+
+fn table_sum(table: &IrigTable) -> u64
+    ensures { result ≡ weighted 15 (table_numbers table.now) % 2 ^ 64 }
+{
+    let numbers = 15 * u64::from(table.until) + 17 * u64::from(table.len);
+    numbers.wrapping_add(leaps_sum(&table.leaps))
+}
+
+fn leaps_sum(leaps: &[IrigLeap]) -> u64
+    requires { length leaps.now ≤ 64 }
+    ensures { result ≡ weighted 19 (leap_numbers leaps.now) % 2 ^ 64 }
+{
+    let mut sum: u64 = 0;
+    let mut weight: u64 = 19;
+    for leap in leaps {
+        sum = sum.wrapping_add(leap_sum(weight, leap));
+        weight += 4;
+    }
+    sum
+}
+
+fn leap_sum(weight: u64, leap: &IrigLeap) -> u64
+    requires { weight < 2 ^ 9 }
+    ensures { result ≡ weight * leap.now.day + (weight + 2) * leap.now.kind }
+{
+    weight * u64::from(leap.day) + (weight + 2) * u64::from(leap.kind)
+}
+
+/// What a state adds to the check word.
+pub(crate) fn state_sum(state: &IrigState) -> u64
+    ensures value { result ≡ weighted 275 (state_numbers state.now) }
+    ensures few { result < 2 ^ 60 }
+{
+    275 * u64::from(state.kind)
+        + 277 * u64::from(state.count)
+        + 279 * u64::from(state.heard)
+        + 281 * u64::from(state.day)
+        + 283 * u64::from(state.sod)
+        + 285 * u64::from(state.age)
+}
+
+/// What a port adds to the check word.
+pub(crate) fn tally_sum(port: u8, tally: &Tally) -> u64
+    requires { port < 5 }
+    ensures { result ≡ weighted (287 + 10 * port) (tally_numbers tally.now) % 2 ^ 64 }
+{
+    let weight = 287 + 10 * u64::from(port);
+    let small = weight * u64::from(tally.count)
+        + (weight + 2) * u64::from(tally.wrong.kind)
+        + (weight + 4) * u64::from(tally.wrong.element);
+    small
+        .wrapping_add((weight + 6).wrapping_mul(tally.time))
+        .wrapping_add((weight + 8).wrapping_mul(tally.control))
+}
+
+/// What five ports add to the check word.
+pub(crate) fn ports_sum(ports: &[Tally; 5]) -> u64
+    ensures { result ≡ weighted 287 (port_numbers ports.now) % 2 ^ 64 }
+{
+    tally_sum(0, &ports[0])
+        .wrapping_add(tally_sum(1, &ports[1]))
+        .wrapping_add(tally_sum(2, &ports[2]))
+        .wrapping_add(tally_sum(3, &ports[3]))
+        .wrapping_add(tally_sum(4, &ports[4]))
+}
+
+/// The check word that belongs to a reader's numbers, if `fixed` is what its setup and its table
+/// add to it.
+pub(crate) fn check_of(fixed: u64, reader: &IrigReader) -> u64
+    requires { fixed ≡ (weighted 3 (setup_numbers reader.now.setup)
+        + weighted 15 (table_numbers reader.now.table)) % 2 ^ 64 }
+    ensures { result ≡ check_of reader.now }
+{
+    fixed
+        .wrapping_add(state_sum(&reader.state))
+        .wrapping_add(ports_sum(&reader.ports))
+}
