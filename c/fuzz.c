@@ -160,7 +160,7 @@ static void feed_frame(irig_reader *reader, uint8_t port, const irig_utc *second
     uint32_t answer = irig_frame_of(second, local_half_hours, &control, (uint8_t)below(2), symbols);
     note(answer);
     if (answer == IRIG_DONE && below(10)) {
-        note(irig_widths_us(symbols, widths_us));
+        irig_widths_us(symbols, widths_us);
         uint32_t element = below(1000);
         if (element < 100) widths_us[element] = below(12000);
         note(irig_reader_pulses(reader, port, widths_us, 100));

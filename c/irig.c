@@ -6,7 +6,7 @@
 
 uint8_t irig_c_classify(uint32_t width_us);
 uint32_t irig_c_width_us(uint8_t symbol);
-uint32_t irig_c_widths_us(const uint8_t symbols[100], uint32_t widths_us[100]);
+void irig_c_widths_us(const uint8_t symbols[100], uint32_t widths_us[100]);
 uint32_t irig_c_frame_of(const irig_utc *second, int8_t local_half_hours,
                          const irig_control *control, uint8_t parity, uint8_t symbols[100]);
 uint32_t irig_c_encode(const irig_coded *coded, uint8_t symbols[100]);
@@ -45,9 +45,10 @@ uint8_t irig_classify(uint32_t width_us) { return irig_c_classify(width_us); }
 
 uint32_t irig_width_us(uint8_t symbol) { return irig_c_width_us(symbol); }
 
-uint32_t irig_widths_us(const uint8_t symbols[100], uint32_t widths_us[100]) {
-    bool is_there = (symbols != NULL) && (widths_us != NULL);
-    return is_there ? irig_c_widths_us(symbols, widths_us) : REFUSED;
+void irig_widths_us(const uint8_t symbols[100], uint32_t widths_us[100]) {
+    if ((symbols != NULL) && (widths_us != NULL)) {
+        irig_c_widths_us(symbols, widths_us);
+    }
 }
 
 uint32_t irig_frame_of(const irig_utc *second, int8_t local_half_hours, const irig_control *control,

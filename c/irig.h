@@ -295,8 +295,8 @@ uint8_t irig_classify(uint32_t width_us);
  * of any number above it. */
 uint32_t irig_width_us(uint8_t symbol);
 
-/* Gives the nominal width of each symbol, 0 of a bad one. IRIG_FAULT_VALUE. */
-uint32_t irig_widths_us(const uint8_t symbols[100], uint32_t widths_us[100]);
+/* Gives the nominal width of each symbol, 0 of a bad one. */
+void irig_widths_us(const uint8_t symbols[100], uint32_t widths_us[100]);
 
 /* Makes the frame of a second in a zone, -31 to 31 half hours from UTC, with these control bits and
  * this parity: what irig_coded_of, irig_control_pack, irig_encode and irig_set_parity make in four

@@ -1,8 +1,8 @@
 -- What the numbers of a reader add up to, by 64 bits.
-use Rattle.std.proofs.Common.{◌≡◌, ◌↔◌, ℕ, ◌+◌, ◌-◌, ◌*◌, ◌<◌, ◌≤◌, ◌%◌, ◌^◌, List, [], ◌∷◌, ◌++◌, length, slice_set, refl, sym, ap, ◌∙◌, arith, inl, inr, length-append}
+use Rattle.std.proofs.Common.{◌≡◌, ℕ, ◌+◌, ◌*◌, List, [], ◌∷◌, ◌++◌, length, refl, ap, ◌∙◌, arith, length-append}
 use Rattle.irig_c.specs.declared.table.IrigLeap.{IrigLeap}
 use Rattle.irig_c.specs.declared.reader.IrigReader.{IrigReader}
-use Rattle.irig_c.specs.CheckWord.{check_of, leap_numbers, numbers_of, port_numbers, setup_numbers, state_numbers, table_numbers, weighted}
+use Rattle.irig_c.specs.CheckWord.{leap_numbers, numbers_of, port_numbers, setup_numbers, state_numbers, table_numbers, weighted}
 
 -- ---- parts
 

@@ -56,10 +56,16 @@ check_of r = weighted 3 (numbers_of r) % 2 ^ 64
 abbrev pub IsSealed : IrigReader → Type 0
 IsSealed r = r.check ≡ check_of r
 
--- two lists of numbers of 64 bits are alike but for one number
+-- the first of two lists of numbers of 64 bits are different, and nothing else is
+pub record DifferFirst (m n : ℕ) (ms ns : List ℕ) : Type 0 where
+  pub one : m < 2 ^ 64
+  pub other : n < 2 ^ 64
+  pub differ : m ≡ n → ⊥
+  pub rest : ms ≡ ns
+
+-- two lists of numbers are alike but for one number
 abbrev pub AreOneApart : List ℕ → List ℕ → Type 0
-AreOneApart (m ∷ ms) (n ∷ ns) =
-    ((m < 2 ^ 64) × (n < 2 ^ 64) × (m ≡ n → ⊥) × (ms ≡ ns)) ⊎ ((m ≡ n) × AreOneApart ms ns)
+AreOneApart (m ∷ ms) (n ∷ ns) = DifferFirst m n ms ns ⊎ ((m ≡ n) × AreOneApart ms ns)
 AreOneApart _ _ = ⊥
 
 -- one number of a reader is another one in the other reader

@@ -13,7 +13,6 @@ use Rattle.irig_c.specs.declared.report.IrigTold.{IrigTold}
 use Rattle.irig_c.specs.Numbers.{code_of, claim_for}
 use Rattle.irig_c.specs.Controls.{flag_in}
 use Rattle.irig_c.specs.declared.voices.Voices.{Voices}
-use Rattle.irig_c.specs.Voices.{voices_of}
 
 -- the number of a lock
 abbrev pub number_of_lock : Lock → ℕ

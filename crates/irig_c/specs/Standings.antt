@@ -1,6 +1,6 @@
 -- How ports stand to the vote of an edge, and what the frames of those that agree say beside the time.
 -- Source: this library's own; docs/FRAME.md for the control bits.
-use Rattle.std.specs.Prelude.{ℕ, ◌+◌, ◌*◌, ◌&&◌, ◌==◌, Bool, true, false, not, nat_lt, if◌then◌else◌, max, List, [], ◌∷◌, count_by, Option, Some, None, ℤ, neg_ℤ}
+use Rattle.std.specs.Prelude.{ℕ, ◌+◌, ◌*◌, ◌&&◌, Bool, true, false, not, nat_lt, if◌then◌else◌, max, List, [], ◌∷◌, count_by, Option, Some, None, neg_ℤ}
 use Rattle.std.specs.Ordering.{int_eq}
 use Rattle.irig_control.specs.declared.control.Control.{Control}
 use Rattle.irig_control.specs.Control.{control_of}
@@ -14,7 +14,7 @@ use Rattle.irig_port.specs.declared.tally.Tally.{Tally}
 use Rattle.irig_port.specs.Tallies.{control_word_in}
 use Rattle.irig_vote.specs.declared.redundancy.Redundancy.{Redundancy}
 use Rattle.irig_vote.specs.declared.votes.Tells.{Tells}
-use Rattle.irig_vote.specs.Vote.{f_of, ports_in, vote_of}
+use Rattle.irig_vote.specs.Vote.{ports_in, vote_of}
 use Rattle.irig_c.specs.declared.standing.Standing.{Standing}
 use Rattle.irig_c.specs.declared.standing.Standing.TheVariants.{Silent, Agreed, Differed, Faulty, Poor}
 use Rattle.irig_c.specs.declared.standing.Standings.{Standings}

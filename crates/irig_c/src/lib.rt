@@ -12,6 +12,7 @@ mod check_word;
 mod control;
 mod fault;
 mod frame;
+mod laws;
 mod line;
 mod reader;
 mod report;
@@ -25,6 +26,7 @@ mod voices;
 mod zone;
 
 pub use control::IrigControl;
+pub use laws::another_number_is_told;
 pub use reader::IrigReader;
 pub use report::{IrigReport, IrigTold};
 pub use second::IrigClaim;

@@ -1,4 +1,4 @@
-use Rattle.std.proofs.Common.{rules, ◌≡◌, length, arith, refl}
+use Rattle.std.proofs.Common.{rules, arith}
 use Rattle.irig_c.specs.CheckWord.{check_of}
 use Rattle.irig_c.proofs.CheckLaws.{by_parts}
 use Rattle.irig_c.proofs.check_word.check_of.Goals as goal

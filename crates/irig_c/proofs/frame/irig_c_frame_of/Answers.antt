@@ -1,4 +1,4 @@
-use Rattle.std.proofs.Common.{rules, ◌≡◌, ◌≤◌, ℤ, sym, subst, unsigned_abs, map}
+use Rattle.std.proofs.Common.{rules, ◌≤◌, ℤ, subst, unsigned_abs}
 use Rattle.irig_control.proofs.ControlLaws.{in_byte}
 use Rattle.irig_time.specs.Frames.{IsFrameOfSecond}
 use Rattle.irig_c.proofs.frame.irig_c_frame_of.Goals as goal

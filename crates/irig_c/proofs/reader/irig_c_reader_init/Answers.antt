@@ -1,4 +1,4 @@
-use Rattle.std.proofs.Common.{rules, ◌≡◌, ◌∙◌, sym, ap, subst, inl, refl}
+use Rattle.std.proofs.Common.{rules, sym, ap, subst, inl}
 use Rattle.irig_c.specs.declared.setup.IrigSetup.{IrigSetup}
 use Rattle.irig_c.specs.declared.table.IrigTable.{IrigTable}
 use Rattle.irig_c.specs.declared.state.IrigState.{IrigState}

@@ -1,5 +1,4 @@
 use Rattle.std.proofs.Common.{rules, ◌≡◌, ◌+◌, ◌%◌, ◌<◌, ◌∙◌, ℕ, length, sym, ap, subst, arith, inl}
-use Rattle.irig_reader.specs.Rules.{IsReaderRules}
 use Rattle.irig_c.specs.declared.reader.IrigReader.{IrigReader}
 use Rattle.irig_c.specs.declared.setup.IrigSetup.{IrigSetup}
 use Rattle.irig_c.specs.declared.table.IrigTable.{IrigTable}
@@ -7,7 +6,7 @@ use Rattle.irig_c.specs.declared.state.IrigState.{IrigState}
 use Rattle.irig_c.specs.CheckWord.{check_of, port_numbers, setup_numbers, state_numbers, table_numbers, weighted}
 use Rattle.irig_c.specs.LeapTables.{table_in}
 use Rattle.irig_c.specs.Setups.{rules_in, reader_rules_in, redundancy_in, IsSetup}
-use Rattle.irig_c.specs.States.{state_in, IsState}
+use Rattle.irig_c.specs.States.{state_in}
 use Rattle.irig_c.proofs.CheckLaws.{by_parts}
 use Rattle.irig_c.proofs.PortSums.{renewed_two}
 use Rattle.irig_c.proofs.reader.irig_c_reader_restart.Goals as goal

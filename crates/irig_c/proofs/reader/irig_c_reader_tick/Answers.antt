@@ -17,7 +17,6 @@ use Rattle.irig_reader.specs.History.{ReaderHistory, after_tick, told_at_tick, v
 use Rattle.irig_reader.proofs.VoteLaws.{vote_valid}
 use Rattle.irig_reader.proofs.HeldEdges.{held_since}
 use Rattle.irig_reader.proofs.MarkedVotes.{held_at_tick}
-use Rattle.irig_reader.specs.Rules.{IsReaderRules}
 use Rattle.irig_reader.specs.declared.rules.ReaderRules.{ReaderRules}
 use Rattle.irig_c.specs.declared.table.IrigTable.{IrigTable}
 use Rattle.irig_c.specs.LeapTables.{table_in}

@@ -1,7 +1,6 @@
-use Rattle.std.proofs.Common.{rules, ◌≡◌, ◌↔◌, ◌+◌, ◌*◌, ◌%◌, ◌<◌, ◌∙◌, ℕ, length, slice_set, sym, ap, subst, arith}
-use Rattle.irig_port.specs.declared.tally.Tally.{Tally}
+use Rattle.std.proofs.Common.{rules, ◌≡◌, ◌+◌, ◌*◌, ◌%◌, ◌<◌, ℕ, length, slice_set}
 use Rattle.irig_c.specs.declared.reader.IrigReader.{IrigReader}
-use Rattle.irig_c.specs.CheckWord.{check_of, port_numbers, setup_numbers, state_numbers, table_numbers, tally_numbers, weighted, IsSealed}
+use Rattle.irig_c.specs.CheckWord.{check_of, port_numbers, setup_numbers, state_numbers, table_numbers, tally_numbers, weighted}
 use Rattle.irig_c.specs.Tallies.{tally_at}
 use Rattle.irig_c.proofs.CheckLaws.{by_parts}
 use Rattle.irig_c.proofs.PortLaws.{heard-as}
