@@ -59,9 +59,14 @@ class Layout(unittest.TestCase):
     def test_layout(self) -> None:
         self.assertEqual(laid_out_by_python(), laid_out_by_c())
 
-    def test_no_structure_is_left_out(self) -> None:
-        header = (ROOT / "c/irig.h").read_text()
-        self.assertEqual(set(re.findall(r"^typedef struct (\w+)", header, re.M)), set(STRUCTURES))
+    def test_nothing_is_left_out(self) -> None:
+        header = re.sub(r"/\*.*?\*/", "", (ROOT / "c/irig.h").read_text(), flags=re.S)
+        fields = {
+            name: re.findall(r"(\w+)(?:\[\d+\])?;", body)
+            for name, body in re.findall(r"^typedef struct (\w+) {(.*?)}", header, re.M | re.S)
+        }
+        here = {name: [field for field, *_ in one._fields_] for name, one in STRUCTURES.items()}
+        self.assertEqual(fields, here)
 
 
 if __name__ == "__main__":
