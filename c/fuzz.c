@@ -87,6 +87,56 @@ static void note_coded(const irig_coded *coded) {
     note(coded->sbs);
 }
 
+/* The check word of a reader, once more: each number has an odd weight of its own. */
+static uint64_t sum, weight;
+
+static void weigh(uint64_t number) {
+    sum += weight * number;
+    weight += 2;
+}
+
+static void weigh_setup(const irig_setup *setup) {
+    weigh(setup->parity);
+    weigh(setup->sense);
+    weigh(setup->sbs);
+    weigh(setup->redundancy);
+    weigh(setup->lock_after);
+    weigh(setup->holdover);
+}
+
+static void weigh_state(const irig_state *state) {
+    weigh(state->kind);
+    weigh(state->count);
+    weigh(state->heard);
+    weigh(state->day);
+    weigh(state->sod);
+    weigh(state->age);
+}
+
+static void weigh_port(const irig_tally *port) {
+    weigh(port->count);
+    weigh(port->wrong_kind);
+    weigh(port->wrong_element);
+    weigh(port->time);
+    weigh(port->control);
+}
+
+/* Gives a reader the check word of its numbers, whatever they are. */
+static void seal(irig_reader *reader) {
+    sum = 0;
+    weight = 3;
+    weigh_setup(&reader->setup);
+    weigh(reader->table.until);
+    weigh(reader->table.len);
+    for (int i = 0; i < 64; i++) {
+        weigh(reader->table.leaps[i].day);
+        weigh(reader->table.leaps[i].kind);
+    }
+    weigh_state(&reader->state);
+    for (int port = 0; port < 5; port++) weigh_port(&reader->ports[port]);
+    reader->check = sum;
+}
+
 /* Pulses at ports of a reader, one by one and many at once. */
 static void feed(irig_reader *reader) {
     for (int i = 0; i < 20; i++) {
@@ -119,19 +169,29 @@ static void hear(irig_reader *reader) {
     free(sync);
 }
 
-/* A reader of garbage, or one whose rules and second are of a reader. Neither has its check word. */
+/* Puts such rules and such a second into garbage as a reader may have, or nearly so. */
+static void tidy(irig_reader *reader) {
+    reader->setup.parity = (uint8_t)below(2);
+    reader->setup.sense = (uint8_t)below(2);
+    reader->setup.sbs = (uint8_t)below(2);
+    reader->setup.redundancy = (uint8_t)below(3);
+    reader->setup.lock_after = (uint8_t)(1 + below(60));
+    reader->setup.holdover = below(1000001);
+    reader->state.kind = (uint8_t)(below(20) ? below(3) : below(256));
+    reader->state.heard = (uint8_t)(below(20) ? below(4) : below(256));
+    reader->state.day = 1 + below(36523);
+    reader->state.sod = below(86400);
+    reader->state.count = 0;
+}
+
+/* A reader of garbage, or one that is nearly a reader, with the check word of its numbers. */
 static int try_reader(bool is_near) {
     irig_reader *reader = malloc(sizeof *reader);
     irig_report *report = malloc(sizeof *report);
     irig_told *told = malloc(sizeof *told);
     fill(reader, sizeof *reader);
-    if (is_near) {
-        reader->setup.lock_after = (uint8_t)(1 + below(60));
-        reader->setup.holdover = below(1000001);
-        reader->state.day = 1 + below(36523);
-        reader->state.sod = below(86400);
-        reader->state.count = 0;
-    }
+    if (is_near) tidy(reader);
+    seal(reader);
     feed(reader);
     hear(reader);
     for (uint8_t port = 0; port < 6; port++) {

@@ -400,7 +400,8 @@ uint32_t irig_reader_tick(irig_reader *reader, irig_report *report);
 /* Clears the ports, and forgets what was voted. A reader that a tick refuses stays so. */
 void irig_reader_restart(irig_reader *reader);
 
-/* Says what a port would tell if the edge came now. IRIG_FAULT_VALUE. */
+/* Says what a port would tell if the edge came now. IRIG_FAULT_VALUE, also if a number of the setup
+ * is none. It does not test the check word. */
 uint32_t irig_reader_port(const irig_reader *reader, uint8_t port, irig_told *told);
 
 #ifdef IRIG_OLD_NAMES

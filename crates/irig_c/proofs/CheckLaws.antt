@@ -1,8 +1,25 @@
 -- What the numbers of a reader add up to, by 64 bits.
-use Rattle.std.proofs.Common.{◌≡◌, ℕ, ◌+◌, ◌*◌, List, [], ◌∷◌, ◌++◌, length, refl, ap, ◌∙◌, arith, length-append}
+use Rattle.std.proofs.Common.{◌≡◌, ℕ, ◌+◌, ◌*◌, ◌%◌, List, [], ◌∷◌, ◌++◌, length, refl, ap, ◌∙◌, arith, length-append}
+use Rattle.std.proofs.lemmas.Nat.{mul-mod_second}
 use Rattle.irig_c.specs.declared.table.IrigLeap.{IrigLeap}
 use Rattle.irig_c.specs.declared.reader.IrigReader.{IrigReader}
 use Rattle.irig_c.specs.CheckWord.{leap_numbers, numbers_of, port_numbers, setup_numbers, state_numbers, table_numbers, weighted}
+
+-- ---- one port, by one product
+
+spread : (w c k e t x : ℕ) → w * (c + k + e + t + x) + (2 * k + 4 * e + t * 6 + x * 8) ≡ weighted w (c ∷ k ∷ e ∷ t ∷ x ∷ [])
+spread w c k e t x = grind arith
+
+pub by_one_product : (w c k e t x : ℕ)
+    → (w * (((c + k + e + t) % 18446744073709551616 + x) % 18446744073709551616) % 18446744073709551616 + ((2 * k + 4 * e + t * 6 % 18446744073709551616) % 18446744073709551616 + x * 8 % 18446744073709551616) % 18446744073709551616) % 18446744073709551616
+    ≡ weighted w (c ∷ k ∷ e ∷ t ∷ x ∷ []) % 18446744073709551616
+by_one_product w c k e t x =
+    let whole : ((c + k + e + t) % 18446744073709551616 + x) % 18446744073709551616 ≡ (c + k + e + t + x) % 18446744073709551616 = omega arith in
+    let product : (w * (((c + k + e + t) % 18446744073709551616 + x) % 18446744073709551616)) % 18446744073709551616 ≡ (w * (c + k + e + t + x)) % 18446744073709551616 =
+    ap (λ (n : ℕ). (w * n) % 18446744073709551616) whole ∙ mul-mod_second w (c + k + e + t + x) 18446744073709551616 in
+    let sum : ((w * (((c + k + e + t) % 18446744073709551616 + x) % 18446744073709551616)) % 18446744073709551616 + ((2 * k + 4 * e + t * 6 % 18446744073709551616) % 18446744073709551616 + x * 8 % 18446744073709551616) % 18446744073709551616) % 18446744073709551616
+    ≡ (w * (c + k + e + t + x) + (2 * k + 4 * e + t * 6 + x * 8)) % 18446744073709551616 = omega (arith, product) in
+    sum ∙ ap (λ (n : ℕ). n % 18446744073709551616) (spread w c k e t x)
 
 -- ---- parts
 

@@ -28,7 +28,6 @@ now = tells.Claim (record { at = record { day = 6209; sod = 86399 }; mark = Inse
 abbrev before : Told
 before = tells.Claim (record { at = record { day = 6209; sod = 86398 }; mark = Insert })
 
-
 -- what five ports tell
 abbrev five : Told → Told → Told → Told → Told → Tells
 five a b c d e = record { a = a; b = b; c = c; d = d; e = e }

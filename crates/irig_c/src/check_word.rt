@@ -36,6 +36,7 @@ fn table_sum(table: &IrigTable) -> u64
     numbers.wrapping_add(leaps_sum(&table.leaps))
 }
 
+#[inline(never)]
 fn leaps_sum(leaps: &[IrigLeap]) -> u64
     requires { length leaps.now ≤ 64 }
     ensures { result ≡ weighted 19 (leap_numbers leaps.now) % 2 ^ 64 }
@@ -70,17 +71,22 @@ pub(crate) fn state_sum(state: &IrigState) -> u64
 }
 
 /// What a port adds to the check word.
+#[inline(never)]
 pub(crate) fn tally_sum(port: u8, tally: &Tally) -> u64
     requires { port < 5 }
     ensures { result ≡ weighted (287 + 10 * port) (tally_numbers tally.now) % 2 ^ 64 }
 {
+    // one product of 64 bits, since small processors have none
     let weight = 287 + 10 * u64::from(port);
-    let small = weight * u64::from(tally.count)
-        + (weight + 2) * u64::from(tally.wrong.kind)
-        + (weight + 4) * u64::from(tally.wrong.element);
-    small
-        .wrapping_add((weight + 6).wrapping_mul(tally.time))
-        .wrapping_add((weight + 8).wrapping_mul(tally.control))
+    let kind = u64::from(tally.wrong.kind);
+    let element = u64::from(tally.wrong.element);
+    let all = (u64::from(tally.count) + kind + element)
+        .wrapping_add(tally.time)
+        .wrapping_add(tally.control);
+    let more = (2 * kind + 4 * element)
+        .wrapping_add(tally.time.wrapping_mul(6))
+        .wrapping_add(tally.control.wrapping_mul(8));
+    weight.wrapping_mul(all).wrapping_add(more)
 }
 
 /// What five ports add to the check word.

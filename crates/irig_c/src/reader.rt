@@ -281,17 +281,18 @@ fn forget(reader: &mut IrigReader)
     reader.state = IDLE;
 }
 
-/// Says what a port would tell if the edge came now. 26 if there is no such port.
+/// Says what a port would tell if the edge came now. 26 if there is no such port, or a number of the
+/// setup has no meaning or is out of its range.
 #[unsafe(no_mangle)]
 pub extern "C" fn irig_c_reader_port(reader: &IrigReader, port: u8, told: &mut IrigTold) -> u32
-    ensures answer { (result ≡ 0) ↔ IsPort reader.now.setup port }
+    ensures answer { (result ≡ 0) ↔ (IsSetup reader.now.setup × IsPort reader.now.setup port) }
     ensures told { result ≡ 0 → told.new ≡ told_in (told_at reader.now port) }
     // of a reader that has a history: what the pulses say that were fed to the port
     ensures heard { result ≡ 0 → (h : ReaderHistory) → IsReaderOf reader.now h
         → told.new ≡ told_in (told_of_widths h.rules (fed_to h.fed port)) }
     ensures refused { (result ≡ 0 → ⊥) → told.new ≡ told.old }
 {
-    if !is_port(&reader.setup, port) {
+    if !is_setup(&reader.setup) || !is_port(&reader.setup, port) {
         return OUT_OF_RANGE;
     }
     let rules = rules_of(&reader.setup);

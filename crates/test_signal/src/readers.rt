@@ -56,6 +56,30 @@ fn two_of_three_are_a_vote_and_one_is_none(rt: HostRuntime) {
 }
 
 #[test]
+fn one_port_is_its_own_vote(rt: HostRuntime) {
+    let yes = claim(86350, Mark::Insert);
+    let early = Told::Claim(claim(86349, Mark::Insert));
+    let rows = [
+        (Told::Claim(yes), Some(yes)),
+        (SILENT, None),
+        (FAULTY, None),
+        (POOR, None),
+    ];
+    for (a, expected) in rows {
+        // the four further ports have no say
+        let told = Tells {
+            a,
+            b: early,
+            c: early,
+            d: early,
+            e: early,
+        };
+        assert!(rt; vote(&told, Redundancy::One) == expected);
+    }
+    assert!(rt; Redundancy::One.ports() == 1 && Redundancy::One.f() == 0);
+}
+
+#[test]
 fn three_ports_have_one_to_spare_and_five_two(rt: HostRuntime) {
     for (ports, f) in [(3, 1), (5, 2)] {
         let redundancy = Redundancy::of_ports(ports);
