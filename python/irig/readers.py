@@ -322,7 +322,7 @@ class Reader:
         lines, size = c.Sync * 5, ctypes.sizeof(c.Reader)
         if form != FORM or len(numbers) != size + ctypes.sizeof(lines):
             raise Fault(VALUE, reason="these are the numbers of a reader of another version")
-        _tick(c.Reader.from_buffer_copy(numbers))  # would it be refused?
+        _tick(c.Reader.from_buffer_copy(numbers))  # so that it is refused here, if at all
         self._held = c.Reader.from_buffer_copy(numbers)
         self._lines = lines.from_buffer_copy(numbers, size)
 
