@@ -47,15 +47,20 @@ int main(void) {
     irig_utc second = {6209, 86398};
     irig_reader reader;
     irig_report report = {0};
+    irig_told told;
     uint8_t symbols[100];
+    char text[20];
     if (irig_reader_init(&reader, &setup, &table) != IRIG_DONE) return 1;
     for (; second.sod < 86400; second.sod++) {
         if (!make(&second, symbols)) return 1;
         for (uint8_t port = 0; port < 3; port++)
             for (int element = 0; element < 100; element++)
                 irig_reader_pulse(&reader, port, irig_width_us(symbols[element]));
+        if (irig_reader_port(&reader, 0, &told) != IRIG_DONE) return 1;
+        if (told.kind != IRIG_TOLD_CLAIM || told.claim.at.sod != second.sod) return 1;
         if (irig_reader_tick(&reader, &report) != IRIG_DONE) return 1;
     }
-    if (!report.announces || report.day != 6209) return 1;
-    return (int)report.sod - 86340;
+    second = (irig_utc){report.day, report.sod};
+    if (!report.announces || irig_second_write(&second, text) != IRIG_DONE) return 1;
+    return 10 * (text[17] - '0') + (text[18] - '0');
 }
