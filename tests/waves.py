@@ -284,7 +284,8 @@ def dump_of(rows: Sequence[Sequence[int]]) -> Iterator[str]:
     yield from (f"$var wire 1 {name} LINE{name} $end" for name in range(len(levels_at[0])))
     yield "$enddefinitions $end"
     for time, levels in levels_at.items():
-        yield " ".join([f"#{time // unit}", *(f"{level}{name}" for name, level in enumerate(levels))])
+        values = (f"{level}{name}" for name, level in enumerate(levels))
+        yield f"#{time // unit} {' '.join(values)}"
 
 
 def words_of(plant: dict) -> str:

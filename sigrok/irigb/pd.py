@@ -140,8 +140,9 @@ class Decoder(srd.Decoder):
         gap = start - self.last_start
         is_on_time = 9000 <= self.us(gap) < 11000
         if self.counted and not is_on_time:
-            text = 'Not on time: %s behind the pulse before' % self.ms_text(gap)
-            self.putx(self.last_start, start, Ann.LATE, text, 'Not on time', 'T')
+            width = self.ms_text(gap)
+            text = 'Not on time: %s behind the pulse before' % width
+            self.putx(self.last_start, start, Ann.LATE, text, 'Not on time', width, 'T')
         return is_on_time
 
     def handle_pulse(self, start, end):

@@ -34,6 +34,9 @@ except ImportError as error:
     irig = None
     MISSING = f"skipped: lines against a reader of the Python package; {error}"
 
+ENVIRONMENT = {
+    **os.environ, "SIGROKDECODE_DIR": str(ROOT / "sigrok"), "PYTHONDONTWRITEBYTECODE": "1"
+}
 SAID = re.compile(r"(\d+)-(\d+) irigb-1: (.*)")
 VERDICTS = ("Fault ", "UTC ", "Poor ")
 PAUSE_US = 30_000  # ends a run of pulses that are on time
@@ -90,8 +93,7 @@ def decoded(dump: str, rules: Rules = Rules(), polarity: str = "active-high") ->
         command = ["sigrok-cli", "-i", str(path), "-P", f"irigb:data=LINE0:{words}"]
         ran = subprocess.run(
             [*command, "-A", "irigb", "--protocol-decoder-samplenum"],
-            env={**os.environ, "SIGROKDECODE_DIR": str(ROOT / "sigrok"), "PYTHONDONTWRITEBYTECODE": "1"},
-            capture_output=True, text=True, timeout=300,
+            env=ENVIRONMENT, capture_output=True, text=True, timeout=300,
         )
     if ran.returncode or ran.stderr:
         raise AssertionError(f"sigrok-cli: status {ran.returncode}\n{ran.stderr}")
@@ -126,6 +128,14 @@ def pulses_of(begin_us: int, widths: Iterable[int]) -> list[Pulse]:
 def next_begin(pulses: Sequence[Pulse]) -> int:
     """Where a frame may begin behind these pulses that has nothing to do with them."""
     return pulses[-1].rise_us + waves.ELEMENT_US + PAUSE_US if pulses else waves.FIRST_EDGE_US
+
+
+def one_by_one(frames: Iterable[Sequence[int]]) -> list[list[Pulse]]:
+    """The pulses of frames of which each has nothing to do with the one before."""
+    laid: list[list[Pulse]] = []
+    for widths in frames:
+        laid.append(pulses_of(next_begin(laid[-1] if laid else []), widths))
+    return laid
 
 
 def closed(pulses: Sequence[Pulse]) -> list[Pulse]:
@@ -235,9 +245,13 @@ class Run(NamedTuple):
 
 def wave_of(begin_us: int, port: Sequence[Sequence[int]]) -> Iterator[Pulse]:
     """The pulses of a port as they are on a wire, second by second."""
-    for number, widths in enumerate(port):
-        pulses = pulses_of(begin_us + number * waves.SECOND_US, widths[:100])
-        yield from (Pulse(rise, min(width, waves.ELEMENT_US - 1)) for rise, width in pulses if width)
+    seconds = (
+        pulses_of(begin_us + number * waves.SECOND_US, widths[:100])
+        for number, widths in enumerate(port)
+    )
+    for rise, width in itertools.chain.from_iterable(seconds):
+        if width:
+            yield Pulse(rise, min(width, waves.ELEMENT_US - 1))
 
 
 @cache
@@ -309,7 +323,9 @@ FAULTS = {
     "late": lambda rise, width: [Pulse(rise + 1500, width)],
     "early": lambda rise, width: [Pulse(rise - 1500, width)],
     "a little late": lambda rise, width: [Pulse(rise + 400, width)],
-    "cut in two": lambda rise, width: [Pulse(rise, width // 2 - 100), Pulse(rise + width // 2, width // 2)],
+    "cut in two": lambda rise, width: [
+        Pulse(rise, width // 2 - 100), Pulse(rise + width // 2, width // 2)
+    ],
     "glitch behind": lambda rise, width: [Pulse(rise, width), Pulse(rise + 9200, 100)],
     "short": lambda rise, width: [Pulse(rise, 300)],
     "long": lambda rise, width: [Pulse(rise, 9600)],
@@ -329,10 +345,9 @@ def true_line(begin_us: int, seconds: int) -> list[Pulse]:
 def with_single_faults() -> list[Pulse]:
     """Three frames again and again, each time with another fault in the second one."""
     line: list[Pulse] = []
-    for number, make in enumerate(FAULTS.values()):
-        for element in range(100 + number % 3, 200, 3):
-            frames = true_line(next_begin(line), 3)
-            line += [*frames[:element], *make(*frames[element]), *frames[element + 1 :]]
+    for make, element in itertools.product(FAULTS.values(), range(100, 200, 3)):
+        frames = true_line(next_begin(line), 3)
+        line += [*frames[:element], *make(*frames[element]), *frames[element + 1 :]]
     return line
 
 
@@ -342,6 +357,15 @@ def with_random_faults(chance: random.Random, seconds: int) -> list[Pulse]:
     for pulse in true_line(waves.FIRST_EDGE_US, seconds):
         is_faulty = chance.random() < 0.01
         line += chance.choice(makes)(*pulse) if is_faulty else [pulse]
+    return line
+
+
+def with_pulled_cables() -> list[Pulse]:
+    """Five frames again and again, each time with more pulses in a row lost, from an element on."""
+    line: list[Pulse] = []
+    for count in (1, 2, 9, 20, 99, 100, 101, 150, 260):
+        frames = true_line(next_begin(line), 5)
+        line += [*frames[:137], *frames[137 + count :]]
     return line
 
 
@@ -386,17 +410,15 @@ class Frames(unittest.TestCase):
 
     def test_each(self) -> None:
         path, frames = program(), self.frames()
-        line: list[Pulse] = []
-        for letters in frames:
-            line += pulses_of(next_begin(line), self.widths(letters))
-        said = decoded(dump_of(closed(line)))
-        for letters in frames:
-            begin = next_begin([]) if letters is frames[0] else end
-            end = next_begin(pulses_of(begin, self.widths(letters)))
+        lines = one_by_one(map(self.widths, frames))
+        said = decoded(dump_of(closed(list(itertools.chain.from_iterable(lines)))))
+        for letters, line in zip(frames, lines):
+            begin, end = line[0].rise_us, next_begin(line)
             with self.subTest(letters):
                 of_it = [one for one in said if begin <= one.begin_us < end]
                 self.compare(printed(path, "read", letters), begin, of_it)
         print(f"frames: {len(frames)}")
+        self.assertGreater(len(frames), 300)
 
     def frames(self) -> list[str]:
         """Those that a line can carry, once each."""
@@ -501,6 +523,9 @@ class Lines(unittest.TestCase):
             with self.subTest(rules):
                 self.compare(line, rules)
 
+    def test_pulled_cables(self) -> None:
+        self.compare(with_pulled_cables())
+
     def test_from_the_middle(self) -> None:
         self.compare(from_the_middle())
 
@@ -529,19 +554,17 @@ class Page(unittest.TestCase):
     """The command of docs/WIRES.md prints what the page shows."""
 
     def test_command(self) -> None:
-        page = (ROOT / "docs/WIRES.md").read_text()
-        commands, shown = re.findall(
-            r"\n\n((?:    (?!irigb-1).*\n)*    .*sigrok-cli .*\n)((?:    irigb-1: .*\n)+)", page
-        )[0]
+        blocks = re.findall(r"(?<=\n\n)(?:    .+\n)+", (ROOT / "docs/WIRES.md").read_text())
+        blocks = [re.sub("^    ", "", block, flags=re.M) for block in blocks]
+        (place,) = (n for n, block in enumerate(blocks) if "sigrok-cli" in block)
         with tempfile.TemporaryDirectory() as folder:
             for name in ("tests", "examples"):
                 Path(folder, name).symlink_to(ROOT / name)
             ran = subprocess.run(
-                ["bash", "-ec", re.sub("^    ", "", commands, flags=re.M)], cwd=folder,
-                env={**os.environ, "SIGROKDECODE_DIR": str(ROOT / "sigrok")},
+                ["bash", "-ec", blocks[place]], cwd=folder, env=ENVIRONMENT,
                 capture_output=True, text=True, timeout=60,
             )
-        self.assertEqual((ran.stdout, ran.stderr), (re.sub("^    ", "", shown, flags=re.M), ""))
+        self.assertEqual((ran.stdout, ran.stderr), (blocks[place + 1], ""))
 
 
 if __name__ == "__main__":
