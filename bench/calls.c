@@ -1,7 +1,8 @@
 /* What calls of c/irig.h cost, in nanoseconds a call, the least of many rounds. It is no test: the
  * numbers are those of this machine at this moment.
  *
- *     cc -O2 -Ic bench/calls.c crates/irig_c/out/libirig_c.a -o calls && ./calls
+ *     make -C c
+ *     cc -O2 -Ic bench/calls.c c/out/libirig.a -o calls && ./calls
  */
 #include "irig.h"
 
@@ -63,9 +64,8 @@ int main(void) {
     irig_utc second;
     if (irig_second_read("2016-12-30T12:00:00Z", 20, &second)) return 1;
     if (irig_coded_of(&second, 0, &coded) || irig_encode(&coded, symbols)) return 1;
-    irig_set_parity(symbols, IRIG_EVEN);
-    for (int element = 0; element < 100; element++)
-        widths_us[element] = irig_width_us(symbols[element]);
+    irig_set_parity(symbols, IRIG_PARITY_EVEN);
+    irig_widths_us(symbols, widths_us);
     if (irig_reader_init(&reader, &setup, &table)) return 1;
     measure("irig_reader_pulse", empty, pulses_one_by_one, 100);
     measure("irig_reader_pulses, of 100", empty, frame_of_pulses, 1);

@@ -1,6 +1,6 @@
-/* Random numbers in every structure, and random frames, at their exact sizes: nothing may happen
- * but answers. Compile with -fsanitize=address,undefined. The word is how many. What it prints of all
- * answers is the same on every processor. */
+/* Random numbers in every structure, random frames, and readers that hear such, at their exact
+ * sizes: nothing may happen but answers. Compile with -fsanitize=address,undefined. The word is how
+ * many. What it prints of all answers is the same on every processor. */
 #include "irig.h"
 
 #include <stdio.h>
@@ -47,6 +47,34 @@ static void note_report(const irig_report *report) {
     note(report->lock_count);
     note(report->day);
     note(report->sod);
+    note(report->agreed);
+    note(report->differed);
+    note(report->faulty);
+    note(report->poor);
+    note(report->quality);
+    note(report->has_local);
+    note((uint8_t)report->local_half_hours);
+    note(report->dst);
+}
+
+/* What is said may be anything, but a second that is none. */
+static int note_tick(irig_reader *reader, irig_report *report) {
+    uint32_t answer = irig_reader_tick(reader, report);
+    note(answer);
+    if (answer != IRIG_DONE) return 0;
+    note_report(report);
+    if (report->announces && (report->day < 1 || report->day > 36523 || report->sod > 86400))
+        abort();
+    return report->announces;
+}
+
+static void note_texts(void) {
+    uint32_t number = next();
+    uint8_t byte = (uint8_t)below(12);
+    const char *texts[] = {irig_fault_name(number), irig_fault_text(number), irig_lock_name(byte),
+                           irig_lock_text(byte),    irig_cause_name(byte),   irig_cause_text(byte)};
+    for (size_t i = 0; i < sizeof texts / sizeof *texts; i++)
+        for (const char *at = texts[i]; *at; at++) note((uint8_t)*at);
 }
 
 static void note_coded(const irig_coded *coded) {
@@ -57,6 +85,56 @@ static void note_coded(const irig_coded *coded) {
     note(coded->year);
     note(coded->control);
     note(coded->sbs);
+}
+
+/* The check word of a reader, once more: each number has an odd weight of its own. */
+static uint64_t sum, weight;
+
+static void weigh(uint64_t number) {
+    sum += weight * number;
+    weight += 2;
+}
+
+static void weigh_setup(const irig_setup *setup) {
+    weigh(setup->parity);
+    weigh(setup->sense);
+    weigh(setup->sbs);
+    weigh(setup->redundancy);
+    weigh(setup->lock_after);
+    weigh(setup->holdover);
+}
+
+static void weigh_state(const irig_state *state) {
+    weigh(state->kind);
+    weigh(state->count);
+    weigh(state->heard);
+    weigh(state->day);
+    weigh(state->sod);
+    weigh(state->age);
+}
+
+static void weigh_port(const irig_tally *port) {
+    weigh(port->count);
+    weigh(port->wrong_kind);
+    weigh(port->wrong_element);
+    weigh(port->time);
+    weigh(port->control);
+}
+
+/* Gives a reader the check word of its numbers, whatever they are. */
+static void seal(irig_reader *reader) {
+    sum = 0;
+    weight = 3;
+    weigh_setup(&reader->setup);
+    weigh(reader->table.until);
+    weigh(reader->table.len);
+    for (int i = 0; i < 64; i++) {
+        weigh(reader->table.leaps[i].day);
+        weigh(reader->table.leaps[i].kind);
+    }
+    weigh_state(&reader->state);
+    for (int port = 0; port < 5; port++) weigh_port(&reader->ports[port]);
+    reader->check = sum;
 }
 
 /* Pulses at ports of a reader, one by one and many at once. */
@@ -91,19 +169,29 @@ static void hear(irig_reader *reader) {
     free(sync);
 }
 
-/* A reader of garbage, or one whose rules and second are of a reader. */
+/* Puts such rules and such a second into garbage as a reader may have, or nearly so. */
+static void tidy(irig_reader *reader) {
+    reader->setup.parity = (uint8_t)below(2);
+    reader->setup.sense = (uint8_t)below(2);
+    reader->setup.sbs = (uint8_t)below(2);
+    reader->setup.redundancy = (uint8_t)below(3);
+    reader->setup.lock_after = (uint8_t)(1 + below(60));
+    reader->setup.holdover = below(1000001);
+    reader->state.kind = (uint8_t)(below(20) ? below(3) : below(256));
+    reader->state.heard = (uint8_t)(below(20) ? below(4) : below(256));
+    reader->state.day = 1 + below(36523);
+    reader->state.sod = below(86400);
+    reader->state.count = 0;
+}
+
+/* A reader of garbage, or one that is nearly a reader, with the check word of its numbers. */
 static int try_reader(bool is_near) {
     irig_reader *reader = malloc(sizeof *reader);
     irig_report *report = malloc(sizeof *report);
     irig_told *told = malloc(sizeof *told);
     fill(reader, sizeof *reader);
-    if (is_near) {
-        reader->setup.lock_after = (uint8_t)(1 + below(60));
-        reader->setup.holdover = below(1000001);
-        reader->state.day = 1 + below(36523);
-        reader->state.sod = below(86400);
-        reader->state.count = 0;
-    }
+    if (is_near) tidy(reader);
+    seal(reader);
     feed(reader);
     hear(reader);
     for (uint8_t port = 0; port < 6; port++) {
@@ -111,13 +199,60 @@ static int try_reader(bool is_near) {
         note(answer);
         if (answer == IRIG_DONE) note_told(told);
     }
-    uint32_t answer = irig_reader_tick(reader, report);
-    note(answer);
-    if (answer == IRIG_DONE) note_report(report);
-    int announced = answer == IRIG_DONE && report->announces;
-    if (announced && (report->day < 1 || report->day > 36523 || report->sod > 86400)) abort();
+    int announced = note_tick(reader, report);
     irig_reader_restart(reader);
     free(told);
+    free(report);
+    free(reader);
+    return announced;
+}
+
+/* The frame of a second, by chance with a pulse that is wrong, at a port; or nothing. */
+static void feed_frame(irig_reader *reader, uint8_t port, const irig_utc *second) {
+    irig_control control = {0};
+    uint8_t *symbols = malloc(100);
+    uint32_t *widths_us = malloc(100 * sizeof *widths_us);
+    int8_t local_half_hours = (int8_t)(below(4) ? 0 : below(8));
+    control.leap_pending = below(2) && second->sod >= 86340;
+    control.dst = (uint8_t)below(2);
+    control.offset_half_hours = (int8_t)-local_half_hours;
+    control.quality = (uint8_t)(below(4) ? below(4) : below(20));
+    uint32_t answer = irig_frame_of(second, local_half_hours, &control, (uint8_t)below(2), symbols);
+    note(answer);
+    if (answer == IRIG_DONE && below(10)) {
+        irig_widths_us(symbols, widths_us);
+        uint32_t element = below(1000);
+        if (element < 100) widths_us[element] = below(12000);
+        note(irig_reader_pulses(reader, port, widths_us, 100));
+    }
+    free(widths_us);
+    free(symbols);
+}
+
+/* A reader that was made, and hears frames of seconds that follow one another, by chance others. */
+static int try_made_reader(void) {
+    irig_reader *reader = malloc(sizeof *reader);
+    irig_report *report = malloc(sizeof *report);
+    irig_setup setup = {0};
+    irig_table table = {.until = 6000 + below(30524), .len = 1, .leaps = {{30, 0}}};
+    irig_utc second = {6209, 86390};
+    int announced = 0;
+    fill(reader, sizeof *reader);
+    setup.sbs = (uint8_t)(below(8) ? 0 : below(3));
+    setup.redundancy = (uint8_t)below(4);
+    setup.lock_after = (uint8_t)(below(8) ? 1 : below(3));
+    setup.holdover = below(6);
+    if (below(2)) table.leaps[0] = (irig_leap){6209, 0};
+    table.leaps[0].kind = below(3);
+    if (!below(3)) second.day = 1 + below(36523);
+    second.sod += below(8);
+    note(irig_reader_init(reader, &setup, &table));
+    for (int edge = 0; edge < 12; edge++) {
+        for (uint8_t port = 0; port < 5; port++) feed_frame(reader, port, &second);
+        announced += note_tick(reader, report);
+        if (!below(20)) irig_reader_restart(reader);
+        note(irig_second_next(&second, (uint8_t)below(5), &second));
+    }
     free(report);
     free(reader);
     return announced;
@@ -135,13 +270,13 @@ static void try_frame(void) {
     fill(coded, sizeof *coded);
     fill(control, sizeof *control);
     fill(frame, 100);
-    uint32_t answer = irig_claim_of(coded, control, (uint8_t)below(256), claim);
+    uint32_t answer = irig_claim_of(coded, control, (uint8_t)below(3), claim);
     note(answer);
     if (answer == IRIG_DONE) note_claim(claim);
     note(irig_encode(coded, frame));
-    irig_set_parity(frame, (uint8_t)below(256));
+    note(irig_set_parity(frame, (uint8_t)below(4)));
     for (int i = 0; i < 100; i++) note(frame[i]);
-    note(irig_has_parity(frame, (uint8_t)below(2)));
+    note(irig_has_parity(frame, (uint8_t)below(4)));
     answer = irig_decode(symbols, count, coded);
     note(answer);
     if (answer == IRIG_DONE) note_coded(coded);
@@ -172,12 +307,12 @@ static void try_second(void) {
     note(irig_control_pack(&control, &coded.control));
     note(coded.control);
     if (irig_encode(&coded, symbols) != IRIG_DONE) return;
-    irig_set_parity(symbols, IRIG_ODD);
+    note(irig_set_parity(symbols, IRIG_PARITY_ODD));
     for (int i = 0; i < 100; i++) note(irig_classify(irig_width_us(symbols[i])));
     note(irig_decode(symbols, 100, &decoded));
     note_coded(&decoded);
     irig_claim claim = {0};
-    note(irig_claim_of(&decoded, &control, IRIG_ADD, &claim));
+    note(irig_claim_of(&decoded, &control, IRIG_SENSE_ADD, &claim));
     note_claim(&claim);
 }
 
@@ -188,7 +323,7 @@ static void try_table(void) {
     irig_reader reader;
     uint32_t day = 30 + below(2);
     for (int i = 0; i < 64; i++) {
-        table.leaps[i] = (irig_leap){day, below(2)};
+        table.leaps[i] = (irig_leap){day, below(40) ? below(2) : below(4)};
         day += below(20) ? 1461 : below(400);
     }
     note(irig_reader_init(&reader, &setup, &table));
@@ -199,9 +334,11 @@ int main(int argc, char **argv) {
     int announced = 0;
     for (int run = 0; run < runs; run++) {
         announced += try_reader(run & 1);
+        if (run % 4 == 0) announced += try_made_reader();
         try_frame();
         try_second();
         try_table();
+        note_texts();
     }
     printf("%d runs, %d announced, answers %08lx\n", runs, announced, (unsigned long)answers);
     return 0;

@@ -2,16 +2,14 @@
  *
  * From the text of a scenario to the text of its log, both in memory: byte for byte what `irig run`
  * writes to standard output. docs/SCENARIOS.md says how a scenario is written, docs/OUTPUT.md what
- * a log says. Link with libirig_scene_c.a (`./build irig_scene_c`) and irig_heap.c, by
- * which a run asks `malloc`, `realloc` and `free` for memory. It gives all of it back, keeps
- * nothing between calls, and needs `memcpy`, `memmove` and `memset` of the C library and
- * `__udivti3`, which compilers bring along.
+ * a log says. Link with libirig_scene (`make -C c`; docs/C.md). A run asks `malloc`, `realloc` and
+ * `free` for memory (irig_heap.c), gives all of it back, and keeps nothing between calls. It needs
+ * `memcpy`, `memmove` and `memset` of the C library and `__udivti3`, which compilers bring along.
  *
  * Pointers. `text` leads to `count` bytes that no other call writes meanwhile, `log` to `room`
  * bytes and `whole` to one object that no other call reads or writes; the three do not overlap. Of
- * no bytes a pointer may be null; any other null pointer is answered with IRIG_RUN_NULL (see
- * IRIG_NO_NULL_TESTS at the end). What the text says is no duty of the caller: any bytes are a
- * scenario, or are refused.
+ * no bytes a pointer may be null; any other null pointer is answered with IRIG_RUN_NULL. What the
+ * text says is no duty of the caller: any bytes are a scenario, or are refused.
  *
  * Threads. Calls on different objects may run at the same time, as `malloc` lets them. A line whose
  * JSON is nested as deep as is read, 127, takes up to 170 KB of stack: give a thread 256 KB.
@@ -45,21 +43,6 @@ enum {
  * times as much while it grows. */
 uint8_t irig_run(const uint8_t *text, size_t count, bool all, uint8_t *log, size_t room,
                  size_t *whole);
-
-#ifndef IRIG_NO_NULL_TESTS
-
-/* The same call, for which null pointers are as above. IRIG_NO_NULL_TESTS leaves it out: no pointer
- * may then be null. */
-static inline uint8_t irig_tested_run(const uint8_t *text, size_t count, bool all, uint8_t *log,
-                                      size_t room, size_t *whole) {
-    const uint8_t no_text = 0;
-    uint8_t no_log = 0;
-    if (!whole || (!text && count) || (!log && room)) return IRIG_RUN_NULL;
-    return irig_run(text ? text : &no_text, count, all, log ? log : &no_log, room, whole);
-}
-#define irig_run irig_tested_run
-
-#endif
 
 #ifdef __cplusplus
 }

@@ -1,4 +1,5 @@
-/* Each call of irig.h with each of its pointers null: it answers IRIG_VALUE, or nothing happens. */
+/* Each call of irig.h with each of its pointers null: it answers IRIG_FAULT_VALUE, or what the
+ * header says instead, or nothing happens. */
 #include "irig.h"
 
 #include <stdio.h>
@@ -15,11 +16,11 @@ static irig_sync sync;
 static irig_report report;
 static irig_told told;
 static uint8_t symbols[100];
-static uint32_t word, widths_us[1];
+static uint32_t word, widths_us[100];
 static char text[20] = "2016-12-31T00:00:00Z";
 
 static void refused(uint32_t answer, const char *call) {
-    if (answer == IRIG_VALUE) return;
+    if (answer == IRIG_FAULT_VALUE) return;
     fprintf(stderr, "%s answers %u\n", call, (unsigned)answer);
     exit(1);
 }
@@ -34,22 +35,27 @@ static void try_codec(void) {
     REFUSED(irig_control_pack(NULL, &word));
     REFUSED(irig_control_pack(&control, NULL));
     REFUSED(irig_control_unpack(0, NULL));
-    if (irig_has_parity(NULL, IRIG_EVEN)) exit(1);
-    irig_set_parity(NULL, IRIG_EVEN);
+    REFUSED(irig_set_parity(NULL, IRIG_PARITY_EVEN));
+    irig_widths_us(NULL, widths_us);
+    irig_widths_us(symbols, NULL);
+    REFUSED(irig_frame_of(NULL, 0, &control, IRIG_PARITY_EVEN, symbols));
+    REFUSED(irig_frame_of(&second, 0, NULL, IRIG_PARITY_EVEN, symbols));
+    REFUSED(irig_frame_of(&second, 0, &control, IRIG_PARITY_EVEN, NULL));
+    if (irig_has_parity(NULL, IRIG_PARITY_EVEN)) exit(1);
 }
 
 static void try_seconds(void) {
-    REFUSED(irig_second_next(NULL, IRIG_NO_LEAP, &second));
-    REFUSED(irig_second_next(&second, IRIG_NO_LEAP, NULL));
+    REFUSED(irig_second_next(NULL, IRIG_MARK_NO_LEAP, &second));
+    REFUSED(irig_second_next(&second, IRIG_MARK_NO_LEAP, NULL));
     REFUSED(irig_second_write(NULL, text));
     REFUSED(irig_second_write(&second, NULL));
     REFUSED(irig_second_read(NULL, 20, &second));
     REFUSED(irig_second_read(text, 20, NULL));
     REFUSED(irig_coded_of(NULL, 0, &coded));
     REFUSED(irig_coded_of(&second, 0, NULL));
-    REFUSED(irig_claim_of(NULL, &control, IRIG_ADD, &claim));
-    REFUSED(irig_claim_of(&coded, NULL, IRIG_ADD, &claim));
-    REFUSED(irig_claim_of(&coded, &control, IRIG_ADD, NULL));
+    REFUSED(irig_claim_of(NULL, &control, IRIG_SENSE_ADD, &claim));
+    REFUSED(irig_claim_of(&coded, NULL, IRIG_SENSE_ADD, &claim));
+    REFUSED(irig_claim_of(&coded, &control, IRIG_SENSE_ADD, NULL));
 }
 
 static void try_reader(void) {
@@ -77,6 +83,7 @@ static void try_lines(void) {
 int main(void) {
     /* Without a null pointer the same calls are done. */
     if (irig_coded_of(&second, 0, &coded) || irig_reader_init(&reader, &setup, &table)) return 1;
+    if (irig_frame_of(&second, 0, &control, IRIG_PARITY_EVEN, symbols)) return 1;
     try_codec();
     try_seconds();
     try_reader();

@@ -48,12 +48,8 @@ static pulse nominal[PULSES];
 /* Writes the frame of a second in UTC, by docs/GENERATORS.md. */
 static void write_frame(const line *of, const irig_utc *second, pulse *to, uint32_t start_us) {
     irig_control control = {.leap_pending = of->leaps && second->sod >= 86340};
-    irig_coded coded;
     uint8_t symbols[100];
-    if (irig_coded_of(second, 0, &coded) || irig_control_pack(&control, &coded.control) ||
-        irig_encode(&coded, symbols))
-        exit(2);
-    irig_set_parity(symbols, IRIG_EVEN);
+    if (irig_frame_of(second, 0, &control, IRIG_PARITY_EVEN, symbols)) exit(2);
     for (int element = 0; element < 100; element++)
         to[element] = (pulse){start_us + (uint32_t)(ELEMENT_US * element),
                               irig_width_us(symbols[element])};
@@ -64,7 +60,7 @@ static void make_line(const line *of) {
     for (int frame = 0; frame < FRAMES; frame++) {
         truth[frame] = second;
         write_frame(of, &second, nominal + 100 * frame, START_US + (uint32_t)(SECOND_US * frame));
-        uint8_t mark = of->leaps ? IRIG_INSERT : IRIG_NO_LEAP;
+        uint8_t mark = of->leaps ? IRIG_MARK_INSERT : IRIG_MARK_NO_LEAP;
         if (irig_second_next(&second, mark, &second)) exit(2);
     }
 }
@@ -153,7 +149,7 @@ static outcome hear(const pulse *pulses, int count, uint8_t sbs) {
         uint32_t end_us = i < count ? pulses[i].rise_us - START_US + pulses[i].width_us : UINT32_MAX / 2;
         for (; edge <= FRAMES && (int32_t)(end_us - (uint32_t)(SECOND_US * edge)) >= 0; edge++) {
             irig_reader_port(&reader, 0, &told);
-            if (told.kind == IRIG_CLAIM) {
+            if (told.kind == IRIG_TOLD_CLAIM) {
                 if (is_of(&told, edge - 1)) all.whole |= 1u << (edge - 1);
                 else all.is_untrue = true;
             }
@@ -168,7 +164,7 @@ static outcome hear(const pulse *pulses, int count, uint8_t sbs) {
         int32_t since_us = (int32_t)(pulses[i].rise_us - START_US) + ELEMENT_US;
         int frame = (int)((since_us + SECOND_US / 2) / SECOND_US) - 1;
         irig_reader_port(&reader, 0, &told);
-        if (told.kind == IRIG_CLAIM && !is_of(&told, frame)) all.is_untrue = true;
+        if (told.kind == IRIG_TOLD_CLAIM && !is_of(&told, frame)) all.is_untrue = true;
     }
     return all;
 }
@@ -218,7 +214,7 @@ static void say(const tally *t) {
 
 static bool try_singles(const fault *faults, int count) {
     bool is_right = true;
-    for (uint8_t sbs = IRIG_CHECK; sbs <= IRIG_IGNORE; sbs++) {
+    for (uint8_t sbs = IRIG_SBS_CHECK; sbs <= IRIG_SBS_IGNORE; sbs++) {
         pulse pulses[ROOM];
         tally t = {0};
         for (int i = 0; i < count; i++) {
@@ -249,7 +245,7 @@ static bool try_pairs(const fault *faults, int count, long pairs) {
     for (long i = 0; i < pairs; i++) {
         fault two[2] = {faults[chance((uint32_t)count)], faults[chance((uint32_t)count)]};
         if (two[0].at == two[1].at) continue;
-        outcome o = hear(pulses, play(two, 2, pulses), IRIG_IGNORE);
+        outcome o = hear(pulses, play(two, 2, pulses), IRIG_SBS_IGNORE);
         int lost = lost_of(o);
         cost[lost < 3 ? lost : 3]++;
         if (lost > most) most = lost;
@@ -271,7 +267,7 @@ static bool try_pulled(void) {
         for (uint32_t gap = 1; gap <= 260 && at + (int)gap <= 400; gap++)
             for (uint32_t shift = 0; shift <= 3000; shift += 3000) {
                 fault f = {PULLED, at, gap, shift};
-                outcome o = hear(pulses, play(&f, 1, pulses), IRIG_IGNORE);
+                outcome o = hear(pulses, play(&f, 1, pulses), IRIG_SBS_IGNORE);
                 int touched = (at + (int)gap - 1) / 100 - at / 100 + 1;
                 cases++;
                 untrue += o.is_untrue;
@@ -317,7 +313,7 @@ int main(int count, char **words) {
         pulse pulses[ROOM];
         make_line(&LINES[i]);
         printf("%s\n", LINES[i].name);
-        if (lost_of(hear(pulses, play(NULL, 0, pulses), IRIG_CHECK)) != 0) return 1;
+        if (lost_of(hear(pulses, play(NULL, 0, pulses), IRIG_SBS_CHECK)) != 0) return 1;
         int all = singles(faults);
         state = strtoull(words[2], NULL, 10) + (uint64_t)i;
         is_right &= try_singles(faults, all);

@@ -7,12 +7,12 @@ Frames and generators are written anew here, by docs/FRAME.md and docs/GENERATOR
 made of these waves owes nothing to the program's. Each second has its pulses at 10 ms from its edge
 on, and the first edge comes after 50 ms. A restart is no matter of wires, and left out.
 
-    tests/waves.py SCENARIO [--late US,US,US] [--pull LINE,FROM_MS,TO_MS] [--vcd]
+    tests/waves.py SCENARIO [--late US,US,US] [--pull LINE,FROM_MS,TO_MS] [--line LINE] [--vcd]
     tests/waves.py SCENARIO --words
 
 --late: by how much the pulses of each line come later; --pull: the cable of a line is pulled out
-then, and plugged in again; --vcd: a value change dump; --words: prints how the reader is set up, as
-the bench takes it."""
+then, and plugged in again; --line: that line alone, for a reader of one port; --vcd: a value change
+dump; --words: prints how the reader is set up, as the bench takes it."""
 from __future__ import annotations
 
 import argparse
@@ -266,25 +266,25 @@ def pulled(changes: Iterable[tuple[int, int, int]], line: int, begin: int, end: 
         yield time, of, to
 
 
-def rows_of(changes: Iterable[tuple[int, int, int]], count: int) -> Iterator[list[int]]:
-    """The time of each change of level, and the levels from then on."""
-    levels = [0] * count
+def rows_of(changes: Iterable[tuple[int, int, int]], lines: Sequence[int]) -> Iterator[list[int]]:
+    """The time of each change of these lines, and their levels from then on."""
+    levels = dict.fromkeys(lines, 0)
     for time, line, level in changes:
-        if levels[line] != level:
+        if levels.get(line, level) != level:
             levels[line] = level
-            yield [time, *levels]
+            yield [time, *levels.values()]
 
 
-def dump_of(rows: Sequence[Sequence[int]]) -> Iterator[str]:
+def dump_of(rows: Sequence[Sequence[int]], lines: Sequence[int]) -> Iterator[str]:
     """The lines of a value change dump of levels. Its unit is as coarse as they allow, since sigrok
     takes a sample each unit."""
-    levels_at = {0: [0] * (len(rows[0]) - 1)} | {time: levels for time, *levels in rows}
+    levels_at = {0: [0] * len(lines)} | {time: levels for time, *levels in rows}
     unit = next(unit for unit in (100, 10, 1) if not any(time % unit for time in levels_at))
     yield f"$timescale {unit} us $end"
-    yield from (f"$var wire 1 {name} LINE{name} $end" for name in range(len(levels_at[0])))
+    yield from (f"$var wire 1 {line} LINE{line} $end" for line in lines)
     yield "$enddefinitions $end"
     for time, levels in levels_at.items():
-        values = (f"{level}{name}" for name, level in enumerate(levels))
+        values = (f"{level}{line}" for line, level in zip(lines, levels))
         yield f"#{time // unit} {' '.join(values)}"
 
 
@@ -303,6 +303,7 @@ def main() -> None:
     words.add_argument("scenario", type=Path, metavar="SCENARIO")
     words.add_argument("--late", metavar="US,US,US", default="0,0,0,0,0")
     words.add_argument("--pull", metavar="LINE,FROM_MS,TO_MS")
+    words.add_argument("--line", metavar="LINE", type=int)
     words.add_argument("--vcd", action="store_true")
     words.add_argument("--words", action="store_true")
     told = words.parse_args()
@@ -326,12 +327,15 @@ def main() -> None:
         if line >= count:
             words.error(f"--pull names line {line}; there are 0 to {count - 1}")
         changes = sorted(pulled(changes, line, begin * 1000, end * 1000))
-    rows = list(rows_of(changes, count))
+    if told.line not in (None, *range(count)):
+        words.error(f"--line names line {told.line}; there are 0 to {count - 1}")
+    lines = [line for line in range(count) if told.line in (None, line)]
+    rows = list(rows_of(changes, lines))
     # The lines stay as they are until the last tick has come, as late as it may.
     end = FIRST_EDGE_US + len(seconds) * SECOND_US + ELEMENT_US + max(late)
-    rows.append([end, *(rows[-1][1:] if rows else [0] * count)])
-    for line in dump_of(rows) if told.vcd else (" ".join(map(str, row)) for row in rows):
-        print(line)
+    rows.append([end, *(rows[-1][1:] if rows else [0] * len(lines))])
+    for text in dump_of(rows, lines) if told.vcd else (" ".join(map(str, row)) for row in rows):
+        print(text)
 
 
 if __name__ == "__main__":

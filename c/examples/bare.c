@@ -2,7 +2,7 @@
  * status is the second that the reader then announces, 60, or 1 if anything went otherwise.
  * bare_start.c is what there is below it, of Linux or of a board.
  *
- *     cc -nostdlib -static -ffreestanding -I.. bare.c bare_start.c libirig.a -lgcc
+ *     cc -nostdlib -static -ffreestanding -I.. bare.c bare_start.c ../out/libirig.a -lgcc
  */
 #include "irig.h"
 
@@ -33,9 +33,7 @@ static int make(const irig_utc *second, uint8_t symbols[100]) {
     irig_control control = {.leap_pending = 1};
     irig_coded coded, back;
     if (irig_coded_of(second, 0, &coded) != IRIG_DONE) return 0;
-    if (irig_control_pack(&control, &coded.control) != IRIG_DONE) return 0;
-    if (irig_encode(&coded, symbols) != IRIG_DONE) return 0;
-    irig_set_parity(symbols, IRIG_EVEN);
+    if (irig_frame_of(second, 0, &control, IRIG_PARITY_EVEN, symbols) != IRIG_DONE) return 0;
     if (irig_decode(symbols, 100, &back) != IRIG_DONE) return 0;
     return back.second == coded.second && back.minute == coded.minute &&
            back.hour == coded.hour && back.day == coded.day && back.year == coded.year &&

@@ -1,18 +1,17 @@
-/* A reader behind three lines of IRIG-B, or five, as the interrupts of a microcontroller: pulses are
- * measured, frames are found, and the reader is ticked at each edge. docs/WIRES.md says why, and what
- * this makes true.
+/* A reader behind three lines of IRIG-B, or five, or one, as the interrupts of a microcontroller:
+ * pulses are measured, frames are found, and the reader is ticked at each edge. docs/WIRES.md says
+ * why, and what this makes true.
  *
  * A tick belongs at the edge itself, when each line has ended a frame and none has a pulse of the
  * next. If more than half of the lines end a frame within a millisecond, it is the earliest of their
- * edges; if not, it is a second after the last by the board's own clock, and the tick comes 5 ms late,
- * since lines that do come are earlier. */
+ * edges, of one line its own; if not, it is a second after the last by the board's own clock, and
+ * the tick comes 5 ms late, since lines that do come are earlier. */
 #include "capture.h"
 
 static const uint32_t SECOND_US = 1000000;
 static const uint32_t ELEMENT_US = 10000;
 static const uint32_t AGREE_US = 1000;
 static const uint32_t PATIENCE_US = 5000;
-
 
 static irig_setup setup;
 static irig_table table;
@@ -86,14 +85,14 @@ void on_capture(uint8_t line, bool is_high, uint32_t time_us) {
 }
 
 void on_compare(void) {
-    irig_report report = {.lock = IRIG_UNLOCKED, .cause = IRIG_NO_VOTE};
+    irig_report report = {.lock = IRIG_LOCK_UNLOCKED, .cause = IRIG_CAUSE_NO_VOTE};
     last_edge_us = next_edge_us;
     has_edge = false;
     for (int line = 0; line < LINES; line++) {
         has_frame[line] = false;
         irig_sync_idle(&sync[line], timer_now());
     }
-    /* If its numbers are those of no reader, it announces nothing, and begins afresh. */
+    /* If something else has changed its numbers, it announces nothing, and begins afresh. */
     if (irig_reader_tick(&reader, &report) != IRIG_DONE)
         irig_reader_init(&reader, &setup, &table);
     on_second(&report, last_edge_us);

@@ -11,7 +11,7 @@
 #include "irig.h"
 
 #ifndef LINES
-#define LINES 3 /* or 5, for a reader of five ports */
+#define LINES 3 /* or 5, or 1, for a reader of as many ports */
 #endif
 
 /* ---- what the board does */
@@ -27,7 +27,7 @@ void on_second(const irig_report *report, uint32_t edge_us);
 
 /* ---- what capture.c does */
 
-/* Begins. IRIG_VALUE, IRIG_TABLE_END to IRIG_TABLE_TWICE. */
+/* Begins. IRIG_FAULT_VALUE, IRIG_FAULT_TABLE_END to IRIG_FAULT_TABLE_TWICE. */
 uint32_t capture_init(const irig_setup *setup, const irig_table *table);
 
 /* A change of a line, counted from 0, at a time that its channel has caught. */

@@ -1,6 +1,6 @@
 /* A board for capture.c without hardware: it plays changes of lines from its standard input, a row
- * for each as `time_us level level level`, and prints what the reader says at each edge, as a line of
- * a log. tests/waves.py makes such rows of a scenario.
+ * for each as `time_us level level level`, and prints what the reader says at each edge, as a line
+ * of a log. tests/waves.py makes such rows of a scenario.
  *
  * The words are `lock_after` and `holdover`; then, of a reader with a leap table, its last day, and
  * the day of each inserted leap second, counted from 2000-01-01. */
@@ -22,16 +22,13 @@ void compare_at(uint32_t time_us) {
 }
 
 void on_second(const irig_report *report, uint32_t edge_us) {
-    static const char *const lock[] = {"unlocked", "acquiring", "locked", "holdover"};
-    static const char *const cause[] = {"voted",   "held",       "acquiring", "no-vote",
-                                        "expired", "leap-guard", "jump",      "range-end"};
     char text[21] = "-";
     char count[12] = "";
     (void)edge_us;
     if (report->announces) irig_second_write(&(irig_utc){report->day, report->sod}, text);
     if (report->lock_count > 0) snprintf(count, sizeof count, ":%u", (unsigned)report->lock_count);
-    printf("%u relay %s %s%s %s\n", ++edges, text, lock[report->lock], count,
-           cause[report->cause]);
+    printf("%u relay %s %s%s %s\n", ++edges, text, irig_lock_name(report->lock), count,
+           irig_cause_name(report->cause));
 }
 
 /* Lets the timer run on, and calls for what was asked for meanwhile. The timer wraps. */
@@ -65,12 +62,17 @@ static bool play_row(void) {
     return true;
 }
 
+/* A reader with a port for each line. */
+static uint8_t redundancy(void) {
+    return LINES == 1 ? IRIG_PORTS_ONE : LINES == 3 ? IRIG_PORTS_THREE : IRIG_PORTS_FIVE;
+}
+
 int main(int count, char **words) {
     if (count < 3 || count > 4 + 64) {
         fprintf(stderr, "capture: wants lock_after and holdover; then a table's last day, and days\n");
         return 2;
     }
-    irig_setup setup = {.redundancy = LINES == 5 ? IRIG_FIVE_PORTS : IRIG_THREE_PORTS,
+    irig_setup setup = {.redundancy = redundancy(),
                         .lock_after = (uint8_t)atoi(words[1]),
                         .holdover = (uint32_t)atoi(words[2])};
     irig_table table = {0};

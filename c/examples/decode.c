@@ -11,39 +11,21 @@
 static const char *const mark[] = {"unspoken", "no-leap", "insert", "delete"};
 static const char *const field[] = {"second", "minute", "hour", "day", "year"};
 
-static const char *name_of(uint32_t number) {
-    switch (number) {
-    case IRIG_SHORT: return "Short";
-    case IRIG_LONG: return "Long";
-    case IRIG_PULSE: return "Pulse";
-    case IRIG_MARKER_FAULT: return "Marker";
-    case IRIG_DIGIT: return "Digit";
-    case IRIG_RANGE: return "Range";
-    case IRIG_NO_SUCH_DAY: return "NoSuchDay";
-    case IRIG_OUT_OF_YEARS: return "OutOfYears";
-    case IRIG_SECOND_60: return "Second60";
-    case IRIG_DELETED_SECOND: return "DeletedSecond";
-    case IRIG_PARITY: return "Parity";
-    case IRIG_SBS: return "Sbs";
-    default: return "no fault of a frame";
-    }
-}
-
 static void print_fault(uint32_t fault) {
     uint32_t number = IRIG_FAULT(fault), detail = IRIG_DETAIL(fault);
-    printf("fault %u %s", (unsigned)number, name_of(number));
-    if (number == IRIG_SHORT || number == IRIG_PULSE || number == IRIG_MARKER_FAULT)
+    printf("fault %u %s", (unsigned)number, irig_fault_name(fault));
+    if (number == IRIG_FAULT_SHORT || number == IRIG_FAULT_PULSE || number == IRIG_FAULT_MARKER)
         printf(" %u", (unsigned)detail);
-    if (number == IRIG_DIGIT || number == IRIG_RANGE) printf(" %s", field[detail]);
+    if (number == IRIG_FAULT_DIGIT || number == IRIG_FAULT_RANGE) printf(" %s", field[detail]);
     printf("\n");
 }
 
 static void print_told(const irig_told *told) {
     char text[21] = "";
     switch (told->kind) {
-    case IRIG_SILENCE: printf("silence\n"); break;
-    case IRIG_FAULTY: print_fault(told->fault); break;
-    case IRIG_POOR: printf("poor %u\n", told->quality); break;
+    case IRIG_TOLD_SILENCE: printf("silence\n"); break;
+    case IRIG_TOLD_FAULT: print_fault(told->fault); break;
+    case IRIG_TOLD_POOR: printf("poor %u\n", told->quality); break;
     default:
         irig_second_write(&told->claim.at, text);
         printf("claim %s %s\n", text, mark[told->claim.mark]);
@@ -52,10 +34,10 @@ static void print_told(const irig_told *told) {
 
 /* The width of the pulse that a letter stands for: of ? one that no symbol has. */
 static uint32_t width_of(int letter) {
-    return irig_width_us(letter == '0'   ? IRIG_ZERO
-                         : letter == '1' ? IRIG_ONE
-                         : letter == 'P' ? IRIG_MARKER
-                                         : IRIG_BAD);
+    return irig_width_us(letter == '0'   ? IRIG_SYMBOL_ZERO
+                         : letter == '1' ? IRIG_SYMBOL_ONE
+                         : letter == 'P' ? IRIG_SYMBOL_MARKER
+                                         : IRIG_SYMBOL_BAD);
 }
 
 /* Feeds a line to port 0. Returns what ended it: a newline, EOF, or a letter of no symbol. */
@@ -82,7 +64,7 @@ int main(void) {
             return 2;
         }
         if (irig_reader_port(&reader, 0, &told) != IRIG_DONE) return 1;
-        if (end == EOF && told.kind == IRIG_SILENCE) return 0;
+        if (end == EOF && told.kind == IRIG_TOLD_SILENCE) return 0;
         print_told(&told);
         irig_reader_restart(&reader);
     }

@@ -4,22 +4,13 @@
 
 #include <stdio.h>
 
-static const char *const lock[] = {"unlocked", "acquiring", "locked", "holdover"};
-static const char *const cause[] = {"voted",   "held",       "acquiring", "no-vote",
-                                    "expired", "leap-guard", "jump",      "range-end"};
-
 /* Feeds all three ports the frame of a second of 2016-12-31, an insertion pending. */
 static void feed(irig_reader *reader, irig_utc second) {
     irig_control control = {.leap_pending = 1};
-    irig_coded coded;
     uint8_t symbols[100];
-    irig_coded_of(&second, 0, &coded);
-    irig_control_pack(&control, &coded.control);
-    irig_encode(&coded, symbols);
-    irig_set_parity(symbols, IRIG_EVEN);
     uint32_t widths_us[100];
-    for (int element = 0; element < 100; element++)
-        widths_us[element] = irig_width_us(symbols[element]);
+    irig_frame_of(&second, 0, &control, IRIG_PARITY_EVEN, symbols);
+    irig_widths_us(symbols, widths_us);
     for (uint8_t port = 0; port < 3; port++) irig_reader_pulses(reader, port, widths_us, 100);
 }
 
@@ -42,8 +33,8 @@ int main(void) {
             irig_second_write(&(irig_utc){report.day, report.sod}, text);
         if (report.lock_count > 0)
             snprintf(count, sizeof count, ":%u", (unsigned)report.lock_count);
-        printf("%d relay %s %s%s %s\n", edge, text, lock[report.lock], count,
-               cause[report.cause]);
+        printf("%d relay %s %s%s %s\n", edge, text, irig_lock_name(report.lock), count,
+               irig_cause_name(report.cause));
     }
     return 0;
 }

@@ -1,13 +1,10 @@
 /* A reader over the leap second of 2016, which one of three clocks denies: it is an hour late, and
- * says of no second that one will be inserted. At 23:59:56 the reader begins anew, as after its supply
- * has failed. It prints what `irig run liar.jsonl --all` prints of the same events, but the last line. */
+ * says of no second that one will be inserted. At 23:59:56 the reader begins anew, as after its
+ * supply has failed. It prints what `irig run liar.jsonl --all` prints of the same events, but the
+ * last line; and on the standard error which ports told something else than the vote. */
 #include "irig.h"
 
 #include <stdio.h>
-
-static const char *const lock[] = {"unlocked", "acquiring", "locked", "holdover"};
-static const char *const cause[] = {"voted",   "held",       "acquiring", "no-vote",
-                                    "expired", "leap-guard", "jump",      "range-end"};
 
 /* The clocks of ports 0 and 1, and that of port 2, which lies. */
 static const uint32_t last_day = 6209;
@@ -19,19 +16,15 @@ static uint8_t is_pending(const irig_utc *second) {
 }
 
 static void go_on(irig_utc *second) {
-    uint8_t mark = second->day == last_day ? IRIG_INSERT : IRIG_NO_LEAP;
+    uint8_t mark = second->day == last_day ? IRIG_MARK_INSERT : IRIG_MARK_NO_LEAP;
     irig_second_next(second, mark, second);
 }
 
 /* Feeds a port the frame of a second. */
 static void feed(irig_reader *reader, uint8_t port, irig_utc second) {
     irig_control control = {.leap_pending = is_pending(&second)};
-    irig_coded coded;
     uint8_t symbols[100];
-    irig_coded_of(&second, 0, &coded);
-    irig_control_pack(&control, &coded.control);
-    irig_encode(&coded, symbols);
-    irig_set_parity(symbols, IRIG_EVEN);
+    irig_frame_of(&second, 0, &control, IRIG_PARITY_EVEN, symbols);
     for (int element = 0; element < 100; element++)
         irig_reader_pulse(reader, port, irig_width_us(symbols[element]));
 }
@@ -41,7 +34,10 @@ static void print(int edge, const irig_report *report) {
     char count[12] = "";
     if (report->announces) irig_second_write(&(irig_utc){report->day, report->sod}, text);
     if (report->lock_count > 0) snprintf(count, sizeof count, ":%u", (unsigned)report->lock_count);
-    printf("%d relay %s %s%s %s\n", edge, text, lock[report->lock], count, cause[report->cause]);
+    printf("%d relay %s %s%s %s\n", edge, text, irig_lock_name(report->lock), count,
+           irig_cause_name(report->cause));
+    for (int port = 0; port < 3; port++)
+        if (report->differed >> port & 1) fprintf(stderr, "%d port %d differs\n", edge, port);
 }
 
 int main(void) {

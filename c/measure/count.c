@@ -45,8 +45,10 @@ static uint64_t back, count;
 static const instruction *last;
 
 static call *call_at(const char *name, uint64_t address) {
-    /* Names with colons are of functions within. */
-    if (!name || strncmp(name, "irig_", 5) != 0 || strchr(name, ':') || known == MOST) return NULL;
+    /* Names with colons, and those of the crate, are of functions within. */
+    if (!name || strncmp(name, "irig_", 5) != 0 || strncmp(name, "irig_c_", 7) == 0 ||
+        strchr(name, ':') || known == MOST)
+        return NULL;
     for (int i = 0; i < known; i++)
         if (strcmp(calls[i].name, name) == 0) return calls[i].start == address ? &calls[i] : NULL;
     call *made = &calls[known++];

@@ -10,7 +10,7 @@ static irig_coded coded;
 static irig_control control = {.leap_pending = 1};
 static irig_utc second = {6209, 86398}, following;
 static irig_claim claim;
-static irig_setup setup = {.redundancy = IRIG_FIVE_PORTS, .lock_after = 1, .holdover = 60};
+static irig_setup setup = {.redundancy = IRIG_PORTS_FIVE, .lock_after = 1, .holdover = 60};
 static irig_table table = {.until = 36523, .len = 64};
 static irig_reader reader;
 static irig_sync sync;
@@ -37,18 +37,20 @@ __attribute__((noinline)) static int painted_over(void) {
 
 static void nothing(void) {}
 static void classify(void) { word = irig_classify(2000); }
-static void width(void) { word = irig_width_us(IRIG_ONE); }
+static void width(void) { word = irig_width_us(IRIG_SYMBOL_ONE); }
 static void encode(void) { irig_encode(&coded, symbols); }
 static void decode(void) { irig_decode(symbols, 100, &coded); }
-static void has_parity(void) { word = irig_has_parity(symbols, IRIG_EVEN); }
-static void set_parity(void) { irig_set_parity(symbols, IRIG_EVEN); }
+static void has_parity(void) { word = irig_has_parity(symbols, IRIG_PARITY_EVEN); }
+static void set_parity(void) { irig_set_parity(symbols, IRIG_PARITY_EVEN); }
+static void frame_of(void) { irig_frame_of(&second, 0, &control, IRIG_PARITY_EVEN, symbols); }
+static void widths(void) { irig_widths_us(symbols, widths_us); }
 static void pack(void) { irig_control_pack(&control, &coded.control); }
 static void unpack(void) { irig_control_unpack(coded.control, &control); }
-static void next(void) { irig_second_next(&second, IRIG_INSERT, &following); }
+static void next(void) { irig_second_next(&second, IRIG_MARK_INSERT, &following); }
 static void write(void) { irig_second_write(&second, text); }
 static void read(void) { irig_second_read(text, 20, &following); }
 static void coded_of(void) { irig_coded_of(&second, 0, &coded); }
-static void claim_of(void) { irig_claim_of(&coded, &control, IRIG_ADD, &claim); }
+static void claim_of(void) { irig_claim_of(&coded, &control, IRIG_SENSE_ADD, &claim); }
 static void init(void) { irig_reader_init(&reader, &setup, &table); }
 static void pulse(void) { irig_reader_pulse(&reader, 0, 2000); }
 static void pulses(void) {
@@ -79,6 +81,8 @@ static call calls[] = {
     {"irig_set_parity", set_parity, 0},
     {"irig_has_parity", has_parity, 0},
     {"irig_decode", decode, 0},
+    {"irig_frame_of", frame_of, 0},
+    {"irig_widths_us", widths, 0},
     {"irig_control_unpack", unpack, 0},
     {"irig_claim_of", claim_of, 0},
     {"irig_second_next", next, 0},
@@ -98,8 +102,6 @@ static call calls[] = {
 enum { CALLS = sizeof calls / sizeof *calls };
 
 static void run_all(void) {
-    for (int element = 0; element < 100; element++)
-        widths_us[element] = irig_width_us(symbols[element]);
     for (int i = 0; i < CALLS; i++) {
         paint();
         calls[i].run();

@@ -6,7 +6,7 @@ codec, the proved reader, and the proved runner of scenarios.
     claim, Claim, Second        coded time to UTC, leap seconds included
     has_parity, with_parity     the parity bit
     widths, symbols, classify   pulses and symbols
-    Reader                      a reader with three or five ports
+    Reader                      a reader with three ports, five, or one
     Sync                        which element of a frame a pulse on a line is
     run, read_log               scenarios to logs
     Fault, Refused              what they raise
@@ -29,7 +29,7 @@ from .frames import (
     with_parity,
 )
 from .lines import Sync
-from .readers import Faulty, Leap, Poor, Reader, Report, Silence, Told, read
+from .readers import Faulty, Leap, Poor, Reader, Report, Silence, Told, Zone, read
 from .scenes import (
     Announced,
     Entry,
@@ -70,6 +70,7 @@ __all__ = [
     "TableBroken",
     "Told",
     "Verdict",
+    "Zone",
     "claim",
     "classify",
     "coded",

@@ -85,7 +85,13 @@ class Tally(Structure):
 
 
 class Reader(Structure):
-    _fields_ = [("setup", Setup), ("table", Table), ("state", State), ("ports", Tally * 5)]
+    _fields_ = [
+        ("setup", Setup),
+        ("table", Table),
+        ("state", State),
+        ("ports", Tally * 5),
+        ("check", c_uint64),
+    ]
 
 
 class Sync(Structure):
@@ -97,9 +103,17 @@ class Report(Structure):
         ("announces", c_uint8),
         ("lock", c_uint8),
         ("cause", c_uint8),
+        ("agreed", c_uint8),
         ("lock_count", c_uint32),
         ("day", c_uint32),
         ("sod", c_uint32),
+        ("differed", c_uint8),
+        ("faulty", c_uint8),
+        ("poor", c_uint8),
+        ("quality", c_uint8),
+        ("has_local", c_uint8),
+        ("local_half_hours", c_int8),
+        ("dst", c_uint8),
     ]
 
 
@@ -134,10 +148,13 @@ def _to(structure: Any) -> Any:
 _irig = _load("libirig.so.1", ctypes.PyDLL)
 classify = _call(_irig, "irig_classify", c_uint8, c_uint32)
 width_us = _call(_irig, "irig_width_us", c_uint32, c_uint8)
+frame_of = _call(
+    _irig, "irig_frame_of", c_uint32, _to(Utc), c_int8, _to(Control), c_uint8, Symbols
+)
 encode = _call(_irig, "irig_encode", c_uint32, _to(Coded), Symbols)
 decode = _call(_irig, "irig_decode", c_uint32, c_char_p, c_size_t, _to(Coded))
 has_parity = _call(_irig, "irig_has_parity", c_bool, Symbols, c_uint8)
-set_parity = _call(_irig, "irig_set_parity", None, Symbols, c_uint8)
+set_parity = _call(_irig, "irig_set_parity", c_uint32, Symbols, c_uint8)
 control_pack = _call(_irig, "irig_control_pack", c_uint32, _to(Control), _to(c_uint32))
 control_unpack = _call(_irig, "irig_control_unpack", c_uint32, c_uint32, _to(Control))
 second_next = _call(_irig, "irig_second_next", c_uint32, _to(Utc), c_uint8, _to(Utc))

@@ -179,7 +179,10 @@ def frame(
         leap_delete=pending is not None and number_of(pending, Kind, "pending") == 1,
         offset_half_hours=-local if is_added else local,
     )
-    return with_parity(encode(coded(time, local, control)), parity)
+    held, zone = c.Symbols(), fitting(ctypes.c_int8, local, "local")
+    number = number_of(parity, Parity, "parity")
+    check(c.frame_of(Second.of(time).held(), zone, control.held(), number, held))
+    return text(bytes(held))
 
 
 def claim(coded: Coded, control: Optional[Control] = None, sense: Sense = "add") -> Claim:
@@ -209,5 +212,5 @@ def has_parity(frame: Frame, parity: Parity = "even") -> bool:
 def with_parity(frame: Frame, parity: Parity = "even") -> str:
     """The frame with element 75 such that it has this parity."""
     held = _whole(frame)
-    c.set_parity(held, number_of(parity, Parity, "parity"))
+    check(c.set_parity(held, number_of(parity, Parity, "parity")))
     return text(bytes(held))

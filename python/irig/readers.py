@@ -1,4 +1,4 @@
-"""Readers: the vote over three or five ports, and the counter that holds over."""
+"""Readers: the vote over three ports, five, or one, and the counter that holds over."""
 from __future__ import annotations
 
 import ctypes
@@ -13,10 +13,12 @@ from .frames import Frame, widths
 from .seconds import Claim, Day, Second, claim_held, day_number
 from .words import CAUSES, LOCKS, Cause, Kind, Lock, Parity, Sbs, Sense, number_of
 
-# What a reader's state begins with: another form of its numbers is another word. The first form had
-# no lines.
-FORM = "irig reader 2"
-FIRST_FORM = "irig reader 1"
+# What a reader's state begins with: another form of its numbers is another word. The older forms had
+# no check word, and one that was made now would say nothing of what came over their numbers before.
+FORM = "irig reader 3"
+OLDER_FORMS = ("irig reader 1", "irig reader 2")
+
+PORTS = (3, 5, 1)  # how many ports, by the number that C has for it
 
 
 @dataclass(frozen=True)
@@ -28,6 +30,18 @@ class Leap:
 
 
 @dataclass(frozen=True)
+class Zone:
+    """The zone in which clocks write their frames.
+
+    local: local time minus UTC, in half hours
+    dst: whether daylight saving is in force
+    """
+
+    local: int
+    dst: bool
+
+
+@dataclass(frozen=True)
 class Report:
     """What a reader says at an edge. As a text it is the end of a log's line.
 
@@ -35,12 +49,28 @@ class Report:
     lock: "unlocked", "acquiring", "locked" or "holdover"
     count: the votes so far while it is acquiring, the edges since the last vote in holdover; else 0
     cause: "voted", "held", "acquiring", "no-vote", "expired", "leap-guard", "jump" or "range-end"
+
+    What its ports told since the edge before; a port that stands in none of these was silent:
+
+    agreed: the ports that told the claim that was voted
+    differed: those that told another one; any claim, if none was voted
+    faulty: those that told a fault
+    poor: those that told a quality that has no vote
+    quality: the worst of the frames that agreed, 0, locked, to 9; 15 if nothing was voted
+    zone: that of the frames that agreed, if enough of them send one and the same: two of three
+        ports, three of five, one of one. None if it is not known.
     """
 
     second: Optional[Second]
     lock: Lock
     count: int
     cause: Cause
+    agreed: Tuple[int, ...] = ()
+    differed: Tuple[int, ...] = ()
+    faulty: Tuple[int, ...] = ()
+    poor: Tuple[int, ...] = ()
+    quality: int = 15
+    zone: Optional[Zone] = None
 
     def __str__(self) -> str:
         count = f":{self.count}" if self.count else ""
@@ -85,6 +115,34 @@ class Poor:
 Told = Union[Silence, Faulty, Poor, Claim]
 
 
+def _ports_in(mask: int) -> Tuple[int, ...]:
+    """The ports of a mask, of which bit p is port p."""
+    return tuple(port for port in range(max(PORTS)) if mask >> port & 1)
+
+
+def _report_held(held: c.Report) -> Report:
+    return Report(
+        second=Second(held.day, held.sod) if held.announces else None,
+        lock=LOCKS[held.lock],
+        count=held.lock_count,
+        cause=CAUSES[held.cause],
+        agreed=_ports_in(held.agreed),
+        differed=_ports_in(held.differed),
+        faulty=_ports_in(held.faulty),
+        poor=_ports_in(held.poor),
+        quality=held.quality,
+        zone=Zone(held.local_half_hours, bool(held.dst)) if held.has_local else None,
+    )
+
+
+def _tick(held: c.Reader) -> c.Report:
+    """What a reader says at an edge."""
+    report = c.Report()
+    if c.reader_tick(held, report):
+        raise Fault(VALUE, reason="something else has changed the numbers of this reader")
+    return report
+
+
 def _told_held(held: c.Told) -> Told:
     if held.kind == 0:
         return Silence()
@@ -119,11 +177,12 @@ class Reader:
     "voted" is the true second if the tick comes as that second begins and no two of its three ports
     (three of five) then tell one and the same wrong time or leap, whatever came before. What it
     announces with the cause "held" is true if the last vote was, each second since was one tick,
-    and the leap table is right (docs/HEADLINE.md).
+    and the leap table is right (docs/HEADLINE.md). A reader of one port follows its clock: what it
+    announces is true only if that clock tells no wrong time or leap.
 
     lock_after: votes in a row before it announces, 1 to 60
     holdover: edges without a vote at which it goes on, 0 to 1,000,000
-    ports: 3 or 5
+    ports: 3, 5 or 1
     parity: "even" or "odd"
     sense: "add" or "subtract": what is done with the offset to come from coded time to UTC
     sbs: "check" or "ignore" the straight binary seconds
@@ -138,21 +197,21 @@ class Reader:
         lock_after: int = 2,
         holdover: int = 3600,
         *,
-        ports: Literal[3, 5] = 3,
+        ports: Literal[1, 3, 5] = 3,
         parity: Parity = "even",
         sense: Sense = "add",
         sbs: Sbs = "check",
         until: Optional[Day] = None,
         leaps: Iterable[Leap] = (),
     ) -> None:
-        if ports not in (3, 5):
-            raise Fault(VALUE, reason=f"ports is {ports!r}; it may be 3 or 5")
+        if ports not in PORTS:
+            raise Fault(VALUE, reason=f"ports is {ports!r}; it may be 3, 5 or 1")
         setup = filled(
             c.Setup,
             parity=number_of(parity, Parity, "parity"),
             sense=number_of(sense, Sense, "sense"),
             sbs=number_of(sbs, Sbs, "sbs"),
-            redundancy=(3, 5).index(ports),
+            redundancy=PORTS.index(ports),
             lock_after=lock_after,
             holdover=holdover,
         )
@@ -161,7 +220,8 @@ class Reader:
         check(c.reader_init(self._held, setup, _table(until, leaps)))
 
     def pulse(self, port: int, width_us: int) -> None:
-        """A pulse at a port, 0 to 2 of three, 0 to 4 of five, so many microseconds wide."""
+        """A pulse at a port, 0 to 2 of three, 0 to 4 of five, 0 of one, so many microseconds
+        wide."""
         width = fitting(ctypes.c_uint32, width_us, "the width")
         check(c.reader_pulse(self._held, fitting(ctypes.c_uint8, port, "the port"), width))
 
@@ -220,11 +280,9 @@ class Reader:
 
     def tick(self) -> Report:
         """The edge: what the reader says by what its ports heard since the last. They are then
-        empty."""
-        held = c.Report()
-        check(c.reader_tick(self._held, held))
-        second = Second(held.day, held.sod) if held.announces else None
-        return Report(second, LOCKS[held.lock], held.lock_count, CAUSES[held.cause])
+        empty. A reader whose numbers something else has changed is refused, at this edge and at
+        each later one."""
+        return _report_held(_tick(self._held))
 
     def port(self, port: int) -> Told:
         """What a port would tell if the edge came now."""
@@ -233,7 +291,7 @@ class Reader:
         return _told_held(held)
 
     def restart(self) -> None:
-        """Empties the ports, and forgets what was voted."""
+        """Empties the ports, and forgets what was voted. A reader that a tick refuses stays so."""
         c.reader_restart(self._held)
 
     @property
@@ -249,7 +307,7 @@ class Reader:
     @property
     def ports(self) -> int:
         """How many ports it has."""
-        return 5 if self._held.setup.redundancy else 3
+        return PORTS[self._held.setup.redundancy]
 
     def __repr__(self) -> str:
         return f"Reader(lock_after={self.lock_after}, holdover={self.holdover}, ports={self.ports})"
@@ -259,16 +317,14 @@ class Reader:
 
     def __setstate__(self, state: Tuple[str, bytes]) -> None:
         form, numbers = state
-        lines = _fresh_lines()
-        size = ctypes.sizeof(c.Reader)
-        if form == FIRST_FORM:
-            numbers += bytes(lines)
-        elif form != FORM:
-            numbers = b""
-        if len(numbers) != size + ctypes.sizeof(lines):
+        if form in OLDER_FORMS:
+            raise Fault(VALUE, reason="this reader was kept without a check word: make a new one")
+        lines, size = c.Sync * 5, ctypes.sizeof(c.Reader)
+        if form != FORM or len(numbers) != size + ctypes.sizeof(lines):
             raise Fault(VALUE, reason="these are the numbers of a reader of another version")
+        _tick(c.Reader.from_buffer_copy(numbers))  # so that it is refused here, if at all
         self._held = c.Reader.from_buffer_copy(numbers)
-        self._lines = type(lines).from_buffer_copy(numbers, size)
+        self._lines = lines.from_buffer_copy(numbers, size)
 
 
 def read(

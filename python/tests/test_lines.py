@@ -115,11 +115,12 @@ class Hearing(unittest.TestCase):
         for twin in (copy.copy(reader), pickle.loads(pickle.dumps(reader))):
             self.assertEqual(twin.hear(1, 60 * ELEMENT_US, 2000), 61)
 
-    def test_a_reader_without_lines_is_taken_up(self) -> None:
-        reader = Reader()
-        _, numbers = reader.__getstate__()
-        reader.__setstate__(("irig reader 1", numbers[:672]))
-        self.assertEqual(reader.hear(0, 0, 8000), 1)
+    def test_one_line(self) -> None:
+        reader = Reader(lock_after=1, ports=1)
+        for pulse in pulses(FRAME, 0):
+            reader.hear(0, *pulse)
+        self.assertRaises(irig.Fault, reader.hear, 1, 0, 8000)
+        self.assertEqual(str(reader.tick()), "2017-01-01T00:00:00Z locked voted")
 
 
 if __name__ == "__main__":

@@ -7,9 +7,10 @@ import pickle
 import random
 import unittest
 from datetime import date
+from typing import Optional
 
 import irig
-from irig import Leap, Reader, Second
+from irig import Claim, Control, Leap, Reader, Second, Zone
 from program import ROOT, printed
 
 LEAPS = [{"day": "2016-12-31", "kind": "insert"}]
@@ -40,8 +41,33 @@ def seconds_from(second: Second, count: int) -> list[Second]:
     return found
 
 
+def frame_in(
+    zone: Zone, second: Second, quality: int = 0, parity: str = "even", sense: str = "add"
+) -> str:
+    """The frame of a second in a zone."""
+    control = Control(
+        leap_pending=str(second)[:17] == "2016-12-31T23:59:",
+        dst=zone.dst,
+        offset_half_hours=-zone.local if sense == "add" else zone.local,
+        quality=quality,
+    )
+    return irig.with_parity(irig.encode(irig.coded(second, zone.local, control)), parity)
+
+
+def zone_of(heard: list[Control], enough: int, sense: str) -> Optional[Zone]:
+    """The zone of at least so many of these frames."""
+    sign = -1 if sense == "add" else 1
+    zones = [Zone(sign * control.offset_half_hours, control.dst) for control in heard]
+    return next((zone for zone in zones if zones.count(zone) >= enough), None)
+
+
+def control_of(widths: list[int]) -> Control:
+    """What the control bits say of a frame that has no fault."""
+    return Control.unpack(irig.decode("".join(map(irig.classify, widths))).control)
+
+
 class BesideTheProgram(unittest.TestCase):
-    """What a reader hears is random: true frames, none, old ones, and damaged ones."""
+    """What a reader hears is random: true frames, none, old ones, poor ones and damaged ones."""
 
     def pulses(self, source: random.Random, second: Second, **words: str) -> list[int]:
         """The widths that come to a port in a second, mostly those of its frame."""
@@ -49,28 +75,53 @@ class BesideTheProgram(unittest.TestCase):
             return []
         if source.random() < 0.1:
             second = Second(second.day, source.randrange(86_340))
-        pending = "insert" if str(second)[:17] == "2016-12-31T23:59:" else None
-        widths = irig.widths(irig.frame(second, source.choice((0, 2, -7)), pending, **words))
+        zone = Zone(source.choice((0, 2, -7)), source.random() < 0.2)
+        frame = frame_in(zone, second, source.choice((0, 0, 0, 0, 4, 9, 10)), **words)
+        widths = irig.widths(frame)
         if source.random() < 0.2:
             widths[source.randrange(100)] = source.randrange(12_000)
         return widths[: source.randrange(102)] if source.random() < 0.05 else widths
 
+    def try_voices(
+        self, report: irig.Report, told: list[irig.Told], heard: list[list[int]], sense: str
+    ) -> None:
+        """What a report says of ports that told this and heard these widths."""
+        enough = len(told) // 2 + 1
+        voted = [claim for claim in told if isinstance(claim, Claim) and told.count(claim) >= enough]
+        agreed = [port for port, claim in enumerate(told) if voted and claim == voted[0]]
+        claims = [port for port, claim in enumerate(told) if isinstance(claim, Claim)]
+        self.assertEqual(list(report.agreed), agreed)
+        self.assertEqual(list(report.differed), [port for port in claims if port not in agreed])
+        for ports, kind in ((report.faulty, irig.Faulty), (report.poor, irig.Poor)):
+            self.assertEqual(list(ports), [p for p, one in enumerate(told) if type(one) is kind])
+        controls = [control_of(heard[port]) for port in agreed]
+        worst = max((control.quality for control in controls), default=15)
+        self.assertEqual(report.quality, worst)
+        self.assertEqual(report.zone, zone_of(controls, enough, sense))
+
     def compare(self, seed: int, setup: dict, words: dict, reader: Reader) -> None:
-        """The log of a plant and the reports of a reader, for the same pulses."""
+        """The log of a plant and the reports of a reader, for the same pulses. What one port hears
+        comes to three of the plant."""
         source = random.Random(seed)
-        lines: list[dict] = [plant(setup, reader.ports, **words)]
-        told = []
+        times = 3 if reader.ports == 1 else 1
+        lines: list[dict] = [plant(setup, reader.ports * times, **words)]
+        said = []
         parity, sense = words.get("parity", "even"), words.get("sense", "add")
         for edge, second in enumerate(seconds_from(Second.read("2016-12-31T23:58:00Z"), 150), 1):
+            heard = []
             for port in range(reader.ports):
-                widths = self.pulses(source, second, parity=parity, sense=sense)
+                heard.append(self.pulses(source, second, parity=parity, sense=sense))
+                reader.pulses(port, heard[port])
+            for port, widths in enumerate(heard * times):
                 lines.append({"do": "raw", "g": port, "r": "relay", "widths": widths})
-                reader.pulses(port, widths)
             lines.append({"do": "tick", "r": "relay"})
-            told.append(f"{edge} relay {reader.tick()}")
+            told = [reader.port(port) for port in range(reader.ports)]
+            report = reader.tick()
+            self.try_voices(report, told, heard, sense)
+            said.append(f"{edge} relay {report}")
         log = printed("run", "-", "--all", text="\n".join(map(json.dumps, lines)))
-        self.assertEqual(told, log.splitlines()[:-1])
-        causes = {line.split()[-1] for line in told}
+        self.assertEqual(said, log.splitlines()[:-1])
+        causes = {line.split()[-1] for line in said}
         self.assertLessEqual({"voted", "held"}, causes)
 
     def test_three_ports(self) -> None:
@@ -83,6 +134,11 @@ class BesideTheProgram(unittest.TestCase):
             with self.subTest(seed):
                 setup = {"lock_after": 3, "holdover": 1}
                 self.compare(seed, setup, {}, Reader(3, 1, ports=5))
+
+    def test_one_port(self) -> None:
+        for seed in range(5):
+            with self.subTest(seed):
+                self.compare(seed, {}, {}, Reader(2, 20, ports=1))
 
     def test_profiles(self) -> None:
         words = {"parity": "odd", "sense": "subtract", "sbs": "ignore"}
@@ -118,6 +174,56 @@ class BesideTheProgram(unittest.TestCase):
         self.assertIn("4 relay 2016-12-31T23:59:60Z holdover:1 held\n", said)
 
 
+class Voices(unittest.TestCase):
+    """What a report says of the ports, beside the vote."""
+
+    NOON = Second.read("2020-02-29T12:00:00Z")
+
+    def report(self, *frames: Optional[str], **words: str) -> irig.Report:
+        """Of a reader with as many ports as there are frames, each of which hears its own."""
+        reader = Reader(1, ports=len(frames), **words)
+        for port, frame in enumerate(frames):
+            if frame:
+                reader.hear(port, frame)
+        return reader.tick()
+
+    def test_how_ports_stand(self) -> None:
+        true, later = irig.frame(self.NOON), irig.frame("2020-02-29T13:00:00Z")
+        poor, wrong = frame_in(Zone(0, False), self.NOON, 12), irig.frame(self.NOON, parity="odd")
+        for frames, agreed, differed, faulty, poorly in (
+            ((true, true, later), (0, 1), (2,), (), ()),
+            ((later, None, true), (), (0, 2), (), ()),
+            ((poor, true, true), (1, 2), (), (), (0,)),
+            ((None, wrong, true, true, true), (2, 3, 4), (), (1,), ()),
+            ((None, None, None), (), (), (), ()),
+            ((true,), (0,), (), (), ()),
+            ((wrong,), (), (), (0,), ()),
+        ):
+            with self.subTest(frames):
+                report = self.report(*frames)
+                self.assertEqual((report.agreed, report.differed), (agreed, differed))
+                self.assertEqual((report.faulty, report.poor), (faulty, poorly))
+
+    def test_the_worst_quality(self) -> None:
+        for qualities, worst in (((0, 0, 0), 0), ((0, 9, 3), 9), ((12, 2, 1), 2), ((12, 12, 1), 15)):
+            frames = [frame_in(Zone(0, False), self.NOON, quality) for quality in qualities]
+            self.assertEqual(self.report(*frames).quality, worst)
+
+    def test_the_zone(self) -> None:
+        utc, summer, winter = Zone(0, False), Zone(4, True), Zone(-7, False)
+        for zones, zone in (
+            ((summer, utc, summer), summer),
+            ((winter, summer, utc), None),
+            ((winter, winter, winter, utc, utc), winter),
+            ((Zone(4, False), summer, utc), None),
+            ((winter,), winter),
+        ):
+            for sense in ("add", "subtract"):
+                with self.subTest(zones, sense=sense):
+                    frames = [frame_in(one, self.NOON, sense=sense) for one in zones]
+                    self.assertEqual(self.report(*frames, sense=sense).zone, zone)
+
+
 class Calls(unittest.TestCase):
     """What a reader takes, and what it is."""
 
@@ -149,11 +255,13 @@ class Calls(unittest.TestCase):
         self.assertEqual([reader.port(port) for port in range(3)], [irig.Silence()] * 3)
 
     def test_setups(self) -> None:
-        self.assertEqual(repr(Reader(60, 1_000_000, ports=5)),
-                         "Reader(lock_after=60, holdover=1000000, ports=5)")
+        for ports in (1, 3, 5):
+            self.assertEqual(repr(Reader(60, 1_000_000, ports=ports)),
+                             f"Reader(lock_after=60, holdover=1000000, ports={ports})")
+            self.assertRaises(irig.Fault, Reader(ports=ports).port, ports)
         for words in (
             {"lock_after": 0}, {"lock_after": 61}, {"lock_after": 258}, {"holdover": 1_000_001},
-            {"holdover": -1}, {"holdover": 1 << 32}, {"ports": 4}, {"parity": "none"},
+            {"holdover": -1}, {"holdover": 1 << 32}, {"ports": 4}, {"ports": 0}, {"parity": "none"},
             {"sense": "plus"}, {"sbs": "no"},
         ):
             with self.subTest(words), self.assertRaises(irig.Fault) as caught:
@@ -205,10 +313,28 @@ class Copies(unittest.TestCase):
     def test_numbers_of_no_reader(self) -> None:
         form, numbers = self.locked().__getstate__()
         reader = Reader()
-        self.assertRaises(irig.Fault, reader.__setstate__, ("another", numbers))
-        self.assertRaises(irig.Fault, reader.__setstate__, (form, numbers[:-1]))
-        reader.__setstate__((form, bytes([255]) * len(numbers)))
-        self.assertRaises(irig.Fault, reader.tick)
+        for state in (
+            ("another", numbers),
+            (form, numbers[:-1]),
+            (form, bytes([255]) * len(numbers)),
+            (form, bytes([numbers[0] ^ 1]) + numbers[1:]),
+        ):
+            self.assertRaises(irig.Fault, reader.__setstate__, state)
+        self.assertEqual(reader.__getstate__(), Reader().__getstate__())
+
+    def test_older_forms(self) -> None:
+        """A reader had 672 bytes, without a check word; at first it had no lines behind them."""
+        _, numbers = self.locked().__getstate__()
+        for state in (("irig reader 1", numbers[:672]), ("irig reader 2", numbers[:672] + bytes(40))):
+            self.assertRaisesRegex(irig.Fault, "check word", Reader().__setstate__, state)
+
+    def test_a_number_that_something_else_changed(self) -> None:
+        reader = self.locked()
+        reader._held.state.age += 1
+        for _ in range(2):
+            self.assertRaisesRegex(irig.Fault, "something else", reader.tick)
+            reader.restart()
+        self.assertRaisesRegex(irig.Fault, "something else", copy.copy, reader)
 
 
 if __name__ == "__main__":

@@ -1,4 +1,5 @@
-"""Writes what a page has from the sources between two marks, or sees that it is current."""
+"""Writes what a page has from the sources between two marks, or a file that is made whole, or sees
+that it is current."""
 from pathlib import Path
 
 ROOT = Path(__file__).resolve().parents[2]
@@ -23,5 +24,15 @@ def put(page: Path, parts: dict[str, list[str]], only_checks: bool) -> int:
         page.write_text(new)
     elif new != old:
         print(f"{page.relative_to(ROOT)}: is not current; ./format makes it")
+        return 1
+    return 0
+
+
+def put_whole(path: Path, new: str, only_checks: bool) -> int:
+    """Writes a file, or says if it is another one; a status."""
+    if not only_checks:
+        path.write_text(new)
+    elif not path.exists() or path.read_text() != new:
+        print(f"{path.relative_to(ROOT)}: is not current; ./format makes it")
         return 1
     return 0

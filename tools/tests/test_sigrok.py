@@ -76,7 +76,7 @@ def dump_of(pulses: Sequence[Pulse], *, low: int = 0) -> str:
     for rise, width in pulses:
         rows += [[rise, 1 - low], [rise + width, low]]
     rows.append([rows[-1][0] + PAUSE_US, low])
-    return "\n".join(waves.dump_of(rows)) + "\n"
+    return "\n".join(waves.dump_of(rows, [0])) + "\n"
 
 
 def unit_of(dump: str) -> int:

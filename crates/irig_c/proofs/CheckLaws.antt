@@ -1,8 +1,50 @@
 -- What the numbers of a reader add up to, by 64 bits.
-use Rattle.std.proofs.Common.{◌≡◌, ℕ, ◌+◌, ◌*◌, List, [], ◌∷◌, ◌++◌, length, refl, ap, ◌∙◌, arith, length-append}
+use Rattle.std.proofs.Common.{◌≡◌, ℕ, ◌+◌, ◌*◌, ◌%◌, ◌-◌, List, [], ◌∷◌, ◌++◌, length, refl, sym, ap, ◌∙◌, arith, length-append}
+use Rattle.std.proofs.lemmas.Nat.{mul-mod_second}
+use Rattle.irig_port.specs.declared.tally.Tally.{Tally}
 use Rattle.irig_c.specs.declared.table.IrigLeap.{IrigLeap}
 use Rattle.irig_c.specs.declared.reader.IrigReader.{IrigReader}
-use Rattle.irig_c.specs.CheckWord.{leap_numbers, numbers_of, port_numbers, setup_numbers, state_numbers, table_numbers, weighted}
+use Rattle.irig_c.specs.CheckWord.{leap_numbers, numbers_of, plain_of, port_numbers, setup_numbers, slope_of, state_numbers, table_numbers, tally_numbers, weighted}
+
+-- ---- one port, by one product
+
+spread : (w : ℕ) (t : Tally) → w * plain_of t + slope_of t ≡ weighted w (tally_numbers t)
+spread w t = grind arith
+
+-- a product of what is left of a number
+of_rest : (w p s : ℕ) → ((w * (p % 18446744073709551616)) % 18446744073709551616 + s % 18446744073709551616) % 18446744073709551616 ≡ (w * p + s) % 18446744073709551616
+of_rest w p s = omega (arith, mul-mod_second w p 18446744073709551616)
+
+pub by_one_product : (w : ℕ) (t : Tally)
+    → ((w * (plain_of t % 18446744073709551616)) % 18446744073709551616 + slope_of t % 18446744073709551616) % 18446744073709551616 ≡ weighted w (tally_numbers t) % 18446744073709551616
+by_one_product w t = of_rest w (plain_of t) (slope_of t) ∙ ap (λ (n : ℕ). n % 18446744073709551616) (spread w t)
+
+-- what is added to the one sum to give the other
+change_adds : (w p s p2 s2 y z : ℕ) → (p + y) % 18446744073709551616 ≡ p2 % 18446744073709551616 → (s + z) % 18446744073709551616 ≡ s2 % 18446744073709551616
+    → (w * p + s + ((w * y) % 18446744073709551616 + z) % 18446744073709551616) % 18446744073709551616 ≡ (w * p2 + s2) % 18446744073709551616
+change_adds w p s p2 s2 y z plain more =
+    let product : (w * p + w * y) % 18446744073709551616 ≡ (w * p2) % 18446744073709551616 =
+    ap (λ (n : ℕ). n % 18446744073709551616) (mul-distrib w p y)
+    ∙ (sym (mul-mod_second w (p + y) 18446744073709551616) ∙ (ap (λ (n : ℕ). (w * n) % 18446744073709551616) plain ∙ mul-mod_second w p2 18446744073709551616)) in
+    omega (arith, product, more)
+  where
+    mul-distrib : (w p y : ℕ) → w * p + w * y ≡ w * (p + y)
+    mul-distrib w p y = grind arith
+
+-- 64 bits of what is above another number
+difference : (a b : ℕ) → (a + (b % 18446744073709551616 + (18446744073709551616 - a % 18446744073709551616)) % 18446744073709551616) % 18446744073709551616 ≡ b % 18446744073709551616
+difference a b = omega arith
+
+pub change_is : (w : ℕ) (t u : Tally)
+    → (weighted w (tally_numbers t) + ((w * ((plain_of u % 18446744073709551616 + (18446744073709551616 - plain_of t % 18446744073709551616)) % 18446744073709551616)) % 18446744073709551616
+    + (slope_of u % 18446744073709551616 + (18446744073709551616 - slope_of t % 18446744073709551616)) % 18446744073709551616) % 18446744073709551616) % 18446744073709551616
+    ≡ weighted w (tally_numbers u) % 18446744073709551616
+change_is w t u =
+    let y : ℕ = (plain_of u % 18446744073709551616 + (18446744073709551616 - plain_of t % 18446744073709551616)) % 18446744073709551616 in
+    let z : ℕ = (slope_of u % 18446744073709551616 + (18446744073709551616 - slope_of t % 18446744073709551616)) % 18446744073709551616 in
+    ap (λ (n : ℕ). (n + ((w * y) % 18446744073709551616 + z) % 18446744073709551616) % 18446744073709551616) (sym (spread w t))
+    ∙ (change_adds w (plain_of t) (slope_of t) (plain_of u) (slope_of u) y z (difference (plain_of t) (plain_of u)) (difference (slope_of t) (slope_of u))
+    ∙ ap (λ (n : ℕ). n % 18446744073709551616) (spread w u))
 
 -- ---- parts
 

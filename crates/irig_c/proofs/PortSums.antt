@@ -63,13 +63,13 @@ port_set ports port t five here =
     ]
 
 -- a check word that is renewed by a difference is right exactly if it was
-pub renewed : (check rest before after old new b a : ℕ) → new + before ≡ old + after → check < 18446744073709551616 → b ≡ before % 18446744073709551616 → a ≡ after % 18446744073709551616
-    → (((check + (18446744073709551616 - b)) % 18446744073709551616 + a) % 18446744073709551616 ≡ (rest + new) % 18446744073709551616)
-    ↔ (check ≡ (rest + old) % 18446744073709551616)
-renewed check rest before after old new b a moved fits before_is after_is =
-    (λ h. omega (arith, moved, fits, before_is, after_is, h), λ h. omega (arith, moved, fits, before_is, after_is, h))
+pub renewed : (check rest before after old new change : ℕ) → new + before ≡ old + after → check < 18446744073709551616
+    → (before + change) % 18446744073709551616 ≡ after % 18446744073709551616
+    → ((check + change) % 18446744073709551616 ≡ (rest + new) % 18446744073709551616) ↔ (check ≡ (rest + old) % 18446744073709551616)
+renewed check rest before after old new change moved fits adds =
+    (λ h. omega (arith, moved, fits, adds, h), λ h. omega (arith, moved, fits, adds, h))
 
--- the same of two parts
+-- the same of two parts, of which what they were is taken away
 pub renewed_two : (check fixed s p s2 p2 b a : ℕ) → check < 18446744073709551616 → b ≡ (s + p) % 18446744073709551616 → a ≡ (s2 + p2) % 18446744073709551616
     → (((check + (18446744073709551616 - b)) % 18446744073709551616 + a) % 18446744073709551616 ≡ (fixed + s2 + p2) % 18446744073709551616)
     ↔ (check ≡ (fixed + s + p) % 18446744073709551616)

@@ -1,8 +1,7 @@
 -- Known values of this library's own definitions, so that a wrong one does not check.
 use Rattle.std.proofs.Common.{◌≡◌, ℕ, List, [], ◌∷◌, ◌++◌, map, replicate, Option, Some, None, true, false, refl, pos, negsuc}
 use Rattle.irig_control.specs.declared.control.Control.{Control}
-use Rattle.irig_time.specs.declared.mark.Mark.TheVariants.{Unspoken, Insert}
-use Rattle.irig_time.specs.declared.claim.Claim.{Claim}
+use Rattle.irig_time.specs.declared.mark.Mark.TheVariants.{Insert}
 use Rattle.irig_time.specs.declared.rules.Sense.TheVariants.{Add, Subtract}
 use Rattle.irig_port.specs.declared.told.Told.{Told}
 use Rattle.irig_port.specs.declared.told.Told.TheVariants as tells
@@ -13,7 +12,6 @@ use Rattle.irig_vote.specs.Vote.{vote_of}
 use Rattle.irig_c.specs.declared.standing.Standing.{Standing}
 use Rattle.irig_c.specs.declared.standing.Standing.TheVariants.{Agreed, Differed, Faulty, Poor}
 use Rattle.irig_c.specs.declared.standing.Standings.{Standings}
-use Rattle.irig_c.specs.declared.zone.Zone.{Zone}
 use Rattle.irig_c.specs.declared.zone.Sent.{Sent}
 use Rattle.irig_c.specs.declared.table.IrigLeap.{IrigLeap}
 use Rattle.irig_c.specs.Standings.{first_zone, mask_of, standings_of, worst_of, zone_of}

@@ -31,6 +31,13 @@ state_numbers s = s.kind ∷ s.count ∷ s.heard ∷ s.day ∷ s.sod ∷ s.age �
 abbrev pub tally_numbers : Tally → List ℕ
 tally_numbers t = t.count ∷ t.wrong.kind ∷ t.wrong.element ∷ t.time ∷ t.control ∷ []
 
+-- the same numbers, added up, and what they add beside the first one's weight
+abbrev pub plain_of : Tally → ℕ
+plain_of t = t.count + t.wrong.kind + t.wrong.element + t.time + t.control
+
+abbrev pub slope_of : Tally → ℕ
+slope_of t = 2 * t.wrong.kind + 4 * t.wrong.element + 6 * t.time + 8 * t.control
+
 -- the numbers of five ports
 abbrev pub port_numbers : List Tally → List ℕ
 port_numbers ports =

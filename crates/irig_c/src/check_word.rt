@@ -1,7 +1,7 @@
 //! The check word of a reader: what its numbers add up to, each times an odd weight of its own.
 
 ghost use Rattle.std.specs.Prelude.{◌≡◌, ◌+◌, ◌*◌, ◌%◌, ◌^◌, ◌<◌, ◌≤◌, length};
-ghost use Rattle.irig_c.specs.CheckWord.{check_of, leap_numbers, port_numbers, setup_numbers, state_numbers, table_numbers, tally_numbers, weighted};
+ghost use Rattle.irig_c.specs.CheckWord.{check_of, leap_numbers, plain_of, port_numbers, setup_numbers, slope_of, state_numbers, table_numbers, tally_numbers, weighted};
 
 use crate::reader::IrigReader;
 use crate::setup::IrigSetup;
@@ -36,6 +36,7 @@ fn table_sum(table: &IrigTable) -> u64
     numbers.wrapping_add(leaps_sum(&table.leaps))
 }
 
+#[inline(never)]
 fn leaps_sum(leaps: &[IrigLeap]) -> u64
     requires { length leaps.now ≤ 64 }
     ensures { result ≡ weighted 19 (leap_numbers leaps.now) % 2 ^ 64 }
@@ -70,17 +71,49 @@ pub(crate) fn state_sum(state: &IrigState) -> u64
 }
 
 /// What a port adds to the check word.
-pub(crate) fn tally_sum(port: u8, tally: &Tally) -> u64
+#[inline(never)]
+fn tally_sum(port: u8, tally: &Tally) -> u64
     requires { port < 5 }
     ensures { result ≡ weighted (287 + 10 * port) (tally_numbers tally.now) % 2 ^ 64 }
 {
     let weight = 287 + 10 * u64::from(port);
-    let small = weight * u64::from(tally.count)
-        + (weight + 2) * u64::from(tally.wrong.kind)
-        + (weight + 4) * u64::from(tally.wrong.element);
-    small
-        .wrapping_add((weight + 6).wrapping_mul(tally.time))
-        .wrapping_add((weight + 8).wrapping_mul(tally.control))
+    weight
+        .wrapping_mul(plain_sum(tally))
+        .wrapping_add(slope(tally))
+}
+
+/// By how much a port adds more to the check word, if it has heard `after` and no longer `before`.
+/// One product of 64 bits, since small processors have none, for each pulse.
+#[inline]
+pub(crate) fn tally_change(port: u8, before: &Tally, after: &Tally) -> u64
+    requires { port < 5 }
+    ensures { (weighted (287 + 10 * port) (tally_numbers before.now) + result) % 2 ^ 64
+        ≡ weighted (287 + 10 * port) (tally_numbers after.now) % 2 ^ 64 }
+{
+    let weight = 287 + 10 * u64::from(port);
+    let all = plain_sum(after).wrapping_sub(plain_sum(before));
+    let more = slope(after).wrapping_sub(slope(before));
+    weight.wrapping_mul(all).wrapping_add(more)
+}
+
+// The numbers of a port weigh a first weight and 0, 2, 4, 6 and 8 more: so many times their sum, and
+// what they add beside it.
+#[inline]
+fn plain_sum(tally: &Tally) -> u64
+    ensures { result ≡ plain_of tally.now % 2 ^ 64 }
+{
+    (u64::from(tally.count) + u64::from(tally.wrong.kind) + u64::from(tally.wrong.element))
+        .wrapping_add(tally.time)
+        .wrapping_add(tally.control)
+}
+
+#[inline]
+fn slope(tally: &Tally) -> u64
+    ensures { result ≡ slope_of tally.now % 2 ^ 64 }
+{
+    (2 * u64::from(tally.wrong.kind) + 4 * u64::from(tally.wrong.element))
+        .wrapping_add(tally.time.wrapping_mul(6))
+        .wrapping_add(tally.control.wrapping_mul(8))
 }
 
 /// What five ports add to the check word.

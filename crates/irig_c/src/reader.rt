@@ -28,7 +28,7 @@ ghost use Rattle.irig_c.specs.Reports.{report_in, told_in, voices_in};
 ghost use Rattle.irig_c.specs.Voices.{voices_of};
 ghost use Rattle.irig_c.specs.Readers.{IsAccepted, IsReaderOf, HaveHeard, tells_in, told_at, step_in};
 
-use crate::check_word::{check_of, fixed_sum, ports_sum, state_sum, tally_sum};
+use crate::check_word::{check_of, fixed_sum, ports_sum, state_sum, tally_change};
 use crate::fault::OUT_OF_RANGE;
 use crate::report::{IrigReport, IrigTold, report_for_c, told_for_c};
 use crate::setup::{
@@ -144,10 +144,9 @@ pub(crate) fn set_port(reader: &mut IrigReader, port: u8, tally: Tally)
     ensures sealed { IsSealed reader.new ↔ IsSealed reader.old }
 {
     let place = usize::from(port);
-    let before = tally_sum(port, &reader.ports[place]);
-    let after = tally_sum(port, &tally);
+    let change = tally_change(port, &reader.ports[place], &tally);
     reader.ports[place] = tally;
-    reader.check = reader.check.wrapping_sub(before).wrapping_add(after);
+    reader.check = reader.check.wrapping_add(change);
 }
 
 /// An edge: what the reader says, by what its ports heard since the last one. They are then empty.

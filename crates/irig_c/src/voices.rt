@@ -25,6 +25,7 @@ pub(crate) struct Voices {
 }
 
 /// The voices of ports that tell this, have this vote, and heard frames by these numbers.
+#[inline(never)]
 pub(crate) fn voices_of(
     tells: &Tells,
     redundancy: Redundancy,

@@ -38,6 +38,7 @@ pub(crate) fn sent_by(standings: &Standings, sense: Sense, ports: &[Tally; 5]) -
     ]
 }
 
+#[inline(never)]
 fn sent_if(standing: Standing, sense: Sense, tally: &Tally) -> Option<Sent>
     ensures { result ≡ sent_if standing sense tally.now }
 {

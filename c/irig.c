@@ -1,0 +1,173 @@
+/* The calls of irig.h: each tests its pointers, and then calls the proved function of its name in
+ * crates/irig_c, which asks for pointers that lead somewhere and for nothing else. */
+#include "irig.h"
+
+/* ---- the proved functions */
+
+uint8_t irig_c_classify(uint32_t width_us);
+uint32_t irig_c_width_us(uint8_t symbol);
+void irig_c_widths_us(const uint8_t symbols[100], uint32_t widths_us[100]);
+uint32_t irig_c_frame_of(const irig_utc *second, int8_t local_half_hours,
+                         const irig_control *control, uint8_t parity, uint8_t symbols[100]);
+uint32_t irig_c_encode(const irig_coded *coded, uint8_t symbols[100]);
+uint32_t irig_c_decode(const uint8_t *symbols, irig_count count, irig_coded *coded);
+bool irig_c_has_parity(const uint8_t symbols[100], uint8_t parity);
+uint32_t irig_c_set_parity(uint8_t symbols[100], uint8_t parity);
+uint32_t irig_c_control_pack(const irig_control *control, uint32_t *word);
+uint32_t irig_c_control_unpack(uint32_t word, irig_control *control);
+uint32_t irig_c_second_next(const irig_utc *second, uint8_t mark, irig_utc *following);
+uint32_t irig_c_second_write(const irig_utc *second, char text[20]);
+uint32_t irig_c_second_read(const char *text, irig_count count, irig_utc *second);
+uint32_t irig_c_coded_of(const irig_utc *second, int8_t local_half_hours, irig_coded *coded);
+uint32_t irig_c_claim_of(const irig_coded *coded, const irig_control *control, uint8_t sense,
+                         irig_claim *claim);
+uint32_t irig_c_reader_init(irig_reader *reader, const irig_setup *setup, const irig_table *table);
+uint32_t irig_c_reader_pulse(irig_reader *reader, uint8_t port, uint32_t width_us);
+uint32_t irig_c_reader_pulses(irig_reader *reader, uint8_t port, const uint32_t *widths_us,
+                              irig_count count);
+uint8_t irig_c_reader_hear(irig_reader *reader, irig_sync *sync, uint8_t port, uint32_t rise_us,
+                           uint32_t width_us);
+uint32_t irig_c_reader_tick(irig_reader *reader, irig_report *report);
+void irig_c_reader_restart(irig_reader *reader);
+uint32_t irig_c_reader_port(const irig_reader *reader, uint8_t port, irig_told *told);
+void irig_c_sync_init(irig_sync *sync);
+uint8_t irig_c_sync_pulse(irig_sync *sync, uint32_t rise_us, uint32_t width_us);
+void irig_c_sync_idle(irig_sync *sync, uint32_t now_us);
+
+/* What is answered of a null pointer. */
+static const uint32_t REFUSED = IRIG_FAULT_VALUE;
+
+const char *irig_version(void) { return IRIG_VERSION; }
+
+/* ---- symbols and frames */
+
+uint8_t irig_classify(uint32_t width_us) { return irig_c_classify(width_us); }
+
+uint32_t irig_width_us(uint8_t symbol) { return irig_c_width_us(symbol); }
+
+void irig_widths_us(const uint8_t symbols[100], uint32_t widths_us[100]) {
+    if ((symbols != NULL) && (widths_us != NULL)) {
+        irig_c_widths_us(symbols, widths_us);
+    }
+}
+
+uint32_t irig_frame_of(const irig_utc *second, int8_t local_half_hours, const irig_control *control,
+                       uint8_t parity, uint8_t symbols[100]) {
+    bool is_there = (second != NULL) && (control != NULL) && (symbols != NULL);
+    return is_there ? irig_c_frame_of(second, local_half_hours, control, parity, symbols)
+                    : REFUSED;
+}
+
+uint32_t irig_encode(const irig_coded *coded, uint8_t symbols[100]) {
+    bool is_there = (coded != NULL) && (symbols != NULL);
+    return is_there ? irig_c_encode(coded, symbols) : REFUSED;
+}
+
+uint32_t irig_decode(const uint8_t *symbols, irig_count count, irig_coded *coded) {
+    bool is_there = (symbols != NULL) && (coded != NULL);
+    return is_there ? irig_c_decode(symbols, count, coded) : REFUSED;
+}
+
+bool irig_has_parity(const uint8_t symbols[100], uint8_t parity) {
+    return (symbols != NULL) ? irig_c_has_parity(symbols, parity) : false;
+}
+
+uint32_t irig_set_parity(uint8_t symbols[100], uint8_t parity) {
+    return (symbols != NULL) ? irig_c_set_parity(symbols, parity) : REFUSED;
+}
+
+uint32_t irig_control_pack(const irig_control *control, uint32_t *word) {
+    bool is_there = (control != NULL) && (word != NULL);
+    return is_there ? irig_c_control_pack(control, word) : REFUSED;
+}
+
+uint32_t irig_control_unpack(uint32_t word, irig_control *control) {
+    return (control != NULL) ? irig_c_control_unpack(word, control) : REFUSED;
+}
+
+/* ---- seconds */
+
+uint32_t irig_second_next(const irig_utc *second, uint8_t mark, irig_utc *following) {
+    bool is_there = (second != NULL) && (following != NULL);
+    return is_there ? irig_c_second_next(second, mark, following) : REFUSED;
+}
+
+uint32_t irig_second_write(const irig_utc *second, char text[20]) {
+    bool is_there = (second != NULL) && (text != NULL);
+    return is_there ? irig_c_second_write(second, text) : REFUSED;
+}
+
+uint32_t irig_second_read(const char *text, irig_count count, irig_utc *second) {
+    bool is_there = (text != NULL) && (second != NULL);
+    return is_there ? irig_c_second_read(text, count, second) : REFUSED;
+}
+
+uint32_t irig_coded_of(const irig_utc *second, int8_t local_half_hours, irig_coded *coded) {
+    bool is_there = (second != NULL) && (coded != NULL);
+    return is_there ? irig_c_coded_of(second, local_half_hours, coded) : REFUSED;
+}
+
+uint32_t irig_claim_of(const irig_coded *coded, const irig_control *control, uint8_t sense,
+                       irig_claim *claim) {
+    bool is_there = (coded != NULL) && (control != NULL) && (claim != NULL);
+    return is_there ? irig_c_claim_of(coded, control, sense, claim) : REFUSED;
+}
+
+/* ---- readers */
+
+uint32_t irig_reader_init(irig_reader *reader, const irig_setup *setup, const irig_table *table) {
+    bool is_there = (reader != NULL) && (setup != NULL) && (table != NULL);
+    return is_there ? irig_c_reader_init(reader, setup, table) : REFUSED;
+}
+
+uint32_t irig_reader_pulse(irig_reader *reader, uint8_t port, uint32_t width_us) {
+    return (reader != NULL) ? irig_c_reader_pulse(reader, port, width_us) : REFUSED;
+}
+
+uint32_t irig_reader_pulses(irig_reader *reader, uint8_t port, const uint32_t *widths_us,
+                            irig_count count) {
+    bool is_there = (reader != NULL) && (widths_us != NULL);
+    return is_there ? irig_c_reader_pulses(reader, port, widths_us, count) : REFUSED;
+}
+
+uint8_t irig_reader_hear(irig_reader *reader, irig_sync *sync, uint8_t port, uint32_t rise_us,
+                         uint32_t width_us) {
+    static const uint8_t no_port = IRIG_NO_PORT;
+    bool is_there = (reader != NULL) && (sync != NULL);
+    return is_there ? irig_c_reader_hear(reader, sync, port, rise_us, width_us) : no_port;
+}
+
+uint32_t irig_reader_tick(irig_reader *reader, irig_report *report) {
+    bool is_there = (reader != NULL) && (report != NULL);
+    return is_there ? irig_c_reader_tick(reader, report) : REFUSED;
+}
+
+void irig_reader_restart(irig_reader *reader) {
+    if (reader != NULL) {
+        irig_c_reader_restart(reader);
+    }
+}
+
+uint32_t irig_reader_port(const irig_reader *reader, uint8_t port, irig_told *told) {
+    bool is_there = (reader != NULL) && (told != NULL);
+    return is_there ? irig_c_reader_port(reader, port, told) : REFUSED;
+}
+
+/* ---- lines */
+
+void irig_sync_init(irig_sync *sync) {
+    if (sync != NULL) {
+        irig_c_sync_init(sync);
+    }
+}
+
+uint8_t irig_sync_pulse(irig_sync *sync, uint32_t rise_us, uint32_t width_us) {
+    static const uint8_t out_of_step = 0U;
+    return (sync != NULL) ? irig_c_sync_pulse(sync, rise_us, width_us) : out_of_step;
+}
+
+void irig_sync_idle(irig_sync *sync, uint32_t now_us) {
+    if (sync != NULL) {
+        irig_c_sync_idle(sync, now_us);
+    }
+}

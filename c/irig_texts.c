@@ -1,0 +1,97 @@
+/* The texts of irig.h. tools/repo/faults makes this file: of crates/irig_faults/src/meaning.rt, and
+ * of the tables of docs/OUTPUT.md. */
+#include "irig.h"
+
+typedef struct words {
+    const char *name;
+    const char *text;
+} words;
+
+/* By their numbers. */
+static const words faults[] = {
+    {"", ""},
+    {"Short", "fewer than 100 symbols, n of them"},
+    {"Long", "more than 100 symbols"},
+    {"Pulse", "the lowest wrong element is i, a bad pulse"},
+    {"Marker",
+     "the lowest wrong element is i, a marker where data belongs or data where a marker does"},
+    {"Digit",
+     "the first wrong field, of second, minute, hour, day, year, has a decimal digit above 9"},
+    {"Range", "that field has digits, and is out of its range"},
+    {"NoSuchDay", "day 366 of a year that has 365"},
+    {"OutOfYears", "the UTC day is before 2000-01-02 or after 2099-12-30"},
+    {"Second60", "second 60 elsewhere than in 23:59 UTC of a month's last day"},
+    {"DeletedSecond",
+     "23:59:59 UTC of a month's last day, and the frame says that this second is deleted"},
+    {"BadStart", "start is no second of this timeline"},
+    {"LeapNotMonthEnd", "a leap on a day that is not a month's last"},
+    {"LeapTwice", "a day is listed twice in leaps"},
+    {"OutOfYears", "a leap outside 2000-01-02 to 2099-12-30"},
+    {"Offset", "a zone more than 31 half hours from UTC"},
+    {"Changes", "a change inside a minute, or not later than the one before"},
+    {"Parity", "the ones at elements 1 to 75 have the wrong parity"},
+    {"Sbs", "the straight binary seconds are not those of the coded time"},
+    {"NoSuchReader", "no reader has this name"},
+    {"NoSuchGenerator", "there is no generator g"},
+    {"FutureReplay", "a replay of an edge that generator g has not reached"},
+    {"EndOfYears", "a second after 2099-12-30"},
+    {"TooLong", "more than 65,536 bytes in a line"},
+    {"Json", "no JSON, no UTF-8, or nested deeper than 127"},
+    {"Shape",
+     "a key is missing or unknown, or a value has another type; a do or kind that is not there"},
+    {"Value",
+     "a number out of its range, a text that is none of the words or no date, a list that is "
+     "too long, or too many or too few generators"},
+    {"Version", "a version that this program does not know"},
+    {"Names", "no reader or more than 16, a name of another form, or a name twice"},
+    {"NoPlant", "the input ended before a plant line"},
+    {"TooManyLines", "more than 1,000,000 lines"},
+    {"TableEnd", "a table goes beyond 2099-12-30"},
+    {"TableLong", "a table with more than 64 leaps"},
+    {"TableDay", "a table's leap on a day that is not a month's last, or after until"},
+    {"TableTwice", "a day is listed twice in a table"},
+};
+static const words locks[] = {
+    {"unlocked", "nothing is known"},
+    {"acquiring", "N votes in a row, less than lock_after; nothing is announced yet"},
+    {"locked", "the second stands on a vote for the one before it"},
+    {"holdover", "no vote for N edges; the second is counted from the last vote"},
+};
+static const words causes[] = {
+    {"voted", "two of three ports, or three of five, told this second, and the same of a leap"},
+    {"held", "there was no vote, and the reader counts on"},
+    {"acquiring",
+     "there was a vote, and not yet enough of them in a row, since the start or a restart"},
+    {"no-vote", "there was no vote, and nothing to count from, as after a restart"},
+    {"expired", "no vote for more than holdover edges; the reader no longer counts"},
+    {"leap-guard",
+     "counting alone it came to 23:59:58 of a month's last day, and no frame or table told if "
+     "a leap second comes"},
+    {"jump", "the vote is for another second than the one that follows"},
+    {"range-end", "the next second would be after 2099-12-30"},
+};
+
+static const size_t fault_count = sizeof(faults) / sizeof(faults[0]);
+static const size_t lock_count = sizeof(locks) / sizeof(locks[0]);
+static const size_t cause_count = sizeof(causes) / sizeof(causes[0]);
+
+static words words_of(const words *table, size_t count, uint32_t number) {
+    static const words none = {"", ""};
+    return (number < count) ? table[number] : none;
+}
+
+const char *irig_fault_name(uint32_t answer) {
+    return words_of(faults, fault_count, IRIG_FAULT(answer)).name;
+}
+
+const char *irig_fault_text(uint32_t answer) {
+    return words_of(faults, fault_count, IRIG_FAULT(answer)).text;
+}
+
+const char *irig_lock_name(uint8_t lock) { return words_of(locks, lock_count, lock).name; }
+
+const char *irig_lock_text(uint8_t lock) { return words_of(locks, lock_count, lock).text; }
+
+const char *irig_cause_name(uint8_t cause) { return words_of(causes, cause_count, cause).name; }
+
+const char *irig_cause_text(uint8_t cause) { return words_of(causes, cause_count, cause).text; }
