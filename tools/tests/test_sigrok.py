@@ -529,6 +529,11 @@ class Lines(unittest.TestCase):
     def test_from_the_middle(self) -> None:
         self.compare(from_the_middle())
 
+    def test_from_within_a_pulse(self) -> None:
+        """What is left of the pulse is none."""
+        line = closed([pulse for pulse in true_line(-403_000, 3) if pulse.rise_us > 0])
+        self.compare_said(decoded(dump_of([Pulse(0, 2000), *line])), line, Rules())
+
     def test_bounds(self) -> None:
         self.compare(widths_at_bounds())
         self.compare(gaps_at_bounds())
@@ -550,21 +555,31 @@ class Lines(unittest.TestCase):
                     self.compare(line, run.rules)
 
 
-class Page(unittest.TestCase):
-    """The command of docs/WIRES.md prints what the page shows."""
+class Pages(unittest.TestCase):
+    """Commands print what the pages show."""
 
-    def test_command(self) -> None:
-        blocks = re.findall(r"(?<=\n\n)(?:    .+\n)+", (ROOT / "docs/WIRES.md").read_text())
-        blocks = [re.sub("^    ", "", block, flags=re.M) for block in blocks]
-        (place,) = (n for n, block in enumerate(blocks) if "sigrok-cli" in block)
+    def printed(self, commands: str) -> str:
         with tempfile.TemporaryDirectory() as folder:
             for name in ("tests", "examples"):
                 Path(folder, name).symlink_to(ROOT / name)
             ran = subprocess.run(
-                ["bash", "-ec", blocks[place]], cwd=folder, env=ENVIRONMENT,
+                ["bash", "-ec", commands], cwd=folder, env=ENVIRONMENT,
                 capture_output=True, text=True, timeout=60,
             )
-        self.assertEqual((ran.stdout, ran.stderr), (blocks[place + 1], ""))
+        self.assertEqual(ran.stderr, "")
+        return ran.stdout
+
+    def test_wires(self) -> None:
+        blocks = re.findall(r"(?<=\n\n)(?:    .+\n)+", (ROOT / "docs/WIRES.md").read_text())
+        blocks = [re.sub("^    ", "", block, flags=re.M) for block in blocks]
+        (place,) = (n for n, block in enumerate(blocks) if "sigrok-cli" in block)
+        self.assertEqual(self.printed(blocks[place]), blocks[place + 1])
+
+    def test_pull_request(self) -> None:
+        page = (ROOT / "sigrok/README.md").read_text()
+        command, shown = re.findall(r"    \$ (sigrok-cli .+)\n((?:    .+\n)+)", page)[0]
+        make = "tests/waves.py examples/leap_inserted.jsonl --vcd > leap.vcd"
+        self.assertIn(re.sub("^    ", "", shown, flags=re.M), self.printed(f"{make}\n{command}"))
 
 
 if __name__ == "__main__":
