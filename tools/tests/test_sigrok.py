@@ -352,11 +352,13 @@ def with_single_faults() -> list[Pulse]:
 
 
 def with_random_faults(chance: random.Random, seconds: int) -> list[Pulse]:
+    """A line of which each hundredth pulse is at fault. What would begin within the pulse before is
+    left out."""
     makes = list(FAULTS.values())
     line: list[Pulse] = []
     for pulse in true_line(waves.FIRST_EDGE_US, seconds):
-        is_faulty = chance.random() < 0.01
-        line += chance.choice(makes)(*pulse) if is_faulty else [pulse]
+        made = chance.choice(makes)(*pulse) if chance.random() < 0.01 else [pulse]
+        line += [one for one in made if not line or one.rise_us > sum(line[-1])]
     return line
 
 
@@ -493,14 +495,16 @@ class Lines(unittest.TestCase):
             print(MISSING)
             self.skipTest(MISSING)
 
-    def compare(self, pulses: Sequence[Pulse], rules: Rules = Rules(), **level: int) -> list[Said]:
+    def compare(self, pulses: Sequence[Pulse], rules: Rules = Rules()) -> list[Said]:
         """What the decoder says of a line, if a reader says it too."""
         pulses = closed(pulses)
-        said = decoded(dump_of(pulses, **level), rules, "active-low" if level else "active-high")
+        said = decoded(dump_of(pulses), rules)
         self.compare_said(said, pulses, rules)
         return said
 
-    def compare_said(self, said: list[Said], pulses: Sequence[Pulse], rules: Rules) -> None:
+    def compare_said(
+        self, said: list[Said], pulses: Sequence[Pulse], rules: Rules = Rules()
+    ) -> None:
         wanted = heard(pulses, rules)
         self.assertEqual([one.begin_us for one in said if one.text == "Out of step"], wanted.out)
         texts = [one.text for one in verdicts(said)]
@@ -532,7 +536,7 @@ class Lines(unittest.TestCase):
     def test_from_within_a_pulse(self) -> None:
         """What is left of the pulse is none."""
         line = closed([pulse for pulse in true_line(-403_000, 3) if pulse.rise_us > 0])
-        self.compare_said(decoded(dump_of([Pulse(0, 2000), *line])), line, Rules())
+        self.compare_said(decoded(dump_of([Pulse(0, 2000), *line])), line)
 
     def test_bounds(self) -> None:
         self.compare(widths_at_bounds())
@@ -543,8 +547,8 @@ class Lines(unittest.TestCase):
         line = closed(true_line(waves.FIRST_EDGE_US, 3))
         said = decoded(dump_of(line, low=1), polarity="active-low")
         self.assertEqual(said, decoded(dump_of(line)))
-        self.compare_said(said, line, Rules())
-        self.compare_said(decoded(dump_of(line, low=1)), turned(line), Rules())
+        self.compare_said(said, line)
+        self.compare_said(decoded(dump_of(line, low=1)), turned(line))
 
     def test_lines_of_scenarios(self) -> None:
         """Whole lines, with what no port hears as it was sent."""
