@@ -1,17 +1,18 @@
 #!/usr/bin/env python3
 """Plays a scenario to the wires of its first reader: a row for each change of level, as
-`time_us level level level`, for c/examples/capture_bench.c. Five generators make five levels.
+`time_us level level level`, for c/examples/capture_bench.c. Five generators make five levels. With
+--vcd it is a value change dump, which sigrok-cli, PulseView and others read.
 
 Frames and generators are written anew here, by docs/FRAME.md and docs/GENERATORS.md, so that a log
 made of these waves owes nothing to the program's. Each second has its pulses at 10 ms from its edge
 on, and the first edge comes after 50 ms. A restart is no matter of wires, and left out.
 
-    tests/waves.py SCENARIO [--late US,US,US] [--pull LINE,FROM_MS,TO_MS] [--line LINE]
+    tests/waves.py SCENARIO [--late US,US,US] [--pull LINE,FROM_MS,TO_MS] [--line LINE] [--vcd]
     tests/waves.py SCENARIO --words
 
 --late: by how much the pulses of each line come later; --pull: the cable of a line is pulled out
-then, and plugged in again; --line: that line alone, for a reader of one port; --words: prints how
-the reader is set up, as the bench takes it."""
+then, and plugged in again; --line: that line alone, for a reader of one port; --vcd: a value change
+dump; --words: prints how the reader is set up, as the bench takes it."""
 from __future__ import annotations
 
 import argparse
@@ -265,6 +266,28 @@ def pulled(changes: Iterable[tuple[int, int, int]], line: int, begin: int, end: 
         yield time, of, to
 
 
+def rows_of(changes: Iterable[tuple[int, int, int]], lines: Sequence[int]) -> Iterator[list[int]]:
+    """The time of each change of these lines, and their levels from then on."""
+    levels = dict.fromkeys(lines, 0)
+    for time, line, level in changes:
+        if levels.get(line, level) != level:
+            levels[line] = level
+            yield [time, *levels.values()]
+
+
+def dump_of(rows: Sequence[Sequence[int]], lines: Sequence[int]) -> Iterator[str]:
+    """The lines of a value change dump of levels. Its unit is as coarse as they allow, since sigrok
+    takes a sample each unit."""
+    levels_at = {0: [0] * len(lines)} | {time: levels for time, *levels in rows}
+    unit = next(unit for unit in (100, 10, 1) if not any(time % unit for time in levels_at))
+    yield f"$timescale {unit} us $end"
+    yield from (f"$var wire 1 {line} LINE{line} $end" for line in lines)
+    yield "$enddefinitions $end"
+    for time, levels in levels_at.items():
+        values = (f"{level}{line}" for line, level in zip(lines, levels))
+        yield f"#{time // unit} {' '.join(values)}"
+
+
 def words_of(plant: dict) -> str:
     """How the first reader is set up."""
     reader = plant["readers"][0]
@@ -281,6 +304,7 @@ def main() -> None:
     words.add_argument("--late", metavar="US,US,US", default="0,0,0,0,0")
     words.add_argument("--pull", metavar="LINE,FROM_MS,TO_MS")
     words.add_argument("--line", metavar="LINE", type=int)
+    words.add_argument("--vcd", action="store_true")
     words.add_argument("--words", action="store_true")
     told = words.parse_args()
     late = [int(word) for word in told.late.split(",")]
@@ -305,14 +329,13 @@ def main() -> None:
         changes = sorted(pulled(changes, line, begin * 1000, end * 1000))
     if told.line not in (None, *range(count)):
         words.error(f"--line names line {told.line}; there are 0 to {count - 1}")
-    levels = {line: 0 for line in range(count) if told.line in (None, line)}
-    for time, line, level in changes:
-        if levels.get(line, level) != level:
-            levels[line] = level
-            print(time, *levels.values())
+    lines = [line for line in range(count) if told.line in (None, line)]
+    rows = list(rows_of(changes, lines))
     # The lines stay as they are until the last tick has come, as late as it may.
     end = FIRST_EDGE_US + len(seconds) * SECOND_US + ELEMENT_US + max(late)
-    print(end, *levels.values())
+    rows.append([end, *(rows[-1][1:] if rows else [0] * len(lines))])
+    for text in dump_of(rows, lines) if told.vcd else (" ".join(map(str, row)) for row in rows):
+        print(text)
 
 
 if __name__ == "__main__":

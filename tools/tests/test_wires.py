@@ -1,6 +1,6 @@
 #!/usr/bin/env python3
-"""Tests that the pictures of docs/WIRES.md are what tools/wires draws now. Needs matplotlib, and the
-libraries of `make -C c`."""
+"""Tests that the pictures of docs/WIRES.md are what tools/wires draws now, but for the one of
+PulseView. Needs matplotlib, and the libraries of `make -C c`."""
 from __future__ import annotations
 
 import re
@@ -27,7 +27,7 @@ class Pictures(unittest.TestCase):
                 self.skipTest(ran.stderr)
             self.assertEqual((ran.returncode, ran.stderr), (0, ""))
             drawn = {path.name: path.read_text() for path in Path(folder).iterdir()}
-        kept = {path.name: path.read_text() for path in (ROOT / "docs/wires").iterdir()}
+        kept = {path.name: path.read_text() for path in (ROOT / "docs/wires").glob("*.svg")}
         self.assertEqual(set(drawn), set(kept))
         (here,), (there,) = ({version(text) for text in texts.values()} for texts in (drawn, kept))
         if here != there:
@@ -37,8 +37,8 @@ class Pictures(unittest.TestCase):
             self.assertTrue(picture == drawn[name], f"{name} is not what tools/wires draws")
 
     def test_each_stands_on_the_page(self) -> None:
-        shown = re.findall(r"\]\(wires/(\w+)\.svg\)", (ROOT / "docs/WIRES.md").read_text())
-        self.assertEqual(sorted(shown), sorted(path.stem for path in (ROOT / "docs/wires").iterdir()))
+        shown = re.findall(r"\]\(wires/([\w.]+)\)", (ROOT / "docs/WIRES.md").read_text())
+        self.assertEqual(sorted(shown), sorted(path.name for path in (ROOT / "docs/wires").iterdir()))
 
 
 if __name__ == "__main__":
