@@ -146,7 +146,7 @@ enum { IRIG_LEAP_INSERT = 0, IRIG_LEAP_DELETE = 1 };
  * port tells, so that it follows a clock that lies. */
 typedef struct irig_setup {
     uint8_t parity;     /* IRIG_PARITY_EVEN .. */
-    uint8_t sense;      /* IRIG_SENSE_ADD: the offset is added to the coded time; or subtracted */
+    uint8_t sense;      /* IRIG_SENSE_ADD: UTC is the coded time plus its offset; or minus it */
     uint8_t sbs;        /* IRIG_SBS_CHECK: the straight binary seconds are compared; or ignored */
     uint8_t redundancy; /* IRIG_PORTS_THREE .. */
     uint8_t lock_after; /* votes before it announces, 1 to 60 */
@@ -160,7 +160,8 @@ typedef struct irig_leap {
 } irig_leap;
 
 /* The leaps at all month ends up to a day: of the others up to `until` it says that there is none.
- * Of a table of zeros nothing is known. */
+ * Of a table of zeros nothing is known. What frames that were voted say of a day's end goes before
+ * the table. */
 typedef struct irig_table {
     uint32_t until; /* the last day of which it speaks */
     uint32_t len;   /* how many leaps count, 64 at most */
@@ -238,8 +239,10 @@ enum {
 };
 
 /* What a reader says at an edge. Of `agreed`, `differed`, `faulty` and `poor` bit p is port p; a
- * port in none of them was silent. From `quality` on it speaks of the second that was voted, the
- * one before that which is announced. Enough are two of three ports, three of five, one of one. */
+ * port in none of them was silent. A port that differs lies, or others do, only if `agreed` is not 0.
+ * From `quality` on it speaks of the second that was voted, the one before that which is announced,
+ * and says nothing if nothing was voted: keep the last zone. irig_coded_of makes local time of a
+ * second and a zone. Enough are two of three ports, three of five, one of one. */
 typedef struct irig_report {
     uint8_t announces;       /* 1 if it announces the second that begins, 0 if it is silent */
     uint8_t lock;            /* IRIG_LOCK_UNLOCKED .. */
@@ -300,7 +303,8 @@ void irig_widths_us(const uint8_t symbols[100], uint32_t widths_us[100]);
 
 /* Makes the frame of a second in a zone, -31 to 31 half hours from UTC, with these control bits and
  * this parity: what irig_coded_of, irig_control_pack, irig_encode and irig_set_parity make in four
- * calls. IRIG_FAULT_VALUE. */
+ * calls. The offset of the control bits is the caller's: of a clock 5:30 ahead of UTC it is -11 if it
+ * is to be added, and 11 if subtracted. IRIG_FAULT_VALUE. */
 uint32_t irig_frame_of(const irig_utc *second, int8_t local_half_hours, const irig_control *control,
                        uint8_t parity, uint8_t symbols[100]);
 

@@ -40,8 +40,8 @@ static const words faults[] = {
     {"Shape",
      "a key is missing or unknown, or a value has another type; a do or kind that is not there"},
     {"Value",
-     "a number out of its range, a text that is none of the words or no date, a list that is "
-     "too long, or too many or too few generators"},
+     "a value out of its range or none of those that it may have, a null pointer, no such "
+     "port, or a reader whose numbers something else has changed"},
     {"Version", "a version that this program does not know"},
     {"Names", "no reader or more than 16, a name of another form, or a name twice"},
     {"NoPlant", "the input ended before a plant line"},
