@@ -198,6 +198,11 @@ class Ticks:
         self._is_agreed = False
         self._wait_from(self._edge)
 
+    def last_until(self, end: float) -> float:
+        """Up to when ticks may come, if the recording ends there: that of a frame that has ended, and
+        that of a second that has passed."""
+        return end + (ELEMENT_US if self._is_agreed else PATIENCE_US)
+
     def _wait_from(self, edge: float) -> None:
         self._last = edge
         self._edge = edge + SECOND_US
@@ -207,11 +212,9 @@ class Ticks:
 def heard_at_ticks(
     changes: Iterable[Change], lines: Sequence[Line], ticks: Ticks
 ) -> Iterator[List[List[int]]]:
-    """What each line's port heard at each tick: the widths of its pulses. A frame that ends with
-    the recording has its tick."""
+    """What each line's port heard at each tick: the widths of its pulses."""
     for time, number, level in changes:
-        now = time + ELEMENT_US if number == END else time
-        while ticks.due <= now:
+        while ticks.due <= (ticks.last_until(time) if number == END else time):
             yield [line.tick(ticks.due) for line in lines]
             ticks.tick()
         if number != END and lines[number].change(time, level):
@@ -232,8 +235,8 @@ def report(line: Line) -> Iterator[str]:
     if view.gaps.count:
         yield f"    gap {view.gaps}"
     if view.frames:
-        ppm = (view.gaps.mean / ELEMENT_US - 1) * 1e6
-        word = "shorter" if ppm < -0.05 else "longer"
+        ppm = round((view.gaps.mean / ELEMENT_US - 1) * 1e6, 1)
+        word = "shorter" if ppm < 0 else "longer"
         yield f"    a second is {abs(ppm):.1f} ppm {word} than one of the recorder"
     oddity = _oddity(line)
     if oddity:
@@ -249,15 +252,12 @@ def _oddity(line: Line) -> Optional[str]:
         if line.decoded and line.bare == line.decoded:
             return "its year and control bits are all 0, as of a clock without those of IEEE 1344"
         return None
-    if 2 * view.on_time <= sum(view.rises.values()):
-        return f"{_grid(view.rises)}: another code, or a modulated one"
+    if view.pulses == 1:
+        return "one pulse alone is on it"
+    if 2 * view.on_time <= view.pulses - 1:
+        tenths = view.rises.most_common(1)[0][0]
+        apart = f"its pulses are not 10 ms apart but, most often, {tenths / 10:g} ms"
+        return f"{apart}: another code, or a modulated one"
     if not view.begun:
         return "no frame begins: never do two markers follow each other"
     return "frames begin, and none has a hundred pulses, each 10 ms behind the one before"
-
-
-def _grid(rises: Counter[int]) -> str:
-    if not rises:
-        return "it has one pulse"
-    tenths = rises.most_common(1)[0][0]
-    return f"its pulses are not 10 ms apart but, most often, {tenths / 10:g} ms"

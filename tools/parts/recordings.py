@@ -55,6 +55,11 @@ def open_recording(path: Path, threshold: Optional[float]) -> Recording:
     raise ValueError("it ends with none of .vcd, .sr, .csv, .wav")
 
 
+def _opened(path: Path) -> TextIO:
+    """A text, whatever stands in its remarks."""
+    return open(path, encoding="utf-8-sig", errors="replace")
+
+
 def _rate_of(text: str) -> float:
     """Samples a second, of a text as `1 MHz`."""
     found = re.fullmatch(r"([\d.]+)\s*([kMG]?Hz)?", text.strip(), re.IGNORECASE)
@@ -78,7 +83,7 @@ def _in_order(changes: Iterable[Change]) -> Iterator[Change]:
 
 def _dump(path: Path) -> Recording:
     head: List[str] = []
-    with open(path) as file:
+    with _opened(path) as file:
         for line in file:
             head += line.split()
             if "$enddefinitions" in line:
@@ -105,7 +110,7 @@ def _dumped(path: Path, places: Dict[str, int], unit: float) -> Iterator[Change]
     """The changes of a dump by the codes of its wires; a level that is not known is low."""
     time, words = 0.0, {f"{level}{code}": (place, int(level == "1"))
                         for code, place in places.items() for level in "01xXzZ"}
-    with open(path) as file:
+    with _opened(path) as file:
         for line in file:
             if "$enddefinitions" in line:
                 break
@@ -232,7 +237,7 @@ def _is_remark(line: str) -> bool:
 
 def _head_of(path: Path) -> _Head:
     rate, channels, line, number = None, [], "", 0
-    with open(path) as file:
+    with _opened(path) as file:
         for number, line in enumerate(file, 1):
             if not _is_remark(line):
                 break
@@ -255,7 +260,7 @@ def _head_of(path: Path) -> _Head:
 
 def _unit_of(cell: str) -> float:
     """The unit of the times under `Time [s]`, in microseconds."""
-    told = re.search(r"[\[(](\w+)[\])]", cell)
+    told = re.search(r"[\[(](\w+)[\])]", re.sub("[\u00b5\u03bc]", "u", cell))  # both micro signs
     if told and told[1] not in UNITS_US:
         raise ValueError(f"{told[1]!r} is no unit of times; it may be {', '.join(UNITS_US)}")
     return UNITS_US[told[1] if told else "s"]
@@ -308,7 +313,7 @@ def _tabled(
     """The changes of a table. Rows that are alike but for their times are read once."""
     times, levels = _Times(head), [Level(threshold) for _ in wanted]
     row, before, line = -1, "", ""
-    with open(path) as file:
+    with _opened(path) as file:
         for row, line in enumerate(_body(file, head.above)):
             values = line[line.find(",") + 1:] if head.has_times else line
             if values == before:
@@ -363,7 +368,7 @@ def _logical(text: str) -> int:
 
 def _ports_in(path: Path, above: int) -> List[int]:
     """The ports of a list: three or five, of which some may be silent; else those in it."""
-    with open(path) as file:
+    with _opened(path) as file:
         found = sorted({int(line.split(",", 1)[0]) for line in _body(file, above)})
     return next((list(range(count)) for count in (3, 5) if not found or found[-1] < count), found)
 
@@ -375,7 +380,7 @@ def _pulses(path: Path, above: int, wanted: Sequence[int]) -> Iterator[Change]:
     places = {ports[of]: place for place, of in enumerate(wanted)}
     waiting: List[Change] = []
     last = end = None
-    with open(path) as file:
+    with _opened(path) as file:
         for line in _body(file, above):
             port, rise, width = map(int, line.split(","))
             if last is None or end is None:

@@ -20,6 +20,7 @@ from collections.abc import Callable, Iterable, Iterator, Sequence
 from contextlib import redirect_stderr
 from dataclasses import dataclass, replace
 from functools import cache
+from itertools import groupby
 from pathlib import Path
 
 from loading import ROOT, loaded
@@ -71,6 +72,17 @@ UNLIKE_BY_THEIR_WORD = {
     "three_untrue_ports_of_five": LIE,
     "two_untrue_ports_are_followed": LIE,
 }
+
+
+# What was recorded in examples/one_clock_ahead.vcd: G1 in Paris, 18 seconds ahead from the fifth frame
+# on; G2 inverted, and 300 us later.
+ONE_CLOCK_AHEAD = """\
+{"start":"2026-11-24T09:30:00Z","leaps":[],"parity":"even","sense":"add",\
+"generators":[{"local":0},{"local":2},{"local":0}],"readers":[{"name":"relay"}]}
+{"do":"seconds","n":4}
+{"do":"fault","g":1,"kind":"skew","by":18}
+{"do":"seconds","n":3}
+"""
 
 
 # ---- waves
@@ -152,6 +164,7 @@ def wave_of(name: str) -> Wave:
 
 
 def as_dump(lines: Wave, path: Path, unit_us: int = 1) -> None:
+    """With changes that come together in one line, as sigrok-cli 0.7.2 writes them."""
     wires = [chr(33 + line) for line in range(lines.count)]
     with path.open("w") as file:
         print(f"$timescale {unit_us} us $end\n$scope module irig $end", file=file)
@@ -159,8 +172,9 @@ def as_dump(lines: Wave, path: Path, unit_us: int = 1) -> None:
             print(f"$var wire 1 {wire} {name} $end", file=file)
         print("$upscope $end\n$enddefinitions $end\n#0", file=file)
         print(*(f"0{wire}" for wire in wires), file=file)
-        for time, line, level in lines.changes:
-            print(f"#{time // unit_us}\n{level}{wires[line]}", file=file)
+        for time, together in groupby(lines.changes, lambda change: change[0]):
+            words = [f"{level}{wires[line]}" for _, line, level in together]
+            print(f"#{time // unit_us}", *words, file=file)
         print(f"#{lines.end // unit_us}", file=file)
 
 
@@ -406,6 +420,13 @@ class Forms(InAFolder):
                 )
                 self.assertEqual(log_of(captured(path)[0]), wanted_of("one_liar"))
 
+    def test_the_recording_of_the_examples(self) -> None:
+        lines = wave_of_seconds(3, list(waves.seconds_of(ONE_CLOCK_AHEAD.splitlines())))
+        lines = lines.line(2, lambda change: [(change[0] + 300, *change[1:])]).inverted(2)
+        as_dump(lines, self.folder / "made.vcd", 100)
+        kept = (ROOT / "examples/one_clock_ahead.vcd").read_text()
+        self.assertTrue(kept == (self.folder / "made.vcd").read_text(), "another recording")
+
     def test_one_line_is_heard_on_three_ports(self) -> None:
         as_dump(wave_of("one_liar"), self.folder / "lines.vcd")
         text, said = captured(self.folder / "lines.vcd", "--channels=G1")
@@ -545,10 +566,38 @@ class Lines(unittest.TestCase):
         first = "2016-12-31T23:59:53Z"
         self.assertIn(f"start {first}: G0, G1, G2 told {first} at tick 1\n", said)
 
+    def test_ends_in_the_middle(self) -> None:
+        lines = wave_of("leap_inserted")
+        for end, ticks in ((7_046_000, 6), (7_049_000, 7), (7_055_000, 7)):
+            early = tuple(change for change in lines.changes if change[0] < end)
+            text, said = captured_wave(Wave(3, early, end))
+            self.assertIn(f"\n{ticks} ticks; ", said)
+            self.assertEqual(log_of(text)[: 2 * ticks], wanted_of("leap_inserted")[: 2 * ticks])
+
     def test_nothing_on_it(self) -> None:
         self.assertEqual(
             self.said_of(self.replaced([])),
             ["G1: 0 pulses, 0 frames, 0 pulses out of step", "nothing is on it"],
+        )
+
+    def test_one_pulse(self) -> None:
+        self.assertEqual(
+            self.said_of(self.replaced([(500_000, 1), (508_000, 0)])),
+            ["G1: 1 pulses, 0 frames, 0 pulses out of step",
+             f"P   {1:8}  8.000 to 8.000 ms, mean 8.000", "one pulse alone is on it"],
+        )
+
+    def test_each_frame_loses_a_pulse(self) -> None:
+        lost = (50, 51)  # of each hundred pulses
+
+        def but_one(change: Change) -> list[Change]:
+            at = (change[0] - waves.FIRST_EDGE_US) % waves.SECOND_US // waves.ELEMENT_US
+            return [] if at in lost else [change]
+
+        said = self.said_of(wave_of("leap_inserted").line(1, but_one))
+        self.assertEqual(
+            said[-1],
+            "frames begin, and none has a hundred pulses, each 10 ms behind the one before",
         )
 
     def test_another_code(self) -> None:
@@ -559,7 +608,7 @@ class Lines(unittest.TestCase):
         self.assertEqual(said[-1], f"{ONE_MS}: another code, or a modulated one")
 
     def test_a_modulated_one(self) -> None:
-        """A sine of 1 kHz through a comparator: its pulses are wider while its amplitude is high."""
+        """A sine of 1 kHz through a comparator: pulses are wider while its amplitude is high."""
         changes, is_high = [], dict(
             (time, level) for time, line, level in wave_of("leap_inserted").changes if line == 1
         )
@@ -632,6 +681,7 @@ class Words(InAFolder):
             ("a.csv", "Time [s],a\n0,0\n0.1,2.7\n", "'2.7' is no level, 0 or 1"),
             ("a.csv", "Time [s],a,b,c\n0,0\n", "its row 1 has fewer columns than names"),
             ("a.csv", "Time [s],a\n0.2,0\n0.1,1\n", "its times go back"),
+            ("a.csv", "Time [s],a\nsoon,0\n", "could not convert string to float: 'soon'"),
             ("a.csv", "; Samplerate: often\nlogic\n0\n", "'often' is no rate of samples"),
             ("a.csv", "META samplerate: 10000\nTime,a\n0,0\n", "its times are all 0"),
             ("a.wav", "no sound", "it is no sound"),
