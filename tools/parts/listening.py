@@ -199,8 +199,8 @@ class Ticks:
         self._wait_from(self._edge)
 
     def last_until(self, end: float) -> float:
-        """Up to when ticks may come, if the recording ends there: that of a frame that has ended, and
-        that of a second that has passed."""
+        """Up to when ticks may come if the recording ends there: of a frame that has ended, or a
+        second that has passed."""
         return end + (ELEMENT_US if self._is_agreed else PATIENCE_US)
 
     def _wait_from(self, edge: float) -> None:

@@ -74,8 +74,8 @@ UNLIKE_BY_THEIR_WORD = {
 }
 
 
-# What was recorded in examples/one_clock_ahead.vcd: G1 in Paris, 18 seconds ahead from the fifth frame
-# on; G2 inverted, and 300 us later.
+# What was recorded in examples/one_clock_ahead.vcd: G1 in Paris, 18 seconds ahead from the fifth
+# frame on; G2 inverted, and 300 us later.
 ONE_CLOCK_AHEAD = """\
 {"start":"2026-11-24T09:30:00Z","leaps":[],"parity":"even","sense":"add",\
 "generators":[{"local":0},{"local":2},{"local":0}],"readers":[{"name":"relay"}]}
@@ -513,12 +513,89 @@ class Recorders(unittest.TestCase):
         lines = lines.of(lambda change: [(change[0] + late[change[1]], *change[1:])])
         self.assertIn("14 ticks; lines are up to 700 us apart\n", self.alike(lines))
 
+    def test_a_pause_that_the_clock_does_not_show(self) -> None:
+        """Half a frame, and the other half when a clock of 32 bits has come round."""
+        whole = wave_of("leap_inserted").changes
+        half = waves.FIRST_EDGE_US + waves.SECOND_US + 50 * waves.ELEMENT_US
+        early = [change for change in whole if change[0] < half]
+        rest = [(time + 2**32, line, level) for time, line, level in whole
+                if half <= time < half + waves.SECOND_US // 2]
+        lines = Wave(3, (*early, *rest), 2**32 + half + waves.SECOND_US)
+        text, said = captured_wave(lines)
+        self.assertEqual(said.count(": 200 pulses, 1 frames, 50 pulses out of step\n"), 3)
+        self.assertEqual(sum(line.count(" ok ok ok") for line in log_of(text)), 1)
+
     def test_a_dark_minute_by_its_own_clock(self) -> None:
         lines, begin, end = wave_of("plain_minute"), 20_050_000, 40_050_000
         dark = lines.of(lambda change: [] if begin <= change[0] < end else [change])
         log = log_of(captured_wave(dark)[0])
         self.assertEqual(sum(line.endswith(" held") for line in log), 20)
         self.assertEqual(log[-3:], wanted_of("plain_minute")[-3:])
+
+
+class Devices(InAFolder):
+    """Lines as they come, by seeds: what is captured announces what c/examples/capture.c does."""
+
+    def setUp(self) -> None:
+        super().setUp()
+        if not shutil.which("cc"):
+            print("skipped: recordings against c/examples/capture.c; cc is missing")
+            self.skipTest("no cc")
+        sources = [ROOT / f"c/examples/{name}.c" for name in ("capture", "capture_bench")]
+        library = ROOT / "c/out/libirig.so.1"
+        self.board = self.folder / "board"
+        subprocess.run(
+            ["cc", "-std=c11", f"-I{ROOT / 'c'}", *sources, library, f"-Wl,-rpath,{library.parent}",
+             "-o", self.board], check=True,
+        )
+
+    def announced(self, lines: Wave) -> list[str]:
+        """What the board announces, tick by tick."""
+        rows = [*lines.rows(), (lines.end, list(lines.rows())[-1][1])]
+        text = "".join(f"{time} {' '.join(map(str, levels))}\n" for time, levels in rows)
+        ran = subprocess.run([self.board, "2", "5"], input=text, capture_output=True, text=True)
+        return ran.stdout.splitlines()
+
+    @staticmethod
+    def troubled(seed: int) -> Wave:
+        """Lines apart, with jitter, pulses that are lost, first ones that are cut short, and cables
+        that are pulled out."""
+        by, lines = random.Random(seed), wave_of("leap_inserted")
+        late = [by.randint(0, 1200) for _ in range(3)]
+        lost = {(by.randrange(3), by.randrange(1400)) for _ in range(by.randrange(6))}
+
+        def moved(change: Change) -> list[Change]:
+            time, line, level = change
+            element, width = divmod(time - waves.FIRST_EDGE_US, waves.ELEMENT_US)
+            if (line, element) in lost:
+                return []
+            if level == 0 and element % 100 == 0 and by.random() < 0.2:
+                time += 200 - width
+            return [(time + late[line] + by.randint(0, 100), line, level)]
+
+        lines = lines.of(moved)
+        for _ in range(by.randrange(5)):
+            begin, length = by.randrange(14_000_000), by.randrange(4_000_000)
+            cut = waves.pulled(lines.changes, by.randrange(3), begin, begin + length)
+            lines = replace(lines, changes=tuple(sorted(cut)))
+        return lines
+
+    def test_troubled_lines(self) -> None:
+        kinds = set()
+        for seed in range(60):
+            lines = self.troubled(seed)
+            with self.subTest(seed=seed):
+                text, _ = captured_wave(
+                    lines, "--glitch=0", "--reader=relay,2,5", "--start=2016-12-31T23:59:50Z"
+                )
+                log = [line for line in log_of(text)[:-1] if line[0] != " "]
+                wanted = self.announced(lines)
+                # A board and a recording need not end with the same tick.
+                ticks = min(len(log), len(wanted))
+                self.assertLessEqual(max(len(log), len(wanted)) - ticks, 1)
+                self.assertEqual(log[:ticks], wanted[:ticks])
+                kinds |= {line.split()[-1] for line in log}
+        self.assertLessEqual({"voted", "held", "no-vote", "acquiring"}, kinds)
 
 
 class Lines(unittest.TestCase):
@@ -713,6 +790,10 @@ class Words(InAFolder):
         ran = subprocess.run(command, capture_output=True, text=True)
         self.assertEqual((ran.returncode, ran.stdout), (2, ""))
         self.assertRegex(ran.stderr, r"^capture: .* is missing: `make -C c` builds it")
+
+    def test_what_ports_tell_that_claim_nothing(self) -> None:
+        with self.assertRaisesRegex(ValueError, "claim one second, most often .fault 17 Parity.;"):
+            captured_wave(wave_of("odd_parity_and_subtract"))
 
     def test_a_start_that_lies_before_a_leap_second(self) -> None:
         """Up to it two lines have a bad pulse in each frame, so that most ports claim nothing."""
