@@ -217,14 +217,14 @@ def as_rows(lines: Wave, path: Path) -> None:
 
 
 def as_volts(lines: Wave, path: Path) -> None:
-    """A row each 100 us, of 0 to 5 V with noise of 0.3 V, and edges that take two rows."""
+    """A row each 100 us, of 0 to 5 V with noise of 0.2 V, and edges that take some ms."""
     seed, volts, number = random.Random(1), [0.0] * lines.count, 0
     with path.open("w") as file:
         print("Time (ms)," + ",".join(lines.names), file=file)
         for count, levels in lines.samples(100):
             for _ in range(count):
-                volts = [(5.0 * level + volt) / 2 for level, volt in zip(levels, volts)]
-                noisy = (f"{volt + seed.uniform(-0.3, 0.3):.3f}" for volt in volts)
+                volts = [(5.0 * level + 9 * volt) / 10 for level, volt in zip(levels, volts)]
+                noisy = (f"{volt + seed.uniform(-0.2, 0.2):.3f}" for volt in volts)
                 print(f"{number / 10:.1f}," + ",".join(noisy), file=file)
                 number += 1
 
