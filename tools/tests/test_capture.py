@@ -665,17 +665,17 @@ class Lines(unittest.TestCase):
         )
 
     def test_each_frame_loses_a_pulse(self) -> None:
-        lost = (50, 51)  # of each hundred pulses
-
         def but_one(change: Change) -> list[Change]:
-            at = (change[0] - waves.FIRST_EDGE_US) % waves.SECOND_US // waves.ELEMENT_US
-            return [] if at in lost else [change]
+            element = (change[0] - waves.FIRST_EDGE_US) % waves.SECOND_US // waves.ELEMENT_US
+            return [] if element == 50 else [change]
 
-        said = self.said_of(wave_of("leap_inserted").line(1, but_one))
-        self.assertEqual(
-            said[-1],
-            "frames begin, and none has a hundred pulses, each 10 ms behind the one before",
-        )
+        lines = wave_of("leap_inserted").line(1, but_one)
+        said = "frames begin, and none has a hundred pulses, each 10 ms behind the one before"
+        self.assertEqual(self.said_of(lines)[-1], said)
+        self.assertEqual(self.said_of(lines.inverted(1))[-1], said)
+        log = log_of(captured_wave(lines)[0])
+        self.assertEqual(log.count(" 5 relay ok fault:1:Short:50 ok"), 1)
+        self.assertEqual(log_of(captured_wave(lines.inverted(1))[0]), log)
 
     def test_another_code(self) -> None:
         pulses = range(50_000, 14_000_000, 1_000)  # as of IRIG-A
