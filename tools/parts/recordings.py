@@ -1,0 +1,445 @@
+"""Recordings of lines, read as they stream: the names of the channels, and each change of a level.
+
+    .vcd       value change dump: PulseView, sigrok-cli, GTKWave, logic analysers
+    .sr        a session of PulseView and sigrok-cli
+    .csv       sigrok's own, a row a sample; with times in its first column, a row a change or a
+               sample, of levels or of volts; or pulses, with the columns port, rise_us, width_us
+    .wav       a sound card's recording
+"""
+from __future__ import annotations
+
+import configparser
+import heapq
+import re
+import sys
+import wave
+import zipfile
+from array import array
+from dataclasses import dataclass
+from itertools import chain
+from pathlib import Path
+from typing import Callable, Dict, Iterable, Iterator, List, Optional, Sequence, TextIO, Tuple
+
+# The time in microseconds, the place of the channel among those wanted, the level. What a channel
+# begins with is a change too. The last change is the recording's end, of the channel END.
+Change = Tuple[float, int, int]
+END = -1
+
+UNITS_US = {"s": 1e6, "ms": 1e3, "us": 1.0, "ns": 1e-3, "ps": 1e-6, "fs": 1e-9}
+HERTZ = {"hz": 1.0, "khz": 1e3, "mhz": 1e6, "ghz": 1e9}
+CHUNK = 1 << 20
+WORD = 1 << 32  # at which the times of a list of pulses wrap
+LONGEST_US = 1_000_000  # a pulse of a list stands within so much behind another that ended before
+PULSE = ["port", "rise_us", "width_us"]  # the columns of a list of pulses
+HYSTERESIS = 0.1  # of the most that the line was ever off the threshold
+
+
+@dataclass(frozen=True)
+class Recording:
+    """The names of its channels, and the changes of those that are wanted, by their places."""
+
+    names: List[str]
+    changes: Callable[[Sequence[int]], Iterator[Change]]
+
+
+def open_recording(path: Path, threshold: Optional[float]) -> Recording:
+    """Reads the head of a recording. The threshold, in volts, is for one of voltages."""
+    forms = {".vcd": _dump, ".sr": _session}
+    ending = path.suffix.lower()
+    if ending in forms:
+        return forms[ending](path)
+    if ending == ".csv":
+        return _table(path, threshold)
+    if ending == ".wav":
+        return _sound(path, threshold or 0.0)
+    raise ValueError("it ends with none of .vcd, .sr, .csv, .wav")
+
+
+def _opened(path: Path) -> TextIO:
+    """A text, whatever stands in its remarks."""
+    return open(path, encoding="utf-8-sig", errors="replace")
+
+
+def _rate_of(text: str) -> float:
+    """Samples a second, of a text as `1 MHz`."""
+    found = re.fullmatch(r"([\d.]+)\s*([kMG]?Hz)?", text.strip(), re.IGNORECASE)
+    if not found or not float(found[1]):
+        raise ValueError(f"{text.strip()!r} is no rate of samples, as 1 MHz")
+    return float(found[1]) * HERTZ[(found[2] or "hz").lower()]
+
+
+def _in_order(changes: Iterable[Change]) -> Iterator[Change]:
+    """The same changes; a time that goes back is refused."""
+    last = float("-inf")
+    for change in changes:
+        if change[0] < last:
+            raise ValueError(f"its times go back, from {last:.3f} to {change[0]:.3f} us")
+        last = change[0]
+        yield change
+
+
+# ---- value change dumps
+
+
+def _dump(path: Path) -> Recording:
+    head: List[str] = []
+    with _opened(path) as file:
+        for line in file:
+            head += line.split()
+            if "$enddefinitions" in line:
+                break
+        else:
+            raise ValueError("it has no $enddefinitions, as a value change dump has")
+    text = " ".join(head)
+    found = re.search(r"\$timescale\s+(\d+)\s*(\w+)\s+\$end", text)
+    if not found or found[2] not in UNITS_US:
+        raise ValueError("it has no $timescale, as a value change dump has")
+    unit = int(found[1]) * UNITS_US[found[2]]
+    wires: Dict[str, str] = {}
+    for code, name in re.findall(r"\$var\s+\w+\s+1\s+(\S+)\s+(.+?)\s+\$end", text):
+        wires.setdefault(name, code)
+
+    def changes(wanted: Sequence[int]) -> Iterator[Change]:
+        codes = list(wires.values())
+        return _in_order(_dumped(path, {codes[of]: place for place, of in enumerate(wanted)}, unit))
+
+    return Recording(list(wires), changes)
+
+
+def _dumped(path: Path, places: Dict[str, int], unit: float) -> Iterator[Change]:
+    """The changes of a dump by the codes of its wires; a level that is not known is low."""
+    time, words = 0.0, {f"{level}{code}": (place, int(level == "1"))
+                        for code, place in places.items() for level in "01xXzZ"}
+    with _opened(path) as file:
+        for line in file:
+            if "$enddefinitions" in line:
+                break
+        for word in chain.from_iterable(map(str.split, file)):
+            if word[0] == "#":
+                time = int(word[1:]) * unit
+            elif word in words:
+                place, level = words[word]
+                yield time, place, level
+    yield time, END, 0
+
+
+# ---- sessions of sigrok
+
+
+def _session(path: Path) -> Recording:
+    settings = configparser.ConfigParser(interpolation=None)
+    try:
+        with zipfile.ZipFile(path) as archive:
+            settings.read_string(archive.read("metadata").decode())
+    except (zipfile.BadZipFile, KeyError, configparser.Error):
+        raise ValueError("it is no session of sigrok") from None
+    device = dict(settings["device 1"]) if settings.has_section("device 1") else {}
+    if "unitsize" not in device or "samplerate" not in device:
+        raise ValueError("it has no logic channels with a rate of samples")
+    rate, size = _rate_of(device["samplerate"]), int(device["unitsize"])
+    found = {int(key[5:]): name for key, name in device.items() if re.fullmatch(r"probe\d+", key)}
+    bits = sorted(found)
+    stem = device.get("capturefile", "logic-1")
+
+    def changes(wanted: Sequence[int]) -> Iterator[Change]:
+        return _sampled(path, stem, size, rate, [bits[of] - 1 for of in wanted])
+
+    return Recording([found[bit] for bit in bits], changes)
+
+
+def _parts_of(archive: zipfile.ZipFile, stem: str) -> List[str]:
+    """The files of a session's samples in order: one, or some that are numbered."""
+    numbers = {}
+    for name in archive.namelist():
+        found = re.fullmatch(re.escape(stem) + r"(?:-(\d+))?", name)
+        if found:
+            numbers[int(found[1] or 0)] = name
+    return [numbers[number] for number in sorted(numbers)]
+
+
+def _chunks(path: Path, stem: str, size: int) -> Iterator[bytes]:
+    """The bytes of a session's samples, always of whole samples."""
+    rest = b""
+    with zipfile.ZipFile(path) as archive:
+        for name in _parts_of(archive, stem):
+            with archive.open(name) as part:
+                for read in iter(lambda: part.read(CHUNK), b""):
+                    chunk = rest + read if rest else read
+                    whole = len(chunk) - len(chunk) % size
+                    rest = chunk[whole:]
+                    yield chunk[:whole] if rest else chunk
+
+
+class _Runs:
+    """Where a byte of the samples changes, in what is looked at of it."""
+
+    def __init__(self, bits: Dict[int, int]) -> None:
+        self.bits = bits  # the place of a channel by its bit
+        mask = sum(1 << bit for bit in bits)
+        self.masked = bytes(value & mask for value in range(256))
+        # A literal that repeats is what the engine counts fastest.
+        self.runs = [re.compile(b"\\x%02x*" % value, re.DOTALL) for value in range(256)]
+        self.last: Optional[int] = None
+
+    def changes(self, samples: bytes) -> Iterator[Tuple[int, int, int]]:
+        """For each change in these samples its place among them, the channel's, and the level."""
+        data, at = samples.translate(self.masked), 0
+        while at < len(data):
+            value = data[at]
+            differs = 255 if self.last is None else value ^ self.last
+            for bit, place in self.bits.items():
+                if differs >> bit & 1:
+                    yield at, place, value >> bit & 1
+            self.last = value
+            match = self.runs[value].match(data, at)
+            assert match
+            at = match.end()
+
+
+def _sampled(
+    path: Path, stem: str, size: int, rate: float, bits: Sequence[int]
+) -> Iterator[Change]:
+    planes: Dict[int, Dict[int, int]] = {}
+    for place, bit in enumerate(bits):
+        planes.setdefault(bit // 8, {})[bit % 8] = place
+    runs = {plane: _Runs(of) for plane, of in planes.items()}
+    first = 0
+    for chunk in _chunks(path, stem, size):
+        found = (run.changes(chunk[plane::size] if size > 1 else chunk)
+                 for plane, run in runs.items())
+        for at, place, level in heapq.merge(*found):
+            yield (first + at) * 1e6 / rate, place, level
+        first += len(chunk) // size
+    yield first * 1e6 / rate, END, 0
+
+
+# ---- tables
+
+
+@dataclass
+class _Head:
+    """What stands above a table's rows."""
+
+    names: List[str]
+    above: int  # how many lines
+    has_times: bool
+    unit: float  # of the times, in microseconds
+    rate: Optional[float]  # samples a second, if sigrok wrote it
+
+
+def _cells(line: str) -> List[str]:
+    return [cell.strip().strip('"') for cell in line.split(",")]
+
+
+def _is_remark(line: str) -> bool:
+    return not line.strip() or line[0] in ";#%" or line.startswith("META")
+
+
+def _head_of(path: Path) -> _Head:
+    rate, channels, line, number = None, [], "", 0
+    with _opened(path) as file:
+        for number, line in enumerate(file, 1):
+            if not _is_remark(line):
+                break
+            told = re.match(r"(?:[;#%]|META)\s*(samplerate|channels \(.*\)):\s*(.+)", line, re.I)
+            if told and told[1].lower() == "samplerate":
+                rate = _rate_of(told[2])
+            elif told:
+                channels = _cells(told[2])
+        else:
+            raise ValueError("it has no line with the names of its columns")
+    cells = _cells(line)
+    has_times = bool(re.match(r"time|(milli|micro|nano|pico|femto)?seconds$", cells[0], re.I))
+    if not has_times and rate is None and cells != PULSE:
+        raise ValueError("its first column is no time, and no line says '; Samplerate: ..'")
+    names = cells[1:] if has_times else cells
+    if set(names) == {"logic"}:  # sigrok's word for each; the names stand above
+        names = channels if len(channels) == len(names) else [f"D{of}" for of in range(len(names))]
+    return _Head(names, number, has_times, _unit_of(cells[0]), rate)
+
+
+def _unit_of(cell: str) -> float:
+    """The unit of the times under `Time [s]`, in microseconds."""
+    told = re.search(r"[\[(](\w+)[\])]", re.sub("[\u00b5\u03bc]", "u", cell))  # both micro signs
+    if told and told[1] not in UNITS_US:
+        raise ValueError(f"{told[1]!r} is no unit of times; it may be {', '.join(UNITS_US)}")
+    return UNITS_US[told[1] if told else "s"]
+
+
+def _table(path: Path, threshold: Optional[float]) -> Recording:
+    head = _head_of(path)
+    if head.names == PULSE:
+        return Recording([f"port{number}" for number in _ports_in(path, head.above)],
+                         lambda wanted: _pulses(path, head.above, wanted))
+
+    def changes(wanted: Sequence[int]) -> Iterator[Change]:
+        return _in_order(_tabled(path, head, wanted, threshold))
+
+    return Recording(head.names, changes)
+
+
+def _body(file: TextIO, above: int) -> Iterator[str]:
+    """The rows of a table."""
+    for number, line in enumerate(file):
+        if number >= above and not _is_remark(line):
+            yield line
+
+
+class _Times:
+    """When each row of a table was, in microseconds."""
+
+    def __init__(self, head: _Head) -> None:
+        self.head = head
+        self.step: Optional[int] = None
+
+    def of(self, row: int, line: str) -> float:
+        if not self.head.has_times:
+            assert self.head.rate
+            return row * 1e6 / self.head.rate
+        cell = line[: line.find(",")].strip().strip('"')
+        if self.head.rate is None or not cell.isdecimal():
+            return float(cell) * self.head.unit
+        # sigrok cuts the time of one sample to a whole number and multiplies it, from 1 on.
+        if self.step is None:
+            self.step = int(cell)
+        if not self.step:
+            raise ValueError("its times are all 0, as sigrok has them of some inputs: omit them")
+        return (int(cell) // self.step - 1) * 1e6 / self.head.rate
+
+
+def _tabled(
+    path: Path, head: _Head, wanted: Sequence[int], threshold: Optional[float]
+) -> Iterator[Change]:
+    """The changes of a table. Rows that are alike but for their times are read once."""
+    times, levels = _Times(head), [Level(threshold) for _ in wanted]
+    row, before, line = -1, "", ""
+    with _opened(path) as file:
+        for row, line in enumerate(_body(file, head.above)):
+            values = line[line.find(",") + 1:] if head.has_times else line
+            if values == before:
+                continue
+            before = values
+            time, cells = times.of(row, line), values.split(",")
+            if len(cells) < len(head.names):
+                raise ValueError(f"its row {row + 1} has fewer columns than names")
+            for place, of in enumerate(wanted):
+                if levels[place].hear(cells[of]):
+                    yield time, place, levels[place].now
+    if row < 0:
+        raise ValueError("it has no row")
+    yield times.of(row, line), END, 0
+
+
+class Level:
+    """A level of what a table or a sound says: 0 and 1, or volts by a threshold."""
+
+    def __init__(self, threshold: Optional[float]) -> None:
+        self.threshold = threshold
+        self.now = -1
+        self.most = 0.0
+
+    def hear(self, text: str) -> bool:
+        """Whether the level is another than before."""
+        before = self.now
+        if self.threshold is None:
+            self.now = _logical(text)
+        else:
+            self.take(float(text))
+        return self.now != before
+
+    def take(self, volts: float) -> None:
+        """An edge that is slow, and noisy, crosses once: by hysteresis about the threshold."""
+        assert self.threshold is not None
+        off = volts - self.threshold
+        self.most = max(self.most, abs(off))
+        if self.now < 0 or abs(off) > HYSTERESIS * self.most:
+            self.now = int(off > 0)
+
+
+def _logical(text: str) -> int:
+    word = text.strip().strip('"')
+    if word not in ("0", "1"):
+        raise ValueError(f"{word!r} is no level, 0 or 1; of volts --threshold says what is high")
+    return int(word)
+
+
+# ---- lists of pulses
+
+
+def _ports_in(path: Path, above: int) -> List[int]:
+    """The ports of a list: three or five, of which some may be silent; else those in it."""
+    with _opened(path) as file:
+        found = sorted({int(line.split(",", 1)[0]) for line in _body(file, above)})
+    return next((list(range(count)) for count in (3, 5) if not found or found[-1] < count), found)
+
+
+def _pulses(path: Path, above: int, wanted: Sequence[int]) -> Iterator[Change]:
+    """The changes of a list of pulses. Each was written once it had ended, so that of two channels
+    the earlier rise may stand later."""
+    ports = _ports_in(path, above)
+    places = {ports[of]: place for place, of in enumerate(wanted)}
+    waiting: List[Change] = []
+    last = end = None
+    with _opened(path) as file:
+        for line in _body(file, above):
+            port, rise, width = map(int, line.split(","))
+            if last is None or end is None:
+                last = end = rise
+                yield from ((rise - LONGEST_US, place, 0) for place in places.values())
+            # Times wrap, and go back by no more than a pulse.
+            last += (rise - last + LONGEST_US) % WORD - LONGEST_US
+            end = max(end, last + width)
+            if port in places:
+                heapq.heappush(waiting, (last, places[port], 1))
+                heapq.heappush(waiting, (last + width, places[port], 0))
+            while waiting and waiting[0][0] < end - LONGEST_US:
+                yield heapq.heappop(waiting)
+    while waiting:
+        yield heapq.heappop(waiting)
+    yield end or 0, END, 0
+
+
+# ---- sounds
+
+
+def _sound(path: Path, threshold: float) -> Recording:
+    try:
+        with wave.open(str(path)) as sound:
+            count, width = sound.getnchannels(), sound.getsampwidth()
+    except (wave.Error, EOFError) as error:
+        raise ValueError(f"it is no sound as whole numbers: {error}") from None
+    if width not in (1, 2):
+        raise ValueError(f"its samples have {8 * width} bits; 8 and 16 are read")
+    return Recording(
+        [f"sound{place}" for place in range(count)],
+        lambda wanted: _heard(path, threshold, wanted),
+    )
+
+
+def _heard(path: Path, threshold: float, wanted: Sequence[int]) -> Iterator[Change]:
+    """The changes of a sound, where the most that a sample may be is 1."""
+    levels = [Level(threshold) for _ in wanted]
+    with wave.open(str(path)) as sound:
+        count, width, rate = sound.getnchannels(), sound.getsampwidth(), sound.getframerate()
+        at = 0
+        for read in iter(lambda: sound.readframes(CHUNK // 16), b""):
+            frames = len(read) // (width * count)
+            samples = _numbers(read[: frames * width * count], width)
+            for number in range(frames):
+                for place, of in enumerate(wanted):
+                    level, before = levels[place], levels[place].now
+                    level.take(samples[number * count + of])
+                    if level.now != before:
+                        yield (at + number) * 1e6 / rate, place, level.now
+            at += frames
+    yield at * 1e6 / rate, END, 0
+
+
+def _numbers(read: bytes, width: int) -> List[float]:
+    """Samples as numbers from -1 to 1."""
+    if width == 1:
+        return [(value - 128) / 128 for value in read]
+    values = array("h", read)
+    if sys.byteorder == "big":
+        values.byteswap()
+    return [value / 32768 for value in values]

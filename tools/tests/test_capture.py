@@ -1,0 +1,822 @@
+#!/usr/bin/env python3
+"""Tests of capture: the wires of examples and cases, written as each form of a recording and
+captured, have the log of the scenario itself; recorders that are bad do no harm, and lines that are
+no B004 are named. The waves are those of tests/waves.py, and owe nothing to the tool. Needs the
+libraries of `make -C c`; what goes through sigrok-cli is skipped if that is not there."""
+from __future__ import annotations
+
+import io
+import json
+import random
+import resource
+import shutil
+import struct
+import subprocess
+import tempfile
+import unittest
+import wave
+import zipfile
+from collections.abc import Callable, Iterable, Iterator, Sequence
+from contextlib import redirect_stderr
+from dataclasses import dataclass, replace
+from functools import cache
+from itertools import groupby
+from pathlib import Path
+
+from loading import ROOT, loaded
+
+import waves
+from case_files import all_cases
+
+PROGRAM = ROOT / "crates/irig_main/out/irig_main"
+TOOL = loaded(ROOT / "tools/capture")
+ONE_MS = "its pulses are not 10 ms apart but, most often, 1 ms"
+MOST_MEMORY = 200 << 20  # with all that Python maps
+
+# Scenarios whose log no recording of their wires can have, with the reason.
+SILENT_AT_FIRST = "there is no tick before the first frame"
+RESTART = "no wire knows of a restart"
+NO_FRAME = "most of its lines have no whole frame"
+NO_BEGIN = "a pulse that begins no frame is out of step on a wire"
+OTHER = "the last line speaks of another reader"
+UNLIKE = {
+    "a_missed_tick_breaks_the_premise": RESTART,
+    "broken_premise_of_another_reader": OTHER,
+    "damage_at_the_last_marker_to_a_zero": NO_BEGIN,
+    "damage_at_the_last_marker_to_the_same_symbol": NO_BEGIN,
+    "misled_five": SILENT_AT_FIRST,
+    "misled_three": SILENT_AT_FIRST,
+    "plant_line_alone": NO_FRAME,
+    "pulses_since_a_port_was_empty": NO_FRAME,
+    "restart": RESTART,
+    "restart_empties_the_ports": RESTART,
+    "restart_forgets_the_counter": RESTART,
+    "step_of_generator_4_of_five": NO_FRAME,
+}
+# And those that need --start and --leap: the first word of most ports, or what they say of a leap
+# second, is not what the scenario says, or there is none.
+NO_WORD = "most ports claim nothing"
+LIE = "the first word of most ports is untrue"
+UNTOLD = "most ports tell nothing of a leap second that comes, or one that does not"
+UNLIKE_BY_THEIR_WORD = {
+    **UNLIKE,
+    "a_deleted_second_has_no_number": NO_WORD,
+    "false_table": UNTOLD,
+    "leap_seconds_since_2000": NO_WORD,
+    "misled_by_table": UNTOLD,
+    "ports_that_tell_faults": NO_WORD,
+    "table_and_short_holdover_of_five": UNTOLD,
+    "table_carries_holdover_over_a_deleted_second": UNTOLD,
+    "table_carries_holdover_over_a_leap": UNTOLD,
+    "table_of_one_of_two_readers": UNTOLD,
+    "three_untrue_ports_of_five": LIE,
+    "two_untrue_ports_are_followed": LIE,
+}
+
+
+# What was recorded in examples/one_clock_ahead.vcd: G1 in Paris, 18 seconds ahead from the fifth
+# frame on; G2 inverted, and 300 us later.
+ONE_CLOCK_AHEAD = """\
+{"start":"2026-11-24T09:30:00Z","leaps":[],"parity":"even","sense":"add",\
+"generators":[{"local":0},{"local":2},{"local":0}],"readers":[{"name":"relay"}]}
+{"do":"seconds","n":4}
+{"do":"fault","g":1,"kind":"skew","by":18}
+{"do":"seconds","n":3}
+"""
+
+
+# ---- waves
+
+
+Change = tuple[int, int, int]  # the time in microseconds, the line, the level
+
+
+@dataclass(frozen=True)
+class Wave:
+    """Lines, all of them low at first, up to an end."""
+
+    count: int
+    changes: tuple[Change, ...]
+    end: int
+
+    @property
+    def names(self) -> list[str]:
+        return [f"G{line}" for line in range(self.count)]
+
+    def of(self, changed: Callable[[Change], Iterable[Change]]) -> Wave:
+        """Each change made to others."""
+        found = sorted(other for change in self.changes for other in changed(change))
+        return replace(self, changes=tuple(found))
+
+    def line(self, number: int, changed: Callable[[Change], Iterable[Change]]) -> Wave:
+        """Each change of a line made to others."""
+        return self.of(lambda change: changed(change) if change[1] == number else [change])
+
+    def inverted(self, number: int) -> Wave:
+        swapped = self.line(number, lambda change: [(change[0], number, 1 - change[2])])
+        return replace(swapped, changes=((0, number, 1), *swapped.changes))
+
+    def rows(self) -> Iterator[tuple[int, list[int]]]:
+        """The levels at the beginning, and from each change on."""
+        levels, at = [0] * self.count, 0
+        for time, line, level in self.changes:
+            if time != at:
+                yield at, list(levels)
+                at = time
+            levels[line] = level
+        yield at, list(levels)
+
+    def samples(self, every_us: int) -> Iterator[tuple[int, list[int]]]:
+        """The levels as samples, of which the same follow one another so many times."""
+        rows = [*self.rows(), (self.end, [])]
+        for (begin, levels), (end, _) in zip(rows, rows[1:]):
+            yield -(-end // every_us) - -(-begin // every_us), levels
+
+
+def wave_of_seconds(count: int, seconds: Sequence[list[list[int]]]) -> Wave:
+    """The lines on which these widths come, second by second."""
+    found, levels = [], [0] * count
+    for time, line, level in sorted(
+        change
+        for number, second in enumerate(seconds)
+        for change in waves.changes_of(number, second, [0] * count)
+    ):
+        if levels[line] != level:
+            levels[line] = level
+            found.append((time, line, level))
+    end = waves.FIRST_EDGE_US + len(seconds) * waves.SECOND_US + waves.ELEMENT_US
+    return Wave(count, tuple(found), end)
+
+
+def plant_of(text: str) -> dict:
+    return next(json.loads(line) for line in text.splitlines() if line.strip())
+
+
+@cache
+def wave_of(name: str) -> Wave:
+    """The lines of a scenario's first reader."""
+    text = scenarios()[name]
+    seconds = list(waves.seconds_of(text.splitlines()))
+    return wave_of_seconds(len(plant_of(text)["generators"]), seconds)
+
+
+# ---- forms of a recording
+
+
+def as_dump(lines: Wave, path: Path, unit_us: int = 1) -> None:
+    """With changes that come together in one line, as sigrok-cli 0.7.2 writes them."""
+    wires = [chr(33 + line) for line in range(lines.count)]
+    with path.open("w") as file:
+        print(f"$timescale {unit_us} us $end\n$scope module irig $end", file=file)
+        for wire, name in zip(wires, lines.names):
+            print(f"$var wire 1 {wire} {name} $end", file=file)
+        print("$upscope $end\n$enddefinitions $end\n#0", file=file)
+        print(*(f"0{wire}" for wire in wires), file=file)
+        for time, together in groupby(lines.changes, lambda change: change[0]):
+            words = [f"{level}{wires[line]}" for _, line, level in together]
+            print(f"#{time // unit_us}", *words, file=file)
+        print(f"#{lines.end // unit_us}", file=file)
+
+
+def as_session(lines: Wave, path: Path, every_us: int = 1, size: int = 1, first: int = 1) -> None:
+    """As sigrok-cli 0.7.2 writes it: samples of so many bytes, the lines from a channel on."""
+    probes = [f"probe{first + line}={name}" for line, name in enumerate(lines.names)]
+    head = ["[global]", "sigrok version=0.5.2", "", "[device 1]", "capturefile=logic-1",
+            f"total probes={lines.count}", f"samplerate={1000 // every_us} kHz", "total analog=0",
+            *probes, f"unitsize={size}", ""]
+    with zipfile.ZipFile(path, "w", zipfile.ZIP_DEFLATED, compresslevel=1) as archive:
+        archive.writestr("version", "2")
+        archive.writestr("metadata", "\n".join(head))
+        part, buffer = 1, bytearray()
+        for count, levels in lines.samples(every_us):
+            word = sum(level << first - 1 + line for line, level in enumerate(levels))
+            for begin in range(0, count, 1_000_000):
+                buffer += word.to_bytes(size, "little") * min(1_000_000, count - begin)
+                if len(buffer) > 4_000_003:  # a sample of two bytes goes on in the next part
+                    archive.writestr(f"logic-1-{part}", bytes(buffer[:4_000_003]))
+                    part, buffer = part + 1, buffer[4_000_003:]
+        archive.writestr(f"logic-1-{part}", bytes(buffer))
+
+
+def as_samples(lines: Wave, path: Path) -> None:
+    """As sigrok-cli 0.7.2 writes it by default, a row a sample."""
+    with path.open("w") as file:
+        print("; CSV generated by libsigrok 0.5.2", file=file)
+        print(f"; Channels ({lines.count}/{lines.count}): {', '.join(lines.names)}", file=file)
+        print("; Samplerate: 10 kHz\n" + ",".join(["logic"] * lines.count), file=file)
+        for count, levels in lines.samples(100):
+            file.write((",".join(map(str, levels)) + "\n") * count)
+
+
+def as_rows(lines: Wave, path: Path) -> None:
+    """A row a change."""
+    with path.open("w") as file:
+        print("Time [s]," + ",".join(lines.names), file=file)
+        for time, levels in [*lines.rows(), (lines.end, list(lines.rows())[-1][1])]:
+            print(f"{time / 1e6:.9f}," + ",".join(map(str, levels)), file=file)
+
+
+def as_volts(lines: Wave, path: Path) -> None:
+    """A row each 100 us, of 0 to 5 V with noise of 0.2 V, and edges that take some ms."""
+    seed, volts, number = random.Random(1), [0.0] * lines.count, 0
+    with path.open("w") as file:
+        print("Time (ms)," + ",".join(lines.names), file=file)
+        for count, levels in lines.samples(100):
+            for _ in range(count):
+                volts = [(5.0 * level + 9 * volt) / 10 for level, volt in zip(levels, volts)]
+                noisy = (f"{volt + seed.uniform(-0.2, 0.2):.3f}" for volt in volts)
+                print(f"{number / 10:.1f}," + ",".join(noisy), file=file)
+                number += 1
+
+
+def as_pulses(lines: Wave, path: Path) -> None:
+    """Each pulse once it has ended, with a clock of 32 bits that wraps three seconds later."""
+    rises, offset = {}, 2**32 - 3_000_000
+    with path.open("w") as file:
+        print("port,rise_us,width_us", file=file)
+        for time, line, level in lines.changes:
+            if level:
+                rises[line] = time
+            else:
+                rise = (rises[line] + offset) % 2**32
+                print(f"{line},{rise},{time - rises[line]}", file=file)
+
+
+def as_sound(lines: Wave, path: Path) -> None:
+    """8,000 samples a second, of 16 bits, through the high pass of a sound card at 20 Hz."""
+    before, held = [0.0] * lines.count, [0.0] * lines.count
+    with wave.open(str(path), "wb") as sound:
+        sound.setparams((lines.count, 2, 8_000, 0, "NONE", ""))
+        for count, levels in lines.samples(125):
+            for _ in range(count):
+                now = [2.0 * level - 1.0 for level in levels]
+                held = [0.984 * (a + b - c) for a, b, c in zip(held, now, before)]
+                before = now
+                values = (int(max(-32_767, min(32_767, 12_000 * value))) for value in held)
+                sound.writeframesraw(struct.pack(f"<{lines.count}h", *values))
+
+
+# Each with its ending, further words for the tool, and how many seconds it is tried with.
+FORMS: dict[str, tuple[Callable[[Wave, Path], None], str, list[str], int]] = {
+    "dump": (as_dump, ".vcd", [], 10_000),
+    "session": (as_session, ".sr", [], 200),
+    "wide session": (lambda of, path: as_session(of, path, 10, 2, 8), ".sr", [], 200),
+    "samples": (as_samples, ".csv", [], 40),
+    "rows": (as_rows, ".csv", [], 10_000),
+    "volts": (as_volts, ".csv", ["--threshold=2.5"], 13),
+    "pulses": (as_pulses, ".csv", [], 10_000),
+    "sound": (as_sound, ".wav", [], 13),
+}
+
+
+# ---- runs
+
+
+def captured(path: Path, *words: str) -> tuple[str, str]:
+    """The scenario that the tool makes of a recording, and what it says."""
+    out, said = io.StringIO(), io.StringIO()
+    with redirect_stderr(said):
+        TOOL.capture(TOOL.command().parse_args([str(path), *words]), out)
+    return out.getvalue(), said.getvalue()
+
+
+def captured_wave(lines: Wave, *words: str) -> tuple[str, str]:
+    with tempfile.TemporaryDirectory() as folder:
+        path = Path(folder, "lines.vcd")
+        as_dump(lines, path)
+        return captured(path, *words)
+
+
+def log_of(text: str) -> list[str]:
+    ran = subprocess.run(
+        [PROGRAM, "run", "-", "--all", "--ports"], input=text, capture_output=True, text=True
+    )
+    return ran.stdout.splitlines()
+
+
+@cache
+def scenarios() -> dict[str, str]:
+    """The scenarios of examples and cases that run to their end, by their names."""
+    found = {}
+    for case in all_cases():
+        path = case.scenario or case.input
+        if case.status == 0 and (b"run" in case.words or not case.words) and path != "/dev/null":
+            text = (ROOT / path).read_text()
+            if text.strip():
+                found[Path(case.name).stem] = text
+    return found
+
+
+def examples() -> list[str]:
+    return sorted(path.stem for path in (ROOT / "examples").glob("*.jsonl"))
+
+
+@cache
+def wanted_of(name: str) -> list[str]:
+    """What the log of a scenario says of its first reader."""
+    text = scenarios()[name]
+    lines, reader = log_of(text), plant_of(text)["readers"][0]["name"]
+    return [line for line in lines[:-1] if line.split()[1] == reader] + lines[-1:]
+
+
+def rules_of(name: str) -> list[str]:
+    """How the first reader is set up, in words of the tool."""
+    plant = plant_of(scenarios()[name])
+    reader = plant["readers"][0]
+    words = [f"--reader={reader['name']},{reader['lock_after']},{reader['holdover']}"]
+    return words + [f"--{key}={plant[key]}" for key in ("parity", "sense", "sbs")]
+
+
+def truth_of(name: str) -> list[str]:
+    """What is true in a scenario, in words of the tool."""
+    plant = plant_of(scenarios()[name])
+    leaps = [f"--leap={leap['day']}:{leap['kind']}" for leap in plant["leaps"]]
+    return [f"--start={plant['start']}", *leaps]
+
+
+def log_with_table(text: str, name: str) -> list[str]:
+    """The log of what was captured, with the first reader's leap table, of which the tool is not
+    told, put in."""
+    table = plant_of(scenarios()[name])["readers"][0].get("table")
+    if table:
+        head, rest = text.split("\n", 1)
+        plant = json.loads(head)
+        plant["readers"][0]["table"] = table
+        plant["version"] = max(2, plant["version"])
+        text = json.dumps(plant) + "\n" + rest
+    return log_of(text)
+
+
+def limit(kind: int, most: int) -> None:
+    resource.setrlimit(kind, (most, most))
+
+
+class InAFolder(unittest.TestCase):
+    def setUp(self) -> None:
+        folder = tempfile.TemporaryDirectory()
+        self.addCleanup(folder.cleanup)
+        self.folder = Path(folder.name)
+
+
+# ---- tests
+
+
+class Scenarios(unittest.TestCase):
+    def compare(self, unlike: dict[str, str], words: Callable[[str], list[str]]) -> None:
+        for name in scenarios():
+            with self.subTest(name):
+                try:
+                    text, _ = captured_wave(wave_of(name), *rules_of(name), *words(name))
+                    log = log_with_table(text, name)
+                except ValueError:
+                    log = []
+                if name in unlike:
+                    self.assertNotEqual(log, wanted_of(name), "this is alike now")
+                else:
+                    self.assertEqual(log, wanted_of(name))
+        self.assertEqual(set(unlike) - set(scenarios()), set())
+
+    def test_with_what_is_true(self) -> None:
+        self.compare(UNLIKE, truth_of)
+
+    def test_by_the_word_of_the_ports(self) -> None:
+        self.compare(UNLIKE_BY_THEIR_WORD, lambda name: [])
+
+
+class Forms(InAFolder):
+    def test_examples_in_each_form(self) -> None:
+        for form, (write, ending, words, most) in FORMS.items():
+            for name in examples():
+                lines = wave_of(name)
+                if name in UNLIKE or lines.end > most * waves.SECOND_US:
+                    continue
+                # A list of pulses does not say how long nothing comes behind the last.
+                if write is as_pulses and lines.end - lines.changes[-1][0] > waves.SECOND_US:
+                    continue
+                with self.subTest(form, example=name):
+                    path = self.folder / f"lines{ending}"
+                    write(lines, path)
+                    text, _ = captured(path, *rules_of(name), *truth_of(name), *words)
+                    self.assertEqual(log_with_table(text, name), wanted_of(name))
+
+    def test_through_sigrok(self) -> None:
+        if not shutil.which("sigrok-cli"):
+            print("skipped: recordings through sigrok-cli; Debian's package sigrok-cli is missing")
+            self.skipTest("no sigrok-cli")
+        as_dump(wave_of("one_liar"), self.folder / "lines.vcd", 100)
+        for source, made, form in (
+            ("lines.vcd", "lines.sr", "srzip"),
+            ("lines.vcd", "lines.csv", "csv"),
+            ("lines.sr", "made.vcd", "vcd"),
+            ("lines.sr", "made.csv", "csv:label=channel"),
+            ("lines.sr", "made.csv", "csv:time=true"),
+            ("lines.sr", "made.csv", "csv:time=true:dedup=true:label=channel"),
+        ):
+            with self.subTest(form):
+                path = self.folder / made
+                subprocess.run(
+                    ["sigrok-cli", "-i", source, "-o", made, "-O", form],
+                    cwd=self.folder, check=True, timeout=300,
+                )
+                self.assertEqual(log_of(captured(path)[0]), wanted_of("one_liar"))
+
+    def test_the_recording_of_the_examples(self) -> None:
+        lines = wave_of_seconds(3, list(waves.seconds_of(ONE_CLOCK_AHEAD.splitlines())))
+        lines = lines.line(2, lambda change: [(change[0] + 300, *change[1:])]).inverted(2)
+        as_dump(lines, self.folder / "made.vcd", 100)
+        kept = (ROOT / "examples/one_clock_ahead.vcd").read_text()
+        self.assertTrue(kept == (self.folder / "made.vcd").read_text(), "another recording")
+
+    def test_one_line_is_heard_on_three_ports(self) -> None:
+        as_dump(wave_of("one_liar"), self.folder / "lines.vcd")
+        text, said = captured(self.folder / "lines.vcd", "--channels=G1")
+        heard = [json.loads(line) for line in text.splitlines()[1:4]]
+        self.assertEqual([one["g"] for one in heard], [0, 1, 2])
+        self.assertEqual(len({str(one["widths"]) for one in heard}), 1)
+        self.assertEqual(said.count(" pulses, "), 1)
+        self.assertIn("5 relay - unlocked jump", log_of(text))
+
+    def test_channels_in_another_order(self) -> None:
+        as_rows(wave_of("one_liar"), self.folder / "lines.csv")
+        text, _ = captured(self.folder / "lines.csv", "--channels=G1,G0,G2")
+        self.assertIn(" 5 relay 2017-06-30T23:59:57Z ok ok", log_of(text))
+
+    def test_ten_minutes_in_little_memory(self) -> None:
+        """600 million samples, silent behind the first minute."""
+        lines = replace(wave_of("plain_minute"), end=600 * waves.SECOND_US)
+        as_session(lines, self.folder / "lines.sr")
+        with open(self.folder / "lines.jsonl", "w+") as out:
+            ran = subprocess.run(
+                [ROOT / "tools/capture", self.folder / "lines.sr"], stdout=out, text=True,
+                stderr=subprocess.PIPE, preexec_fn=lambda: limit(resource.RLIMIT_AS, MOST_MEMORY),
+            )
+            out.seek(0)
+            self.assertEqual((ran.returncode, out.read().count('"tick"')), (0, 599), ran.stderr)
+
+
+class Recorders(unittest.TestCase):
+    """Bad recorders, by seeds: the log is still that of the scenario."""
+
+    def alike(self, lines: Wave, name: str = "leap_inserted") -> str:
+        text, said = captured_wave(lines, *rules_of(name))
+        self.assertEqual(log_of(text), wanted_of(name))
+        return said
+
+    def test_jitter(self) -> None:
+        for seed in range(5):
+            by = random.Random(seed)
+            said = self.alike(wave_of("leap_inserted").of(
+                lambda change: [(change[0] + by.randint(-450, 450), *change[1:])]
+            ))
+            self.assertIn("G0: 1400 pulses, 14 frames, 0 pulses out of step\n", said)
+
+    def test_glitches(self) -> None:
+        """Ten more crossings at each change, and a spike of 20 us behind half of them."""
+        by = random.Random(1)
+
+        def crossings(change: Change) -> list[Change]:
+            time, line, level = change
+            found = [(time + 4 * n, line, level ^ n & 1) for n in range(11)]
+            if by.random() < 0.5:
+                spike = time + by.randint(200, 1500)
+                found += [(spike, line, 1 - level), (spike + 20, line, level)]
+            return found
+
+        self.alike(wave_of("leap_inserted").of(crossings))
+
+    def test_glitches_are_let_through(self) -> None:
+        spike = [(507_000, 0, 1), (507_030, 0, 0)]
+        lines = wave_of("leap_inserted")
+        lines = replace(lines, changes=tuple(sorted([*lines.changes, *spike])))
+        before = [level for time, line, level in lines.changes if line == 0 and time < 507_000]
+        self.assertEqual(before[-1], 0, "the spike stands between two pulses")
+        self.assertIn("1400 pulses, 14 frames, 0 pulses out", captured_wave(lines)[1])
+        self.assertIn("G0: 1401 pulses, 13 frames", captured_wave(lines, "--glitch=0")[1])
+
+    def test_a_clock_that_is_off(self) -> None:
+        for parts, said_so in ((1_005_000, "5000.0 ppm longer"), (999_900, "100.0 ppm shorter")):
+            lines = wave_of("leap_inserted").of(
+                lambda change: [(change[0] * parts // 1_000_000, *change[1:])]
+            )
+            lines = replace(lines, end=lines.end * parts // 1_000_000)
+            self.assertIn(f"a second is {said_so} than one of the recorder", self.alike(lines))
+
+    def test_two_thousand_samples_a_second(self) -> None:
+        late = (130, 0, 390)
+        self.alike(wave_of("leap_inserted").of(
+            lambda change: [(-(-(change[0] + late[change[1]]) // 500) * 500, *change[1:])]
+        ))
+
+    def test_lines_apart(self) -> None:
+        late = (0, 350, 700)
+        lines = wave_of("leap_inserted")
+        lines = lines.of(lambda change: [(change[0] + late[change[1]], *change[1:])])
+        self.assertIn("14 ticks; lines are up to 700 us apart\n", self.alike(lines))
+
+    def test_a_pause_that_the_clock_does_not_show(self) -> None:
+        """Half a frame, and the other half when a clock of 32 bits has come round."""
+        whole = wave_of("leap_inserted").changes
+        half = waves.FIRST_EDGE_US + waves.SECOND_US + 50 * waves.ELEMENT_US
+        early = [change for change in whole if change[0] < half]
+        rest = [(time + 2**32, line, level) for time, line, level in whole
+                if half <= time < half + waves.SECOND_US // 2]
+        lines = Wave(3, (*early, *rest), 2**32 + half + waves.SECOND_US)
+        text, said = captured_wave(lines)
+        self.assertEqual(said.count(": 200 pulses, 1 frames, 50 pulses out of step\n"), 3)
+        self.assertEqual(sum(line.count(" ok ok ok") for line in log_of(text)), 1)
+
+    def test_a_dark_minute_by_its_own_clock(self) -> None:
+        lines, begin, end = wave_of("plain_minute"), 20_050_000, 40_050_000
+        dark = lines.of(lambda change: [] if begin <= change[0] < end else [change])
+        log = log_of(captured_wave(dark)[0])
+        self.assertEqual(sum(line.endswith(" held") for line in log), 20)
+        self.assertEqual(log[-3:], wanted_of("plain_minute")[-3:])
+
+
+class Devices(InAFolder):
+    """Lines as they come, by seeds: what is captured announces what c/examples/capture.c does."""
+
+    def setUp(self) -> None:
+        super().setUp()
+        if not shutil.which("cc"):
+            print("skipped: recordings against c/examples/capture.c; cc is missing")
+            self.skipTest("no cc")
+        sources = [ROOT / f"c/examples/{name}.c" for name in ("capture", "capture_bench")]
+        library = ROOT / "c/out/libirig.so.1"
+        self.board = self.folder / "board"
+        subprocess.run(
+            ["cc", "-std=c11", f"-I{ROOT / 'c'}", *sources, library, f"-Wl,-rpath,{library.parent}",
+             "-o", self.board], check=True,
+        )
+
+    def announced(self, lines: Wave) -> list[str]:
+        """What the board announces, tick by tick."""
+        rows = [*lines.rows(), (lines.end, list(lines.rows())[-1][1])]
+        text = "".join(f"{time} {' '.join(map(str, levels))}\n" for time, levels in rows)
+        ran = subprocess.run([self.board, "2", "5"], input=text, capture_output=True, text=True)
+        return ran.stdout.splitlines()
+
+    @staticmethod
+    def troubled(seed: int) -> Wave:
+        """Lines apart, with jitter, pulses that are lost, first ones that are cut short, and cables
+        that are pulled out."""
+        by, lines = random.Random(seed), wave_of("leap_inserted")
+        late = [by.randint(0, 1200) for _ in range(3)]
+        lost = {(by.randrange(3), by.randrange(1400)) for _ in range(by.randrange(6))}
+
+        def moved(change: Change) -> list[Change]:
+            time, line, level = change
+            element, width = divmod(time - waves.FIRST_EDGE_US, waves.ELEMENT_US)
+            if (line, element) in lost:
+                return []
+            if level == 0 and element % 100 == 0 and by.random() < 0.2:
+                time += 200 - width
+            return [(time + late[line] + by.randint(0, 100), line, level)]
+
+        lines = lines.of(moved)
+        for _ in range(by.randrange(5)):
+            begin, length = by.randrange(14_000_000), by.randrange(4_000_000)
+            cut = waves.pulled(lines.changes, by.randrange(3), begin, begin + length)
+            lines = replace(lines, changes=tuple(sorted(cut)))
+        return lines
+
+    def test_troubled_lines(self) -> None:
+        kinds = set()
+        for seed in range(60):
+            lines = self.troubled(seed)
+            with self.subTest(seed=seed):
+                text, _ = captured_wave(
+                    lines, "--glitch=0", "--reader=relay,2,5", "--start=2016-12-31T23:59:50Z"
+                )
+                log = [line for line in log_of(text)[:-1] if line[0] != " "]
+                wanted = self.announced(lines)
+                # A board and a recording need not end with the same tick.
+                ticks = min(len(log), len(wanted))
+                self.assertLessEqual(max(len(log), len(wanted)) - ticks, 1)
+                self.assertEqual(log[:ticks], wanted[:ticks])
+                kinds |= {line.split()[-1] for line in log}
+        self.assertLessEqual({"voted", "held", "no-vote", "acquiring"}, kinds)
+
+
+class Lines(unittest.TestCase):
+    """Lines that are inverted, cut, or no B004."""
+
+    def said_of(self, lines: Wave, name: str = "G1") -> list[str]:
+        """What is said of a line."""
+        said = captured_wave(lines)[1].splitlines()
+        begin = next(n for n, line in enumerate(said) if line.startswith(f"{name}: "))
+        end = next(n for n in range(begin + 1, len(said)) if not said[n].startswith("  "))
+        return [line.strip() for line in said[begin:end]]
+
+    def replaced(self, changes: Iterable[tuple[int, int]]) -> Wave:
+        """Line 1 with these changes in place of its own."""
+        lines = wave_of("leap_inserted").line(1, lambda change: [])
+        other = ((time, 1, level) for time, level in changes)
+        return replace(lines, changes=tuple(sorted([*lines.changes, *other])))
+
+    def test_inverted(self) -> None:
+        for number in range(3):
+            lines = wave_of("leap_inserted").inverted(number)
+            text, said = captured_wave(lines)
+            self.assertEqual(log_of(text), wanted_of("leap_inserted"))
+            self.assertEqual(said.count(", inverted\n"), 1)
+            self.assertRegex(said, f"G{number}: .*, inverted\n")
+
+    def test_a_polarity_that_is_said(self) -> None:
+        lines = wave_of("leap_inserted")
+        with self.assertRaisesRegex(ValueError, "no edge"):
+            captured_wave(lines, "--polarity=inverted")
+        text, _ = captured_wave(lines, "--polarity=normal")
+        self.assertEqual(log_of(text), wanted_of("leap_inserted"))
+
+    def test_begins_in_the_middle(self) -> None:
+        begin = 2_354_000  # within a pulse of element 30 of 23:59:52
+        lines = wave_of("leap_inserted")
+        levels = {line: level for time, line, level in lines.changes if time < begin}
+        first = [(0, line, level) for line, level in levels.items()]
+        rest = [(time - begin, line, level) for time, line, level in lines.changes if time >= begin]
+        text, said = captured_wave(Wave(3, (*first, *rest), lines.end - begin))
+        self.assertEqual(json.loads(text.split("\n")[0])["start"], "2016-12-31T23:59:53Z")
+        wanted = [line.split(" ", 2)[2] for line in wanted_of("leap_inserted") if " locked" in line]
+        log = [line.split(" ", 2)[2] for line in log_of(text) if " locked" in line]
+        self.assertEqual(log, wanted[3:])
+        first = "2016-12-31T23:59:53Z"
+        self.assertIn(f"start {first}: G0, G1, G2 told {first} at tick 1\n", said)
+
+    def test_ends_in_the_middle(self) -> None:
+        lines = wave_of("leap_inserted")
+        for end, ticks in ((7_046_000, 6), (7_049_000, 7), (7_055_000, 7)):
+            early = tuple(change for change in lines.changes if change[0] < end)
+            text, said = captured_wave(Wave(3, early, end))
+            self.assertIn(f"\n{ticks} ticks; ", said)
+            self.assertEqual(log_of(text)[: 2 * ticks], wanted_of("leap_inserted")[: 2 * ticks])
+
+    def test_nothing_on_it(self) -> None:
+        self.assertEqual(
+            self.said_of(self.replaced([])),
+            ["G1: 0 pulses, 0 frames, 0 pulses out of step", "nothing is on it"],
+        )
+
+    def test_one_pulse(self) -> None:
+        self.assertEqual(
+            self.said_of(self.replaced([(500_000, 1), (508_000, 0)])),
+            ["G1: 1 pulses, 0 frames, 0 pulses out of step",
+             f"P   {1:8}  8.000 to 8.000 ms, mean 8.000", "one pulse alone is on it"],
+        )
+
+    def test_each_frame_loses_a_pulse(self) -> None:
+        def but_one(change: Change) -> list[Change]:
+            element = (change[0] - waves.FIRST_EDGE_US) % waves.SECOND_US // waves.ELEMENT_US
+            return [] if element == 50 else [change]
+
+        lines = wave_of("leap_inserted").line(1, but_one)
+        said = "frames begin, and none has a hundred pulses, each 10 ms behind the one before"
+        self.assertEqual(self.said_of(lines)[-1], said)
+        self.assertEqual(self.said_of(lines.inverted(1))[-1], said)
+        log = log_of(captured_wave(lines)[0])
+        self.assertEqual(log.count(" 5 relay ok fault:1:Short:50 ok"), 1)
+        self.assertEqual(log_of(captured_wave(lines.inverted(1))[0]), log)
+
+    def test_another_code(self) -> None:
+        pulses = range(50_000, 14_000_000, 1_000)  # as of IRIG-A
+        said = self.said_of(self.replaced(
+            change for time in pulses for change in ((time, 1), (time + 500, 0))
+        ))
+        self.assertEqual(said[-1], f"{ONE_MS}: another code, or a modulated one")
+
+    def test_a_modulated_one(self) -> None:
+        """A sine of 1 kHz through a comparator: pulses are wider while its amplitude is high."""
+        changes, is_high = [], dict(
+            (time, level) for time, line, level in wave_of("leap_inserted").changes if line == 1
+        )
+        level = 0
+        for time in range(50_000, 14_000_000, 1_000):
+            level = is_high.get(time, level)
+            changes += [(time, 1), (time + (400 if level else 250), 0)]
+        said = self.said_of(self.replaced(changes))
+        self.assertEqual(said[-1], f"{ONE_MS}: another code, or a modulated one")
+
+    def test_no_second_marker(self) -> None:
+        """Element 0 is a zero, so that no two markers follow each other."""
+
+        def without(change: Change) -> list[Change]:
+            time, line, level = change
+            is_end = level == 0 and time % waves.SECOND_US == waves.FIRST_EDGE_US + 8_000
+            return [(time - 6_000, line, 0) if is_end else change]
+
+        said = self.said_of(wave_of("leap_inserted").line(1, without))
+        self.assertEqual(said[0], "G1: 1400 pulses, 0 frames, 1400 pulses out of step")
+        self.assertEqual(said[-1], "no frame begins: never do two markers follow each other")
+
+    def test_without_the_bits_of_ieee_1344(self) -> None:
+        bare = {element for element in (*range(50, 59), *range(60, 69), *range(70, 79))}
+
+        def cleared(change: Change) -> list[Change]:
+            time, line, level = change
+            element = (time - waves.FIRST_EDGE_US) % waves.SECOND_US // waves.ELEMENT_US
+            width = (time - waves.FIRST_EDGE_US) % waves.ELEMENT_US
+            is_one = level == 0 and element in bare and width == 5_000
+            return [(time - 3_000, line, 0) if is_one else change]
+
+        said = self.said_of(wave_of("leap_inserted").line(1, cleared))
+        self.assertRegex(said[-1], "^its year and control bits are all 0, as of a clock without ")
+
+    def test_a_good_line_is_not_named(self) -> None:
+        self.assertEqual(self.said_of(wave_of("leap_inserted")), [
+            "G1: 1400 pulses, 14 frames, 0 pulses out of step",
+            *self.spreads(),
+            "a second is 0.0 ppm longer than one of the recorder",
+        ])
+
+    @staticmethod
+    def spreads() -> list[str]:
+        """By the widths that tests/waves.py sends."""
+        lines = scenarios()["leap_inserted"].splitlines()
+        widths = [width for second in waves.seconds_of(lines) for width in second[1]]
+        rows = [f"{letter}   {widths.count(width):8}  {width / 1000:.3f} to {width / 1000:.3f} ms,"
+                f" mean {width / 1000:.3f}" for letter, width in waves.WIDTHS.items()]
+        return [*rows, f"gap {14 * 99:8}  10.000 to 10.000 ms, mean 10.000"]
+
+
+class Words(InAFolder):
+    def refused(self, *words: object) -> str:
+        ran = subprocess.run(
+            [ROOT / "tools/capture", *map(str, words)], capture_output=True, text=True
+        )
+        self.assertEqual((ran.returncode, ran.stdout), (2, ""))
+        return ran.stderr
+
+    def test_what_is_no_recording(self) -> None:
+        for name, text, reason in (
+            ("a.txt", "", "it ends with none of .vcd, .sr, .csv, .wav"),
+            ("a.vcd", "#0\n1!\n", "it has no $enddefinitions"),
+            ("a.vcd", "$enddefinitions $end\n", "it has no $timescale"),
+            ("a.sr", "no zip", "it is no session of sigrok"),
+            ("a.csv", "", "it has no line with the names of its columns"),
+            ("a.csv", "a,b,c\n0,0,0\n", "its first column is no time"),
+            ("a.csv", "Time [days],a\n0,0\n", "'days' is no unit of times"),
+            ("a.csv", "Time [s],a\n0,0\n0.1,2.7\n", "'2.7' is no level, 0 or 1"),
+            ("a.csv", "Time [s],a,b,c\n0,0\n", "its row 1 has fewer columns than names"),
+            ("a.csv", "Time [s],a\n0.2,0\n0.1,1\n", "its times go back"),
+            ("a.csv", "Time [s],a\nsoon,0\n", "could not convert string to float: 'soon'"),
+            ("a.csv", "; Samplerate: often\nlogic\n0\n", "'often' is no rate of samples"),
+            ("a.csv", "META samplerate: 10000\nTime,a\n0,0\n", "its times are all 0"),
+            ("a.wav", "no sound", "it is no sound"),
+        ):
+            with self.subTest(reason):
+                (self.folder / name).write_text(text)
+                self.assertIn(f"{name}: {reason}", self.refused(self.folder / name))
+
+    def test_words(self) -> None:
+        path = self.folder / "lines.vcd"
+        as_dump(wave_of("plain_minute"), path)
+        self.assertIn("no channel 'G7'; it has G0, G1, G2", self.refused(path, "--channels=G7"))
+        self.assertIn("one, three or five of its", self.refused(path, "--channels=G0,G1"))
+        self.assertIn("is not NAME,LOCK_AFTER,HOLDOVER", self.refused(path, "--reader=relay"))
+        self.assertIn("is no second served", self.refused(path, "--start=2016"))
+        self.assertIn("is not DAY or DAY:delete", self.refused(path, "--leap=2016-12-31:never"))
+        self.assertIn("No such file", self.refused(self.folder / "none.vcd"))
+
+    def test_help_begins_with_an_example(self) -> None:
+        ran = subprocess.run([ROOT / "tools/capture", "--help"], capture_output=True, text=True)
+        self.assertTrue(ran.stdout.startswith("for example:\n\n    tools/capture "))
+
+    def test_without_the_libraries(self) -> None:
+        for name in ("tools/capture", "tools/parts", "python/irig"):
+            source, copy = ROOT / name, self.folder / name
+            copy.parent.mkdir(exist_ok=True)
+            shutil.copytree(source, copy) if source.is_dir() else shutil.copy(source, copy)
+        command = [self.folder / "tools/capture", "a.vcd"]
+        ran = subprocess.run(command, capture_output=True, text=True)
+        self.assertEqual((ran.returncode, ran.stdout), (2, ""))
+        self.assertRegex(ran.stderr, r"^capture: .* is missing: `make -C c` builds it")
+
+    def test_what_ports_tell_that_claim_nothing(self) -> None:
+        with self.assertRaisesRegex(ValueError, "claim one second, most often .fault 17 Parity.;"):
+            captured_wave(wave_of("odd_parity_and_subtract"))
+
+    def test_a_start_that_lies_before_a_leap_second(self) -> None:
+        """Up to it two lines have a bad pulse in each frame, so that most ports claim nothing."""
+        until = waves.FIRST_EDGE_US + 11 * waves.SECOND_US
+
+        def damaged(change: Change) -> list[Change]:
+            time, line, level = change
+            begin = time - (time - waves.FIRST_EDGE_US) % waves.ELEMENT_US
+            is_third = (begin - waves.FIRST_EDGE_US) % waves.SECOND_US == 3 * waves.ELEMENT_US
+            moved = line > 0 and level == 0 and time < until and is_third
+            return [(begin + 9_700, line, 0) if moved else change]
+
+        lines, leap = wave_of("leap_inserted").of(damaged), {"day": "2016-12-31", "kind": "insert"}
+        for words, start, leaps in (
+            ([], "2016-12-31T23:59:49Z", []),
+            (["--leap=2016-12-31"], "2016-12-31T23:59:50Z", [leap]),
+        ):
+            text, said = captured_wave(lines, *words)
+            plant = json.loads(text.split("\n")[0])
+            self.assertEqual((plant["start"], plant["leaps"]), (start, leaps))
+            self.assertIn(f"start {start}: G0, G1, G2 told 2017-01-01T00:00:00Z at tick 12\n", said)
+            self.assertEqual(said.count("leap 2016-12-31 insert: by --leap\n"), len(leaps))
+
+
+if __name__ == "__main__":
+    unittest.main()
