@@ -14,6 +14,7 @@ from parts.recordings import END, Change
 ELEMENT_US, SECOND_US = 10_000, 1_000_000
 AGREE_US = 1_000  # lines that end a frame so near to each other tell one edge
 PATIENCE_US = 5_000  # how long lines are waited for before the clock makes the edge
+FAR_US = 5_000  # an edge farther from the clock's own has to come twice
 LONGEST_US = 0xFFFFFFFF
 NEVER = float("inf")
 
@@ -174,6 +175,7 @@ class Ticks:
     apart: float = 0.0  # how far the ends of frames were apart at most
     _edge: float = 0.0  # the next one
     _last: Optional[float] = None
+    _far: Optional[float] = None  # an edge that was far from the clock's own
     _is_agreed: bool = False
     _ends: Dict[int, float] = field(default_factory=dict)  # of frames since the last tick
 
@@ -183,12 +185,24 @@ class Ticks:
         near = {of: other for of, other in self._ends.items() if abs(other - end) <= AGREE_US}
         if self._is_agreed or 2 * sum(self.ports[of] for of in near) <= sum(self.ports):
             return
-        self._is_agreed = True
         edge = min(near.values())
+        if not self._is_believed(edge):
+            return
+        self._is_agreed = True
         if self._last is None or edge - self._last > SECOND_US / 2:
             self._edge = self.due = edge
         else:  # the clock has ticked for it already; the lines say where it was
             self._wait_from(edge)
+
+    def _is_believed(self, edge: float) -> bool:
+        """Whether it is the clock's own, or comes a second behind one that was as far from it."""
+        if self._last is None:
+            return True
+        own = (self._last, self._last + SECOND_US)
+        is_own = any(abs(edge - at) <= FAR_US for at in own)
+        is_second = self._far is not None and abs(edge - self._far - SECOND_US) <= AGREE_US
+        self._far = None if is_own else edge
+        return is_own or is_second
 
     def tick(self) -> None:
         near = [end for end in self._ends.values() if abs(end - self._edge) <= AGREE_US]
