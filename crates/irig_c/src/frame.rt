@@ -80,7 +80,8 @@ fn length_fault(symbols: &[u8]) -> Option<FrameFault>
 /// Whether the frame has the parity: 0 is even, 1 odd. It has no other.
 #[unsafe(no_mangle)]
 pub extern "C" fn irig_c_has_parity(symbols: &[u8; 100], parity: u8) -> bool
-    ensures { result ≡ (nat_le parity 1 && has_parity (parity_in parity) (map symbol_in symbols.now)) }
+    ensures { result ≡ (nat_le parity 1
+        && has_parity (parity_in parity) (map symbol_in symbols.now)) }
 {
     parity <= 1 && parity_ok(&symbols_of(symbols), parity_of(parity))
 }

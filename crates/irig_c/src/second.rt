@@ -51,7 +51,8 @@ pub(crate) fn claim_for_c(claim: &Claim) -> IrigClaim
 #[unsafe(no_mangle)]
 pub extern "C" fn irig_c_second_next(second: &UtcSecond, mark: u8, following: &mut UtcSecond) -> u32
     ensures next { result ≡ 0
-        → (mark ≤ 3) × (IsValid second.now × (next_of second.now (mark_in mark) ≡ Some following.new)) }
+        → (mark ≤ 3)
+        × (IsValid second.now × (next_of second.now (mark_in mark) ≡ Some following.new)) }
     ensures none { (result ≡ 0 → ⊥)
         → mark ≤ 3 → IsValid second.now → next_of second.now (mark_in mark) ≡ None }
     ensures refused { (result ≡ 0 → ⊥) → following.new ≡ following.old }
@@ -131,7 +132,8 @@ pub extern "C" fn irig_c_claim_of(
 ) -> u32
     ensures answer { sense ≤ 1 → IsCoded coded.now → IsControl (control_in control.now)
         → result ≡ code_of_claim (claim_by (sense_in sense) coded.now (control_in control.now)) }
-    ensures claim { result ≡ 0 → ((sense ≤ 1) × (IsCoded coded.now × IsControl (control_in control.now)))
+    ensures claim { result ≡ 0
+        → ((sense ≤ 1) × (IsCoded coded.now × IsControl (control_in control.now)))
         × (claim_by (sense_in sense) coded.now (control_in control.now) ≡ Ok (claim_in claim.new)) }
     ensures refused { (result ≡ 0 → ⊥) → claim.new ≡ claim.old }
 {
