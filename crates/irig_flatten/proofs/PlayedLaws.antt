@@ -1,6 +1,7 @@
 -- Events that are played one after another, and what is heard of them.
-use Rattle.std.proofs.Common.{◌≡◌, ℕ, ◌+◌, ◌-◌, ◌<◌, List, [], ◌∷◌, ◌++◌, take, drop, length, Option, Some, None, Result, Ok, Err, refl, ap, sym, subst, ◌∙◌, append-nil, append_assoc}
-use Rattle.std.specs.Prelude.{option_and_then, option_to_list}
+use Rattle.std.proofs.Common.{◌≡◌, ℕ, ◌+◌, ◌-◌, ◌<◌, List, [], ◌∷◌, ◌++◌, take, drop, length, Option, Some, None, Result, Ok, Err, false, refl, ap, sym, subst, ◌∙◌, append-nil, append_assoc, arith}
+use Rattle.std.specs.Prelude.{OnOk, is_err, option_and_then, option_map, option_to_list}
+use Rattle.std.specs.Io.KnownBytes.{Appends}
 use Rattle.std.proofs.KnownBytes.{Appends-trans, Appends-nil}
 use Rattle.std.proofs.lemmas.Grind.{flat_map-append}
 use Rattle.irig_port.specs.declared.port.Port.{Ghosts}
@@ -8,15 +9,26 @@ use Rattle.irig_plant.specs.declared.event.Event.{Event}
 use Rattle.irig_plant.specs.declared.plant.Plant.{Plant}
 use Rattle.irig_plant.specs.Schedule.{Setup}
 use Rattle.irig_plant.specs.Refusals.{refusal}
+use Rattle.irig_plant.specs.Runs.{IsRefused}
+use Rattle.irig_plant.specs.declared.fault.PlantFault.{PlantFault}
+use Rattle.irig_device.specs.Watched.{AppendsPart}
 use Rattle.irig_faults.specs.declared.refusal.Refusal.{Refusal}
 use Rattle.irig_scene.specs.declared.stop.Stop.{Stop}
 use Rattle.irig_scene.specs.declared.stop.Stop.TheVariants.{Refused, Failed}
 use Rattle.irig_scene.specs.Lines.{unlines}
-use Rattle.irig_scene.specs.Scene.{Scene, scene, refusal_as, Play, play, unless_refused}
+use Rattle.irig_scene.specs.Scene.{Scene, scene, refusal_as, Play, play, play_by, unless_refused}
 use Rattle.irig_scene.specs.PlayerRuns.{after_events}
+use Rattle.irig_scene.proofs.PlayLaws.{play_until}
 use Rattle.irig_scene.proofs.SecondsPlayed.{plays_on, plays_no_further}
+use Rattle.irig_event_text.specs.EventText.{event_line}
+use Rattle.irig_flatten.specs.Recording.{heard_of}
 use Rattle.irig_flatten.specs.FlatText.{heard_line, heard_lines}
-use Rattle.irig_flatten.specs.Flattening.{heard_in, IsPlantOf, HeardMore, HeardPart, RecordedFor, Recorded}
+use Rattle.irig_flatten.specs.Flattening.{line_text, heard_text, heard_in, IsPlantOf, HeardMore, HeardPart, RecordedFor, Recorded}
+
+-- what holds of an answer that is no error
+pub unless_err : {A E : Type 0} {P : Type 0} (r : Result A E) → is_err r ≡ false → OnOk r P → P
+unless_err (Ok x) e h = h
+unless_err (Err x) e h = absurd cc
 
 -- ---- what is heard grows
 
@@ -97,16 +109,49 @@ none_heard x es out =
 
 -- ---- one event
 
+text_of_line : (names : List (List ℕ)) (o : Option Event) → unlines (option_to_list (option_map (event_line names) o)) ≡ line_text names o
+text_of_line names None = refl
+text_of_line names (Some e) = append-nil (event_line names e ++ 10 ∷ [])
+
+-- one event more is heard
+heard_more : (x : Scene) (e : Event) → heard_in (scene x.plan (e ∷ x.events)) ≡ heard_in x ++ heard_text x.plan.names x.plan.setup e x.events
+heard_more x e =
+    let names = x.plan.names in
+    let s = x.plan.setup in
+    flat_map-append (λ l. l ++ 10 ∷ []) (heard_lines names s x.events) (option_to_list (heard_line names s e x.events))
+    ∙ ap (λ t. heard_in x ++ t) (text_of_line names (heard_of s e x.events))
+
+taken : (x : Scene) (e : Event) → refusal x.plan.setup e x.events ≡ None → play x.plan.setup (e ∷ []) x.events ≡ play_by (e ∷ x.events) None
+taken x e h = ap (λ k. unless_refused (option_and_then refusal_as k) x.events (play x.plan.setup [] (e ∷ x.events))) h
+
 -- an event that is taken
 pub takes_one : {P : Type 0} {g : Ghosts P} (names : List (List ℕ)) (x : Scene) (e : Event) (plant : Plant P g) (old new : Option (List ℕ)) (text : List ℕ)
-    → refusal x.plan.setup e x.events ≡ None → IsPlantOf names plant (scene x.plan (e ∷ x.events)) → heard_in (scene x.plan (e ∷ x.events)) ≡ heard_in x ++ text
-    → Rattle.std.specs.Io.KnownBytes.Appends old new text → RecordedFor names x (e ∷ []) plant None old new
-takes_one names x e plant old new text h stands more wrote =
-    let taken : play x.plan.setup (e ∷ []) x.events ≡ Rattle.irig_scene.specs.Scene.play_by (e ∷ x.events) None = ap (λ k. unless_refused (option_and_then refusal_as k) x.events (play x.plan.setup [] (e ∷ x.events))) h in
+    → refusal x.plan.setup e x.events ≡ None → IsPlantOf names plant (scene x.plan (e ∷ x.events)) → text ≡ heard_text x.plan.names x.plan.setup e x.events
+    → Appends old new text → RecordedFor names x (e ∷ []) plant None old new
+takes_one names x e plant old new text h stands is wrote =
+    let all = taken x e h in
     record {
-      refused = ap (λ (p : Play). p.refusal) taken;
-      stands = subst (λ (p : Play). IsPlantOf names plant (scene x.plan p.events)) (sym taken) stands;
-      heard = subst (λ (p : Play). HeardMore x (scene x.plan p.events) old new) (sym taken) (record { text = text; more = more; wrote = wrote });
+      refused = ap (λ (p : Play). p.refusal) all;
+      stands = subst (λ (p : Play). IsPlantOf names plant (scene x.plan p.events)) (sym all) stands;
+      heard = subst (λ (p : Play). HeardMore x (scene x.plan p.events) old new) (sym all)
+          (record { text = text; more = heard_more x e ∙ ap (λ t. heard_in x ++ t) (sym is); wrote = wrote });
+    }
+
+-- a part of it was written
+pub takes_part : (x : Scene) (e : Event) (old new : Option (List ℕ)) (text : List ℕ)
+    → refusal x.plan.setup e x.events ≡ None → text ≡ heard_text x.plan.names x.plan.setup e x.events → AppendsPart old new text → HeardPart x (after_events x (e ∷ [])) old new
+takes_part x e old new text h is wrote =
+    subst (λ (p : Play). HeardPart x (scene x.plan p.events) old new) (sym (taken x e h)) (record { text = text; more = heard_more x e ∙ ap (λ t. heard_in x ++ t) (sym is); wrote = wrote })
+
+-- one that is refused
+pub stops_one : {P : Type 0} {g : Ghosts P} (names : List (List ℕ)) (x : Scene) (e : Event) (plant : Plant P g) (out : Option (List ℕ)) (fault : PlantFault) (k : Refusal)
+    → IsRefused x.plan.setup e x.events fault → refusal_as fault ≡ Some k → IsPlantOf names plant x → RecordedFor names x (e ∷ []) plant (Some k) out out
+stops_one names x e plant out fault k stop named stands =
+    let all : play x.plan.setup (e ∷ []) x.events ≡ play_by x.events (Some k) = play_until x.plan.setup 0 (e ∷ []) x.events fault k (omega arith) tt stop named in
+    record {
+      refused = ap (λ (p : Play). p.refusal) all;
+      stands = subst (λ (p : Play). IsPlantOf names plant (scene x.plan p.events)) (sym all) stands;
+      heard = subst (λ (p : Play). HeardMore x (scene x.plan p.events) out out) (sym all) (nothing_heard x out);
     }
 
 -- ---- events in two parts

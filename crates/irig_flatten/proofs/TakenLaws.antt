@@ -25,7 +25,7 @@ use Rattle.irig_flatten.specs.Recording.{CanBeWritten, AreTaken}
 
 -- ---- what is refused is no lack of memory
 
-IsOwn : Option PlantFault → Type 0
+abbrev IsOwn : Option PlantFault → Type 0
 IsOwn None = ⊤
 IsOwn (Some plant.Memory) = ⊥
 IsOwn (Some fault) = ⊤
@@ -109,7 +109,7 @@ can_of_range names (GenEdge g) h = tt
 can_of_range names (Fault g kind) h = tt
 can_of_range names (Repair g) h = tt
 
-abbrev IsTaken : Option Scene → Type 0
+abbrev pub IsTaken : Option Scene → Type 0
 IsTaken None = ⊤
 IsTaken (Some x) = AreTaken x.plan.setup x.events
 

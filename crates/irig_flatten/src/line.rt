@@ -1,12 +1,12 @@
 //! One line of a scenario: it is played, and what readers hear of it is written.
 
-ghost use Rattle.std.specs.Prelude.{◌≡◌, ◌≤◌, ◌+◌, IfOk, length, ◌||◌};
+ghost use Rattle.std.specs.Prelude.{◌≡◌, ◌≤◌, ◌++◌, ◌∷◌, [], ℕ, List, Option, IfOk, length, ◌||◌};
 ghost use Rattle.irig_device.specs.Lines.{HasNoNewline};
 ghost use Rattle.irig_device.specs.Watched.{device_of, has_failed};
 ghost use Rattle.irig_scene.specs.Lines.{lines, max_line, max_lines};
-ghost use Rattle.irig_scene.specs.Faults.{says_write, stopped_write};
-ghost use Rattle.irig_scene.specs.Scene.{Scene, meaning_from};
-ghost use Rattle.irig_flatten.specs.Flattening.{Begins, EndsFlat, FlatRest, IsAt, IsFirst, RunsFlatLine, TakesEventLine, TakesLine};
+ghost use Rattle.irig_scene.specs.Faults.{WroteText, failed_write, says_write, stopped_write};
+ghost use Rattle.irig_scene.specs.Scene.{Scene, meaning_at_end, meaning_from};
+ghost use Rattle.irig_flatten.specs.Flattening.{Begins, FlatRest, IsAt, IsFirst, RunsFlatLine, TakesEventLine, TakesLine};
 
 use crate::flattener::Flattener;
 use irig_device::Watched;
