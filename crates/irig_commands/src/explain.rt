@@ -70,9 +70,10 @@ fn help_text(
         (Fault::Open(error), Some(Request::Run { file, .. } | Request::Flatten { file })) => {
             format!(in alloc; "{file}: {error}")
         }
-        (Fault::Read, Some(Request::Run { file, .. } | Request::Flatten { file })) => format!(in alloc;
-            "{file}: it was opened, and could not be read to its end; is it a folder?"
-        ),
+        (Fault::Read, Some(Request::Run { file, .. } | Request::Flatten { file })) =>
+            format!(in alloc;
+                "{file}: it was opened, and could not be read to its end; is it a folder?"
+            ),
         (Fault::Read, _) => format!(in alloc;
             "standard input could not be read to its end; is it a folder?"
         ),

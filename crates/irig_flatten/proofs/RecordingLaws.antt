@@ -8,11 +8,10 @@ use Rattle.irig_vote.specs.Vote.{ports_in, redundancy_of, f_of}
 use Rattle.irig_reader.specs.History.{Fed, vote_at_tick, told_at_tick}
 use Rattle.irig_plant.specs.declared.event.Event.{Event}
 use Rattle.irig_plant.specs.declared.event.Event.TheVariants.{GenEdge, Tick, Carry, Damage, Replay, Raw, Fault, Repair, Restart}
-use Rattle.irig_plant.specs.Schedule.{Setup, Delivery, delivery, delivery_of, empties, with_delivery, heard_at, fed_at, told_now, ports_now, ticks_of, history_with, history_of, votes_of, entry_of, log_of, told_entry_of, told_log_of, pulses_sent, pulses_sent_at}
-use Rattle.irig_plant.specs.Widths.{with_damage}
+use Rattle.irig_plant.specs.Schedule.{Setup, Delivery, delivery, delivery_of, with_delivery, heard_at, fed_at, told_now, ports_now, ticks_of, history_with, history_of, votes_of, entry_of, log_of, told_entry_of, told_log_of}
 use Rattle.irig_plant.specs.Audits.{untrue_ports, is_broken_now, tick_of_reader, TickOfReader, first_broken, first_false, verdict, audit_of}
 use Rattle.irig_time.specs.Timelines.{truth_at}
-use Rattle.irig_flatten.specs.Recording.{pulses_at, pulses_of, heard_of, recorded}
+use Rattle.irig_flatten.specs.Recording.{pulses_at, pulses_of, recorded}
 
 -- what is kept of a delivery
 abbrev kept : Option Delivery → List Event

@@ -1,16 +1,15 @@
 -- A scenario that is written out as what its readers hear means what they heard.
-use Rattle.std.proofs.Common.{◌≡◌, ◌≢◌, ℕ, ◌+◌, ◌<◌, ◌≤◌, ◌==◌, Bool, true, false, not, cond, List, [], ◌∷◌, ◌++◌, length, map, All, Option, Some, None, Result, Ok, Err, refl, ap, sym, subst, ◌∙◌, append_assoc, append-nil, length-append, arith, rules, nat_lt, inl, inr}
+use Rattle.std.proofs.Common.{◌≡◌, ◌≢◌, ℕ, ◌+◌, ◌<◌, ◌≤◌, ◌==◌, Bool, true, false, not, cond, List, [], ◌∷◌, ◌++◌, length, Option, Some, None, Ok, refl, ap, sym, subst, ◌∙◌, append_assoc, append-nil, length-append, arith, rules, nat_lt, inl, inr}
 use Rattle.std.specs.Prelude.{⊤, is_some, unwrap_or, option_and_then, option_map, option_to_list, slice_set, ◌⊎◌}
 use Rattle.std.specs.List.{AllByRecursion, find}
 use Rattle.std.proofs.lemmas.List.Elements.{recursion_from_All, All-from_recursion}
 use Rattle.std.proofs.lemmas.Bool.Decides.{eqb_tells}
 use Rattle.irig_device.specs.Lines.{HasNoNewline}
-use Rattle.irig_frame.specs.declared.symbol.Symbol.{Symbol}
 use Rattle.irig_plant.specs.declared.event.Event.{Event}
 use Rattle.irig_plant.specs.declared.event.Event.TheVariants.{GenEdge, Tick, Carry, Damage, Replay, Raw, Fault, Repair, Restart}
 use Rattle.irig_plant.specs.declared.fault.PlantFault.{PlantFault}
 use Rattle.irig_plant.specs.declared.fault.PlantFault.TheVariants as plant
-use Rattle.irig_plant.specs.Schedule.{Setup, Delivery, delivery, delivery_of, ticks_of, log_of, told_log_of, pulses_sent, pulses_sent_at}
+use Rattle.irig_plant.specs.Schedule.{Setup, ticks_of, log_of, told_log_of, pulses_sent, pulses_sent_at}
 use Rattle.irig_plant.specs.Refusals.{unless_reader, unless_generator, unless_second, refusal}
 use Rattle.irig_log_text.specs.declared.shown.Shown.{Shown}
 use Rattle.irig_log_text.specs.Text.{lines_text, audit_text}
@@ -18,7 +17,7 @@ use Rattle.irig_scenario.specs.declared.event_line.Command.TheVariants as comman
 use Rattle.irig_scenario.specs.EventLine.{command_in_line}
 use Rattle.irig_scenario.specs.PlantLine.{Plan, plan_in_line}
 use Rattle.irig_scenario.proofs.BlankLines.{plant_not_blank, command_not_blank}
-use Rattle.irig_scenario.proofs.SoundPlans.{IsSound, plan_is_sound}
+use Rattle.irig_scenario.proofs.SoundPlans.{plan_is_sound}
 use Rattle.irig_values.specs.Names.{are_names}
 use Rattle.irig_scene.specs.Lines.{lines, unlines, onto_first, is_blank, max_line, max_lines}
 use Rattle.irig_scene.specs.Scene.{Scene, scene, refusal_as, Play, play, unless_refused, step_to, step_of_plan, step_of_command, step_of_line, Step, step, Refused, Meaning, meaning, meaning_from, meaning_of, text_of, output_shown, audit_in}
@@ -28,7 +27,7 @@ use Rattle.irig_scene.proofs.StepLaws.{step_taken, meaning_goes, meaning_ends}
 use Rattle.irig_event_text.specs.EventText.{event_line, IsLine, IsWritten}
 use Rattle.irig_event_text.proofs.LineLaws.{is_line}
 use Rattle.irig_event_text.proofs.ReadLaws.{event_read}
-use Rattle.irig_flatten.specs.Recording.{pulses_at, pulses_of, heard_of, recorded, CanBeWritten, AreTaken}
+use Rattle.irig_flatten.specs.Recording.{pulses_at, heard_of, recorded, CanBeWritten, AreTaken}
 use Rattle.irig_flatten.specs.FlatText.{heard_line, heard_lines, first_of, flat_lines, flat_of, flat_text}
 use Rattle.irig_flatten.proofs.RecordingLaws.{same_ticks, same_log, same_told, same_audit}
 use Rattle.irig_flatten.proofs.TakenLaws.{IsTaken, meaning_taken, leaves_scene}

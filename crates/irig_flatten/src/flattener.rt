@@ -89,7 +89,10 @@ impl Flattener {
         match command {
             Command::Event(event) => {
                 let Flattener {
-                    plant, names, text, ..
+                    plant,
+                    names,
+                    text,
+                    ..
                 } = self;
                 record_event(plant, names, text, &event, output)
             }
@@ -97,11 +100,7 @@ impl Flattener {
         }
     }
 
-    fn flatten_seconds<W: Write>(
-        &mut self,
-        count: u32,
-        output: &mut Watched<W>,
-    ) -> Result<(), Stop>
+    fn flatten_seconds<W: Write>(&mut self, count: u32, output: &mut Watched<W>) -> Result<(), Stop>
         ensures flattens { Flattens self.old (λ plan. times count (second_in plan)) result self.new
             (W.contents (device_of output.old)) (W.contents (device_of output.new)) }
         ensures note { has_failed output.new ≡ (has_failed output.old || stopped_write result) }

@@ -83,11 +83,7 @@ fn take_event_line<W: Write>(
 }
 
 // The flattener of a plant line, which is written as it stands.
-fn begin<W: Write>(
-    alloc: Global,
-    line: &[u8],
-    output: &mut Watched<W>,
-) -> Result<Flattener, Stop>
+fn begin<W: Write>(alloc: Global, line: &[u8], output: &mut Watched<W>) -> Result<Flattener, Stop>
     ensures begins { Begins line.now result
         (W.contents (device_of output.old)) (W.contents (device_of output.new)) }
     ensures note { has_failed output.new ≡ (has_failed output.old || stopped_write result) }

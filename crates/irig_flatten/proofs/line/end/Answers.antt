@@ -1,5 +1,4 @@
-use Rattle.std.proofs.Common.{rules, ◌≡◌, subst, None}
-use Rattle.irig_flatten.specs.declared.flattener.Flattener.{Flattener}
+use Rattle.std.proofs.Common.{subst}
 use Rattle.irig_flatten.specs.Flattening.{IsAt}
 use Rattle.irig_flatten.proofs.RestLaws.{ends_without}
 use Rattle.irig_flatten.proofs.line.end.Goals as goal

@@ -1,9 +1,9 @@
-use Rattle.std.proofs.Common.{rules, ◌≡◌, ◌∙◌, ◌∷◌, ◌++◌, None, false, ap, sym, subst, length, []}
+use Rattle.std.proofs.Common.{rules, ◌≡◌, ◌∙◌, ◌∷◌, ◌++◌, None, ap, length, []}
 use Rattle.std.proofs.lemmas.Result.{err_from_is_err_and}
 use Rattle.irig_log_text.specs.Text.{texts_of}
 use Rattle.irig_plant.specs.Schedule.{log_of}
-use Rattle.irig_plant.specs.History.{HasPlantHistory, with_cleared_log, with_event}
-use Rattle.irig_flatten.specs.Flattening.{heard_text, history_of, IsPlantOf}
+use Rattle.irig_plant.specs.History.{with_cleared_log}
+use Rattle.irig_flatten.specs.Flattening.{heard_text, history_of}
 use Rattle.irig_plant.specs.Refusals.{refusal}
 use Rattle.irig_flatten.proofs.PlayedLaws.{unless_err, none_heard, takes_one, takes_part, stops_one}
 use Rattle.irig_flatten.proofs.record.record_event.Goals as goal

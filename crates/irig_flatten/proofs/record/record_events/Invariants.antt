@@ -9,5 +9,5 @@ abbrev pub invariant-loop-event : goal.invariant-loop-event
 invariant-loop-event g l = record {
   note : has_failed l.output ≡ has_failed l.initial.output;
   records : (x : Scene) → IsPlantOf (texts_of l.names.keys) l.initial.plant x
-      → RecordedFor (texts_of l.names.keys) x (take l.index l.events) l.plant None (g.W.Write.contents (device_of l.initial.output)) (g.W.Write.contents (device_of l.output));
+      → RecordedFor (texts_of l.names.keys) x (take l.event-index l.events) l.plant None (g.W.Write.contents (device_of l.initial.output)) (g.W.Write.contents (device_of l.output));
 }
