@@ -6,3 +6,4 @@ pub mod RecordingLaws
 pub mod WidthLaws
 pub mod TakenLaws
 pub mod TextLaws
+pub mod StandardFacts
