@@ -122,8 +122,8 @@ fn push_entry(
     text.push_str(last.of(entry.report)?)
 }
 
-/// Adds a number in decimal.
-pub(crate) fn push_number(text: &mut String, number: u64) -> Result<(), AllocError>
+/// Adds a number in decimal. It fails only if there is no memory.
+pub fn push_number(text: &mut String, number: u64) -> Result<(), AllocError>
     ensures { OnOk result (string_bytes text.new ≡ string_bytes text.old ++ decimal number) }
 {
     text.push_str(Buffer::new().format(number))
@@ -143,9 +143,9 @@ fn push_report(text: &mut String, report: Report) -> Result<(), AllocError>
     text.push_str("\n")
 }
 
-/// The name of a reader.
+/// The name of a reader by its number, and nothing past the last.
 #[tactic(auto, using(crate::proofs::TextLaws::name_in_texts))]
-pub(crate) fn name_at(names: &IndexSet<String>, reader: u8) -> &str
+pub fn name_at(names: &IndexSet<String>, reader: u8) -> &str
     ensures { result.now ≡ name_at (texts_of names.now.keys) reader }
 {
     names

@@ -81,6 +81,13 @@ pulses_sent s g ev = widths_of (sent_of (generator_at s g ev) s.times)
 abbrev pub pulses_sent_at : Setup → ℕ → ℕ → List Event → List ℕ
 pulses_sent_at s g edge ev = widths_of (frame_of None (generator_at s g ev) s.times edge)
 
+-- the pulses of the frame that an event brings which comes now, if it brings one
+abbrev pub frame_brought : Setup → Event → List Event → List ℕ
+frame_brought s (Carry g r) ev = pulses_sent s g ev
+frame_brought s (Damage g r at width) ev = with_damage at width (pulses_sent s g ev)
+frame_brought s (Replay g r edge) ev = pulses_sent_at s g edge ev
+frame_brought s _ ev = []
+
 -- ---- ports
 
 -- pulses for the port of a generator at a reader

@@ -64,7 +64,8 @@ impl Widths {
         Widths { items: widths }
     }
 
-    pub(crate) fn as_slice(&self) -> &[u32]
+    /// The widths in order.
+    pub fn as_slice(&self) -> &[u32]
         ensures { result.now ≡ self.now }
     {
         self.items.as_slice()

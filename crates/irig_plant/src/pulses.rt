@@ -1,6 +1,6 @@
 //! Pulses on their way to a port.
 
-ghost use Rattle.std.specs.Prelude.{◌≡◌, ◌<◌, [], map, unwrap_or, vec_len, IfSome, Some, true, false};
+ghost use Rattle.std.specs.Prelude.{◌≡◌, ◌<◌, [], length, map, unwrap_or, vec_len, IfSome, None, Some, true, false};
 ghost use Rattle.irig_frame.specs.Symbols.{width_of};
 ghost use Rattle.irig_time.specs.declared.rules.Rules.{Rules};
 ghost use Rattle.irig_port.specs.Heard.{symbols_heard};
@@ -12,8 +12,46 @@ use irig_frame::Symbol;
 use irig_port::Port;
 
 impl<P: Port> Plant<P> {
-    ghost use Rattle.irig_plant.specs.Schedule.{delivery, delivery_of, pulses_sent, pulses_sent_at};
+    ghost use Rattle.irig_plant.specs.Refusals.{refusal};
+    ghost use Rattle.irig_plant.specs.Schedule.{delivery, delivery_of, frame_brought, pulses_sent, pulses_sent_at};
     ghost use Rattle.irig_plant.specs.History.{PlantHistory, with_event, HasPlantHistory, ForHistory, Follows, Keeps};
+
+    /// The widths in microseconds of the pulses of the frame that a carry, a damage or a replay
+    /// brings if it comes now. `None` if no pulse comes, if there is no such generator, and for any
+    /// other event.
+    pub fn frame_brought(&self, event: &Event) -> Option<[u32; 100]>
+        ensures { ForHistory self.now (λ h. refusal h.setup event.now h.events ≡ None
+            → unwrap_or result [] ≡ frame_brought h.setup event.now h.events) }
+    {
+        match event {
+            Event::Carry { g, .. } => self.sent_by(*g),
+            Event::Damage { g, at, width, .. } => with_damage(self.sent_by(*g), *at, *width),
+            Event::Replay { g, edge, .. } => self.sent_by_at(*g, *edge),
+            _ => None,
+        }
+    }
+
+    fn sent_by(&self, g: u8) -> Option<[u32; 100]>
+        ensures { ForHistory self.now (λ h. g < length h.setup.generators
+            → unwrap_or result [] ≡ pulses_sent h.setup g h.events) }
+    {
+        if usize::from(g) < self.generators.len() {
+            self.sent(g)
+        } else {
+            None
+        }
+    }
+
+    fn sent_by_at(&self, g: u8, edge: u64) -> Option<[u32; 100]>
+        ensures { ForHistory self.now (λ h. g < length h.setup.generators
+            → unwrap_or result [] ≡ pulses_sent_at h.setup g edge h.events) }
+    {
+        if usize::from(g) < self.generators.len() {
+            self.sent_at(g, edge)
+        } else {
+            None
+        }
+    }
 
     pub(crate) fn sent(&self, g: u8) -> Option<[u32; 100]>
         requires { g < vec_len self.now.generators }

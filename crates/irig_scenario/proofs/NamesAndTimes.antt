@@ -16,11 +16,11 @@ use Rattle.irig_values.specs.PlantValues.{PlantValues, start_of, leaps_of, rules
 use Rattle.irig_scenario.specs.PlantLine.{values_refusal, setup_with, refused_or, setup_result, Plan, plan_in_object, plan_in_line}
 use Rattle.irig_scenario.specs.NamesAndTimes.{HasNamesAndTimes}
 
-step_of : {A B C : Type 0} (f : A → Result B Refusal) (o : Result A Refusal) (b : B) → (o >>= f) ≡ Ok b → ((a : A) → o ≡ Ok a → f a ≡ Ok b → C) → C
+pub step_of : {A B C : Type 0} (f : A → Result B Refusal) (o : Result A Refusal) (b : B) → (o >>= f) ≡ Ok b → ((a : A) → o ≡ Ok a → f a ≡ Ok b → C) → C
 step_of f (Err k) b e next = absurd cc
 step_of f (Ok a) b e next = next a refl e
 
-found_is : {A : Type 0} (k : Refusal) (o : Option A) (x : A) → or_else k o ≡ Ok x → o ≡ Some x
+pub found_is : {A : Type 0} (k : Refusal) (o : Option A) (x : A) → or_else k o ≡ Ok x → o ≡ Some x
 found_is k None x e = absurd cc
 found_is k (Some y) x e = cc
 

@@ -72,37 +72,38 @@ meaning_keeps plan (l ∷ ls) n (Some x) some is =
     unless_keeps plan n (step n (Some x) l).scene (step n (Some x) l).refusal (meaning_from ls (n + 1) (step n (Some x) l).scene) (step_keeps plan n x l is)
     (meaning_keeps plan ls (n + 1) (step n (Some x) l).scene (step_some n x l) (step_keeps plan n x l is))
 
--- the plan of the first line that is not blank
-record IsPlannedBy (ls : List (List ℕ)) (plan : Plan) : Type 0 where
+-- the plan of the first line that is not blank, which is not too long
+pub record IsPlannedBy (ls : List (List ℕ)) (plan : Plan) : Type 0 where
   pub line : List ℕ
+  pub short : nat_lt max_line (length line) ≡ false
   pub first : find (λ line. not (is_blank line)) ls ≡ Some line
   pub planned : plan_in_line line ≡ Ok plan
 
 -- the first line, by its plan
-first_planned : (l : List ℕ) (ls : List (List ℕ)) (n : ℕ) (x : Scene) (o : Result Plan Refusal) → plan_in_line l ≡ o → is_blank l ≡ false
+first_planned : (l : List ℕ) (ls : List (List ℕ)) (n : ℕ) (x : Scene) (o : Result Plan Refusal) → plan_in_line l ≡ o → is_blank l ≡ false → nat_lt max_line (length l) ≡ false
     → (unless_stopped n (step_of_plan o).scene (step_of_plan o).refusal (meaning_from ls (n + 1) (step_of_plan o).scene)).scene ≡ Some x → IsPlannedBy (l ∷ ls) x.plan
-first_planned l ls n x (Err k) is full e = absurd cc
-first_planned l ls n x (Ok plan) is full e =
+first_planned l ls n x (Err k) is full short e = absurd cc
+first_planned l ls n x (Ok plan) is full short e =
     let keeps : x.plan ≡ plan = subst (KeepsPlan plan) e (meaning_keeps plan ls (n + 1) (Some (scene plan [])) refl refl) in
-    record { line = l; first = rw full refl; planned = is ∙ ap Ok (sym keeps) }
+    record { line = l; short = short; first = rw full refl; planned = is ∙ ap Ok (sym keeps) }
 
 -- a line by what is tested of it
-by_tests : (l : List ℕ) (ls : List (List ℕ)) (n : ℕ) (x : Scene) (many long blank : Bool) → is_blank l ≡ blank → ((m : ℕ) → (meaning_from ls m None).scene ≡ Some x → IsPlannedBy ls x.plan)
+by_tests : (l : List ℕ) (ls : List (List ℕ)) (n : ℕ) (x : Scene) (many long blank : Bool) → is_blank l ≡ blank → nat_lt max_line (length l) ≡ long → ((m : ℕ) → (meaning_from ls m None).scene ≡ Some x → IsPlannedBy ls x.plan)
     → (unless_stopped n (cond many (step_to None (Some refusal.TooManyLines)) (cond long (step_to None (Some refusal.TooLong)) (cond blank (step_to None None) (step_of_line None l)))).scene
     (cond many (step_to None (Some refusal.TooManyLines)) (cond long (step_to None (Some refusal.TooLong)) (cond blank (step_to None None) (step_of_line None l)))).refusal
     (meaning_from ls (n + 1) (cond many (step_to None (Some refusal.TooManyLines)) (cond long (step_to None (Some refusal.TooLong)) (cond blank (step_to None None) (step_of_line None l)))).scene)).scene ≡ Some x
     → IsPlannedBy (l ∷ ls) x.plan
-by_tests l ls n x true long blank is next e = absurd cc
-by_tests l ls n x false true blank is next e = absurd cc
-by_tests l ls n x false false true is next e =
+by_tests l ls n x true long blank is size next e = absurd cc
+by_tests l ls n x false true blank is size next e = absurd cc
+by_tests l ls n x false false true is size next e =
     let later = next (n + 1) e in
-    record { line = later.line; first = rw is later.first; planned = later.planned }
-by_tests l ls n x false false false is next e = first_planned l ls n x (plan_in_line l) refl is e
+    record { line = later.line; short = later.short; first = rw is later.first; planned = later.planned }
+by_tests l ls n x false false false is size next e = first_planned l ls n x (plan_in_line l) refl is size e
 
-planned : (ls : List (List ℕ)) (n : ℕ) (x : Scene) → (meaning_from ls n None).scene ≡ Some x → IsPlannedBy ls x.plan
+pub planned : (ls : List (List ℕ)) (n : ℕ) (x : Scene) → (meaning_from ls n None).scene ≡ Some x → IsPlannedBy ls x.plan
 unfolding meaning_from step
 planned [] n x e = absurd cc
-planned (l ∷ ls) n x e = by_tests l ls n x (nat_lt max_lines n) (nat_lt max_line (length l)) (is_blank l) refl (λ m. planned ls m x) e
+planned (l ∷ ls) n x e = by_tests l ls n x (nat_lt max_lines n) (nat_lt max_line (length l)) (is_blank l) refl refl (λ m. planned ls m x) e
 
 pub plant_line : (x : List ℕ) (at : Scene) → (meaning_of x).scene ≡ Some at → IsPlantLineOf x at.plan.names at.plan.setup.times
 plant_line x at means =

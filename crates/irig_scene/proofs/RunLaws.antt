@@ -74,7 +74,7 @@ goes_on shown was is in0 in1 in2 out0 out1 out2 n l run took h read =
       grew = grew_on shown None run.at (step n run.at l).scene out0 out1 out2 run.grew took.grew;
     }
 
-as_newline : (end : LineEnd) (line : List ℕ) (in1 in2 : Option (List ℕ)) → end ≡ Newline → Consumes in1 in2 (spelling end line) → Consumes in1 in2 (line ++ 10 ∷ [])
+pub as_newline : (end : LineEnd) (line : List ℕ) (in1 in2 : Option (List ℕ)) → end ≡ Newline → Consumes in1 in2 (spelling end line) → Consumes in1 in2 (line ++ 10 ∷ [])
 as_newline end line in1 in2 is took = subst (λ end. Consumes in1 in2 (spelling end line)) is took
 
 pub line_done : {P : Type 0} {g : Ghosts P} (shown : Shown) (was is : Option (Player P g)) (in0 in1 in2 out0 out1 out2 : Option (List ℕ)) (n limit : ℕ) (l line : List ℕ) (end : LineEnd) (run : HasRun shown was in0 in1 out0 out1 n)
@@ -86,12 +86,12 @@ line_done shown was is in0 in1 in2 out0 out1 out2 n limit l line end run got end
 -- ---- the input, if it tells its bytes
 
 -- what a line took is followed by what is left, or by nothing if that is not told
-known_rest : (was left : Option (List ℕ)) (spelled : List ℕ) → Consumes was left spelled → (rest : List ℕ) × AreBytesOf was (spelled ++ rest)
+pub known_rest : (was left : Option (List ℕ)) (spelled : List ℕ) → Consumes was left spelled → (rest : List ℕ) × AreBytesOf was (spelled ++ rest)
 known_rest None left spelled took = ([], tt)
 known_rest (Some y) None spelled took = absurd took
 known_rest (Some y) (Some rest) spelled took = (rest, sym took)
 
-all_bytes : (in0 in1 : Option (List ℕ)) (front y : List ℕ) → Consumes in0 in1 front → AreBytesOf in1 y → AreBytesOf in0 (front ++ y)
+pub all_bytes : (in0 in1 : Option (List ℕ)) (front y : List ℕ) → Consumes in0 in1 front → AreBytesOf in1 y → AreBytesOf in0 (front ++ y)
 all_bytes None in1 front y took is = tt
 all_bytes (Some x) None front y took is = absurd took
 all_bytes (Some x) (Some z) front y took is = ap (λ y. front ++ y) is ∙ sym took
@@ -102,7 +102,7 @@ ended_scene : (n : ℕ) (at : Option Scene) → (meaning_at_end n at).scene ≡ 
 ended_scene n None = refl
 ended_scene n (Some x) = refl
 
-stops_long : (n : ℕ) (at : Option Scene) (line more : List ℕ) → limit_of n < length line → step n at (line ++ more) ≡ step_to at (Some (too_long n))
+pub stops_long : (n : ℕ) (at : Option Scene) (line more : List ℕ) → limit_of n < length line → step n at (line ++ more) ≡ step_to at (Some (too_long n))
 stops_long n at line more long = elim (nat_lt max_lines n) as (λ b. nat_lt max_lines n ≡ b → step n at (line ++ more) ≡ step_to at (Some (too_long n))) [
   | true ↦ λ many. step_many n at (line ++ more) (search rules) ∙ ap (λ b. step_to at (Some (cond b refusal.TooManyLines refusal.TooLong))) (sym many)
   | false ↦ λ few.

@@ -73,7 +73,7 @@ split_at (suc i) k es =
     ap (λ n. times n es) next ∙ ap (λ more. es ++ more) (split_at i k es) ∙ sym (append_assoc es (times i es) (times k es))
 
 -- a time more, and what is left
-times_left : (i n : ℕ) (es : List Event) → i < n → times n es ≡ (times i es ++ es) ++ times (n - (i + 1)) es
+pub times_left : (i n : ℕ) (es : List Event) → i < n → times n es ≡ (times i es ++ es) ++ times (n - (i + 1)) es
 times_left i n es lt =
     let sum : n ≡ i + 1 + (n - (i + 1)) = omega (arith, lt) in
     ap (λ k. times k es) sum ∙ split_at (i + 1) (n - (i + 1)) es ∙ ap (λ more. more ++ times (n - (i + 1)) es) (one_time_more i es)

@@ -17,7 +17,7 @@ ghost use Rattle.irig_scene.specs.LineRuns.{
 };
 
 use crate::fault::SceneFault;
-use crate::log_writer::LogWriter;
+use crate::log_writer::{LogWriter, write_refusal};
 use crate::outcome::Outcome;
 use crate::player::Player;
 use crate::stop::Stop;
@@ -25,24 +25,25 @@ use irig_device::{LineEnd, ReadFault, Watched};
 use irig_faults::Refusal;
 use irig_port::Port;
 use irig_scenario::{event_of_line, plant_of_line};
+use std::alloc::Global;
 use std::io::{BufRead, Write};
 
-// The last line that is run.
-const MAX_LINES: u64 = 1_000_000;
+/// The last line that is run.
+pub const MAX_LINES: u64 = 1_000_000;
 
 // The longest line that is run, in bytes without its newline.
 const MAX_LINE: usize = 65536;
 
 /// How many bytes of a line are read at most before it is known to be refused.
-pub(crate) fn limit_of(number: u64) -> usize
+pub fn limit_of(number: u64) -> usize
     ensures { result ≡ limit_of number }
 {
     if number > MAX_LINES { 0 } else { MAX_LINE }
 }
 
 /// Reads the next line into `line`, without its newline, no further than to its newline or one byte
-/// above the limit.
-pub(crate) fn read_line<R: BufRead>(
+/// above the limit. `Read` if the input failed, `Memory` if there was none.
+pub fn read_line<R: BufRead>(
     input: &mut Watched<R>,
     limit: usize,
     line: &mut Vec<u8>,
@@ -77,7 +78,7 @@ pub(crate) fn run_line<P: Port, W: Write>(
 {
     match process_line(player, number, line, log, output) {
         Ok(()) => Ok(()),
-        Err(Stop::Refused(refusal)) => Err(refuse(number, refusal, log, output)),
+        Err(Stop::Refused(refusal)) => Err(refuse(log.alloc, number, refusal, output)),
         Err(Stop::Failed(failure)) => Err(SceneFault::from(failure)),
     }
 }
@@ -113,7 +114,8 @@ fn process_line<P: Port, W: Write>(
     }
 }
 
-fn is_blank(line: &[u8]) -> bool
+/// Whether a line is skipped: it has blanks, tabs and carriage returns alone, or nothing.
+pub fn is_blank(line: &[u8]) -> bool
     ensures { result ≡ is_blank line.now }
 {
     line.iter()
@@ -143,18 +145,18 @@ fn process_event_line<P: Port, W: Write>(
     player.run_command(command, log, output)
 }
 
-/// Writes the refusal of a line, and answers it.
-pub(crate) fn refuse<W: Write>(
+/// Writes the refusal of a line, and answers it; or what failed meanwhile, `Write` or `Memory`.
+pub fn refuse<W: Write>(
+    alloc: Global,
     number: u64,
     refusal: Refusal,
-    log: LogWriter,
     output: &mut Watched<W>,
 ) -> SceneFault
     ensures wrote { WroteRefusal result number refusal
         (W.contents (device_of output.old)) (W.contents (device_of output.new)) }
     ensures note { has_failed output.new ≡ (has_failed output.old || is_write_fault result) }
 {
-    match log.write_refusal(number, refusal, output) {
+    match write_refusal(alloc, number, refusal, output) {
         Ok(()) => SceneFault::Refused {
             line: number,
             number: refusal.number(),
@@ -164,7 +166,7 @@ pub(crate) fn refuse<W: Write>(
 }
 
 /// The refusal of a line that is longer than its limit.
-pub(crate) fn too_long(number: u64) -> Refusal
+pub fn too_long(number: u64) -> Refusal
     ensures { result ≡ too_long number }
 {
     if number > MAX_LINES {
@@ -211,7 +213,7 @@ fn write_verdict<P: Port, W: Write>(
     ensures note { has_failed output.new ≡ (has_failed output.old || says_write result) }
 {
     match player {
-        None => Err(refuse(number, Refusal::NoPlant, log, output)),
+        None => Err(refuse(log.alloc, number, Refusal::NoPlant, output)),
         Some(player) => {
             let audit = player.audit();
             log.write_audit(player.names(), audit, output)?;

@@ -67,7 +67,7 @@ impl LogWriter {
         if pushed.is_err() {
             return Err(Failure::Memory);
         }
-        write(output, lines.as_str())
+        write_text(output, lines.as_str())
     }
 
     /// Writes the last line of a run without a refusal.
@@ -86,30 +86,31 @@ impl LogWriter {
         if push_audit(&mut text, names, audit).is_err() {
             return Err(Failure::Memory);
         }
-        write(output, text.as_str())
-    }
-
-    /// Writes the refusal of a line.
-    pub(crate) fn write_refusal<W: Write>(
-        self,
-        line: u64,
-        refusal: Refusal,
-        output: &mut Watched<W>,
-    ) -> Result<(), Failure>
-        ensures wrote { WroteText result
-            (W.contents (device_of output.old)) (W.contents (device_of output.new))
-            (refusal_text line refusal) }
-        ensures note { has_failed output.new ≡ (has_failed output.old || failed_write result) }
-    {
-        let mut text = String::new(self.alloc);
-        if push_refusal(&mut text, line, refusal).is_err() {
-            return Err(Failure::Memory);
-        }
-        write(output, text.as_str())
+        write_text(output, text.as_str())
     }
 }
 
-fn write<W: Write>(output: &mut Watched<W>, text: &str) -> Result<(), Failure>
+/// Writes the refusal of a line.
+pub(crate) fn write_refusal<W: Write>(
+    alloc: Global,
+    line: u64,
+    refusal: Refusal,
+    output: &mut Watched<W>,
+) -> Result<(), Failure>
+    ensures wrote { WroteText result
+        (W.contents (device_of output.old)) (W.contents (device_of output.new))
+        (refusal_text line refusal) }
+    ensures note { has_failed output.new ≡ (has_failed output.old || failed_write result) }
+{
+    let mut text = String::new(alloc);
+    if push_refusal(&mut text, line, refusal).is_err() {
+        return Err(Failure::Memory);
+    }
+    write_text(output, text.as_str())
+}
+
+/// Writes a text.
+pub fn write_text<W: Write>(output: &mut Watched<W>, text: &str) -> Result<(), Failure>
     ensures wrote { WroteText result
         (W.contents (device_of output.old)) (W.contents (device_of output.new)) text.now }
     ensures note { has_failed output.new ≡ (has_failed output.old || failed_write result) }

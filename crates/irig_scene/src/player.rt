@@ -11,11 +11,10 @@ use crate::rounds::{Round, Rounds};
 use crate::stop::{Failure, Stop};
 use indexmap::IndexSet;
 use irig_device::Watched;
-use irig_gen::Generator;
 use irig_plant::{Audit, Plant};
 use irig_port::Port;
 use irig_scenario::{BuiltPlant, Command, second_of};
-use std::alloc::{AllocError, Global};
+use std::alloc::Global;
 use std::io::Write;
 
 /// A plant in rounds, its readers' names, and the text of its log.
@@ -92,11 +91,7 @@ impl<P: Port> Player<P> {
     /// What explains the refusal of this line.
     pub(crate) fn refused(self, alloc: Global, line: Vec<u8>) -> RefusedLine {
         let Player { rounds, names, .. } = self;
-        let edges = match edges_of(alloc, rounds.plant().generators()) {
-            Ok(edges) => edges,
-            Err(_) => Vec::new(alloc),
-        };
-        RefusedLine { line, names, edges }
+        RefusedLine::of_plant(alloc, line, names, rounds.plant().generators())
     }
 
     /// Does what a line asks for, up to an event that is refused, and writes what the readers said.
@@ -160,12 +155,4 @@ impl<P: Port> Player<P> {
             Some(refusal) => Err(Stop::Refused(refusal)),
         }
     }
-}
-
-fn edges_of(alloc: Global, generators: &[Generator]) -> Result<Vec<u64>, AllocError> {
-    let mut edges = Vec::new(alloc);
-    for generator in generators {
-        edges.push(generator.edge())?;
-    }
-    Ok(edges)
 }

@@ -2,8 +2,9 @@
 
 use crate::player::Player;
 use indexmap::IndexSet;
+use irig_gen::Generator;
 use irig_port::Port;
-use std::alloc::Global;
+use std::alloc::{AllocError, Global};
 
 /// A line that was refused, and where the plant then stood.
 #[derive(Drop)]
@@ -18,14 +19,41 @@ pub struct RefusedLine {
 }
 
 impl RefusedLine {
+    /// A line before there is a plant.
+    pub fn before_plant(alloc: Global, line: Vec<u8>) -> RefusedLine {
+        RefusedLine {
+            line,
+            names: IndexSet::new(alloc),
+            edges: Vec::new(alloc),
+        }
+    }
+
+    /// A line of a plant whose readers have these names, and whose generators stand so.
+    pub fn of_plant(
+        alloc: Global,
+        line: Vec<u8>,
+        names: IndexSet<String>,
+        generators: &[Generator],
+    ) -> RefusedLine {
+        let edges = match edges_of(alloc, generators) {
+            Ok(edges) => edges,
+            Err(_) => Vec::new(alloc),
+        };
+        RefusedLine { line, names, edges }
+    }
+
     pub(crate) fn of<P: Port>(alloc: Global, line: Vec<u8>, player: Option<Player<P>>) -> Self {
         match player {
             Some(player) => player.refused(alloc, line),
-            None => RefusedLine {
-                line,
-                names: IndexSet::new(alloc),
-                edges: Vec::new(alloc),
-            },
+            None => RefusedLine::before_plant(alloc, line),
         }
     }
+}
+
+fn edges_of(alloc: Global, generators: &[Generator]) -> Result<Vec<u64>, AllocError> {
+    let mut edges = Vec::new(alloc);
+    for generator in generators {
+        edges.push(generator.edge())?;
+    }
+    Ok(edges)
 }

@@ -92,8 +92,8 @@ fn run_events<P: Port>(plant: &mut Plant<P>, events: &[Event]) -> Result<Option<
     }
 }
 
-// The refusal of an event; no memory is none.
-fn refusal_as(fault: PlantFault) -> Option<Refusal>
+/// The refusal of an event as that of a line; no memory is none.
+pub fn refusal_as(fault: PlantFault) -> Option<Refusal>
     ensures { result ≡ refusal_as fault }
 {
     match fault {

@@ -106,7 +106,7 @@ fn run_lines<P: Port, R: BufRead, W: Write>(
                 run_line(player, number, line, log, output)?;
                 number += 1;
             }
-            LineEnd::TooLong => return Err(refuse(number, too_long(number), log, output)),
+            LineEnd::TooLong => return Err(refuse(log.alloc, number, too_long(number), output)),
             LineEnd::EndOfInput => {
                 return run_last(player, number, line, log, output);
             }

@@ -9,7 +9,7 @@ use irig_faults::{LineFault, Refusal};
 
 /// What fails though the line is right.
 #[derive(Clone, Copy)]
-pub(crate) enum Failure {
+pub enum Failure {
     /// The output took no more.
     Write,
     /// There was no memory.
@@ -18,7 +18,7 @@ pub(crate) enum Failure {
 
 /// Why a line ends the run.
 #[derive(Clone, Copy)]
-pub(crate) enum Stop {
+pub enum Stop {
     /// It is refused.
     Refused(Refusal),
     /// It isn't refused, and something failed.

@@ -35,7 +35,7 @@ mapped_more : {A : Type 0} (f : Data → Option A) (Fact : A → Type 0) (d : Da
 mapped_more f Fact d ds x xs None fact h e = absurd cc
 mapped_more f Fact d ds x xs (Some ys) fact h e = one_more f Fact d ds x xs ys fact (h ys refl) (same_some (x ∷ ys) xs e)
 
-all_are_of : {A : Type 0} (f : Data → Option A) (Fact : A → Type 0) → ((d : Data) (x : A) → f d ≡ Some x → Fact x) → (ds : List Data) (xs : List A) → all_of f ds ≡ Some xs → AreOf f Fact ds xs
+pub all_are_of : {A : Type 0} (f : Data → Option A) (Fact : A → Type 0) → ((d : Data) (x : A) → f d ≡ Some x → Fact x) → (ds : List Data) (xs : List A) → all_of f ds ≡ Some xs → AreOf f Fact ds xs
 all_are_of f Fact each [] xs e = subst (AreOf f Fact []) (same_some [] xs e) (record { count = refl; facts = All-nil Fact })
 all_are_of f Fact each (d ∷ ds) xs e =
     option_and_then_some (λ x. option_map (λ xs. x ∷ xs) (all_of f ds)) (f d) xs e
@@ -62,7 +62,7 @@ generators_count version d xs e =
 
 -- ---- readers
 
-within : (least most : ℕ) (z : ℤ) (n : ℕ) → natural_within least most z ≡ Some n → (least ≤ n) × (n ≤ most)
+pub within : (least most : ℕ) (z : ℤ) (n : ℕ) → natural_within least most z ≡ Some n → (least ≤ n) × (n ≤ most)
 within least most (pos m) n e = if_within (nat_le least m && nat_le m most) refl e
   where
     if_within : (b : Bool) → (nat_le least m && nat_le m most) ≡ b → cond b (Some m) None ≡ Some n → (least ≤ n) × (n ≤ most)

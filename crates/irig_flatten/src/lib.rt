@@ -1,0 +1,14 @@
+//! A scenario written out as what its readers hear: its plant line, and then lines of pulses, ticks
+//! and restarts alone.
+//!
+//! What happens at generators is played and left out, so a wave of the lines can be drawn, played
+//! to a device, or changed by hand. The log of what is written is the log of the scenario.
+#![tactic(auto)]
+
+mod flattener;
+mod laws;
+mod line;
+mod run;
+
+pub use laws::flat_scenarios_have_their_log;
+pub use run::flatten;
