@@ -4,6 +4,7 @@
 declare -gA _irig_options=(
     [irig]='--help --version'
     [run]='--all --ports --help'
+    [flatten]='--help'
     [frame]='--local= --pending= --help'
     [read]='--help'
     [explain]='--help'
@@ -24,12 +25,12 @@ _irig() {
         mapfile -t COMPREPLY < <(compgen -W "${_irig_options[$command]-}" -- "$word")
         [[ ${COMPREPLY-} != *= ]] || compopt -o nospace
     elif [[ $command == irig ]]; then
-        mapfile -t COMPREPLY < <(compgen -W 'run frame read explain help' -- "$word")
-    elif [[ $command == run ]]; then
+        mapfile -t COMPREPLY < <(compgen -W 'run flatten frame read explain help' -- "$word")
+    elif [[ $command == run || $command == flatten ]]; then
         mapfile -t COMPREPLY < <(compgen -f -- "$word")
         compopt -o filenames
     elif [[ $command == help ]]; then
-        mapfile -t COMPREPLY < <(compgen -W 'run frame read explain' -- "$word")
+        mapfile -t COMPREPLY < <(compgen -W 'run flatten frame read explain' -- "$word")
     fi
 }
 

@@ -3,7 +3,9 @@
 ghost use Rattle.std.specs.Prelude.{◌≡◌, ◌≢◌, ◌↔◌, ◌≤◌, IfOk, IfSome, Ok, Some, length, unsigned_abs};
 ghost use Rattle.irig_command_line.specs.Requests.{IsRequest};
 
-use crate::help::{ABOUT, AFTER, EXPLAIN_AFTER, FRAME_AFTER, READ_AFTER, RUN_AFTER, USAGE};
+use crate::help::{
+    ABOUT, AFTER, EXPLAIN_AFTER, FLATTEN_AFTER, FRAME_AFTER, READ_AFTER, RUN_AFTER, USAGE,
+};
 use crate::request::{NoRequest, Pending, Request};
 use crate::tip::fault_with_tip;
 use clap::builder::ValueParser;
@@ -54,6 +56,7 @@ fn request_by<'a>(name: &str, matches: &ArgMatches<'a>) -> Option<Request<'a>>
 {
     match name {
         "run" => Some(run_of(matches)),
+        "flatten" => Some(flatten_of(matches)),
         "frame" => Some(frame_of(matches)),
         "read" => Some(read_of(matches)),
         "explain" => Some(explain_of(matches)),
@@ -70,6 +73,16 @@ fn run_of<'a>(matches: &ArgMatches<'a>) -> Request<'a>
     match value(matches, "FILE") {
         "-" => Request::Input { all, ports },
         file => Request::Run { file, all, ports },
+    }
+}
+
+fn flatten_of<'a>(matches: &ArgMatches<'a>) -> Request<'a>
+    ensures not_plain { result ≢ Request.Plain }
+    ensures in_range { IsRequest result }
+{
+    match value(matches, "FILE") {
+        "-" => Request::FlattenInput,
+        file => Request::Flatten { file },
     }
 }
 
@@ -143,6 +156,7 @@ fn pending(matches: &ArgMatches<'_>) -> Option<Pending> {
 
 fn program<'a>(alloc: Global) -> Result<Command<'a>, AllocError> {
     let program = with_command(described_program(alloc), run_command(alloc));
+    let program = with_command(program, flatten_command(alloc));
     let program = with_command(program, frame_command(alloc));
     let program = with_command(program, read_command(alloc));
     with_command(program, explain_command(alloc))
@@ -195,6 +209,11 @@ fn ports_option<'a>(alloc: Global) -> Arg<'a> {
         .long("ports")
         .help("Shows for each tick, in a line that begins with a blank, what each port told")
         .action(ArgAction::SetTrue)
+}
+
+fn flatten_command<'a>(alloc: Global) -> Result<Command<'a>, AllocError> {
+    let about = "Writes a scenario out as what its readers hear";
+    described(alloc, "flatten", about, FLATTEN_AFTER).arg(file_argument(alloc))
 }
 
 fn frame_command<'a>(alloc: Global) -> Result<Command<'a>, AllocError> {

@@ -16,6 +16,7 @@ pub const AFTER: &str =
 Examples:
   $ irig < examples/leap_inserted.jsonl
   $ irig run examples/two_liars.jsonl --all
+  $ irig flatten examples/leap_inserted.jsonl
   $ irig frame 2016-12-31T23:59:59Z --pending=insert
   $ irig read \"$(irig frame 2016-12-31T23:59:59Z)\"
   $ irig explain 26
@@ -44,6 +45,19 @@ second, that it claimed untruly. Lines that do not begin with a blank stay as th
 Example:
   $ irig run examples/plain_minute.jsonl | tail -n 2
   60 relay 2016-06-15T12:01:00Z locked voted
+  premises kept";
+
+/// What follows the options of `flatten`.
+pub const FLATTEN_AFTER: &str =
+    "It writes the plant line as it stands, and then what comes to the readers' ports, event by event, as lines of a
+scenario: the pulses of each frame, each tick, each restart. What happens at generators is played and left out, so
+a log can be had of a recording, and a recording of a scenario: `irig run` prints the same log for both, also with
+--all and --ports. It runs 1,000,000 lines at most.
+
+If a line of FILE is refused, the last line that is written says so, as that of a log does.
+
+Example:
+  $ irig flatten examples/plain_minute.jsonl | irig run - | tail -n 1
   premises kept";
 
 /// What follows the options of `frame`.

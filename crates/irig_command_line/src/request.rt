@@ -20,6 +20,12 @@ pub enum Request<'a> {
         /// Whether the log shows what each port told.
         ports: bool,
     },
+    /// The scenario on the input, written out as what its readers hear.
+    FlattenInput,
+    /// The scenario in a file, written out so.
+    Flatten {
+        file: &'a str,
+    },
     /// The frame of a UTC second.
     Frame {
         time: &'a str,

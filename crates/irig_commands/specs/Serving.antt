@@ -1,6 +1,6 @@
 -- What is done for a request.
 -- Source: README.md, the commands; the exit statuses are those of Status.antt.
-use Rattle.std.specs.Prelude.{◌≡◌, ℕ, ◌≤◌, ◌↔◌, ◌⊎◌, Bool, false, true, List, Option, Some, None, Result, Ok, Err, string_bytes, ℤ}
+use Rattle.std.specs.Prelude.{◌≡◌, ℕ, ◌≤◌, ◌↔◌, ◌⊎◌, Bool, false, true, List, Option, Some, None, Result, Ok, Err, IfSome, string_bytes, ℤ}
 use Rattle.std.specs.Io.KnownBytes.{Appends, Keeps}
 use Rattle.std.specs.declared.io.Error.{Error}
 use Rattle.irig_device.specs.Lines.{Bytes}
@@ -13,16 +13,18 @@ use Rattle.irig_frame_text.specs.Reading.{IsReadingOf}
 use Rattle.irig_scene.specs.declared.outcome.Outcome.{Outcome}
 use Rattle.irig_scene.specs.declared.fault.SceneFault.{SceneFault}
 use Rattle.irig_log_text.specs.declared.shown.Shown.{Shown}
+use Rattle.irig_scene.specs.LogLines.{OfWritten}
 use Rattle.irig_scene.specs.Run.{RanShown}
+use Rattle.irig_flatten.specs.Flattening.{HasTheLog, RanFlat}
 use Rattle.irig_command_line.specs.declared.request.Request.{Request}
-use Rattle.irig_command_line.specs.declared.request.Request.TheVariants.{Plain, Input, Run, Frame, Read, Explain}
+use Rattle.irig_command_line.specs.declared.request.Request.TheVariants.{Plain, Input, Run, FlattenInput, Flatten, Frame, Read, Explain}
 use Rattle.irig_command_line.specs.declared.request.Pending.{Pending}
 use Rattle.irig_command_line.specs.declared.request.Pending.TheVariants.{Insert, Delete}
 use Rattle.irig_command_line.specs.declared.request.NoRequest.{NoRequest}
 use Rattle.irig_command_line.specs.declared.request.NoRequest.TheVariants as none
 use Rattle.irig_commands.specs.declared.fault.Fault.{Fault}
 use Rattle.irig_commands.specs.declared.fault.Fault.TheVariants as fault
-use Rattle.irig_commands.specs.Status.{result_of, status_of_answer}
+use Rattle.irig_commands.specs.Status.{answer_of, result_of, status_of_answer}
 
 -- what the program answers
 abbrev pub Answer : Type 0
@@ -56,6 +58,21 @@ RunsFile remaining shown answer old new =
     ⊎ (((error : Error) × Refuses (fault.Open error) answer old new)
     ⊎ Refuses fault.Memory answer old new)
 
+-- a scenario on the input was written out as what its readers hear: what is written has the log of
+-- the scenario, and is its text
+pub record FlattensScene (answer : Answer) (input old new : Bytes) : Type 0 where
+  pub flat : Result (Unit {0}) SceneFault
+  pub answered : answer ≡ answer_of flat
+  pub same_log : IfSome input (λ x. OfWritten old new (HasTheLog flat x))
+  pub ran : RanFlat flat input old new
+
+-- so what a file gives; or it can't be opened, or there is no memory for it
+abbrev pub FlattensFile : {F : Type 0} → (F → Bytes) → Answer → Bytes → Bytes → Type 0
+FlattensFile remaining answer old new =
+    ((input : Bytes) × AreOfFile remaining input × FlattensScene answer input old new)
+    ⊎ (((error : Error) × Refuses (fault.Open error) answer old new)
+    ⊎ Refuses fault.Memory answer old new)
+
 -- the frame of the second that the time names, if it names one
 abbrev pub ShowsFrame : List ℕ → ℤ → Option Leap → Answer → Bytes → Bytes → Type 0
 ShowsFrame time local pending answer old new =
@@ -85,6 +102,8 @@ abbrev pub reads_input : Request → Bool
 reads_input Plain = true
 reads_input (Input all ports) = true
 reads_input (Run file all ports) = false
+reads_input FlattenInput = true
+reads_input (Flatten file) = false
 reads_input (Frame time local pending) = false
 reads_input (Read frame) = false
 reads_input (Explain number) = false
@@ -104,6 +123,9 @@ Serves remaining (Input all ports) answer input left old new =
     RunsScene (shown all ports) answer input left old new
 Serves remaining (Run file all ports) answer input left old new =
     RunsFile remaining (shown all ports) answer old new
+Serves remaining FlattenInput answer input left old new = FlattensScene answer input old new
+Serves remaining (Flatten file) answer input left old new =
+    FlattensFile remaining answer old new
 Serves remaining (Frame time local pending) answer input left old new =
     ShowsFrame time.now local (leap_of pending) answer old new
 Serves remaining (Read frame) answer input left old new = ShowsReading frame.now answer old new

@@ -39,6 +39,11 @@ abbrev pub result_of : Result Outcome SceneFault → Result (Unit {0}) Fault
 result_of (Ok outcome) = Ok _
 result_of (Err fault) = Err (fault_of fault)
 
+-- what a scenario that is written out leaves for the program
+abbrev pub answer_of : Result (Unit {0}) SceneFault → Result (Unit {0}) Fault
+answer_of (Ok done) = Ok _
+answer_of (Err fault) = Err (fault_of fault)
+
 -- what was done is 0
 abbrev pub status_of_answer : Result (Unit {0}) Fault → ℕ
 status_of_answer (Ok done) = 0

@@ -6,6 +6,8 @@ ghost use Rattle.irig_command_line.specs.Requests.{IsRequest};
 ghost use Rattle.irig_device.specs.Watched.{device_of, has_failed};
 ghost use Rattle.irig_commands.specs.Serving.{
   AreOfFile,
+  FlattensFile,
+  FlattensScene,
   RunsFile,
   RunsScene,
   Serves,
@@ -21,6 +23,7 @@ use crate::explain::{explanation, tell_refusal};
 use crate::fault::Fault;
 use irig_command_line::{Pending, Request};
 use irig_device::Watched;
+use irig_flatten::flatten;
 use irig_frame_text::{frame_lines, frame_text};
 use irig_scene::{Shown, run_scene_shown};
 use irig_time::Leap;
@@ -35,7 +38,7 @@ const NOTHING_MORE: Shown = Shown {
     ports: false,
 };
 
-/// Does what is asked for: runs a scenario, writes a frame or what a frame says, or explains a
+/// Does what is asked for: runs a scenario or writes it out as what its readers hear, writes a frame or what a frame says, or explains a
 /// number. Neither device may have failed before.
 ///
 /// `BadTime` if TIME is the text of no second, `BadFrameText` if FRAME has a letter of no
@@ -65,6 +68,8 @@ pub fn serve<'a, R: Files + Eprint + AllocGlobal, I: BufRead, O: Write>(
         Request::Plain => run_input(rt, input, output, NOTHING_MORE),
         Request::Input { all, ports } => run_input(rt, input, output, Shown { all, ports }),
         Request::Run { file, all, ports } => run_file(rt, file, Shown { all, ports }, output),
+        Request::FlattenInput => flatten_input(rt, input, output),
+        Request::Flatten { file } => flatten_file(rt, file, output),
         Request::Frame {
             time,
             local,
@@ -127,6 +132,45 @@ fn run_file<R: Files + Eprint + AllocGlobal, O: Write>(
 {
     match open(rt, path) {
         Ok(mut input) => run_input(rt, &mut input, output, shown),
+        Err(error) if error.kind() == io::ErrorKind::OutOfMemory => Err(Fault::Memory),
+        Err(error) => Err(Fault::Open(error)),
+    }
+}
+
+fn flatten_input<R: Eprint + AllocGlobal, I: BufRead, O: Write>(
+    rt: &R,
+    input: &mut Watched<I>,
+    output: &mut Watched<O>,
+) -> Result<(), Fault>
+    requires input_whole { has_failed input.old ≡ false }
+    requires output_whole { has_failed output.old ≡ false }
+    ensures flattened { FlattensScene result (I.remaining (device_of input.old))
+        (O.contents (device_of output.old)) (O.contents (device_of output.new)) }
+    ensures write { (result ≡ Err Fault.Write) ↔ (has_failed output.new ≡ true) }
+    ensures read { (result ≡ Err Fault.Read) ↔ (has_failed input.new ≡ true) }
+{
+    let mut refused = None;
+    match flatten(rt.alloc(), input, output, &mut refused) {
+        Ok(()) => Ok(()),
+        Err(fault) => {
+            tell_refusal(rt, fault, &refused);
+            Err(Fault::from(fault))
+        }
+    }
+}
+
+fn flatten_file<R: Files + Eprint + AllocGlobal, O: Write>(
+    rt: &R,
+    path: &str,
+    output: &mut Watched<O>,
+) -> Result<(), Fault>
+    requires { has_failed output.old ≡ false }
+    ensures flattened { FlattensFile R.File.remaining result
+        (O.contents (device_of output.old)) (O.contents (device_of output.new)) }
+    ensures write { (result ≡ Err Fault.Write) ↔ (has_failed output.new ≡ true) }
+{
+    match open(rt, path) {
+        Ok(mut input) => flatten_input(rt, &mut input, output),
         Err(error) if error.kind() == io::ErrorKind::OutOfMemory => Err(Fault::Memory),
         Err(error) => Err(Fault::Open(error)),
     }

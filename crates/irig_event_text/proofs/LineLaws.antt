@@ -8,7 +8,7 @@ use Rattle.std.proofs.lemmas.Fmt.{length-decimal-le}
 use Rattle.std.proofs.lemmas.List.Elements.{recursion_from_All, All-from_recursion}
 use Rattle.json.proofs.Printed.Utf8.{are_ascii, IsUtf8-are_ascii}
 use Rattle.irig_plant.specs.declared.event.Event.{Event}
-use Rattle.irig_plant.specs.declared.event.Event.TheVariants.{GenEdge, Tick, Carry, Damage, Replay, Raw, Fault, Repair, Restart}
+use Rattle.irig_plant.specs.declared.event.Event.TheVariants.{Tick, Raw, Restart}
 use Rattle.irig_values.specs.Names.{are_names}
 use Rattle.irig_log_text.specs.Text.{name_at}
 use Rattle.irig_log_text.proofs.LogLaws.{all_join}
@@ -73,12 +73,7 @@ unfolding event_line
 line_visible names (Raw g r widths) named h = pulses_visible (decimal g) (name_at names r) (numbers_text widths) (number_visible g) (name_visible names r named) (numbers_visible widths)
 line_visible names (Tick r) named h = let front = codes "{\"do\":\"tick\",\"r\":\"" in named_visible front (name_at names r) (by_test front refl) (name_visible names r named)
 line_visible names (Restart r) named h = let front = codes "{\"do\":\"restart\",\"r\":\"" in named_visible front (name_at names r) (by_test front refl) (name_visible names r named)
-line_visible names (GenEdge g) named h = absurd h
-line_visible names (Carry g r) named h = absurd h
-line_visible names (Damage g r at width) named h = absurd h
-line_visible names (Replay g r edge) named h = absurd h
-line_visible names (Fault g kind) named h = absurd h
-line_visible names (Repair g) named h = absurd h
+line_visible names _ named h = absurd h
 
 visible_ascii : (l : List ℕ) → AreVisible l → are_ascii l ≡ true
 visible_ascii [] h = refl
@@ -122,12 +117,7 @@ line_short names (Raw g r widths) named h =
     pulses_length (decimal g) (name_at names r) (numbers_text widths) (number_length g (omega (arith, h.generator))) (reader_name names r named).short (omega (arith, numbers_length widths range, h.few))
 line_short names (Tick r) named h = omega (arith, length-append (name_at names r) (codes "\"}"), (reader_name names r named).short)
 line_short names (Restart r) named h = omega (arith, length-append (name_at names r) (codes "\"}"), (reader_name names r named).short)
-line_short names (GenEdge g) named h = absurd h
-line_short names (Carry g r) named h = absurd h
-line_short names (Damage g r at width) named h = absurd h
-line_short names (Replay g r edge) named h = absurd h
-line_short names (Fault g kind) named h = absurd h
-line_short names (Repair g) named h = absurd h
+line_short names _ named h = absurd h
 
 -- ---- how it begins
 
@@ -136,12 +126,7 @@ unfolding event_line
 line_begins names (Raw g r widths) h = (_, refl)
 line_begins names (Tick r) h = (_, refl)
 line_begins names (Restart r) h = (_, refl)
-line_begins names (GenEdge g) h = absurd h
-line_begins names (Carry g r) h = absurd h
-line_begins names (Damage g r at width) h = absurd h
-line_begins names (Replay g r edge) h = absurd h
-line_begins names (Fault g kind) h = absurd h
-line_begins names (Repair g) h = absurd h
+line_begins names _ h = absurd h
 
 pub is_line : (names : List (List ℕ)) (e : Event) → are_names names ≡ true → IsWritten names e → IsLine (event_line names e)
 is_line names e named h =

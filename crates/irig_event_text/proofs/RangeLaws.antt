@@ -40,7 +40,7 @@ reader_known names d q e =
     (λ name at found. found_within (λ n. bytes_eq name n) names q found)
 
 -- so few numbers, each so low
-record AreWidths (ws : List ℕ) : Type 0 where
+record AreFewAndLow (ws : List ℕ) : Type 0 where
   few : length ws ≤ 1000
   range : All (λ w. w ≤ 4294967295) ws
 
@@ -51,7 +51,7 @@ few_of ds few false test e = absurd cc
 one_low : (d : Data) (n : ℕ) → natural_in 4294967295 d ≡ Some n → n ≤ 4294967295
 one_low d n e = option_and_then_some (natural_within 0 4294967295) (whole_of d) n e (λ z at inside. (within 0 4294967295 z n inside).1)
 
-numbers_low : (d : Data) (ws : List ℕ) → naturals_at keys.widths d ≡ Some ws → AreWidths ws
+numbers_low : (d : Data) (ws : List ℕ) → naturals_at keys.widths d ≡ Some ws → AreFewAndLow ws
 unfolding naturals_at
 numbers_low d ws e =
     option_and_then_some (λ ds. option_and_then (all_of (natural_in 4294967295)) (at_most 1000 ds)) (items_at (codes "widths") d) ws e (λ ds at e1.
@@ -59,7 +59,7 @@ numbers_low d ws e =
     let are = all_are_of (natural_in 4294967295) (λ n. n ≤ 4294967295) one_low few ws e2 in
     record { few = omega (arith, are.count, few_of ds few (nat_le (length ds) 1000) refl is); range = are.facts }))
 
-widths_low : (d : Data) (ws : List ℕ) → or_else refusal.Value (naturals_at keys.widths d) ≡ Ok ws → AreWidths ws
+widths_low : (d : Data) (ws : List ℕ) → or_else refusal.Value (naturals_at keys.widths d) ≡ Ok ws → AreFewAndLow ws
 widths_low d ws e = numbers_low d ws (found_is refusal.Value (naturals_at keys.widths d) ws e)
 
 -- ---- lines

@@ -9,7 +9,7 @@ use Rattle.json.specs.Print.{escape}
 use Rattle.serde_json.specs.Data.{Data}
 use Rattle.serde_json.specs.Written.{compact_text}
 use Rattle.irig_plant.specs.declared.event.Event.{Event}
-use Rattle.irig_plant.specs.declared.event.Event.TheVariants.{GenEdge, Tick, Carry, Damage, Replay, Raw, Fault, Repair, Restart}
+use Rattle.irig_plant.specs.declared.event.Event.TheVariants.{Tick, Raw, Restart}
 use Rattle.irig_faults.specs.declared.refusal.Refusal.TheVariants as refusal
 use Rattle.irig_faults.specs.Refusals.{or_else, ◌>>=◌}
 use Rattle.irig_forms.specs.Json.{list_of, all_of, natural_within, whole_at, text_at, items_at, has_only}
@@ -129,9 +129,4 @@ event_read names (Tick at) named h =
 event_read names (Restart at) named h =
     let word = codes "restart" in
     line_says names (Restart at) (at_reader word (name_at names at)) named h (at_reader_read_back word (name_at names at)) (restart_is names at named) (restart_says names at named h)
-event_read names (GenEdge g) named h = absurd h
-event_read names (Carry g r) named h = absurd h
-event_read names (Damage g r at width) named h = absurd h
-event_read names (Replay g r edge) named h = absurd h
-event_read names (Fault g kind) named h = absurd h
-event_read names (Repair g) named h = absurd h
+event_read names _ named h = absurd h

@@ -1,36 +1,27 @@
 -- What a line gives, and what is written of the lines after it.
-use Rattle.std.proofs.Common.{◌≡◌, ℕ, ◌+◌, ◌≤◌, ◌<◌, Bool, true, false, cond, List, [], ◌∷◌, ◌++◌, length, Option, Some, None, Result, Ok, Err, refl, ap, sym, subst, ◌∙◌, append-nil, append_assoc, nat_lt, inl, inr}
-use Rattle.std.specs.Prelude.{⊤, ◌⊎◌}
-use Rattle.std.specs.Io.KnownBytes.{Appends}
+use Rattle.std.proofs.Common.{◌≡◌, ℕ, ◌+◌, ◌≤◌, Bool, true, false, cond, List, [], ◌∷◌, ◌++◌, length, Option, Some, None, Result, Ok, Err, refl, ap, sym, subst, ◌∙◌, append-nil, append_assoc, nat_lt, inl, inr}
 use Rattle.std.proofs.KnownBytes.{Appends-trans, Appends-nil}
 use Rattle.irig_device.specs.Watched.{AppendsPart}
 use Rattle.irig_faults.specs.declared.refusal.LineFault.{LineFault}
 use Rattle.irig_faults.specs.declared.refusal.LineFault.TheVariants as line_fault
 use Rattle.irig_faults.specs.declared.refusal.Refusal.{Refusal}
-use Rattle.irig_faults.specs.declared.refusal.Refusal.TheVariants.{NoPlant, TooManyLines, TooLong}
+use Rattle.irig_faults.specs.declared.refusal.Refusal.TheVariants.{TooManyLines, TooLong}
 use Rattle.irig_faults.specs.Refusals.{IsUnlessMemory}
 use Rattle.irig_log_text.specs.Text.{refusal_text}
-use Rattle.irig_plant.specs.declared.event.Event.{Event}
 use Rattle.irig_scenario.specs.declared.event_line.Command.{Command}
 use Rattle.irig_scenario.specs.EventLine.{command_in_line}
 use Rattle.irig_scenario.specs.PlantLine.{Plan, plan_in_line}
-use Rattle.irig_scene.specs.declared.fault.SceneFault.{SceneFault}
-use Rattle.irig_scene.specs.declared.fault.SceneFault.TheVariants as fault
-use Rattle.irig_scene.specs.declared.stop.Failure.{Failure}
-use Rattle.irig_scene.specs.declared.stop.Failure.TheVariants as failure
 use Rattle.irig_scene.specs.declared.stop.Stop.{Stop}
 use Rattle.irig_scene.specs.declared.stop.Stop.TheVariants.{Refused, Failed}
-use Rattle.irig_scene.specs.Faults.{fault_of, stop_of}
-use Rattle.irig_scene.specs.LineRuns.{WroteRefusal}
+use Rattle.irig_scene.specs.Faults.{stop_of}
 use Rattle.irig_scene.specs.Lines.{is_blank, max_line, max_lines}
-use Rattle.irig_scene.specs.Run.{IsRefused}
 use Rattle.irig_scene.specs.Scene.{Scene, scene, events_of, Step, step_to, step_of_plan, step_of_command, step_of_line, step, Meaning, meaning, refusal_at, unless_stopped, meaning_from, meaning_at_end}
 use Rattle.irig_scene.specs.PlayerRuns.{after_events}
-use Rattle.irig_scene.proofs.StepLaws.{step_taken, meaning_goes, meaning_stops, meaning_ends}
+use Rattle.irig_scene.proofs.StepLaws.{step_taken}
 use Rattle.irig_flatten.specs.declared.flattener.Flattener.{Flattener}
 use Rattle.irig_flatten.specs.FlatText.{flat_of, flat_meaning}
-use Rattle.irig_flatten.specs.Flattening.{heard_in, HeardMore, HeardPart, IsFlattenerAt, FlattenedFor, Flattened, IsAt, FlatMore, FlatPart, TookTo, Took, IsFirst, TakesLine, TakesEventLine, Begins, WroteRest, WrotePart, FlatRest, EndsFlat}
-use Rattle.irig_flatten.proofs.PlayedLaws.{HeardFront, front_of_play}
+use Rattle.irig_flatten.specs.Flattening.{heard_in, HeardMore, HeardPart, IsFlattenerAt, Flattened, IsAt, FlatMore, FlatPart, TookTo, Took, IsFirst, TakesLine, TakesEventLine, Begins}
+use Rattle.irig_flatten.proofs.PlayedLaws.{front_of_play}
 
 -- ---- the text grows
 

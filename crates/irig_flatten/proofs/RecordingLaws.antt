@@ -8,14 +8,13 @@ use Rattle.irig_vote.specs.Vote.{ports_in, redundancy_of, f_of}
 use Rattle.irig_reader.specs.History.{Fed, vote_at_tick, told_at_tick}
 use Rattle.irig_plant.specs.declared.event.Event.{Event}
 use Rattle.irig_plant.specs.declared.event.Event.TheVariants.{GenEdge, Tick, Carry, Damage, Replay, Raw, Fault, Repair, Restart}
-use Rattle.irig_plant.specs.Schedule.{Setup, Delivery, delivery, delivery_of, empties, with_delivery, heard_at, fed_at, told_now, ports_now, ticks_of, history_with, history_of, votes_of, entry_of, log_of, told_entry_of, told_log_of, pulses_sent, pulses_sent_at}
-use Rattle.irig_plant.specs.Widths.{with_damage}
+use Rattle.irig_plant.specs.Schedule.{Setup, Delivery, delivery, delivery_of, with_delivery, heard_at, fed_at, told_now, ports_now, ticks_of, history_with, history_of, votes_of, entry_of, log_of, told_entry_of, told_log_of}
 use Rattle.irig_plant.specs.Audits.{untrue_ports, is_broken_now, tick_of_reader, TickOfReader, first_broken, first_false, verdict, audit_of}
 use Rattle.irig_time.specs.Timelines.{truth_at}
-use Rattle.irig_flatten.specs.Recording.{pulses_at, pulses_of, heard_of, recorded}
+use Rattle.irig_flatten.specs.Recording.{pulses_at, pulses_of, recorded}
 
 -- what is kept of a delivery
-kept : Option Delivery → List Event
+abbrev kept : Option Delivery → List Event
 kept d = option_to_list (pulses_of d)
 
 -- ---- ticks
@@ -66,7 +65,7 @@ same_heard s r p (Damage g q at w ∷ ev) = let d = delivery_of s (Damage g q at
 same_heard s r p (Replay g q edge ∷ ev) = let d = delivery_of s (Replay g q edge) ev in heard_kept s r p d (recorded s ev) ∙ ap (with_delivery r p d) (same_heard s r p ev)
 same_heard s r p (Raw g q ws ∷ ev) = let d = delivery_of s (Raw g q ws) ev in heard_kept s r p d (recorded s ev) ∙ ap (with_delivery r p d) (same_heard s r p ev)
 
-fed : List ℕ → List ℕ → List ℕ → List ℕ → List ℕ → Fed
+abbrev fed : List ℕ → List ℕ → List ℕ → List ℕ → List ℕ → Fed
 fed a b c d e = record { a = a; b = b; c = c; d = d; e = e }
 
 same_fed : (s : Setup) (r : ℕ) (ev : List Event) → fed_at s r (recorded s ev) ≡ fed_at s r ev
@@ -183,7 +182,7 @@ broken_kept s (Some d) ev = of_pulses d.generator d.reader d.widths
     of_pulses g q (w ∷ ws) = refl
 
 -- what a tick adds, if it is broken
-broken_by : ℕ → Bool → ℕ → Option TickOfReader
+abbrev broken_by : ℕ → Bool → ℕ → Option TickOfReader
 broken_by r broken n = cond broken (Some (tick_of_reader r (n + 1))) None
 
 pub same_broken : (s : Setup) (ev : List Event) → first_broken s (recorded s ev) ≡ first_broken s ev

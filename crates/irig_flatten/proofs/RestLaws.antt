@@ -1,5 +1,5 @@
 -- What the parts of a run tell together.
-use Rattle.std.proofs.Common.{◌≡◌, ℕ, ◌+◌, ◌≤◌, ◌<◌, List, [], ◌∷◌, ◌++◌, length, Option, Some, None, Result, Ok, Err, refl, ap, sym, subst, ◌∙◌, append-nil, append_assoc}
+use Rattle.std.proofs.Common.{◌≡◌, ◌↔◌, ℕ, ◌+◌, ◌<◌, Bool, true, false, List, [], ◌∷◌, ◌++◌, length, Option, Some, None, Result, Ok, Err, refl, ap, sym, subst, ◌∙◌, append_assoc}
 use Rattle.std.proofs.KnownBytes.{Appends-trans, Appends-nil}
 use Rattle.irig_device.specs.Lines.{HasNoNewline}
 use Rattle.irig_device.specs.Watched.{AppendsPart}
@@ -15,12 +15,12 @@ use Rattle.irig_scene.specs.declared.stop.Stop.TheVariants.{Refused, Failed}
 use Rattle.irig_scene.specs.Faults.{fault_of}
 use Rattle.irig_scene.specs.LineRuns.{WroteRefusal}
 use Rattle.irig_scene.specs.Lines.{lines}
-use Rattle.irig_scene.specs.Scene.{Scene, Step, step, Meaning, meaning, refusal_at, meaning_from, meaning_at_end}
+use Rattle.irig_scene.specs.Scene.{Scene, step, Meaning, meaning, refusal_at, meaning_from, meaning_at_end}
 use Rattle.irig_scene.proofs.LineLaws.{no_line, one_line}
 use Rattle.irig_scene.proofs.StepLaws.{meaning_goes, meaning_stops, meaning_ends}
 use Rattle.irig_flatten.specs.declared.flattener.Flattener.{Flattener}
 use Rattle.irig_flatten.specs.FlatText.{flat_of, flat_meaning}
-use Rattle.irig_flatten.specs.Flattening.{IsAt, FlatMore, FlatPart, TookTo, Took, IsFirst, WroteRest, WrotePart, FlatRest, EndsFlat}
+use Rattle.irig_flatten.specs.Flattening.{IsAt, FlatMore, FlatPart, TookTo, Took, WroteRest, WrotePart, FlatRest, EndsFlat}
 use Rattle.irig_flatten.proofs.FlatLaws.{FlatFront, front_of_meaning}
 
 wrote_on : (first : List ℕ) (from at : Option Scene) (m : Meaning) (o0 o1 o2 : Option (List ℕ)) → FlatMore first from at o0 o1 → WroteRest first at m o1 o2 → WroteRest first from m o0 o2
@@ -150,3 +150,12 @@ pub last_ends : (e : SceneFault) (line : List ℕ) (n : ℕ) (first : List ℕ) 
     → EndsFlat e n line first at old new → FlatRest (Err e) (meaning_from (lines line) n at) first at old new
 last_ends e line n first at old new some whole ended =
     alike (Err e) (meaning_from (line ∷ []) n at) (meaning_from (lines line) n at) first at old new (ap (λ ls. meaning_from ls n at) (sym (one_line line whole some))) (ended [])
+
+-- ---- what ends a run is no failed read
+
+pub no_read_failed : (r : Result (Unit {0}) SceneFault) (m : Meaning) (first : List ℕ) (at : Option Scene) (old new : Option (List ℕ)) (failed : Bool) → FlatRest r m first at old new → failed ≡ false → (r ≡ Err fault.Read) ↔ (failed ≡ true)
+no_read_failed (Ok done) m first at old new failed ran none = (λ is. absurd cc, λ is. absurd cc)
+no_read_failed (Err (fault.Refused line number)) m first at old new failed ran none = (λ is. absurd cc, λ is. absurd cc)
+no_read_failed (Err fault.Read) m first at old new failed ran none = absurd ran
+no_read_failed (Err fault.Write) m first at old new failed ran none = (λ is. absurd cc, λ is. absurd cc)
+no_read_failed (Err fault.Memory) m first at old new failed ran none = (λ is. absurd cc, λ is. absurd cc)

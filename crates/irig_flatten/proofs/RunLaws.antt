@@ -1,11 +1,12 @@
 -- What the loop over the lines has done so far, and what each way out of it tells.
-use Rattle.std.proofs.Common.{◌≡◌, ℕ, ◌+◌, ◌<◌, ◌≤◌, Bool, true, false, not, cond, List, [], ◌∷◌, ◌++◌, length, All, Option, Some, None, Result, Ok, Err, refl, ap, sym, subst, ◌∙◌, append_assoc, append-nil, length-append, arith, rules, nat_lt}
-use Rattle.std.specs.Prelude.{⊤, IfSome, is_some, unwrap_or}
+use Rattle.std.proofs.Common.{◌≡◌, ℕ, ◌+◌, ◌<◌, ◌≤◌, Bool, true, false, not, cond, List, [], ◌∷◌, ◌++◌, length, All, Option, Some, None, Result, Ok, Err, refl, ap, sym, subst, ◌∙◌, append_assoc, append-nil, arith, rules, nat_lt}
+use Rattle.std.specs.Prelude.{IfSome, is_some, unwrap_or}
 use Rattle.std.specs.List.{find}
 use Rattle.std.specs.Io.KnownBytes.{Appends, Consumes}
-use Rattle.std.proofs.KnownBytes.{Consumes-trans, Consumes-nil, Appends-nil}
+use Rattle.std.proofs.KnownBytes.{Consumes-trans, Consumes-nil}
 use Rattle.std.proofs.lemmas.List.Elements.{All-push}
 use Rattle.std.proofs.lemmas.Grind.{flat_map-append}
+use Rattle.std.proofs.lemmas.List.{append_cancel_left}
 use Rattle.irig_device.specs.declared.line.LineEnd.{LineEnd}
 use Rattle.irig_device.specs.declared.line.LineEnd.TheVariants.{Newline, EndOfInput, TooLong}
 use Rattle.irig_device.specs.Lines.{HasNoNewline, HasLength, spelling, GivesLine, GivesPart}
@@ -20,16 +21,18 @@ use Rattle.irig_scene.specs.declared.fault.SceneFault.TheVariants.{Refused, Read
 use Rattle.irig_scene.specs.Faults.{IsFaultOfReading}
 use Rattle.irig_scene.specs.LineRuns.{WroteRefusal, too_long}
 use Rattle.irig_scene.specs.Lines.{lines, unlines, is_blank, max_line, max_lines, limit_of}
+use Rattle.irig_scene.specs.LogLines.{OfWritten}
 use Rattle.irig_scene.specs.Run.{AreBytesOf}
-use Rattle.irig_scene.specs.Scene.{Scene, scene, Step, step_to, step_of_plan, step_of_command, step_of_line, step, Meaning, meaning, refusal_at, meaning_from, meaning_of}
+use Rattle.irig_scene.specs.Scene.{Scene, Step, step_to, step_of_plan, step_of_command, step_of_line, step, Meaning, meaning, refusal_at, meaning_from, meaning_of, output_shown}
 use Rattle.irig_scene.proofs.LineLaws.{line_first, lines_after, one_line, Opens, opens}
 use Rattle.irig_scene.proofs.RunLaws.{known_rest, all_bytes, as_newline, stops_long}
 use Rattle.irig_scene.proofs.StepLaws.{meaning_goes, meaning_stops}
 use Rattle.irig_flatten.specs.declared.flattener.Flattener.{Flattener}
-use Rattle.irig_flatten.specs.FlatText.{first_of, flat_of, flat_meaning, flat_text}
-use Rattle.irig_flatten.specs.Flattening.{IsAt, FlatMore, TookTo, IsFirst, RunsFlatLine, FlatRest, EndsFlat, FlatRun, RanFlat}
+use Rattle.irig_flatten.specs.FlatText.{first_of, flat_meaning, flat_text}
+use Rattle.irig_flatten.specs.Flattening.{IsAt, FlatMore, TookTo, IsFirst, RunsFlatLine, FlatRest, FlatRun, RanFlat, HasTheLog}
 use Rattle.irig_flatten.proofs.FlatLaws.{FlatFront, front_of_meaning, nothing_more, more_on}
 use Rattle.irig_flatten.proofs.RestLaws.{rest_on, refused_rest}
+use Rattle.irig_flatten.proofs.TextLaws.{same_output}
 
 -- ---- the first line that is not blank
 
@@ -167,6 +170,13 @@ conclude (Err Write) x first old new e h = subst (AppendsPart old new) (sym (ap 
 conclude (Err Memory) x first old new e h = subst (AppendsPart old new) (sym (ap (λ f. flat_meaning f (meaning_of x)) (sym e) ∙ h.is)) h.wrote
 
 module _ (f : Option Flattener) (in0 in1 out0 out1 : Option (List ℕ)) (n : ℕ) (run : HasFlattened f in0 in1 out0 out1 n) where
+  -- the next line is the first, if none was yet
+  pub line_first_is : (l : List ℕ) → IsFirst run.at l (first_of (run.past ++ l ∷ []))
+  line_first_is l = first_is run.at run.past l [] run.planted
+
+  pub last_first_is : (limit : ℕ) (l line : List ℕ) (end : LineEnd) (in2 : Option (List ℕ)) → GivesLine end limit line in1 in2 → l ≡ line → IsFirst run.at l (first_of (run.past ++ lines l))
+  last_first_is limit l line end in2 got same = first_last run.at run.past l (subst HasNoNewline (sym same) got.whole) run.planted
+
   -- the lines that are left mean what all of them mean
   left_means : (y : List ℕ) → meaning_of (unlines run.past ++ y) ≡ meaning_from (lines y) n run.at
   left_means y = ap (λ ls. meaning_from ls 1 None) (lines_after run.past y run.whole) ∙ run.means (lines y)
@@ -246,3 +256,14 @@ module _ (f : Option Flattener) (in0 in1 out0 out1 : Option (List ℕ)) (n : ℕ
       of_kind Read kind x part = part
       of_kind Write kind x part = absurd kind
       of_kind Memory kind x part = part
+
+-- ---- what was written has the log
+
+pub has_the_log : (r : Result (Unit {0}) SceneFault) (was old new : Option (List ℕ)) → RanFlat r was old new → IfSome was (λ x. OfWritten old new (HasTheLog r x))
+has_the_log r None old new ran = tt
+has_the_log r (Some x) None new ran = tt
+has_the_log r (Some x) (Some a) None ran = tt
+has_the_log r (Some x) (Some a) (Some b) ran = λ w is done few shown.
+    let whole : FlatRun (Ok _) x (Some a) (Some b) = subst (λ r. FlatRun r x (Some a) (Some b)) done (subst (λ x. FlatRun r x (Some a) (Some b)) ran.of_input ran.ran) in
+    let same : w ≡ flat_text x = append_cancel_left a w (flat_text x) (sym is ∙ whole.1) in
+    ap (λ t. output_shown t shown) same ∙ same_output x shown whole.0 (subst (λ t. length (lines t) ≤ max_lines) same few)

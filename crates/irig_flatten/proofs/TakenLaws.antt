@@ -1,6 +1,6 @@
 -- The events of a scene: none was refused, and each pulse has a width that a line can carry.
-use Rattle.std.proofs.Common.{◌≡◌, ◌≢◌, ℕ, zero, suc, ◌+◌, ◌<◌, ◌≤◌, Bool, true, false, cond, List, [], ◌∷◌, ◌++◌, length, map, All, Option, Some, None, Result, Ok, Err, refl, ap, sym, subst, ◌∙◌, arith, rules, nat_lt, inl, inr, append-nil}
-use Rattle.std.specs.Prelude.{⊤, is_some, option_and_then, option_to_list, ◌⊎◌}
+use Rattle.std.proofs.Common.{◌≡◌, ℕ, zero, suc, ◌+◌, Bool, true, false, cond, List, [], ◌∷◌, ◌++◌, length, map, Option, Some, None, Result, Ok, Err, refl, nat_lt}
+use Rattle.std.specs.Prelude.{⊤, is_some, option_and_then}
 use Rattle.std.specs.List.{AllByRecursion, flat_map, range_with_len}
 use Rattle.irig_plant.specs.declared.event.Event.{Event}
 use Rattle.irig_plant.specs.declared.event.Event.TheVariants.{GenEdge, Tick, Carry, Damage, Replay, Raw, Fault, Repair, Restart}
@@ -17,15 +17,15 @@ use Rattle.irig_scenario.specs.declared.event_line.Command.TheVariants as comman
 use Rattle.irig_scenario.specs.EventLine.{command_in_line}
 use Rattle.irig_scenario.specs.PlantLine.{Plan, plan_in_line}
 use Rattle.irig_scene.specs.Lines.{is_blank, max_line, max_lines}
-use Rattle.irig_scene.specs.Scene.{Scene, scene, refusal_as, Play, play, unless_refused, events_of, Step, step_to, step_of_plan, step_of_command, step_of_line, step, Meaning, unless_stopped, meaning_at_end, meaning_from}
+use Rattle.irig_scene.specs.Scene.{Scene, refusal_as, Play, play, unless_refused, step_to, step_of_plan, step_of_command, step_of_line, step, Meaning, unless_stopped, meaning_at_end, meaning_from}
 use Rattle.irig_event_text.specs.EventText.{IsInRange}
 use Rattle.irig_event_text.proofs.RangeLaws.{line_in_range}
-use Rattle.irig_log_text.proofs.LogLaws.{all_join, all_map}
+use Rattle.irig_log_text.proofs.LogLaws.{all_join}
 use Rattle.irig_flatten.specs.Recording.{CanBeWritten, AreTaken}
 
 -- ---- what is refused is no lack of memory
 
-IsOwn : Option PlantFault → Type 0
+abbrev IsOwn : Option PlantFault → Type 0
 IsOwn None = ⊤
 IsOwn (Some plant.Memory) = ⊥
 IsOwn (Some fault) = ⊤
@@ -109,7 +109,7 @@ can_of_range names (GenEdge g) h = tt
 can_of_range names (Fault g kind) h = tt
 can_of_range names (Repair g) h = tt
 
-abbrev IsTaken : Option Scene → Type 0
+abbrev pub IsTaken : Option Scene → Type 0
 IsTaken None = ⊤
 IsTaken (Some x) = AreTaken x.plan.setup x.events
 

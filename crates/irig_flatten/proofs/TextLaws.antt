@@ -1,15 +1,15 @@
 -- A scenario that is written out as what its readers hear means what they heard.
-use Rattle.std.proofs.Common.{◌≡◌, ◌≢◌, ℕ, ◌+◌, ◌<◌, ◌≤◌, Bool, true, false, not, cond, List, [], ◌∷◌, ◌++◌, length, map, All, Option, Some, None, Result, Ok, Err, refl, ap, sym, subst, ◌∙◌, append_assoc, append-nil, length-append, arith, rules, nat_lt, inl, inr}
+use Rattle.std.proofs.Common.{◌≡◌, ◌≢◌, ℕ, ◌+◌, ◌<◌, ◌≤◌, ◌==◌, Bool, true, false, not, cond, List, [], ◌∷◌, ◌++◌, length, Option, Some, None, Ok, refl, ap, sym, subst, ◌∙◌, append_assoc, append-nil, length-append, arith, rules, nat_lt, inl, inr}
 use Rattle.std.specs.Prelude.{⊤, is_some, unwrap_or, option_and_then, option_map, option_to_list, slice_set, ◌⊎◌}
 use Rattle.std.specs.List.{AllByRecursion, find}
 use Rattle.std.proofs.lemmas.List.Elements.{recursion_from_All, All-from_recursion}
+use Rattle.std.proofs.lemmas.Bool.Decides.{eqb_tells}
 use Rattle.irig_device.specs.Lines.{HasNoNewline}
-use Rattle.irig_frame.specs.declared.symbol.Symbol.{Symbol}
 use Rattle.irig_plant.specs.declared.event.Event.{Event}
 use Rattle.irig_plant.specs.declared.event.Event.TheVariants.{GenEdge, Tick, Carry, Damage, Replay, Raw, Fault, Repair, Restart}
 use Rattle.irig_plant.specs.declared.fault.PlantFault.{PlantFault}
 use Rattle.irig_plant.specs.declared.fault.PlantFault.TheVariants as plant
-use Rattle.irig_plant.specs.Schedule.{Setup, Delivery, delivery, delivery_of, ticks_of, log_of, told_log_of, pulses_sent, pulses_sent_at}
+use Rattle.irig_plant.specs.Schedule.{Setup, ticks_of, log_of, told_log_of, pulses_sent, pulses_sent_at}
 use Rattle.irig_plant.specs.Refusals.{unless_reader, unless_generator, unless_second, refusal}
 use Rattle.irig_log_text.specs.declared.shown.Shown.{Shown}
 use Rattle.irig_log_text.specs.Text.{lines_text, audit_text}
@@ -17,20 +17,20 @@ use Rattle.irig_scenario.specs.declared.event_line.Command.TheVariants as comman
 use Rattle.irig_scenario.specs.EventLine.{command_in_line}
 use Rattle.irig_scenario.specs.PlantLine.{Plan, plan_in_line}
 use Rattle.irig_scenario.proofs.BlankLines.{plant_not_blank, command_not_blank}
-use Rattle.irig_scenario.proofs.SoundPlans.{IsSound, plan_is_sound}
+use Rattle.irig_scenario.proofs.SoundPlans.{plan_is_sound}
 use Rattle.irig_values.specs.Names.{are_names}
-use Rattle.irig_scene.specs.Lines.{lines, unlines, is_blank, max_line, max_lines}
-use Rattle.irig_scene.specs.Scene.{Scene, scene, refusal_as, Play, play, unless_refused, step_to, step_of_plan, step_of_command, step_of_line, Step, step, Meaning, meaning, meaning_from, meaning_of, text_of, output_shown, audit_in}
+use Rattle.irig_scene.specs.Lines.{lines, unlines, onto_first, is_blank, max_line, max_lines}
+use Rattle.irig_scene.specs.Scene.{Scene, scene, refusal_as, Play, play, unless_refused, step_to, step_of_plan, step_of_command, step_of_line, Step, step, Refused, Meaning, meaning, meaning_from, meaning_of, text_of, output_shown, audit_in}
 use Rattle.irig_scene.proofs.LineLaws.{lines_after, no_line}
 use Rattle.irig_scene.proofs.PlantLines.{IsPlannedBy, planned}
 use Rattle.irig_scene.proofs.StepLaws.{step_taken, meaning_goes, meaning_ends}
 use Rattle.irig_event_text.specs.EventText.{event_line, IsLine, IsWritten}
-use Rattle.irig_event_text.proofs.LineLaws.{line_of_event}
-use Rattle.irig_event_text.proofs.ReadLaws.{read_back}
-use Rattle.irig_flatten.specs.Recording.{pulses_at, pulses_of, heard_of, recorded, CanBeWritten, AreTaken}
+use Rattle.irig_event_text.proofs.LineLaws.{is_line}
+use Rattle.irig_event_text.proofs.ReadLaws.{event_read}
+use Rattle.irig_flatten.specs.Recording.{pulses_at, heard_of, recorded, CanBeWritten, AreTaken}
 use Rattle.irig_flatten.specs.FlatText.{heard_line, heard_lines, first_of, flat_lines, flat_of, flat_text}
 use Rattle.irig_flatten.proofs.RecordingLaws.{same_ticks, same_log, same_told, same_audit}
-use Rattle.irig_flatten.proofs.TakenLaws.{meaning_taken, leaves_scene}
+use Rattle.irig_flatten.proofs.TakenLaws.{IsTaken, meaning_taken, leaves_scene}
 use Rattle.irig_flatten.proofs.WidthLaws.{pulses_can, pulses_at_can, damaged_can}
 
 -- ---- what an accepted event names
@@ -58,7 +58,7 @@ takes_generator s g rest low = let test : nat_lt g (length s.generators) ≡ tru
 
 -- of a plan whose readers are named, and which has few generators
 record IsKnown (s : Setup) (names : List (List ℕ)) : Type 0 where
-  pub names : are_names names ≡ true
+  pub are : are_names names ≡ true
   pub named : length names ≡ length s.readers
   pub few : length s.generators ≤ 255
 
@@ -112,8 +112,8 @@ one_event : (plan : Plan) (n : ℕ) (e : Event) (ev : List Event) → IsKnown pl
 one_event plan n e ev known few written taken =
     let names = plan.names in
     let line = event_line names e in
-    let is : IsLine line = line_of_event names e known.names written in
-    let back : command_in_line names line ≡ Ok (command.Event e) = read_back names e known.names written in
+    let is : IsLine line = is_line names e known.are written in
+    let back : command_in_line names line ≡ Ok (command.Event e) = event_read names e known.are written in
     let full : is_blank line ≡ false = command_not_blank names line (command.Event e) back in
     step_taken n (Some (scene plan ev)) line few is.short full
     ∙ ap (step_of_command (scene plan ev)) back
@@ -134,7 +134,7 @@ module _ (first : List ℕ) (plan : Plan) (planted : IsPlanted first plan) where
   known : IsKnown plan.setup plan.names
   known =
       let sound = plan_is_sound first plan planted.planned in
-      record { names = sound.names; named = sound.named; few = few_of sound.generators.new.count }
+      record { are = sound.names; named = sound.named; few = few_of sound.generators.new.count }
     where
       few_of : (length plan.setup.generators ≡ 3) ⊎ (length plan.setup.generators ≡ 5) → length plan.setup.generators ≤ 255
       few_of (inl e) = omega (arith, e)
@@ -145,7 +145,7 @@ module _ (first : List ℕ) (plan : Plan) (planted : IsPlanted first plan) where
       let st : step 1 None first ≡ step_to (Some (scene plan [])) None = step_taken 1 None first (omega arith) planted.short (plant_not_blank first plan planted.planned) ∙ ap step_of_plan planted.planned in
       meaning_goes first rest 1 None (ap (λ (s : Step). s.refusal) st) ∙ ap (λ (s : Step). meaning_from rest 2 s.scene) st
 
-  Means : List Event → Type 0
+  abbrev Means : List Event → Type 0
   Means ev = (rest : List (List ℕ)) → meaning_from (all_lines first plan ev ++ rest) 1 None ≡ meaning_from rest (length (all_lines first plan ev) + 1) (Some (scene plan (recorded plan.setup ev)))
 
   one_more : (ev : List Event) (heard : Option Event) → IsRecordedIf plan.setup plan.names ev heard → length (all_lines first plan ev ++ option_to_list (option_map (event_line plan.names) heard)) ≤ max_lines → Means ev
@@ -175,7 +175,7 @@ module _ (first : List ℕ) (plan : Plan) (planted : IsPlanted first plan) where
   -- each of the lines is one
   whole_more : (ev : List Event) (heard : Option Event) → IsRecordedIf plan.setup plan.names ev heard → AllByRecursion HasNoNewline (option_to_list (option_map (event_line plan.names) heard))
   whole_more ev None h = tt
-  whole_more ev (Some e) h = ((line_of_event plan.names e known.names h.written).whole, tt)
+  whole_more ev (Some e) h = ((is_line plan.names e known.are h.written).whole, tt)
 
   whole_heard : (ev : List Event) → AreTaken plan.setup ev → AllByRecursion HasNoNewline (heard_lines plan.names plan.setup ev)
   whole_heard [] taken = tt
@@ -207,13 +207,20 @@ same_text plan ev shown =
 
 -- ---- the plant line of some bytes
 
-no_newlines_at : (b : ℕ) (bs : List ℕ) (ls : List (List ℕ)) → AllByRecursion HasNoNewline ls → AllByRecursion HasNoNewline (cond (Rattle.std.specs.Prelude.eqb b 10) ([] ∷ ls) (Rattle.irig_scene.specs.Lines.onto_first b ls))
-no_newlines_at b bs ls h = ?
+onto_whole : (b : ℕ) (ls : List (List ℕ)) → b ≢ 10 → AllByRecursion HasNoNewline ls → AllByRecursion HasNoNewline (onto_first b ls)
+onto_whole b [] h all = (All-from_recursion (λ b. b ≢ 10) (b ∷ []) (h, tt), tt)
+onto_whole b (l ∷ ls) h all = (All-from_recursion (λ b. b ≢ 10) (b ∷ l) (h, recursion_from_All (λ b. b ≢ 10) l all.0), all.1)
+
+whole_at : (b : ℕ) (ls : List (List ℕ)) → AllByRecursion HasNoNewline ls → AllByRecursion HasNoNewline (cond (b == 10) ([] ∷ ls) (onto_first b ls))
+whole_at b ls all = elim (eqb_tells b 10) [
+  | inl e ↦ rw e.0 (All-from_recursion (λ b. b ≢ 10) [] tt, all)
+  | inr e ↦ rw e.0 (onto_whole b ls e.1 all)
+]
 
 no_newlines : (x : List ℕ) → AllByRecursion HasNoNewline (lines x)
 unfolding lines
 no_newlines [] = tt
-no_newlines (b ∷ bs) = ?
+no_newlines (b ∷ bs) = whole_at b (lines bs) (no_newlines bs)
 
 found_in : (P : List ℕ → Type 0) (test : List ℕ → Bool) (ls : List (List ℕ)) (l : List ℕ) → AllByRecursion P ls → find test ls ≡ Some l → P l
 found_in P test [] l h e = absurd cc
@@ -242,17 +249,18 @@ of_scene x shown m y is ends few =
     let at : (meaning_of x).scene ≡ Some y = ap (λ (m : Meaning). m.scene) means in
     let first = first_of (lines x) in
     let planted = is_planted (lines x) y.plan (no_newlines x) (planned (lines x) 1 y at) in
-    let taken : AreTaken y.plan.setup y.events = subst Rattle.irig_flatten.proofs.TakenLaws.IsTaken at (meaning_taken (lines x) 1 None tt) in
+    let taken : AreTaken y.plan.setup y.events = subst IsTaken at (meaning_taken (lines x) 1 None tt) in
     let text : flat_text x ≡ unlines (all_lines first y.plan y.events) = ap (λ (m : Meaning). Rattle.irig_flatten.specs.FlatText.flat_meaning first m) means ∙ append-nil (flat_of first (Some y)) in
     let flat : meaning_of (flat_text x) ≡ meaning (Some (scene y.plan (recorded y.plan.setup y.events))) None = ap meaning_of text ∙ means_recorded first y.plan planted y.events taken (subst (λ t. length (lines t) ≤ max_lines) text few) in
     ap (text_of shown) flat ∙ same_text y.plan y.events shown ∙ ap (text_of shown) (sym means)
 
-whole_meaning : (m : Meaning) → m.refused ≡ None → is_some m.scene ≡ true → (y : Scene) × (m ≡ meaning (Some y) None)
-whole_meaning (record { scene = None; refused = k }) e some = absurd cc
-whole_meaning (record { scene = Some y; refused = None }) e some = (y, refl)
-whole_meaning (record { scene = Some y; refused = Some k }) e some = absurd cc
+whole_meaning : (at : Option Scene) (k : Option Refused) → k ≡ None → is_some at ≡ true → (y : Scene) × (meaning at k ≡ meaning (Some y) None)
+whole_meaning None k e some = absurd cc
+whole_meaning (Some y) None e some = (y, refl)
+whole_meaning (Some y) (Some k) e some = absurd cc
 
 pub same_output : (x : List ℕ) (shown : Shown) → (meaning_of x).refused ≡ None → length (lines (flat_text x)) ≤ max_lines → output_shown (flat_text x) shown ≡ output_shown x shown
 same_output x shown e few =
-    let whole = whole_meaning (meaning_of x) e (leaves_scene (lines x) 1 None e) in
-    of_scene x shown (meaning_of x) whole.0 refl whole.1 few
+    let m = meaning_of x in
+    let whole = whole_meaning m.scene m.refused e (leaves_scene (lines x) 1 None e) in
+    of_scene x shown (meaning m.scene m.refused) whole.0 refl whole.1 few

@@ -1,7 +1,7 @@
 -- A scenario written out as what its readers hear: its plant line as it stands, and lines of
 -- pulses, ticks and restarts alone.
--- Source: docs/SCENARIOS.md, docs/FLATTEN.md.
-use Rattle.std.specs.Prelude.{ℕ, List, [], ◌∷◌, ◌++◌, map, not, option_to_list, unwrap_or, option_map, Option, Some, None}
+-- Source: docs/SCENARIOS.md.
+use Rattle.std.specs.Prelude.{ℕ, List, [], ◌∷◌, ◌++◌, not, option_to_list, unwrap_or, option_map, Option, Some, None}
 use Rattle.std.specs.List.{find}
 use Rattle.irig_plant.specs.declared.event.Event.{Event}
 use Rattle.irig_plant.specs.Schedule.{Setup}

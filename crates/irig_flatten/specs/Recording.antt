@@ -3,7 +3,7 @@
 -- Source: docs/SCENARIOS.md; this project's profile.
 use Rattle.std.specs.Prelude.{◌≡◌, ℕ, ◌≤◌, List, [], ◌∷◌, ◌++◌, length, All, option_to_list, Option, Some, None, ⊤}
 use Rattle.irig_plant.specs.declared.event.Event.{Event}
-use Rattle.irig_plant.specs.declared.event.Event.TheVariants.{GenEdge, Tick, Carry, Damage, Replay, Raw, Fault, Repair, Restart}
+use Rattle.irig_plant.specs.declared.event.Event.TheVariants.{Tick, Damage, Raw, Restart}
 use Rattle.irig_plant.specs.Schedule.{Setup, Delivery, delivery_of}
 use Rattle.irig_plant.specs.Refusals.{refusal}
 

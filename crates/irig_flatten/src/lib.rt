@@ -8,7 +8,8 @@
 mod flattener;
 mod laws;
 mod line;
+mod record;
 mod run;
 
-pub use laws::flat_scenarios_have_their_log;
+pub use laws::{flat_scenarios_have_their_log, recordings_have_their_log};
 pub use run::flatten;

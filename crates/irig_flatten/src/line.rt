@@ -1,12 +1,12 @@
 //! One line of a scenario: it is played, and what readers hear of it is written.
 
-ghost use Rattle.std.specs.Prelude.{◌≡◌, ◌≤◌, ◌+◌, IfOk, length, ◌||◌};
+ghost use Rattle.std.specs.Prelude.{◌≡◌, ◌≤◌, ◌++◌, ◌∷◌, [], ℕ, List, Option, IfOk, length, ◌||◌};
 ghost use Rattle.irig_device.specs.Lines.{HasNoNewline};
 ghost use Rattle.irig_device.specs.Watched.{device_of, has_failed};
 ghost use Rattle.irig_scene.specs.Lines.{lines, max_line, max_lines};
-ghost use Rattle.irig_scene.specs.Faults.{says_write, stopped_write};
-ghost use Rattle.irig_scene.specs.Scene.{Scene, meaning_from};
-ghost use Rattle.irig_flatten.specs.Flattening.{Begins, EndsFlat, FlatRest, IsAt, IsFirst, RunsFlatLine, TakesEventLine, TakesLine};
+ghost use Rattle.irig_scene.specs.Faults.{WroteText, failed_write, says_write, stopped_write};
+ghost use Rattle.irig_scene.specs.Scene.{Scene, meaning_at_end, meaning_from};
+ghost use Rattle.irig_flatten.specs.Flattening.{Begins, FlatRest, IsAt, IsFirst, RunsFlatLine, TakesEventLine, TakesLine};
 
 use crate::flattener::Flattener;
 use irig_device::Watched;
@@ -83,11 +83,7 @@ fn take_event_line<W: Write>(
 }
 
 // The flattener of a plant line, which is written as it stands.
-fn begin<W: Write>(
-    alloc: Global,
-    line: &[u8],
-    output: &mut Watched<W>,
-) -> Result<Flattener, Stop>
+fn begin<W: Write>(alloc: Global, line: &[u8], output: &mut Watched<W>) -> Result<Flattener, Stop>
     ensures begins { Begins line.now result
         (W.contents (device_of output.old)) (W.contents (device_of output.new)) }
     ensures note { has_failed output.new ≡ (has_failed output.old || stopped_write result) }
