@@ -7,7 +7,7 @@ use Rattle.irig_port.specs.Heard.{symbols_heard}
 use Rattle.irig_port.specs.Tallies.{IsTallyOf}
 use Rattle.irig_reader.specs.History.{Fed, fed_to, with_widths, with_port}
 use Rattle.irig_c.specs.Readers.{HaveHeard}
-use Rattle.irig_c.specs.Tallies.{no_tally}
+use Rattle.irig_numbers.specs.Tallies.{no_tally}
 
 -- more pulses at a port are its pulses with more behind them
 pub more-port : (fed : Fed) (port : ℕ) (ws : List ℕ) → with_port fed port (fed_to fed port ++ ws) ≡ with_widths fed port ws

@@ -8,9 +8,9 @@ use Rattle.irig_port.specs.Tallies.{IsTallyOf, tally_told}
 use Rattle.irig_port.proofs.HeardLaws.{told_of-heard}
 use Rattle.irig_port.proofs.NumberLaws.{tally_tells}
 use Rattle.irig_reader.specs.History.{ReaderHistory, fed_to, told_at_tick}
-use Rattle.irig_c.specs.declared.reader.IrigReader.{IrigReader}
+use Rattle.irig_numbers.specs.declared.reader.IrigReader.{IrigReader}
 use Rattle.irig_c.specs.Readers.{IsReaderOf, tells_in, told_at}
-use Rattle.irig_c.specs.Tallies.{tally_at}
+use Rattle.irig_numbers.specs.Tallies.{tally_at}
 
 pub heard_tells : (rules : Rules) (t : Tally) (widths : List ℕ) → IsTallyOf t (symbols_heard widths) → tally_told rules t ≡ told_of_widths rules widths
 heard_tells rules t widths h = tally_tells rules t (symbols_heard widths) h ∙ told_of-heard rules widths

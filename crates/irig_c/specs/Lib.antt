@@ -1,11 +1,1 @@
-pub mod Numbers
-pub mod Controls
-pub mod Setups
-pub mod LeapTables
-pub mod States
-pub mod Tallies
-pub mod CheckWord
-pub mod Standings
-pub mod Voices
-pub mod Reports
 pub mod Readers

@@ -9,12 +9,12 @@ use Rattle.irig_vote.specs.Vote.{vote_of}
 use Rattle.irig_reader.specs.declared.rule.Step.{Step}
 use Rattle.irig_reader.specs.History.{Fed, fed_to, ReaderHistory}
 use Rattle.irig_reader.specs.Rule.{state_of, step_of}
-use Rattle.irig_c.specs.declared.reader.IrigReader.{IrigReader}
-use Rattle.irig_c.specs.Setups.{rules_in, reader_rules_in, redundancy_in, IsSetup}
-use Rattle.irig_c.specs.LeapTables.{table_in}
-use Rattle.irig_c.specs.States.{state_in, IsState}
-use Rattle.irig_c.specs.Tallies.{tally_at}
-use Rattle.irig_c.specs.CheckWord.{IsSealed}
+use Rattle.irig_numbers.specs.declared.reader.IrigReader.{IrigReader}
+use Rattle.irig_numbers.specs.Setups.{rules_in, reader_rules_in, redundancy_in, IsSetup}
+use Rattle.irig_numbers.specs.LeapTables.{table_in}
+use Rattle.irig_numbers.specs.States.{state_in, IsState}
+use Rattle.irig_numbers.specs.Tallies.{tally_at}
+use Rattle.irig_numbers.specs.CheckWord.{IsSealed}
 
 -- the five ports heard what was fed to them
 abbrev pub HaveHeard : List Tally → Fed → Type 0

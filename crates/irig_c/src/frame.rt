@@ -8,15 +8,15 @@ ghost use Rattle.irig_control.specs.Control.{IsControl};
 ghost use Rattle.irig_control.specs.Parity.{HasParity, has_parity, data_symbol};
 ghost use Rattle.irig_time.specs.Frames.{IsFrameOfSecond, frame_of_second};
 ghost use Rattle.irig_time.specs.Seconds.{IsValid};
-ghost use Rattle.irig_c.specs.Controls.{control_in};
-ghost use Rattle.irig_c.specs.Numbers.{symbol_in, parity_in, code_of_frame};
+ghost use Rattle.irig_numbers.specs.Controls.{control_in};
+ghost use Rattle.irig_numbers.specs.Numbers.{symbol_in, parity_in, code_of_frame};
 
-use crate::control::{IrigControl, control_of_c};
-use crate::fault::{OUT_OF_RANGE, code};
-use crate::setup::parity_of;
-use crate::symbols::{number, numbers_of, symbols_of};
 use irig_control::{parity_ok, set_parity};
 use irig_frame::{Coded, FrameFault, decode, encode, in_range};
+use irig_numbers::{
+    IrigControl, OUT_OF_RANGE, control_of_c, fault_code, numbers_of, parity_of, symbol_number,
+    symbols_of,
+};
 use irig_port::PortFault;
 use irig_time::{UtcSecond, frame_of_second, valid};
 
@@ -50,7 +50,7 @@ pub extern "C" fn irig_c_decode(symbols: &[u8], coded: &mut Coded) -> u32
             *coded = time;
             0
         }
-        Err(fault) => code(PortFault::Frame(fault)),
+        Err(fault) => fault_code(PortFault::Frame(fault)),
     }
 }
 
@@ -100,7 +100,7 @@ pub extern "C" fn irig_c_set_parity(symbols: &mut [u8; 100], parity: u8) -> u32
     }
     let mut frame = symbols_of(symbols);
     set_parity(&mut frame, parity_of(parity));
-    symbols[75] = number(frame[75]);
+    symbols[75] = symbol_number(frame[75]);
     0
 }
 

@@ -8,28 +8,14 @@
 //! what C holds.
 #![tactic(auto)]
 
-mod check_word;
 mod control;
-mod fault;
 mod frame;
-mod laws;
 mod line;
 mod reader;
-mod report;
 mod second;
-mod setup;
-mod standing;
-mod state;
 mod symbols;
-mod table;
-mod voices;
-mod zone;
 
-pub use control::IrigControl;
-pub use laws::another_number_is_told;
-pub use reader::IrigReader;
-pub use report::{IrigReport, IrigTold};
-pub use second::IrigClaim;
-pub use setup::IrigSetup;
-pub use state::IrigState;
-pub use table::{IrigLeap, IrigTable};
+pub use irig_numbers::{
+    IrigClaim, IrigControl, IrigLeap, IrigReader, IrigReport, IrigSetup, IrigState, IrigTable,
+    IrigTold, another_number_is_told,
+};

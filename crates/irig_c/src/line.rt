@@ -6,12 +6,12 @@ ghost use Rattle.irig_port.specs.Tallies.{IsTallyOf};
 ghost use Rattle.irig_reader.specs.History.{ReaderHistory, after_hearing, widths_at};
 ghost use Rattle.irig_sync.specs.Lines.{IsSyncOf};
 ghost use Rattle.irig_sync.specs.Sync.{flag, idle_of, is_marker, place_of};
-ghost use Rattle.irig_c.specs.CheckWord.{IsSealed};
+ghost use Rattle.irig_numbers.specs.CheckWord.{IsSealed};
 ghost use Rattle.irig_c.specs.Readers.{IsReaderOf};
-ghost use Rattle.irig_c.specs.Setups.{IsPort};
+ghost use Rattle.irig_numbers.specs.Setups.{IsPort};
 
-use crate::reader::{IrigReader, set_port, with_pulse};
-use crate::setup::is_port;
+use crate::reader::{set_port, with_pulse};
+use irig_numbers::{IrigReader, is_port};
 use irig_port::Tally;
 use irig_sync::Sync;
 

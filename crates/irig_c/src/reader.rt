@@ -18,45 +18,25 @@ ghost use Rattle.irig_reader.specs.Clean.{IsClean};
 ghost use Rattle.irig_reader.specs.Held.{AreMarkedLate, IsSince, IsTrueSince};
 ghost use Rattle.irig_reader.specs.Rule.{count_of};
 ghost use Rattle.irig_reader.specs.History.{fed_to, no_pulses, with_port, ReaderHistory, new_history, after_pulse, after_pulses, after_tick, after_restart, report_at_tick, told_at_tick};
-ghost use Rattle.irig_c.specs.declared.state.TheConstants.{IDLE};
-ghost use Rattle.irig_c.specs.Numbers.{sense_in};
-ghost use Rattle.irig_c.specs.Setups.{rules_in, reader_rules_in, redundancy_in, IsPort, IsSetup};
-ghost use Rattle.irig_c.specs.LeapTables.{table_in, HasKinds, IsTable, code_of_table};
-ghost use Rattle.irig_c.specs.States.{state_in};
-ghost use Rattle.irig_c.specs.CheckWord.{IsSealed, setup_numbers, table_numbers, weighted};
-ghost use Rattle.irig_c.specs.Reports.{report_in, told_in, voices_in};
-ghost use Rattle.irig_c.specs.Voices.{voices_of};
+ghost use Rattle.irig_numbers.specs.declared.state.TheConstants.{IDLE};
+ghost use Rattle.irig_numbers.specs.Numbers.{sense_in};
+ghost use Rattle.irig_numbers.specs.Setups.{rules_in, reader_rules_in, redundancy_in, IsPort, IsSetup};
+ghost use Rattle.irig_numbers.specs.LeapTables.{table_in, HasKinds, IsTable, code_of_table};
+ghost use Rattle.irig_numbers.specs.States.{state_in};
+ghost use Rattle.irig_numbers.specs.CheckWord.{IsSealed, setup_numbers, table_numbers, weighted};
+ghost use Rattle.irig_numbers.specs.Reports.{report_in, told_in, voices_in};
+ghost use Rattle.irig_numbers.specs.Voices.{voices_of};
 ghost use Rattle.irig_c.specs.Readers.{IsAccepted, IsReaderOf, HaveHeard, tells_in, told_at, step_in};
 
-use crate::check_word::{check_of, fixed_sum, ports_sum, state_sum, tally_change};
-use crate::fault::OUT_OF_RANGE;
-use crate::report::{IrigReport, IrigTold, report_for_c, told_for_c};
-use crate::setup::{
-    IrigSetup, is_port, is_setup, reader_rules_of, redundancy_of, rules_of, sense_of,
+use irig_numbers::{
+    IDLE, IrigReader, IrigReport, IrigSetup, IrigTable, IrigTold, OUT_OF_RANGE, changing_sum,
+    check_of, fixed_sum, has_kinds, is_port, is_setup, reader_rules_of, redundancy_of,
+    report_for_c, rules_of, sense_of, state_for_c, state_of, table_fault, tally_change, told_for_c,
+    voices_of,
 };
-use crate::state::{IDLE, IrigState, state_for_c, state_of};
-use crate::table::{IrigTable, has_kinds, table_fault};
-use crate::voices::voices_of;
 use irig_port::Tally;
 use irig_reader::{State, step_of};
 use irig_vote::{Tells, vote};
-
-/// A reader, all of it plain numbers. It may be copied, kept and taken up again.
-#[repr(C)]
-#[derive(Clone, Copy, Drop)]
-pub struct IrigReader {
-    /// How it is set up.
-    pub setup: IrigSetup,
-    /// The leaps that it knows beforehand.
-    pub table: IrigTable,
-    /// Where it stands.
-    pub state: IrigState,
-    /// What each port heard since the last edge, of three ports the first three, of one the first.
-    pub ports: [Tally; 5],
-    /// What all other numbers add up to, each times a weight of its own: it tells if one of them is
-    /// changed by anything but these calls.
-    pub check: u64,
-}
 
 /// Makes a reader to which nothing has happened. 26 if a number of the setup has no meaning or is
 /// out of its range, or a leap that counts has another kind; then 31 to 34 for the first fault of
@@ -263,9 +243,9 @@ pub extern "C" fn irig_c_reader_restart(reader: &mut IrigReader)
     // the check word is right exactly if it was
     ensures sealed { IsSealed reader.new ↔ IsSealed reader.old }
 {
-    let before = state_sum(&reader.state).wrapping_add(ports_sum(&reader.ports));
+    let before = changing_sum(reader);
     forget(reader);
-    let after = state_sum(&reader.state).wrapping_add(ports_sum(&reader.ports));
+    let after = changing_sum(reader);
     reader.check = reader.check.wrapping_sub(before).wrapping_add(after);
 }
 

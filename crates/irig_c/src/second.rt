@@ -8,42 +8,15 @@ ghost use Rattle.irig_time.specs.Next.{next_of};
 ghost use Rattle.irig_time.specs.CodedTime.{IsCodedOf};
 ghost use Rattle.irig_time.specs.Claims.{claim_by};
 ghost use Rattle.irig_time.specs.Texts.{IsText};
-ghost use Rattle.irig_c.specs.Numbers.{mark_in, sense_in, claim_in, claim_for, code_of_claim};
-ghost use Rattle.irig_c.specs.Controls.{control_in};
+ghost use Rattle.irig_numbers.specs.Numbers.{mark_in, sense_in, claim_in, code_of_claim};
+ghost use Rattle.irig_numbers.specs.Controls.{control_in};
 
-use crate::control::{IrigControl, control_of_c};
-use crate::fault::{OUT_OF_RANGE, code};
-use crate::setup::sense_of;
-use crate::state::{mark_number, mark_of};
 use irig_frame::Coded;
-use irig_port::PortFault;
-use irig_time::{Claim, UtcSecond, claim_of, coded_of, next, read_text, valid, write_text};
-
-/// What a frame claims.
-#[repr(C)]
-#[derive(Clone, Copy, Drop)]
-pub struct IrigClaim {
-    /// The UTC second that begins with the frame.
-    pub at: UtcSecond,
-    /// What it says of the leap at the end of that day: 0 nothing, 1 that there is none, 2 an
-    /// insertion, 3 a deletion.
-    pub mark: u8,
-}
-
-pub(crate) const NO_CLAIM: IrigClaim = IrigClaim {
-    at: UtcSecond { day: 0, sod: 0 },
-    mark: 0,
+use irig_numbers::{
+    IrigClaim, IrigControl, OUT_OF_RANGE, claim_for_c, control_of_c, fault_code, mark_of, sense_of,
 };
-
-pub(crate) fn claim_for_c(claim: &Claim) -> IrigClaim
-    ensures value { result ≡ claim_for claim.now }
-    ensures back { claim_in result ≡ claim.now }
-{
-    IrigClaim {
-        at: claim.at,
-        mark: mark_number(claim.mark),
-    }
-}
+use irig_port::PortFault;
+use irig_time::{UtcSecond, claim_of, coded_of, next, read_text, valid, write_text};
 
 /// Gives the second after a second, by what is said of the leap at the end of its day, a mark as
 /// in [`IrigClaim`]. 26 if the mark is none of these, the second is none from 2000-01-02 to
@@ -146,6 +119,6 @@ pub extern "C" fn irig_c_claim_of(
             *claim = claim_for_c(&claimed);
             0
         }
-        Err(fault) => code(PortFault::Time(fault)),
+        Err(fault) => fault_code(PortFault::Time(fault)),
     }
 }

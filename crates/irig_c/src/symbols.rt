@@ -1,10 +1,11 @@
-//! Symbols as numbers.
+//! Symbols and the widths of their pulses.
 
-ghost use Rattle.std.specs.Prelude.{◌≡◌, length, map};
+ghost use Rattle.std.specs.Prelude.{◌≡◌, map};
 ghost use Rattle.irig_frame.specs.Symbols as frame;
-ghost use Rattle.irig_c.specs.Numbers.{symbol_in, number_of_symbol};
+ghost use Rattle.irig_numbers.specs.Numbers.{symbol_in, number_of_symbol};
 
-use irig_frame::{Symbol, classify};
+use irig_frame::classify;
+use irig_numbers::{symbol_number, symbol_of};
 
 /// The symbol of a pulse of this width in microseconds: 0 or 1 for these bits, 2 for a marker, 3
 /// for a width of none.
@@ -12,7 +13,7 @@ use irig_frame::{Symbol, classify};
 pub extern "C" fn irig_c_classify(width_us: u32) -> u8
     ensures { result ≡ number_of_symbol (frame.symbol_of width_us) }
 {
-    number(classify(width_us))
+    symbol_number(classify(width_us))
 }
 
 /// The nominal width in microseconds of a pulse of the symbol with this number: 2000 of a 0, 5000
@@ -37,51 +38,4 @@ fn width_of(number: u8) -> u32
     ensures { result ≡ frame.width_of (symbol_in number) }
 {
     symbol_of(number).width_us()
-}
-
-pub(crate) fn symbol_of(number: u8) -> Symbol
-    ensures { result ≡ symbol_in number }
-{
-    match number {
-        0 => Symbol::Zero,
-        1 => Symbol::One,
-        2 => Symbol::Marker,
-        _ => Symbol::Bad,
-    }
-}
-
-pub(crate) fn number(symbol: Symbol) -> u8
-    ensures { result ≡ number_of_symbol symbol }
-{
-    match symbol {
-        Symbol::Zero => 0,
-        Symbol::One => 1,
-        Symbol::Marker => 2,
-        Symbol::Bad => 3,
-    }
-}
-
-/// The symbols with these numbers.
-pub(crate) fn symbols_of(numbers: &[u8]) -> [Symbol; 100]
-    requires { length numbers.now ≡ 100 }
-    ensures { result ≡ map symbol_in numbers.now }
-{
-    array_of(numbers).map(symbol_of)
-}
-
-fn array_of(numbers: &[u8]) -> [u8; 100]
-    requires { length numbers.now ≡ 100 }
-    ensures { result ≡ numbers.now }
-{
-    let mut frame = [0; 100];
-    frame.copy_from_slice(numbers);
-    frame
-}
-
-/// The numbers of these symbols.
-#[tactic(auto, using(crate::proofs::SymbolsBack::symbols_back))]
-pub(crate) fn numbers_of(symbols: &[Symbol; 100]) -> [u8; 100]
-    ensures { map symbol_in result ≡ symbols.now }
-{
-    symbols.map(number)
 }

@@ -2,7 +2,7 @@ use Rattle.std.proofs.Common.{rules, ◌<◌}
 use Rattle.irig_port.specs.Heard.{symbols_heard}
 use Rattle.irig_port.specs.Tallies.{IsTallyOf}
 use Rattle.irig_reader.specs.History.{fed_to, widths_at}
-use Rattle.irig_c.specs.Tallies.{tally_at}
+use Rattle.irig_numbers.specs.Tallies.{tally_at}
 use Rattle.irig_c.proofs.line.irig_c_reader_hear.Goals as goal
 
 pub returns-clause-fed : goal.returns-clause-fed

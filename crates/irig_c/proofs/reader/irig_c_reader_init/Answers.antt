@@ -1,11 +1,11 @@
 use Rattle.std.proofs.Common.{rules, sym, ap, subst, inl}
-use Rattle.irig_c.specs.declared.setup.IrigSetup.{IrigSetup}
-use Rattle.irig_c.specs.declared.table.IrigTable.{IrigTable}
-use Rattle.irig_c.specs.declared.state.IrigState.{IrigState}
-use Rattle.irig_c.specs.CheckWord.{check_of}
-use Rattle.irig_c.specs.LeapTables.{table_in}
-use Rattle.irig_c.specs.Setups.{rules_in, reader_rules_in, redundancy_in, IsSetup}
-use Rattle.irig_c.specs.States.{state_in}
+use Rattle.irig_numbers.specs.declared.setup.IrigSetup.{IrigSetup}
+use Rattle.irig_numbers.specs.declared.table.IrigTable.{IrigTable}
+use Rattle.irig_numbers.specs.declared.state.IrigState.{IrigState}
+use Rattle.irig_numbers.specs.CheckWord.{check_of}
+use Rattle.irig_numbers.specs.LeapTables.{table_in}
+use Rattle.irig_numbers.specs.Setups.{rules_in, reader_rules_in, redundancy_in, IsSetup}
+use Rattle.irig_numbers.specs.States.{state_in}
 use Rattle.irig_c.proofs.reader.irig_c_reader_init.Goals as goal
 
 pub returns-clause-fresh : goal.returns-clause-fresh

@@ -2,8 +2,8 @@ use Rattle.std.proofs.Common.{rules, ◌≡◌, ◌<◌, ◌≤◌, arith, ap, �
 use Rattle.irig_vote.specs.declared.redundancy.Redundancy.{Redundancy}
 use Rattle.irig_vote.specs.declared.redundancy.Redundancy.TheVariants.{One, Three, Five}
 use Rattle.irig_vote.specs.Vote.{ports_in}
-use Rattle.irig_c.specs.Setups.{redundancy_in}
-use Rattle.irig_c.specs.Reports.{told_in}
+use Rattle.irig_numbers.specs.Setups.{redundancy_in}
+use Rattle.irig_numbers.specs.Reports.{told_in}
 use Rattle.irig_c.specs.Readers.{told_at}
 use Rattle.irig_c.proofs.TellsLaws.{port_tells}
 use Rattle.irig_c.proofs.reader.irig_c_reader_port.Goals as goal

@@ -5,7 +5,7 @@ use Rattle.irig_port.specs.Tallies.{IsTallyOf}
 use Rattle.irig_port.proofs.HeardLaws.{heard-push}
 use Rattle.irig_reader.specs.History.{Fed, fed_to}
 use Rattle.irig_c.specs.Readers.{IsReaderOf}
-use Rattle.irig_c.specs.Tallies.{tally_at}
+use Rattle.irig_numbers.specs.Tallies.{tally_at}
 use Rattle.irig_c.proofs.PortLaws.{more-port}
 use Rattle.irig_c.proofs.reader.irig_c_reader_pulse.Goals as goal
 

@@ -8,22 +8,22 @@ use Rattle.irig_vote.specs.Vote.{vote_of}
 use Rattle.irig_time.specs.declared.rules.Rules.{Rules}
 use Rattle.irig_vote.specs.declared.votes.Tells.{Tells}
 use Rattle.irig_vote.specs.declared.redundancy.Redundancy.{Redundancy}
-use Rattle.irig_c.specs.declared.reader.IrigReader.{IrigReader}
-use Rattle.irig_c.specs.Numbers.{sense_in}
+use Rattle.irig_numbers.specs.declared.reader.IrigReader.{IrigReader}
+use Rattle.irig_numbers.specs.Numbers.{sense_in}
 use Rattle.irig_c.specs.Readers.{tells_in, IsAccepted, IsReaderOf}
-use Rattle.irig_c.specs.Voices.{voices_of}
-use Rattle.irig_c.specs.Reports.{report_in, voices_in}
+use Rattle.irig_numbers.specs.Voices.{voices_of}
+use Rattle.irig_numbers.specs.Reports.{report_in, voices_in}
 use Rattle.irig_reader.specs.History.{ReaderHistory, after_tick, told_at_tick, vote_at_tick}
 use Rattle.irig_reader.proofs.VoteLaws.{vote_valid}
 use Rattle.irig_reader.proofs.HeldEdges.{held_since}
 use Rattle.irig_reader.proofs.MarkedVotes.{held_at_tick}
 use Rattle.irig_reader.specs.declared.rules.ReaderRules.{ReaderRules}
-use Rattle.irig_c.specs.declared.table.IrigTable.{IrigTable}
-use Rattle.irig_c.specs.LeapTables.{table_in}
-use Rattle.irig_c.specs.declared.setup.IrigSetup.{IrigSetup}
-use Rattle.irig_c.specs.CheckWord.{check_of}
-use Rattle.irig_c.specs.Setups.{rules_in, reader_rules_in, redundancy_in, IsSetup}
-use Rattle.irig_c.specs.States.{IsState}
+use Rattle.irig_numbers.specs.declared.table.IrigTable.{IrigTable}
+use Rattle.irig_numbers.specs.LeapTables.{table_in}
+use Rattle.irig_numbers.specs.declared.setup.IrigSetup.{IrigSetup}
+use Rattle.irig_numbers.specs.CheckWord.{check_of}
+use Rattle.irig_numbers.specs.Setups.{rules_in, reader_rules_in, redundancy_in, IsSetup}
+use Rattle.irig_numbers.specs.States.{IsState}
 use Rattle.irig_c.proofs.TellsLaws.{tells_are}
 use Rattle.irig_c.proofs.reader.irig_c_reader_tick.Goals as goal
 

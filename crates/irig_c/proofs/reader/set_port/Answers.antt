@@ -1,10 +1,10 @@
 use Rattle.std.proofs.Common.{rules, ◌≡◌, ◌+◌, ◌*◌, ◌%◌, ◌<◌, ℕ, length, slice_set}
-use Rattle.irig_c.specs.declared.reader.IrigReader.{IrigReader}
-use Rattle.irig_c.specs.CheckWord.{check_of, port_numbers, setup_numbers, state_numbers, table_numbers, tally_numbers, weighted}
-use Rattle.irig_c.specs.Tallies.{tally_at}
-use Rattle.irig_c.proofs.CheckLaws.{by_parts}
+use Rattle.irig_numbers.specs.declared.reader.IrigReader.{IrigReader}
+use Rattle.irig_numbers.specs.CheckWord.{check_of, port_numbers, setup_numbers, state_numbers, table_numbers, tally_numbers, weighted}
+use Rattle.irig_numbers.specs.Tallies.{tally_at}
+use Rattle.irig_numbers.proofs.CheckLaws.{by_parts}
 use Rattle.irig_c.proofs.PortLaws.{heard-as}
-use Rattle.irig_c.proofs.PortSums.{port_set, renewed}
+use Rattle.irig_numbers.proofs.PortSums.{port_set, renewed}
 use Rattle.irig_c.proofs.reader.set_port.Goals as goal
 
 pub returns-clause-sealed : goal.returns-clause-sealed

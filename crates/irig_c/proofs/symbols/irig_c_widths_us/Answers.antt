@@ -1,7 +1,7 @@
 use Rattle.std.proofs.Common.{arith, ◌≡◌, ◌∙◌, sym, ℕ, map, get_or}
 use Rattle.std.proofs.lemmas.List.{same_lists, get_or-map, length-map}
 use Rattle.irig_frame.specs.Symbols.{width_of}
-use Rattle.irig_c.specs.Numbers.{symbol_in}
+use Rattle.irig_numbers.specs.Numbers.{symbol_in}
 use Rattle.irig_c.proofs.symbols.irig_c_widths_us.Goals as goal
 
 abbrev width_in : ℕ → ℕ

@@ -1,0 +1,5 @@
+pub mod SymbolsBack
+pub mod CheckLaws
+pub mod PortSums
+pub mod ApartLaws
+pub mod StandardFacts

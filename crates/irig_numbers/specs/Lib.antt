@@ -1,0 +1,10 @@
+pub mod Numbers
+pub mod Controls
+pub mod Setups
+pub mod LeapTables
+pub mod States
+pub mod Tallies
+pub mod CheckWord
+pub mod Standings
+pub mod Voices
+pub mod Reports
