@@ -1,5 +1,6 @@
 -- What a line gives, and what is written of the lines after it.
 use Rattle.std.proofs.Common.{◌≡◌, ℕ, ◌+◌, ◌≤◌, Bool, true, false, cond, List, [], ◌∷◌, ◌++◌, length, Option, Some, None, Result, Ok, Err, refl, ap, sym, subst, ◌∙◌, append-nil, append_assoc, nat_lt, inl, inr}
+use Rattle.std.specs.Io.KnownBytes.{Appends}
 use Rattle.std.proofs.KnownBytes.{Appends-trans, Appends-nil}
 use Rattle.irig_device.specs.Watched.{AppendsPart}
 use Rattle.irig_faults.specs.declared.refusal.LineFault.{LineFault}
@@ -11,9 +12,10 @@ use Rattle.irig_log_text.specs.Text.{refusal_text}
 use Rattle.irig_scenario.specs.declared.event_line.Command.{Command}
 use Rattle.irig_scenario.specs.EventLine.{command_in_line}
 use Rattle.irig_scenario.specs.PlantLine.{Plan, plan_in_line}
+use Rattle.irig_scene.specs.declared.stop.Failure.{Failure}
 use Rattle.irig_scene.specs.declared.stop.Stop.{Stop}
 use Rattle.irig_scene.specs.declared.stop.Stop.TheVariants.{Refused, Failed}
-use Rattle.irig_scene.specs.Faults.{stop_of}
+use Rattle.irig_scene.specs.Faults.{WroteText, stop_of}
 use Rattle.irig_scene.specs.Lines.{is_blank, max_line, max_lines}
 use Rattle.irig_scene.specs.Scene.{Scene, scene, events_of, Step, step_to, step_of_plan, step_of_command, step_of_line, step, Meaning, meaning, refusal_at, unless_stopped, meaning_from, meaning_at_end}
 use Rattle.irig_scene.specs.PlayerRuns.{after_events}
@@ -149,6 +151,23 @@ following_takes r was f is n line old new same few short full takes = λ at firs
     took_at r f is n line first old new at few short full (subst (λ w. IsAt w at) same stands) takes
 
 -- ---- the plant line
+
+pub line_part : (line : List ℕ) (old new : Option (List ℕ)) → AppendsPart old new line → AppendsPart old new (line ++ 10 ∷ [])
+line_part line old new h = record {
+  front = h.front;
+  rest = h.rest ++ 10 ∷ [];
+  whole = ap (λ l. l ++ 10 ∷ []) h.whole ∙ append_assoc h.front h.rest (10 ∷ []);
+  wrote = h.wrote;
+}
+
+pub then_newline : (r : Result (Unit {0}) Failure) (line : List ℕ) (o0 o1 o2 : Option (List ℕ)) → Appends o0 o1 line → WroteText r o1 o2 (10 ∷ []) → WroteText r o0 o2 (line ++ 10 ∷ [])
+then_newline (Ok done) line o0 o1 o2 h k = Appends-trans o0 o1 o2 _ _ h k
+then_newline (Err f) line o0 o1 o2 h k = record {
+  front = line ++ k.front;
+  rest = k.rest;
+  whole = ap (λ t. line ++ t) k.whole ∙ sym (append_assoc line k.front k.rest);
+  wrote = Appends-trans o0 o1 o2 _ _ h k.wrote;
+}
 
 no_scene : (was : Option Flattener) (at : Option Scene) → was ≡ None → IsAt was at → at ≡ None
 no_scene None None is stands = refl

@@ -12,7 +12,7 @@ use crate::flattener::Flattener;
 use irig_device::Watched;
 use irig_faults::Refusal;
 use irig_scenario::{event_of_line, plant_of_line};
-use irig_scene::{Failure, MAX_LINES, SceneFault, Stop, is_blank, refuse};
+use irig_scene::{Failure, MAX_LINES, SceneFault, Stop, is_blank, refuse, write_text};
 use std::alloc::Global;
 use std::io::Write;
 
@@ -101,10 +101,10 @@ fn write_line<W: Write>(line: &[u8], output: &mut Watched<W>) -> Result<(), Fail
         (line.now ++ 10 ∷ []) }
     ensures note { has_failed output.new ≡ (has_failed output.old || failed_write result) }
 {
-    if output.write_all(line).is_err() || output.write_all(b"\n").is_err() {
-        return Err(Failure::Write);
+    match output.write_all(line) {
+        Ok(()) => write_text(output, "\n"),
+        Err(_) => Err(Failure::Write),
     }
-    Ok(())
 }
 
 /// Plays the line with which the input ended, if it has any bytes, and ends the text.
