@@ -39,14 +39,15 @@ NO_TICK = "what comes behind the last tick is left out"
 # ---- a scenario
 
 
-def flattened(scenario: BinaryIO) -> Iterator[str]:
+def flattened(scenario: BinaryIO, again: bool = False) -> Iterator[str]:
     """The plant line of a file, which is read from its beginning, and then each line of `raw`, `tick`
     and `restart`. If the program refuses the scenario, it says why on the standard error, and this
-    is a ValueError."""
+    is a ValueError. What it says there it says once."""
     os.lseek(scenario.fileno(), 0, os.SEEK_SET)
     command = [program(), "flatten", "-"]
     with subprocess.Popen(
-        command, stdin=scenario, stdout=subprocess.PIPE, encoding="utf-8"
+        command, stdin=scenario, stdout=subprocess.PIPE, encoding="utf-8",
+        stderr=subprocess.DEVNULL if again else None,
     ) as ran:
         assert ran.stdout
         for line in ran.stdout:
@@ -130,7 +131,7 @@ class Lines:
 
     def _seconds(self) -> Iterator[List[List[int]]]:
         """For each tick the widths of the pulses on each line since the one before."""
-        lines = flattened(self._scenario)
+        lines = flattened(self._scenario, again=True)
         next(lines)
         tick, heard = 1, self._silence()
         for event in map(json.loads, lines):

@@ -345,7 +345,7 @@ class Sketch(InAFolder):
         (self.folder / "board.cpp").write_text(BOARD)
         flags = ["-std=c++17", "-O2", "-Wall", "-Wextra", "-Werror"]
         subprocess.run(["c++", *flags, "board.cpp", "-o", "board"], cwd=self.folder, check=True)
-        dark = [raw(1, 8000), tick(), *[tick()] * 3000, raw(2, 2000), tick()]
+        dark = [raw(1, 8000), tick(), *[tick()] * 2200, raw(2, 2000), tick()]
         for text in (
             (ROOT / "examples/leap_inserted.jsonl").read_text(),
             (ROOT / "examples/five_ports.jsonl").read_text(),
