@@ -9,7 +9,13 @@ from importlib.util import find_spec
 from pathlib import Path
 from typing import NoReturn
 
+ROOT = Path(__file__).resolve().parents[2]
 DEBIAN = "/usr/bin/python3"  # it has Debian's packages, which another Python on the PATH has not
+
+
+def program() -> str:
+    """The program that the environment names in IRIG, or ./irig."""
+    return os.environ.get("IRIG", str(ROOT / "irig"))
 
 
 def fail(name: str, reason: object) -> NoReturn:

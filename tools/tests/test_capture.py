@@ -427,6 +427,18 @@ class Forms(InAFolder):
         kept = (ROOT / "examples/one_clock_ahead.vcd").read_text()
         self.assertTrue(kept == (self.folder / "made.vcd").read_text(), "another recording")
 
+    def test_a_table_of_volts_without_names(self) -> None:
+        """As sigrok-cli 0.7.2 makes it of a sound: the names stand above, and not over the columns."""
+        lines, path = wave_of("one_liar"), self.folder / "lines.csv"
+        with path.open("w") as file:
+            print("; Channels (3/3): CH1, CH2, CH3\nMETA samplerate: 10000\n,,", file=file)
+            for count, levels in lines.samples(100):
+                row = ",".join(f"{0.7 * level - 0.35:.6f}" for level in levels)
+                file.write(f"{row}\n" * count)
+        text, said = captured(path, "--threshold=0")
+        self.assertEqual(log_of(text), wanted_of("one_liar"))
+        self.assertIn("CH2: 1600 pulses, 16 frames, ", said)
+
     def test_one_line_is_heard_on_three_ports(self) -> None:
         as_dump(wave_of("one_liar"), self.folder / "lines.vcd")
         text, said = captured(self.folder / "lines.vcd", "--channels=G1")

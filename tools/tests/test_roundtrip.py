@@ -1,0 +1,363 @@
+#!/usr/bin/env python3
+"""Round trips: a scenario becomes a wave by tools/wave, that a recording by sigrok-cli, that a
+scenario again by tools/capture, and its log is the one of the scenario it began with, with each
+port's word.
+
+All examples and cases that run to their end are tried, with each of their readers, by one form: a
+value change dump that becomes a session of sigrok. A few go through all forms that both of the
+tools and sigrok-cli have; without sigrok-cli each wave is captured as it is. Which trips cannot be
+alike stands in a table, with the reason. Needs the libraries of `make -C c`."""
+from __future__ import annotations
+
+import json
+import math
+import os
+import random
+import shutil
+import subprocess
+import sys
+import tempfile
+import time
+import unittest
+import wave
+from array import array
+from collections.abc import Iterator
+from contextlib import contextmanager
+from dataclasses import dataclass
+from functools import cache, cached_property
+from pathlib import Path
+
+from loading import ROOT
+
+from parts.lines import Lines, write_dump, write_sound
+from test_capture import PROGRAM, InAFolder, captured, examples, log_of, scenarios
+
+os.environ["IRIG"] = str(PROGRAM)
+TOOL = ROOT / "tools/wave"
+SIGROK = shutil.which("sigrok-cli")
+MISSING = "skipped: round trips through sigrok-cli; Debian's package sigrok-cli is missing"
+
+# Trips that can't end where they began, by scenario and reader, with the reason.
+RESTART = "no wire knows of a restart"
+OTHER = "the last line speaks of another reader"
+SILENT_AT_FIRST = "there is no tick before the first frame"
+NO_FRAME = "most of its lines have no whole frame"
+NO_BEGIN = "a pulse that begins no frame is out of step on a wire"
+UNLIKE = {
+    "a_missed_tick_breaks_the_premise relay": RESTART,
+    "broken_premise_of_another_reader r1": OTHER,
+    "damage_at_the_last_marker_to_a_zero r1": NO_BEGIN,
+    "damage_at_the_last_marker_to_the_same_symbol r1": NO_BEGIN,
+    "heard_mark_goes_before_a_false_table r2": OTHER,
+    "misled_five relay": SILENT_AT_FIRST,
+    "misled_three relay": SILENT_AT_FIRST,
+    "plant_line_alone r1": NO_FRAME,
+    "pulses_since_a_port_was_empty r1": NO_FRAME,
+    "restart relay": RESTART,
+    "restart_empties_the_ports r1": RESTART,
+    "restart_forgets_the_counter r1": RESTART,
+    "step_of_generator_4_of_five r1": NO_FRAME,
+}
+
+# Those that go through each form.
+FEW = ("late_pending relay", "leap_inserted recorder", "pulled_cable relay", "zone_change relay")
+
+# The waves, with words for tools/wave; and what sigrok-cli 0.7.2 makes of each, from which file, by
+# which options, and with further words for tools/capture. Of a .csv it takes each row for a sample.
+# Of a .wav, which is analog to it, it makes a .csv of volts, and no .sr, .vcd or .wav that can be
+# read; of times in a .csv it has the right ones if it made it of a .sr.
+Passage = tuple[str, list[str], str, list[str]]
+TABLE = ["-I", "csv:column_formats=t,*l"]
+TIMED = ["-O", "csv:time=true:dedup=true:label=channel"]
+WAVES: list[tuple[str, list[str], list[Passage]]] = [
+    ("a.vcd", [], [
+        ("a.vcd", [], "b.sr", []), ("a.vcd", ["-O", "vcd"], "b.vcd", []),
+        ("a.vcd", ["-O", "csv"], "b.csv", []), ("b.sr", TIMED, "c.csv", []),
+    ]),
+    ("a.csv", [], [
+        ("a.csv", TABLE, "b.sr", []), ("a.csv", [*TABLE, "-O", "vcd"], "b.vcd", []),
+        ("a.csv", [*TABLE, "-O", "csv:label=channel"], "b.csv", []),
+    ]),
+    ("a.csv", ["--changes"], []),
+    ("a.csv", ["--changes", "--invert"], []),
+    ("a.wav", [], []),
+    ("a.wav", ["--rate=8000"], [("a.wav", ["-O", "csv"], "b.csv", ["--threshold=0"])]),
+]
+
+
+@dataclass(frozen=True)
+class Trip:
+    """A scenario for one of its readers."""
+
+    text: str
+    reader: dict
+
+    @cached_property
+    def plant(self) -> dict:
+        return next(json.loads(line) for line in self.text.splitlines() if line.strip())
+
+    @property
+    def name(self) -> str:
+        return self.reader["name"]
+
+    @cached_property
+    def log(self) -> list[str]:
+        """What the scenario's log says of the reader."""
+        lines = log_of(self.text)
+        return [line for line in lines[:-1] if line.split()[1] == self.name] + lines[-1:]
+
+    @contextmanager
+    def lines(self) -> Iterator[Lines]:
+        with tempfile.TemporaryFile() as file:
+            file.write(self.text.encode())
+            file.flush()
+            yield Lines(file, self.name, False)
+
+    def outcome(self, recording: Path, *more: str) -> list[str]:
+        """The log of what is captured, or why nothing is. The tool is told what a recording does not
+        say."""
+        plant, reader = self.plant, self.reader
+        words = [f"--reader={reader['name']},{reader['lock_after']},{reader['holdover']}",
+                 f"--start={plant['start']}",
+                 *(f"--leap={leap['day']}:{leap['kind']}" for leap in plant["leaps"]),
+                 *(f"--{key}={plant[key]}" for key in ("parity", "sense", "sbs"))]
+        try:
+            head, _, rest = captured(recording, *words, *more)[0].partition("\n")
+        except ValueError as error:
+            return [str(error)]
+        made = json.loads(head) | {"version": plant["version"], "readers": [reader]}
+        return log_of(f"{json.dumps(made)}\n{rest}")
+
+
+@cache
+def trips() -> dict[str, Trip]:
+    found = {}
+    for name, text in scenarios().items():
+        plant = next(json.loads(line) for line in text.splitlines() if line.strip())
+        for reader in plant["readers"]:
+            found[f"{name} {reader['name']}"] = Trip(text, reader)
+    return found
+
+
+def short_examples() -> list[str]:
+    """Those of at most a hundred seconds."""
+    logs = {name: (ROOT / f"examples/{name}.log").read_text() for name in examples()}
+    return [name for name, log in logs.items() if int(log.splitlines()[-2].split()[0]) <= 100]
+
+
+def sigrok(*words: object) -> None:
+    subprocess.run(["sigrok-cli", *map(str, words)], check=True, timeout=300)
+
+
+def announced(log: list[str]) -> list[str]:
+    return [line for line in log if line[0] != " "]
+
+
+# ---- noise
+
+
+def coupled(source: Path, to: Path) -> None:
+    """A sound of 8,000 samples of 16 bits a second, behind a capacitor."""
+    with wave.open(str(source)) as sound:
+        form, samples = sound.getparams(), array("h", sound.readframes(sound.getnframes()))
+    before, held, found = [0] * form.nchannels, [0.0] * form.nchannels, array("h")
+    for place, value in enumerate(samples):
+        channel = place % form.nchannels
+        held[channel] = 0.984 * (held[channel] + value - before[channel])
+        before[channel] = value
+        found.append(round(held[channel] / 2))
+    with wave.open(str(to), "wb") as sound:
+        sound.setparams(form)
+        sound.writeframes(found.tobytes())
+
+
+Row = tuple[float, int]  # a time in microseconds, and the lines that are high from then on
+
+
+@dataclass
+class Recorder:
+    """A bad recorder: each edge is off by up to so many microseconds, its clock by so many parts in
+    a million; so many short glitches come a second; it may take samples."""
+
+    by: random.Random
+    jitter_us: int
+    parts: int
+    glitches: int = 0
+    every_us: int = 0
+
+    def recorded(self, lines: Lines, path: Path) -> None:
+        """Writes what is recorded of lines, as rows of levels."""
+        count, before, changes = len(lines.names), 0, []
+        for at, high in lines.steps():
+            changes += [(self.moved(at), line) for line in range(count) if (high ^ before) >> line & 1]
+            before = high
+        end = lines.end_us
+        for _ in range(self.glitches * end // 1_000_000):
+            begin, line = self.by.uniform(0, end), self.by.randrange(count)
+            # Each of its two ends changes the level, whatever that is.
+            changes += [(begin, line), (begin + self.by.uniform(1, 40), line)]
+        with path.open("w") as file:
+            print("Time [s]", *lines.names, sep=",", file=file)
+            for at, high in [(0.0, 0), *self.rows(changes), (self.seen(end), 0)]:
+                print(f"{at / 1e6:.9f}", *(high >> line & 1 for line in range(count)), sep=",", file=file)
+
+    def moved(self, at: int) -> float:
+        return at + self.by.uniform(-self.jitter_us, self.jitter_us)
+
+    def seen(self, at: float) -> float:
+        at *= 1 + self.parts / 1e6
+        return self.every_us * math.ceil(at / self.every_us) if self.every_us else at
+
+    def rows(self, changes: list[tuple[float, int]]) -> Iterator[Row]:
+        high = 0
+        for at, line in sorted(changes):
+            high ^= 1 << line
+            yield self.seen(at), high
+
+
+def recorders(seed: int, name: str) -> dict[str, Recorder]:
+    """Two of them. Where lines are dark for a minute a clock that is farther off ticks before a frame
+    has ended."""
+    by = random.Random(seed)
+    parts = by.choice((-1, 1)) * (40 if name.startswith("month_end") else by.randint(100, 500))
+    return {
+        "jitter, glitches and its clock": Recorder(by, 400, parts, glitches=30),
+        "jitter, its clock and samples at 2 kHz": Recorder(by, 200, parts, every_us=500),
+    }
+
+
+# ---- tests
+
+
+class Trips(InAFolder):
+    def test_each(self) -> None:
+        """By a value change dump, and by sigrok-cli if it is there, as a session of it."""
+        alike = 0
+        for name, trip in trips().items():
+            with self.subTest(name):
+                with trip.lines() as lines:
+                    log = trip.outcome(self.recording(lines))
+                if name in UNLIKE:
+                    self.assertNotEqual(log, trip.log, "this is alike now")
+                else:
+                    self.assertEqual(log, trip.log)
+                    alike += 1
+        self.assertEqual(set(UNLIKE) - set(trips()), set())
+        print(f"round trips: {alike} alike, {len(UNLIKE)} can't be")
+        if not SIGROK:
+            print(MISSING)
+
+    def recording(self, lines: Lines) -> Path:
+        dump, session = self.folder / "lines.vcd", self.folder / "lines.sr"
+        with dump.open("w") as out:
+            write_dump(out, lines)
+        if not SIGROK:
+            return dump
+        sigrok("-i", dump, "-o", session)
+        return session
+
+    def test_each_form_of_a_few(self) -> None:
+        for name in FEW:
+            trip = trips()[name]
+            (self.folder / "scenario.jsonl").write_text(trip.text)
+            for made_by_tool, words, passages in WAVES:
+                ran = subprocess.run(
+                    [TOOL, "scenario.jsonl", "-o", made_by_tool, "--reader", trip.name, *words],
+                    cwd=self.folder, capture_output=True, text=True,
+                )
+                self.assertEqual(ran.returncode, 0, ran.stderr)
+                self.compare(trip, made_by_tool, [], [])
+                for source, options, made, more in passages if SIGROK else []:
+                    sigrok("-i", self.folder / source, *options, "-o", self.folder / made)
+                    self.compare(trip, made, options, more)
+
+    def test_a_sound_behind_a_capacitor(self) -> None:
+        """The high pass of a sound card at 20 Hz, out or in."""
+        for name in FEW:
+            trip = trips()[name]
+            with trip.lines() as lines:
+                write_sound(self.folder / "a.wav", lines, 8_000)
+            coupled(self.folder / "a.wav", self.folder / "b.wav")
+            self.compare(trip, "b.wav", [], [])
+
+    def compare(self, trip: Trip, made: str, options: list[str], more: list[str]) -> None:
+        with self.subTest(trip.name, made=made, options=options):
+            self.assertEqual(trip.outcome(self.folder / made, *more), trip.log)
+
+
+class Noise(InAFolder):
+    """The examples whose trips can be alike, by recorders that are bad, by seeds."""
+
+    def test_what_is_announced(self) -> None:
+        tried = 0
+        for seed, (name, trip) in enumerate(trips().items()):
+            if name in UNLIKE or name.split()[0] not in short_examples():
+                continue
+            for kind, recorder in recorders(seed, name).items():
+                with self.subTest(name, seed=seed, kind=kind), trip.lines() as lines:
+                    path = self.folder / "lines.csv"
+                    recorder.recorded(lines, path)
+                    self.assertEqual(announced(trip.outcome(path)), announced(trip.log))
+                    tried += 1
+        print(f"bad recorders: {tried}")
+        self.assertGreater(tried, 30)
+
+    def test_what_a_filter_keeps_away(self) -> None:
+        """The noise is there: without the filter, or with more of it, the log is another."""
+        trip = trips()["leap_inserted relay"]
+        path = self.folder / "lines.csv"
+        for recorder, words in (
+            (Recorder(random.Random(1), 0, 0, glitches=30), ["--glitch=0"]),
+            (Recorder(random.Random(1), 900, 0), []),
+            (Recorder(random.Random(1), 0, 0, every_us=4000), []),
+        ):
+            with self.subTest(recorder), trip.lines() as lines:
+                recorder.recorded(lines, path)
+                self.assertNotEqual(trip.outcome(path, *words), trip.log)
+
+
+class Memory(InAFolder):
+    MORE = 4 << 10  # in KiB
+
+    def test_a_long_recording(self) -> None:
+        """Three lines at 1 MHz: four minutes take no more memory than one."""
+        for ending in (".vcd", *([".sr"] if SIGROK else [])):
+            with self.subTest(ending):
+                least, most = (self.peak(seconds, ending) for seconds in (60, 240))
+                self.assertLess(most, least + self.MORE)
+
+    def peak(self, seconds: int, ending: str) -> int:
+        """The most that the tool takes, in KiB, as a process tells that takes little itself."""
+        recording = self.recording(seconds, ending)
+        least = "import resource as r, subprocess as s, sys; s.run(sys.argv[1:], check=True);" \
+            "print(r.getrusage(r.RUSAGE_CHILDREN).ru_maxrss, file=sys.stderr)"
+        begin = time.monotonic()
+        ran = subprocess.run(
+            [sys.executable, "-c", least, ROOT / "tools/capture", recording],
+            capture_output=True, text=True, check=True,
+        )
+        took = time.monotonic() - begin
+        self.assertEqual(ran.stdout.count('"tick"'), seconds)
+        peak = int(ran.stderr.splitlines()[-1])
+        print(f"{ending}: {seconds} s of lines in {took:.1f} s and {peak >> 10} MB")
+        return peak
+
+    def recording(self, seconds: int, ending: str) -> Path:
+        """A pulse that is 1 us too long makes sigrok take a sample each microsecond."""
+        head = trips()["plain_minute relay"].text.splitlines()[0]
+        damage = {"do": "damage", "g": 0, "r": "relay", "at": 2, "width": 2001}
+        tick, step = {"do": "tick", "r": "relay"}, [{"do": "step", "g": line} for line in range(3)]
+        others = [{"do": "carry", "g": line, "r": "relay"} for line in (1, 2)]
+        events = [damage, *others, tick, *step, {"do": "seconds", "n": seconds - 1}]
+        text = "\n".join([head, *map(json.dumps, events)])
+        dump, session = self.folder / "lines.vcd", self.folder / "lines.sr"
+        ran = subprocess.run([TOOL, "-", "-o", dump], input=text, capture_output=True, text=True)
+        self.assertEqual(ran.stderr, f"{seconds} seconds of relay on 3 lines\n")
+        if ending == ".vcd":
+            return dump
+        sigrok("-i", dump, "-o", session)
+        return session
+
+
+if __name__ == "__main__":
+    unittest.main()
