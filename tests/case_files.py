@@ -90,6 +90,8 @@ def over_whole_ports(case: Case) -> Case | None:
     """The same for test_whole_port, which runs what it is given and takes no more words than --all;
     none where a case is of something else."""
     words, input = case.words, case.input
+    if words[:1] == [b"flatten"]:
+        return None
     if case.scenario:
         words, input = words[2:], case.scenario
     if not case.name.startswith("examples/") and b" ".join(words) not in (b"", b"--all"):
