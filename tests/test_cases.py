@@ -56,9 +56,11 @@ class Cases(unittest.TestCase):
         self.assertEqual((ran.returncode, ran.stdout.splitlines()[-1:]), (1, ["0 passed, 0 failed"]))
 
     def test_each_scenario_is_run_over_whole_ports(self) -> None:
-        """But for those of cases with other options, which test_whole_port does not know."""
+        """But for those of cases with other options, or of other commands, which test_whole_port does
+        not know."""
         for case in all_cases():
-            is_known = case.scenario and case.words[2:] in ([], [b"--all"])
+            is_run = case.scenario and case.words[:1] == [b"run"]
+            is_known = is_run and case.words[2:] in ([], [b"--all"])
             if is_known or case.name.startswith("examples/"):
                 with self.subTest(case.name):
                     whole = over_whole_ports(case)
