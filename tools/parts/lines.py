@@ -50,10 +50,14 @@ def flattened(scenario: BinaryIO, again: bool = False) -> Iterator[str]:
         stderr=subprocess.DEVNULL if again else None,
     ) as ran:
         assert ran.stdout
-        for line in ran.stdout:
-            if line.startswith("refused: "):
-                raise ValueError(line.strip())
-            yield line
+        try:
+            for line in ran.stdout:
+                if line.startswith("refused: "):
+                    raise ValueError(line.strip())
+                yield line
+        except GeneratorExit:
+            ran.kill()  # else it would say that its output took no more
+            raise
     if ran.returncode:
         raise ValueError(f"'irig flatten' ended with status {ran.returncode}")
 
