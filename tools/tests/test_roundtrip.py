@@ -3,9 +3,9 @@
 scenario again by tools/capture, and its log is the one of the scenario it began with, with each
 port's word.
 
-All examples and cases that run to their end are tried, with each of their readers, by one form: a
-value change dump that becomes a session of sigrok. A few go through all forms that both of the
-tools and sigrok-cli have; without sigrok-cli each wave is captured as it is. Which trips cannot be
+All examples and cases that run to their end are tried, with each of their readers, by a value
+change dump that becomes a session of sigrok; those of at most 16 seconds by all forms that the tools
+and sigrok-cli have. Without sigrok-cli each wave is captured as it is. Which trips cannot be
 alike stands in a table, with the reason. Needs the libraries of `make -C c`."""
 from __future__ import annotations
 
@@ -22,6 +22,7 @@ import unittest
 import wave
 from array import array
 from collections.abc import Iterator
+from concurrent.futures import ThreadPoolExecutor
 from contextlib import contextmanager
 from dataclasses import dataclass
 from functools import cache, cached_property
@@ -59,7 +60,7 @@ UNLIKE = {
     "step_of_generator_4_of_five r1": NO_FRAME,
 }
 
-# Those that go through each form.
+# Those that go through the high pass of a sound card.
 FEW = ("late_pending relay", "leap_inserted recorder", "pulled_cable relay", "zone_change relay")
 
 # The waves, with words for tools/wave; and what sigrok-cli 0.7.2 makes of each, from which file, by
@@ -143,6 +144,41 @@ def short_examples() -> list[str]:
     """Those of at most a hundred seconds."""
     logs = {name: (ROOT / f"examples/{name}.log").read_text() for name in examples()}
     return [name for name, log in logs.items() if int(log.splitlines()[-2].split()[0]) <= 100]
+
+
+def short_trips() -> list[str]:
+    """The trips of at most 16 seconds that can be alike, which most are: a row a sample of a longer one
+    takes its time. Those of a hundred seconds were tried once."""
+    return [name for name, trip in trips().items()
+            if name not in UNLIKE and sum(line[0] != " " for line in trip.log) <= 17]
+
+
+@dataclass(frozen=True)
+class Outcome:
+    """What came of a file that was made of a trip, by these options of sigrok-cli."""
+
+    name: str
+    made: str
+    options: list[str]
+    log: list[str]
+
+
+def by_each_form(name: str) -> list[Outcome]:
+    trip, outcomes = trips()[name], []
+    with tempfile.TemporaryDirectory() as made_in:
+        folder = Path(made_in)
+        (folder / "scenario.jsonl").write_text(trip.text)
+        for wave_file, words, passages in WAVES:
+            subprocess.run(
+                [TOOL, "scenario.jsonl", "-o", wave_file, "--reader", trip.name, *words],
+                cwd=folder, capture_output=True, check=True,
+            )
+            outcomes.append(Outcome(name, wave_file, words, trip.outcome(folder / wave_file)))
+            for source, options, made, more in passages if SIGROK else []:
+                sigrok("-i", folder / source, *options, "-o", folder / made)
+                log = trip.outcome(folder / made, *more)
+                outcomes.append(Outcome(name, made, options, log))
+    return outcomes
 
 
 def sigrok(*words: object) -> None:
@@ -256,20 +292,17 @@ class Trips(InAFolder):
         sigrok("-i", dump, "-o", session)
         return session
 
-    def test_each_form_of_a_few(self) -> None:
-        for name in FEW:
-            trip = trips()[name]
-            (self.folder / "scenario.jsonl").write_text(trip.text)
-            for made_by_tool, words, passages in WAVES:
-                ran = subprocess.run(
-                    [TOOL, "scenario.jsonl", "-o", made_by_tool, "--reader", trip.name, *words],
-                    cwd=self.folder, capture_output=True, text=True,
-                )
-                self.assertEqual(ran.returncode, 0, ran.stderr)
-                self.compare(trip, made_by_tool, [], [])
-                for source, options, made, more in passages if SIGROK else []:
-                    sigrok("-i", self.folder / source, *options, "-o", self.folder / made)
-                    self.compare(trip, made, options, more)
+    def test_each_form(self) -> None:
+        """Each of at most 16 seconds that can be alike, by each form."""
+        tried = 0
+        with ThreadPoolExecutor() as pool:
+            for outcomes in pool.map(by_each_form, short_trips()):
+                for outcome in outcomes:
+                    with self.subTest(outcome.name, made=outcome.made, options=outcome.options):
+                        self.assertEqual(outcome.log, trips()[outcome.name].log)
+                    tried += 1
+        print(f"round trips by each form: {tried}")
+        self.assertGreater(tried, 300)
 
     def test_a_sound_behind_a_capacitor(self) -> None:
         """The high pass of a sound card at 20 Hz, out or in."""
