@@ -8,6 +8,7 @@ ghost use Rattle.irig_scene.specs.Faults.{stopped_write};
 use crate::record::{record_event, record_events};
 use indexmap::IndexSet;
 use irig_device::Watched;
+use irig_faults::Refusal;
 use irig_plant::{Event, Plant};
 use irig_port::FlowPort;
 use irig_scenario::{BuiltPlant, Command, second_of};
@@ -71,9 +72,9 @@ impl Flattener {
     }
 
     /// What explains the refusal of this line.
-    pub(crate) fn refused(self, alloc: Global, line: Vec<u8>) -> RefusedLine {
+    pub(crate) fn refused(self, alloc: Global, refusal: Refusal, line: Vec<u8>) -> RefusedLine {
         let Flattener { plant, names, .. } = self;
-        RefusedLine::of_plant(alloc, line, names, plant.generators())
+        RefusedLine::of_plant(alloc, refusal, line, names, plant.generators())
     }
 
     /// Plays what a line asks for, up to an event that is refused, and writes what readers hear.

@@ -9,6 +9,7 @@ ghost use Rattle.irig_flatten.specs.Flattening.{HasTheLog, RanFlat};
 use crate::flattener::Flattener;
 use crate::line::{run_last, run_line};
 use irig_device::{LineEnd, Watched};
+use irig_faults::Refusal;
 use irig_scene::{RefusedLine, SceneFault, limit_of, read_line, refuse, too_long};
 use std::alloc::Global;
 use std::io::{BufRead, Write};
@@ -40,8 +41,10 @@ pub fn flatten<R: BufRead, W: Write>(
     let mut line = Vec::new(alloc);
     let mut flattener: Option<Flattener> = None;
     let result = flatten_lines(alloc, &mut line, &mut flattener, input, output);
-    if matches!(result, Err(SceneFault::Refused { .. })) {
-        *refused = Some(refused_line(alloc, line, flattener));
+    if let Err(SceneFault::Refused { number, .. }) = result
+        && let Some(refusal) = Refusal::of_number(number)
+    {
+        *refused = Some(refused_line(alloc, refusal, line, flattener));
     }
     result
 }
@@ -74,9 +77,14 @@ fn flatten_lines<R: BufRead, W: Write>(
     }
 }
 
-fn refused_line(alloc: Global, line: Vec<u8>, flattener: Option<Flattener>) -> RefusedLine {
+fn refused_line(
+    alloc: Global,
+    refusal: Refusal,
+    line: Vec<u8>,
+    flattener: Option<Flattener>,
+) -> RefusedLine {
     match flattener {
-        Some(flattener) => flattener.refused(alloc, line),
-        None => RefusedLine::before_plant(alloc, line),
+        Some(flattener) => flattener.refused(alloc, refusal, line),
+        None => RefusedLine::before_plant(alloc, refusal, line),
     }
 }

@@ -37,7 +37,9 @@ fn all_fit(keys: &[Key], value: &Value) -> bool
     keys.iter().all(|key| fits(key, value))
 }
 
-fn fits(key: &Key, value: &Value) -> bool
+/// Whether a value has at a key what may stand there by its type, or nothing if it may be left out.
+/// Its range is not asked.
+pub fn fits(key: &Key, value: &Value) -> bool
     ensures { result ≡ fits (key_value key.now) (get key.now.name.now (view value.now)) }
 {
     match value.get(key.name) {

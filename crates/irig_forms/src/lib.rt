@@ -7,7 +7,7 @@ mod key;
 mod keywords;
 
 pub use fields::{
-    few_items, has_form, integer_at, is_named, leap_at, natural_at, natural_in, reader_at,
+    few_items, fits, has_form, integer_at, is_named, leap_at, natural_at, natural_in, reader_at,
 };
 pub use json::{at_most, items_at, text_at, whole_at, whole_of};
 pub use key::{Key, Kind, Text, has_type};

@@ -16,4 +16,4 @@ mod zone;
 pub use fault::GenFault;
 pub use generator::{GenRefusal, Generator};
 pub use laws::{frames_are, law_of_true_frames, one_frame};
-pub use zone::{Change, Zone};
+pub use zone::{Change, Zone, is_change_time, minute_number};

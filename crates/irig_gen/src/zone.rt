@@ -69,7 +69,8 @@ pub(crate) fn in_order(changes: &[Change]) -> bool
     true
 }
 
-fn is_change_time(at: &UtcSecond) -> bool
+/// Whether a zone may change at a second: the first of a minute, of a day that is served.
+pub fn is_change_time(at: &UtcSecond) -> bool
     ensures { result ≡ is_change_time at.now }
 {
     (at.day >= FIRST_DAY && at.day <= LAST_DAY) && (at.sod < 86400 && at.sod % 60 == 0)
@@ -103,8 +104,8 @@ pub(crate) fn minute_at(utc: &UtcSecond) -> u64
     u64::from(utc.day) * 1440 + u64::from(utc.minute_of_day())
 }
 
-/// The minute that begins with a change at this second.
-pub(crate) fn minute_number(at: UtcSecond) -> u64
+/// The minute of UTC, counted from 2000-01-01, that begins with a change at this second.
+pub fn minute_number(at: UtcSecond) -> u64
     ensures { result ≡ minute_number at }
 {
     u64::from(at.day) * 1440 + u64::from(at.sod / 60)

@@ -109,7 +109,8 @@ fn push_words(text: &mut String, truth: Option<Claim>, ports: &[Told]) -> Result
     Ok(())
 }
 
-fn push_word(text: &mut String, truth: Option<Claim>, told: Told) -> Result<(), AllocError>
+/// Adds the word of a port line for what a port told, if this is the true claim of its edge.
+pub fn push_word(text: &mut String, truth: Option<Claim>, told: Told) -> Result<(), AllocError>
     requires { IsOfUtc told }
     ensures { OnOk result (string_bytes text.new
         ≡ string_bytes text.old ++ port_word truth told) }

@@ -184,7 +184,7 @@ fn push_lock(text: &mut String, lock: Lock) -> Result<(), AllocError>
 }
 
 /// The word for a cause.
-fn cause_word(cause: Cause) -> &'static str
+pub fn cause_word(cause: Cause) -> &'static str
     ensures { result.now ≡ cause_text cause }
 {
     match cause {

@@ -11,6 +11,7 @@ use crate::rounds::{Round, Rounds};
 use crate::stop::{Failure, Stop};
 use indexmap::IndexSet;
 use irig_device::Watched;
+use irig_faults::Refusal;
 use irig_plant::{Audit, Plant};
 use irig_port::Port;
 use irig_scenario::{BuiltPlant, Command, second_of};
@@ -89,9 +90,9 @@ impl<P: Port> Player<P> {
     }
 
     /// What explains the refusal of this line.
-    pub(crate) fn refused(self, alloc: Global, line: Vec<u8>) -> RefusedLine {
+    pub(crate) fn refused(self, alloc: Global, refusal: Refusal, line: Vec<u8>) -> RefusedLine {
         let Player { rounds, names, .. } = self;
-        RefusedLine::of_plant(alloc, line, names, rounds.plant().generators())
+        RefusedLine::of_plant(alloc, refusal, line, names, rounds.plant().generators())
     }
 
     /// Does what a line asks for, up to an event that is refused, and writes what the readers said.

@@ -2,6 +2,7 @@
 
 use crate::player::Player;
 use indexmap::IndexSet;
+use irig_faults::Refusal;
 use irig_gen::Generator;
 use irig_port::Port;
 use std::alloc::{AllocError, Global};
@@ -9,6 +10,8 @@ use std::alloc::{AllocError, Global};
 /// A line that was refused, and where the plant then stood.
 #[derive(Drop)]
 pub struct RefusedLine {
+    /// Why it was refused.
+    pub refusal: Refusal,
     /// The bytes of the refused line, as far as they were read. If the input ended without a plant
     /// line: those of the last line, if it has no newline.
     pub line: Vec<u8>,
@@ -20,8 +23,9 @@ pub struct RefusedLine {
 
 impl RefusedLine {
     /// A line before there is a plant.
-    pub fn before_plant(alloc: Global, line: Vec<u8>) -> RefusedLine {
+    pub fn before_plant(alloc: Global, refusal: Refusal, line: Vec<u8>) -> RefusedLine {
         RefusedLine {
+            refusal,
             line,
             names: IndexSet::new(alloc),
             edges: Vec::new(alloc),
@@ -31,6 +35,7 @@ impl RefusedLine {
     /// A line of a plant whose readers have these names, and whose generators stand so.
     pub fn of_plant(
         alloc: Global,
+        refusal: Refusal,
         line: Vec<u8>,
         names: IndexSet<String>,
         generators: &[Generator],
@@ -39,13 +44,23 @@ impl RefusedLine {
             Ok(edges) => edges,
             Err(_) => Vec::new(alloc),
         };
-        RefusedLine { line, names, edges }
+        RefusedLine {
+            refusal,
+            line,
+            names,
+            edges,
+        }
     }
 
-    pub(crate) fn of<P: Port>(alloc: Global, line: Vec<u8>, player: Option<Player<P>>) -> Self {
+    pub(crate) fn of<P: Port>(
+        alloc: Global,
+        refusal: Refusal,
+        line: Vec<u8>,
+        player: Option<Player<P>>,
+    ) -> Self {
         match player {
-            Some(player) => player.refused(alloc, line),
-            None => RefusedLine::before_plant(alloc, line),
+            Some(player) => player.refused(alloc, refusal, line),
+            None => RefusedLine::before_plant(alloc, refusal, line),
         }
     }
 }

@@ -13,6 +13,7 @@ use crate::outcome::Outcome;
 use crate::player::Player;
 use crate::refused_line::RefusedLine;
 use irig_device::{LineEnd, Watched};
+use irig_faults::Refusal;
 use irig_log_text::Shown;
 use irig_port::{FlowPort, Port};
 use std::alloc::Global;
@@ -76,8 +77,10 @@ pub fn run_scene_shown<R: BufRead, W: Write>(
     let mut player: Option<Player<FlowPort>> = None;
     let log = LogWriter { alloc, shown };
     let result = run_lines(&mut line, &mut player, input, output, log);
-    if matches!(result, Err(SceneFault::Refused { .. })) {
-        *refused = Some(RefusedLine::of(alloc, line, player));
+    if let Err(SceneFault::Refused { number, .. }) = result
+        && let Some(refusal) = Refusal::of_number(number)
+    {
+        *refused = Some(RefusedLine::of(alloc, refusal, line, player));
     }
     result
 }

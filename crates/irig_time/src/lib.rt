@@ -28,6 +28,6 @@ pub use leap::Leap;
 pub use mark::Mark;
 pub use rules::{Rules, SbsUse, Sense};
 pub use second::{FIRST_DAY, LAST_DAY, LAST_NAMED_DAY, UtcSecond, next, valid};
-pub use table::{LeapTable, Leaps, TableFault, table_fault};
+pub use table::{LeapTable, Leaps, TableFault, entry_fault, table_fault};
 pub use text::{push_text, read_day, read_text, write_text};
-pub use timeline::{Timeline, TimelineFault};
+pub use timeline::{Timeline, TimelineFault, leap_fault};

@@ -144,8 +144,10 @@ fn first_entry_fault(until: u32, leaps: &[(u32, Leap)]) -> Option<TableFault>
     None
 }
 
+/// What is wrong with a day of a table up to `until`, behind these entries: `TableDay` if it is
+/// outside the days served, after `until` or not a month's last, `TableTwice` if an entry has it.
 // Each test by itself, as in the definition.
-fn entry_fault(until: u32, before: &[(u32, Leap)], day: u32) -> Option<TableFault>
+pub fn entry_fault(until: u32, before: &[(u32, Leap)], day: u32) -> Option<TableFault>
     requires { until ≤ LAST_DAY }
     ensures { result ≡ entry_fault until before.now day }
 {

@@ -158,8 +158,10 @@ fn first_leap_fault(leaps: &[(u32, Leap)]) -> Option<TimelineFault>
     None
 }
 
+/// What is wrong with the day of a timeline's leap, behind these: `OutOfYears` if it is outside the
+/// days served, `LeapNotMonthEnd` if it is not a month's last, `LeapTwice` if one of them has it.
 // Each test by itself, as in the definition.
-fn leap_fault(before: &[(u32, Leap)], day: u32) -> Option<TimelineFault>
+pub fn leap_fault(before: &[(u32, Leap)], day: u32) -> Option<TimelineFault>
     ensures { result ≡ leap_fault before.now day }
 {
     if day < FIRST_DAY {

@@ -17,9 +17,9 @@ pub use form::{
 };
 pub use generator_values::GeneratorValues;
 pub use line::{naturals_at, value_of};
-pub use names::names_of;
+pub use names::{is_name, names_of};
 pub use plant_shape::{
-    VERSION, Version, change_keys, generator_keys, is_plant, leap_keys, plant_keys, reader_keys,
+    LOCAL, VERSION, Version, change_keys, generator_keys, is_plant, leap_keys, plant_keys, reader_keys,
     table_keys, version_in, version_of,
 };
 pub use plant_values::{PlantValues, values_of};

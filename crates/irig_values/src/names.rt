@@ -35,8 +35,9 @@ fn are_name_bytes(text: &str) -> bool
     text.bytes().all(is_name_byte)
 }
 
+/// Whether a reader may have this name: 1 to 16 of a to z, 0 to 9, _ and -.
 #[tactic(auto, unfolding(crate::specs::Names::is_name))]
-fn is_name(text: &str) -> bool
+pub fn is_name(text: &str) -> bool
     ensures { result ≡ is_name text.now }
 {
     one_to_sixteen(text.len()) && are_name_bytes(text)

@@ -63,7 +63,8 @@ pub(crate) const DAY: Key = key!("day": Kind::Text(Text::Day));
 
 pub(crate) const LEAP_KIND: Key = key!("kind": Kind::Text(Text::Leap));
 
-pub(crate) const LOCAL: Key = key!("local": Kind::Integer(-128, 127));
+/// `local`: how far a clock is ahead of UTC, in half hours; a generator takes -31 to 31 of them.
+pub const LOCAL: Key = key!("local": Kind::Integer(-128, 127));
 
 pub(crate) const DST: Key = key!("dst": Kind::Truth);
 
