@@ -7,9 +7,10 @@
  * `memcpy`, `memmove` and `memset` of the C library and `__udivti3`, which compilers bring along.
  *
  * Pointers. `text` leads to `count` bytes that no other call writes meanwhile, `log` to `room`
- * bytes and `whole` to one object that no other call reads or writes; the three do not overlap. Of
- * no bytes a pointer may be null; any other null pointer is answered with IRIG_RUN_NULL. What the
- * text says is no duty of the caller: any bytes are a scenario, or are refused.
+ * bytes, `reason` to `reason_room`, `whole` and `refusal` each to one object; no other call reads or
+ * writes these meanwhile, and none of them overlap. Of no bytes a pointer may be null; any other
+ * null pointer is answered with IRIG_RUN_NULL. What the text says is no duty of the caller: any
+ * bytes are a scenario, or are refused.
  *
  * Threads. Calls on different objects may run at the same time, as `malloc` lets them. A line whose
  * JSON is nested as deep as is read, 127, takes up to 170 KB of stack: give a thread 256 KB.
@@ -43,6 +44,32 @@ enum {
  * times as much while it grows. */
 uint8_t irig_run(const uint8_t *text, size_t count, bool all, uint8_t *log, size_t room,
                  size_t *whole);
+
+/* Bytes of a text, from `start` up to before `end`; none if the two are the same. */
+typedef struct irig_span {
+    size_t start;
+    size_t end;
+} irig_span;
+
+/* Why a scenario is refused: zeros if it is not. The spans lie in the reason. */
+typedef struct irig_refusal {
+    uint64_t line;     /* the line, from 1 */
+    size_t whole;      /* how many bytes the reason has; 0 if there was no memory for it */
+    irig_span place;   /* the object, as `readers[0]`, or the byte behind which the line is no
+                        * JSON, as `byte 12`; empty for the line's own object */
+    irig_span key;     /* the key in that object, in quotes */
+    irig_span value;   /* what stands there */
+    irig_span allowed; /* what may stand there */
+    uint8_t number;    /* of the refusal: 11 to 16, 19 to 34; docs/FAULTS.md has them */
+} irig_refusal;
+
+/* The same run; with `ports` the log has behind each tick what its ports told, as with `irig run
+ * --ports`. If a line is refused, `refusal` says which and as what, and as much of the reason is
+ * written to `reason` as `reason_room` bytes hold, with no 0 behind it: one line of text, without a
+ * newline, as the program writes it to standard error. */
+uint8_t irig_run_shown(const uint8_t *text, size_t count, bool all, bool ports, uint8_t *log,
+                       size_t room, size_t *whole, uint8_t *reason, size_t reason_room,
+                       irig_refusal *refusal);
 
 #ifdef __cplusplus
 }

@@ -5,13 +5,21 @@
 //! C library for memory, gives all of it back, and keeps nothing between calls.
 #![tactic(auto)]
 
-ghost use Rattle.std.specs.Prelude.{◌≡◌, ◌≤◌, IsSome, None, length, take};
+ghost use Rattle.std.specs.Prelude.{◌≡◌, ◌≤◌, IsSome, None, length, take, true};
+ghost use Rattle.irig_log_text.specs.declared.shown.Shown.{Shown};
+ghost use Rattle.irig_scene.specs.BrokenLogs.{VouchesUntilBroken};
 ghost use Rattle.irig_scene.specs.LogLines.{TellsTruth, VouchesForItself};
-ghost use Rattle.irig_scene.specs.Scene.{meaning_of, output};
-ghost use Rattle.irig_scene_c.specs.Runs.{HasWholeLog, IsStatus, written_over};
+ghost use Rattle.irig_scene.specs.PortLines.{without_port_lines};
+ghost use Rattle.irig_scene.specs.Scene.{meaning_of, output, output_shown};
+ghost use Rattle.irig_scene.specs.VouchedByPorts.{VouchesByPorts};
+ghost use Rattle.irig_scene_c.specs.Runs.{HasWholeLog, IsRefusalOf, IsStatus, shown_of, written_over};
 
+mod refusal;
 mod run;
 
+use irig_explain::Parts;
+use irig_scene::Shown;
+pub use refusal::{IrigRefusal, IrigSpan};
 use std::alloc::Global;
 
 /// Runs a scenario, and writes as much of its log into `log` as that has room for; with `all` the
@@ -40,8 +48,55 @@ pub extern "C" fn irig_scene_c_run(
     ensures vouches { VouchesForItself text.now (take whole.new log.new) }
     ensures truth { TellsTruth text.now (take whole.new log.new) }
 {
-    let ended = run::run_text(alloc, text, all);
+    let ended = run::run_text(alloc, text, Shown { all, ports: false });
     run::write_over(log, &ended.log);
     *whole = ended.log.len();
-    ended.status
+    run::status_of(&ended.answer)
+}
+
+/// The same, and with `ports` the log has after each tick what its ports told. If a line is refused,
+/// `refusal` says which and as what, and as much of the reason is written into `reason` as that has
+/// room for: one line of text without a newline, as the program writes it.
+#[unsafe(no_mangle)]
+pub extern "C" fn irig_scene_c_run_shown(
+    alloc: Global,
+    text: &[u8],
+    all: bool,
+    ports: bool,
+    log: &mut [u8],
+    whole: &mut usize,
+    reason: &mut [u8],
+    refusal: &mut IrigRefusal,
+) -> u8
+    ensures status { IsStatus result }
+    ensures done { result ≡ 0 → (meaning_of text.now).refused ≡ None }
+    ensures refused { result ≡ 3 → IsSome (meaning_of text.now).refused }
+    ensures refusal { HasWholeLog result
+        → IsRefusalOf (meaning_of text.now).refused refusal.new.line refusal.new.number }
+    ensures whole { HasWholeLog result
+        → whole.new ≡ length (output_shown text.now (shown_of all ports)) }
+    ensures front { whole.new ≤ length (output_shown text.now (shown_of all ports)) }
+    ensures log { log.new
+        ≡ written_over log.old (take whole.new (output_shown text.now (shown_of all ports))) }
+    // without the lines of ports the log is that of a run that does not show them
+    ensures without { without_port_lines (output_shown text.now (shown_of all true))
+        ≡ output text.now all }
+    ensures vouches { VouchesForItself text.now (take whole.new log.new) }
+    ensures vouches_until_broken { VouchesUntilBroken text.now (take whole.new log.new) }
+    ensures vouches_by_ports { VouchesByPorts text.now (take whole.new log.new) }
+    ensures truth { TellsTruth text.now (take whole.new log.new) }
+{
+    let ended = run::run_text(alloc, text, Shown { all, ports });
+    run::write_over(log, &ended.log);
+    *whole = ended.log.len();
+    let line = run::line_of(&ended.answer);
+    let number = run::number_of(&ended.answer);
+    *refusal = match run::why(alloc, &ended.refused) {
+        Ok(Some(why)) => {
+            run::write_over(reason, why.text.as_str().as_bytes());
+            IrigRefusal::new(line, number, why.text.len(), why.parts)
+        }
+        _ => IrigRefusal::new(line, number, 0, Parts::NONE),
+    };
+    run::status_of(&ended.answer)
 }
