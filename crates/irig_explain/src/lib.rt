@@ -14,9 +14,11 @@ mod refused;
 mod shape;
 mod start;
 mod value;
+mod word;
 mod words;
 
 pub use draft::{Parts, Reason, Span};
 pub use irig_faults::{Meaning, meaning_of};
 pub use refused::{PlantContext, why_refused};
+pub use word::{explanation, why_no_word};
 pub use words::{why_no_frame, why_no_time};
