@@ -29,7 +29,7 @@ show_tab("run");
 const modules = { runner: compiled("irig_scene_c"), codec: compiled("irig_c") };
 const tab = new ScenarioTab(modules.runner);
 const ready = Promise.all([
-  tab.take_link().then((is_taken) => is_taken || tab.choose_example("leap_inserted")),
+  tab.take_link().then((is_taken) => is_taken || tab.run_example("leap_inserted")),
   modules.codec.then((module) => {
     const codec = new Codec(module);
     start_frame(codec);

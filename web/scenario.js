@@ -101,9 +101,14 @@ class ScenarioTab {
     this.set_text(example.text);
   }
 
+  run_example(name) { // on opening; what a link brings waits until Run is pressed
+    this.choose_example(name);
+    this.run();
+  }
+
   set_text(text) {
     this.editor.set(text);
-    this.tell_size();
+    this.tell_text();
     this.explain("");
     this.set_stale(this.has_run);
   }
@@ -111,9 +116,14 @@ class ScenarioTab {
   on_change() { // by the hand of the user
     part("example").value = "";
     part("look").replaceChildren();
-    this.tell_size();
+    this.tell_text();
     this.explain("");
     this.set_stale(this.has_run);
+  }
+
+  tell_text() {
+    this.tell_size();
+    show_plant(this.editor.line(0));
   }
 
   tell_size() {
@@ -363,6 +373,39 @@ class ScenarioTab {
     part("search-previous").addEventListener("click", () => this.go_to_found(-1));
     window.addEventListener("hashchange", () => this.take_link());
   }
+}
+
+// ---- the plant line, key by key, since it is long
+
+const LONGEST_PLANT = 20000; // letters; a longer line is not folded
+
+function show_plant(line) { // nothing of a line that is no object
+  part("plant").replaceChildren();
+  const plant = line.length <= LONGEST_PLANT ? object_of(line) : null;
+  part("plant").hidden = !plant;
+  for (const [key, value] of Object.entries(plant || {})) {
+    add(part("plant"), "dt", key);
+    const cell = add(part("plant"), "dd");
+    const items = Array.isArray(value) ? value : [value];
+    for (const item of items) add(cell, "span", said_of(item));
+    if (!items.length) add(cell, "span", "none");
+  }
+}
+
+function object_of(line) {
+  try {
+    const value = JSON.parse(line);
+    return value && typeof value === "object" && !Array.isArray(value) ? value : null;
+  } catch {
+    return null;
+  }
+}
+
+function said_of(value) { // as: name relay, lock_after 2
+  if (Array.isArray(value)) return value.length ? value.map(said_of).join("; ") : "none";
+  if (value === null || typeof value !== "object") return String(value);
+  const parts = Object.entries(value).map(([key, item]) => `${key} ${said_of(item)}`);
+  return parts.join(", ");
 }
 
 function meaning_of(verdict) { // of the last line of a log, with its number in it
