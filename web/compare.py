@@ -1,7 +1,7 @@
 #!/usr/bin/env python3
 """Compares the page with the program, `compare.py PAGE PROGRAM`: in node and in Chromium, status and bytes
 of each case and example, of 3,000 scenarios made at random, and frames that are made and read. How the page
-stands the readers is compared with tools/parts/log_lanes.py and tools/view."""
+stands the readers is compared with tools/parts/log_lanes.py and irig.scenarios."""
 from __future__ import annotations
 
 import base64
@@ -21,6 +21,7 @@ import browser  # noqa: E402
 from loading import ROOT, loaded  # noqa: E402
 from case_files import NOTHING, all_cases  # noqa: E402
 from parts.log_lanes import STATES, bars_of  # noqa: E402
+from irig.scenarios import made_edges  # noqa: E402
 
 BY_CHANCE, FRAMES = 3000, 400
 MOST_SECONDS = 5_000  # of a scenario made at random, so that all end soon
@@ -30,7 +31,6 @@ LETTERS = "01P?"
 FROM_INPUT = [], ["run", "-"]  # the words of a case that runs its input, without options
 
 FUZZ = loaded(ROOT / "tests/fuzz")
-VIEW = loaded(ROOT / "tools/view")
 
 
 # ---- what is asked, and what the program says of it
@@ -59,7 +59,7 @@ def lanes_of(text: str, log: str) -> dict:
     if not lines or not lines[0][0].isdigit():
         return {"lanes": [], "first": 1, "last": 1, "verdict": verdict}
     bars = bars_of(lines)
-    ticks = VIEW.ticks_of(text.split("\n"), [lane.reader for lane in bars.lanes])
+    ticks = made_edges(text.split("\n"), [lane.reader for lane in bars.lanes])
     lanes = [
         [
             lane.reader,
