@@ -52,9 +52,12 @@ class OfSeconds(unittest.TestCase):
     def test_what_is_out_of_range(self) -> None:
         # 256 and 258 in a byte are 0 and 2.
         for local in (32, -32, 256, -254):
-            with self.subTest(local), self.assertRaises(irig.Fault) as caught:
-                irig.frame(PLAIN, local)
-            self.assertEqual((caught.exception.number, caught.exception.name), (26, "Value"))
+            says = f"26 Value: local is {local}; -31 to 31 may stand here"
+            for call in (irig.frame, irig.coded):
+                with self.subTest(local), self.assertRaises(irig.Fault) as caught:
+                    call(PLAIN, local)
+                self.assertEqual((caught.exception.number, caught.exception.name), (26, "Value"))
+                self.assertEqual(str(caught.exception), says)
         for wrong in ({"parity": "none"}, {"sense": ""}, {"pending": "no"}):
             with self.subTest(wrong), self.assertRaises(irig.Fault):
                 irig.frame(PLAIN, **wrong)
@@ -138,7 +141,8 @@ class Bits(unittest.TestCase):
                 self.assertEqual(irig.Control.unpack(word), control)
         for wrong in (irig.Control(quality=16), irig.Control(offset_half_hours=-32)):
             self.assertRaises(irig.Fault, wrong.pack)
-        self.assertRaises(irig.Fault, irig.Control.unpack, 1 << 18)
+        self.assertRaisesRegex(irig.Fault, "quality is 16; 0 to 15 may", irig.Control(quality=16).pack)
+        self.assertRaisesRegex(irig.Fault, "word is 262144; 0 to 262143", irig.Control.unpack, 1 << 18)
         self.assertRaises(irig.Fault, irig.Control.unpack, 1 << 32)
 
     def test_parity(self) -> None:
@@ -155,7 +159,12 @@ class Bits(unittest.TestCase):
         self.assertRaises(irig.Fault, irig.with_parity, frame[:-1])
 
     def test_coded(self) -> None:
-        self.assertRaises(irig.Fault, irig.encode, irig.Coded(61, 0, 0, 1, 0))
+        for wrong, says in (
+            (irig.Coded(61, 0, 0, 1, 0), "second is 61; 0 to 60 may stand here"),
+            (irig.Coded(0, 0, 0, 0, 0), "day is 0; 1 to 366 may stand here"),
+            (irig.Coded(0, 0, 0, 1, 0, sbs=1 << 17), "sbs is 131072; 0 to 131071 may stand here"),
+        ):
+            self.assertRaisesRegex(irig.Fault, says, irig.encode, wrong)
         self.assertRaises(irig.Fault, irig.encode, irig.Coded(256, 0, 0, 1, 0))
         self.assertRaises(irig.Fault, irig.encode, irig.Coded(0, 0, 0, 65537, 0))
         coded = irig.coded(PLAIN, local=2)
@@ -166,7 +175,7 @@ class Bits(unittest.TestCase):
         self.assertEqual({width: irig.classify(width) for width in firsts}, firsts)
         lasts = {499: "?", 3499: "0", 6499: "1", 9499: "P", (1 << 32) - 1: "?"}
         self.assertEqual({width: irig.classify(width) for width in lasts}, lasts)
-        self.assertRaises(irig.Fault, irig.classify, (1 << 32) + 2000)
+        self.assertRaisesRegex(irig.Fault, "width_us is 4294969296; 0 to", irig.classify, (1 << 32) + 2000)
         self.assertEqual(irig.widths("P01"), [8000, 2000, 5000])
         self.assertEqual("".join(map(irig.classify, irig.widths("?P01"))), "?P01")
 

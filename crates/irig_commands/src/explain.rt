@@ -31,9 +31,12 @@ fn refusal_text(
         names: &refused.names,
         edges: refused.edges.as_slice(),
     };
-    let reason = why_refused(alloc, number, refused.line.as_slice(), &context)?;
+    let reason = why_refused(alloc, refused.refusal, refused.line.as_slice(), &context)?;
     let name = meaning_of(number).map_or("", |meaning| meaning.name);
-    format!(in alloc; "line {line}: {number} {name}: {reason}\nmore: irig explain {number}")
+    format!(in alloc;
+        "line {line}: {number} {name}: {}\nmore: irig explain {number}",
+        reason.text
+    )
 }
 
 /// Writes what helps with a fault to the standard error, behind its line. Without memory, or if
