@@ -143,6 +143,17 @@ Symbols = c_uint8 * 100
 Text = ctypes.c_char * 20
 
 
+def same(one: Any, other: Any) -> bool:
+    """Whether two structures, or arrays of them, have the same numbers; what lies between them in
+    memory says nothing."""
+    if isinstance(one, Structure):
+        names = [name for name, *_ in one._fields_]
+        return all(same(getattr(one, name), getattr(other, name)) for name in names)
+    if isinstance(one, ctypes.Array):
+        return len(one) == len(other) and all(map(same, one, other))
+    return bool(one == other)
+
+
 def _to(structure: Any) -> Any:
     return ctypes.POINTER(structure)
 
