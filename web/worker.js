@@ -9,6 +9,8 @@ const NO_LOG = 5, NO_MEMORY = 6; // statuses, as c/irig_scene.h has them
 const USUAL_LINE = " 2000-01-01T00:00:00Z locked voted\n".length + 1;
 const LONGEST_LINE = " 2000-01-01T00:00:00Z holdover:1000000 leap-guard\n".length + 1;
 const LAST_LINE = 200;
+// And those of a line of what ports told: with three that agree, and the longest of five.
+const USUAL_PORTS = "   ok ok ok\n".length, LONGEST_PORTS = "  \n".length + 5 * " fault:10:DeletedSecond".length;
 
 // ---- the scenario: which edges its lines make
 
@@ -47,42 +49,63 @@ function add_ticks(ticks, line, place) {
   }
 }
 
-// How many bytes the log has if each edge has a line of so many bytes beside edge and name.
-function bytes_of(ticks, line) {
+// How many bytes the log has if each edge has lines of so many bytes beside edge and name.
+function bytes_of(ticks, ...lines) {
   let bytes = LAST_LINE;
-  for (const [name, { ends }] of ticks) bytes += ends.last * (String(ends.last).length + name.length + line);
+  for (const [name, { ends }] of ticks) {
+    for (const line of lines) bytes += ends.last * (String(ends.last).length + name.length + line);
+  }
   return bytes;
 }
 
 // ---- the run
 
+const REASON_ROOM = 4096; // bytes: more than a reason has
+const REFUSAL = { LINE: 0, WHOLE: 8, NUMBER: 80, SIZE: 88 }; // where its parts stand, as c/irig_scene.h has them
+
+// Why a scenario is refused: the line, the number and the reason in words; null if it is not.
+function refusal_in(memory, place, reason) {
+  const view = new DataView(memory.buffer, place, REFUSAL.SIZE);
+  const [line, whole] = [REFUSAL.LINE, REFUSAL.WHOLE].map((at) => Number(view.getBigUint64(at, true)));
+  if (!line) return null;
+  const text = new TextDecoder().decode(new Uint8Array(memory.buffer, reason, Math.min(whole, REASON_ROOM)));
+  return { line, number: view.getUint8(REFUSAL.NUMBER), reason: text };
+}
+
 // Runs a scenario of these bytes in at most so many bytes of memory, with this room for the log; if that
 // is too little it runs once more, in a new memory. When a block of memory grows, it tells to how many bytes.
-function run_of(module, text, all, most, room, on_growth) {
+function run_of(module, text, shown, most, room, on_growth) {
   const memory = new WebAssembly.Memory({ initial: FIRST_PAGES, maximum: Math.floor(most / PAGE) });
   const grows = (bytes) => on_growth(Number(bytes));
   const calls = new WebAssembly.Instance(module, { env: { memory }, page: { grows } }).exports;
-  const ended = (status, log) => ({ status, log, memory: memory.buffer.byteLength });
+  const ended = (status, log, refusal = null) => ({ status, log, refusal, memory: memory.buffer.byteLength });
   const give = (bytes) => calls.heap_give(BigInt(bytes || 1));
-  const from = give(text.length), whole = give(8), log = give(room);
-  if (!from || !whole) return ended(NO_MEMORY, new Uint8Array(0));
+  const from = give(text.length), whole = give(8), reason = give(REASON_ROOM), refusal = give(REFUSAL.SIZE);
+  const log = give(room);
+  if (!from || !whole || !reason || !refusal) return ended(NO_MEMORY, new Uint8Array(0));
   if (!log) return ended(NO_LOG, new Uint8Array(0));
   new Uint8Array(memory.buffer).set(text, Number(from));
-  const status = calls.irig_scene_c_run(from, BigInt(text.length), all ? 1 : 0, log, BigInt(room), whole) & 255;
+  const status = calls.irig_scene_c_run_shown(
+    from, BigInt(text.length), Number(shown.all), Number(shown.ports), log, BigInt(room), whole,
+    reason, BigInt(REASON_ROOM), refusal,
+  ) & 255;
   const length = Number(new DataView(memory.buffer).getBigUint64(Number(whole), true));
-  if (length > room) return run_of(module, text, all, most, length, on_growth);
-  return ended(status, new Uint8Array(memory.buffer, Number(log), length).slice());
+  if (length > room) return run_of(module, text, shown, most, length, on_growth);
+  const why = refusal_in(memory, Number(refusal), Number(reason));
+  return ended(status, new Uint8Array(memory.buffer, Number(log), length).slice(), why);
 }
 
 // ---- the messages
 
 // What the page is given at the end, with how long the run took in milliseconds.
-function told_of({ module, text, all, most }, tell) {
+function told_of({ module, text, shown, most }, tell) {
   const ticks = ticks_of(new TextDecoder().decode(text).split("\n"));
-  const expected = bytes_of(ticks, USUAL_LINE);
+  const usual = [USUAL_LINE, ...shown.ports ? [USUAL_PORTS] : []];
+  const longest = [LONGEST_LINE, ...shown.ports ? [LONGEST_PORTS] : []];
+  const expected = bytes_of(ticks, ...usual);
   // The run's own copy of the log may take twice as much as the log itself.
   const most_room = Math.floor(most / 3) - SPARE;
-  const room = Math.min(Math.max(LEAST_ROOM, bytes_of(ticks, LONGEST_LINE)), most_room);
+  const room = Math.min(Math.max(LEAST_ROOM, bytes_of(ticks, ...longest)), most_room);
   const begun = performance.now();
   let largest = LEAST_ROOM;
   const on_growth = (bytes) => {
@@ -90,7 +113,7 @@ function told_of({ module, text, all, most }, tell) {
     largest = bytes;
     tell({ kind: "progress", spent: performance.now() - begun, written: bytes / 2, expected });
   };
-  const ended = run_of(module, text, all, most, room, on_growth);
+  const ended = run_of(module, text, shown, most, room, on_growth);
   const spent = performance.now() - begun, { length } = ended.log;
   tell({ kind: "progress", spent, written: length, expected: length, is_read: true });
   const result = { kind: "done", ...ended, spent, ...read_log(ended.log) };

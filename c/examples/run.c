@@ -1,4 +1,5 @@
-/* What `irig run FILE [--all]` prints, by the library: the log of a scenario, and its status. */
+/* What `irig run FILE [--all] [--ports]` prints, by the library: the log of a scenario, and its
+ * status; and why a line is refused. */
 #include "irig_scene.h"
 
 #include <stdio.h>
@@ -25,36 +26,66 @@ static uint8_t *bytes_of(const char *path, size_t *count) {
     return NULL;
 }
 
-/* Prints as much of a log as its room has, and answers the exit status. */
-static int print(uint8_t status, const uint8_t *log, size_t room, size_t whole) {
-    size_t size = whole < room ? whole : room;
-    if (status > IRIG_RUN_REFUSED) fputs("out of memory\n", stderr);
-    return fwrite(log, 1, size, stdout) < size || fflush(stdout) ? 5 : status;
+/* What is shown of a run. */
+typedef struct shown {
+    bool all, ports;
+} shown;
+
+/* A run: its log, and why it is refused. */
+typedef struct run {
+    uint8_t *log, reason[1024];
+    size_t room, whole;
+    irig_refusal refusal;
+    uint8_t status;
+} run;
+
+static void play(run *run, const uint8_t *text, size_t count, shown shown) {
+    run->status = irig_run_shown(text, count, shown.all, shown.ports, run->log, run->room,
+                                 &run->whole, run->reason, sizeof run->reason, &run->refusal);
+}
+
+/* Prints as much of the log as its room has, and answers the exit status. */
+static int print(const run *run) {
+    size_t size = run->whole < run->room ? run->whole : run->room;
+    if (run->status > IRIG_RUN_REFUSED) fputs("out of memory\n", stderr);
+    if (run->status == IRIG_RUN_REFUSED) {
+        const irig_refusal *why = &run->refusal;
+        int length = (int)(why->whole < sizeof run->reason ? why->whole : sizeof run->reason);
+        fprintf(stderr, "line %llu: %u: %.*s\n", (unsigned long long)why->line, why->number,
+                length, (const char *)run->reason);
+    }
+    return fwrite(run->log, 1, size, stdout) < size || fflush(stdout) ? 5 : run->status;
 }
 
 /* Little room at first, enough for the log of a short run; then as much as the log is long. */
-static int run(const uint8_t *text, size_t count, bool all) {
+static int run_file(const uint8_t *text, size_t count, shown shown) {
     uint8_t few[64];
-    size_t room = sizeof few, whole;
-    uint8_t status = irig_run(text, count, all, few, room, &whole);
-    if (status > IRIG_RUN_REFUSED || whole <= room) return print(status, few, room, whole);
+    run run = {.log = few, .room = sizeof few};
+    play(&run, text, count, shown);
+    if (run.status > IRIG_RUN_REFUSED || run.whole <= run.room) return print(&run);
 
-    room = whole;
-    uint8_t *log = malloc(room);
-    if (!log) return print(IRIG_RUN_NO_LOG, few, sizeof few, whole);
-    status = irig_run(text, count, all, log, room, &whole);
-    int answer = print(status, log, room, whole);
+    uint8_t *log = malloc(run.whole);
+    if (!log) return fputs("out of memory\n", stderr), IRIG_RUN_NO_LOG;
+    run.log = log;
+    run.room = run.whole;
+    play(&run, text, count, shown);
+    int answer = print(&run);
     free(log);
     return answer;
 }
 
 int main(int argc, char **argv) {
     size_t count;
-    bool all = argc == 3 && strcmp(argv[2], "--all") == 0;
-    if (argc != 2 && !all) return fputs("usage: run FILE [--all]\n", stderr), 2;
+    shown shown = {false, false};
+    for (int i = 2; i < argc; i++) {
+        if (strcmp(argv[i], "--all") == 0) shown.all = true;
+        if (strcmp(argv[i], "--ports") == 0) shown.ports = true;
+    }
+    if (argc < 2 || argc != 2 + shown.all + shown.ports)
+        return fputs("usage: run FILE [--all] [--ports]\n", stderr), 2;
     uint8_t *text = bytes_of(argv[1], &count);
     if (!text) return perror(argv[1]), 4;
-    int status = run(text, count, all);
+    int status = run_file(text, count, shown);
     free(text);
     return status;
 }

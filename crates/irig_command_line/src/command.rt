@@ -1,19 +1,26 @@
 //! The commands, and what words ask for by them.
 
 ghost use Rattle.std.specs.Prelude.{◌≡◌, ◌≢◌, ◌↔◌, ◌≤◌, IfOk, IfSome, Ok, Some, length, unsigned_abs};
+ghost use Rattle.irig_frame_text.specs.Frame.{IsFrameOptions};
 ghost use Rattle.irig_command_line.specs.Requests.{IsRequest};
 
 use crate::help::{
     ABOUT, AFTER, EXPLAIN_AFTER, FLATTEN_AFTER, FRAME_AFTER, READ_AFTER, RUN_AFTER, USAGE,
 };
-use crate::request::{NoRequest, Pending, Request};
+use crate::request::{NoRequest, Request};
 use crate::tip::fault_with_tip;
 use clap::builder::ValueParser;
 use clap::error::ErrorKind;
 use clap::{Arg, ArgAction, ArgMatches, Command, Error};
+use irig_control::Parity;
+use irig_frame_text::FrameOptions;
+use irig_time::{Leap, Rules, SbsUse, Sense};
 use std::alloc::{AllocError, Global};
 
 static PENDING: [&str; 2] = ["insert", "delete"];
+static PARITY: [&str; 2] = ["even", "odd"];
+static SENSE: [&str; 2] = ["add", "subtract"];
+static SBS: [&str; 2] = ["check", "ignore"];
 
 /// What the words ask for, of which the first is the program's name: without a second word it is
 /// `Request::Plain`, and else what a command names. `Help` where they ask for it, `Fault` where no
@@ -92,8 +99,20 @@ fn frame_of<'a>(matches: &ArgMatches<'a>) -> Request<'a>
 {
     Request::Frame {
         time: value(matches, "TIME"),
+        options: frame_options(matches),
+    }
+}
+
+fn frame_options(matches: &ArgMatches<'_>) -> FrameOptions
+    ensures { IsFrameOptions result }
+{
+    FrameOptions {
         local: local(matches),
         pending: pending(matches),
+        dst: matches.get_flag("dst"),
+        quality: quality(matches),
+        parity: parity(matches),
+        sense: sense(matches),
     }
 }
 
@@ -103,6 +122,11 @@ fn read_of<'a>(matches: &ArgMatches<'a>) -> Request<'a>
 {
     Request::Read {
         frame: value(matches, "FRAME"),
+        rules: Rules {
+            parity: parity(matches),
+            sense: sense(matches),
+            sbs: sbs(matches),
+        },
     }
 }
 
@@ -111,7 +135,7 @@ fn explain_of<'a>(matches: &ArgMatches<'a>) -> Request<'a>
     ensures in_range { IsRequest result }
 {
     Request::Explain {
-        number: number(matches),
+        word: value(matches, "WORD"),
     }
 }
 
@@ -140,17 +164,37 @@ fn local(matches: &ArgMatches<'_>) -> i8
 }
 
 // The same.
-fn number(matches: &ArgMatches<'_>) -> u8
-    ensures least { 1 ≤ result }
-    ensures most { result ≤ 34 }
+fn quality(matches: &ArgMatches<'_>) -> u8
+    ensures { result ≤ 15 }
 {
-    matches.get_one::<u8>("NUMBER").unwrap_or(1).clamp(1, 34)
+    matches.get_one::<u8>("quality").unwrap_or(0).min(15)
 }
 
-fn pending(matches: &ArgMatches<'_>) -> Option<Pending> {
+fn pending(matches: &ArgMatches<'_>) -> Option<Leap> {
     match matches.get_str("pending")? {
-        "insert" => Some(Pending::Insert),
-        _ => Some(Pending::Delete),
+        "insert" => Some(Leap::Insert),
+        _ => Some(Leap::Delete),
+    }
+}
+
+fn parity(matches: &ArgMatches<'_>) -> Parity {
+    match value(matches, "parity") {
+        "odd" => Parity::Odd,
+        _ => Parity::Even,
+    }
+}
+
+fn sense(matches: &ArgMatches<'_>) -> Sense {
+    match value(matches, "sense") {
+        "subtract" => Sense::Subtract,
+        _ => Sense::Add,
+    }
+}
+
+fn sbs(matches: &ArgMatches<'_>) -> SbsUse {
+    match value(matches, "sbs") {
+        "ignore" => SbsUse::Ignore,
+        _ => SbsUse::Check,
     }
 }
 
@@ -221,7 +265,11 @@ fn frame_command<'a>(alloc: Global) -> Result<Command<'a>, AllocError> {
     described(alloc, "frame", about, FRAME_AFTER)
         .arg(time_argument(alloc))?
         .arg(local_option(alloc))?
-        .arg(pending_option(alloc))
+        .arg(pending_option(alloc))?
+        .arg(dst_option(alloc))?
+        .arg(quality_option(alloc))?
+        .arg(parity_option(alloc))?
+        .arg(sense_option(alloc))
 }
 
 fn time_argument<'a>(alloc: Global) -> Arg<'a> {
@@ -251,9 +299,47 @@ fn pending_option<'a>(alloc: Global) -> Arg<'a> {
         .value_parser(PENDING.as_slice())
 }
 
+fn dst_option<'a>(alloc: Global) -> Arg<'a> {
+    Arg::new(alloc, "dst")
+        .long("dst")
+        .help("Daylight saving is in force")
+        .action(ArgAction::SetTrue)
+}
+
+fn quality_option<'a>(alloc: Global) -> Arg<'a> {
+    Arg::new(alloc, "quality")
+        .long("quality")
+        .value_name("QUALITY")
+        .help("The time quality, 0 for a locked clock to 15 for one that failed")
+        .value_parser(ValueParser::signed(0, 15))
+        .default_value("0")
+}
+
+fn parity_option<'a>(alloc: Global) -> Arg<'a> {
+    Arg::new(alloc, "parity")
+        .long("parity")
+        .value_name("PARITY")
+        .help("The parity of the frame")
+        .value_parser(PARITY.as_slice())
+        .default_value("even")
+}
+
+fn sense_option<'a>(alloc: Global) -> Arg<'a> {
+    Arg::new(alloc, "sense")
+        .long("sense")
+        .value_name("SENSE")
+        .help("What is done with the offset in the frame to get UTC of the coded time")
+        .value_parser(SENSE.as_slice())
+        .default_value("add")
+}
+
 fn read_command<'a>(alloc: Global) -> Result<Command<'a>, AllocError> {
     let about = "Prints what a frame says";
-    described(alloc, "read", about, READ_AFTER).arg(frame_argument(alloc))
+    described(alloc, "read", about, READ_AFTER)
+        .arg(frame_argument(alloc))?
+        .arg(parity_option(alloc))?
+        .arg(sense_option(alloc))?
+        .arg(sbs_option(alloc))
 }
 
 fn frame_argument<'a>(alloc: Global) -> Arg<'a> {
@@ -262,14 +348,24 @@ fn frame_argument<'a>(alloc: Global) -> Arg<'a> {
         .required(true)
 }
 
-fn explain_command<'a>(alloc: Global) -> Result<Command<'a>, AllocError> {
-    let about = "Prints what the number of a fault or of a refusal means";
-    described(alloc, "explain", about, EXPLAIN_AFTER).arg(number_argument(alloc))
+fn sbs_option<'a>(alloc: Global) -> Arg<'a> {
+    Arg::new(alloc, "sbs")
+        .long("sbs")
+        .value_name("SBS")
+        .help("Whether the straight binary seconds are compared with the coded time")
+        .value_parser(SBS.as_slice())
+        .default_value("check")
 }
 
-fn number_argument<'a>(alloc: Global) -> Arg<'a> {
-    Arg::new(alloc, "NUMBER")
-        .help("1 to 10, 17 and 18 for the faults of a frame, the others to 34 for refusals")
-        .value_parser(ValueParser::signed(1, 34))
+fn explain_command<'a>(alloc: Global) -> Result<Command<'a>, AllocError> {
+    let about = "Prints what a number, a name or a word of a log means";
+    described(alloc, "explain", about, EXPLAIN_AFTER).arg(word_argument(alloc))
+}
+
+fn word_argument<'a>(alloc: Global) -> Arg<'a> {
+    Arg::new(alloc, "WORD")
+        .help(
+            "The number, 1 to 34, or the name of a fault or of a refusal, or a word that a log shows",
+        )
         .required(true)
 }

@@ -62,8 +62,9 @@ Example:
 
 /// What follows the options of `frame`.
 pub const FRAME_AFTER: &str =
-    "A frame has 100 symbols, here in ten groups of ten: P a marker, 0 and 1. It has even parity, quality 0
-and the offset that is added to the coded time.
+    "A frame has 100 symbols, here in ten groups of ten: P a marker, 0 and 1. The offset that it carries is the one
+that gives UTC: minus HALF_HOURS if it is added to the coded time, HALF_HOURS if it is subtracted. Daylight saving
+is part of HALF_HOURS, and --dst sets its bit alone.
 
 Example:
   $ irig frame 2016-12-31T23:59:59Z --local=11 --pending=insert
@@ -71,8 +72,7 @@ Example:
 
 /// What follows the options of `read`.
 pub const READ_AFTER: &str =
-    "It prints the time that the frame codes, if it codes one, and what a port tells of it under even parity, where
-the offset is added and the straight binary seconds are checked:
+    "It prints the time that the frame codes, if it codes one, and what a port tells of it that reads frames so:
   coded YYYY-DDD HH:MM:SS control W sbs S   the time, the control word, the binary seconds
   claim TIME MARK                           the UTC second, and what is said of a leap second:
                                             unspoken, no-leap, insert or delete
@@ -87,7 +87,9 @@ Example:
 
 /// What follows the options of `explain`.
 pub const EXPLAIN_AFTER: &str =
-    "Faults of a frame are what `irig read` prints; refusals end a run. docs/FAULTS.md has them all.
+    "Faults of a frame are what `irig read` prints; refusals end a run. docs/FAULTS.md has them all, and docs/OUTPUT.md
+the words of a log: its causes, its locks, what a port told, and the premises of its last line. What stands behind
+the colon of acquiring:2, holdover:17, poor:11 or fault:3:Pulse:12 may stay there. Capitals are as small letters.
 
 Example:
   $ irig explain 27

@@ -1,5 +1,8 @@
 //! What the words of a command line ask for.
 
+use irig_frame_text::FrameOptions;
+use irig_time::Rules;
+
 /// What a command line asks for.
 #[derive(Clone, Copy)]
 pub enum Request<'a> {
@@ -29,26 +32,19 @@ pub enum Request<'a> {
     /// The frame of a UTC second.
     Frame {
         time: &'a str,
-        /// The half hours that the clock is ahead of UTC, -31 to 31.
-        local: i8,
-        /// The leap second that is pending.
-        pending: Option<Pending>,
+        /// What the frame says beside its time, each in its range.
+        options: FrameOptions,
     },
     /// What a frame says.
     Read {
         frame: &'a str,
+        /// How it is read.
+        rules: Rules,
     },
-    /// What the number of a fault or a refusal means, 1 to 34.
+    /// What a number, a name or a word of a log means.
     Explain {
-        number: u8,
+        word: &'a str,
     },
-}
-
-/// A leap second that is pending: a word of the command line, of which this crate knows no more.
-#[derive(Clone, Copy)]
-pub enum Pending {
-    Insert,
-    Delete,
 }
 
 /// What comes in place of a request.

@@ -13,20 +13,18 @@ pub(crate) fn fault_with_tip(
     match error.kind() {
         ErrorKind::UnknownArgument => unknown_argument(alloc, error, words),
         ErrorKind::InvalidSubcommand => unknown_command(alloc, error, words),
-        ErrorKind::ValueValidation if is_word(words, 1, "frame") => format!(in alloc;
-            "{error}\n  tip: half hours are whole, -31 to 31; 5 hours 30 minutes are 11"
-        ),
-        ErrorKind::ValueValidation if is_word(words, 1, "explain") => no_number(alloc, error),
+        ErrorKind::ValueValidation => bad_value(alloc, error),
         _ => format!(in alloc; "{error}"),
     }
 }
 
-// In place of what `clap` finds wrong with the word: which words would be right.
-fn no_number(alloc: Global, error: &Error) -> Result<String, AllocError> {
+fn bad_value(alloc: Global, error: &Error) -> Result<String, AllocError> {
     let text = format!(in alloc; "{error}")?;
-    let (fault, _) = text.as_str().rsplit_once(": ").unwrap_or(("error", ""));
+    if !text.as_str().contains("'--local <HALF_HOURS>'") {
+        return Ok(text);
+    }
     format!(in alloc;
-        "{fault}: a number from 1 to 34 may stand here\n\n  tip: of `refused: line 3: 25 Shape` the number is 25: irig explain 25\n  tip: docs/FAULTS.md has all numbers, docs/OUTPUT.md the words of a log\n\nFor more information, try '--help'."
+        "{text}\n  tip: half hours are whole, -31 to 31; 5 hours 30 minutes are 11"
     )
 }
 
@@ -49,6 +47,9 @@ fn tip_for(words: &[&str]) -> &'static str {
             "\n\n  tip: quotes hold the groups of a frame together: irig read 'P10.. 100.. ..'"
         }
         Some(&"frame") => "\n\n  tip: TIME is one word, as 2016-12-31T23:59:59Z",
+        Some(&"explain") => {
+            "\n\n  tip: one word stands here: irig explain 25, irig explain premises"
+        }
         Some(&"--all" | &"--ports") => {
             "\n\n  tip: options follow the command: irig run FILE --all; '-' is standard input: irig run - --all"
         }

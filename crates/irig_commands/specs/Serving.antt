@@ -1,12 +1,12 @@
 -- What is done for a request.
 -- Source: README.md, the commands; the exit statuses are those of Status.antt.
-use Rattle.std.specs.Prelude.{◌≡◌, ℕ, ◌≤◌, ◌↔◌, ◌⊎◌, Bool, false, true, List, Option, Some, None, Result, Ok, Err, IfSome, string_bytes, ℤ}
+use Rattle.std.specs.Prelude.{◌≡◌, ℕ, ◌≤◌, ◌↔◌, ◌⊎◌, Bool, false, true, List, Result, Ok, Err, IfSome, string_bytes}
 use Rattle.std.specs.Io.KnownBytes.{Appends, Keeps}
 use Rattle.std.specs.declared.io.Error.{Error}
 use Rattle.irig_device.specs.Lines.{Bytes}
 use Rattle.irig_device.specs.Watched.{AppendsPart}
-use Rattle.irig_time.specs.declared.leap.Leap.{Leap}
-use Rattle.irig_time.specs.declared.leap.Leap.TheVariants as leap
+use Rattle.irig_time.specs.declared.rules.Rules.{Rules}
+use Rattle.irig_frame_text.specs.declared.frame.FrameOptions.{FrameOptions}
 use Rattle.irig_frame_text.specs.Frame.{NamesNoSecond, ShowsFrameOf}
 use Rattle.irig_frame_text.specs.Letters.{ShowsNoSymbols}
 use Rattle.irig_frame_text.specs.Reading.{IsReadingOf}
@@ -18,8 +18,6 @@ use Rattle.irig_scene.specs.Run.{RanShown}
 use Rattle.irig_flatten.specs.Flattening.{HasTheLog, RanFlat}
 use Rattle.irig_command_line.specs.declared.request.Request.{Request}
 use Rattle.irig_command_line.specs.declared.request.Request.TheVariants.{Plain, Input, Run, FlattenInput, Flatten, Frame, Read, Explain}
-use Rattle.irig_command_line.specs.declared.request.Pending.{Pending}
-use Rattle.irig_command_line.specs.declared.request.Pending.TheVariants.{Insert, Delete}
 use Rattle.irig_command_line.specs.declared.request.NoRequest.{NoRequest}
 use Rattle.irig_command_line.specs.declared.request.NoRequest.TheVariants as none
 use Rattle.irig_commands.specs.declared.fault.Fault.{Fault}
@@ -73,23 +71,29 @@ FlattensFile remaining answer old new =
     ⊎ (((error : Error) × Refuses (fault.Open error) answer old new)
     ⊎ Refuses fault.Memory answer old new)
 
--- the frame of the second that the time names, if it names one
-abbrev pub ShowsFrame : List ℕ → ℤ → Option Leap → Answer → Bytes → Bytes → Type 0
-ShowsFrame time local pending answer old new =
-    ((text : List ℕ) × ShowsFrameOf time local pending text × Wrote text answer old new)
+-- the frame of the second that the time names, with the options, if it names one
+abbrev pub ShowsFrame : List ℕ → FrameOptions → Answer → Bytes → Bytes → Type 0
+ShowsFrame time options answer old new =
+    ((text : List ℕ) × ShowsFrameOf time options text × Wrote text answer old new)
     ⊎ (NamesNoSecond time × Refuses fault.BadTime answer old new)
 
--- what is said of the symbols that the text shows, if it shows some and there is memory
-abbrev pub ShowsReading : List ℕ → Answer → Bytes → Bytes → Type 0
-ShowsReading text answer old new =
-    ((lines : List ℕ) × IsReadingOf text lines × Wrote lines answer old new)
+-- what is said, by these rules, of the symbols that the text shows, if it shows some and there is
+-- memory
+abbrev pub ShowsReading : Rules → List ℕ → Answer → Bytes → Bytes → Type 0
+ShowsReading rules text answer old new =
+    ((lines : List ℕ) × IsReadingOf rules text lines × Wrote lines answer old new)
     ⊎ ((ShowsNoSymbols text × Refuses fault.BadFrameText answer old new)
     ⊎ Refuses fault.Memory answer old new)
 
--- what a number means, if there is memory
+-- a word is none that is explained, or there is no memory to explain it
+abbrev pub IsUnknownWord : Fault → Type 0
+IsUnknownWord f = ((text : String) × (f ≡ fault.CommandLine text)) ⊎ (f ≡ fault.Memory)
+
+-- a text, if the word is one that is explained and there is memory; which text is not said
 abbrev pub ShowsMeaning : Answer → Bytes → Bytes → Type 0
 ShowsMeaning answer old new =
-    ((text : List ℕ) × Wrote text answer old new) ⊎ Refuses fault.Memory answer old new
+    ((text : List ℕ) × Wrote text answer old new)
+    ⊎ ((f : Fault) × IsUnknownWord f × Refuses f answer old new)
 
 -- ---- all requests
 
@@ -104,15 +108,9 @@ reads_input (Input all ports) = true
 reads_input (Run file all ports) = false
 reads_input FlattenInput = true
 reads_input (Flatten file) = false
-reads_input (Frame time local pending) = false
-reads_input (Read frame) = false
-reads_input (Explain number) = false
-
--- the leap second that a word of the command line names, if one does
-abbrev pub leap_of : Option Pending → Option Leap
-leap_of None = None
-leap_of (Some Insert) = Some leap.Insert
-leap_of (Some Delete) = Some leap.Delete
+reads_input (Frame time options) = false
+reads_input (Read frame rules) = false
+reads_input (Explain word) = false
 
 -- the request was served; what is left of the input is said of a run of it alone
 abbrev pub Serves : {F : Type 0} → (F → Bytes) → Request → Answer → Bytes → Bytes → Bytes → Bytes
@@ -126,10 +124,11 @@ Serves remaining (Run file all ports) answer input left old new =
 Serves remaining FlattenInput answer input left old new = FlattensScene answer input old new
 Serves remaining (Flatten file) answer input left old new =
     FlattensFile remaining answer old new
-Serves remaining (Frame time local pending) answer input left old new =
-    ShowsFrame time.now local (leap_of pending) answer old new
-Serves remaining (Read frame) answer input left old new = ShowsReading frame.now answer old new
-Serves remaining (Explain number) answer input left old new = ShowsMeaning answer old new
+Serves remaining (Frame time options) answer input left old new =
+    ShowsFrame time.now options answer old new
+Serves remaining (Read frame rules) answer input left old new =
+    ShowsReading rules frame.now answer old new
+Serves remaining (Explain word) answer input left old new = ShowsMeaning answer old new
 
 -- the words ask for this, or for help, or for nothing that there is
 abbrev pub Answers : {F : Type 0} → (F → Bytes) → Result Request NoRequest → Answer → Bytes

@@ -1,21 +1,10 @@
-//! What the program says on the standard error beside the line of a fault, and of a number.
+//! What the program says on the standard error beside the line of a fault.
 
 use crate::fault::Fault;
 use irig_command_line::Request;
 use irig_explain::{PlantContext, meaning_of, why_no_frame, why_no_time, why_refused};
 use irig_scene::{RefusedLine, SceneFault};
 use std::alloc::{AllocError, Global};
-
-/// What a number means, in lines.
-pub(crate) fn explanation(alloc: Global, number: u8) -> Result<String, AllocError> {
-    match meaning_of(number) {
-        Some(meaning) => format!(in alloc;
-            "{number} {}\n{}\nfor example: {}\nwhat to do:  {}\n",
-            meaning.name, meaning.cause, meaning.example, meaning.cure
-        ),
-        None => Ok(String::new(alloc)),
-    }
-}
 
 /// Writes why a line is refused to the standard error. Without memory, or if it takes nothing,
 /// this is left out.
@@ -42,9 +31,12 @@ fn refusal_text(
         names: &refused.names,
         edges: refused.edges.as_slice(),
     };
-    let reason = why_refused(alloc, number, refused.line.as_slice(), &context)?;
+    let reason = why_refused(alloc, refused.refusal, refused.line.as_slice(), &context)?;
     let name = meaning_of(number).map_or("", |meaning| meaning.name);
-    format!(in alloc; "line {line}: {number} {name}: {reason}\nmore: irig explain {number}")
+    format!(in alloc;
+        "line {line}: {number} {name}: {}\nmore: irig explain {number}",
+        reason.text
+    )
 }
 
 /// Writes what helps with a fault to the standard error, behind its line. Without memory, or if
@@ -66,7 +58,7 @@ fn help_text(
 ) -> Result<Option<String>, AllocError> {
     let text = match (fault, request) {
         (Fault::BadTime, Some(Request::Frame { time, .. })) => why_no_time(alloc, time),
-        (Fault::BadFrameText, Some(Request::Read { frame })) => why_no_frame(alloc, frame),
+        (Fault::BadFrameText, Some(Request::Read { frame, .. })) => why_no_frame(alloc, frame),
         (Fault::Open(error), Some(Request::Run { file, .. } | Request::Flatten { file })) => {
             format!(in alloc; "{file}: {error}")
         }

@@ -1,13 +1,15 @@
 //! What a request asks for, done.
 
-ghost use Rattle.std.specs.Prelude.{◌≡◌, ◌≢◌, ◌↔◌, ◌⊎◌, ◌≤◌, Err, IfOk, false, true, unsigned_abs};
+ghost use Rattle.std.specs.Prelude.{◌≡◌, ◌≢◌, ◌↔◌, ◌⊎◌, Err, IfOk, false, true};
 ghost use Rattle.std.specs.Io.Buffered.{reader_remaining};
 ghost use Rattle.irig_command_line.specs.Requests.{IsRequest};
 ghost use Rattle.irig_device.specs.Watched.{device_of, has_failed};
+ghost use Rattle.irig_frame_text.specs.Frame.{IsFrameOptions};
 ghost use Rattle.irig_commands.specs.Serving.{
   AreOfFile,
   FlattensFile,
   FlattensScene,
+  IsUnknownWord,
   RunsFile,
   RunsScene,
   Serves,
@@ -15,18 +17,18 @@ ghost use Rattle.irig_commands.specs.Serving.{
   ShowsMeaning,
   ShowsReading,
   Wrote,
-  leap_of,
   reads_input,
 };
 
-use crate::explain::{explanation, tell_refusal};
+use crate::explain::tell_refusal;
 use crate::fault::Fault;
-use irig_command_line::{Pending, Request};
+use irig_command_line::Request;
 use irig_device::Watched;
+use irig_explain::{explanation, why_no_word};
 use irig_flatten::flatten;
-use irig_frame_text::{frame_lines, frame_text};
+use irig_frame_text::{FrameOptions, frame_lines, frame_text};
 use irig_scene::{Shown, run_scene_shown};
-use irig_time::Leap;
+use irig_time::Rules;
 use std::alloc::Global;
 use std::io::{BufRead, BufReader, Write};
 use std::rt::Files;
@@ -38,11 +40,12 @@ const NOTHING_MORE: Shown = Shown {
     ports: false,
 };
 
-/// Does what is asked for: runs a scenario or writes it out as what its readers hear, writes a frame or what a frame says, or explains a
-/// number. Neither device may have failed before.
+/// Does what is asked for: runs a scenario or writes it out as what its readers hear, writes a frame
+/// or what a frame says, or explains a word. Neither device may have failed before.
 ///
 /// `BadTime` if TIME is the text of no second, `BadFrameText` if FRAME has a letter of no
-/// symbol, and then nothing is written; `Refused` if a line of the scenario is refused, which the
+/// symbol, `CommandLine` if WORD is none that is explained, and then nothing is written; `Refused`
+/// if a line of the scenario is refused, which the
 /// standard error then explains; `Open` if FILE can't be opened, `Read` if the scenario can't
 /// be read to its end, `Write` if the output fails; `Memory` if there was none.
 pub fn serve<'a, R: Files + Eprint + AllocGlobal, I: BufRead, O: Write>(
@@ -70,23 +73,9 @@ pub fn serve<'a, R: Files + Eprint + AllocGlobal, I: BufRead, O: Write>(
         Request::Run { file, all, ports } => run_file(rt, file, Shown { all, ports }, output),
         Request::FlattenInput => flatten_input(rt, input, output),
         Request::Flatten { file } => flatten_file(rt, file, output),
-        Request::Frame {
-            time,
-            local,
-            pending,
-        } => show_frame(time, local, leap_of(pending), output),
-        Request::Read { frame } => show_reading(rt.alloc(), frame, output),
-        Request::Explain { number } => show_meaning(rt.alloc(), number, output),
-    }
-}
-
-fn leap_of(pending: Option<Pending>) -> Option<Leap>
-    ensures { result ≡ leap_of pending }
-{
-    match pending {
-        None => None,
-        Some(Pending::Insert) => Some(Leap::Insert),
-        Some(Pending::Delete) => Some(Leap::Delete),
+        Request::Frame { time, options } => show_frame(time, &options, output),
+        Request::Read { frame, rules } => show_reading(rt.alloc(), frame, rules, output),
+        Request::Explain { word } => show_meaning(rt.alloc(), word, output),
     }
 }
 
@@ -187,39 +176,43 @@ fn open<R: Files + AllocGlobal>(rt: &R, path: &str) -> io::Result<Watched<BufRea
 
 fn show_frame<O: Write>(
     time: &str,
-    local: i8,
-    pending: Option<Leap>,
+    options: &FrameOptions,
     output: &mut Watched<O>,
 ) -> Result<(), Fault>
-    requires in_range { unsigned_abs local ≤ 31 }
+    requires in_range { IsFrameOptions options.now }
     requires whole { has_failed output.old ≡ false }
-    ensures shown { ShowsFrame time.now local pending result
+    ensures shown { ShowsFrame time.now options.now result
         (O.contents (device_of output.old)) (O.contents (device_of output.new)) }
     ensures write { (result ≡ Err Fault.Write) ↔ (has_failed output.new ≡ true) }
     ensures unwritten { result ≡ Err Fault.BadTime → output.new ≡ output.old }
     ensures other { result ≢ Err Fault.BadFrameText }
 {
-    match frame_text(time, local, pending) {
+    match frame_text(time, options) {
         Ok(text) => write(output, &text),
         Err(fault) => Err(Fault::from(fault)),
     }
 }
 
-fn show_reading<O: Write>(alloc: Global, frame: &str, output: &mut Watched<O>) -> Result<(), Fault>
+fn show_reading<O: Write>(
+    alloc: Global,
+    frame: &str,
+    rules: Rules,
+    output: &mut Watched<O>,
+) -> Result<(), Fault>
     requires { has_failed output.old ≡ false }
-    ensures shown { ShowsReading frame.now result
+    ensures shown { ShowsReading rules frame.now result
         (O.contents (device_of output.old)) (O.contents (device_of output.new)) }
     ensures write { (result ≡ Err Fault.Write) ↔ (has_failed output.new ≡ true) }
     ensures unwritten { result ≡ Err Fault.BadFrameText → output.new ≡ output.old }
     ensures other { result ≢ Err Fault.BadTime }
 {
-    match frame_lines(alloc, frame) {
+    match frame_lines(alloc, frame, rules) {
         Ok(lines) => write(output, lines.as_str().as_bytes()),
         Err(fault) => Err(Fault::from(fault)),
     }
 }
 
-fn show_meaning<O: Write>(alloc: Global, number: u8, output: &mut Watched<O>) -> Result<(), Fault>
+fn show_meaning<O: Write>(alloc: Global, word: &str, output: &mut Watched<O>) -> Result<(), Fault>
     requires { has_failed output.old ≡ false }
     ensures shown { ShowsMeaning result
         (O.contents (device_of output.old)) (O.contents (device_of output.new)) }
@@ -227,9 +220,19 @@ fn show_meaning<O: Write>(alloc: Global, number: u8, output: &mut Watched<O>) ->
     ensures time { result ≢ Err Fault.BadTime }
     ensures frame { result ≢ Err Fault.BadFrameText }
 {
-    match explanation(alloc, number) {
-        Ok(text) => write(output, text.as_str().as_bytes()),
+    match explanation(alloc, word) {
+        Ok(Some(text)) => write(output, text.as_str().as_bytes()),
+        Ok(None) => Err(unknown_word(alloc, word)),
         Err(_) => Err(Fault::Memory),
+    }
+}
+
+fn unknown_word(alloc: Global, word: &str) -> Fault
+    ensures { IsUnknownWord result }
+{
+    match why_no_word(alloc, word) {
+        Ok(text) => Fault::CommandLine(text),
+        Err(_) => Fault::Memory,
     }
 }
 

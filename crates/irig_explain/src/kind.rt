@@ -1,11 +1,79 @@
-//! What may stand at a key, in words.
+//! What may stand at a place, in words.
 
-use crate::reason::Reason;
-use irig_forms::{Kind, Text};
+use crate::draft::Draft;
+use crate::misfit::Expected;
+use irig_forms::{Key, Kind, Text};
+use irig_values::LOCAL;
 
-impl Reason {
-    /// What may stand at a key of this kind.
-    pub(crate) fn kind(&mut self, kind: Kind) {
+static START_RULE: &str =
+    ": 23:59:60 needs an \"insert\" of that day, and a \"delete\" takes 23:59:59 away";
+
+impl Draft {
+    /// What may stand there, behind what stands there.
+    pub(crate) fn expected(&mut self, expected: Expected<'_>) {
+        if let Expected::Nothing = expected {
+            return;
+        }
+        self.push("; ");
+        let start = self.mark();
+        self.one_of(expected);
+        self.parts.allowed = self.since(start);
+        self.push(if has_comma(expected) {
+            ", may stand here"
+        } else {
+            " may stand here"
+        });
+        if let Expected::Start = expected {
+            self.push(START_RULE);
+        }
+    }
+
+    fn one_of(&mut self, expected: Expected<'_>) {
+        match expected {
+            Expected::Object => self.push("an object"),
+            Expected::Keys(keys) => self.keys(keys),
+            Expected::Words(words) => self.words(words),
+            Expected::Names(names) => {
+                for (at, name) in names.iter().enumerate() {
+                    self.next_word(at == 0, name.as_str());
+                }
+            }
+            Expected::Typed(key) => {
+                if is_number(key.kind) {
+                    self.push("a whole number, ");
+                }
+                self.of_key(key);
+            }
+            Expected::Ranged(key) => self.of_key(key),
+            Expected::Range(least, most) => self.range(least, most),
+            Expected::Start => self.push("a second that \"leaps\" gives its day"),
+            Expected::Text(text) | Expected::Clause(text) => self.push(text),
+            Expected::Nothing => {}
+        }
+    }
+
+    fn keys(&mut self, keys: &[Key]) {
+        for (at, key) in keys.iter().enumerate() {
+            self.next_word(at == 0, key.name);
+        }
+    }
+
+    fn words(&mut self, words: &[&str]) {
+        for (at, word) in words.iter().enumerate() {
+            self.next_word(at == 0, word);
+        }
+    }
+
+    // Of an offset what a generator takes, and not what a line can have.
+    fn of_key(&mut self, key: Key) {
+        if key.name == LOCAL.name {
+            self.push("-31 to 31 half hours");
+        } else {
+            self.kind(key.kind);
+        }
+    }
+
+    fn kind(&mut self, kind: Kind) {
         match kind {
             Kind::Natural(least, most) => self.range(i128::from(least), i128::from(most)),
             Kind::Integer(least, most) => self.range(i128::from(least), i128::from(most)),
@@ -14,7 +82,6 @@ impl Reason {
                 self.at_most(count);
                 self.push(" whole numbers, each ");
                 self.range(0, i128::from(most));
-                self.push(",");
             }
             Kind::Text(text) => self.push(words_of(text)),
             Kind::Whole => self.push("a whole number"),
@@ -28,17 +95,27 @@ impl Reason {
         self.push("a list of at most ");
         self.number(count as i128);
     }
+}
 
-    /// The same if a value of another type stands there, or none.
-    pub(crate) fn kind_and_type(&mut self, kind: Kind) {
-        if matches!(kind, Kind::Natural(..) | Kind::Integer(..)) {
-            self.push("a whole number, ");
-            self.kind(kind);
-            self.push(",");
-        } else {
-            self.kind(kind);
-        }
+fn is_number(kind: Kind) -> bool {
+    matches!(kind, Kind::Natural(..) | Kind::Integer(..))
+}
+
+// Whether the words for it have a comma, so that one stands behind them too.
+fn has_comma(expected: Expected<'_>) -> bool {
+    match expected {
+        Expected::Clause(_) => true,
+        Expected::Typed(key) => is_number(key.kind) || has_clause(key.kind),
+        Expected::Ranged(key) => has_clause(key.kind),
+        _ => false,
     }
+}
+
+fn has_clause(kind: Kind) -> bool {
+    matches!(
+        kind,
+        Kind::Naturals(..) | Kind::Text(Text::Second | Text::Day)
+    )
 }
 
 fn words_of(text: Text) -> &'static str {
@@ -47,9 +124,9 @@ fn words_of(text: Text) -> &'static str {
         Text::Reader => "the name of a reader",
         Text::Name => "1 to 16 of a to z, 0 to 9, _ and -",
         Text::Second => {
-            "a UTC second, as \"2016-12-31T23:59:50Z\", from 2000-01-02 to 2099-12-30,"
+            "a UTC second, as \"2016-12-31T23:59:50Z\", from 2000-01-02 to 2099-12-30"
         }
-        Text::Day => "a day, as \"2016-12-31\", from 2000-01-01 to 2099-12-31,",
+        Text::Day => "a day, as \"2016-12-31\", from 2000-01-02 to 2099-12-30",
         Text::Parity => "\"even\" or \"odd\"",
         Text::Sense => "\"add\" or \"subtract\"",
         Text::SbsUse => "\"check\" or \"ignore\"",

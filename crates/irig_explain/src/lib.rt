@@ -2,16 +2,23 @@
 //! stands there and what may stand there, by the tables by which the line was read.
 #![tactic(auto)]
 
+mod draft;
 mod event;
+mod json;
 mod kind;
+mod misfit;
+mod objects;
+mod plan;
 mod plant;
-mod reason;
 mod refused;
 mod shape;
 mod start;
 mod value;
+mod word;
 mod words;
 
+pub use draft::{Parts, Reason, Span};
 pub use irig_faults::{Meaning, meaning_of};
 pub use refused::{PlantContext, why_refused};
+pub use word::{explanation, why_no_word};
 pub use words::{why_no_frame, why_no_time};

@@ -1,10 +1,11 @@
 //! Why a line is refused.
 
+use crate::draft::{Draft, Reason};
 use crate::event::find_in_event;
+use crate::json::push_no_json;
 use crate::plant::find_in_plant;
-use crate::reason::Reason;
 use indexmap::IndexSet;
-use irig_faults::meaning_of;
+use irig_faults::{Refusal, meaning_of};
 use serde_json::Value;
 use std::alloc::{AllocError, Global};
 
@@ -17,50 +18,56 @@ pub struct PlantContext<'a> {
     pub edges: &'a [u64],
 }
 
-/// Why a line of a scenario, without its newline, is refused with this number, in one line: the
-/// place, what stands there, and what may stand there. Fails only if there is no memory.
+/// Why a line of a scenario, without its newline, is refused so, in one line: the place, what
+/// stands there, and what may stand there. Fails only if there is no memory.
 pub fn why_refused(
     alloc: Global,
-    number: u8,
+    refusal: Refusal,
     line: &[u8],
     context: &PlantContext<'_>,
-) -> Result<String, AllocError> {
-    let mut reason = Reason::new(alloc);
-    if !matches!(number, 22 | 23 | 29 | 30) {
-        find(&mut reason, alloc, number, line, context);
-    }
-    if reason.is_empty()
-        && let Some(meaning) = meaning_of(number)
-    {
-        reason.push(meaning.cause);
-    }
-    reason.end()
-}
-
-fn find(reason: &mut Reason, alloc: Global, number: u8, line: &[u8], context: &PlantContext<'_>) {
-    match Value::from_slice(alloc, line) {
-        Ok(value) if context.names.is_empty() => find_in_plant(reason, number, &value),
-        Ok(value) => find_in_event(reason, number, &value, context),
-        Err(error) if error.is_memory() => reason.run_short(),
-        Err(error) if error.is_eof() => {
-            reason.push("byte ");
-            reason.number(line.len() as i128);
-            reason.push(
-                ": the line ends here, before its value does; each value stands on one line",
-            );
+) -> Result<Reason, AllocError> {
+    let mut draft = Draft::new(alloc);
+    match refusal {
+        Refusal::EndOfYears | Refusal::TooLong | Refusal::NoPlant | Refusal::TooManyLines => {
+            push_cause(&mut draft, refusal);
         }
-        Err(error) => find_byte(reason, error.column(), line),
+        _ => push_place(&mut draft, alloc, refusal, line, context),
+    }
+    draft.end()
+}
+
+// What the refusal means wherever it stands.
+fn push_cause(draft: &mut Draft, refusal: Refusal) {
+    if let Some(meaning) = meaning_of(refusal.number()) {
+        draft.push(meaning.cause);
     }
 }
 
-// The place, counted from 1, at which a line stops being JSON.
-fn find_byte(reason: &mut Reason, place: usize, line: &[u8]) {
-    reason.push("byte ");
-    reason.number(place as i128);
-    reason.push(": ");
-    match line.get(place.saturating_sub(1)) {
-        Some(byte) => reason.byte(*byte),
-        None => reason.push("the end"),
+fn push_place(
+    draft: &mut Draft,
+    alloc: Global,
+    refusal: Refusal,
+    line: &[u8],
+    context: &PlantContext<'_>,
+) {
+    let value = match Value::from_slice(alloc, line) {
+        Ok(value) => value,
+        Err(error) if error.is_memory() => return draft.run_short(),
+        Err(error) => return push_no_json(draft, &error, line),
+    };
+    let found = if context.names.is_empty() {
+        find_in_plant(alloc, refusal, &value)
+    } else {
+        // Made anew, to live no longer than the value.
+        let context = PlantContext {
+            names: context.names,
+            edges: context.edges,
+        };
+        Ok(find_in_event(refusal, &value, &context))
+    };
+    match found {
+        Ok(Some(misfit)) => draft.misfit(&misfit),
+        Ok(None) => push_cause(draft, refusal),
+        Err(AllocError) => draft.run_short(),
     }
-    reason.push(" cannot stand here; a line is one JSON value in UTF-8, at most 127 deep");
 }

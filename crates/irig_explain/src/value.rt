@@ -1,68 +1,56 @@
 //! Where a value is of the right type, and outside its range or none of its words.
 
-use crate::reason::{JsonPath, Reason};
+use crate::misfit::{Expected, Found, JsonPath, Misfit, Note};
 use crate::words::{reason_of_day, reason_of_time};
 use irig_forms::{Key, Kind, Text, leap_named, parity_of, sbs_use_of, sense_of, whole_of};
 use irig_time::{read_day, read_text};
 use serde_json::Value;
 
-/// Says which value of an object is outside the range of its key, if one is.
-pub(crate) fn find_in_values(reason: &mut Reason, place: JsonPath, keys: &[Key], value: &Value) {
+/// Which value of an object is outside the range of its key, if one is.
+pub(crate) fn find_in_values<'a>(
+    place: JsonPath,
+    keys: &[Key],
+    value: &'a Value,
+) -> Option<Misfit<'a>> {
     for key in keys {
         if let Some(item) = value.get(key.name)
             && !is_in_range(key.kind, item)
         {
-            find_in_range(reason, place, *key, item);
-            return;
+            return Some(misfit_at(place, *key, item));
         }
+    }
+    None
+}
+
+fn misfit_at(place: JsonPath, key: Key, item: &Value) -> Misfit<'_> {
+    if let Kind::Naturals(count, most) = key.kind
+        && has_at_most(count, item)
+        && let Some((at, natural)) = first_outside(most, item)
+    {
+        let found = Found::InList(key.name, at, natural);
+        return Misfit::new(place, found, Expected::Range(0, i128::from(most)));
+    }
+    let found = Found::AtKey(key.name, item);
+    Misfit::new(place, found, Expected::Ranged(key)).with(why_no_date(key.kind, item))
+}
+
+fn why_no_date(kind: Kind, item: &Value) -> Note {
+    let text = item.as_str().unwrap_or("");
+    match kind {
+        Kind::Text(Text::Second) => Note::Why(reason_of_time(text)),
+        Kind::Text(Text::Day) => Note::Why(reason_of_day(text)),
+        _ => Note::Nothing,
     }
 }
 
-fn find_in_range(reason: &mut Reason, place: JsonPath, key: Key, item: &Value) {
-    match key.kind {
-        Kind::Naturals(count, most) if has_at_most(count, item) => {
-            find_in_items(reason, key.name, most, item);
-        }
-        kind => {
-            reason.push_found(place, key.name, item);
-            reason.kind(kind);
-            reason.push_expected();
-            say_why_no_date(reason, kind, item.as_str().unwrap_or(""));
-        }
-    }
-}
-
-fn say_why_no_date(reason: &mut Reason, kind: Kind, text: &str) {
-    let why = match kind {
-        Kind::Text(Text::Second) => reason_of_time(text),
-        Kind::Text(Text::Day) => reason_of_day(text),
-        _ => return,
-    };
-    reason.push(": ");
-    reason.push(why);
-}
-
-fn find_in_items(reason: &mut Reason, name: &str, most: u32, list: &Value) {
-    let Some(items) = list.as_array() else {
-        return;
-    };
-    for (at, item) in items.as_slice().iter().enumerate() {
+// The first item of a list that is no number from 0 to `most`, and its place.
+fn first_outside(most: u32, list: &Value) -> Option<(usize, &Value)> {
+    for (at, item) in list.as_array()?.as_slice().iter().enumerate() {
         if !is_within(0, i128::from(most), item) {
-            find_in_item(reason, name, at, item);
-            reason.range(0, i128::from(most));
-            reason.push_expected();
-            return;
+            return Some((at, item));
         }
     }
-}
-
-fn find_in_item(reason: &mut Reason, name: &str, at: usize, item: &Value) {
-    reason.word(name);
-    reason.push("[");
-    reason.number(at as i128);
-    reason.push("] is ");
-    reason.value(item);
-    reason.push("; ");
+    None
 }
 
 fn is_within(least: i128, most: i128, item: &Value) -> bool {
@@ -79,24 +67,14 @@ fn has_at_most(count: usize, item: &Value) -> bool {
     }
 }
 
-fn are_within(most: u32, list: &Value) -> bool {
-    let Some(items) = list.as_array() else {
-        return false;
-    };
-    for item in items.as_slice() {
-        if !is_within(0, i128::from(most), item) {
-            return false;
-        }
-    }
-    true
-}
-
 fn is_in_range(kind: Kind, item: &Value) -> bool {
     match kind {
         Kind::Natural(least, most) => is_within(i128::from(least), i128::from(most), item),
         Kind::Integer(least, most) => is_within(i128::from(least), i128::from(most), item),
         Kind::Few(count) => has_at_most(count, item),
-        Kind::Naturals(count, most) => has_at_most(count, item) && are_within(most, item),
+        Kind::Naturals(count, most) => {
+            has_at_most(count, item) && first_outside(most, item).is_none()
+        }
         Kind::Text(form) => match item.as_str() {
             Some(text) => has_text_form(form, text),
             None => true,

@@ -1,22 +1,23 @@
 //! What is wrong with the TIME or the FRAME of a command line.
 
-use crate::reason::Reason;
+use crate::draft::{Draft, Reason};
 use irig_time::{FIRST_DAY, LAST_DAY, month_end, read_day};
 use std::alloc::{AllocError, Global};
 
 /// Why a text names no UTC second of those that are served, in one line. Fails for lack of memory
 /// alone.
 pub fn why_no_time(alloc: Global, text: &str) -> Result<String, AllocError> {
-    let mut reason = Reason::new(alloc);
-    reason.quoted(text);
+    let mut draft = Draft::new(alloc);
+    draft.quoted(text);
     match TimeText::of(text.as_bytes()) {
         Some(time) => {
-            reason.push(": ");
-            reason.push(time.reason());
+            draft.push(": ");
+            draft.push(time.reason());
         }
-        None => reason.push(" is not of the form YYYY-MM-DDTHH:MM:SSZ, as 2016-12-31T23:59:59Z"),
+        None => draft.push(" is not of the form YYYY-MM-DDTHH:MM:SSZ, as 2016-12-31T23:59:59Z"),
     }
-    reason.end()
+    let Reason { text, .. } = draft.end()?;
+    Ok(text)
 }
 
 /// Why a text is none of the seconds served.
@@ -31,7 +32,7 @@ pub(crate) fn reason_of_time(text: &str) -> &'static str {
 pub(crate) fn reason_of_day(text: &str) -> &'static str {
     let form = FORM.get(..10).unwrap_or(FORM);
     if text.len() == 10 && has_form(text.as_bytes(), form) {
-        "there is no such day"
+        "there is no such day in these years"
     } else {
         "its form is another"
     }
@@ -110,19 +111,20 @@ fn two_digits(text: &[u8], place: usize) -> Option<u8> {
 /// Which character of a text is no symbol of a frame, and at which place, in one line. Fails
 /// only if there is no memory.
 pub fn why_no_frame(alloc: Global, text: &str) -> Result<String, AllocError> {
-    let mut reason = Reason::new(alloc);
+    let mut draft = Draft::new(alloc);
     for (place, letter) in text.chars().enumerate() {
         if !is_letter(letter) {
-            reason.push("character ");
-            reason.number(place.saturating_add(1) as i128);
-            reason.push(" is ");
-            reason.letter(letter);
-            reason.push("; ");
+            draft.push("character ");
+            draft.number(place.saturating_add(1) as i128);
+            draft.push(" is ");
+            draft.letter(letter);
+            draft.push("; ");
             break;
         }
     }
-    reason.push("P, 0, 1, ? and blanks may stand there");
-    reason.end()
+    draft.push("P, 0, 1, ? and blanks may stand there");
+    let Reason { text, .. } = draft.end()?;
+    Ok(text)
 }
 
 fn is_letter(letter: char) -> bool {

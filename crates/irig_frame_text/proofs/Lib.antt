@@ -1,3 +1,4 @@
+pub mod ReadBack
 pub mod ReadLetters
 pub mod ReadingLaws
 pub mod StandardFacts

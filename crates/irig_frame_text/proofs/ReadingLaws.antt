@@ -6,7 +6,7 @@ use Rattle.std.proofs.lemmas.Bool.{cases_lt, le-ltb, lt-ltb}
 use Rattle.std.proofs.lemmas.List.{length-take-le, take_all}
 use Rattle.irig_frame.specs.declared.symbol.Symbol.{Symbol}
 use Rattle.irig_frame.specs.Faults.{decode_result}
-use Rattle.irig_time.specs.declared.rules.TheConstants.Rules.{PLAIN}
+use Rattle.irig_time.specs.declared.rules.Rules.{Rules}
 use Rattle.irig_frame.specs.declared.fault.FrameFault.TheVariants.{Long}
 use Rattle.irig_port.specs.declared.told.PortFault.TheVariants as fault
 use Rattle.irig_port.specs.declared.told.Told.TheVariants.{Fault}
@@ -27,14 +27,14 @@ pub three_digits : (n : ℕ) → styled_decimal (format_spec 32 0 4 3 (2 ^ 64 - 
 three_digits n = zeros_in_front 3 n
 
 -- the faults of the length come first, and 101 symbols are too many already
-too_many : (s : List Symbol) → 100 < length s → reading_text s ≡ told_line (Fault (fault.Frame Long))
+too_many : (rules : Rules) (s : List Symbol) → 100 < length s → reading_text rules s ≡ told_line (Fault (fault.Frame Long))
 unfolding decode_result
-too_many s long =
+too_many rules s long =
     let decoded : decode_result s ≡ Err Long = rw (le-ltb (length s) 100 (omega arith), lt-ltb 100 (length s) long) refl in
-    rw (decoded, long_told PLAIN s long) refl
+    rw (decoded, long_told rules s long) refl
 
-pub cut_reading : (symbols : List Symbol) → reading_text (take 101 symbols) ≡ reading_text symbols
-cut_reading s = elim (cases_lt 101 (length s)) [
-  | inl more ↦ too_many (take 101 s) (omega (arith, length-take-le 101 s (omega arith))) ∙ sym (too_many s (omega arith))
-  | inr few ↦ ap reading_text (take_all 101 s (omega arith))
+pub cut_reading : (rules : Rules) (symbols : List Symbol) → reading_text rules (take 101 symbols) ≡ reading_text rules symbols
+cut_reading rules s = elim (cases_lt 101 (length s)) [
+  | inl more ↦ too_many rules (take 101 s) (omega (arith, length-take-le 101 s (omega arith))) ∙ sym (too_many rules s (omega arith))
+  | inr few ↦ ap (reading_text rules) (take_all 101 s (omega arith))
 ]

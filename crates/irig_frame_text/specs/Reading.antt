@@ -6,7 +6,7 @@ use Rattle.irig_frame.specs.declared.symbol.Symbol.{Symbol}
 use Rattle.irig_frame.specs.declared.coded.Coded.{Coded}
 use Rattle.irig_frame.specs.declared.fault.FrameFault.{FrameFault}
 use Rattle.irig_frame.specs.Faults.{decode_result}
-use Rattle.irig_time.specs.declared.rules.TheConstants.Rules.{PLAIN}
+use Rattle.irig_time.specs.declared.rules.Rules.{Rules}
 use Rattle.irig_time.specs.TextValues.{second_text}
 use Rattle.irig_port.specs.declared.told.Told.{Told}
 use Rattle.irig_port.specs.declared.told.Told.TheVariants.{Silence, Fault, Poor, Claim}
@@ -52,14 +52,13 @@ told_line (Claim claim) =
 
 -- ---- both
 
--- all that is printed of some symbols: even parity, the offset added, the straight binary seconds
--- compared
-abbrev pub reading_text : List Symbol → List ℕ
-reading_text symbols =
-    decoded_text (decode_result symbols) ++ told_line (told_of PLAIN symbols)
+-- all that is printed of some symbols, of which a port of these rules tells the last line
+abbrev pub reading_text : Rules → List Symbol → List ℕ
+reading_text rules symbols =
+    decoded_text (decode_result symbols) ++ told_line (told_of rules symbols)
 
--- the lines are what is printed of the symbols that the text shows
-pub record IsReadingOf (text lines : List ℕ) : Type 0 where
+-- the lines are what is printed, by these rules, of the symbols that the text shows
+pub record IsReadingOf (rules : Rules) (text lines : List ℕ) : Type 0 where
   pub symbols : List Symbol
   pub shown : Shows text symbols
-  pub said : lines ≡ reading_text symbols
+  pub said : lines ≡ reading_text rules symbols

@@ -2,46 +2,89 @@
 
 ghost use Rattle.std.specs.Prelude.{◌≡◌, ◌≤◌, IfOk, OnErr, unsigned_abs};
 ghost use Rattle.irig_control.specs.Control.{IsControl};
-ghost use Rattle.irig_frame_text.specs.Frame.{IsFrameText, NamesNoSecond, ShowsFrameOf, control_with};
+ghost use Rattle.irig_gen.specs.ControlBits.{offset_sent};
+ghost use Rattle.irig_frame_text.specs.Frame.{IsFrameOptions, IsFrameText, NamesNoSecond, ShowsFrameOf, control_with};
 
 use irig_control::{Control, Parity};
 use irig_frame::Symbol;
-use irig_time::{Leap, frame_of_second, read_text};
+use irig_time::{Leap, Sense, frame_of_second, read_text};
 
 /// The text of a frame: ten groups of ten symbols with a blank between, and a newline.
 pub type FrameText = [u8; 110];
+
+/// What a frame says beside its time, and how it is made.
+#[derive(Clone, Copy)]
+pub struct FrameOptions {
+    /// The half hours that the clock is ahead of UTC, -31 to 31.
+    pub local: i8,
+    /// The leap second that is pending.
+    pub pending: Option<Leap>,
+    /// Whether daylight saving is in force.
+    pub dst: bool,
+    /// The time quality, 0 for a locked clock to 15 for one that failed.
+    pub quality: u8,
+    /// What the parity bit makes of the ones that it counts.
+    pub parity: Parity,
+    /// What is done with the offset to give UTC.
+    pub sense: Sense,
+}
+
+impl FrameOptions {
+    /// A clock that shows UTC, nothing pending, no daylight saving, quality 0, even parity, the
+    /// offset added.
+    pub const PLAIN: FrameOptions = FrameOptions {
+        local: 0,
+        pending: None,
+        dst: false,
+        quality: 0,
+        parity: Parity::Even,
+        sense: Sense::Add,
+    };
+}
 
 /// A text that is of no second of the years served.
 #[derive(Clone, Copy, PartialEq, Eq)]
 pub struct BadTime;
 
-/// The frame of the UTC second whose text this is, by a clock `local` half hours ahead of UTC, -31
-/// to 31, with this leap second pending: even parity, quality 0, the offset added to the coded
-/// time.
-pub fn frame_text(time: &str, local: i8, pending: Option<Leap>) -> Result<FrameText, BadTime>
-    requires { unsigned_abs local ≤ 31 }
-    ensures frame { IfOk result (λ text. ShowsFrameOf time.now local pending text) }
+/// The frame of the UTC second whose text this is, with these options, each in the range that
+/// [`FrameOptions`] gives; `BadTime` if it is the text of no second of the years served.
+pub fn frame_text(time: &str, options: &FrameOptions) -> Result<FrameText, BadTime>
+    requires { IsFrameOptions options.now }
+    ensures frame { IfOk result (λ text. ShowsFrameOf time.now options.now text) }
     ensures bad_time { OnErr result (NamesNoSecond time.now) }
 {
     let Some(utc) = read_text(time.as_bytes()) else {
         return Err(BadTime);
     };
-    let control = control_of(local, pending);
-    Ok(text_of(&frame_of_second(Parity::Even, &utc, local, &control)))
+    let control = control_of(options);
+    let frame = frame_of_second(options.parity, &utc, options.local, &control);
+    Ok(text_of(&frame))
 }
 
-fn control_of(local: i8, pending: Option<Leap>) -> Control
-    requires { unsigned_abs local ≤ 31 }
-    ensures control { result ≡ control_with local pending }
+fn control_of(options: &FrameOptions) -> Control
+    requires { IsFrameOptions options.now }
+    ensures control { result ≡ control_with options.now }
     ensures in_range { IsControl result }
 {
     Control {
-        leap_pending: pending.is_some(),
-        leap_delete: matches!(pending, Some(Leap::Delete)),
+        leap_pending: options.pending.is_some(),
+        leap_delete: matches!(options.pending, Some(Leap::Delete)),
         dst_pending: false,
-        dst: false,
-        offset_half_hours: -local,
-        quality: 0,
+        dst: options.dst,
+        offset_half_hours: offset_sent(options.sense, options.local),
+        quality: options.quality,
+    }
+}
+
+// The offset that gives UTC.
+fn offset_sent(sense: Sense, local: i8) -> i8
+    requires { unsigned_abs local ≤ 31 }
+    ensures sent { result ≡ offset_sent sense local }
+    ensures in_range { unsigned_abs result ≤ 31 }
+{
+    match sense {
+        Sense::Add => -local,
+        Sense::Subtract => local,
     }
 }
 

@@ -8,6 +8,7 @@ ghost use Rattle.irig_frame_text.specs.Reading.{IsReadingOf, clock_text, coded_l
 use crate::told::{push_told, told_by};
 use arrayvec::ArrayVec;
 use irig_frame::{Coded, Symbol, decode};
+use irig_time::Rules;
 use std::alloc::{AllocError, Global};
 
 /// Why nothing is said of a text.
@@ -20,15 +21,16 @@ pub enum ReadingFault {
 }
 
 /// What the frame says: the line of the time that it codes, if it codes one, and the line of what a
-/// port tells of it; `BadFrameText` if the text has a letter of no symbol.
-pub fn frame_lines(alloc: Global, text: &str) -> Result<String, ReadingFault>
-    ensures lines { IfOk result (λ lines. IsReadingOf text.now (string_bytes lines)) }
+/// port of these rules tells of it; `BadFrameText` if the text has a letter of no symbol, `Memory`
+/// if there was none.
+pub fn frame_lines(alloc: Global, text: &str, rules: Rules) -> Result<String, ReadingFault>
+    ensures lines { IfOk result (λ lines. IsReadingOf rules text.now (string_bytes lines)) }
     ensures bad_text { (result ≡ Err ReadingFault.BadFrameText)
         ↔ ShowsNoSymbols text.now }
 {
     let symbols = symbols_of(text)?;
     let mut lines = String::new(alloc);
-    match push_reading(&mut lines, symbols.as_slice()) {
+    match push_reading(&mut lines, rules, symbols.as_slice()) {
         Ok(()) => Ok(lines),
         Err(_) => Err(ReadingFault::Memory),
     }
@@ -58,15 +60,15 @@ fn symbols_of(text: &str) -> Result<ArrayVec<Symbol, 101>, ReadingFault>
 }
 
 // Adds the lines of what the symbols say.
-fn push_reading(text: &mut String, symbols: &[Symbol]) -> Result<(), AllocError>
+fn push_reading(text: &mut String, rules: Rules, symbols: &[Symbol]) -> Result<(), AllocError>
     requires { length symbols.now ≤ 101 }
     ensures { OnOk result (string_bytes text.new
-        ≡ string_bytes text.old ++ reading_text symbols.now) }
+        ≡ string_bytes text.old ++ reading_text rules symbols.now) }
 {
     if let Ok(coded) = decode(symbols) {
         push_coded(text, &coded)?;
     }
-    push_told(text, told_by(symbols))
+    push_told(text, told_by(rules, symbols))
 }
 
 // Adds the line of the time that a frame codes.

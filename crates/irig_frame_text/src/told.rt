@@ -1,7 +1,6 @@
 //! What a port tells of symbols, and its line.
 
 ghost use Rattle.std.specs.Prelude.{◌≡◌, ◌≤◌, ◌++◌, length, string_bytes, OnOk};
-ghost use Rattle.irig_time.specs.declared.rules.TheConstants.Rules.{PLAIN};
 ghost use Rattle.irig_time.specs.Seconds.{IsValid};
 ghost use Rattle.irig_port.specs.Told.{IfClaim, told_of};
 ghost use Rattle.irig_frame_text.specs.Reading.{told_line};
@@ -12,14 +11,13 @@ use irig_port::{FlowPort, Port, Told};
 use irig_time::{Rules, push_text};
 use std::alloc::AllocError;
 
-/// What a port tells of these symbols, 101 of them at most, under even parity, if the offset is
-/// added and the straight binary seconds are checked.
-pub(crate) fn told_by(symbols: &[Symbol]) -> Told
+/// What a port of these rules tells of these symbols, 101 of them at most.
+pub(crate) fn told_by(rules: Rules, symbols: &[Symbol]) -> Told
     requires few { length symbols.now ≤ 101 }
-    ensures told { result ≡ told_of PLAIN symbols.now }
+    ensures told { result ≡ told_of rules symbols.now }
     ensures valid { IfClaim result (λ claim. IsValid claim.at) }
 {
-    let mut port = FlowPort::fresh(Rules::PLAIN);
+    let mut port = FlowPort::fresh(rules);
     for symbol in symbols {
         port.pulse(symbol.width_us());
     }

@@ -9,4 +9,6 @@ mod text;
 pub use laws::{ok_words_are_true_claims, words_show_clean_ticks};
 pub use port_text::{push_ticks, push_word};
 pub use shown::Shown;
-pub use text::{ReportText, cause_word, name_at, push_audit, push_entries, push_number, push_refusal};
+pub use text::{
+    ReportText, cause_word, name_at, push_audit, push_entries, push_number, push_refusal,
+};

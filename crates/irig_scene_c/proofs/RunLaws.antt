@@ -8,11 +8,10 @@ use Rattle.irig_device.specs.Watched.{AppendsPart}
 use Rattle.irig_scene.specs.declared.outcome.Outcome.{Outcome}
 use Rattle.irig_scene.specs.declared.fault.SceneFault.{SceneFault}
 use Rattle.irig_scene.specs.declared.fault.SceneFault.TheVariants.{Refused, Read, Write, Memory}
-use Rattle.irig_scene.specs.LogLines.{TellsTruth, VouchesForItself}
-use Rattle.irig_scene.specs.Run.{Ran}
-use Rattle.irig_scene.specs.Scene.{output}
+use Rattle.irig_log_text.specs.declared.shown.Shown.{Shown}
+use Rattle.irig_scene.specs.Run.{RanShown}
+use Rattle.irig_scene.specs.Scene.{output_shown}
 use Rattle.irig_scene.proofs.StepLaws.{IsFront}
-use Rattle.irig_scene.proofs.TrueLines.{tells_truth, vouches_for_itself}
 use Rattle.irig_scene_c.specs.Runs.{IsRun, written_over}
 
 all_of : (front whole : List ℕ) → front ≡ whole → IsFront front whole
@@ -21,15 +20,15 @@ all_of front whole e = record { rest = []; is = sym e ∙ sym (append-nil front)
 part_of : (front whole : List ℕ) → AppendsPart (Some []) (Some front) whole → IsFront front whole
 part_of front whole part = record { rest = part.rest; is = part.whole ∙ ap (λ f. f ++ part.rest) (sym part.wrote) }
 
-of_known : (x : List ℕ) (all : Bool) (log bytes : List ℕ) → bytes ≡ x → IsFront log (output bytes all) → IsFront log (output x all)
-of_known x all log bytes same front = subst (λ known. IsFront log (output known all)) same front
+of_known : (x : List ℕ) (shown : Shown) (log bytes : List ℕ) → bytes ≡ x → IsFront log (output_shown bytes shown) → IsFront log (output_shown x shown)
+of_known x shown log bytes same front = subst (λ known. IsFront log (output_shown known shown)) same front
 
-front_ran : (r : Result Outcome SceneFault) (x : List ℕ) (all : Bool) (left : Option (List ℕ)) (log : List ℕ) → Ran r all (Some x) left (Some []) (Some log) → IsFront log (output x all)
-front_ran (Ok o) x all left log ran = of_known x all log ran.bytes ran.of_input (all_of log (output ran.bytes all) ran.ran.0)
-front_ran (Err (Refused line number)) x all left log ran = of_known x all log ran.bytes ran.of_input (all_of log (output ran.bytes all) ran.ran.0)
-front_ran (Err Read) x all left log ran = of_known x all log ran.bytes ran.of_input (part_of log (output ran.bytes all) ran.ran.0)
-front_ran (Err Write) x all left log ran = of_known x all log ran.bytes ran.of_input (part_of log (output ran.bytes all) ran.ran.0)
-front_ran (Err Memory) x all left log ran = of_known x all log ran.bytes ran.of_input (part_of log (output ran.bytes all) ran.ran.0)
+pub front_ran : (r : Result Outcome SceneFault) (x : List ℕ) (shown : Shown) (left : Option (List ℕ)) (log : List ℕ) → RanShown r shown (Some x) left (Some []) (Some log) → IsFront log (output_shown x shown)
+front_ran (Ok o) x shown left log ran = of_known x shown log ran.bytes ran.of_input (all_of log (output_shown ran.bytes shown) ran.ran.0)
+front_ran (Err (Refused line number)) x shown left log ran = of_known x shown log ran.bytes ran.of_input (all_of log (output_shown ran.bytes shown) ran.ran.0)
+front_ran (Err Read) x shown left log ran = of_known x shown log ran.bytes ran.of_input (part_of log (output_shown ran.bytes shown) ran.ran.0)
+front_ran (Err Write) x shown left log ran = of_known x shown log ran.bytes ran.of_input (part_of log (output_shown ran.bytes shown) ran.ran.0)
+front_ran (Err Memory) x shown left log ran = of_known x shown log ran.bytes ran.of_input (part_of log (output_shown ran.bytes shown) ran.ran.0)
 
 -- what memory has of some bytes is a prefix of them, with room for all or not
 front_over : (old bytes : List ℕ) → IsFront (take (length bytes) (written_over old bytes)) bytes
@@ -48,20 +47,18 @@ front_over old bytes = elim (cases_lt (length old) (length bytes)) [
 ]
 
 -- what a run leaves in memory, as far as it says, is a prefix of the log
-front_left : (x : List ℕ) (all : Bool) (status : ℕ) (log old : List ℕ) → IsRun x all status log → IsFront (take (length log) (written_over old log)) (output x all)
-front_left x all status log old run =
-    let ran = front_ran run.answer x all run.left log run.ran in
+front_left : (x : List ℕ) (shown : Shown) (r : Result Outcome SceneFault) (log old : List ℕ) → IsRun x shown r log → IsFront (take (length log) (written_over old log)) (output_shown x shown)
+front_left x shown r log old run =
+    let ran = front_ran r x shown run.left log run.ran in
     let over = front_over old log in
     record { rest = over.rest ++ ran.rest; is = ran.is ∙ ap (λ t. t ++ ran.rest) over.is ∙ append_assoc (take (length log) (written_over old log)) over.rest ran.rest }
 
-pub vouches_left : (x : List ℕ) (all : Bool) (status : ℕ) (log old : List ℕ) (count : ℕ) (left : List ℕ) → IsRun x all status log → count ≡ length log → left ≡ written_over old log → VouchesForItself x (take count left)
-vouches_left x all status log old count left run size stands =
-    let front = front_left x all status log old run in
-    rw (size, stands)
-    (vouches_for_itself (record { all = all; ports = false }) x (take (length log) (written_over old log)) front.rest front.is)
+-- so a fact of each prefix of the log is one of what was left
+FactOfPrefixes : Shown → List ℕ → (List ℕ → Type 0) → Type 0
+FactOfPrefixes shown x fact = (written rest : List ℕ) → output_shown x shown ≡ written ++ rest → fact written
 
-pub truth_left : (x : List ℕ) (all : Bool) (status : ℕ) (log old : List ℕ) (count : ℕ) (left : List ℕ) → IsRun x all status log → count ≡ length log → left ≡ written_over old log → TellsTruth x (take count left)
-truth_left x all status log old count left run size stands =
-    let front = front_left x all status log old run in
+pub fact_left : (fact : List ℕ → Type 0) (x : List ℕ) (shown : Shown) (r : Result Outcome SceneFault) (log old : List ℕ) (count : ℕ) (left : List ℕ) → FactOfPrefixes shown x fact → IsRun x shown r log → count ≡ length log → left ≡ written_over old log → fact (take count left)
+fact_left fact x shown r log old count left each run size stands =
+    let front = front_left x shown r log old run in
     rw (size, stands)
-    (tells_truth (record { all = all; ports = false }) x (take (length log) (written_over old log)) front.rest front.is)
+    (each (take (length log) (written_over old log)) front.rest front.is)

@@ -19,8 +19,8 @@ pub use generator_values::GeneratorValues;
 pub use line::{naturals_at, value_of};
 pub use names::{is_name, names_of};
 pub use plant_shape::{
-    LOCAL, VERSION, Version, change_keys, generator_keys, is_plant, leap_keys, plant_keys, reader_keys,
-    table_keys, version_in, version_of,
+    LOCAL, VERSION, Version, change_keys, generator_keys, is_plant, leap_keys, plant_keys,
+    reader_keys, table_keys, version_in, version_of,
 };
 pub use plant_values::{PlantValues, values_of};
 pub use reader_values::ReaderValues;

@@ -8,5 +8,5 @@ returns-in-Ok-clause-lines c =
     let kept = c.in_ok-symbols.ensures.ok in record {
       symbols = kept.0;
       shown = kept.1;
-      said = c.in-Ok.ensures ∙ ap (λ before. before ++ reading_text c.as_slice.result.now) c.new-lines.ensures.bytes ∙ ap (λ s. reading_text s) (c.as_slice.ensures.value ∙ kept.2) ∙ cut_reading kept.0;
+      said = c.in-Ok.ensures ∙ ap (λ before. before ++ reading_text c.args.rules c.as_slice.result.now) c.new-lines.ensures.bytes ∙ ap (λ s. reading_text c.args.rules s) (c.as_slice.ensures.value ∙ kept.2) ∙ cut_reading c.args.rules kept.0;
     }

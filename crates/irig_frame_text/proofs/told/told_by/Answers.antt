@@ -8,7 +8,6 @@ use Rattle.irig_frame.specs.declared.symbol.Symbol.TheVariants.{Zero}
 use Rattle.irig_frame.specs.Symbols.{symbol_of}
 use Rattle.irig_port.specs.Heard.{with_symbol}
 use Rattle.irig_port.specs.Numbers.{Numbers}
-use Rattle.irig_time.specs.declared.rules.TheConstants.Rules.{PLAIN}
 use Rattle.irig_frame_text.proofs.told.told_by.Goals as goal
 
 one_more : (s : List Symbol) (i : ℕ) (x : Symbol) → i < length s → length s ≤ 101 → x ≡ slice_index_or s i Zero → with_symbol (take i s) x ≡ take (i + 1) s
@@ -22,6 +21,6 @@ pub loop-symbol-preserved : goal.loop-symbol-preserved
 loop-symbol-preserved c =
     let s = c.args.symbols.now in
     let i = c.loop-symbol.symbol-index in
-    subst (λ (heard : List Symbol). Numbers c.pulse.new.self PLAIN heard)
+    subst (λ (heard : List Symbol). Numbers c.pulse.new.self c.args.rules heard)
     (one_more s i (symbol_of c.width_us.result) c.loop-symbol-test.true c.requires.few c.width_us.ensures.classified)
-    (c.pulse.ensures PLAIN (take i s) c.loop-symbol.invariant)
+    (c.pulse.ensures c.args.rules (take i s) c.loop-symbol.invariant)

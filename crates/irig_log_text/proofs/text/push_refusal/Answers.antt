@@ -3,4 +3,4 @@ use Rattle.irig_log_text.proofs.text.push_refusal.Goals as goal
 
 pub returns : goal.returns
 unfolding refusal_text
-returns c = rw (← c.number-number.ensures, ← c.name-name.ensures) c.write.ensures.bytes
+returns c = rw (← c.number-number.ensures.number, ← c.name-name.ensures) c.write.ensures.bytes

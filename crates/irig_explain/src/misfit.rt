@@ -1,0 +1,122 @@
+//! What is wrong in a line: the place, what stands there, and what may stand there.
+
+use indexmap::IndexSet;
+use irig_forms::Key;
+use serde_json::Value;
+
+/// An object of a scenario's line.
+#[derive(Clone, Copy)]
+pub(crate) enum JsonPath {
+    /// The line's own.
+    Line,
+    /// A leap of a plant line.
+    Leap(usize),
+    /// A generator.
+    Generator(usize),
+    /// A change of a generator's zone, after the generator.
+    Change(usize, usize),
+    /// A reader.
+    Reader(usize),
+    /// The table of a reader.
+    Table(usize),
+    /// A leap of a reader's table, after the reader.
+    TableLeap(usize, usize),
+}
+
+/// What stands where it should not.
+#[derive(Clone, Copy)]
+pub(crate) enum Found<'a> {
+    /// This, where an object belongs.
+    NoObject(&'a Value),
+    /// A key that the object does not have.
+    OtherKey(&'a str),
+    /// Nothing at a key that it must have.
+    Missing(&'static str),
+    /// This at a key.
+    AtKey(&'static str, &'a Value),
+    /// A table in a plant line of version 1.
+    EarlyTable,
+    /// This at a place, from 0, of the list at a key.
+    InList(&'static str, usize, &'a Value),
+}
+
+/// What may stand there.
+#[derive(Clone, Copy)]
+pub(crate) enum Expected<'a> {
+    /// An object.
+    Object,
+    /// One of these keys.
+    Keys(&'static [Key]),
+    /// A value of the type and range of a key.
+    Typed(Key),
+    /// A value of the range of a key.
+    Ranged(Key),
+    /// One of these words.
+    Words(&'static [&'static str]),
+    /// One of these names.
+    Names(&'a IndexSet<String>),
+    /// A number from the first to the second.
+    Range(i128, i128),
+    /// A second that the timeline has.
+    Start,
+    /// What a text says.
+    Text(&'static str),
+    /// The same, and the text has a comma.
+    Clause(&'static str),
+    /// Nothing is said of it.
+    Nothing,
+}
+
+/// What is said besides.
+#[derive(Clone, Copy)]
+pub(crate) enum Note {
+    Nothing,
+    /// Why it does not fit.
+    Why(&'static str),
+    /// At which edge a generator is.
+    Edge(u64, u64),
+}
+
+/// Something in a line that does not fit.
+#[derive(Clone, Copy)]
+pub(crate) struct Misfit<'a> {
+    pub(crate) place: JsonPath,
+    pub(crate) found: Found<'a>,
+    pub(crate) expected: Expected<'a>,
+    pub(crate) note: Note,
+}
+
+impl<'a> Misfit<'a> {
+    pub(crate) fn new(place: JsonPath, found: Found<'a>, expected: Expected<'a>) -> Misfit<'a> {
+        Misfit {
+            place,
+            found,
+            expected,
+            note: Note::Nothing,
+        }
+    }
+
+    /// What stands at a key of an object, if anything does, where something else may.
+    pub(crate) fn at(
+        place: JsonPath,
+        name: &'static str,
+        object: &'a Value,
+        expected: Expected<'a>,
+    ) -> Option<Misfit<'a>> {
+        let item = object.get(name)?;
+        Some(Misfit::new(place, Found::AtKey(name, item), expected))
+    }
+
+    /// A reader's table in version 1, which has none.
+    pub(crate) fn early_table(reader: usize) -> Misfit<'a> {
+        Misfit::new(
+            JsonPath::Reader(reader),
+            Found::EarlyTable,
+            Expected::Nothing,
+        )
+    }
+
+    pub(crate) fn with(self, note: Note) -> Misfit<'a> {
+        Misfit { note, ..self }
+    }
+}
