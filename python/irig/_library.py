@@ -189,7 +189,6 @@ CALLS: Dict[str, Tuple[Any, ...]] = {
     "reader_tick": (IRIG, c_uint32, _to(Reader), _to(Report)),
     "reader_restart": (IRIG, None, _to(Reader)),
     "reader_port": (IRIG, c_uint32, _to(Reader), c_uint8, _to(Told)),
-    "run": (SCENE, c_uint8, c_char_p, c_size_t, c_bool, _to(c_uint8), c_size_t, _to(c_size_t)),
     "run_shown": (
         SCENE, c_uint8, c_char_p, c_size_t, c_bool, c_bool, _to(c_uint8), c_size_t, _to(c_size_t),
         _to(c_uint8), c_size_t, _to(Refusal),
