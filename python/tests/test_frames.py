@@ -28,8 +28,12 @@ def taken(words: list[str], known: tuple[str, ...]) -> Optional[tuple[str, dict[
             return None
         elif name == "dst":
             found[name] = True
+        elif is_set:
+            found[name] = value
+        elif not rest or rest[0].startswith("-"):
+            return None
         else:
-            found[name] = value if is_set or not rest else rest.pop(0)
+            found[name] = rest.pop(0)
     return (others[0], found) if len(others) == 1 else None
 
 
