@@ -1,5 +1,5 @@
 -- What a run leaves in memory is a prefix of the log, so what is proved of prefixes holds of it.
-use Rattle.std.proofs.Common.{◌≡◌, ℕ, ◌≤◌, inl, inr, Bool, false, List, [], ◌++◌, length, take, drop, Option, Some, Result, Ok, Err, sym, ap, ◌∙◌, append-nil, append_assoc, subst, arith}
+use Rattle.std.proofs.Common.{◌≡◌, ℕ, ◌≤◌, inl, inr, Bool, false, List, [], ◌++◌, length, take, drop, length-append, ◌+◌, Option, Some, Result, Ok, Err, sym, ap, ◌∙◌, append-nil, append_assoc, subst, arith}
 use Rattle.std.proofs.lemmas.Bool.{cases_lt}
 use Rattle.std.proofs.lemmas.List.{take_all, take-append-drop, length-take}
 use Rattle.std.proofs.Math.Seq.{take-append_seam}
@@ -54,7 +54,7 @@ front_left x shown r log old run =
     record { rest = over.rest ++ ran.rest; is = ran.is ∙ ap (λ t. t ++ ran.rest) over.is ∙ append_assoc (take (length log) (written_over old log)) over.rest ran.rest }
 
 -- so a fact of each prefix of the log is one of what was left
-FactOfPrefixes : Shown → List ℕ → (List ℕ → Type 0) → Type 0
+abbrev pub FactOfPrefixes : Shown → List ℕ → (List ℕ → Type 0) → Type 0
 FactOfPrefixes shown x fact = (written rest : List ℕ) → output_shown x shown ≡ written ++ rest → fact written
 
 pub fact_left : (fact : List ℕ → Type 0) (x : List ℕ) (shown : Shown) (r : Result Outcome SceneFault) (log old : List ℕ) (count : ℕ) (left : List ℕ) → FactOfPrefixes shown x fact → IsRun x shown r log → count ≡ length log → left ≡ written_over old log → fact (take count left)
@@ -62,3 +62,17 @@ fact_left fact x shown r log old count left each run size stands =
     let front = front_left x shown r log old run in
     rw (size, stands)
     (each (take (length log) (written_over old log)) front.rest front.is)
+
+-- ---- what was left is known by its length
+
+pub front_counts : (x : List ℕ) (shown : Shown) (r : Result Outcome SceneFault) (log : List ℕ) (count : ℕ) → IsRun x shown r log → count ≡ length log → count ≤ length (output_shown x shown)
+front_counts x shown r log count run size =
+    let front = front_ran r x shown run.left log run.ran in
+    let longer : length (output_shown x shown) ≡ length log + length front.rest = ap length front.is ∙ length-append log front.rest in
+    omega (arith, size, longer)
+
+pub log_left : (x : List ℕ) (shown : Shown) (r : Result Outcome SceneFault) (log old : List ℕ) (count : ℕ) (left : List ℕ) → IsRun x shown r log → count ≡ length log → left ≡ written_over old log → left ≡ written_over old (take count (output_shown x shown))
+log_left x shown r log old count left run size stands =
+    let front = front_ran r x shown run.left log run.ran in
+    let taken : take count (output_shown x shown) ≡ log = ap (λ n. take n (output_shown x shown)) size ∙ ap (λ t. take (length log) t) front.is ∙ take-append_seam log front.rest in
+    stands ∙ ap (written_over old) (sym taken)

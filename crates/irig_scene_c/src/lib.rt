@@ -17,13 +17,25 @@ ghost use Rattle.irig_scene.specs.VouchedByPorts.{VouchesByPorts};
 ghost use Rattle.irig_scene_c.specs.Frames.{are_options, are_rules, options_in, rules_in};
 ghost use Rattle.irig_scene_c.specs.Runs.{HasWholeLog, IsRefusalOf, IsStatus, shown_of, written_over};
 
+mod frame;
 mod refusal;
 mod run;
 
+pub use frame::IrigFrameOptions;
 use irig_explain::Parts;
+use irig_frame_text::{FrameText, ReadingFault, frame_lines, frame_text};
 use irig_scene::Shown;
 pub use refusal::{IrigRefusal, IrigSpan};
 use std::alloc::Global;
+use std::str;
+
+// Of the texts of frames: written; and not, for a text that is none of a second or of a frame, or a
+// number without a meaning; and not, for lack of memory.
+const DONE: u8 = 0;
+
+const BAD_TEXT: u8 = 1;
+
+const NO_MEMORY: u8 = 6;
 
 /// Runs a scenario, and writes as much of its log into `log` as that has room for; with `all` the
 /// silent entries too. `whole` is then how many bytes the log has.

@@ -1,5 +1,7 @@
 //! A refusal for C.
 
+ghost use Rattle.std.specs.Prelude.{◌≡◌};
+
 use irig_explain::{Parts, Span};
 
 /// Bytes of a text, from the first up to before the last; none if the two are the same.
