@@ -8,7 +8,7 @@ from datetime import date, datetime, timedelta, timezone
 from functools import lru_cache
 from typing import Dict, Iterable, Iterator, List, Optional, Tuple, Union, overload
 
-from .faults import VALUE, Fault, within
+from .faults import VALUE, Fault, whole, within
 from .words import Kind, Mark, number_of
 
 EPOCH = date(2000, 1, 1)  # day 0
@@ -131,7 +131,7 @@ class Second:
         """The second that is so many later, or earlier if it is a number below 0, by these leap
         seconds."""
         known = self._known(dict(_changes(leaps)))
-        day, sod = _at(_count(self, known) + seconds, known)
+        day, sod = _at(_count(self, known) + whole("seconds", seconds), known)
         if not FIRST_DAY <= day <= LAST_DAY:
             reason = f"{seconds} seconds from {self} is not from 2000-01-02 to 2099-12-30"
             raise Fault(VALUE, reason=reason)
