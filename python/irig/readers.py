@@ -7,8 +7,7 @@ from dataclasses import dataclass
 from typing import Iterable, Literal, Optional, Tuple, Union, overload
 
 from . import _library as c
-from .faults import Detail, Fault, MEANINGS, VALUE, check, detail_of, whole, within
-from .faults import words_of
+from .faults import MEANINGS, VALUE, Detail, Fault, check, detail_of, whole, within, words_of
 from .frames import MOST, Frame, claim_held, widths
 from .logs import lock_text
 from .seconds import Claim, Day, Leap, Second, day_number
