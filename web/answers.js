@@ -14,7 +14,9 @@ function lanes_of({ lanes, causes, first, last, verdict }) {
   const runs_of = ({ firsts, lasts, states, causes: of_runs }) =>
     Array.from(firsts, (from, place) => [from, lasts[place], states[place], causes[of_runs[place]]]);
   const ticks_of = ({ ends, makers }) => Array.from(ends, (edge, place) => [edge, makers[place] + 1]);
-  const shown = lanes.map((lane) => [lane.reader, runs_of(lane), lane.marks, ticks_of(lane)]);
+  const ports_of = ({ ports }) =>
+    ports.map((runs) => Array.from(runs.firsts, (from, place) => [from, runs.lasts[place], runs.states[place]]));
+  const shown = lanes.map((lane) => [lane.reader, runs_of(lane), lane.marks, ports_of(lane), ticks_of(lane)]);
   return { lanes: shown, first, last, verdict };
 }
 

@@ -21,13 +21,13 @@ sys.path.insert(0, str(WEB.parent / "tools/tests"))
 import browser  # noqa: E402
 from loading import ROOT, loaded  # noqa: E402
 from case_files import NOTHING, all_cases  # noqa: E402
-from parts.log_lanes import STATES, bars_of  # noqa: E402
+from parts.log_lanes import PORT_STATES, STATES, bars_of  # noqa: E402
 from irig.scenarios import made_edges  # noqa: E402
 
 BY_CHANCE, FRAMES = 3000, 400
 MOST_SECONDS = 5_000  # of a scenario made at random, so that all end soon
 BATCH = 100
-NAMES = list(STATES)
+NAMES, KINDS = list(STATES), list(PORT_STATES)
 LETTERS = "01P?"
 REFUSED = 3
 RULES = ("even", "odd"), ("add", "subtract"), ("check", "ignore")  # by their numbers
@@ -61,8 +61,8 @@ def told_scenario(program: Path, request: dict) -> list:
 def lanes_of(text: str, log: str) -> dict:
     """How the readers stood, by the tools; nothing where there is nothing to draw."""
     lines = log.splitlines()
-    verdict = lines[-1] if lines and not lines[-1][:1].isdigit() else None
-    if not lines or not lines[0][0].isdigit():
+    verdict = lines[-1] if lines and lines[-1][:1].isalpha() else None
+    if lines in ([], [verdict]):
         return {"lanes": [], "first": 1, "last": 1, "verdict": verdict}
     bars = bars_of(lines)
     ticks = made_edges(text.split("\n"), [lane.reader for lane in bars.lanes])
@@ -71,6 +71,7 @@ def lanes_of(text: str, log: str) -> dict:
             lane.reader,
             [[run.first, run.last, NAMES.index(run.state), run.cause] for run in lane.runs],
             [[mark.at, mark.kind] for mark in lane.marks],
+            [[[run.first, run.last, KINDS.index(run.state)] for run in runs] for runs in lane.ports],
             ticks[lane.reader],
         ]
         for lane in bars.lanes

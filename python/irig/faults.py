@@ -122,13 +122,18 @@ def check(answer: int) -> None:
         raise Fault(*detail_of(answer))
 
 
+def whole(what: str, value: int) -> int:
+    """The number; a TypeError that names it, if it is no whole one."""
+    try:
+        return index(value)
+    except TypeError:
+        raise TypeError(f"{what} is {value!r}; a whole number may stand here") from None
+
+
 def within(what: str, value: int, least: int, most: int) -> int:
     """The number, if it is from the least to the most; a fault or a TypeError that names it, if it
     is not."""
-    try:
-        number = index(value)
-    except TypeError:
-        raise TypeError(f"{what} is {value!r}; a whole number may stand here") from None
+    number = whole(what, value)
     if not least <= number <= most:
         raise Fault(VALUE, reason=f"{what} is {number}; {least} to {most} may stand here")
     return number

@@ -2,11 +2,10 @@
 from __future__ import annotations
 
 import ctypes
-from operator import index
 from typing import Tuple
 
 from . import _library as c
-from .faults import Fault, VALUE, within
+from .faults import Fault, VALUE, whole, within
 from .frames import MOST
 
 # What the state of a line begins with: another form of its numbers is another word.
@@ -28,12 +27,12 @@ class Sync:
         """The place of the next pulse in its frame, 1 to 100, or 0 out of step. It rose at this
         time in microseconds and is so many wide; of a time the lowest 32 bits count."""
         width = within("width_us", width_us, 0, MOST)
-        return int(c.sync_pulse(self._held, index(rise_us) & MOST, width))
+        return int(c.sync_pulse(self._held, whole("rise_us", rise_us) & MOST, width))
 
     def idle(self, now_us: int) -> None:
         """Puts the line out of step if its last pulse rose a second ago or earlier. To be called at
         each edge, and at least once in half an hour."""
-        c.sync_idle(self._held, index(now_us) & MOST)
+        c.sync_idle(self._held, whole("now_us", now_us) & MOST)
 
     @property
     def place(self) -> int:

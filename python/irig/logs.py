@@ -11,7 +11,7 @@ from typing import Union, cast, overload
 
 from .faults import MEANINGS, Detail
 from .seconds import Second
-from .words import CAUSES, LOCKS, MARKS, Cause, Lock, Mark, PortKind
+from .words import CAUSES, MARKS, Cause, Lock, Mark, PortKind
 
 if TYPE_CHECKING:
     from .stretches import Stretch
@@ -214,7 +214,7 @@ class Reading:
         """What the next line says; None if it is empty."""
         self.number += 1
         line = line.rstrip("\r\n")
-        if not line.strip():
+        if not line or line.isspace():
             return None
         if self.is_ended:
             raise ValueError(f"line {self.number} stands below the last line of a log")
@@ -235,11 +235,11 @@ class Reading:
         self._follow(reader, edge, self._edges.get(reader, 0))
         self._edges[reader] = edge
         word, _, count = found[4].partition(":")
-        lock, cause = LOCKS[LOCKS.index(cast(Lock, word))], cast(Cause, found[5])
+        stood = cast(Lock, word), int(count or 0), cast(Cause, found[5])
         if time == "-":
-            return Silent(edge, reader, lock, int(count or 0), cause)
+            return Silent(edge, reader, *stood)
         try:
-            return Announced(edge, reader, Second.read(time), lock, int(count or 0), cause)
+            return Announced(edge, reader, Second.read(time), *stood)
         except ValueError:
             raise self._no_line(line) from None
 

@@ -4,11 +4,10 @@ from __future__ import annotations
 import ctypes
 from array import array
 from dataclasses import dataclass
-from operator import index
 from typing import Iterable, Literal, Optional, Tuple, Union, overload
 
 from . import _library as c
-from .faults import Detail, Fault, MEANINGS, VALUE, check, detail_of, within, words_of
+from .faults import MEANINGS, VALUE, Detail, Fault, check, detail_of, whole, within, words_of
 from .frames import MOST, Frame, claim_held, widths
 from .logs import lock_text
 from .seconds import Claim, Day, Leap, Second, day_number
@@ -274,8 +273,9 @@ class Reader:
         """Puts each line out of step whose last pulse rose a second ago or earlier. To be called at
         each edge if pulses come by `hear(port, rise_us, width_us)`, and at least once in half an
         hour."""
+        now = whole("now_us", now_us) & MOST
         for line in self._lines:
-            c.sync_idle(line, index(now_us) & MOST)
+            c.sync_idle(line, now)
 
     def tick(self) -> Report:
         """The edge: what the reader says by what its ports heard since the last. They are then

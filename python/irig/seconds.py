@@ -8,15 +8,17 @@ from datetime import date, datetime, timedelta, timezone
 from functools import lru_cache
 from typing import Dict, Iterable, Iterator, List, Optional, Tuple, Union, overload
 
-from .faults import VALUE, Fault, within
+from .faults import VALUE, Fault, whole, within
 from .words import Kind, Mark, number_of
 
 EPOCH = date(2000, 1, 1)  # day 0
 FIRST_DAY, LAST_DAY = 1, 36_523  # 2000-01-02 and 2099-12-30
 DAY = 86_400
+LAST_MINUTE = 1439  # of a day
 
 FORM_OF_DAY = re.compile(r"\d{4}-\d\d-\d\d", re.ASCII)
-FORM = re.compile(r"(\d{4}-\d\d-\d\d)T(\d\d):(\d\d):(\d\d)(Z|[+-]\d\d:?\d\d)", re.ASCII)
+FORM_OF_MINUTE = re.compile(r"T([01]\d|2[0-3]):([0-5]\d):", re.ASCII)
+FORM_OF_SECOND = re.compile(r"([0-5]\d|60)(Z|[+-]\d\d:?\d\d)", re.ASCII)
 
 Time = Union["Second", datetime, str]
 Day = Union[date, str]
@@ -74,19 +76,15 @@ class Second:
     def read(cls, text: str) -> Second:
         """The second whose text this is: YYYY-MM-DDTHH:MM:SSZ. In place of Z +00:00 may stand, as
         `datetime.isoformat` writes it."""
-        found = FORM.fullmatch(text)
-        if not found:
+        day, minute, ends = _day_in(text[:10]), _minute_in(text[10:17]), _second_in(text[17:])
+        if day is None or minute is None or ends is None:
             raise _no_second(text)
-        day = _day_in(found[1])
-        if day is None:
-            raise _no_second(text)
-        if found[5] not in ("Z", "+00:00"):
+        second, zone = ends
+        if zone not in ("Z", "+00:00"):
             raise Fault(VALUE, reason=f"{text!r} is not in UTC: Z or +00:00 may stand at its end")
-        hour, minute, second = int(found[2]), int(found[3]), int(found[4])
-        is_leap = (hour, minute, second) == (23, 59, 60) and is_month_end(day)
-        if hour > 23 or minute > 59 or (second > 59 and not is_leap):
+        if second == 60 and not (minute == LAST_MINUTE and is_month_end(day)):
             raise _no_second(text)
-        return cls(day, 3600 * hour + 60 * minute + second)
+        return cls(day, 60 * minute + second)
 
     @classmethod
     def of_datetime(cls, time: datetime, floor: bool = False) -> Second:
@@ -131,7 +129,7 @@ class Second:
         """The second that is so many later, or earlier if it is a number below 0, by these leap
         seconds."""
         known = self._known(dict(_changes(leaps)))
-        day, sod = _at(_count(self, known) + seconds, known)
+        day, sod = _at(_count(self, known) + whole("seconds", seconds), known)
         if not FIRST_DAY <= day <= LAST_DAY:
             reason = f"{seconds} seconds from {self} is not from 2000-01-02 to 2099-12-30"
             raise Fault(VALUE, reason=reason)
@@ -165,7 +163,7 @@ class Second:
         return self.plus(-other) if isinstance(other, int) else NotImplemented
 
     def __str__(self) -> str:
-        minute = min(self.sod // 60, 1439)
+        minute = min(self.sod // 60, LAST_MINUTE)
         clock = f"{minute // 60:02}:{minute % 60:02}:{self.sod - 60 * minute:02}"
         return f"{day_text(self.day)}T{clock}Z"
 
@@ -188,14 +186,31 @@ class Claim:
 # ---- days
 
 
+# The parts of a text are read alike again and again in a log, and so kept.
+
+
 @lru_cache(maxsize=1024)
 def _day_in(text: str) -> Optional[int]:
     """The number of a day in the form YYYY-MM-DD that is served."""
     try:
-        day = (date.fromisoformat(text) - EPOCH).days
+        day = (date.fromisoformat(text if FORM_OF_DAY.fullmatch(text) else "") - EPOCH).days
     except ValueError:
         return None
     return day if FIRST_DAY <= day <= LAST_DAY else None
+
+
+@lru_cache(maxsize=2048)
+def _minute_in(text: str) -> Optional[int]:
+    """The minute of the day in the form THH:MM: with its two colons."""
+    found = FORM_OF_MINUTE.fullmatch(text)
+    return 60 * int(found[1]) + int(found[2]) if found else None
+
+
+@lru_cache(maxsize=1024)
+def _second_in(text: str) -> Optional[Tuple[int, str]]:
+    """The second, and what stands behind it."""
+    found = FORM_OF_SECOND.fullmatch(text)
+    return (int(found[1]), found[2]) if found else None
 
 
 @lru_cache(maxsize=1024)

@@ -20,12 +20,23 @@ DID: Dict[str, str] = {
     "another mark": "told another mark",
 }
 
+# What a cause means, as `irig blame` has it.
+MEANINGS: Dict[Cause, str] = {
+    "voted": "most ports told this second",
+    "held": "there was no vote, and the reader counted on",
+    "acquiring": "not yet enough votes in a row",
+    "no-vote": "there was no vote, and nothing to count from",
+    "expired": "there was no vote for longer than the holdover",
+    "leap-guard": "a month ended, and nothing told if a leap second came",
+    "jump": "the vote was for another second than the one that followed",
+    "range-end": "the next second would have been after 2099-12-30",
+}
+
 
 @dataclass(frozen=True, repr=False)
 class Stretch:
     """A longest run of ticks of a reader at which one of its ports told no truth in one way, or at
-    which it announced nothing for one cause. As a text it is a line of `irig blame`, without what
-    the cause means.
+    which it announced nothing for one cause. As a text it is a line of `irig blame`.
 
     reader: its name
     port: the port; None of a silence of the reader
@@ -56,7 +67,8 @@ class Stretch:
     def __str__(self) -> str:
         edges = f"edge {self.first}" if self.edges == 1 else f"edges {self.first} to {self.last}"
         if self.port is None:
-            return f"{edges}: {self.reader} announced nothing: {self.cause or 'cause not known'}"
+            why = f": {self.cause}, {MEANINGS[self.cause]}" if self.cause else ""
+            return f"{edges}: {self.reader} announced nothing{why}"
         word = "" if self.kind == "silent" else f", first {self.word}"
         did = f"port {self.port} of {self.reader} {DID[self.kind]}{word}"
         return f"{edges}: {did}; {self.reader} announced {self._announced()}"

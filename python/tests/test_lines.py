@@ -64,6 +64,11 @@ class Lines(unittest.TestCase):
         self.assertRaises(irig.Fault, sync.__setstate__, ("another", numbers))
         self.assertRaises(irig.Fault, sync.__setstate__, (form, numbers[:-1]))
 
+    def test_what_is_no_number(self) -> None:
+        self.assertRaisesRegex(TypeError, "rise_us is '5'; a whole number", Sync().pulse, "5", 2000)
+        self.assertRaisesRegex(TypeError, "now_us is 2.5; a whole number", Sync().idle, 2.5)
+        self.assertRaisesRegex(TypeError, "now_us is None; a whole number", Reader().idle, None)
+
     def test_what_is_out_of_its_range(self) -> None:
         self.assertRaises(irig.Fault, Sync().pulse, 0, -1)
         self.assertRaises(irig.Fault, Sync().pulse, 0, WRAP)

@@ -201,7 +201,7 @@ class Blame(unittest.TestCase):
     def test_each_kind(self) -> None:
         self.assertEqual(self.lines(LINES + BROKEN, SCENARIO), [
             "edge 1: port 1 of relay was faulty, first fault:3:Pulse:12; relay announced nothing",
-            "edge 1: relay announced nothing: acquiring",
+            "edge 1: relay announced nothing: acquiring, not yet enough votes in a row",
             "edge 1: port 2 of meter was silent; meter announced nothing",
             "edge 2: port 2 of relay was poor, first poor:11; relay announced 1 second",
             "edges 2 to 3: port 1 of relay told another second, first 2016-12-31T23:59:52Z;"
@@ -209,11 +209,12 @@ class Blame(unittest.TestCase):
             "edge 4: port 1 of relay was faulty, first fault:5:Digit:hour; relay announced 1 second",
             "edges 3 to 4: port 2 of relay told another mark, first no-leap;"
             " relay announced 2 seconds, 1 of them untrue",
-            "edge 5: relay announced nothing: jump",
-            "edge 6: relay announced nothing: acquiring",
+            "edge 5: relay announced nothing: jump, the vote was for another second than the one that"
+            " followed",
+            "edge 6: relay announced nothing: acquiring, not yet enough votes in a row",
             "edges 1 to 2: port 0 of meter was silent; meter announced nothing",
             "edges 1 to 2: port 1 of meter was silent; meter announced nothing",
-            "edges 1 to 2: meter announced nothing: no-vote",
+            "edges 1 to 2: meter announced nothing: no-vote, there was no vote, and nothing to count from",
         ])
 
     def test_one_untrue_second(self) -> None:

@@ -11,6 +11,7 @@ import unittest
 import zipfile
 from pathlib import Path
 
+import irig
 from program import ROOT, printed
 
 HOOK = "import backend, sys; print(backend.{}(sys.argv[1]))"
@@ -42,6 +43,7 @@ class Package(unittest.TestCase):
     def test_wheel(self) -> None:
         wheel = self.wheel("build_wheel")
         version = printed("--version").split()[1]
+        self.assertEqual(irig.__version__, version)
         self.assertRegex(wheel.name, rf"^irig-{version}-py3-none-linux_\w+\.whl$")
         with zipfile.ZipFile(wheel) as opened:
             names = set(opened.namelist())

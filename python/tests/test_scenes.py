@@ -139,7 +139,7 @@ class Blame(unittest.TestCase):
     """Who lied, in one line; python/tests/test_logs.py has what each word means."""
 
     WANTED = [
-        "edge 1: relay announced nothing: acquiring",
+        "edge 1: relay announced nothing: acquiring, not yet enough votes in a row",
         "edges 5 to 8: port 1 of relay told another second, first 2017-06-30T23:59:57Z;"
         " relay announced 4 seconds",
         "edges 9 to 12: port 1 of relay told another mark, first insert; relay announced 4 seconds",
@@ -158,26 +158,24 @@ class Blame(unittest.TestCase):
         words = "run", str(ROOT / "examples/two_liars.jsonl"), "--all", "--ports"
         log = irig.read_log(printed(*words), example("two_liars"))
         self.assertEqual([str(stretch) for stretch in log.blame()], [
-            "edge 1: relay announced nothing: acquiring",
-            "edge 5: relay announced nothing: jump",
-            "edge 6: relay announced nothing: acquiring",
+            "edge 1: relay announced nothing: acquiring, not yet enough votes in a row",
+            "edge 5: relay announced nothing: jump, the vote was for another second than the one that"
+            " followed",
+            "edge 6: relay announced nothing: acquiring, not yet enough votes in a row",
             *(f"edges 5 to 10: port {port} of relay told another second, first 2016-06-15T13:00:04Z;"
               " relay announced 4 seconds, 4 of them untrue" for port in (0, 1)),
         ])
 
     def test_beside_the_program(self) -> None:
-        """`irig blame`, whose lines say beside the cause of a silence what it means."""
+        """The lines of `irig blame`, but for the totals behind them."""
         if told("blame", "--help")[0]:
             print("skipped: who lied, beside the program: it has no `irig blame`")
             self.skipTest("the program has no `irig blame`")
         for path in sorted((ROOT / "examples").glob("*.jsonl")):
             said = [line for line in printed("blame", str(path)).splitlines() if line.startswith("edge")]
             log = irig.read_log(printed("run", str(path), "--all", "--ports"), path.read_text())
-            for line, stretch in zip(said, log.blame()):
-                with self.subTest(path.stem):
-                    wanted = str(stretch)
-                    self.assertTrue(line == wanted or line.startswith(f"{wanted}, "), line)
-            self.assertEqual(len(said), len(log.blame()))
+            with self.subTest(path.stem):
+                self.assertEqual([str(stretch) for stretch in log.blame()], said)
 
 
 class Refusals(unittest.TestCase):

@@ -127,6 +127,7 @@ class Seconds(unittest.TestCase):
         self.assertEqual(years, (365 + 366) * 86_400 + 2)
         self.assertRaisesRegex(irig.Fault, "no second by these", last.plus, 1, DELETED)
         self.assertRaisesRegex(irig.Fault, "no second by these", LEAP.plus, 1, DELETED)
+        self.assertRaisesRegex(TypeError, "seconds is 1.5; a whole number may", LEAP.plus, 1.5)
 
     def test_beside_the_library(self) -> None:
         """Texts and successors of the ends of each day, by the proved calls."""

@@ -311,7 +311,7 @@ def draw_legend(figure: Figure, bars: Bars, left: float, top: float) -> None:
         in_lines = [patch for column in range(IN_A_ROW) for patch in patches[column::IN_A_ROW]]
         figure.legend(handles=in_lines, loc="upper left", bbox_to_anchor=(left / width, top / height),
                       ncol=IN_A_ROW, fontsize=SMALL, frameon=False, borderaxespad=0, borderpad=0,
-                      labelspacing=0.6, handleheight=1.1, handlelength=2.4)
+                      labelspacing=0.88, handleheight=1.1, handlelength=2.4)
         top -= LEGEND_ROW * rows_in(patches)
 
 

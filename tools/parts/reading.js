@@ -109,15 +109,18 @@ class Lane { // one reader
   get last() { return Math.max(this.runs.lasts.last, this.told_edges.last); }
 
   get first() { // the first edge that has a line
-    return Math.min(...[this.edges, this.told_edges].filter(({ length }) => length).map(({ items }) => items[0]));
+    const begun = [this.edges, this.told_edges].filter(({ length }) => length);
+    return Math.min(...begun.map(({ items }) => items[0]));
   }
 
   end(first, last) {
     const ended = this.runs.lasts.last;
     if (ended < last) this.runs.push(ended + 1, last, NOT_ANNOUNCED, 0);
     const { firsts, lasts, kinds: [states, causes] } = this.runs.whole(first);
-    const ports = this.ports.map((runs) => runs.whole(first))
-      .map(({ firsts: begun, lasts: over, kinds: [kinds] }) => ({ firsts: begun, lasts: over, states: kinds }));
+    const ports = this.ports.map((port) => {
+      const { kinds: [told], ...edges } = port.whole(first);
+      return { ...edges, states: told };
+    });
     const names = ["edges", "lines", "told_edges", "told_lines"];
     const numbers = Object.fromEntries(names.map((name) => [name, this[name].whole()]));
     const marks = this.marks.filter(([at]) => at > first - 0.5);

@@ -85,7 +85,12 @@ class Timeline {
   x_of(edge) { return this.gutter + (edge - this.view.from) / (this.view.to - this.view.from) * this.width; }
   edge_at(x) { return this.view.from + (x - this.gutter) / this.width * (this.view.to - this.view.from); }
   top_of(lane) { return lane.top; }
-  lane_at(y) { return this.lanes.find(({ top, height }) => y < top + height - 10) || this.lanes[this.lanes.length - 1]; }
+
+  lane_at(y) {
+    const found = this.lanes.find(({ top, height }) => y < top + height - 10);
+    return found || this.lanes[this.lanes.length - 1];
+  }
+
   ground_of(lane) { return lane === this.cursor.lane ? this.colours.panel : this.colours.paper; }
 
   redraw() {

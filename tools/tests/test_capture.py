@@ -528,7 +528,7 @@ class Recorders(unittest.TestCase):
             lambda change: [(change[0] * 10_001 // 10_000, *change[1:])] * (change[0] < 1_055_000)
         )
         said = captured_wave(replace(lines, end=1_100_000))[1]
-        self.assertIn("101 pulses, 1 frames, 0 pulses out of step", said)
+        self.assertIn("100 pulses, 1 frames, 0 pulses out of step", said)
         self.assertIn("a second is 100.0 ppm longer than one of the recorder", said)
 
     def test_two_thousand_samples_a_second(self) -> None:
@@ -817,10 +817,16 @@ class Words(InAFolder):
             source, copy = ROOT / name, self.folder / name
             copy.parent.mkdir(exist_ok=True)
             shutil.copytree(source, copy) if source.is_dir() else shutil.copy(source, copy)
-        command = [self.folder / "tools/capture", "a.vcd"]
-        ran = subprocess.run(command, capture_output=True, text=True)
+        tool = self.folder / "tools/capture"
+        recording = ROOT / "examples/one_clock_ahead.vcd"
+        ran = subprocess.run([tool, recording], capture_output=True, text=True)
         self.assertEqual((ran.returncode, ran.stdout), (2, ""))
-        self.assertRegex(ran.stderr, r"^capture: .* is missing: `make -C c` builds it")
+        self.assertEqual(
+            ran.stderr, "capture: libirig.so.1 is missing: `make -C c` builds it in the sources of irig\n"
+        )
+        ran = subprocess.run([tool, "--help"], capture_output=True, text=True)
+        self.assertEqual((ran.returncode, ran.stderr), (0, ""))
+        self.assertTrue(ran.stdout.startswith("for example:\n"))
 
     def test_what_ports_tell_that_claim_nothing(self) -> None:
         with self.assertRaisesRegex(ValueError, "claim one second, most often .fault 17 Parity.;"):

@@ -28,12 +28,15 @@ sys.path[:0] = [str(ROOT / "tests"), str(ROOT / "python")]
 import waves  # noqa: E402
 from case_files import all_cases  # noqa: E402
 
+import irig  # noqa: E402
+
 try:
-    import irig
+    irig.classify(0)
+    MISSING = ""
 except ImportError as error:
-    irig = None
     MISSING = f"skipped: lines against a reader of the Python package; {error}"
 
+PROGRAM = ROOT / "crates/irig_main/out/irig_main"
 ENVIRONMENT = {
     **os.environ, "SIGROKDECODE_DIR": str(ROOT / "sigrok"), "PYTHONDONTWRITEBYTECODE": "1"
 }
@@ -491,7 +494,7 @@ class Lines(unittest.TestCase):
     """Faults on a line, against `irig.Sync` and a reader that hears it."""
 
     def setUp(self) -> None:
-        if irig is None:
+        if MISSING:
             print(MISSING)
             self.skipTest(MISSING)
 
@@ -562,28 +565,28 @@ class Lines(unittest.TestCase):
 class Pages(unittest.TestCase):
     """Commands print what the pages show."""
 
-    def printed(self, commands: str) -> str:
-        with tempfile.TemporaryDirectory() as folder:
-            for name in ("tests", "examples"):
-                Path(folder, name).symlink_to(ROOT / name)
-            ran = subprocess.run(
-                ["bash", "-ec", commands], cwd=folder, env=ENVIRONMENT,
-                capture_output=True, text=True, timeout=60,
-            )
-        self.assertEqual(ran.stderr, "")
-        return ran.stdout
-
-    def test_wires(self) -> None:
-        blocks = re.findall(r"(?<=\n\n)(?:    .+\n)+", (ROOT / "docs/WIRES.md").read_text())
+    def compare(self, page: Path, is_installed: bool, told: str) -> None:
+        """The commands with sigrok-cli print the block behind them. The decoder stands where it is, or
+        where they install it, in a home of their own."""
+        blocks = re.findall(r"(?<=\n\n)(?:    .+\n)+", page.read_text())
         blocks = [re.sub("^    ", "", block, flags=re.M) for block in blocks]
         (place,) = (n for n, block in enumerate(blocks) if "sigrok-cli" in block)
-        self.assertEqual(self.printed(blocks[place]), blocks[place + 1])
+        with tempfile.TemporaryDirectory() as folder:
+            for name in ("tests", "examples", "tools", "sigrok"):
+                Path(folder, name).symlink_to(ROOT / name)
+            there = {key: value for key, value in ENVIRONMENT.items() if key != "SIGROKDECODE_DIR"}
+            environment = {**there, "HOME": folder} if is_installed else ENVIRONMENT
+            ran = subprocess.run(
+                ["bash", "-ec", blocks[place]], cwd=folder, env={**environment, "IRIG": str(PROGRAM)},
+                capture_output=True, text=True, timeout=60,
+            )
+        self.assertEqual((ran.stdout, ran.stderr), (blocks[place + 1], told))
+
+    def test_wires(self) -> None:
+        self.compare(ROOT / "docs/WIRES.md", False, "")
 
     def test_pull_request(self) -> None:
-        page = (ROOT / "sigrok/README.md").read_text()
-        command, shown = re.findall(r"    \$ (sigrok-cli .+)\n((?:    .+\n)+)", page)[0]
-        make = "tests/waves.py examples/leap_inserted.jsonl --vcd > leap.vcd"
-        self.assertIn(re.sub("^    ", "", shown, flags=re.M), self.printed(f"{make}\n{command}"))
+        self.compare(ROOT / "sigrok/README.md", True, "14 seconds of relay on 3 lines\n")
 
 
 if __name__ == "__main__":
