@@ -143,6 +143,17 @@ Symbols = c_uint8 * 100
 Text = ctypes.c_char * 20
 
 
+def same(one: Any, other: Any) -> bool:
+    """Whether two structures, or arrays of them, have the same numbers; what lies between them in
+    memory says nothing."""
+    if isinstance(one, Structure):
+        names = [name for name, *_ in one._fields_]
+        return all(same(getattr(one, name), getattr(other, name)) for name in names)
+    if isinstance(one, ctypes.Array):
+        return len(one) == len(other) and all(map(same, one, other))
+    return bool(one == other)
+
+
 def _to(structure: Any) -> Any:
     return ctypes.POINTER(structure)
 
@@ -178,7 +189,6 @@ CALLS: Dict[str, Tuple[Any, ...]] = {
     "reader_tick": (IRIG, c_uint32, _to(Reader), _to(Report)),
     "reader_restart": (IRIG, None, _to(Reader)),
     "reader_port": (IRIG, c_uint32, _to(Reader), c_uint8, _to(Told)),
-    "run": (SCENE, c_uint8, c_char_p, c_size_t, c_bool, _to(c_uint8), c_size_t, _to(c_size_t)),
     "run_shown": (
         SCENE, c_uint8, c_char_p, c_size_t, c_bool, c_bool, _to(c_uint8), c_size_t, _to(c_size_t),
         _to(c_uint8), c_size_t, _to(Refusal),

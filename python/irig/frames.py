@@ -186,20 +186,27 @@ def frame(
     pending: Optional[Kind] = None,
     parity: Parity = "even",
     sense: Sense = "add",
+    *,
+    dst: bool = False,
+    quality: int = 0,
 ) -> str:
-    """The frame of a second: `irig frame TIME --local=LOCAL --pending=PENDING`.
+    """The frame of a second: `irig frame TIME`, with the options of these names.
 
     time: a Second, its text, or a datetime with a time zone
     local: half hours that the coded time is ahead of UTC, -31 to 31
     pending: the leap second that is coming, "insert" or "delete", or None
     parity: "even" or "odd"
     sense: "add" or "subtract": what is done with the offset to come from coded time to UTC
+    dst: whether daylight saving is in force
+    quality: 0, locked, to 15, failed
     """
     is_added, zone = number_of(sense, Sense, "sense") == 0, _zone(local)
     control = Control(
         leap_pending=pending is not None,
         leap_delete=pending is not None and number_of(pending, Kind, "pending") == 1,
+        dst=dst,
         offset_half_hours=-local if is_added else local,
+        quality=quality,
     )
     held, number = c.Symbols(), number_of(parity, Parity, "parity")
     check(c.frame_of(_utc(time), zone, control.held(), number, held))

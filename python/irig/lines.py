@@ -48,7 +48,7 @@ class Sync:
         """Whether it is a line with the same numbers, which goes on alike."""
         if not isinstance(other, Sync):
             return NotImplemented
-        return self.__getstate__() == other.__getstate__()
+        return c.same(self._held, other._held)
 
     def __getstate__(self) -> Tuple[str, bytes]:
         return FORM, bytes(self._held)

@@ -318,7 +318,7 @@ class Reader:
         """Whether it is a reader with the same numbers, which goes on alike."""
         if not isinstance(other, Reader):
             return NotImplemented
-        return self.__getstate__() == other.__getstate__()
+        return c.same(self._held, other._held) and c.same(self._lines, other._lines)
 
     def __repr__(self) -> str:
         return f"Reader(lock_after={self.lock_after}, holdover={self.holdover}, ports={self.ports})"

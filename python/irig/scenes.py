@@ -27,21 +27,15 @@ class _Ran(NamedTuple):
     status: int
     whole: int
     log: bytes
-    reason: bytes = b""
-    refusal: Optional[c.Refusal] = None
+    reason: bytes
+    refusal: c.Refusal
 
 
-def _run(text: bytes, all: bool, ports: bool, room: int) -> _Ran:
-    """One call of the library. One that is older than its `irig_run_shown` knows neither ports nor
-    reasons."""
+def _run(text: bytes, all: bool, ports: bool, room: int, reason_room: int) -> _Ran:
+    """One call of the library."""
     memory, whole = mmap.mmap(-1, room), ctypes.c_size_t()
     log = ctypes.c_uint8.from_buffer(memory)
-    if not hasattr(c, "run_shown"):
-        if ports:
-            raise ImportError(f"{c.SCENE} is too old to tell of ports: `make -C c` makes a new one")
-        status = c.run(text, len(text), all, log, room, whole)
-        return _Ran(status, whole.value, memory[: whole.value])
-    reason, refusal = (ctypes.c_uint8 * REASON_ROOM)(), c.Refusal()
+    reason, refusal = (ctypes.c_uint8 * reason_room)(), c.Refusal()
     status = c.run_shown(
         text, len(text), all, ports, log, room, whole, reason, len(reason), refusal
     )
@@ -62,9 +56,11 @@ def run(source: Source, all: bool = False, ports: bool = False) -> Log:
     is out.
     """
     text = _text_of(source)
-    ran = _run(text, all, ports, ROOM)
-    if ran.status in (DONE, REFUSED) and ran.whole > ROOM:
-        ran = _run(text, all, ports, ran.whole)
+    ran = _run(text, all, ports, ROOM, REASON_ROOM)
+    is_cut = ran.whole > ROOM or ran.refusal.whole > REASON_ROOM
+    if ran.status in (DONE, REFUSED) and is_cut:
+        rooms = max(ran.whole, ROOM), max(ran.refusal.whole, REASON_ROOM)
+        ran = _run(text, all, ports, *rooms)
     if ran.status not in (DONE, REFUSED):
         raise MemoryError("no memory for the run of a scenario")
     try:
@@ -88,17 +84,14 @@ def _text_of(source: Source) -> bytes:
 
 def _explained(refused: Refused, ran: _Ran) -> Refused:
     """A refusal with the program's words, and what they say stands where."""
-    if ran.refusal is None or not ran.reason:
-        return refused
 
     def part(span: c.Span) -> Optional[str]:
         return ran.reason[span.start : span.end].decode(errors="replace") or None
 
     begins = f"line {refused.line}: {refused.number} {refused.name}: "
-    reason = ran.reason.decode(errors="replace").rstrip("\n")
-    reason = reason[len(begins) :] if reason.startswith(begins) else reason
-    spans = ran.refusal
+    words, spans = ran.reason.decode(errors="replace"), ran.refusal
     return Refused(
-        refused.line, refused.number, refused.name, refused.log, reason,
+        refused.line, refused.number, refused.name, refused.log,
+        words[len(begins) :] if words.startswith(begins) else words or None,
         part(spans.place), part(spans.key), part(spans.value), part(spans.allowed),
     )

@@ -9,12 +9,9 @@ from pathlib import Path
 from unittest import mock
 
 import irig
-from irig import Announced, PremiseBroken, PremisesKept, Ports, Second, Silent, TableBroken, _library
+from irig import Announced, PremiseBroken, PremisesKept, Ports, Second, Silent, TableBroken
 from irig.scenarios import Reader, Scenario
 from program import ROOT, cases, printed, told
-
-# The libraries of before `irig_run_shown` tell nothing of ports, and of no reason.
-SHOWS = hasattr(_library, "run_shown")
 
 
 def example(name: str) -> str:
@@ -43,7 +40,7 @@ class OfTheProgram(unittest.TestCase):
         for case in cases("run"):
             is_file = case.scenario and case.words[:1] == [case.scenario]
             ports = "--ports" in case.words
-            if is_file and (SHOWS or not ports) and case.status != 2:
+            if is_file and case.status != 2:
                 with self.subTest(case.name):
                     count += 1
                     text = (ROOT / case.scenario).read_bytes()
@@ -55,6 +52,12 @@ class OfTheProgram(unittest.TestCase):
         for room in (1, 100, 4096):
             with self.subTest(room), mock.patch("irig.scenes.ROOM", room):
                 self.assertEqual(irig.run(text).text, printed("run", "-", text=text))
+
+    def test_a_reason_without_room(self) -> None:
+        with mock.patch("irig.scenes.REASON_ROOM", 1), self.assertRaises(irig.Refused) as caught:
+            irig.run('{"version":4}')
+        says = 'line 1: 27 Version: "version" is 4; 1, 2 or 3 may stand here'
+        self.assertEqual(str(caught.exception), says)
 
     def test_runs_side_by_side(self) -> None:
         text, logs = example("dark_hour"), []
@@ -143,9 +146,6 @@ class Blame(unittest.TestCase):
     ]
 
     def test_one_line(self) -> None:
-        if not SHOWS:
-            print("skipped: what ports told: the library has no irig_run_shown")
-            self.skipTest("the library has no irig_run_shown")
         path = ROOT / "examples/one_liar.jsonl"
         for log in (irig.run(path, ports=True), irig.run(path), irig.run(path, all=True, ports=True)):
             self.assertEqual([str(stretch) for stretch in log.blame()], self.WANTED)
@@ -168,7 +168,7 @@ class Blame(unittest.TestCase):
     def test_beside_the_program(self) -> None:
         """`irig blame`, whose lines say beside the cause of a silence what it means."""
         if told("blame", "--help")[0]:
-            print("skipped: who lied, beside the program, which has no `irig blame`")
+            print("skipped: who lied, beside the program: it has no `irig blame`")
             self.skipTest("the program has no `irig blame`")
         for path in sorted((ROOT / "examples").glob("*.jsonl")):
             said = [line for line in printed("blame", str(path)).splitlines() if line.startswith("edge")]
@@ -184,9 +184,6 @@ class Refusals(unittest.TestCase):
     """Lines that are refused."""
 
     def test_in_the_words_of_the_program(self) -> None:
-        if not SHOWS:
-            print("skipped: why a line is refused: the library has no irig_run_shown")
-            self.skipTest("the library has no irig_run_shown")
         count = 0
         for case in cases("run"):
             if case.status == 3 and case.scenario and case.words[:1] == [case.scenario]:
@@ -198,8 +195,6 @@ class Refusals(unittest.TestCase):
         self.assertGreater(count, 80)
 
     def test_parts_of_a_reason(self) -> None:
-        if not SHOWS:
-            self.skipTest("the library has no irig_run_shown")
         text = example("plain_minute").replace('"lock_after":2', '"lock_after":0')
         with self.assertRaises(irig.Refused) as caught:
             irig.run(text)
@@ -215,7 +210,8 @@ class Refusals(unittest.TestCase):
             irig.run(text)
         refused = caught.exception
         self.assertEqual((refused.line, refused.number, refused.name), (3, 19, "NoSuchReader"))
-        self.assertTrue(str(refused).startswith("line 3: 19 NoSuchReader: "))
+        says = 'line 3: 19 NoSuchReader: "r" is "rely"; "relay" may stand here'
+        self.assertEqual(str(refused), says)
         whole = irig.run(example("plain_minute"))
         self.assertEqual(f"{refused.log.text}premises kept\n", whole.text)
         self.assertFalse(refused.log.kept)

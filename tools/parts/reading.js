@@ -6,7 +6,7 @@ const TEXT_PART = 1 << 23; // bytes that are made text at once
 const STATE_NAMES = ["locked", "holdover", "acquiring", "unlocked", "not announced"];
 const NOT_ANNOUNCED = STATE_NAMES.length - 1;
 const PORT_KINDS = ["agreed", "silent", "faulty", "poor", "another second", "another mark"];
-const [AGREED, SILENT, FAULTY, POOR, ANOTHER_SECOND, ANOTHER_MARK] = PORT_KINDS.keys();
+const PORT = { AGREED: 0, SILENT: 1, FAULTY: 2, POOR: 3, ANOTHER_SECOND: 4, ANOTHER_MARK: 5 }; // their places
 const NO_REASON = "not announced"; // of an edge without a line
 
 class Numbers { // as many as come
@@ -62,11 +62,11 @@ class Runs { // of edges at which something stands alike
 }
 
 function kind_of_word(word) { // what a port told, by its word
-  if (word === "ok") return AGREED;
-  if (word === "silence") return SILENT;
-  if (word.startsWith("fault:")) return FAULTY;
-  if (word.startsWith("poor:")) return POOR;
-  return word >= "0" && word < ":" ? ANOTHER_SECOND : ANOTHER_MARK;
+  if (word === "ok") return PORT.AGREED;
+  if (word === "silence") return PORT.SILENT;
+  if (word.startsWith("fault:")) return PORT.FAULTY;
+  if (word.startsWith("poor:")) return PORT.POOR;
+  return word >= "0" && word < ":" ? PORT.ANOTHER_SECOND : PORT.ANOTHER_MARK;
 }
 
 class Lane { // one reader

@@ -216,8 +216,8 @@ class Timeline {
         const high = state.is_high ? PORT_HIGH : PORT_LOW;
         for (const [left, right] of boxes[kind]) {
           const gap = right - left > PLAIN ? 1 : 0;
-          if (kind !== AGREED) this.box(left, foot - high, right - left, high, ground);
-          if (kind === SILENT) this.box(left, foot - 1, right - left, 1, this.colours.rule);
+          if (kind !== PORT.AGREED) this.box(left, foot - high, right - left, high, ground);
+          if (kind === PORT.SILENT) this.box(left, foot - 1, right - left, 1, this.colours.rule);
           else this.box(left, foot - high, right - left - gap, high, gap ? state.brush : state.colour);
         }
       });
@@ -342,7 +342,7 @@ class Timeline {
   draw_legend() {
     for (const state of [...STATES, ...PORT_STATES].filter((each) => each.sample)) {
       const pen = state.sample.getContext("2d"), all = state.sample.height;
-      const is_gap = state === PORT_STATES[SILENT], high = state.is_high ? all : LOW - 3;
+      const is_gap = state === PORT_STATES[PORT.SILENT], high = state.is_high ? all : LOW - 3;
       pen.clearRect(0, 0, 28, all);
       pen.fillStyle = is_gap ? this.colours.rule : state.brush;
       pen.fillRect(0, is_gap ? all - 1 : all - high, 28, is_gap ? 1 : high);

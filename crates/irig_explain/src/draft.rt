@@ -1,6 +1,7 @@
 //! What is wrong with a line, written part by part.
 
-use crate::misfit::{Found, JsonPath, Misfit, Note};
+use crate::misfit::{Found, Misfit, Note};
+use crate::place::JsonPath;
 use crate::start::start_of;
 use serde_json::Value;
 use std::alloc::{AllocError, Global};

@@ -1,6 +1,7 @@
 //! What is wrong with a line after the plant line.
 
-use crate::misfit::{Expected, Found, JsonPath, Misfit, Note};
+use crate::misfit::{Expected, Found, Misfit, Note};
+use crate::place::JsonPath;
 use crate::refused::PlantContext;
 use crate::shape::find_in_shape;
 use crate::value::find_in_values;

@@ -8,8 +8,10 @@ mod json;
 mod kind;
 mod misfit;
 mod objects;
+mod place;
 mod plan;
 mod plant;
+mod range;
 mod refused;
 mod shape;
 mod start;
@@ -19,6 +21,7 @@ mod words;
 
 pub use draft::{Parts, Reason, Span};
 pub use irig_faults::{Meaning, meaning_of};
+pub use place::JsonPath;
 pub use refused::{PlantContext, why_refused};
 pub use word::{explanation, why_no_word};
 pub use words::{why_no_frame, why_no_time};

@@ -1,27 +1,9 @@
 //! What is wrong in a line: the place, what stands there, and what may stand there.
 
+use crate::place::JsonPath;
 use indexmap::IndexSet;
 use irig_forms::Key;
 use serde_json::Value;
-
-/// An object of a scenario's line.
-#[derive(Clone, Copy)]
-pub(crate) enum JsonPath {
-    /// The line's own.
-    Line,
-    /// A leap of a plant line.
-    Leap(usize),
-    /// A generator.
-    Generator(usize),
-    /// A change of a generator's zone, after the generator.
-    Change(usize, usize),
-    /// A reader.
-    Reader(usize),
-    /// The table of a reader.
-    Table(usize),
-    /// A leap of a reader's table, after the reader.
-    TableLeap(usize, usize),
-}
 
 /// What stands where it should not.
 #[derive(Clone, Copy)]

@@ -1,6 +1,7 @@
 //! What is wrong with the form of a plant line's objects, or with a value in one.
 
-use crate::misfit::{Expected, JsonPath, Misfit};
+use crate::misfit::{Expected, Misfit};
+use crate::place::JsonPath;
 use crate::shape::find_in_shape;
 use crate::value::find_in_values;
 use irig_forms::{Key, items_at, whole_at};

@@ -1,11 +1,12 @@
 //! What is wrong with a plant line.
 
-use crate::misfit::{Expected, JsonPath, Misfit};
+use crate::misfit::{Expected, Misfit};
 use crate::objects::{find_in_ranges, find_in_shapes};
-use crate::plan::{find_change, find_in_tables, find_leap, find_offset};
+use crate::place::JsonPath;
+use crate::plan::find_in_plan;
 use irig_faults::{LineFault, Refusal};
 use irig_forms::{items_at, text_at};
-use irig_values::{PlantValues, is_name, values_of, version_in};
+use irig_values::{is_name, values_of, version_in};
 use serde_json::Value;
 use std::alloc::{AllocError, Global};
 
@@ -59,21 +60,6 @@ fn find_in_values(
         Ok(values) => Ok(find_in_plan(refusal, &values, value)),
         Err(LineFault::Refused(_)) => Ok(None),
         Err(LineFault::Memory) => Err(AllocError),
-    }
-}
-
-fn find_in_plan<'a>(
-    refusal: Refusal,
-    values: &PlantValues,
-    value: &'a Value,
-) -> Option<Misfit<'a>> {
-    match refusal {
-        Refusal::Offset => find_offset(&values.generators, value),
-        Refusal::Changes => find_change(&values.generators, value),
-        Refusal::LeapNotMonthEnd | Refusal::LeapTwice | Refusal::OutOfYears => {
-            find_leap(&values.leaps, value)
-        }
-        _ => find_in_tables(&values.readers, value),
     }
 }
 

@@ -1,6 +1,7 @@
 //! Where an object has not its form: another key, one that is missing, or a value of another type.
 
-use crate::misfit::{Expected, Found, JsonPath, Misfit};
+use crate::misfit::{Expected, Found, Misfit};
+use crate::place::JsonPath;
 use irig_forms::{Key, fits, is_named};
 use serde_json::{Map, Value};
 
