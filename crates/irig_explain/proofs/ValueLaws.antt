@@ -17,6 +17,6 @@ pub all_naturals : (most : ℕ) (vs : List Value) → list_all (λ v. is_some (n
 all_naturals most [] = refl
 all_naturals most (v ∷ vs) = ap (λ b. is_some (natural_in most (view v)) && b) (all_naturals most vs)
 
-pub is_some_map : {A B : Type 0} {f : A → B} (o : Option A) → is_some (option_map f o) ≡ is_some o
-is_some_map None = refl
-is_some_map (Some x) = refl
+pub is_some_map : {A B : Type 0} (f : A → B) (o : Option A) → is_some (option_map f o) ≡ is_some o
+is_some_map f None = refl
+is_some_map f (Some x) = refl

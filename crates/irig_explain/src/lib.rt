@@ -7,6 +7,7 @@ mod event;
 mod json;
 mod kind;
 mod misfit;
+mod names;
 mod objects;
 mod place;
 mod plan;

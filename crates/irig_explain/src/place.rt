@@ -3,12 +3,15 @@
 ghost use Rattle.std.specs.Prelude.{◌≡◌, map, option_map};
 ghost use Rattle.serde_json.specs.View.{view};
 ghost use Rattle.irig_forms.specs.Keys.{key_value};
-ghost use Rattle.irig_explain.specs.Places.{is_misformed, is_misvalued, item_at, keys_at, object_at, table_at};
+ghost use Rattle.irig_values.specs.PlantValues.{is_count, readers_in};
+ghost use Rattle.irig_values.specs.Names.{name_in};
+ghost use Rattle.irig_explain.specs.Places.{has_count, is_beyond, is_line, is_misformed, is_misvalued, is_misnamed, is_unnamed, item_at, keys_at, object_at, table_at, version_of_line};
 
 use crate::range::have_values;
-use irig_forms::{Key, has_form, items_at};
+use irig_forms::{Key, has_form, items_at, text_at};
 use irig_values::{
-    Version, change_keys, generator_keys, leap_keys, plant_keys, reader_keys, table_keys,
+    Version, change_keys, generator_keys, is_name, leap_keys, plant_keys, reader_keys, table_keys,
+    version_in,
 };
 use serde_json::Value;
 
@@ -86,13 +89,61 @@ pub(crate) fn is_misformed(version: Version, place: JsonPath, value: &Value) -> 
     }
 }
 
-/// Whether a value in the object at a place is not in its range.
+// Whether a value in the object at a place is not in its range.
 #[tactic(auto, unfolding(crate::specs::Places::is_misvalued))]
-pub(crate) fn is_misvalued(version: Version, place: JsonPath, value: &Value) -> bool
+fn is_misvalued(version: Version, place: JsonPath, value: &Value) -> bool
     ensures { result ≡ is_misvalued version place (view value.now) }
 {
     match object_at(value, place) {
         Some(object) => !have_values(keys_at(version, place), object),
         None => false,
     }
+}
+
+/// The version of a plant line; of one that tells none, the last.
+#[tactic(auto, unfolding(crate::specs::Places::version_of_line))]
+pub(crate) fn version_of_line(value: &Value) -> Version
+    ensures { result ≡ version_of_line (view value.now) }
+{
+    match version_in(value) {
+        Some(version) => version,
+        None => Version::Three,
+    }
+}
+
+fn is_line(place: JsonPath) -> bool
+    ensures { result ≡ is_line place }
+{
+    match place {
+        JsonPath::Line => true,
+        _ => false,
+    }
+}
+
+#[tactic(auto, unfolding(crate::specs::Places::has_count))]
+fn has_count(version: Version, value: &Value) -> bool
+    ensures { result ≡ has_count version (view value.now) }
+{
+    match items_at(value, "generators") {
+        Some(generators) => is_count(version, generators.len()),
+        None => false,
+    }
+}
+
+fn is_count(version: Version, generators: usize) -> bool
+    ensures { result ≡ is_count version generators }
+{
+    match version {
+        Version::One | Version::Two => generators == 3,
+        Version::Three => generators == 3 || generators == 5,
+    }
+}
+
+/// Whether a value in the object at a place is not in its range, or the line has too few generators
+/// or too many.
+#[tactic(auto, unfolding(crate::specs::Places::is_beyond))]
+pub(crate) fn is_beyond(version: Version, place: JsonPath, value: &Value) -> bool
+    ensures { result ≡ is_beyond version place (view value.now) }
+{
+    is_misvalued(version, place, value) || (is_line(place) && !has_count(version, value))
 }

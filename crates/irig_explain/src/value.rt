@@ -1,5 +1,7 @@
 //! Where a value is of the right type, and outside its range or none of its words.
 
+ghost use Rattle.std.specs.Prelude.{◌≡◌, IfSome};
+
 use crate::misfit::{Expected, Found, Misfit, Note};
 use crate::place::JsonPath;
 use crate::range::has_value;
@@ -12,7 +14,9 @@ pub(crate) fn find_in_values<'a>(
     place: JsonPath,
     keys: &[Key],
     value: &'a Value,
-) -> Option<Misfit<'a>> {
+) -> Option<Misfit<'a>>
+    ensures { IfSome result (λ misfit. misfit.place ≡ place) }
+{
     for key in keys {
         if let Some(item) = value.get(key.name)
             && !has_value(key, value)
@@ -23,7 +27,9 @@ pub(crate) fn find_in_values<'a>(
     None
 }
 
-fn misfit_at(place: JsonPath, key: Key, item: &Value) -> Misfit<'_> {
+fn misfit_at(place: JsonPath, key: Key, item: &Value) -> Misfit<'_>
+    ensures { result.place ≡ place }
+{
     if let Kind::Naturals(count, most) = key.kind
         && let Some((at, natural)) = first_outside(count, most, item)
     {
