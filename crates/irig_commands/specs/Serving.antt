@@ -1,6 +1,6 @@
 -- What is done for a request.
 -- Source: README.md, the commands; the exit statuses are those of Status.antt.
-use Rattle.std.specs.Prelude.{◌≡◌, ℕ, ◌≤◌, ◌↔◌, ◌⊎◌, Bool, false, true, List, Result, Ok, Err, IfSome, string_bytes}
+use Rattle.std.specs.Prelude.{◌≡◌, ℕ, ◌≤◌, ◌↔◌, ◌⊎◌, Bool, false, true, ⊤, List, Result, Ok, Err, IfSome, string_bytes}
 use Rattle.std.specs.Io.KnownBytes.{Appends, Keeps}
 use Rattle.std.specs.declared.io.Error.{Error}
 use Rattle.irig_device.specs.Lines.{Bytes}
@@ -85,9 +85,11 @@ ShowsReading rules text answer old new =
     ⊎ ((ShowsNoSymbols text × Refuses fault.BadFrameText answer old new)
     ⊎ Refuses fault.Memory answer old new)
 
--- a word is none that is explained, or there is no memory to explain it
+-- what is answered of a word that is none of those that are explained
 abbrev pub IsUnknownWord : Fault → Type 0
-IsUnknownWord f = ((text : String) × (f ≡ fault.CommandLine text)) ⊎ (f ≡ fault.Memory)
+IsUnknownWord (fault.CommandLine text) = ⊤
+IsUnknownWord fault.Memory = ⊤
+IsUnknownWord _ = ⊥
 
 -- a text, if the word is one that is explained and there is memory; which text is not said
 abbrev pub ShowsMeaning : Answer → Bytes → Bytes → Type 0

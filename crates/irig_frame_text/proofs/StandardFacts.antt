@@ -1,11 +1,16 @@
 -- Known lines, so that a wrong definition does not check: those of the worked examples, and each
 -- number and name of docs/FAULTS.md.
-use Rattle.std.proofs.Common.{◌≡◌, ℕ, List, [], ◌∷◌, map, refl, sym}
+use Rattle.std.proofs.Common.{◌≡◌, ℕ, pos, true, List, [], ◌∷◌, Some, map, refl, sym}
 use Rattle.std.specs.Prelude.{codes}
 use Rattle.std.specs.Fmt.{digits}
 use Rattle.irig_frame.specs.declared.coded.Coded.{Coded}
 use Rattle.irig_frame.specs.declared.layout.Field.TheVariants.{Second, Minute, Hour, Day, Year}
 use Rattle.irig_frame.specs.declared.fault.FrameFault.TheVariants.{Short, Long, Pulse, Marker, Digit, Range}
+use Rattle.irig_control.specs.declared.parity.Parity.TheVariants.{Odd}
+use Rattle.irig_control.specs.Control.{word_of}
+use Rattle.irig_time.specs.declared.leap.Leap.TheVariants as leap
+use Rattle.irig_time.specs.declared.rules.Sense.{Sense}
+use Rattle.irig_time.specs.declared.rules.Sense.TheVariants.{Add, Subtract}
 use Rattle.irig_time.specs.declared.mark.Mark.{Mark}
 use Rattle.irig_time.specs.declared.mark.Mark.TheVariants.{Unspoken, NoLeap, Insert, Delete}
 use Rattle.irig_time.specs.declared.claim.TimeFault.TheVariants.{NoSuchDay, OutOfYears, Second60, DeletedSecond}
@@ -13,6 +18,8 @@ use Rattle.irig_time.proofs.TextValueLaws.{known_second_text}
 use Rattle.irig_port.specs.declared.told.PortFault.{PortFault}
 use Rattle.irig_port.specs.declared.told.PortFault.TheVariants as fault
 use Rattle.irig_port.specs.declared.told.Told.TheVariants.{Silence, Fault, Poor, Claim}
+use Rattle.irig_frame_text.specs.declared.frame.FrameOptions.{FrameOptions}
+use Rattle.irig_frame_text.specs.Frame.{control_with}
 use Rattle.irig_frame_text.specs.Reading.{clock_text, coded_line, told_line, with_zeros}
 
 pub known_zeros : map (with_zeros 3) (1 ∷ 31 ∷ 366 ∷ []) ≡ codes "001" ∷ codes "031" ∷ codes "366" ∷ []
@@ -53,3 +60,12 @@ known_claims = (rw (sym known_second_text) refl, rw (sym known_second_text) refl
 pub known_others : (told_line Silence ≡ codes "silence\n") × (told_line (Poor 10) ≡ codes "poor 10\n")
 unfolding told_line digits
 known_others = (refl, refl)
+
+abbrev asked : Sense → FrameOptions
+asked sense = record { local = pos 11; pending = Some leap.Delete; dst = true; quality = 9; parity = Odd; sense = sense }
+
+-- leap pending 1 and its kind 2, daylight saving 8, five hours 160 and a half 512, quality 9216; the
+-- sign 16
+pub known_control_words : (word_of (control_with (asked Subtract)) ≡ 9899) × (word_of (control_with (asked Add)) ≡ 9915)
+unfolding word_of
+known_control_words = (refl, refl)
