@@ -1,6 +1,6 @@
 -- The ticks of readers, and their accounts.
-use Rattle.std.proofs.Common.{◌≡◌, ◌≢◌, ℕ, suc, ◌+◌, ◌<◌, ◌≤◌, true, false, cond, List, [], ◌∷◌, ◌++◌, length, drop, get_or, set, Option, Some, None, refl, sym, ap, ◌∙◌, subst, arith, eqb, inl, inr}
-use Rattle.std.specs.Prelude.{◌==◌, All, vec_len}
+use Rattle.std.proofs.Common.{◌≡◌, ◌≢◌, ℕ, ◌+◌, ◌<◌, true, false, cond, List, [], ◌∷◌, ◌++◌, length, drop, get_or, set, Option, Some, None, refl, sym, ap, ◌∙◌, arith, inl, inr}
+use Rattle.std.specs.Prelude.{◌==◌}
 use Rattle.std.proofs.Math.ListN.{drop_of_length-le}
 use Rattle.std.proofs.lemmas.Bool.{eq-eqb, cases_lt}
 use Rattle.irig_plant.specs.declared.event.Event.{Event}
@@ -15,7 +15,7 @@ use Rattle.irig_plant.proofs.ToldLaws.{told_length}
 use Rattle.irig_blame.specs.declared.account.Account.{Account}
 use Rattle.irig_blame.specs.declared.tick.Tick.{Tick as TickOf}
 use Rattle.irig_blame.specs.Accounts.{account_of}
-use Rattle.irig_blame.specs.Books.{tick, tick_of, ticks_at, account_at, first_tick}
+use Rattle.irig_blame.specs.Books.{tick_of, ticks_at, account_at, first_tick}
 
 -- ---- the ticks of a reader
 

@@ -1,5 +1,5 @@
 -- Texts that grow by one piece after another.
-use Rattle.std.proofs.Common.{◌≡◌, ℕ, zero, suc, ◌+◌, ◌<◌, List, [], ◌++◌, refl, sym, ap, ◌∙◌, append-nil, append_assoc, arith}
+use Rattle.std.proofs.Common.{◌≡◌, ℕ, zero, suc, ◌+◌, ◌<◌, List, ◌++◌, refl, sym, ap, ◌∙◌, append-nil, append_assoc, arith}
 use Rattle.irig_blame.specs.Text.{texts_below}
 
 pub no_text : (f : ℕ → List ℕ) (b : List ℕ) → b ≡ b ++ texts_below f 0

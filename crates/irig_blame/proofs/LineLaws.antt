@@ -8,7 +8,7 @@ use Rattle.irig_faults.specs.declared.refusal.Refusal.TheVariants.{TooManyLines,
 use Rattle.irig_faults.specs.Refusals.{IsUnlessMemory}
 use Rattle.irig_scenario.specs.declared.event_line.Command.{Command}
 use Rattle.irig_scenario.specs.EventLine.{command_in_line}
-use Rattle.irig_scenario.specs.PlantLine.{Plan, plan_in_line}
+use Rattle.irig_scenario.specs.PlantLine.{plan_in_line}
 use Rattle.irig_scene.specs.declared.stop.Stop.{Stop}
 use Rattle.irig_scene.specs.declared.stop.Stop.TheVariants.{Refused, Failed}
 use Rattle.irig_scene.specs.Faults.{stop_of}
@@ -17,7 +17,7 @@ use Rattle.irig_scene.specs.Scene.{Scene, scene, events_of, Step, step_to, step_
 use Rattle.irig_scene.specs.PlayerRuns.{after_events}
 use Rattle.irig_scene.proofs.StepLaws.{step_taken}
 use Rattle.irig_blame.specs.declared.blamer.Blamer.{Blamer}
-use Rattle.irig_blame.specs.BlameText.{ended_in, ended_of, closing_of, blame_meaning}
+use Rattle.irig_blame.specs.BlameText.{ended_of, closing_of, blame_meaning}
 use Rattle.irig_blame.specs.Blaming.{EndedMore, EndedPart, IsBlamerAt, Blamed, IsAt, GrewMore, GrewPart, TookTo, Took, TakesLine, TakesEventLine, Begins}
 use Rattle.irig_blame.proofs.PlayedLaws.{front_of_play}
 

@@ -1,6 +1,6 @@
 -- What an observer does with an event that its plant has taken.
-use Rattle.std.proofs.Common.{◌≡◌, ℕ, ◌+◌, ◌<◌, List, [], ◌∷◌, ◌++◌, length, Option, Some, None, refl, sym, ap, ◌∙◌, subst, arith}
-use Rattle.std.specs.Prelude.{slice_index_or, vec_len}
+use Rattle.std.proofs.Common.{◌≡◌, ℕ, ◌<◌, false, List, [], ◌∷◌, ◌++◌, length, Option, Some, None, Result, Ok, Err, refl, sym, ap, ◌∙◌, subst, arith}
+use Rattle.std.specs.Prelude.{OnOk, is_err, slice_index_or, vec_len}
 use Rattle.std.specs.Io.KnownBytes.{Appends}
 use Rattle.std.proofs.KnownBytes.{Appends-nil}
 use Rattle.irig_device.specs.Watched.{AppendsPart}
@@ -10,6 +10,8 @@ use Rattle.irig_plant.specs.declared.event.Event.{Event}
 use Rattle.irig_plant.specs.declared.event.Event.TheVariants.{GenEdge, Tick, Carry, Damage, Replay, Raw, Fault, Repair, Restart}
 use Rattle.irig_plant.specs.Refusals.{refusal}
 use Rattle.irig_plant.specs.Schedule.{Setup, log_of}
+use Rattle.irig_scene.specs.declared.stop.Failure.{Failure}
+use Rattle.irig_scene.specs.Faults.{WroteText}
 use Rattle.irig_scene.specs.Scene.{Scene, scene, audit_in, verdict_text}
 use Rattle.irig_blame.specs.declared.account.Account.{Account}
 use Rattle.irig_blame.specs.declared.book.Book.{Book}
@@ -18,10 +20,10 @@ use Rattle.irig_blame.specs.declared.tick.Tick.{Tick as TickOf}
 use Rattle.irig_blame.specs.Accounts.{account_of}
 use Rattle.irig_blame.specs.Books.{tick_of, account_at, IsBookOf}
 use Rattle.irig_blame.specs.BlameText.{ended_text, closing_in}
-use Rattle.irig_blame.specs.Blaming.{IsObserverAt, HasTaken}
+use Rattle.irig_blame.specs.Blaming.{IsObserverAt, HasTaken, ToldTick}
 use Rattle.irig_blame.specs.Text.{texts_below, ended_lines, open_lines, total_lines}
 use Rattle.irig_blame.proofs.GrowLaws.{text_then, texts_alike}
-use Rattle.irig_blame.proofs.BookLaws.{IsTick, latest, the_tick, no_tick, known_reader}
+use Rattle.irig_blame.proofs.BookLaws.{latest, the_tick, no_tick, known_reader}
 
 -- ---- no tick
 
@@ -121,3 +123,15 @@ pub end_is : (o : Observer) (x : Scene) (b0 b1 b2 : List ℕ) (audit : Audit) �
     → b2 ≡ b0 ++ (closing_in x ++ verdict_text (Some x))
 end_is o x b0 b1 b2 audit at closed ended same =
     text_then b0 b1 b2 _ _ closed (ended ∙ ap (λ a. b1 ++ audit_text (texts_of o.names.keys) a) same ∙ ap (λ names. b1 ++ audit_text names (audit_in x)) at.named)
+
+-- ---- what was written
+
+-- what holds of an answer that is no error
+pub unless_err : {A E : Type 0} {P : Type 0} (r : Result A E) → is_err r ≡ false → OnOk r P → P
+unless_err (Ok x) e h = h
+unless_err (Err x) e h = absurd cc
+
+pub told_by : (r : Result (Unit {0}) Failure) (x : Scene) (e : Event) (q : Observer) (text : List ℕ) (old new : Option (List ℕ)) → WroteText r old new text → text ≡ ended_text x.plan.names x.plan.setup e x.events
+    → IsObserverAt q (scene x.plan (e ∷ x.events)) → ToldTick r x e q old new
+told_by (Ok done) x e q text old new wrote is at = (at, subst (Appends old new) is wrote)
+told_by (Err f) x e q text old new wrote is at = subst (AppendsPart old new) is wrote

@@ -13,7 +13,7 @@ use Rattle.irig_scene.specs.declared.stop.Failure.{Failure}
 use Rattle.irig_scene.specs.declared.stop.Failure.TheVariants as failure
 use Rattle.irig_scene.specs.declared.stop.Stop.{Stop}
 use Rattle.irig_scene.specs.declared.stop.Stop.TheVariants.{Refused, Failed}
-use Rattle.irig_scene.specs.Faults.{WroteText, fault_of}
+use Rattle.irig_scene.specs.Faults.{fault_of}
 use Rattle.irig_scene.specs.LineRuns.{WroteRefusal}
 use Rattle.irig_scene.specs.Lines.{lines}
 use Rattle.irig_scene.specs.Scene.{Scene, step, Meaning, meaning, refusal_at, meaning_from, meaning_at_end, verdict_text}

@@ -1,5 +1,5 @@
 -- That what is kept is of UTC is a fact which a book may keep: if it cannot be false, it is true.
-use Rattle.std.proofs.Common.{Option, Some, None, List, ◌∷◌, [], get_or, ℕ, ◌<◌, length}
+use Rattle.std.proofs.Common.{Option, Some, None, List, get_or, ℕ, ◌<◌, length}
 use Rattle.std.specs.Prelude.{All}
 use Rattle.irig_time.proofs.ValidLaws.{valid_if_not_wrong, not_wrong}
 use Rattle.irig_port.specs.declared.told.Told.{Told}

@@ -1,5 +1,5 @@
 -- What the ticks of a reader come to, the newest first.
-use Rattle.std.specs.Prelude.{ℕ, ◌==◌, if◌then◌else◌, List, [], ◌∷◌, length, count_by}
+use Rattle.std.specs.Prelude.{ℕ, ◌==◌, if◌then◌else◌, List, length, count_by}
 use Rattle.irig_blame.specs.declared.account.Account.{Account}
 use Rattle.irig_blame.specs.declared.account.PortAccount.{PortAccount}
 use Rattle.irig_blame.specs.declared.kind.Kind.{Kind}

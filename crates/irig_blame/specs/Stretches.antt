@@ -1,5 +1,5 @@
 -- Stretches of a port, and silences of a reader, over its ticks, the newest first.
-use Rattle.std.specs.Prelude.{◌≡◌, ℕ, ◌+◌, ◌<◌, ◌&&◌, Bool, true, false, not, if◌then◌else◌, List, [], ◌∷◌, Option, Some, None}
+use Rattle.std.specs.Prelude.{ℕ, ◌+◌, ◌<◌, ◌&&◌, Bool, true, false, not, if◌then◌else◌, List, [], ◌∷◌, Option, Some, None}
 use Rattle.irig_reader.specs.declared.report.Cause.{Cause}
 use Rattle.irig_reader.specs.declared.report.Cause.TheVariants.{Voted, Held, Acquiring, NoVote, Expired, LeapGuard, Jump, RangeEnd}
 use Rattle.irig_blame.specs.declared.kind.Kind.{Kind}

@@ -105,12 +105,13 @@ pub(crate) fn stop<W: Write>(
         (W.contents (device_of output.old)) (W.contents (device_of output.new)) }
     ensures note { has_failed output.new ≡ (has_failed output.old || is_write_fault result) }
 {
-    if let Some(blamer) = blamer
-        && let Err(failure) = blamer.write_closing(alloc, output)
-    {
-        return SceneFault::from(failure);
+    match blamer {
+        None => refuse(alloc, number, refusal, output),
+        Some(blamer) => match blamer.write_closing(alloc, output) {
+            Ok(()) => refuse(alloc, number, refusal, output),
+            Err(failure) => SceneFault::from(failure),
+        },
     }
-    refuse(alloc, number, refusal, output)
 }
 
 /// Plays the line with which the input ended, if it has any bytes, and ends the text.
