@@ -9,8 +9,14 @@ uint8_t irig_scene_c_run_shown(const uint8_t *text, size_t count, bool all, bool
                                uint8_t *log, size_t room, size_t *whole, uint8_t *reason,
                                size_t reason_room, irig_refusal *refusal);
 
+uint8_t irig_scene_c_frame_text(const char *time, size_t count, const irig_frame_options *options,
+                                char text[110]);
+
+uint8_t irig_scene_c_frame_lines(const char *text, size_t count, uint8_t parity, uint8_t sense,
+                                 uint8_t sbs, char *lines, size_t room, size_t *whole);
+
 /* Whether a pointer leads to so many bytes, as it seems. */
-static bool leads(const uint8_t *bytes, size_t count) {
+static bool leads(const void *bytes, size_t count) {
     return (bytes != NULL) || (count == 0U);
 }
 
@@ -38,5 +44,25 @@ uint8_t irig_run_shown(const uint8_t *text, size_t count, bool all, bool ports, 
                                              (log != NULL) ? log : &no_log, room, whole,
                                              (reason != NULL) ? reason : &no_reason, reason_room,
                                              refusal)
+                    : refused;
+}
+
+uint8_t irig_frame_text(const char *time, size_t count, const irig_frame_options *options,
+                        char text[110]) {
+    static const uint8_t refused = IRIG_TEXT_NULL;
+    const char no_time = '\0';
+    bool is_there = leads(time, count) && (options != NULL) && (text != NULL);
+    return is_there ? irig_scene_c_frame_text((time != NULL) ? time : &no_time, count, options, text)
+                    : refused;
+}
+
+uint8_t irig_frame_lines(const char *text, size_t count, uint8_t parity, uint8_t sense, uint8_t sbs,
+                         char *lines, size_t room, size_t *whole) {
+    static const uint8_t refused = IRIG_TEXT_NULL;
+    const char no_text = '\0';
+    char no_lines = '\0';
+    bool is_there = leads(text, count) && leads(lines, room) && (whole != NULL);
+    return is_there ? irig_scene_c_frame_lines((text != NULL) ? text : &no_text, count, parity, sense,
+                                               sbs, (lines != NULL) ? lines : &no_lines, room, whole)
                     : refused;
 }

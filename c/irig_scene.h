@@ -1,4 +1,4 @@
-/* irig_scene.h: the proved runner of scenarios, for C11 and C++.
+/* irig_scene.h: the proved runner of scenarios, and the texts of frames, for C11 and C++.
  *
  * From the text of a scenario to the text of its log, both in memory: byte for byte what `irig run`
  * writes to standard output. docs/SCENARIOS.md says how a scenario is written, docs/OUTPUT.md what
@@ -70,6 +70,41 @@ typedef struct irig_refusal {
 uint8_t irig_run_shown(const uint8_t *text, size_t count, bool all, bool ports, uint8_t *log,
                        size_t room, size_t *whole, uint8_t *reason, size_t reason_room,
                        irig_refusal *refusal);
+
+/* ---- the texts of frames */
+
+enum {
+    IRIG_TEXT_DONE = 0,
+    IRIG_TEXT_BAD = 1,      /* the text of no second of the years served, a letter of no symbol, or a
+                             * number without a meaning; nothing was written */
+    IRIG_TEXT_NULL = 2,     /* a null pointer where bytes belong; nothing was written */
+    IRIG_TEXT_NO_MEMORY = 6 /* no memory for the lines; nothing was written */
+};
+
+/* What a frame says beside its time, and how it is made. All zeros are what `irig frame` takes
+ * without options. */
+typedef struct irig_frame_options {
+    int8_t local_half_hours; /* how far the clock is ahead of UTC, -31 to 31 */
+    uint8_t pending;         /* a leap second: 0 none, 1 an inserted one, 2 a deleted one */
+    uint8_t dst;             /* 1 if daylight saving is in force, else 0 */
+    uint8_t quality;         /* 0 for a locked clock to 15 for one that failed */
+    uint8_t parity;          /* 0 even, 1 odd */
+    uint8_t sense;           /* to give UTC the offset is 0 added, 1 subtracted */
+} irig_frame_options;
+
+/* Writes the frame of a UTC second as `irig frame` prints it: ten groups of ten letters with a blank
+ * between, and a newline; no 0 behind it. `time` are `count` letters, as 2016-12-31T23:59:59Z. */
+uint8_t irig_frame_text(const char *time, size_t count, const irig_frame_options *options,
+                        char text[110]);
+
+/* Writes what a frame says, as `irig read` prints it: the line of the coded time, if it codes one, and
+ * the line of what a port tells of it. `text` are `count` letters: P, 0, 1, ? and blanks. The rules of
+ * the port: `parity` 0 even, 1 odd; `sense` 0 the offset is added, 1 subtracted; `sbs` 0 the binary
+ * seconds are checked, 1 ignored. As much is written to `lines` as `room` bytes hold, and `*whole` is
+ * how many bytes there are, at most 200; with any status but IRIG_TEXT_DONE and IRIG_TEXT_NULL it is
+ * 0. It asks for memory as a run does. */
+uint8_t irig_frame_lines(const char *text, size_t count, uint8_t parity, uint8_t sense, uint8_t sbs,
+                         char *lines, size_t room, size_t *whole);
 
 #ifdef __cplusplus
 }

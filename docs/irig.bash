@@ -5,11 +5,23 @@ declare -gA _irig_options=(
     [irig]='--help --version'
     [run]='--all --ports --help'
     [flatten]='--help'
-    [frame]='--local= --pending= --help'
-    [read]='--help'
+    [frame]='--local= --pending= --dst --quality= --parity= --sense= --help'
+    [read]='--parity= --sense= --sbs= --help'
     [explain]='--help'
     [help]=''
 )
+
+# The words that may stand behind an option's '='.
+declare -gA _irig_words=(
+    [--pending]='insert delete'
+    [--parity]='even odd'
+    [--sense]='add subtract'
+    [--sbs]='check ignore'
+)
+
+# What `irig explain` takes beside the numbers and names of docs/FAULTS.md.
+_irig_explained='voted held acquiring no-vote expired leap-guard jump range-end locked holdover
+unlocked ok silence poor fault unspoken no-leap insert delete premises'
 
 _irig() {
     local word=${COMP_WORDS[COMP_CWORD]} command=${COMP_WORDS[1]}
@@ -17,10 +29,10 @@ _irig() {
     COMPREPLY=()
     # bash splits words at '='
     if [[ ${COMP_WORDS[COMP_CWORD - 1]} == = ]]; then
-        [[ ${COMP_WORDS[COMP_CWORD - 2]} != --pending ]] ||
-            mapfile -t COMPREPLY < <(compgen -W 'insert delete' -- "$word")
+        mapfile -t COMPREPLY < \
+            <(compgen -W "${_irig_words[${COMP_WORDS[COMP_CWORD - 2]}]-}" -- "$word")
     elif [[ $word == = ]]; then
-        [[ ${COMP_WORDS[COMP_CWORD - 1]} != --pending ]] || COMPREPLY=(insert delete)
+        mapfile -t COMPREPLY < <(compgen -W "${_irig_words[${COMP_WORDS[COMP_CWORD - 1]}]-}")
     elif [[ $word == -* ]]; then
         mapfile -t COMPREPLY < <(compgen -W "${_irig_options[$command]-}" -- "$word")
         [[ ${COMPREPLY-} != *= ]] || compopt -o nospace
@@ -29,6 +41,8 @@ _irig() {
     elif [[ $command == run || $command == flatten ]]; then
         mapfile -t COMPREPLY < <(compgen -f -- "$word")
         compopt -o filenames
+    elif [[ $command == explain ]]; then
+        mapfile -t COMPREPLY < <(compgen -W "$_irig_explained" -- "$word")
     elif [[ $command == help ]]; then
         mapfile -t COMPREPLY < <(compgen -W 'run flatten frame read explain' -- "$word")
     fi

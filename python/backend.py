@@ -18,16 +18,15 @@ LIBRARIES = ("irig", "irig_scene")
 
 
 def version() -> str:
-    """The version, which the manual has."""
+    """The version, which the package has itself."""
     if not (ROOT / "docs/irig.1").exists():
         sys.exit(
             f"{HERE} is not in a checkout of irig. Before its version 21.3 `pip` copies the folder"
             " away first: `pip install --upgrade pip`, then install this package again."
         )
-    manual = (ROOT / "docs/irig.1").read_text()
-    found = re.search(r'^\.TH .*"irig ([0-9.]+)"', manual, re.MULTILINE)
+    found = re.search(r'^__version__ = "([0-9.]+)"', (HERE / "irig/__init__.py").read_text(), re.M)
     if not found:
-        sys.exit("docs/irig.1 has no version")
+        sys.exit("python/irig/__init__.py has no version")
     return found[1]
 
 

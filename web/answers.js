@@ -1,5 +1,6 @@
 // What web/compare.py asks of the page's modules, in node and in a browser. A request is a scenario, a second
-// whose frame is to be made, or a frame to be read; of a scenario the answer is status and hash of its log.
+// whose frame is to be made, or a frame to be read; of a scenario the answer is status, hash of its log, and
+// why it is refused.
 
 const bytes_of = (text) => Uint8Array.from(atob(text), (letter) => letter.charCodeAt(0));
 
@@ -22,16 +23,18 @@ function frame_of({ time, ...wanted }, { codec, frame_text }) {
   return symbols && frame_text(symbols);
 }
 
-function reading_of_text(text, { codec, symbols_of, reading_of }) {
-  const { symbols } = symbols_of(text);
-  return symbols ? reading_of(codec, symbols).join("\n") : null;
+// The lines without the last newline; null of a text that is no frame.
+function reading_of({ frame, rules }, { texts }) {
+  const lines = texts.lines(frame, rules);
+  return lines && lines.replace(/\n$/, "");
 }
 
 async function answer_of(request, calls) {
   if (request.time !== undefined) return frame_of(request, calls);
-  if (request.frame !== undefined) return reading_of_text(request.frame, calls);
-  const result = await calls.run(bytes_of(request.text), request.all);
-  const answer = [result.status, await hash_of(result.log)];
+  if (request.frame !== undefined) return reading_of(request, calls);
+  const result = await calls.run(bytes_of(request.text), request.shown), why = result.refusal;
+  const reason = why && `line ${why.line}: ${why.number}: ${why.reason}`;
+  const answer = [result.status, await hash_of(result.log), reason];
   return request.lanes ? [...answer, lanes_of(result)] : answer;
 }
 

@@ -2,9 +2,8 @@
 
 const SYMBOLS = "01P?";
 const MOST_SYMBOLS = 101; // enough to see that there are too many
-const MARKS = ["unspoken", "no-leap", "insert", "delete"];
 const FIELDS = ["second", "minute", "hour", "day", "year"];
-const KINDS = { SILENCE: 0, FAULTY: 1, POOR: 2, CLAIM: 3 };
+const FAULTY = 1; // the kind of what a port tells that found a fault
 const FAULTS = { SHORT: 1, LONG: 2, PULSE: 3, MARKER: 4, DIGIT: 5, RANGE: 6 };
 const ELEMENT_FAULTS = [FAULTS.PULSE, FAULTS.MARKER], FIELD_FAULTS = [FAULTS.DIGIT, FAULTS.RANGE];
 const CODEC_PAGES = 32; // of memory: the stack has 16 of them
@@ -42,11 +41,6 @@ class Codec {
     return this.ask("second_read", this.at("text"), { at: 20 }, this.at("second")) === 0;
   }
 
-  text_of(place) {
-    this.ask("second_write", { at: place }, this.at("text"));
-    return new TextDecoder().decode(this.bytes("text", 20));
-  }
-
   // The frame of a second with these control bits, as 100 symbols; null if the text is of no second.
   frame(text, { local, pending, dst_pending, dst, quality, is_odd }) {
     if (!this.second_of(text)) return null;
@@ -81,24 +75,18 @@ class Codec {
     return { leap_pending, leap_delete, dst_pending, dst, offset, quality };
   }
 
-  // What a port with the usual rules tells of symbols: even parity, offset added, binary seconds checked.
-  tell(symbols) {
+  // The fault that a port of these rules, by their numbers, finds in symbols; none if it finds none.
+  fault_told(symbols, rules) {
     this.bytes("setup", 12).fill(0);
+    this.bytes("setup", 3).set(rules);
     this.view.setUint8(this.setup + 4, 1); // lock_after
     this.bytes("table", 520).fill(0);
     this.ask("reader_init", this.at("reader"), this.at("setup"), this.at("table"));
     for (const symbol of symbols)
       this.ask("reader_pulse", this.at("reader"), 0, this.ask("width_us", symbol));
     this.ask("reader_port", this.at("reader"), 0, this.at("told"));
-    const kind = this.view.getUint8(this.told);
-    if (kind === KINDS.SILENCE) return { line: "silence" };
-    if (kind === KINDS.POOR) return { line: `poor ${this.view.getUint8(this.told + 1)}` };
-    if (kind === KINDS.FAULTY) {
-      const fault = fault_of(this.view.getUint32(this.told + 4, true));
-      return { line: `fault ${named(fault)}`, fault };
-    }
-    const mark = MARKS[this.view.getUint8(this.told + 16)];
-    return { line: `claim ${this.text_of(this.told + 8)} ${mark}`, mark };
+    if (this.view.getUint8(this.told) !== FAULTY) return null;
+    return fault_of(this.view.getUint32(this.told + 4, true));
   }
 
   // The first fault of symbols, then what is wrong besides, each found once those before it are mended.
@@ -153,14 +141,24 @@ function symbols_of(text) {
   return { symbols };
 }
 
-// The lines that `irig read` prints of symbols.
-function reading_of(codec, symbols) {
-  const kept = symbols.slice(0, MOST_SYMBOLS);
-  const { fields, word, sbs } = codec.decode(kept), told = codec.tell(kept);
-  if (!fields) return [told.line];
-  const [second, minute, hour, day, year] = fields;
-  const two = (number) => String(number).padStart(2, "0");
-  const clock = [hour, minute, second].map(two).join(":");
-  const date = `${2000 + year}-${String(day).padStart(3, "0")}`;
-  return [`coded ${date} ${clock} control ${word} sbs ${sbs}`, told.line];
+// ---- the lines that `irig read` prints, by the module of irig_scene_c; each call has a memory of its own
+
+const TEXT_PAGES = 64, MOST_TEXT_PAGES = 1024; // of memory
+const LINES_ROOM = 256; // bytes: more than the lines have
+
+class Texts {
+  constructor(module) { this.module = module; }
+
+  // What a frame says under these rules, by their numbers: parity, sense, sbs; null of a text that is no frame.
+  lines(text, [parity, sense, sbs]) {
+    const memory = new WebAssembly.Memory({ initial: TEXT_PAGES, maximum: MOST_TEXT_PAGES });
+    const { exports } = new WebAssembly.Instance(this.module, { env: { memory }, page: { grows() {} } });
+    const given = new TextEncoder().encode(text.replace(/\s/g, " "));
+    const [from, lines, whole] = [given.length || 1, LINES_ROOM, 8].map((size) => exports.heap_give(BigInt(size)));
+    new Uint8Array(memory.buffer).set(given, Number(from));
+    const words = [from, BigInt(given.length), parity, sense, sbs, lines, BigInt(LINES_ROOM), whole];
+    if (exports.irig_scene_c_frame_lines(...words) & 255) return null;
+    const size = Number(new DataView(memory.buffer).getBigUint64(Number(whole), true));
+    return new TextDecoder().decode(new Uint8Array(memory.buffer, Number(lines), size));
+  }
 }

@@ -1,13 +1,14 @@
 #!/usr/bin/env python3
 """Compares the page with the program, `compare.py PAGE PROGRAM`: in node and in Chromium, status and bytes
 of each case and example, of 3,000 scenarios made at random, and frames that are made and read. How the page
-stands the readers is compared with tools/parts/log_lanes.py and tools/view."""
+stands the readers is compared with tools/parts/log_lanes.py and irig.scenarios."""
 from __future__ import annotations
 
 import base64
 import hashlib
 import json
 import random
+import re
 import subprocess
 import sys
 from collections.abc import Iterator
@@ -21,34 +22,39 @@ import browser  # noqa: E402
 from loading import ROOT, loaded  # noqa: E402
 from case_files import NOTHING, all_cases  # noqa: E402
 from parts.log_lanes import STATES, bars_of  # noqa: E402
+from irig.scenarios import made_edges  # noqa: E402
 
 BY_CHANCE, FRAMES = 3000, 400
 MOST_SECONDS = 5_000  # of a scenario made at random, so that all end soon
 BATCH = 100
 NAMES = list(STATES)
 LETTERS = "01P?"
+REFUSED = 3
+RULES = ("even", "odd"), ("add", "subtract"), ("check", "ignore")  # by their numbers
 FROM_INPUT = [], ["run", "-"]  # the words of a case that runs its input, without options
 
 FUZZ = loaded(ROOT / "tests/fuzz")
-VIEW = loaded(ROOT / "tools/view")
 
 
 # ---- what is asked, and what the program says of it
 
 
-def ran(program: Path, *words: str, text: bytes = b"") -> tuple[int, bytes]:
+def ran(program: Path, *words: str, text: bytes = b"") -> tuple[int, bytes, str]:
     done = subprocess.run([program, *words], input=text, capture_output=True, timeout=120)
-    return done.returncode, done.stdout
+    return done.returncode, done.stdout, done.stderr.decode()
 
 
-def scenario(text: bytes, has_all: bool, has_lanes: bool) -> dict:
-    return {"text": base64.b64encode(text).decode(), "all": has_all, "lanes": has_lanes}
+def scenario(text: bytes, has_all: bool, has_ports: bool, has_lanes: bool) -> dict:
+    shown = {"all": has_all, "ports": has_ports}
+    return {"text": base64.b64encode(text).decode(), "shown": shown, "lanes": has_lanes}
 
 
 def told_scenario(program: Path, request: dict) -> list:
     text = base64.b64decode(request["text"])
-    status, log = ran(program, "run", "-", *["--all"] * request["all"], text=text)
-    answer = [status, hashlib.sha256(log).hexdigest()]
+    options = [f"--{name}" for name, is_shown in request["shown"].items() if is_shown]
+    status, log, why = ran(program, "run", "-", *options, text=text)
+    reason = re.sub(r"^(line \d+: \d+) \w+:", r"\1:", why.partition("\n")[0]) if status == REFUSED else None
+    answer = [status, hashlib.sha256(log).hexdigest(), reason]
     return [*answer, lanes_of(text.decode(errors="replace"), log.decode())] if request["lanes"] else answer
 
 
@@ -59,7 +65,7 @@ def lanes_of(text: str, log: str) -> dict:
     if not lines or not lines[0][0].isdigit():
         return {"lanes": [], "first": 1, "last": 1, "verdict": verdict}
     bars = bars_of(lines)
-    ticks = VIEW.ticks_of(text.split("\n"), [lane.reader for lane in bars.lanes])
+    ticks = made_edges(text.split("\n"), [lane.reader for lane in bars.lanes])
     lanes = [
         [
             lane.reader,
@@ -109,7 +115,7 @@ def frame(chance: random.Random) -> dict:
 def told_frame(program: Path, request: dict) -> str | None:
     words = [request["time"], f"--local={request['local']}"]
     words += [f"--pending={request['pending']}"] if request["pending"] else []
-    status, text = ran(program, "frame", *words)
+    status, text, _ = ran(program, "frame", *words)
     return text.decode().rstrip("\n") if status == 0 else None
 
 
@@ -122,16 +128,24 @@ def damaged(chance: random.Random, text: str) -> str:
     return "".join(letters)
 
 
+def reading(chance: random.Random, texts: list[str]) -> dict:
+    rules = [chance.choice([0, 0, 1]) for _ in RULES]
+    return {"frame": damaged(chance, chance.choice(texts)), "rules": rules}
+
+
 def told_reading(program: Path, request: dict) -> str | None:
-    status, text = ran(program, "read", request["frame"])
+    rules = zip(("--parity", "--sense", "--sbs"), RULES, request["rules"])
+    words = [word for name, kinds, rule in rules for word in (name, kinds[rule])]
+    status, text, _ = ran(program, "read", request["frame"], *words)
     return text.decode().rstrip("\n") if status == 0 else None
 
 
 def expected(program: Path) -> tuple[dict[str, list[dict]], dict[str, list]]:
     """The requests of each kind, and the answers of the program."""
     chance = random.Random("frames")
-    found = [scenario(text, has_all, True) for text in files() for has_all in (False, True)]
-    made = [scenario(text, place % 2 == 0, False) for place, text in enumerate(by_chance())]
+    each = [(False, False, True), (True, False, True), (False, True, False), (True, True, False)]
+    found = [scenario(text, *asked) for text in files() for asked in each]
+    made = [scenario(text, place % 2 == 0, place % 3 == 0, False) for place, text in enumerate(by_chance())]
     frames = [frame(chance) for _ in range(FRAMES)]
     with ThreadPoolExecutor(2) as pool:
         answers = {
@@ -140,7 +154,7 @@ def expected(program: Path) -> tuple[dict[str, list[dict]], dict[str, list]]:
             "frames": list(pool.map(lambda it: told_frame(program, it), frames)),
         }
         texts = [text for text in answers["frames"] if text]
-        readings = [{"frame": damaged(chance, chance.choice(texts))} for _ in range(FRAMES)]
+        readings = [reading(chance, texts) for _ in range(FRAMES)]
         answers["readings"] = list(pool.map(lambda it: told_reading(program, it), readings))
     return dict(zip(answers, (found, made, frames, readings))), answers
 
@@ -156,14 +170,14 @@ def in_node(page: Path, requests: list[dict]) -> list:
 
 IN_BROWSER = """
 const worker_of_check = new Worker(tab.runner.source);
-const calls_of_check = Promise.all([ready, modules.runner]).then(([[, codec], module]) => ({
-  codec, frame_text, symbols_of, reading_of,
-  run: (text, all) => new Promise((told, failed) => {
+const calls_of_check = Promise.all([ready, modules.runner]).then(([[, [codec, texts]], module]) => ({
+  codec, frame_text, texts,
+  run: (text, shown) => new Promise((told, failed) => {
     worker_of_check.onmessage = ({ data }) => {
       if (data.kind === "done") told(data);
       if (data.kind === "failed") failed(new Error(data.reason));
     };
-    worker_of_check.postMessage({ module, text, all, most: 1 << 30 });
+    worker_of_check.postMessage({ module, text, shown, most: 1 << 30 });
   }),
 }));
 """

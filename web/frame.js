@@ -124,7 +124,7 @@ function show_frame(codec) {
   draw_fields(part("frame-fields"), fields_of(codec.decode(symbols), !frame_wanted().is_odd), new Map());
 }
 
-function start_frame(codec) {
+function start_frame(codec, texts) {
   for (let local = -31; local <= 31; local++) {
     add_option(part("zone"), String(local), local ? zone_text(local) : "UTC");
   }
@@ -137,7 +137,8 @@ function start_frame(codec) {
   part("frame-controls").addEventListener("submit", (event) => event.preventDefault());
   part("to-read").addEventListener("click", () => {
     part("read-text").value = part("frame-text").value;
-    show_reading(codec);
+    part("read-parity").value = part("parity").value === "odd" ? "1" : "0";
+    show_reading(codec, texts);
     show_tab("read");
   });
   show_frame(codec);
@@ -182,8 +183,13 @@ function missing_from(count) { // the fields that have elements which did not co
   return new Map(data.elements.slice(count).map(({ field }) => [field, "not all of it came"]));
 }
 
-function show_reading(codec) {
-  const { symbols, wrong } = symbols_of(part("read-text").value);
+function rules_wanted() { // by their numbers
+  return ["read-parity", "read-sense", "read-sbs"].map((id) => Number(part(id).value));
+}
+
+function show_reading(codec, texts) {
+  const text = part("read-text").value, rules = rules_wanted();
+  const { symbols, wrong } = symbols_of(text);
   part("read-text").setAttribute("aria-invalid", Boolean(wrong));
   part("faults").replaceChildren();
   for (const id of ["read-elements", "read-fields"]) part(id).hidden = Boolean(wrong);
@@ -192,9 +198,9 @@ function show_reading(codec) {
     part("reading").textContent = told;
     return;
   }
-  part("reading").textContent = reading_of(codec, symbols).join("\n");
+  part("reading").textContent = (texts.lines(text, rules) || "").trimEnd();
   const { found, mended } = symbols.length ? codec.faults(symbols) : { found: [], mended: [] };
-  const { fault } = codec.tell(symbols.slice(0, MOST_SYMBOLS));
+  const fault = codec.fault_told(symbols.slice(0, MOST_SYMBOLS), rules);
   const faults = found.length || !fault ? found : [fault];
   faults.forEach((each, place) => draw_fault(each, place === 0));
   const places = places_of(faults);
@@ -209,8 +215,8 @@ function show_reading(codec) {
   draw_fields(part("read-fields"), values, new Map([...missing_from(symbols.length), ...places.fields]));
 }
 
-function start_read(codec) {
+function start_read(codec, texts) {
   part("read-text").value = part("frame-text").value;
-  part("read-text").addEventListener("input", () => show_reading(codec));
-  show_reading(codec);
+  part("panel-read").addEventListener("input", () => show_reading(codec, texts));
+  show_reading(codec, texts);
 }

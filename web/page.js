@@ -29,11 +29,11 @@ show_tab("run");
 const modules = { runner: compiled("irig_scene_c"), codec: compiled("irig_c") };
 const tab = new ScenarioTab(modules.runner);
 const ready = Promise.all([
-  tab.take_link().then((is_taken) => is_taken || tab.choose_example("leap_inserted")),
-  modules.codec.then((module) => {
-    const codec = new Codec(module);
-    start_frame(codec);
-    start_read(codec);
-    return codec;
+  tab.take_link().then((is_taken) => is_taken || tab.run_example("leap_inserted")),
+  Promise.all([modules.codec, modules.runner]).then(([module, runner]) => {
+    const codec = new Codec(module), texts = new Texts(runner);
+    start_frame(codec, texts);
+    start_read(codec, texts);
+    return [codec, texts];
   }),
 ]).catch((error) => { part("state").textContent = `this browser can't run the page: ${error.message}`; });

@@ -13,11 +13,12 @@ ROOT = WEB.parent
 PARTS = ROOT / "tools/parts"
 sys.path.insert(0, str(ROOT / "tools"))
 
-from parts.log_lanes import STATES  # noqa: E402
+from parts.log_lanes import PORT_STATES, STATES  # noqa: E402
 from parts.html_page import embedded, filled, hashed, joined, script_of  # noqa: E402
 
-SCRIPTS = (PARTS / "list.js", WEB / "log.js", PARTS / "timeline.js", WEB / "codec.js", WEB / "frame.js",
-           WEB / "editor.js", WEB / "scenario.js", WEB / "page.js")
+SCRIPTS = (PARTS / "list.js", PARTS / "reading.js", WEB / "log.js", PARTS / "timeline.js", WEB / "codec.js",
+           WEB / "frame.js", WEB / "editor.js", WEB / "scenario.js", WEB / "page.js")
+WORKER = PARTS / "reading.js", WEB / "worker.js"
 FIELDS = ("second", "minute", "hour", "day", "year")
 MODULES = ("irig_scene_c", "irig_c")
 LETTERS = {**dict(zip("smhdy", FIELDS)), "o": "offset", "q": "time quality", "b": "straight binary seconds"}
@@ -120,6 +121,7 @@ def coded(module: bytes) -> str:
 def data_of(folder: Path) -> dict[str, object]:
     return {
         "states": {name: vars(state) for name, state in STATES.items()},
+        "port_states": {name: vars(state) for name, state in PORT_STATES.items()},
         "numbers": numbers(),
         "causes": causes(),
         "verdicts": verdicts(),
@@ -140,7 +142,7 @@ def page_of(data: dict[str, object]) -> str:
         "style": style,
         "timeline": (PARTS / "timeline.html").read_text(),
         "data": embedded(data),
-        "worker": (WEB / "worker.js").read_text(),
+        "worker": script_of(WORKER),
         "script": script,
     })
 

@@ -15,11 +15,12 @@ const module_of = (name) => new WebAssembly.Module(Buffer.from(data.modules[name
 const values = (code, names) => Function("data", `${code}\nreturn { ${names} };`)(data);
 
 const { told_of } = values(inside("worker"), "told_of");
-const { Codec, ...texts } = values(here("codec.js"), "Codec, frame_text, reading_of, symbols_of");
+const { Codec, Texts, frame_text } = values(here("codec.js"), "Codec, Texts, frame_text");
 const { answers_of } = values(here("answers.js"), "answers_of");
 
 const module = module_of("irig_scene_c"), codec = new Codec(module_of("irig_c"));
-const run = (text, all) => told_of({ module, text, all, most: MOST }, () => {});
+const texts = new Texts(module);
+const run = (text, shown) => told_of({ module, text, shown, most: MOST }, () => {});
 let text = "";
 for await (const part of stdin.setEncoding("utf8")) text += part;
-stdout.write(JSON.stringify(await answers_of(JSON.parse(text), { run, codec, ...texts })));
+stdout.write(JSON.stringify(await answers_of(JSON.parse(text), { run, codec, texts, frame_text })));

@@ -14,14 +14,14 @@ class Runner { // one worker at a time
     this.source = URL.createObjectURL(new Blob([part("worker").textContent], { type: "text/javascript" }));
   }
 
-  start(text, all, most) {
+  start(text, shown, most) {
     this.stop();
     const worker = this.worker = new Worker(this.source);
     const fail = (reason) => this.take(worker, { kind: "failed", reason });
     worker.onmessage = (event) => this.take(worker, event.data);
     worker.onerror = (event) => fail(event.message || "the worker ended");
     worker.onmessageerror = () => fail("the worker's answer could not be read");
-    const asked = { text: new TextEncoder().encode(text), all, most: most * MEGABYTE };
+    const asked = { text: new TextEncoder().encode(text), shown, most: most * MEGABYTE };
     this.module.then((module) => worker.postMessage({ module, ...asked }), (error) => fail(error.message));
   }
 
@@ -101,9 +101,14 @@ class ScenarioTab {
     this.set_text(example.text);
   }
 
+  run_example(name) { // on opening; what a link brings waits until Run is pressed
+    this.choose_example(name);
+    this.run();
+  }
+
   set_text(text) {
     this.editor.set(text);
-    this.tell_size();
+    this.tell_text();
     this.explain("");
     this.set_stale(this.has_run);
   }
@@ -111,9 +116,14 @@ class ScenarioTab {
   on_change() { // by the hand of the user
     part("example").value = "";
     part("look").replaceChildren();
-    this.tell_size();
+    this.tell_text();
     this.explain("");
     this.set_stale(this.has_run);
+  }
+
+  tell_text() {
+    this.tell_size();
+    show_plant(this.editor.line(0));
   }
 
   tell_size() {
@@ -132,13 +142,14 @@ class ScenarioTab {
     const text = this.editor.text;
     this.begun = performance.now();
     this.progress = null;
-    this.running = { text, all: part("all").checked };
+    this.running = { text, all: part("all").checked, ports: part("ports").checked };
     this.explain("");
     this.editor.mark(-1);
     this.show_running(true);
     this.timer = setInterval(() => this.tell_progress(), 250);
     part("state").textContent = "running";
-    this.runner.start(text, this.running.all, Number(part("most").value));
+    const { all, ports } = this.running;
+    this.runner.start(text, { all, ports }, Number(part("most").value));
   }
 
   stop() {
@@ -203,13 +214,13 @@ class ScenarioTab {
     part("drawing").hidden = part("range").hidden = !result.lanes.length;
     this.timeline.set(result, (lane, edge) => this.told_of(lane, edge));
     if (result.lanes.length) this.timeline.choose(this.timeline.lanes[0], result.first);
-    this.show_verdict(verdict, status);
+    this.show_verdict(verdict, status, result.refusal);
     const lines = `${log.length.toLocaleString("en")} line${log.length === 1 ? "" : "s"}`;
     const cost = `${seconds(result.spent)}, ${bytes_text(result.memory)} of memory`;
     part("state").textContent = `${ENDS[status] || `status ${status}`}: ${lines} of log in ${cost}`;
   }
 
-  show_verdict(verdict, status) {
+  show_verdict(verdict, status, refusal) {
     const is_kept = status === STATUS.DONE && verdict === "premises kept";
     const is_cut = status !== STATUS.DONE && status !== STATUS.REFUSED;
     part("verdict").textContent = `${is_kept ? "\u2713" : "\u2717"} ${is_cut ? "memory ran out" : verdict}`;
@@ -218,9 +229,8 @@ class ScenarioTab {
       : meaning_of(verdict || "");
     part("to-verdict").hidden = true;
     const broken = /^premises broken: edge (\d+) reader (\S+)$/.exec(verdict || "");
-    const refused = /^refused: line (\d+): (\d+) \w+$/.exec(verdict || "");
     if (broken) this.lead_to_edge(broken[2], Number(broken[1]));
-    if (refused) this.show_refusal(Number(refused[1]), data.numbers[refused[2]], refused[2]);
+    if (refusal) this.show_refusal(refusal);
   }
 
   lead_to_edge(reader, edge) {
@@ -228,12 +238,13 @@ class ScenarioTab {
     if (lane) this.lead(`go to edge ${edge}`, () => this.timeline.choose(lane, edge));
   }
 
-  show_refusal(line, { name, cause, example, cure }, number) {
+  show_refusal({ line, number, reason }) {
     this.lead(`go to line ${line}`, () => this.editor.go_to(line - 1));
     if (this.running.text !== this.editor.text) return;
     this.editor.mark(line - 1);
     this.editor.show(line - 1);
-    const told = [`Line ${line} is refused, ${number} ${name}: ${cause}.`, `For example: ${example}`];
+    const { name, cause, example, cure } = data.numbers[number];
+    const told = [`Line ${line} is refused, ${number} ${name}: ${reason || cause}`, `For example: ${example}`];
     this.explain([...told, `What to do: ${cure}`].join("\n"));
   }
 
@@ -363,6 +374,39 @@ class ScenarioTab {
     part("search-previous").addEventListener("click", () => this.go_to_found(-1));
     window.addEventListener("hashchange", () => this.take_link());
   }
+}
+
+// ---- the plant line, key by key, since it is long
+
+const LONGEST_PLANT = 20000; // letters; a longer line is not folded
+
+function show_plant(line) { // nothing of a line that is no object
+  part("plant").replaceChildren();
+  const plant = line.length <= LONGEST_PLANT ? object_of(line) : null;
+  part("plant").hidden = !plant;
+  for (const [key, value] of Object.entries(plant || {})) {
+    add(part("plant"), "dt", key);
+    const cell = add(part("plant"), "dd");
+    const items = Array.isArray(value) ? value : [value];
+    for (const item of items) add(cell, "span", said_of(item));
+    if (!items.length) add(cell, "span", "none");
+  }
+}
+
+function object_of(line) {
+  try {
+    const value = JSON.parse(line);
+    return value && typeof value === "object" && !Array.isArray(value) ? value : null;
+  } catch {
+    return null;
+  }
+}
+
+function said_of(value) { // as: name relay, lock_after 2
+  if (Array.isArray(value)) return value.length ? value.map(said_of).join("; ") : "none";
+  if (value === null || typeof value !== "object") return String(value);
+  const parts = Object.entries(value).map(([key, item]) => `${key} ${said_of(item)}`);
+  return parts.join(", ");
 }
 
 function meaning_of(verdict) { // of the last line of a log, with its number in it

@@ -72,6 +72,7 @@ class InBrowser(unittest.TestCase):
     def setUp(self) -> None:
         self.page.scheme("light")
         self.open()
+        self.push("ports")  # off: what follows counts lines of entries
 
     def tearDown(self) -> None:
         self.assertEqual(self.page.errors, [])
@@ -81,6 +82,7 @@ class InBrowser(unittest.TestCase):
     def open(self) -> None:
         self.page.open(PAGE)
         self.page.ask("ready.then(() => 0)")
+        self.end_of_run()
 
     def text(self, name: str) -> str:
         return str(self.page.ask(f"part('{name}').textContent"))
@@ -150,8 +152,9 @@ class InBrowser(unittest.TestCase):
         for name in names:
             with self.subTest(name):
                 self.set("example", name)
-                if self.page.ask("part('all').checked") != ("--all" in cases[name].texts()):
-                    self.push("all")
+                for option in ("all", "ports"):
+                    if self.page.ask(f"part('{option}').checked") != (f"--{option}" in cases[name].texts()):
+                        self.push(option)
                 self.assertEqual(self.value("text"), (ROOT / cases[name].name).read_text())
                 self.assertIn("Look at", self.text("look"))
                 self.push("run")
@@ -172,7 +175,7 @@ class InBrowser(unittest.TestCase):
                 self.page.call("Input.dispatchKeyEvent", type=kind, key="Tab", windowsVirtualKeyCode=9)
             reached.append(self.page.ask("document.activeElement.id"))
         self.assertLessEqual(
-            {"example", "all", "most", "run", "to-verdict", "cause", "reader", "previous", "next", "edge",
+            {"example", "all", "ports", "most", "run", "to-verdict", "cause", "reader", "previous", "next", "edge",
              "in", "out", "whole", "canvas", "file", "link", "text", "search", "search-next", "save", "log"},
             set(reached),
         )
@@ -202,7 +205,9 @@ class InBrowser(unittest.TestCase):
         self.assertTrue(state.startswith("a line is refused: 6 lines"), state)
         self.assertIn("refused: line 3: 19 NoSuchReader", self.text("verdict"))
         told = self.text("explanation")
-        self.assertTrue(told.startswith("Line 3 is refused, 19 NoSuchReader: no reader has this name."), told)
+        self.assertTrue(
+            told.startswith('Line 3 is refused, 19 NoSuchReader: "r" is "rely"; "relay" may stand here\n'), told
+        )
         self.assertEqual(self.page.ask("part('text').getAttribute('aria-invalid')"), "true")
         self.assertFalse(self.page.ask("part('band').hidden"))
         self.push("to-verdict")
@@ -211,6 +216,33 @@ class InBrowser(unittest.TestCase):
         self.picture("refused")
         self.paste("text", plant({"do": "seconds", "n": 5}))
         self.assertEqual((self.text("explanation"), self.page.ask("part('band').hidden")), ("", True))
+
+    def test_the_first_example_is_run_on_opening(self) -> None:
+        self.open()
+        self.assertEqual(self.value("example"), "leap_inserted")
+        self.assertTrue(self.page.ask("part('ports').checked"))
+        self.assertTrue(self.text("state").startswith("done: "))
+        self.assertIn("premises kept", self.text("verdict"))
+        self.assertIn("\n 10 relay ok ok ok\n", self.log())
+        self.picture("opened")
+
+    def test_the_plant_line_by_its_keys(self) -> None:
+        self.paste("text", plant(generators=[{"local": 0}, {"local": 11}, {"local": -10}]))
+        told = self.page.ask("[...part('plant').children].map((cell) => cell.textContent)")
+        by_key = dict(zip(told[::2], told[1::2]))
+        self.assertEqual(by_key["generators"], "local 0local 11local -10")
+        self.assertEqual(by_key["leaps"], "day 2016-12-31, kind insert")
+        self.assertEqual(by_key["readers"], "name relay, lock_after 2, holdover 3600")
+        self.paste("text", "no plant")
+        self.assertTrue(self.page.ask("part('plant').hidden"))
+
+    def test_what_ports_told(self) -> None:
+        self.push("ports")
+        state = self.run_text((ROOT / "examples/one_liar.jsonl").read_text())
+        self.assertTrue(state.startswith("done: "), state)
+        lines = [line for line in self.log().splitlines() if line.startswith(" ")]
+        self.assertTrue(any(line.count(" ok") == 2 and line.count("Z") == 1 for line in lines), lines[:3])
+        self.picture("one_liar")
 
     def test_a_refused_plant_after_a_run(self) -> None:
         right = plant({"do": "seconds", "n": 10})

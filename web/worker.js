@@ -1,38 +1,18 @@
-"use strict";
-
 // What the worker of a run does: it plays a scenario by the proved module, then reads the log into lines and
-// lanes for the page. Each run has a worker of its own, as a module that trapped may not be called again.
+// lanes for the page, by tools/parts/reading.js, which stands before this. Each run has a worker of its own,
+// as a module that trapped may not be called again.
 
 const PAGE = 65536, FIRST_PAGES = 64; // of the module's memory
 const LEAST_ROOM = 1 << 20, SPARE = 1 << 22; // bytes: for a log, and for all but the log
-const PART = 1 << 23; // bytes that are made text at once
 const NO_LOG = 5, NO_MEMORY = 6; // statuses, as c/irig_scene.h has them
 // The bytes of a line of the log without edge and name: one with a vote, and the longest.
 const USUAL_LINE = " 2000-01-01T00:00:00Z locked voted\n".length + 1;
 const LONGEST_LINE = " 2000-01-01T00:00:00Z holdover:1000000 leap-guard\n".length + 1;
 const LAST_LINE = 200;
+// And those of a line of what ports told: with three that agree, and the longest of five.
+const USUAL_PORTS = "   ok ok ok\n".length, LONGEST_PORTS = "  \n".length + 5 * " fault:10:DeletedSecond".length;
 
 // ---- the scenario: which edges its lines make
-
-class Numbers { // as many as come
-  constructor(Kind) {
-    this.items = new Kind(256);
-    this.length = 0;
-  }
-
-  push(number) {
-    if (this.length === this.items.length) {
-      const wider = new this.items.constructor(2 * this.length);
-      wider.set(this.items);
-      this.items = wider;
-    }
-    this.items[this.length++] = number;
-  }
-
-  get last() { return this.length ? this.items[this.length - 1] : 0; }
-
-  whole() { return this.items.slice(0, this.length); }
-}
 
 function json_of(line) {
   try {
@@ -69,164 +49,63 @@ function add_ticks(ticks, line, place) {
   }
 }
 
-// How many bytes the log has if each edge has a line of so many bytes beside edge and name.
-function bytes_of(ticks, line) {
+// How many bytes the log has if each edge has lines of so many bytes beside edge and name.
+function bytes_of(ticks, ...lines) {
   let bytes = LAST_LINE;
-  for (const [name, { ends }] of ticks) bytes += ends.last * (String(ends.last).length + name.length + line);
+  for (const [name, { ends }] of ticks) {
+    for (const line of lines) bytes += ends.last * (String(ends.last).length + name.length + line);
+  }
   return bytes;
 }
 
 // ---- the run
 
+const REASON_ROOM = 4096; // bytes: more than a reason has
+const REFUSAL = { LINE: 0, WHOLE: 8, NUMBER: 80, SIZE: 88 }; // where its parts stand, as c/irig_scene.h has them
+
+// Why a scenario is refused: the line, the number and the reason in words; null if it is not.
+function refusal_in(memory, place, reason) {
+  const view = new DataView(memory.buffer, place, REFUSAL.SIZE);
+  const [line, whole] = [REFUSAL.LINE, REFUSAL.WHOLE].map((at) => Number(view.getBigUint64(at, true)));
+  if (!line) return null;
+  const text = new TextDecoder().decode(new Uint8Array(memory.buffer, reason, Math.min(whole, REASON_ROOM)));
+  return { line, number: view.getUint8(REFUSAL.NUMBER), reason: text };
+}
+
 // Runs a scenario of these bytes in at most so many bytes of memory, with this room for the log; if that
 // is too little it runs once more, in a new memory. When a block of memory grows, it tells to how many bytes.
-function run_of(module, text, all, most, room, on_growth) {
+function run_of(module, text, shown, most, room, on_growth) {
   const memory = new WebAssembly.Memory({ initial: FIRST_PAGES, maximum: Math.floor(most / PAGE) });
   const grows = (bytes) => on_growth(Number(bytes));
   const calls = new WebAssembly.Instance(module, { env: { memory }, page: { grows } }).exports;
-  const ended = (status, log) => ({ status, log, memory: memory.buffer.byteLength });
+  const ended = (status, log, refusal = null) => ({ status, log, refusal, memory: memory.buffer.byteLength });
   const give = (bytes) => calls.heap_give(BigInt(bytes || 1));
-  const from = give(text.length), whole = give(8), log = give(room);
-  if (!from || !whole) return ended(NO_MEMORY, new Uint8Array(0));
+  const from = give(text.length), whole = give(8), reason = give(REASON_ROOM), refusal = give(REFUSAL.SIZE);
+  const log = give(room);
+  if (!from || !whole || !reason || !refusal) return ended(NO_MEMORY, new Uint8Array(0));
   if (!log) return ended(NO_LOG, new Uint8Array(0));
   new Uint8Array(memory.buffer).set(text, Number(from));
-  const status = calls.irig_scene_c_run(from, BigInt(text.length), all ? 1 : 0, log, BigInt(room), whole) & 255;
+  const status = calls.irig_scene_c_run_shown(
+    from, BigInt(text.length), Number(shown.all), Number(shown.ports), log, BigInt(room), whole,
+    reason, BigInt(REASON_ROOM), refusal,
+  ) & 255;
   const length = Number(new DataView(memory.buffer).getBigUint64(Number(whole), true));
-  if (length > room) return run_of(module, text, all, most, length, on_growth);
-  return ended(status, new Uint8Array(memory.buffer, Number(log), length).slice());
-}
-
-// ---- the log: lines, and how each reader stood
-
-const STATES = ["locked", "holdover", "acquiring", "unlocked", "not announced"];
-const NOT_ANNOUNCED = STATES.length - 1;
-
-class Lane { // runs of edges at which a reader stood alike for one cause, and marks at edges
-  constructor(reader) {
-    Object.assign(this, { reader, marks: [], before_edge: 1, before: "", month: "" });
-    for (const name of ["firsts", "lasts", "edges"]) this[name] = new Numbers(Float64Array);
-    for (const name of ["states", "causes"]) this[name] = new Numbers(Uint8Array);
-    this.lines = new Numbers(Uint32Array);
-  }
-
-  add(edge, time, state, cause, line) {
-    if (edge > this.lasts.last + 1) this.run(this.lasts.last + 1, edge - 1, NOT_ANNOUNCED, 0);
-    if (this.firsts.length && this.states.last === state && this.causes.last === cause) {
-      this.lasts.items[this.lasts.length - 1] = edge;
-    } else {
-      this.run(edge, edge, state, cause);
-    }
-    this.edges.push(edge);
-    this.lines.push(line);
-    if (time !== "-") this.announce(edge, time);
-  }
-
-  run(first, last, state, cause) {
-    this.firsts.push(first);
-    this.lasts.push(last);
-    this.states.push(state);
-    this.causes.push(cause);
-  }
-
-  announce(edge, time) { // marks leap seconds, and month ends since the second that was announced before
-    if (time.endsWith(":60Z")) this.marks.push([edge, "leap second"]);
-    if (!this.month || !time.startsWith(this.month)) {
-      this.month = time.slice(0, 7);
-      const is_next = edge === this.before_edge + 1 && this.before.endsWith("T23:59:58Z");
-      if (is_next && time.endsWith("T00:00:00Z")) this.marks.push([edge - 0.5, "deleted second"]);
-      const begins = edge - second_of_month(time);
-      if (this.before_edge < begins && begins <= edge) this.marks.push([begins - 0.5, "month end"]);
-    }
-    this.before_edge = edge;
-    this.before = time;
-  }
-
-  end(last) {
-    if (this.lasts.last < last) this.run(this.lasts.last + 1, last, NOT_ANNOUNCED, 0);
-    const names = ["firsts", "lasts", "states", "causes", "edges", "lines"];
-    const numbers = Object.fromEntries(names.map((name) => [name, this[name].whole()]));
-    return { reader: this.reader, marks: this.marks, ...numbers };
-  }
-}
-
-function second_of_month(time) { // leap seconds come at its end alone
-  const number = (place) => Number(time.slice(place, place + 2));
-  const [days, hours, minutes, seconds] = [8, 11, 14, 17].map(number);
-  return 86400 * (days - 1) + 3600 * hours + 60 * minutes + seconds;
-}
-
-class Reading { // of a log, line by line
-  constructor() {
-    this.starts = new Numbers(Uint32Array); // where the lines begin, and the end
-    this.lanes = new Map();
-    this.causes = ["not announced"];
-    this.verdict = null;
-  }
-
-  take(line, start) {
-    if (line >= "0" && line < ":") {
-      const edge = line.indexOf(" "), reader = line.indexOf(" ", edge + 1); // where the columns end
-      const time = line.indexOf(" ", reader + 1), lock = line.indexOf(" ", time + 1);
-      this.add(
-        Number(line.slice(0, edge)), line.slice(edge + 1, reader), line.slice(reader + 1, time),
-        line.slice(time + 1, lock), line.slice(lock + 1),
-      );
-    } else if (line) {
-      this.verdict = line;
-    }
-    this.starts.push(start);
-  }
-
-  add(edge, reader, time, lock, cause) {
-    const colon = lock.indexOf(":");
-    let place = this.causes.indexOf(cause, 1);
-    if (place < 0) place = this.causes.push(cause) - 1;
-    if (!this.lanes.has(reader)) this.lanes.set(reader, new Lane(reader));
-    const state = STATES.indexOf(colon < 0 ? lock : lock.slice(0, colon));
-    this.lanes.get(reader).add(edge, time, state, place, this.starts.length);
-  }
-
-  end(length) {
-    const lanes = [...this.lanes.values()];
-    const last = Math.max(1, ...lanes.map((lane) => lane.lasts.last));
-    const broken = /^premises broken: edge (\d+) reader (\S+)$/.exec(this.verdict || "");
-    if (broken && this.lanes.has(broken[2])) {
-      this.lanes.get(broken[2]).marks.push([Number(broken[1]), "premise broken"]);
-    }
-    this.starts.push(length);
-    return {
-      starts: this.starts.whole(), lanes: lanes.map((lane) => lane.end(last)), causes: this.causes,
-      verdict: this.verdict, first: 1, last,
-    };
-  }
-}
-
-function read_log(log) { // all of it; a line that was cut off is one too, but no edge
-  const reading = new Reading(), ascii = new TextDecoder();
-  let from = 0;
-  while (from < log.length) {
-    const end = log.lastIndexOf(10, Math.min(from + PART, log.length) - 1) + 1;
-    if (end <= from) break;
-    let start = from;
-    for (const line of ascii.decode(log.subarray(from, end - 1)).split("\n")) {
-      reading.take(line, start);
-      start += line.length + 1;
-    }
-    from = end;
-  }
-  if (from < log.length) reading.starts.push(from);
-  return reading.end(log.length);
+  if (length > room) return run_of(module, text, shown, most, length, on_growth);
+  const why = refusal_in(memory, Number(refusal), Number(reason));
+  return ended(status, new Uint8Array(memory.buffer, Number(log), length).slice(), why);
 }
 
 // ---- the messages
 
 // What the page is given at the end, with how long the run took in milliseconds.
-function told_of({ module, text, all, most }, tell) {
+function told_of({ module, text, shown, most }, tell) {
   const ticks = ticks_of(new TextDecoder().decode(text).split("\n"));
-  const expected = bytes_of(ticks, USUAL_LINE);
+  const usual = [USUAL_LINE, ...shown.ports ? [USUAL_PORTS] : []];
+  const longest = [LONGEST_LINE, ...shown.ports ? [LONGEST_PORTS] : []];
+  const expected = bytes_of(ticks, ...usual);
   // The run's own copy of the log may take twice as much as the log itself.
   const most_room = Math.floor(most / 3) - SPARE;
-  const room = Math.min(Math.max(LEAST_ROOM, bytes_of(ticks, LONGEST_LINE)), most_room);
+  const room = Math.min(Math.max(LEAST_ROOM, bytes_of(ticks, ...longest)), most_room);
   const begun = performance.now();
   let largest = LEAST_ROOM;
   const on_growth = (bytes) => {
@@ -234,7 +113,7 @@ function told_of({ module, text, all, most }, tell) {
     largest = bytes;
     tell({ kind: "progress", spent: performance.now() - begun, written: bytes / 2, expected });
   };
-  const ended = run_of(module, text, all, most, room, on_growth);
+  const ended = run_of(module, text, shown, most, room, on_growth);
   const spent = performance.now() - begun, { length } = ended.log;
   tell({ kind: "progress", spent, written: length, expected: length, is_read: true });
   const result = { kind: "done", ...ended, spent, ...read_log(ended.log) };
@@ -247,8 +126,8 @@ function told_of({ module, text, all, most }, tell) {
 
 function buffers_of(result) { // which go over without a copy
   const arrays = [result.log, result.starts];
-  for (const lane of result.lanes) {
-    arrays.push(...Object.values(lane).filter((part) => ArrayBuffer.isView(part)));
+  for (const part of result.lanes.flatMap((lane) => [lane, ...lane.ports])) {
+    arrays.push(...Object.values(part).filter((numbers) => ArrayBuffer.isView(numbers)));
   }
   return arrays.map((array) => array.buffer);
 }

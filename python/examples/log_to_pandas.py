@@ -7,7 +7,6 @@ from __future__ import annotations
 
 import sys
 from collections import Counter
-from typing import Any, Dict, Iterator
 
 import irig
 
@@ -16,28 +15,8 @@ try:
 except ImportError:
     pandas = None
 
-COLUMNS = ["edge", "reader", "second", "utc", "lock", "count", "cause"]
-
-
-def rows(log: irig.Log) -> Iterator[Dict[str, Any]]:
-    """The ticks. In a leap second `utc` is no time, as in a silence; `second` has its text."""
-    for entry in log:
-        if isinstance(entry, irig.Ports):
-            continue
-        second = entry.second if isinstance(entry, irig.Announced) else None
-        yield {
-            "edge": entry.edge,
-            "reader": entry.reader,
-            "second": None if second is None else str(second),
-            "utc": None if second is None or second.is_leap else second.to_datetime(),
-            "lock": entry.lock,
-            "count": entry.count,
-            "cause": entry.cause,
-        }
-
-
 def print_table(log: irig.Log) -> None:
-    table = pandas.DataFrame(list(rows(log)), columns=COLUMNS)
+    table = pandas.DataFrame(log.to_rows())
     table["utc"] = pandas.to_datetime(table["utc"], utc=True)
     print(table.head(20).to_string(index=False))
     print(table.groupby(["reader", "cause"])["edge"].agg(["count", "min", "max"]))
@@ -45,7 +24,7 @@ def print_table(log: irig.Log) -> None:
 
 def print_counts(log: irig.Log) -> None:
     print("pandas is missing (pip install pandas); without it, how often each cause stands:")
-    counts = Counter((row["reader"], row["cause"]) for row in rows(log))
+    counts = Counter((row["reader"], row["cause"]) for row in log.to_rows())
     for (reader, cause), count in sorted(counts.items()):
         print(reader, cause, count)
 

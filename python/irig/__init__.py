@@ -8,11 +8,15 @@ codec, the proved reader, and the proved runner of scenarios.
     widths, symbols, classify   pulses and symbols
     Reader                      a reader with three ports, five, or one
     Sync                        which element of a frame a pulse on a line is
-    run, read_log               scenarios to logs
+    run, Log                    scenarios to logs; `Log.blame`: who lied, and what it cost
+    irig.scenarios              builds scenarios
+    irig.logs                   reads logs
     Fault, Refused              what they raise
 
-docs/PYTHON.md begins with an example.
+A shared library is loaded at the first call that needs it: scenarios are built, logs are read, and
+seconds are reckoned with, without one. docs/PYTHON.md begins with an example.
 """
+from . import logs, scenarios
 from .faults import Fault
 from .frames import (
     Coded,
@@ -29,12 +33,12 @@ from .frames import (
     with_parity,
 )
 from .lines import Sync
-from .readers import Faulty, Leap, Poor, Reader, Report, Silence, Told, Zone, read
-from .scenes import (
+from .logs import (
     Announced,
     Entry,
     Log,
     Ports,
+    PortWord,
     PremiseBroken,
     PremisesKept,
     Refused,
@@ -42,9 +46,13 @@ from .scenes import (
     TableBroken,
     Verdict,
     read_log,
-    run,
 )
-from .seconds import Claim, Second
+from .readers import Faulty, Poor, Reader, Report, Silence, Told, Zone, read
+from .scenes import run
+from .seconds import Claim, Leap, Second
+from .stretches import Stretch
+
+__version__ = "1.0.0"
 
 __all__ = [
     "Announced",
@@ -57,6 +65,7 @@ __all__ = [
     "Leap",
     "Log",
     "Poor",
+    "PortWord",
     "Ports",
     "PremiseBroken",
     "PremisesKept",
@@ -66,6 +75,7 @@ __all__ = [
     "Second",
     "Silence",
     "Silent",
+    "Stretch",
     "Sync",
     "TableBroken",
     "Told",
@@ -78,9 +88,11 @@ __all__ = [
     "encode",
     "frame",
     "has_parity",
+    "logs",
     "read",
     "read_log",
     "run",
+    "scenarios",
     "symbols",
     "widths",
     "with_parity",

@@ -1,11 +1,13 @@
-"""The shared libraries, and the structures that they share with C, as c/irig.h has them."""
+"""The shared libraries, and the structures that they share with C, as c/irig.h has them. A library is
+loaded at the first of its calls, so that what needs none works where none is."""
 from __future__ import annotations
 
 import ctypes
 from ctypes import Structure, c_bool, c_char_p, c_int8, c_size_t
 from ctypes import c_uint8, c_uint16, c_uint32, c_uint64
+from functools import lru_cache
 from pathlib import Path
-from typing import Any, Type
+from typing import Any, Dict, Tuple
 
 HERE = Path(__file__).resolve().parent
 
@@ -121,64 +123,93 @@ class Told(Structure):
     _fields_ = [("kind", c_uint8), ("quality", c_uint8), ("fault", c_uint32), ("claim", Claim)]
 
 
-NO_PORT = 255
+class Span(Structure):
+    _fields_ = [("start", c_size_t), ("end", c_size_t)]
+
+
+class Refusal(Structure):
+    _fields_ = [
+        ("line", c_uint64),
+        ("whole", c_size_t),
+        ("place", Span),
+        ("key", Span),
+        ("value", Span),
+        ("allowed", Span),
+        ("number", c_uint8),
+    ]
+
+
 Symbols = c_uint8 * 100
 Text = ctypes.c_char * 20
 
 
-def _load(name: str, kind: Type[ctypes.CDLL]) -> ctypes.CDLL:
-    for folder in FOLDERS:
-        if (folder / name).exists():
-            return kind(str(folder / name))
-    raise ImportError(f"{name} is missing: `make -C c` builds it in the sources of irig")
-
-
-def _call(library: ctypes.CDLL, name: str, answer: Any, *parameters: Any) -> Any:
-    function = getattr(library, name)
-    function.restype = answer
-    function.argtypes = parameters
-    return function
+def same(one: Any, other: Any) -> bool:
+    """Whether two structures, or arrays of them, have the same numbers; what lies between them in
+    memory says nothing."""
+    if isinstance(one, Structure):
+        names = [name for name, *_ in one._fields_]
+        return all(same(getattr(one, name), getattr(other, name)) for name in names)
+    if isinstance(one, ctypes.Array):
+        return len(one) == len(other) and all(map(same, one, other))
+    return bool(one == other)
 
 
 def _to(structure: Any) -> Any:
     return ctypes.POINTER(structure)
 
 
-# A call of this library holds Python's lock: it is short, and no other thread comes between.
-_irig = _load("libirig.so.1", ctypes.PyDLL)
-classify = _call(_irig, "irig_classify", c_uint8, c_uint32)
-width_us = _call(_irig, "irig_width_us", c_uint32, c_uint8)
-frame_of = _call(
-    _irig, "irig_frame_of", c_uint32, _to(Utc), c_int8, _to(Control), c_uint8, Symbols
-)
-encode = _call(_irig, "irig_encode", c_uint32, _to(Coded), Symbols)
-decode = _call(_irig, "irig_decode", c_uint32, c_char_p, c_size_t, _to(Coded))
-has_parity = _call(_irig, "irig_has_parity", c_bool, Symbols, c_uint8)
-set_parity = _call(_irig, "irig_set_parity", c_uint32, Symbols, c_uint8)
-control_pack = _call(_irig, "irig_control_pack", c_uint32, _to(Control), _to(c_uint32))
-control_unpack = _call(_irig, "irig_control_unpack", c_uint32, c_uint32, _to(Control))
-second_next = _call(_irig, "irig_second_next", c_uint32, _to(Utc), c_uint8, _to(Utc))
-second_write = _call(_irig, "irig_second_write", c_uint32, _to(Utc), Text)
-second_read = _call(_irig, "irig_second_read", c_uint32, c_char_p, c_size_t, _to(Utc))
-coded_of = _call(_irig, "irig_coded_of", c_uint32, _to(Utc), c_int8, _to(Coded))
-claim_of = _call(_irig, "irig_claim_of", c_uint32, _to(Coded), _to(Control), c_uint8, _to(Claim))
-reader_init = _call(_irig, "irig_reader_init", c_uint32, _to(Reader), _to(Setup), _to(Table))
-reader_pulse = _call(_irig, "irig_reader_pulse", c_uint32, _to(Reader), c_uint8, c_uint32)
-reader_pulses = _call(
-    _irig, "irig_reader_pulses", c_uint32, _to(Reader), c_uint8, _to(c_uint32), c_size_t
-)
-sync_init = _call(_irig, "irig_sync_init", None, _to(Sync))
-sync_pulse = _call(_irig, "irig_sync_pulse", c_uint8, _to(Sync), c_uint32, c_uint32)
-sync_idle = _call(_irig, "irig_sync_idle", None, _to(Sync), c_uint32)
-reader_hear = _call(
-    _irig, "irig_reader_hear", c_uint8, _to(Reader), _to(Sync), c_uint8, c_uint32, c_uint32
-)
-reader_tick = _call(_irig, "irig_reader_tick", c_uint32, _to(Reader), _to(Report))
-reader_restart = _call(_irig, "irig_reader_restart", None, _to(Reader))
-reader_port = _call(_irig, "irig_reader_port", c_uint32, _to(Reader), c_uint8, _to(Told))
+# A call of the first library holds Python's lock: it is short, and no other thread comes between. A
+# run of the second may be long: other threads go on meanwhile.
+IRIG, SCENE = "libirig.so.1", "libirig_scene.so.1"
+KINDS = {IRIG: ctypes.PyDLL, SCENE: ctypes.CDLL}
 
-# A run may be long: other threads go on meanwhile.
-_scene = _load("libirig_scene.so.1", ctypes.CDLL)
-run = _call(
-    _scene, "irig_run", c_uint8, c_char_p, c_size_t, c_bool, _to(c_uint8), c_size_t, _to(c_size_t)
-)
+# The library of a call, what it answers, and what it takes.
+CALLS: Dict[str, Tuple[Any, ...]] = {
+    "classify": (IRIG, c_uint8, c_uint32),
+    "width_us": (IRIG, c_uint32, c_uint8),
+    "frame_of": (IRIG, c_uint32, _to(Utc), c_int8, _to(Control), c_uint8, Symbols),
+    "encode": (IRIG, c_uint32, _to(Coded), Symbols),
+    "decode": (IRIG, c_uint32, c_char_p, c_size_t, _to(Coded)),
+    "has_parity": (IRIG, c_bool, Symbols, c_uint8),
+    "set_parity": (IRIG, c_uint32, Symbols, c_uint8),
+    "control_pack": (IRIG, c_uint32, _to(Control), _to(c_uint32)),
+    "control_unpack": (IRIG, c_uint32, c_uint32, _to(Control)),
+    "second_next": (IRIG, c_uint32, _to(Utc), c_uint8, _to(Utc)),
+    "second_write": (IRIG, c_uint32, _to(Utc), Text),
+    "second_read": (IRIG, c_uint32, c_char_p, c_size_t, _to(Utc)),
+    "coded_of": (IRIG, c_uint32, _to(Utc), c_int8, _to(Coded)),
+    "claim_of": (IRIG, c_uint32, _to(Coded), _to(Control), c_uint8, _to(Claim)),
+    "reader_init": (IRIG, c_uint32, _to(Reader), _to(Setup), _to(Table)),
+    "reader_pulse": (IRIG, c_uint32, _to(Reader), c_uint8, c_uint32),
+    "reader_pulses": (IRIG, c_uint32, _to(Reader), c_uint8, _to(c_uint32), c_size_t),
+    "sync_init": (IRIG, None, _to(Sync)),
+    "sync_pulse": (IRIG, c_uint8, _to(Sync), c_uint32, c_uint32),
+    "sync_idle": (IRIG, None, _to(Sync), c_uint32),
+    "reader_hear": (IRIG, c_uint8, _to(Reader), _to(Sync), c_uint8, c_uint32, c_uint32),
+    "reader_tick": (IRIG, c_uint32, _to(Reader), _to(Report)),
+    "reader_restart": (IRIG, None, _to(Reader)),
+    "reader_port": (IRIG, c_uint32, _to(Reader), c_uint8, _to(Told)),
+    "run_shown": (
+        SCENE, c_uint8, c_char_p, c_size_t, c_bool, c_bool, _to(c_uint8), c_size_t, _to(c_size_t),
+        _to(c_uint8), c_size_t, _to(Refusal),
+    ),
+}
+
+
+@lru_cache(maxsize=None)
+def _loaded(name: str) -> ctypes.CDLL:
+    for folder in FOLDERS:
+        if (folder / name).exists():
+            return KINDS[name](str(folder / name))
+    raise ImportError(f"{name} is missing: `make -C c` builds it in the sources of irig")
+
+
+def __getattr__(name: str) -> Any:
+    """A call, which is in this module from its first use on."""
+    if name not in CALLS:
+        raise AttributeError(f"module {__name__!r} has no attribute {name!r}")
+    library, answer, *parameters = CALLS[name]
+    function = getattr(_loaded(library), f"irig_{name}")
+    function.restype, function.argtypes = answer, parameters
+    globals()[name] = function
+    return function

@@ -1,10 +1,8 @@
 """Faults and refusals, by their numbers in docs/FAULTS.md."""
 from __future__ import annotations
 
-import ctypes
-from typing import Any, Dict, NamedTuple, Optional, Tuple, Type, TypeVar, Union
-
-Held = TypeVar("Held", bound=ctypes.Structure)
+from operator import index
+from typing import Dict, NamedTuple, Optional, Tuple, Union
 
 Detail = Union[int, str, None]
 
@@ -124,15 +122,13 @@ def check(answer: int) -> None:
         raise Fault(*detail_of(answer))
 
 
-def fitting(kind: Any, value: int, what: str) -> Any:
-    """The number as C holds it; a fault if C would cut it to size."""
-    held = kind(value)
-    if held.value != value:
-        raise Fault(VALUE, reason=f"{what} is {value}, out of its range")
-    return held
-
-
-def filled(structure: Type[Held], **values: int) -> Held:
-    """A structure with these numbers, none of them cut to size."""
-    kinds: Dict[str, Any] = {name: kind for name, kind, *_ in structure._fields_}
-    return structure(**{name: fitting(kinds[name], value, name) for name, value in values.items()})
+def within(what: str, value: int, least: int, most: int) -> int:
+    """The number, if it is from the least to the most; a fault or a TypeError that names it, if it
+    is not."""
+    try:
+        number = index(value)
+    except TypeError:
+        raise TypeError(f"{what} is {value!r}; a whole number may stand here") from None
+    if not least <= number <= most:
+        raise Fault(VALUE, reason=f"{what} is {number}; {least} to {most} may stand here")
+    return number

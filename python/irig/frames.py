@@ -11,13 +11,17 @@ from dataclasses import asdict, dataclass, fields
 from typing import Iterable, List, Optional, Union
 
 from . import _library as c
-from .faults import Fault, check, filled, fitting
-from .seconds import Claim, Second, Time, claim_held
-from .words import Kind, Parity, Sense, number_of
+from .faults import Fault, check, within
+from .seconds import Claim, Second, Time
+from .words import MARKS, Kind, Parity, Sense, number_of
 
 LETTERS = "01P?"
 
 Frame = Union[str, Iterable[int]]
+
+MOST = 0xFFFFFFFF  # microseconds of a width
+MOST_HALF_HOURS = 31  # of a zone from UTC
+CONTROL_BITS, SBS_BITS = 18, 17
 
 
 def symbols(frame: Frame) -> bytes:
@@ -49,7 +53,7 @@ def widths(frame: Frame) -> List[int]:
 
 def classify(width_us: int) -> str:
     """The symbol of a pulse of this width in microseconds: "0", "1", "P" or "?"."""
-    return LETTERS[c.classify(fitting(ctypes.c_uint32, width_us, "the width"))]
+    return LETTERS[c.classify(within("width_us", width_us, 0, MOST))]
 
 
 @dataclass(frozen=True)
@@ -81,7 +85,7 @@ class Control:
     def unpack(cls, word: int) -> Control:
         """What a number of control bits says, below 2^18."""
         held = c.Control()
-        check(c.control_unpack(fitting(ctypes.c_uint32, word, "the number"), held))
+        check(c.control_unpack(within("word", word, 0, (1 << CONTROL_BITS) - 1), held))
         return cls(
             leap_pending=bool(held.leap_pending),
             leap_delete=bool(held.leap_delete),
@@ -93,7 +97,12 @@ class Control:
 
     def held(self) -> c.Control:
         """The control bits as C holds them."""
-        return filled(c.Control, **asdict(self))
+        most = MOST_HALF_HOURS
+        within("offset_half_hours", self.offset_half_hours, -most, most)
+        within("quality", self.quality, 0, 15)
+        for name in ("leap_pending", "leap_delete", "dst_pending", "dst"):
+            within(name, getattr(self, name), 0, 1)
+        return c.Control(**asdict(self))
 
 
 @dataclass(frozen=True)
@@ -124,7 +133,20 @@ class Coded:
 
     def held(self) -> c.Coded:
         """The coded time as C holds it."""
-        return filled(c.Coded, **asdict(self))
+        for name, (least, most) in RANGES.items():
+            within(name, getattr(self, name), least, most)
+        return c.Coded(**asdict(self))
+
+
+RANGES = {
+    "second": (0, 60),
+    "minute": (0, 59),
+    "hour": (0, 23),
+    "day": (1, 366),
+    "year": (0, 99),
+    "control": (0, (1 << CONTROL_BITS) - 1),
+    "sbs": (0, (1 << SBS_BITS) - 1),
+}
 
 
 def _coded_held(held: c.Coded) -> Coded:
@@ -153,7 +175,7 @@ def coded(time: Time, local: int = 0, control: Control = Control()) -> Coded:
     """The coded time of a second by a clock that is `local` half hours ahead of UTC, -31 to 31,
     with these control bits."""
     held = c.Coded()
-    check(c.coded_of(Second.of(time).held(), fitting(ctypes.c_int8, local, "local"), held))
+    check(c.coded_of(_utc(time), _zone(local), held))
     held.control = control.pack()
     return _coded_held(held)
 
@@ -164,24 +186,30 @@ def frame(
     pending: Optional[Kind] = None,
     parity: Parity = "even",
     sense: Sense = "add",
+    *,
+    dst: bool = False,
+    quality: int = 0,
 ) -> str:
-    """The frame of a second: `irig frame TIME --local=LOCAL --pending=PENDING`.
+    """The frame of a second: `irig frame TIME`, with the options of these names.
 
     time: a Second, its text, or a datetime with a time zone
     local: half hours that the coded time is ahead of UTC, -31 to 31
     pending: the leap second that is coming, "insert" or "delete", or None
     parity: "even" or "odd"
     sense: "add" or "subtract": what is done with the offset to come from coded time to UTC
+    dst: whether daylight saving is in force
+    quality: 0, locked, to 15, failed
     """
-    is_added = number_of(sense, Sense, "sense") == 0
+    is_added, zone = number_of(sense, Sense, "sense") == 0, _zone(local)
     control = Control(
         leap_pending=pending is not None,
         leap_delete=pending is not None and number_of(pending, Kind, "pending") == 1,
+        dst=dst,
         offset_half_hours=-local if is_added else local,
+        quality=quality,
     )
-    held, zone = c.Symbols(), fitting(ctypes.c_int8, local, "local")
-    number = number_of(parity, Parity, "parity")
-    check(c.frame_of(Second.of(time).held(), zone, control.held(), number, held))
+    held, number = c.Symbols(), number_of(parity, Parity, "parity")
+    check(c.frame_of(_utc(time), zone, control.held(), number, held))
     return text(bytes(held))
 
 
@@ -192,6 +220,21 @@ def claim(coded: Coded, control: Optional[Control] = None, sense: Sense = "add")
     held = c.Claim()
     check(c.claim_of(coded.held(), bits.held(), number_of(sense, Sense, "sense"), held))
     return claim_held(held)
+
+
+def claim_held(held: c.Claim) -> Claim:
+    """The claim that C holds."""
+    return Claim(Second(held.at.day, held.at.sod), MARKS[held.mark])
+
+
+def _utc(time: Time) -> c.Utc:
+    """A second as C holds it."""
+    second = Second.of(time)
+    return c.Utc(day=second.day, sod=second.sod)
+
+
+def _zone(local: int) -> int:
+    return within("local", local, -MOST_HALF_HOURS, MOST_HALF_HOURS)
 
 
 def _whole(frame: Frame) -> ctypes.Array[ctypes.c_uint8]:

@@ -6,7 +6,8 @@ from operator import index
 from typing import Tuple
 
 from . import _library as c
-from .faults import Fault, VALUE, fitting
+from .faults import Fault, VALUE, within
+from .frames import MOST
 
 # What the state of a line begins with: another form of its numbers is another word.
 FORM = "irig sync 1"
@@ -26,13 +27,13 @@ class Sync:
     def pulse(self, rise_us: int, width_us: int) -> int:
         """The place of the next pulse in its frame, 1 to 100, or 0 out of step. It rose at this
         time in microseconds and is so many wide; of a time the lowest 32 bits count."""
-        width = fitting(ctypes.c_uint32, width_us, "the width")
-        return int(c.sync_pulse(self._held, index(rise_us) & 0xFFFFFFFF, width))
+        width = within("width_us", width_us, 0, MOST)
+        return int(c.sync_pulse(self._held, index(rise_us) & MOST, width))
 
     def idle(self, now_us: int) -> None:
         """Puts the line out of step if its last pulse rose a second ago or earlier. To be called at
         each edge, and at least once in half an hour."""
-        c.sync_idle(self._held, index(now_us) & 0xFFFFFFFF)
+        c.sync_idle(self._held, index(now_us) & MOST)
 
     @property
     def place(self) -> int:
@@ -42,6 +43,12 @@ class Sync:
 
     def __repr__(self) -> str:
         return f"Sync(place={self.place})"
+
+    def __eq__(self, other: object) -> bool:
+        """Whether it is a line with the same numbers, which goes on alike."""
+        if not isinstance(other, Sync):
+            return NotImplemented
+        return c.same(self._held, other._held)
 
     def __getstate__(self) -> Tuple[str, bytes]:
         return FORM, bytes(self._held)

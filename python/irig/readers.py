@@ -8,9 +8,10 @@ from operator import index
 from typing import Iterable, Literal, Optional, Tuple, Union, overload
 
 from . import _library as c
-from .faults import Detail, Fault, MEANINGS, VALUE, check, detail_of, filled, fitting, words_of
-from .frames import Frame, widths
-from .seconds import Claim, Day, Second, claim_held, day_number
+from .faults import Detail, Fault, MEANINGS, VALUE, check, detail_of, within, words_of
+from .frames import MOST, Frame, claim_held, widths
+from .logs import lock_text
+from .seconds import Claim, Day, Leap, Second, day_number
 from .words import CAUSES, LOCKS, Cause, Kind, Lock, Parity, Sbs, Sense, number_of
 
 # What a reader's state begins with: another form of its numbers is another word. The older forms had
@@ -19,14 +20,6 @@ FORM = "irig reader 3"
 OLDER_FORMS = ("irig reader 1", "irig reader 2")
 
 PORTS = (3, 5, 1)  # how many ports, by the number that C has for it
-
-
-@dataclass(frozen=True)
-class Leap:
-    """A leap second at the end of a month's last day, as a date or a text like 2016-12-31."""
-
-    day: Day
-    kind: Kind = "insert"
 
 
 @dataclass(frozen=True)
@@ -73,8 +66,7 @@ class Report:
     zone: Optional[Zone] = None
 
     def __str__(self) -> str:
-        count = f":{self.count}" if self.count else ""
-        return f"{self.second or '-'} {self.lock}{count} {self.cause}"
+        return f"{self.second or '-'} {lock_text(self.lock, self.count)} {self.cause}"
 
 
 @dataclass(frozen=True)
@@ -135,11 +127,15 @@ def _report_held(held: c.Report) -> Report:
     )
 
 
+def _changed() -> Fault:
+    return Fault(VALUE, reason="something else has changed the numbers of this reader")
+
+
 def _tick(held: c.Reader) -> c.Report:
     """What a reader says at an edge."""
     report = c.Report()
     if c.reader_tick(held, report):
-        raise Fault(VALUE, reason="something else has changed the numbers of this reader")
+        raise _changed()
     return report
 
 
@@ -189,7 +185,8 @@ class Reader:
     until: the last day of which `leaps` speaks: up to it there is no other leap second
     leaps: the leap seconds that it knows beforehand, 64 at most
 
-    It is its numbers and no more: it can be copied and pickled, and goes on from there.
+    It is its numbers and no more: it can be copied and pickled, and goes on from there; a copy is
+    equal to it, until one of them hears something.
     """
 
     def __init__(
@@ -205,15 +202,14 @@ class Reader:
         leaps: Iterable[Leap] = (),
     ) -> None:
         if ports not in PORTS:
-            raise Fault(VALUE, reason=f"ports is {ports!r}; it may be 3, 5 or 1")
-        setup = filled(
-            c.Setup,
+            raise Fault(VALUE, reason=f"ports is {ports!r}; 1, 3 or 5 may stand here")
+        setup = c.Setup(
             parity=number_of(parity, Parity, "parity"),
             sense=number_of(sense, Sense, "sense"),
             sbs=number_of(sbs, Sbs, "sbs"),
             redundancy=PORTS.index(ports),
-            lock_after=lock_after,
-            holdover=holdover,
+            lock_after=within("lock_after", lock_after, 1, 60),
+            holdover=within("holdover", holdover, 0, 1_000_000),
         )
         self._held = c.Reader()
         self._lines = _fresh_lines()
@@ -222,24 +218,31 @@ class Reader:
     def pulse(self, port: int, width_us: int) -> None:
         """A pulse at a port, 0 to 2 of three, 0 to 4 of five, 0 of one, so many microseconds
         wide."""
-        width = fitting(ctypes.c_uint32, width_us, "the width")
-        check(c.reader_pulse(self._held, fitting(ctypes.c_uint8, port, "the port"), width))
+        width = within("width_us", width_us, 0, MOST)
+        check(c.reader_pulse(self._held, self._port(port), width))
 
     def pulses(self, port: int, widths_us: Iterable[int]) -> None:
         """Pulses at a port, one after another: the same as `pulse` for each, and faster."""
+        number = self._port(port)
+        widths = list(widths_us)
         try:
-            held = array("I", iter(widths_us))  # of bytes too, number by number
-        except OverflowError as error:
-            raise Fault(VALUE, reason=f"a width is out of its range: {error}") from None
+            held = array("I", widths)  # of bytes too, number by number
+        except (OverflowError, TypeError):
+            for place, width in enumerate(widths):
+                within(f"widths_us[{place}]", width, 0, MOST)
+            raise
         count = len(held)
-        place = (ctypes.c_uint32 * count).from_buffer(held) if count else (ctypes.c_uint32 * 1)()
-        check(c.reader_pulses(self._held, fitting(ctypes.c_uint8, port, "the port"), place, count))
+        first = (ctypes.c_uint32 * count).from_buffer(held) if count else (ctypes.c_uint32 * 1)()
+        check(c.reader_pulses(self._held, number, first, count))
 
     @overload
     def hear(self, port: int, frame: Frame) -> None: ...
 
     @overload
-    def hear(self, port: int, rise_us: int, width_us: int) -> int: ...
+    def hear(self, port: int, rise_us: int, /, width_us: int) -> int: ...
+
+    @overload
+    def hear(self, port: int, *, rise_us: int, width_us: int) -> int: ...
 
     def hear(
         self,
@@ -263,20 +266,16 @@ class Reader:
         rise = frame if rise_us is None else rise_us
         if width_us is None or not isinstance(rise, int):
             raise TypeError("hear takes a port, rise_us and width_us, all of them whole numbers")
-        number = fitting(ctypes.c_uint8, port, "the port").value
-        width = fitting(ctypes.c_uint32, width_us, "the width")
-        line = self._lines[min(number, len(self._lines) - 1)]
-        place = int(c.reader_hear(self._held, line, number, rise & 0xFFFFFFFF, width))
-        if place == c.NO_PORT:
-            raise Fault(VALUE, reason=f"there is no port {port}")
-        return place
+        number, width = self._port(port), within("width_us", width_us, 0, MOST)
+        line = self._lines[number]
+        return int(c.reader_hear(self._held, line, number, rise & MOST, width))
 
     def idle(self, now_us: int) -> None:
         """Puts each line out of step whose last pulse rose a second ago or earlier. To be called at
         each edge if pulses come by `hear(port, rise_us, width_us)`, and at least once in half an
         hour."""
         for line in self._lines:
-            c.sync_idle(line, index(now_us) & 0xFFFFFFFF)
+            c.sync_idle(line, index(now_us) & MOST)
 
     def tick(self) -> Report:
         """The edge: what the reader says by what its ports heard since the last. They are then
@@ -287,8 +286,11 @@ class Reader:
     def port(self, port: int) -> Told:
         """What a port would tell if the edge came now."""
         held = c.Told()
-        check(c.reader_port(self._held, fitting(ctypes.c_uint8, port, "the port"), held))
+        check(c.reader_port(self._held, self._port(port), held))
         return _told_held(held)
+
+    def _port(self, port: int) -> int:
+        return within("port", port, 0, self.ports - 1)
 
     def restart(self) -> None:
         """Empties the ports, and forgets what was voted. A reader that a tick refuses stays so."""
@@ -307,7 +309,16 @@ class Reader:
     @property
     def ports(self) -> int:
         """How many ports it has."""
-        return PORTS[self._held.setup.redundancy]
+        number = int(self._held.setup.redundancy)
+        if number >= len(PORTS):
+            raise _changed()
+        return PORTS[number]
+
+    def __eq__(self, other: object) -> bool:
+        """Whether it is a reader with the same numbers, which goes on alike."""
+        if not isinstance(other, Reader):
+            return NotImplemented
+        return c.same(self._held, other._held) and c.same(self._lines, other._lines)
 
     def __repr__(self) -> str:
         return f"Reader(lock_after={self.lock_after}, holdover={self.holdover}, ports={self.ports})"

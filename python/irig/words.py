@@ -14,15 +14,21 @@ Lock = Literal["unlocked", "acquiring", "locked", "holdover"]
 Cause = Literal[
     "voted", "held", "acquiring", "no-vote", "expired", "leap-guard", "jump", "range-end"
 ]
+PortKind = Literal["agreed", "silent", "faulty", "poor", "another second", "another mark"]
 
 MARKS: Tuple[Mark, ...] = get_args(Mark)
 LOCKS: Tuple[Lock, ...] = get_args(Lock)
 CAUSES: Tuple[Cause, ...] = get_args(Cause)
 
 
+def listed(words: Sequence[str]) -> str:
+    """The words as a message lists them: `a, b or c`."""
+    return " or ".join(filter(None, (", ".join(words[:-1]), words[-1])))
+
+
 def number_of(word: str, words: Any, what: str) -> int:
     """The number of a word, where `words` is the type that has it."""
     known: Sequence[str] = get_args(words)
     if word not in known:
-        raise Fault(VALUE, reason=f"{what} is {word!r}; it may be {', '.join(known)}")
+        raise Fault(VALUE, reason=f"{what} is {word!r}; {listed(known)} may stand here")
     return known.index(word)

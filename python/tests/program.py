@@ -4,12 +4,12 @@ from __future__ import annotations
 import subprocess
 import sys
 from pathlib import Path
-from typing import Iterator, List, NamedTuple, Optional
+from typing import Iterator, List, NamedTuple, Optional, Tuple
 
 ROOT = Path(__file__).resolve().parent.parent.parent
 sys.path.insert(0, str(ROOT / "tests"))
 
-from case_files import all_cases  # noqa: E402
+from case_files import all_cases  # noqa: E402,F401
 
 PROGRAM = ROOT / "crates/irig_main/out/irig_main"
 
@@ -35,3 +35,9 @@ def printed(*words: str, text: str = "") -> str:
     """What the program prints, with this on its standard input."""
     ran = subprocess.run([PROGRAM, *words], input=text, capture_output=True, text=True, timeout=60)
     return ran.stdout
+
+
+def told(*words: str) -> Tuple[int, str]:
+    """The program's status, and what it says on the standard error."""
+    ran = subprocess.run([PROGRAM, *words], input="", capture_output=True, text=True, timeout=60)
+    return ran.returncode, ran.stderr

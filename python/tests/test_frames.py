@@ -3,6 +3,7 @@ from __future__ import annotations
 
 import unittest
 from datetime import datetime, timedelta, timezone
+from typing import Any, Optional
 
 import irig
 from program import cases
@@ -10,9 +11,30 @@ from program import cases
 PLAIN = "2016-12-31T23:59:59Z"
 
 
-def options(words: list[str]) -> dict[str, str]:
-    """The options of a command line, as {"local": "2"}."""
-    return dict(word[2:].split("=", 1) for word in words if word.startswith("--"))
+NUMBERS = "local", "quality"
+
+
+def taken(words: list[str], known: tuple[str, ...]) -> Optional[tuple[str, dict[str, Any]]]:
+    """The word of a command line that is no option, and its options as arguments; None if the command
+    line itself is wrong."""
+    found: dict[str, Any] = {}
+    others, rest = [], list(words)
+    while rest:
+        word = rest.pop(0)
+        name, is_set, value = word[2:].partition("=")
+        if not word.startswith("--"):
+            others.append(word)
+        elif name in found or name not in known or (name == "dst" and is_set):
+            return None
+        elif name == "dst":
+            found[name] = True
+        elif is_set:
+            found[name] = value
+        elif not rest or rest[0].startswith("-"):
+            return None
+        else:
+            found[name] = rest.pop(0)
+    return (others[0], found) if len(others) == 1 else None
 
 
 class OfSeconds(unittest.TestCase):
@@ -21,19 +43,19 @@ class OfSeconds(unittest.TestCase):
     def test_cases(self) -> None:
         count = 0
         for case in cases("frame"):
-            times = [word for word in case.words if not word.startswith("--")]
-            if len(times) != 1 or len(options(case.words)) != len(case.words) - 1:
-                continue  # the command line itself is wrong
+            words = taken(case.words, ("local", "pending", "dst", "quality", "parity", "sense"))
+            if words is None:
+                continue
             with self.subTest(case.name):
                 count += 1
-                words = options(case.words)
+                time, options = words
                 try:
-                    local = int(words.get("local", "0"))
-                    made = irig.frame(times[0], local, words.get("pending"))
+                    numbers = {name: int(options[name]) for name in NUMBERS if name in options}
+                    made = irig.frame(time, **{**options, **numbers})
                 except ValueError:
                     made = ""
                 self.assertEqual(made, case.printed.rstrip("\n"))
-        self.assertGreater(count, 15)
+        self.assertGreater(count, 25)
 
     def test_datetimes(self) -> None:
         time = datetime(2016, 12, 31, 23, 59, 59, tzinfo=timezone.utc)
@@ -52,9 +74,12 @@ class OfSeconds(unittest.TestCase):
     def test_what_is_out_of_range(self) -> None:
         # 256 and 258 in a byte are 0 and 2.
         for local in (32, -32, 256, -254):
-            with self.subTest(local), self.assertRaises(irig.Fault) as caught:
-                irig.frame(PLAIN, local)
-            self.assertEqual((caught.exception.number, caught.exception.name), (26, "Value"))
+            says = f"26 Value: local is {local}; -31 to 31 may stand here"
+            for call in (irig.frame, irig.coded):
+                with self.subTest(local), self.assertRaises(irig.Fault) as caught:
+                    call(PLAIN, local)
+                self.assertEqual((caught.exception.number, caught.exception.name), (26, "Value"))
+                self.assertEqual(str(caught.exception), says)
         for wrong in ({"parity": "none"}, {"sense": ""}, {"pending": "no"}):
             with self.subTest(wrong), self.assertRaises(irig.Fault):
                 irig.frame(PLAIN, **wrong)
@@ -66,18 +91,21 @@ class Read(unittest.TestCase):
     def test_cases(self) -> None:
         count = 0
         for case in cases("read"):
-            if len(case.words) != 1:
+            words = taken(case.words, ("parity", "sense", "sbs"))
+            if words is None:
                 continue
             with self.subTest(case.name):
                 count += 1
+                frame, options = words
                 lines = case.printed.splitlines()
                 if case.status:
-                    self.assertRaises(ValueError, irig.read, case.words[0])
+                    with self.assertRaises(ValueError):
+                        irig.read(frame, **options)
                     continue
-                told = irig.read(case.words[0])
+                told = irig.read(frame, **options)
                 self.assertEqual(str(told), lines[-1])
-                self.codes(case.words[0], lines[:-1], told)
-        self.assertGreater(count, 40)
+                self.codes(frame, lines[:-1], told)
+        self.assertGreater(count, 45)
 
     def codes(self, frame: str, lines: list[str], told: irig.Told) -> None:
         """The frame codes what the first line says, or its fault is that of the frame's form."""
@@ -138,7 +166,8 @@ class Bits(unittest.TestCase):
                 self.assertEqual(irig.Control.unpack(word), control)
         for wrong in (irig.Control(quality=16), irig.Control(offset_half_hours=-32)):
             self.assertRaises(irig.Fault, wrong.pack)
-        self.assertRaises(irig.Fault, irig.Control.unpack, 1 << 18)
+        self.assertRaisesRegex(irig.Fault, "quality is 16; 0 to 15 may", irig.Control(quality=16).pack)
+        self.assertRaisesRegex(irig.Fault, "word is 262144; 0 to 262143", irig.Control.unpack, 1 << 18)
         self.assertRaises(irig.Fault, irig.Control.unpack, 1 << 32)
 
     def test_parity(self) -> None:
@@ -155,7 +184,12 @@ class Bits(unittest.TestCase):
         self.assertRaises(irig.Fault, irig.with_parity, frame[:-1])
 
     def test_coded(self) -> None:
-        self.assertRaises(irig.Fault, irig.encode, irig.Coded(61, 0, 0, 1, 0))
+        for wrong, says in (
+            (irig.Coded(61, 0, 0, 1, 0), "second is 61; 0 to 60 may stand here"),
+            (irig.Coded(0, 0, 0, 0, 0), "day is 0; 1 to 366 may stand here"),
+            (irig.Coded(0, 0, 0, 1, 0, sbs=1 << 17), "sbs is 131072; 0 to 131071 may stand here"),
+        ):
+            self.assertRaisesRegex(irig.Fault, says, irig.encode, wrong)
         self.assertRaises(irig.Fault, irig.encode, irig.Coded(256, 0, 0, 1, 0))
         self.assertRaises(irig.Fault, irig.encode, irig.Coded(0, 0, 0, 65537, 0))
         coded = irig.coded(PLAIN, local=2)
@@ -166,7 +200,7 @@ class Bits(unittest.TestCase):
         self.assertEqual({width: irig.classify(width) for width in firsts}, firsts)
         lasts = {499: "?", 3499: "0", 6499: "1", 9499: "P", (1 << 32) - 1: "?"}
         self.assertEqual({width: irig.classify(width) for width in lasts}, lasts)
-        self.assertRaises(irig.Fault, irig.classify, (1 << 32) + 2000)
+        self.assertRaisesRegex(irig.Fault, "width_us is 4294969296; 0 to", irig.classify, (1 << 32) + 2000)
         self.assertEqual(irig.widths("P01"), [8000, 2000, 5000])
         self.assertEqual("".join(map(irig.classify, irig.widths("?P01"))), "?P01")
 

@@ -57,6 +57,7 @@ class Lines(unittest.TestCase):
         sync = Sync()
         sync.pulse(0, 8000)
         for twin in (copy.copy(sync), copy.deepcopy(sync), pickle.loads(pickle.dumps(sync))):
+            self.assertEqual(twin, sync)
             self.assertEqual(twin.pulse(ELEMENT_US, 2000), 2)
             self.assertEqual(repr(sync), "Sync(place=1)")
         form, numbers = sync.__getstate__()

@@ -254,19 +254,50 @@ class Calls(unittest.TestCase):
             self.assertRaises(irig.Fault, reader.pulses, 0, [width])
         self.assertEqual([reader.port(port) for port in range(3)], [irig.Silence()] * 3)
 
+    def test_messages_name_the_argument(self) -> None:
+        reader, most = Reader(), "0 to 4294967295 may stand here"
+        for call, says in (
+            (lambda: reader.pulse(7, 2000), "port is 7; 0 to 2 may stand here"),
+            (lambda: Reader(ports=1).port(1), "port is 1; 0 to 0 may stand here"),
+            (lambda: reader.pulse(0, -1), f"width_us is -1; {most}"),
+            (lambda: reader.pulses(0, [2000, 1 << 32]), f"widths_us[1] is 4294967296; {most}"),
+            (lambda: reader.hear(3, 5, 2000), "port is 3; 0 to 2 may stand here"),
+            (lambda: reader.hear(0, 5, -1), f"width_us is -1; {most}"),
+            (lambda: irig.Sync().pulse(5, -1), f"width_us is -1; {most}"),
+        ):
+            with self.subTest(says), self.assertRaises(irig.Fault) as caught:
+                call()
+            self.assertEqual(caught.exception.reason, says)
+        for call, says in (
+            (lambda: reader.pulse("0", 2000), "port is '0'; a whole number may stand here"),
+            (lambda: reader.pulses(0, [2000, 2.5]), r"widths_us\[1\] is 2.5; a whole number"),
+            (lambda: Reader("2"), "lock_after is '2'; a whole number may stand here"),
+        ):
+            with self.subTest(says):
+                self.assertRaisesRegex(TypeError, says, call)
+
     def test_setups(self) -> None:
         for ports in (1, 3, 5):
             self.assertEqual(repr(Reader(60, 1_000_000, ports=ports)),
                              f"Reader(lock_after=60, holdover=1000000, ports={ports})")
             self.assertRaises(irig.Fault, Reader(ports=ports).port, ports)
-        for words in (
-            {"lock_after": 0}, {"lock_after": 61}, {"lock_after": 258}, {"holdover": 1_000_001},
-            {"holdover": -1}, {"holdover": 1 << 32}, {"ports": 4}, {"ports": 0}, {"parity": "none"},
-            {"sense": "plus"}, {"sbs": "no"},
+        for words, says in (
+            ({"lock_after": 0}, "lock_after is 0; 1 to 60 may stand here"),
+            ({"lock_after": 61}, "lock_after is 61; 1 to 60 may stand here"),
+            ({"lock_after": 258}, "lock_after is 258; 1 to 60 may stand here"),
+            ({"holdover": 1_000_001}, "holdover is 1000001; 0 to 1000000 may stand here"),
+            ({"holdover": -1}, "holdover is -1; 0 to 1000000 may stand here"),
+            ({"holdover": 1 << 32}, "holdover is 4294967296; 0 to 1000000 may stand here"),
+            ({"ports": 4}, "ports is 4; 1, 3 or 5 may stand here"),
+            ({"ports": 0}, "ports is 0; 1, 3 or 5 may stand here"),
+            ({"parity": "none"}, "parity is 'none'; even or odd may stand here"),
+            ({"sense": "plus"}, "sense is 'plus'; add or subtract may stand here"),
+            ({"sbs": "no"}, "sbs is 'no'; check or ignore may stand here"),
         ):
             with self.subTest(words), self.assertRaises(irig.Fault) as caught:
                 Reader(**words)
             self.assertEqual(caught.exception.number, 26)
+            self.assertEqual(str(caught.exception), f"26 Value: {says}")
 
     def test_tables(self) -> None:
         known = [Leap(date(2016, 12, 31)), Leap("2029-06-30", "delete")]
@@ -304,7 +335,12 @@ class Copies(unittest.TestCase):
     def test_copies_go_on_alone(self) -> None:
         reader = self.locked()
         twins = [copy.copy(reader), copy.deepcopy(reader), pickle.loads(pickle.dumps(reader))]
+        self.assertEqual(twins, [reader] * 3)
         reader.restart()
+        for twin in twins:
+            self.assertNotEqual(twin, reader)
+        self.assertNotEqual(Reader(2), Reader(3))
+        self.assertNotEqual(Reader(), "a reader")
         self.assertIsNone(reader.tick().second)
         for twin in twins:
             self.assertEqual(str(twin.tick()), "2020-02-29T12:00:03Z locked voted")

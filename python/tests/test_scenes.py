@@ -2,13 +2,16 @@
 from __future__ import annotations
 
 import pickle
+import tempfile
 import threading
 import unittest
+from pathlib import Path
 from unittest import mock
 
 import irig
 from irig import Announced, PremiseBroken, PremisesKept, Ports, Second, Silent, TableBroken
-from program import ROOT, cases, printed
+from irig.scenarios import Reader, Scenario
+from program import ROOT, cases, printed, told
 
 
 def example(name: str) -> str:
@@ -18,10 +21,10 @@ def example(name: str) -> str:
 class OfTheProgram(unittest.TestCase):
     """What the program prints."""
 
-    def compare(self, text: bytes, all: bool, log: str) -> None:
+    def compare(self, text: bytes, all: bool, ports: bool, log: str) -> None:
         """A run gives this log, or is refused as its last line says."""
         try:
-            ran = irig.run(text, all)
+            ran = irig.run(text, all, ports)
         except irig.Refused as refused:
             last = f"refused: line {refused.line}: {refused.number} {refused.name}\n"
             self.assertEqual(refused.log.text + last, log)
@@ -36,11 +39,12 @@ class OfTheProgram(unittest.TestCase):
         count = 0
         for case in cases("run"):
             is_file = case.scenario and case.words[:1] == [case.scenario]
-            if is_file and "--ports" not in case.words and case.status != 2:
+            ports = "--ports" in case.words
+            if is_file and case.status != 2:
                 with self.subTest(case.name):
                     count += 1
                     text = (ROOT / case.scenario).read_bytes()
-                    self.compare(text, "--all" in case.words, case.printed)
+                    self.compare(text, "--all" in case.words, ports, case.printed)
         self.assertGreater(count, 100)
 
     def test_a_log_without_room(self) -> None:
@@ -48,6 +52,12 @@ class OfTheProgram(unittest.TestCase):
         for room in (1, 100, 4096):
             with self.subTest(room), mock.patch("irig.scenes.ROOM", room):
                 self.assertEqual(irig.run(text).text, printed("run", "-", text=text))
+
+    def test_a_reason_without_room(self) -> None:
+        with mock.patch("irig.scenes.REASON_ROOM", 1), self.assertRaises(irig.Refused) as caught:
+            irig.run('{"version":4}')
+        says = 'line 1: 27 Version: "version" is 4; 1, 2 or 3 may stand here'
+        self.assertEqual(str(caught.exception), says)
 
     def test_runs_side_by_side(self) -> None:
         text, logs = example("dark_hour"), []
@@ -72,6 +82,7 @@ class Logs(unittest.TestCase):
         self.assertEqual(log.entries[59], Announced(60, "relay", second, "holdover", 57, "held"))
         self.assertEqual(log.entries[60], Silent(61, "relay", "unlocked", 0, "leap-guard"))
         self.assertEqual(log.entries[0], Silent(1, "relay", "acquiring", 1, "acquiring"))
+        self.assertEqual((log[60], len(log)), (log.entries[60], 68))
 
     def test_verdicts(self) -> None:
         self.assertEqual(irig.run(example("one_liar")).verdict, PremisesKept())
@@ -94,8 +105,104 @@ class Logs(unittest.TestCase):
                 irig.read_log(f"{line}\npremises kept\n").entries
 
 
+class Sources(unittest.TestCase):
+    """What a run takes."""
+
+    def test_files(self) -> None:
+        wanted = irig.run(example("one_liar")).text
+        path = ROOT / "examples/one_liar.jsonl"
+        for source in (path, str(path), path.read_bytes(), path.read_text(), bytearray(path.read_bytes())):
+            with self.subTest(type(source)):
+                self.assertEqual(irig.run(source).text, wanted)
+        with tempfile.TemporaryDirectory() as folder:
+            self.assertRaises(FileNotFoundError, irig.run, Path(folder) / "no.jsonl")
+            self.assertRaises(FileNotFoundError, irig.run, f"{folder}/no.jsonl")
+            self.assertRaises(IsADirectoryError, irig.run, folder)
+            (Path(folder) / "{.jsonl").write_bytes(path.read_bytes())
+            self.assertEqual(irig.run(Path(folder) / "{.jsonl").text, wanted)
+
+    def test_texts(self) -> None:
+        for text, name in (("", "NoPlant"), ("\n", "NoPlant"), ("{", "Json"), ('{"version":9}', "Version")):
+            with self.subTest(text), self.assertRaises(irig.Refused) as caught:
+                irig.run(text)
+            self.assertEqual(caught.exception.name, name)
+
+    def test_what_was_built(self) -> None:
+        plant = Scenario("2016-06-15T12:00:00Z", [Reader("relay", 5, 10)])
+        plant.seconds(8)
+        plant.dark(3600)
+        plant.seconds(8)
+        self.assertEqual(irig.run(plant), irig.run(example("dark_hour")))
+
+
+class Blame(unittest.TestCase):
+    """Who lied, in one line; python/tests/test_logs.py has what each word means."""
+
+    WANTED = [
+        "edge 1: relay announced nothing: acquiring",
+        "edges 5 to 8: port 1 of relay told another second, first 2017-06-30T23:59:57Z;"
+        " relay announced 4 seconds",
+        "edges 9 to 12: port 1 of relay told another mark, first insert; relay announced 4 seconds",
+    ]
+
+    def test_one_line(self) -> None:
+        path = ROOT / "examples/one_liar.jsonl"
+        for log in (irig.run(path, ports=True), irig.run(path), irig.run(path, all=True, ports=True)):
+            self.assertEqual([str(stretch) for stretch in log.blame()], self.WANTED)
+        with self.assertRaises(irig.Refused) as caught:
+            irig.run(example("one_liar") + "[]\n")
+        self.assertEqual([str(it) for it in caught.exception.log.blame()], self.WANTED)
+
+    def test_two_liars(self) -> None:
+        """From edge 7 on the reader follows them: four seconds, all of them an hour ahead."""
+        words = "run", str(ROOT / "examples/two_liars.jsonl"), "--all", "--ports"
+        log = irig.read_log(printed(*words), example("two_liars"))
+        self.assertEqual([str(stretch) for stretch in log.blame()], [
+            "edge 1: relay announced nothing: acquiring",
+            "edge 5: relay announced nothing: jump",
+            "edge 6: relay announced nothing: acquiring",
+            *(f"edges 5 to 10: port {port} of relay told another second, first 2016-06-15T13:00:04Z;"
+              " relay announced 4 seconds, 4 of them untrue" for port in (0, 1)),
+        ])
+
+    def test_beside_the_program(self) -> None:
+        """`irig blame`, whose lines say beside the cause of a silence what it means."""
+        if told("blame", "--help")[0]:
+            print("skipped: who lied, beside the program: it has no `irig blame`")
+            self.skipTest("the program has no `irig blame`")
+        for path in sorted((ROOT / "examples").glob("*.jsonl")):
+            said = [line for line in printed("blame", str(path)).splitlines() if line.startswith("edge")]
+            log = irig.read_log(printed("run", str(path), "--all", "--ports"), path.read_text())
+            for line, stretch in zip(said, log.blame()):
+                with self.subTest(path.stem):
+                    wanted = str(stretch)
+                    self.assertTrue(line == wanted or line.startswith(f"{wanted}, "), line)
+            self.assertEqual(len(said), len(log.blame()))
+
+
 class Refusals(unittest.TestCase):
     """Lines that are refused."""
+
+    def test_in_the_words_of_the_program(self) -> None:
+        count = 0
+        for case in cases("run"):
+            if case.status == 3 and case.scenario and case.words[:1] == [case.scenario]:
+                with self.subTest(case.name), self.assertRaises(irig.Refused) as caught:
+                    irig.run(ROOT / case.scenario)
+                count += 1
+                says = told("run", str(ROOT / case.scenario))[1].splitlines()[0]
+                self.assertEqual(str(caught.exception), says)
+        self.assertGreater(count, 80)
+
+    def test_parts_of_a_reason(self) -> None:
+        text = example("plain_minute").replace('"lock_after":2', '"lock_after":0')
+        with self.assertRaises(irig.Refused) as caught:
+            irig.run(text)
+        refused = caught.exception
+        found = refused.place, refused.key, refused.value, refused.allowed
+        self.assertEqual(found, ("readers[0]", '"lock_after"', "0", "1 to 60"))
+        again = pickle.loads(pickle.dumps(refused))
+        self.assertEqual((again.allowed, str(again)), ("1 to 60", str(refused)))
 
     def test_what_came_before(self) -> None:
         text = example("plain_minute") + '{"do":"tick","r":"rely"}\n'
@@ -103,7 +210,8 @@ class Refusals(unittest.TestCase):
             irig.run(text)
         refused = caught.exception
         self.assertEqual((refused.line, refused.number, refused.name), (3, 19, "NoSuchReader"))
-        self.assertEqual(str(refused), "line 3: 19 NoSuchReader: no reader has this name")
+        says = 'line 3: 19 NoSuchReader: "r" is "rely"; "relay" may stand here'
+        self.assertEqual(str(refused), says)
         whole = irig.run(example("plain_minute"))
         self.assertEqual(f"{refused.log.text}premises kept\n", whole.text)
         self.assertFalse(refused.log.kept)

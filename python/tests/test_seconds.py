@@ -5,10 +5,11 @@ import unittest
 from datetime import datetime, timedelta, timezone
 
 import irig
-from irig import Claim, Coded, Control, Second
+from irig import Claim, Coded, Control, Leap, Second, _library
 
 LEAP = Second(6209, 86400)  # 2016-12-31 is day 6209
 MARKS = ("unspoken", "no-leap", "insert", "delete")
+INSERTED, DELETED = [Leap("2016-12-31")], [Leap("2016-12-31", "delete")]
 
 
 class Seconds(unittest.TestCase):
@@ -25,6 +26,25 @@ class Seconds(unittest.TestCase):
             with self.subTest(text), self.assertRaisesRegex(irig.Fault, "26 Value: '"):
                 Second.read(text)
         self.assertRaises(TypeError, Second.of, 5)
+        self.assertRaisesRegex(irig.Fault, "day is 0; 1 to 36523 may stand here", Second, 0, 0)
+        self.assertRaisesRegex(irig.Fault, "sod is 86400; 0 to 86399 may", Second, 1, 86400)
+        self.assertRaisesRegex(TypeError, "sod is 1.5; a whole number may", Second, 1, 1.5)
+
+    def test_other_texts_of_utc(self) -> None:
+        self.assertEqual(Second.read("2016-12-31T23:59:60+00:00"), LEAP)
+        time = datetime(2016, 12, 31, 23, 59, 59, tzinfo=timezone.utc)
+        self.assertEqual(Second.read(time.isoformat()), Second(6209, 86399))
+        for end in ("+01:00", "-00:00", "+0530"):
+            with self.assertRaisesRegex(irig.Fault, "is not in UTC: Z or \\+00:00 may stand"):
+                Second.read(f"2016-12-31T23:59:59{end}")
+        for text in ("2016-12-31 23:59:59Z", "2016-12-31T23:59:59", "2016-12-31T23:59:59.5Z",
+                     "2016-12-31T23:59:59z", "2016-12-31T24:00:00Z", "\u0662016-12-31T00:00:00Z"):
+            with self.subTest(text), self.assertRaisesRegex(irig.Fault, "is no second served"):
+                Second.read(text)
+
+    def test_it_is_readable(self) -> None:
+        self.assertEqual(repr([LEAP]), "[Second.read('2016-12-31T23:59:60Z')]")
+        self.assertEqual(eval(repr(LEAP)), LEAP)
 
     def test_datetimes(self) -> None:
         last = datetime(2016, 12, 31, 23, 59, 59, tzinfo=timezone.utc)
@@ -33,7 +53,11 @@ class Seconds(unittest.TestCase):
         local = last.astimezone(timezone(timedelta(hours=-8)))
         self.assertEqual(Second.of(local), Second(6209, 86399))
         self.assertRaisesRegex(irig.Fault, "no time zone", Second.of, last.replace(tzinfo=None))
-        self.assertRaisesRegex(irig.Fault, "inside", Second.of, last.replace(microsecond=1))
+        for part in (1, 999_999):
+            inside = last.replace(microsecond=part)
+            self.assertRaisesRegex(irig.Fault, "inside", Second.of, inside)
+            self.assertEqual(Second.of(inside, floor=True), Second(6209, 86399))
+            self.assertEqual(Second.of_datetime(inside, floor=True), Second(6209, 86399))
         self.assertTrue(LEAP.is_leap)
         self.assertRaisesRegex(irig.Fault, "no second 60", LEAP.to_datetime)
 
@@ -57,6 +81,70 @@ class Seconds(unittest.TestCase):
                 self.assertEqual([second.next(mark) for mark in MARKS], following)
         self.assertIsNone(Second(36523, 86399).next("no-leap"))
         self.assertRaises(irig.Fault, last.next, "none")
+
+    def test_sums_without_leap_seconds(self) -> None:
+        """A day has 86,400 seconds; a 23:59:60 stands between it and the next one."""
+        last, turn = Second(6209, 86399), Second(6210, 0)
+        for second, seconds, other in (
+            (last, 1, turn),
+            (turn, -1, last),
+            (LEAP, 1, turn),
+            (LEAP, -1, last),
+            (LEAP, -86_400, Second(6209, 0)),
+            (LEAP, 86_401, Second(6211, 0)),
+            (Second(1, 0), 36_522 * 86_400 + 86_399, Second(36_523, 86_399)),
+        ):
+            with self.subTest(second=second, seconds=seconds):
+                self.assertEqual(second + seconds, other)
+                self.assertEqual(second - -seconds, other)
+        self.assertEqual((turn - last, last - turn, LEAP - last, turn - LEAP), (1, -1, 1, 1))
+        self.assertEqual(turn - Second(6209, 0), 86_400)
+        with self.assertRaisesRegex(irig.Fault, "-1 seconds from 2000-01-02T00:00:00Z is not"):
+            Second(1, 0) - 1
+        for wrong in (1.5, "1", None, timedelta(1)):
+            self.assertRaises(TypeError, lambda: LEAP + wrong)
+            self.assertRaises(TypeError, lambda: LEAP - wrong)
+
+    def test_sums_with_leap_seconds(self) -> None:
+        before, last, turn = Second(6209, 86398), Second(6209, 86399), Second(6210, 0)
+        for second, seconds, leaps, other in (
+            (last, 1, INSERTED, LEAP),
+            (last, 2, INSERTED, turn),
+            (turn, -1, INSERTED, LEAP),
+            (turn, -2, INSERTED, last),
+            (Second(6208, 5), 2 * 86_400 + 1, INSERTED, Second(6210, 5)),
+            (before, 1, DELETED, turn),
+            (turn, -1, DELETED, before),
+            (Second(6208, 5), 2 * 86_400 - 1, DELETED, Second(6210, 5)),
+        ):
+            with self.subTest(second=second, seconds=seconds, leaps=leaps):
+                self.assertEqual(second.plus(seconds, leaps), other)
+                self.assertEqual(other.plus(-seconds, leaps), second)
+                self.assertEqual(other.since(second, leaps), seconds)
+                self.assertEqual(second.since(other, leaps), -seconds)
+        both = [Leap("2016-12-31"), Leap("2015-06-30")]
+        years = Second.read("2017-01-01T00:00:00Z").since(Second.read("2015-01-01T00:00:00Z"), both)
+        self.assertEqual(years, (365 + 366) * 86_400 + 2)
+        self.assertRaisesRegex(irig.Fault, "no second by these", last.plus, 1, DELETED)
+        self.assertRaisesRegex(irig.Fault, "no second by these", LEAP.plus, 1, DELETED)
+
+    def test_beside_the_library(self) -> None:
+        """Texts and successors of the ends of each day, by the proved calls."""
+        held, after, text = _library.Utc(), _library.Utc(), _library.Text()
+        for day in range(36_525):
+            for sod in (0, 86_397, 86_398, 86_399, 86_400, 86_401):
+                held.day, held.sod = day, sod
+                if _library.second_write(held, text):
+                    self.assertRaises(irig.Fault, Second, day, sod)
+                    continue
+                second = Second(day, sod)
+                self.assertEqual(str(second), text.raw.decode())
+                self.assertEqual(Second.read(text.raw.decode()), second)
+                for number, mark in enumerate(MARKS):
+                    is_none = _library.second_next(held, number, after)
+                    wanted = None if is_none else (after.day, after.sod)
+                    found = second.next(mark)
+                    self.assertEqual(found and (found.day, found.sod), wanted)
 
 
 class Claims(unittest.TestCase):

@@ -4,6 +4,7 @@ from __future__ import annotations
 from collections import Counter
 from collections.abc import Iterable
 from functools import lru_cache
+from math import ceil
 from pathlib import Path
 
 import matplotlib
@@ -14,7 +15,7 @@ from matplotlib.patches import Patch, Rectangle
 from matplotlib.textpath import TextPath
 from matplotlib.ticker import MaxNLocator
 
-from parts.log_lanes import STATES, Bars, Lane, Run
+from parts.log_lanes import PORT_STATES, STATES, Bars, Lane, Run, State
 from parts.layout import Label, Scale, chosen, ways
 
 matplotlib.rcdefaults()  # a picture is the same whatever the user's own settings are
@@ -24,11 +25,14 @@ matplotlib.rcParams.update({"svg.hashsalt": "irig", "hatch.linewidth": 0.8})
 SMALL, NORMAL, LARGE = 8.0, 9.0, 12.0
 WIDTH = 7.6  # of the bars
 HIGH, LOW = 0.30, 0.13
+PORT_LANE, PORT_HIGH, PORT_LOW = 0.115, 0.09, 0.045  # a thin lane for each port, and its bars
+TINY = 6.0  # the numbers of ports
 ABOVE, BELOW = 0.24, 0.05  # a bar: for marks, for labels
 ROW = 0.17
 NARROW = 0.02  # no bar is less wide
 PLAIN = 0.06  # less wide ones have no pattern
 BOLD = 1.15  # how much wider bold text is
+IN_A_ROW, LEGEND_ROW = 3, 0.22  # of the legend
 MOST_ROWS = 3
 MOST_LABELS = 100
 LIMITS = -0.2, WIDTH + 0.2  # of labels
@@ -78,9 +82,8 @@ def draw_axis(axes: Axes, bars: Bars, scale: Scale) -> None:
     label = "edge (one a second)"
     if scale.is_cut:
         label += "; at slanted lines nothing changes, and the axis is shortened"
-    silent = (run for lane in bars.lanes for run in lane.runs if not STATES[run.state].is_high)
-    if any(is_widened(run, scale) for run in silent):
-        label += "; short silences are drawn wider than they are"
+    if any(is_widened(run, scale) for lane in bars.lanes for run in amiss_in(lane)):
+        label += f"; short silences{' and lies' if has_ports(bars) else ''} are drawn wider than they are"
     axes.set_xlabel(label, size=NORMAL)
     for side in ("left", "right", "top"):
         axes.spines[side].set_visible(False)
@@ -125,6 +128,16 @@ def write(axes: Axes, label: Label, height: float) -> None:
 # ---- a reader
 
 
+def has_ports(bars: Bars) -> bool:
+    return any(lane.ports for lane in bars.lanes)
+
+
+def amiss_in(lane: Lane) -> list[Run]:
+    """The silences of a reader, and the lies of its ports."""
+    silent = [run for run in lane.runs if not STATES[run.state].is_high]
+    return silent + [run for runs in lane.ports for run in runs if PORT_STATES[run.state].is_high]
+
+
 def is_widened(run: Run, scale: Scale) -> bool:
     return scale.place(run.last + 0.5) - scale.place(run.first - 0.5) < NARROW - 1e-9
 
@@ -144,22 +157,23 @@ def ends_of(runs: Iterable[Run], scale: Scale) -> list[tuple[float, float]]:
     return found
 
 
-def look_of(name: str) -> dict:
+def look_of(name: str, state: State) -> dict:
     """How a state is drawn, in bars and in the legend."""
     is_dashed = name == "not announced"
+    edge = {"not announced": "#555555", "silent": "#BBBBBB"}.get(name, "white")
     return {
-        "facecolor": STATES[name].colour,
-        "edgecolor": "#555555" if is_dashed else "white",
+        "facecolor": state.colour,
+        "edgecolor": edge,
         "linestyle": (0, (3, 2)) if is_dashed else "solid",
         "linewidth": 0.6,
-        "hatch": HATCHES[STATES[name].pattern],
+        "hatch": HATCHES[state.pattern],
     }
 
 
 def draw_bars(axes: Axes, lane: Lane, scale: Scale, foot: float) -> None:
     """High bars first, then low ones before white: a silence is a gap, however short."""
     for name, state in STATES.items():
-        look, height = look_of(name), HIGH if state.is_high else LOW
+        look, height = look_of(name, state), HIGH if state.is_high else LOW
         ends = ends_of((run for run in lane.runs if run.state == name), scale)
         if not state.is_high:
             draw_boxes(axes, ends, foot, HIGH, {"facecolor": "white", "edgecolor": "white", "lw": 0.6})
@@ -174,6 +188,27 @@ def draw_boxes(
 ) -> None:
     boxes = [Rectangle((left, foot), right - left, height) for left, right in ends]
     axes.add_collection(PatchCollection(boxes, **look))
+
+
+def draw_ports(axes: Axes, lane: Lane, scale: Scale, top: float) -> float:
+    """What each port told, from this height down, and where that ends. Lies are as high as their
+    lane, and drawn last; a silence is a gap."""
+    for port, runs in enumerate(lane.ports):
+        foot = top - PORT_LANE * port - PORT_HIGH
+        axes.text(-0.12, foot + PORT_HIGH / 2, str(port), size=TINY, ha="right", va="center")
+        axes.plot([0, WIDTH], [foot, foot], color="#BBBBBB", lw=0.4, zorder=0.5)
+        for name, state in PORT_STATES.items():
+            ends = ends_of((run for run in runs if run.state == name), scale)
+            height = PORT_HIGH if state.is_high else PORT_LOW
+            if name != "agreed":
+                white = {"facecolor": "white", "edgecolor": "white", "lw": 0.0}
+                draw_boxes(axes, ends, foot, PORT_HIGH, white)
+            if name != "silent":
+                draw_boxes(axes, ends, foot, height, look_of(name, state) | {"linewidth": 0.0})
+    ends = top - PORT_LANE * len(lane.ports)
+    if lane.ports:
+        draw_cuts(axes, scale, ends, top)
+    return ends
 
 
 def draw_marks(axes: Axes, lane: Lane, scale: Scale, foot: float) -> None:
@@ -225,7 +260,7 @@ def draw_lane(axes: Axes, lane: Lane, scale: Scale, top: float) -> float:
     draw_bars(axes, lane, scale, foot)
     draw_cuts(axes, scale, foot - 0.02, foot + HIGH + 0.04)
     draw_marks(axes, lane, scale, foot)
-    return draw_causes(axes, lane, scale, foot - BELOW)
+    return draw_causes(axes, lane, scale, draw_ports(axes, lane, scale, foot - BELOW))
 
 
 # ---- the picture
@@ -252,13 +287,32 @@ def verdict_of(bars: Bars) -> tuple[str, str]:
     return bars.verdict, ""
 
 
-def draw_legend(figure: Figure, names: list[str], left: float, top: float) -> None:
-    """What the states are, three in a line from the left."""
-    patches = [Patch(label=f"{name}: {STATES[name].meaning}", **look_of(name)) for name in names]
-    in_lines = [patch for column in range(3) for patch in patches[column::3]]
-    figure.legend(handles=in_lines, loc="upper left", bbox_to_anchor=(left, top), ncol=3,
-                  fontsize=SMALL, frameon=False, borderaxespad=0, borderpad=0, labelspacing=0.6,
-                  handleheight=1.1, handlelength=2.4)
+def patches_of(bars: Bars) -> list[list[Patch]]:
+    """The states that are drawn, as in the legend: those of readers, and those of ports."""
+    readers = {run.state for lane in bars.lanes for run in lane.runs}
+    ports = {run.state for lane in bars.lanes for runs in lane.ports for run in runs}
+    found = [
+        [Patch(label=f"{name}: {state.meaning}", **look_of(name, state))
+         for name, state in STATES.items() if name in readers],
+        [Patch(label=f"port: {state.meaning}", **look_of(name, state))
+         for name, state in PORT_STATES.items() if name in ports],
+    ]
+    return [patches for patches in found if patches]
+
+
+def rows_in(patches: list[Patch]) -> int:
+    return ceil(len(patches) / IN_A_ROW)
+
+
+def draw_legend(figure: Figure, bars: Bars, left: float, top: float) -> None:
+    """What the states are, three in a line from the left, from this height down."""
+    width, height = figure.get_size_inches()
+    for patches in patches_of(bars):
+        in_lines = [patch for column in range(IN_A_ROW) for patch in patches[column::IN_A_ROW]]
+        figure.legend(handles=in_lines, loc="upper left", bbox_to_anchor=(left / width, top / height),
+                      ncol=IN_A_ROW, fontsize=SMALL, frameon=False, borderaxespad=0, borderpad=0,
+                      labelspacing=0.6, handleheight=1.1, handlelength=2.4)
+        top -= LEGEND_ROW * rows_in(patches)
 
 
 def draw_words(figure: Figure, bars: Bars, title: str, left: float) -> None:
@@ -268,13 +322,14 @@ def draw_words(figure: Figure, bars: Bars, title: str, left: float) -> None:
     def say(inches: float, text: str, size: float, **look: str) -> None:
         figure.text(left / width, inches / height, text, size=size, va="center", **look)
 
-    heading = f"{title}: how each reader stood".replace("$", r"\$")  # no formula
+    ports = ", and what its ports told" if has_ports(bars) else ""
+    heading = f"{title}: how each reader stood{ports}".replace("$", r"\$")  # no formula
     wide = width_of(heading, LARGE) * BOLD
     say(height - 0.28, heading, LARGE * min(1.0, WIDTH / wide), weight="bold")
     told = "no second is announced"
     if bars.announced:
         ends = bars.announced[0], bars.announced[-1]
-        first, last = (f"{entry.time} at edge {entry.edge}" for entry in ends)
+        first, last = (f"{entry.second} at edge {entry.edge}" for entry in ends)
         told = f"first announced: {first}; last: {last}"
     say(height - 0.52, told, SMALL, color="#444444")
     verdict, meaning = verdict_of(bars)
@@ -293,16 +348,15 @@ def picture_of(bars: Bars, title: str) -> Figure:
         foot = draw_lane(axes, lane, scale, foot)
     foot -= 0.12
     draw_cuts(axes, scale, foot - 0.06, foot + 0.06)
-    shown = {run.state for lane in bars.lanes for run in lane.runs}
-    names = [name for name in STATES if name in shown]
-    below = 1.16 + 0.22 * (1 + (len(names) > 3))  # the axis, the legend, the last line of the log
+    rows = sum(map(rows_in, patches_of(bars)))
+    below = 1.16 + LEGEND_ROW * rows  # the axis, the legend, the last line of the log
     left = max(width_of(lane.reader, NORMAL) for lane in bars.lanes) + 0.3
     width, height = max(left, 0.7) + WIDTH + 0.3, top - foot + below + 0.75
     figure.set_size_inches(width, height)
     axes.set_position([left / width, below / height, WIDTH / width, (top - foot) / height])
     axes.set_ylim(foot, top)
     draw_axis(axes, bars, scale)
-    draw_legend(figure, names, left / width, (below - 0.5) / height)
+    draw_legend(figure, bars, left, below - 0.5)
     draw_words(figure, bars, title, left)
     return figure
 

@@ -30,7 +30,8 @@ class Scale:
     def __init__(self, bars: Bars, width: float) -> None:
         ends = {bars.first - 0.5, bars.last + 0.5}
         for lane in bars.lanes:
-            ends.update(run.first - 0.5 for run in lane.runs)
+            for runs in (lane.runs, *lane.ports):
+                ends.update(run.first - 0.5 for run in runs)
             ends.update(place for mark in lane.marks for place in (mark.at - 0.5, mark.at + 0.5))
         ends = {end for end in ends if bars.first - 0.5 <= end <= bars.last + 0.5}
         pairs = list(pairwise(sorted(ends)))

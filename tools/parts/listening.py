@@ -81,6 +81,9 @@ class View:
         self.pulses = self.frames = self.out_of_step = self.begun = self.on_time = 0
         self.widths = {letter: Spread() for letter in "01P?"}
         self.gaps = Spread()  # between pulses in step
+        self.seconds = Spread()  # from the beginning of a frame to that of the next
+        self._begun_at: Optional[float] = None  # the last frame
+        self._place = 0
         self.rises: Counter[int] = Counter()  # between all, in tenths of a millisecond
 
     def change(self, time: float, level: int) -> bool:
@@ -108,10 +111,21 @@ class View:
         if self.last_rise is not None and self.rise is not None:
             gap = self.rise - self.last_rise
             self.rises[min(round(gap / 100), 10_000)] += 1
-            self.on_time += 9_000 <= gap < 11_000
+            is_on_time = 9_000 <= gap < 11_000
+            self.on_time += is_on_time
             if place > 1:
                 self.gaps.add(gap)
-        self.last_rise = self.rise
+            elif place == 1 and self._place == 100 and is_on_time and self._begun_at is not None:
+                self.seconds.add(self.rise - self._begun_at)
+        if place == 1:
+            self._begun_at = self.rise
+        self.last_rise, self._place = self.rise, place
+
+    @property
+    def second(self) -> float:
+        """How long the line's second is, in microseconds; where no frame follows another one, by the
+        pulses of frames."""
+        return self.seconds.mean if self.seconds.count else 100 * self.gaps.mean
 
 
 class Line:
@@ -173,6 +187,8 @@ class Ticks:
     ports: Sequence[int]
     due: float = NEVER
     apart: float = 0.0  # how far the ends of frames were apart at most
+    first: Optional[float] = None  # the edge of the first tick, and that of the last one
+    last: float = 0.0
     _edge: float = 0.0  # the next one
     _last: Optional[float] = None
     _far: Optional[float] = None  # an edge that was far from the clock's own
@@ -210,6 +226,8 @@ class Ticks:
             self.apart = max(self.apart, max(near) - min(near))
         self._ends.clear()
         self._is_agreed = False
+        self.first = self._edge if self.first is None else self.first
+        self.last = self._edge
         self._wait_from(self._edge)
 
     def last_until(self, end: float) -> float:
@@ -249,7 +267,7 @@ def report(line: Line) -> Iterator[str]:
     if view.gaps.count:
         yield f"    gap {view.gaps}"
     if view.frames:
-        ppm = round((view.gaps.mean / ELEMENT_US - 1) * 1e6, 1)
+        ppm = round((view.second / SECOND_US - 1) * 1e6, 1)
         word = "shorter" if ppm < 0 else "longer"
         yield f"    a second is {abs(ppm):.1f} ppm {word} than one of the recorder"
     oddity = _oddity(line)

@@ -1,13 +1,17 @@
-"""What a log of irig shows as bars: for each reader runs of edges at which it stood alike, and marks at
-leap seconds, month ends and where a premise broke. tools/plot and tools/view draw them."""
+"""What a log of irig shows as bars: for each reader runs of edges at which it stood alike, for each of
+its ports runs at which it told alike, and marks at leap seconds, month ends and where a premise broke.
+tools/plot draws them; tools/parts/log.js makes the same of a log for pages."""
 from __future__ import annotations
 
-import re
 from collections.abc import Iterable, Iterator
 from dataclasses import dataclass, field
-from datetime import date
+from datetime import timedelta
+from typing import get_args
 
-from scenario import Entry, read_log
+from parts import package  # noqa: F401
+
+from irig.logs import Announced, LastLine, PremiseBroken, RefusedLine, Silent, Tick, read_lines, ticks_of
+from irig.seconds import EPOCH, Second
 
 
 @dataclass(frozen=True)
@@ -29,19 +33,24 @@ STATES = {
     "not announced": State("#FFFFFF", "plain", False, "no line in this log"),
 }
 
-LINE = re.compile(
-    r"\d{1,20} [a-z0-9_-]{1,16} (?:\d{4}-\d\d-\d\dT\d\d:\d\d:\d\dZ|-)"
-    r" (?:locked|unlocked|(?:holdover|acquiring):\d+) [a-z-]+"
-)
-LAST_LINE = re.compile(
-    r"premises kept|premises broken: (?:edge \d+|table of) reader [a-z0-9_-]+|refused: line \d+: \d+ \w+"
-)
-BROKEN = re.compile(r"premises broken: edge (\d+) reader (\S+)")
+# What a port told: low where it told nothing untrue, so that a lie stands out.
+PORT_STATES = {
+    "agreed": State("#009E73", "plain", False, "told the truth"),
+    "silent": State("#FFFFFF", "plain", False, "told nothing"),
+    "faulty": State("#999999", "crosses", False, "told a fault"),
+    "poor": State("#F0E442", "upright", False, "told a poor quality"),
+    "another second": State("#D55E00", "plain", True, "told another second"),
+    "another mark": State("#CC79A7", "stripes", True, "told another mark"),
+}
+
+
+LAST_LINES = get_args(LastLine)
 
 
 @dataclass
 class Run:
-    """Edges of a reader, `first` to `last`, at which it stood alike for one cause."""
+    """Edges of a reader, `first` to `last`, at which it stood alike for one cause; or of one of its
+    ports, at which it told alike: then `cause` is its word at the first of them."""
 
     first: int
     last: int
@@ -59,11 +68,12 @@ class Mark:
 
 @dataclass
 class Lane:
-    """What one reader did."""
+    """What one reader did, and what its ports told, if the log has that."""
 
     reader: str
     runs: list[Run] = field(default_factory=list)
     marks: list[Mark] = field(default_factory=list)
+    ports: list[list[Run]] = field(default_factory=list)
 
 
 @dataclass
@@ -74,19 +84,16 @@ class Bars:
     first: int
     last: int
     verdict: str | None
-    announced: list[Entry]  # those at which a second is announced
+    announced: list[Announced]
 
     def part(self, first: int, last: int) -> Bars:
         """These edges alone."""
         lanes = [
             Lane(
                 lane.reader,
-                [
-                    Run(max(run.first, first), min(run.last, last), run.state, run.cause)
-                    for run in lane.runs
-                    if run.first <= last and first <= run.last
-                ],
+                _cut(lane.runs, first, last),
                 [mark for mark in lane.marks if first - 0.5 < mark.at < last + 0.5],
+                [_cut(runs, first, last) for runs in lane.ports],
             )
             for lane in self.lanes
         ]
@@ -94,61 +101,67 @@ class Bars:
         return Bars(lanes, first, last, self.verdict, announced)
 
 
-def checked(lines: Iterable[str]) -> Iterator[str]:
-    """The lines of a log without those of `--ports`; a ValueError names the first that is none."""
-    is_ended = False
-    edges: dict[str, int] = {}
-    for number, line in enumerate(lines, 1):
-        if not line.strip() or line.startswith(" "):
-            continue
-        if is_ended:
-            raise ValueError(f"line {number} stands below the last line of a log")
-        if LINE.fullmatch(line):
-            edge, reader = line.split(" ", 2)[:2]
-            if int(edge) <= edges.get(reader, 0):
-                above = f"after edge {edges[reader]}" if reader in edges else "before edge 1"
-                raise ValueError(f"line {number}: edge {edge} of {reader} comes {above}")
-            edges[reader] = int(edge)
-        elif LAST_LINE.fullmatch(line):
-            is_ended = True
-        elif line.startswith("{"):
-            raise ValueError(f"line {number} is of a scenario; its log is what ./irig run prints")
-        else:
-            raise ValueError(f"line {number} is no line of a log: {line[:60]!r}")
-        yield line
+def _cut(runs: list[Run], first: int, last: int) -> list[Run]:
+    """What is of these edges."""
+    return [
+        Run(max(run.first, first), min(run.last, last), run.state, run.cause)
+        for run in runs
+        if run.first <= last and first <= run.last
+    ]
 
 
 def bars_of(lines: Iterable[str]) -> Bars:
-    """What is drawn of a log; a ValueError if there is nothing to draw."""
-    log = read_log(checked(lines))
-    if not log.entries:
-        raise ValueError(f"no edges to draw: {_why_none(log.verdict)}")
-    of_readers: dict[str, list[Entry]] = {}
-    for entry in log.entries:
-        of_readers.setdefault(entry.reader, []).append(entry)
-    has_silences = any(entry.time is None for entry in log.entries)
-    first = min(entry.edge for entry in log.entries) if has_silences else 1
-    last = max(entry.edge for entry in log.entries)
-    lanes = [
-        Lane(reader, list(_runs(entries, first, last)), list(_marks(entries, first)))
-        for reader, entries in of_readers.items()
-    ]
-    broken = BROKEN.fullmatch(log.verdict or "")
+    """What is drawn of a log; a ValueError if there is nothing to draw, or a line is none of a log."""
+    said = list(read_lines(lines))
+    verdict = said.pop() if said and isinstance(said[-1], LAST_LINES) else None
+    ticks = list(ticks_of(said))
+    if not ticks:
+        raise ValueError(f"no edges to draw: {_why_none(verdict)}")
+    of_readers: dict[str, list[Tick]] = {}
+    for tick in ticks:
+        of_readers.setdefault(tick.reader, []).append(tick)
+    has_silences = any(isinstance(tick.said, Silent) for tick in ticks)
+    first = min(tick.edge for tick in ticks) if has_silences else 1
+    last = max(tick.edge for tick in ticks)
+    lanes = [lane_of(reader, ticks, first, last) for reader, ticks in of_readers.items()]
     for lane in lanes:
-        if broken and lane.reader == broken[2]:
-            lane.marks.append(Mark(int(broken[1]), "premise broken"))
-    announced = [entry for entry in log.entries if entry.time]
-    return Bars(lanes, first, last, log.verdict, announced)
+        if isinstance(verdict, PremiseBroken) and lane.reader == verdict.reader:
+            lane.marks.append(Mark(verdict.edge, "premise broken"))
+    announced = [tick.said for tick in ticks if isinstance(tick.said, Announced)]
+    return Bars(lanes, first, last, None if verdict is None else str(verdict), announced)
 
 
-def _why_none(verdict: str | None) -> str:
+def lane_of(reader: str, ticks: list[Tick], first: int, last: int) -> Lane:
+    said = [tick.said for tick in ticks if tick.said]
+    announced = [entry for entry in said if isinstance(entry, Announced)]
+    runs, marks = list(_runs(said, first, last)), list(_marks(announced, first))
+    return Lane(reader, runs, marks, _port_runs(ticks))
+
+
+def _why_none(verdict: LastLine | None) -> str:
     if verdict is None:
         return "it is empty"
-    hint = "" if verdict.startswith("refused") else "; silent edges have lines if it is made with --all"
-    return f"it says {verdict!r} alone{hint}"
+    is_refused = isinstance(verdict, RefusedLine)
+    hint = "" if is_refused else "; silent edges have lines if it is made with --all"
+    return f"it says '{verdict}' alone{hint}"
 
 
-def _runs(entries: list[Entry], first: int, last: int) -> Iterator[Run]:
+def _port_runs(ticks: list[Tick]) -> list[list[Run]]:
+    """For each port the runs of edges at which it told alike."""
+    found: list[list[Run]] = []
+    for tick in ticks:
+        for port, word in enumerate(tick.ports.told if tick.ports else ()):
+            if port == len(found):
+                found.append([])
+            runs = found[port]
+            if runs and (runs[-1].last, runs[-1].state) == (tick.edge - 1, word.kind):
+                runs[-1].last = tick.edge
+            else:
+                runs.append(Run(tick.edge, tick.edge, word.kind, word.text))
+    return found
+
+
+def _runs(entries: list[Announced | Silent], first: int, last: int) -> Iterator[Run]:
     """The runs of one reader; edges without a line are runs of their own."""
     run = Run(first, first - 1, "", "")
     for entry in entries:
@@ -159,28 +172,29 @@ def _runs(entries: list[Entry], first: int, last: int) -> Iterator[Run]:
             run.last = entry.edge
         else:
             yield from [run] if run.state else []
-            run = Run(entry.edge, entry.edge, entry.lock or "", entry.cause or "")
-    yield run
+            run = Run(entry.edge, entry.edge, entry.lock, entry.cause)
+    yield from [run] if run.state else []
     if run.last < last:
         yield Run(run.last + 1, last, "not announced", "not announced")
 
 
-def _marks(entries: list[Entry], first: int) -> Iterator[Mark]:
+def _marks(entries: list[Announced], first: int) -> Iterator[Mark]:
     """The leap seconds that a reader announces, and the month ends between what it announces."""
     before_edge, before = first, ""
-    for edge, time in ((entry.edge, entry.time) for entry in entries if entry.time):
-        if time[17:19] == "60":
+    for edge, second in ((entry.edge, entry.second) for entry in entries):
+        time = str(second)
+        if second.is_leap:
             yield Mark(edge, "leap second")
         if time[:7] != before[:7]:
             if edge == before_edge + 1 and (before[11:], time[11:]) == ("23:59:58Z", "00:00:00Z"):
                 yield Mark(edge - 0.5, "deleted second")
-            begins = edge - _seconds_of_month(time)
+            begins = edge - _seconds_of_month(second)
             if before_edge < begins <= edge:
                 yield Mark(begins - 0.5, "month end")
         before_edge, before = edge, time
 
 
-def _seconds_of_month(time: str) -> int:
+def _seconds_of_month(second: Second) -> int:
     """How many seconds of its month are before this one: leap seconds come at its end alone."""
-    days = date.fromisoformat(time[:10]).day - 1
-    return 86_400 * days + 3600 * int(time[11:13]) + 60 * int(time[14:16]) + int(time[17:19])
+    day = EPOCH + timedelta(second.day)
+    return 86_400 * (day.day - 1) + second.sod

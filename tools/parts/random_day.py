@@ -10,7 +10,9 @@ from collections.abc import Iterator, Sequence
 from dataclasses import dataclass
 from itertools import pairwise
 
-from scenario import Leap, Lost, Reader, Scenario, Table
+from parts import package  # noqa: F401
+
+from irig.scenarios import Leap, Lost, Reader, Scenario, Table
 
 DAY = 86_400
 READER = "relay"
@@ -183,7 +185,7 @@ def lost_frames(plant: Scenario, losses: random.Random) -> dict[tuple[int, str],
 def scenario_of(model: Model, lock_after: int, holdover: int, seed: int) -> Scenario:
     """The day of a seed, for a reader with these settings."""
     leaps = [Leap(model.leap)] if model.leap else []
-    known = [leap for leap in leaps if leap.day <= model.table]
+    known = [Leap(model.leap)] if model.leap and model.leap <= model.table else []
     table = Table(model.table, known) if model.table else None
     reader = Reader(READER, lock_after, holdover, table)
     plant = Scenario(model.start, [reader], model.generators, leaps)

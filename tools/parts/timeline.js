@@ -1,11 +1,16 @@
-// ---- the timeline: how each reader stood at each edge, by the bars, marks and patterns of tools/plot
+// ---- the timeline: how each reader stood at each edge, and below it what each of its ports told, by the
+// bars, marks and patterns of tools/plot
 
 const LANE = 46, HIGH = 24, LOW = 11, TOP = 14, AXIS = 26;
+const PORT_LANE = 11, PORT_HIGH = 9, PORT_LOW = 5, BELOW_PORTS = 4; // a thin lane a port
 const NARROW = 2, PLAIN = 5; // the least width of a silence; less wide bars have no pattern
 const FEWEST = 4; // edges on the screen at the nearest zoom
-const FONT = "13px system-ui, sans-serif", RIGHT = 12;
-const STATES = ["locked", "holdover", "acquiring", "unlocked", "not announced"]
-  .map((name) => ({ name, ...data.states[name] }));
+const LEAST_LIE = 3; // no lie is less wide
+const FONT = "13px system-ui, sans-serif", SMALL_FONT = "9px system-ui, sans-serif", RIGHT = 12;
+const STATES = STATE_NAMES.map((name) => ({ name, ...data.states[name] }));
+const PORT_STATES = PORT_KINDS.map((name) => ({ name, ...data.port_states[name] }));
+const LEASTS = STATES.map((state) => (state.is_high ? 1 : NARROW));
+const PORT_LEASTS = PORT_STATES.map((state) => (state.is_high ? LEAST_LIE : NARROW));
 const TILES = { // the lines of a pattern
   stripes: [[-2, 2, 2, -2], [-2, 10, 10, -2], [6, 10, 10, 6]],
   upright: [[2, 0, 2, 8], [6, 0, 6, 8]],
@@ -13,16 +18,28 @@ const TILES = { // the lines of a pattern
 };
 
 class LaneOfEdges { // a lane, and which line tells of an edge
-  constructor(lane) { Object.assign(this, lane); }
+  constructor(lane, top) {
+    Object.assign(this, { ports: [], told_edges: [], told_lines: [], ...lane, top });
+    const { length } = this.ports;
+    this.height = LANE + (length ? length * PORT_LANE + BELOW_PORTS : 0);
+  }
 
   line_at(edge) {
     const place = first_after(this.edges, edge);
     return this.edges[place] === edge ? this.lines[place] : -1;
   }
 
+  told_at(edge) { // the line that says what its ports told
+    const place = first_after(this.told_edges, edge);
+    return this.told_edges[place] === edge ? this.told_lines[place] : -1;
+  }
+
   edge_of(line) {
-    const place = first_after(this.lines, line);
-    return this.lines[place] === line ? this.edges[place] : -1;
+    for (const [lines, edges] of [[this.lines, this.edges], [this.told_lines, this.told_edges]]) {
+      const place = first_after(lines, line);
+      if (lines[place] === line) return edges[place];
+    }
+    return -1;
   }
 
   maker_of(edge) {
@@ -33,7 +50,8 @@ class LaneOfEdges { // a lane, and which line tells of an edge
 
 class Timeline {
   constructor(on_choice) {
-    Object.assign(this, { on_choice, lanes: [], causes: [], found: [], first: 1, last: 1 });
+    Object.assign(this, { on_choice, lanes: [], causes: [], found: [], lies: [] });
+    Object.assign(this, { first: 1, last: 1, height: TOP });
     Object.assign(this, { canvas: part("canvas"), axis: part("axis"), colours: {}, gutter: 60, width: 0 });
     Object.assign(this, { is_waiting: false, dragged: null });
     this.brush = this.canvas.getContext("2d");
@@ -44,10 +62,16 @@ class Timeline {
   }
 
   set({ lanes, causes, first, last }, told_of) {
-    this.lanes = lanes.map((lane) => new LaneOfEdges(lane));
-    Object.assign(this, { causes, first, last, told_of });
+    let top = TOP;
+    this.lanes = lanes.map((lane) => {
+      const placed = new LaneOfEdges(lane, top);
+      top += placed.height;
+      return placed;
+    });
+    Object.assign(this, { causes, first, last, told_of, height: top });
     this.view = { from: first - 0.5, to: last + 0.5 };
     this.cursor = { lane: this.lanes[0], edge: first };
+    part("lie").hidden = !this.lanes.some(({ ports }) => ports.length);
     this.add_choices();
     this.add_legend();
     this.look();
@@ -60,8 +84,8 @@ class Timeline {
 
   x_of(edge) { return this.gutter + (edge - this.view.from) / (this.view.to - this.view.from) * this.width; }
   edge_at(x) { return this.view.from + (x - this.gutter) / this.width * (this.view.to - this.view.from); }
-  top_of(lane) { return TOP + this.lanes.indexOf(lane) * LANE; }
-  lane_at(y) { return this.lanes[clamp(Math.floor((y - TOP + 10) / LANE), 0, this.lanes.length - 1)]; }
+  top_of(lane) { return lane.top; }
+  lane_at(y) { return this.lanes.find(({ top, height }) => y < top + height - 10) || this.lanes[this.lanes.length - 1]; }
   ground_of(lane) { return lane === this.cursor.lane ? this.colours.panel : this.colours.paper; }
 
   redraw() {
@@ -78,10 +102,10 @@ class Timeline {
     this.brush.font = FONT;
     const names = this.lanes.map((lane) => this.brush.measureText(lane.reader).width);
     this.gutter = Math.ceil(Math.max(30, ...names)) + 14;
-    this.size(this.canvas, this.brush, TOP + this.lanes.length * LANE);
+    this.size(this.canvas, this.brush, this.height);
     this.size(this.axis, this.ruler, AXIS);
     this.width = Math.max(10, this.canvas.clientWidth - this.gutter - RIGHT);
-    for (const state of STATES) state.brush = this.pattern_of(state);
+    for (const state of [...STATES, ...PORT_STATES]) state.brush = this.pattern_of(state);
     this.draw_legend();
     this.redraw();
   }
@@ -114,8 +138,12 @@ class Timeline {
     brush.clearRect(0, 0, canvas.width, canvas.height);
     for (const lane of this.lanes) {
       const foot = this.top_of(lane) + HIGH;
-      this.box(0, foot - HIGH - 10, gutter + width + RIGHT, LANE - 4, this.ground_of(lane));
+      this.box(0, foot - HIGH - 10, gutter + width + RIGHT, lane.height - 4, this.ground_of(lane));
       write(brush, lane.reader, gutter - 8, foot - HIGH / 2, "right", this.colours.text);
+      lane.ports.forEach((_, port) => {
+        const middle = this.foot_of(lane, port) - PORT_HIGH / 2 + 0.5;
+        write(brush, String(port), gutter - 8, middle, "right", this.colours.faint, SMALL_FONT);
+      });
     }
     brush.save();
     brush.beginPath();
@@ -123,6 +151,7 @@ class Timeline {
     brush.clip();
     for (const lane of this.lanes) {
       this.draw_bars(lane, this.top_of(lane) + HIGH);
+      this.draw_ports(lane);
       this.draw_marks(lane, this.top_of(lane) + HIGH);
     }
     this.draw_cursor();
@@ -137,9 +166,9 @@ class Timeline {
   }
 
   // The boxes of the runs that are seen, for each state: narrow ones that touch on the screen are one.
-  boxes_of({ firsts, lasts, states }) {
+  boxes_of({ firsts, lasts, states }, least) {
     const { view, gutter, width } = this;
-    const boxes = STATES.map(() => []), least = STATES.map((state) => (state.is_high ? 1 : NARROW));
+    const boxes = least.map(() => []);
     const scale = width / (view.to - view.from), zero = gutter - view.from * scale;
     const most_left = gutter - 10, most_right = gutter + width + 10;
     for (let place = first_after(lasts, view.from); place < lasts.length; place++) {
@@ -163,7 +192,7 @@ class Timeline {
 
   // High bars first, then low ones before an empty room: a silence is a gap, however short.
   draw_bars(lane, foot) {
-    const boxes = this.boxes_of(lane), ground = this.ground_of(lane);
+    const boxes = this.boxes_of(lane, LEASTS), ground = this.ground_of(lane);
     STATES.forEach((state, place) => {
       const height = state.is_high ? HIGH : LOW;
       for (const [left, right] of boxes[place]) {
@@ -174,6 +203,25 @@ class Timeline {
       }
     });
     this.draw_found(lane, foot);
+  }
+
+  foot_of(lane, port) { return this.top_of(lane) + HIGH + 10 + port * PORT_LANE + PORT_HIGH; }
+
+  // What each port told, lies last and as high as their lane: nothing hides them. A silence is a gap.
+  draw_ports(lane) {
+    const ground = this.ground_of(lane);
+    lane.ports.forEach((runs, port) => {
+      const foot = this.foot_of(lane, port), boxes = this.boxes_of(runs, PORT_LEASTS);
+      PORT_STATES.forEach((state, kind) => {
+        const high = state.is_high ? PORT_HIGH : PORT_LOW;
+        for (const [left, right] of boxes[kind]) {
+          const gap = right - left > PLAIN ? 1 : 0;
+          if (kind !== PORT.AGREED) this.box(left, foot - high, right - left, high, ground);
+          if (kind === PORT.SILENT) this.box(left, foot - 1, right - left, 1, this.colours.rule);
+          else this.box(left, foot - high, right - left - gap, high, gap ? state.brush : state.colour);
+        }
+      });
+    });
   }
 
   frame(pen, left, top, wide, high) {
@@ -220,13 +268,14 @@ class Timeline {
     }
   }
 
-  draw_cursor() { // a frame around the chosen edge
-    const { brush, cursor } = this;
+  draw_cursor() { // a frame around the chosen edge, and what its ports told
+    const { brush, cursor } = this, { length } = cursor.lane.ports;
     const left = this.x_of(cursor.edge - 0.5), right = Math.max(this.x_of(cursor.edge + 0.5), left + 5);
     const top = this.top_of(cursor.lane) - 4;
     brush.lineWidth = 2;
     brush.strokeStyle = this.colours.text;
-    brush.strokeRect(left - (right - left === 5 ? 2 : 0), top, right - left, HIGH + 8);
+    const high = length ? this.foot_of(cursor.lane, length - 1) + 2 - top : HIGH + 8;
+    brush.strokeRect(left - (right - left === 5 ? 2 : 0), top, right - left, high);
     brush.lineWidth = 1;
   }
 
@@ -271,15 +320,17 @@ class Timeline {
 
   add_legend() {
     part("legend").replaceChildren();
-    STATES.forEach((state, place) => {
+    const add_states = (states, all_runs, name_of) => states.forEach((state, place) => {
       state.sample = null;
-      if (!this.lanes.some((lane) => lane.states.includes(place))) return;
+      if (!all_runs.some((runs) => runs.states.includes(place))) return;
       const item = add(part("legend"), "span");
       state.sample = add(item, "canvas");
       state.sample.width = 28;
       state.sample.height = HIGH / 2 + 4;
-      item.append(`${state.name}: ${state.meaning}`);
+      item.append(`${name_of(state)}: ${state.meaning}`);
     });
+    add_states(STATES, this.lanes, ({ name }) => name);
+    add_states(PORT_STATES, this.lanes.flatMap(({ ports }) => ports), () => "port");
     const kinds = new Set(this.lanes.flatMap((lane) => lane.marks.map(([, kind]) => kind)));
     const signs = {
       "leap second": "\u25bc 23:59:60 inserted", "deleted second": "\u25bd 23:59:59 deleted",
@@ -289,13 +340,13 @@ class Timeline {
   }
 
   draw_legend() {
-    for (const state of STATES.filter((each) => each.sample)) {
+    for (const state of [...STATES, ...PORT_STATES].filter((each) => each.sample)) {
       const pen = state.sample.getContext("2d"), all = state.sample.height;
-      const high = state.is_high ? all : LOW - 3;
+      const is_gap = state === PORT_STATES[PORT.SILENT], high = state.is_high ? all : LOW - 3;
       pen.clearRect(0, 0, 28, all);
-      pen.fillStyle = state.brush;
-      pen.fillRect(0, all - high, 28, high);
-      if (state.name === "not announced") this.frame(pen, 0, all - high, 28, high);
+      pen.fillStyle = is_gap ? this.colours.rule : state.brush;
+      pen.fillRect(0, is_gap ? all - 1 : all - high, 28, is_gap ? 1 : high);
+      if (state.name === NO_REASON) this.frame(pen, 0, all - high, 28, high);
     }
   }
 
@@ -331,7 +382,7 @@ class Timeline {
     if (!lane) return;
     this.cursor = { lane, edge: clamp(edge, this.first, this.last) };
     const frame = part("timeline"), top = this.top_of(lane) - TOP;
-    frame.scrollTop = clamp(frame.scrollTop, top + LANE + TOP - frame.clientHeight, top);
+    frame.scrollTop = clamp(frame.scrollTop, top + lane.height + TOP - frame.clientHeight, top);
     if (this.cursor.edge - 0.5 < this.view.from || this.cursor.edge + 0.5 > this.view.to) {
       const wide = this.view.to - this.view.from;
       this.show_edges(this.cursor.edge - wide / 2, this.cursor.edge + wide / 2);
@@ -354,23 +405,51 @@ class Timeline {
       });
     });
     this.found.sort((one, other) => one[1] - other[1] || one[0] - other[0]);
+    this.lies = this.lies_of(reader);
+    part("lie").disabled = !this.lies.length;
     const count = this.found.length;
     part("found").textContent = count ? `${this.wanted}: ${count}` : `no ${this.wanted}`;
     part("previous").disabled = part("next").disabled = !count;
     this.redraw();
   }
 
+  // [lane, edge, kind, port] of each run at which a port told a second or a mark that is not true.
+  lies_of(reader) {
+    const lies = [];
+    this.lanes.forEach((lane, number) => {
+      if (reader && lane.reader !== reader) return;
+      lane.ports.forEach(({ firsts, states }, port) => firsts.forEach((first, place) => {
+        if (PORT_STATES[states[place]].is_high) lies.push([number, first, states[place], port]);
+      }));
+    });
+    return lies.sort((one, other) => one[1] - other[1] || one[0] - other[0]);
+  }
+
   get wanted() { return part("cause").value || "silence"; }
 
-  go(step) { // to the next or the previous one, seen from the cursor
-    if (!this.found.length) return;
-    const here = this.lanes.indexOf(this.cursor.lane), count = this.found.length;
+  go(step) { // to the next or the previous one of what is looked for
+    const place = this.go_among(this.found, step);
+    if (place >= 0) part("found").textContent = `${this.wanted}: ${place + 1} of ${this.found.length}`;
+  }
+
+  go_to_lie(step) {
+    const place = this.go_among(this.lies, step);
+    if (place < 0) return;
+    const [number, edge, , port] = this.lies[place];
+    const others = this.lies.filter((lie) => lie[0] === number && lie[1] === edge).map((lie) => lie[3]);
+    const who = others.length > 1 ? `ports ${others.join(" and ")}` : `port ${port}`;
+    part("found").textContent = `lie: ${place + 1} of ${this.lies.length}, ${who} of ${this.lanes[number].reader}`;
+  }
+
+  go_among(found, step) { // to the next or the previous one, seen from the cursor
+    if (!found.length) return -1;
+    const here = this.lanes.indexOf(this.cursor.lane), count = found.length;
     const compare = ([number, edge]) => edge - this.cursor.edge || number - here;
-    let place = this.found.findIndex((each) => (step > 0 ? compare(each) > 0 : compare(each) >= 0));
+    let place = found.findIndex((each) => (step > 0 ? compare(each) > 0 : compare(each) >= 0));
     if (place < 0) place = count;
     place = ((step > 0 ? place : place - 1) + count) % count;
-    this.choose(this.lanes[this.found[place][0]], this.found[place][1]);
-    part("found").textContent = `${this.wanted}: ${place + 1} of ${count}`;
+    this.choose(this.lanes[found[place][0]], found[place][1]);
+    return place;
   }
 
   // ---- keys, wheel and mouse
@@ -394,6 +473,8 @@ class Timeline {
       0: () => this.show_all(),
       n: () => this.go(1),
       p: () => this.go(-1),
+      l: () => this.go_to_lie(1),
+      L: () => this.go_to_lie(-1),
     }[event.key];
     if (!does) return;
     event.preventDefault();
@@ -453,6 +534,7 @@ class Timeline {
     part("reader").addEventListener("change", () => this.look_for());
     part("next").addEventListener("click", () => this.go(1));
     part("previous").addEventListener("click", () => this.go(-1));
+    part("lie").addEventListener("click", () => this.go_to_lie(1));
     part("in").addEventListener("click", () => this.zoom_here(0.5));
     part("out").addEventListener("click", () => this.zoom_here(2));
     part("whole").addEventListener("click", () => this.show_all());
@@ -465,8 +547,8 @@ class Timeline {
   }
 }
 
-function write(pen, text, x, y, align, style) {
-  pen.font = FONT;
+function write(pen, text, x, y, align, style, font = FONT) {
+  pen.font = font;
   pen.textBaseline = "middle";
   pen.textAlign = align;
   pen.fillStyle = style;

@@ -1,7 +1,5 @@
-// ---- the page of one scenario and its log. `data` has lanes with runs and marks (tools/parts/log_lanes.py), the
-// lines of the log and of the scenario, and which line of the scenario made which edges (tools/view).
-
-const CAUSES = [...new Set(data.lanes.flatMap(({ runs }) => runs.map(([, , , cause]) => cause)))].sort();
+// ---- the page of one scenario and its log. `data` has the lines of both, and which line of the scenario made
+// which edges (tools/view); tools/parts/reading.js reads the log.
 
 class Lines {
   constructor(texts) { Object.assign(this, { texts, length: texts.length }); }
@@ -9,63 +7,37 @@ class Lines {
   at(number) { return this.texts[number]; }
 }
 
-function lane_of({ reader, runs, marks }) { // as the timeline has it
-  const place_of = new Map(CAUSES.map((cause, place) => [cause, place]));
-  return {
-    reader, marks,
-    firsts: Float64Array.from(runs, ([first]) => first),
-    lasts: Float64Array.from(runs, ([, last]) => last),
-    states: Uint8Array.from(runs, ([, , name]) => STATES.findIndex((state) => state.name === name)),
-    causes: Uint8Array.from(runs, ([, , , cause]) => place_of.get(cause)),
-    edges: [], lines: [], // those that have a line, and its number
-    told: new Map(), // edge to the line of --ports
-    ends: (data.ticks[reader] || []).map(([last]) => last),
-    makers: (data.ticks[reader] || []).map(([, line]) => line - 1),
-  };
+function with_makers(lane) { // and which lines of the scenario made its edges
+  const ticks = data.ticks[lane.reader] || [];
+  return { ...lane, ends: ticks.map(([last]) => last), makers: ticks.map(([, line]) => line - 1) };
 }
 
 const timeline = new Timeline(on_choice);
 const log = new List(part("log"), on_line);
 const scenario = new List(part("scenario"), on_scenario_line);
-const place_of_line = []; // the lane and the edge of each line of the log
-
-function read_log(lanes) { // which line tells of which edge
-  const lane_of_reader = new Map(lanes.map((lane) => [lane.reader, lane]));
-  data.log.forEach((line, number) => {
-    const is_told = line.startsWith(" ");
-    const [edge, reader] = (is_told ? line.slice(1) : line).split(" ", 2);
-    const lane = lane_of_reader.get(reader);
-    if (!lane || !/^\d+$/.test(edge)) return;
-    if (is_told) {
-      lane.told.set(Number(edge), number);
-    } else {
-      lane.edges.push(Number(edge));
-      lane.lines.push(number);
-    }
-    place_of_line[number] = [reader, Number(edge)];
-  });
-}
+const reading = read_lines(data.log);
 
 const lane_named = (reader) => timeline.lanes.find((lane) => lane.reader === reader);
 
 function told_of(lane, edge) { // what there is to say of an edge
-  const line = lane.line_at(edge), told = lane.told.get(edge), maker = lane.maker_of(edge);
+  const line = lane.line_at(edge), told = lane.told_at(edge), maker = lane.maker_of(edge);
   const none = `${edge} ${lane.reader}: not announced, no line in this log`;
   const parts = [line < 0 ? none : data.log[line]];
-  if (told !== undefined) parts.push(data.log[told].trim().replace(/^\S+ \S+/, "ports:"));
+  if (told >= 0) parts.push(data.log[told].trim().replace(/^\S+ \S+/, "ports:"));
   if (maker >= 0) parts.push(`scenario line ${maker + 1}: ${cut(data.scenario[maker], 120)}`);
   return parts.join("\n");
 }
 
 function on_choice(lane, edge, from) { // the lists follow, but for one that leads
-  if (from !== log) log.show(lane.line_at(edge));
+  const line = lane.line_at(edge);
+  if (from !== log) log.show(line < 0 ? lane.told_at(edge) : line);
   if (from !== scenario) scenario.show(lane.maker_of(edge));
 }
 
 function on_line(number) {
-  const [reader, edge] = place_of_line[number] || [];
-  if (reader) {
-    timeline.choose(lane_named(reader), edge, log);
+  const lane = timeline.lane_of_line(number);
+  if (lane) {
+    timeline.choose(lane, lane.edge_of(number), log);
   } else {
     part("line").textContent = data.log[number];
   }
@@ -94,7 +66,7 @@ function go_to_text() { // the next line of the log with this text, below the ch
 // ---- the last line of the log
 
 function add_verdict() {
-  const verdict = data.verdict;
+  const { verdict } = reading;
   const sign = verdict === "premises kept" ? "\u2713" : "\u2717";
   part("verdict").textContent = `${sign} ${verdict || "no last line: the run did not end, or it was cut"}`;
   const [, edge, reader] = /^premises broken: edge (\d+) reader (\S+)$/.exec(verdict || "") || [];
@@ -119,12 +91,11 @@ function to_verdict(text, go_there) {
 part("text").addEventListener("keydown", (event) => { if (event.key === "Enter") go_to_text(); });
 log.set(new Lines(data.log));
 scenario.set(new Lines(data.scenario));
-const lanes = data.lanes.map(lane_of);
-read_log(lanes);
-timeline.set({ lanes, causes: CAUSES, first: data.first, last: data.last }, told_of);
+timeline.set({ ...reading, lanes: reading.lanes.map(with_makers) }, told_of);
 add_verdict();
-if (lanes.length) {
-  timeline.choose(timeline.lanes[0], data.first);
+if (reading.lanes.length) {
+  timeline.choose(timeline.lanes[0], reading.first);
+  part("canvas").focus({ preventScroll: true }); // so that keys work at once
 } else {
   for (const id of ["stage", "axis", "find-controls", "legend", "keys", "range"]) part(id).hidden = true;
 }

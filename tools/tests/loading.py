@@ -1,5 +1,5 @@
-"""For tests of the tools, and of web/: once this is imported, so can be what stands in tools/ and in
-tests/."""
+"""For tests of the tools, and of web/: once this is imported, so can be what stands in tools/, in tests/
+and the package of python/."""
 from __future__ import annotations
 
 import sys
@@ -9,7 +9,7 @@ from pathlib import Path
 from types import ModuleType
 
 ROOT = Path(__file__).resolve().parents[2]
-sys.path[:0] = [str(ROOT / "tools"), str(ROOT / "tests")]
+sys.path[:0] = [str(ROOT / "tools"), str(ROOT / "tests"), str(ROOT / "python")]
 
 
 def loaded(path: Path) -> ModuleType:

@@ -513,6 +513,24 @@ class Recorders(unittest.TestCase):
             lines = replace(lines, end=lines.end * parts // 1_000_000)
             self.assertIn(f"a second is {said_so} than one of the recorder", self.alike(lines))
 
+    def test_a_clock_that_mends_itself_between_frames(self) -> None:
+        """Its pulses are 10 ms apart, but 50 us more lie between two frames: 50 in a million."""
+        lines = wave_of("leap_inserted").of(
+            lambda change: [(change[0] + (change[0] - 50_000) // 1_000_000 * 50, *change[1:])]
+        )
+        said = self.alike(lines)
+        self.assertIn("a second is 50.0 ppm longer than one of the recorder", said)
+        self.assertIn("10.000 to 10.000 ms, mean 10.000", said)
+
+    def test_a_frame_alone(self) -> None:
+        """No frame follows it, so its second is known by its pulses alone."""
+        lines = wave_of("leap_inserted").of(
+            lambda change: [(change[0] * 10_001 // 10_000, *change[1:])] * (change[0] < 1_055_000)
+        )
+        said = captured_wave(replace(lines, end=1_100_000))[1]
+        self.assertIn("101 pulses, 1 frames, 0 pulses out of step", said)
+        self.assertIn("a second is 100.0 ppm longer than one of the recorder", said)
+
     def test_two_thousand_samples_a_second(self) -> None:
         late = (130, 0, 390)
         self.alike(wave_of("leap_inserted").of(
@@ -523,7 +541,8 @@ class Recorders(unittest.TestCase):
         late = (0, 350, 700)
         lines = wave_of("leap_inserted")
         lines = lines.of(lambda change: [(change[0] + late[change[1]], *change[1:])])
-        self.assertIn("14 ticks; lines are up to 700 us apart\n", self.alike(lines))
+        when = "tick 1 is at 1.050 s of the recording, tick 14 at 14.050 s"
+        self.assertIn(f"14 ticks: {when}; lines are up to 700 us apart\n", self.alike(lines))
 
     def test_a_pause_that_the_clock_does_not_show(self) -> None:
         """Half a frame, and the other half when a clock of 32 bits has come round."""
@@ -660,7 +679,7 @@ class Lines(unittest.TestCase):
         for end, ticks in ((7_046_000, 6), (7_049_000, 7), (7_055_000, 7)):
             early = tuple(change for change in lines.changes if change[0] < end)
             text, said = captured_wave(Wave(3, early, end))
-            self.assertIn(f"\n{ticks} ticks; ", said)
+            self.assertIn(f"\n{ticks} ticks: tick 1 is at 1.050 s of the recording, ", said)
             self.assertEqual(log_of(text)[: 2 * ticks], wanted_of("leap_inserted")[: 2 * ticks])
 
     def test_nothing_on_it(self) -> None:

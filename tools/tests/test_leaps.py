@@ -7,7 +7,7 @@ import tempfile
 import unittest
 
 from loading import ROOT
-from scenario import Leap, Reader, Scenario, Table
+from irig.scenarios import Leap, Reader, Scenario, Table
 
 PROGRAM = ROOT / "crates/irig_main/out/irig_main"
 

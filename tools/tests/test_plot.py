@@ -15,7 +15,7 @@ from itertools import combinations
 from pathlib import Path
 
 from loading import ROOT, loaded
-from parts.log_lanes import STATES, Bars, Lane, Mark, Run, bars_of, checked
+from parts.log_lanes import PORT_STATES, STATES, Bars, Lane, Mark, Run, bars_of
 from parts.command import DEBIAN
 from parts.layout import Label, Scale, chosen, rows_of, ways
 
@@ -138,10 +138,29 @@ class Runs(unittest.TestCase):
         self.assertEqual(meter.runs[-1], Run(2, 3, "locked", "voted"))
         self.assertIsNone(bars.verdict)
 
-    def test_lines_of_ports_are_left_out(self) -> None:
-        lines = example("month_end_guard")
-        told = [text for line in lines for text in (line, " 1 relay ok silence ok")]
-        self.assertEqual(bars_of(told), bars_of(lines))
+    def test_ports(self) -> None:
+        """The liar of one_liar.log: the words are those of docs/OUTPUT.md."""
+        words = {5: "2017-06-30T23:59:57Z", 6: "2017-06-30T23:59:58Z", 7: "2017-06-30T23:59:59Z",
+                 8: "2017-07-01T00:00:00Z", **dict.fromkeys(range(9, 13), "insert")}
+        lines = [" 1 relay ok ok ok"]
+        for edge, line in enumerate(example("one_liar")[:-1], 2):
+            lines += [line, f" {edge} relay ok {words.get(edge, 'ok')} ok"]
+        lane = lane_of([*lines, "premises kept"])
+        self.assertEqual(lane.ports, [
+            [Run(1, 16, "agreed", "ok")],
+            [Run(1, 4, "agreed", "ok"), Run(5, 8, "another second", "2017-06-30T23:59:57Z"),
+             Run(9, 12, "another mark", "insert"), Run(13, 16, "agreed", "ok")],
+            [Run(1, 16, "agreed", "ok")],
+        ])
+        self.assertEqual((lane.runs, lane.marks), (lane_of(example("one_liar")).runs, lane.marks))
+
+    def test_each_word_of_a_port(self) -> None:
+        told = ["ok silence fault:17:Parity", "poor:12 no-leap 2016-06-15T12:00:00Z"]
+        lane = lane_of([f" {edge} relay {words}" for edge, words in enumerate(told, 1)])
+        kinds = [[run.state for run in runs] for runs in lane.ports]
+        self.assertEqual(kinds, [["agreed", "poor"], ["silent", "another mark"],
+                                 ["faulty", "another second"]])
+        self.assertEqual(lane.runs, [Run(1, 2, "not announced", "not announced")])
 
     def test_a_part(self) -> None:
         part = bars_of(example("dark_hour")).part(10, 20)
@@ -160,7 +179,7 @@ class Runs(unittest.TestCase):
             (['{"version":1'], "line 1 is of a scenario"),
         ):
             with self.subTest(says), self.assertRaisesRegex(ValueError, says):
-                list(checked(lines))
+                bars_of(lines)
 
 
 class Marks(unittest.TestCase):
@@ -221,15 +240,23 @@ class Look(unittest.TestCase):
     """Who sees no colours tells states apart."""
 
     def test_states(self) -> None:
-        def grey(state: str) -> float:
-            parts = [int(STATES[state].colour[at:at + 2], 16) for at in (1, 3, 5)]
+        def grey(colour: str) -> float:
+            parts = [int(colour[at:at + 2], 16) for at in (1, 3, 5)]
             return sum(part * weight for part, weight in zip(parts, (0.299, 0.587, 0.114)))
 
-        for one, other in combinations(STATES, 2):
-            if STATES[one].is_high == STATES[other].is_high:
+        for one, other in combinations(STATES.values(), 2):
+            if one.is_high == other.is_high:
                 with self.subTest(one=one, other=other):
-                    self.assertGreater(abs(grey(one) - grey(other)), 25)
-                    self.assertNotEqual(STATES[one].pattern, STATES[other].pattern)
+                    self.assertGreater(abs(grey(one.colour) - grey(other.colour)), 25)
+                    self.assertNotEqual(one.pattern, other.pattern)
+        for one, other in combinations(PORT_STATES.values(), 2):
+            if one.is_high == other.is_high:
+                with self.subTest(one=one, other=other):
+                    self.assertGreater(abs(grey(one.colour) - grey(other.colour)), 25)
+
+    def test_lies_alone_are_high(self) -> None:
+        high = [name for name, state in PORT_STATES.items() if state.is_high]
+        self.assertEqual(high, ["another second", "another mark"])
 
 
 class Layout(unittest.TestCase):
@@ -289,6 +316,26 @@ class Pictures(unittest.TestCase):
                      "holdover: announces, counting alone"):
             self.assertIn(text, found)
         self.assertTrue(any("premises kept" in text for text in found))
+
+    def test_ports_are_written(self) -> None:
+        lines = [" 1 relay ok silence insert", ONE_EDGE.replace("1 relay", "2 relay").splitlines()[0],
+                 " 2 relay ok poor:10 2016-06-15T12:00:00Z", "premises kept"]
+        ran, picture = plot("\n".join(lines))
+        self.assertEqual((ran.returncode, ran.stderr), (0, ""))
+        found = texts(picture)
+        for text in ("0", "1", "2", "port: told the truth", "port: told nothing",
+                     "port: told a poor quality", "port: told another second", "port: told another mark"):
+            self.assertIn(text, found)
+        self.assertNotIn("port: told a fault", found)
+        self.assertIn("standard input: how each reader stood, and what its ports told", found)
+
+    def test_a_short_lie_is_drawn_wider(self) -> None:
+        lines = [f" {edge} relay ok ok ok" for edge in range(1, 20_001)]
+        lines[9_999] = " 10000 relay ok insert ok"
+        rare = [f" {edge} relay ok {'insert' if edge % 50 == 7 else 'ok'} ok" for edge in range(1, 20_001)]
+        says = "short silences and lies are drawn wider than they are"
+        self.assertFalse(any(says in text for text in texts(plot("\n".join(lines))[1])), "it is cut")
+        self.assertTrue(any(says in text for text in texts(plot("\n".join(rare))[1])))
 
     def test_a_title_is_no_formula(self) -> None:
         ran, picture = plot(ONE_EDGE, "--title", "$x^2$ " * 30)

@@ -10,7 +10,7 @@ from pathlib import Path
 
 from loading import ROOT, loaded
 from parts.random_day import Day, Fault, Model, Spell, SILENT, play, random_day, scenario_of
-from scenario import Reader, Scenario
+from irig.scenarios import Reader, Scenario
 
 STUDY = ROOT / "tools/study"
 START = "2016-06-15T12:00:00Z"

@@ -12,7 +12,9 @@ from pathlib import Path
 
 import browser
 from loading import ROOT, loaded
-from parts.log_lanes import STATES
+from parts.log_lanes import PORT_STATES, STATES
+
+from irig.scenarios import made_edges
 
 VIEW = ROOT / "tools/view"
 PROGRAM = ROOT / "crates/irig_main/out/irig_main"
@@ -74,12 +76,8 @@ class Page(unittest.TestCase):
         data = data_in(self.made(SCENARIO, LOG))
         self.assertEqual("\n".join(data["scenario"]) + "\n", SCENARIO)
         self.assertEqual("\n".join(data["log"]) + "\n", LOG)
-        self.assertEqual(data["verdict"], "premises broken: edge 3 reader relay")
-        relay, meter = data["lanes"]
-        self.assertEqual(meter["runs"], [[1, 12, "unlocked", "no-vote"]])
-        self.assertEqual(
-            relay["marks"], [[10, "leap second"], [10.5, "month end"], [3, "premise broken"]]
-        )
+        ticks = {"relay": [[10, 2], [11, 4], [12, 7]], "meter": [[10, 2], [11, 3], [12, 7]]}
+        self.assertEqual(data["ticks"], ticks)
 
     def test_nothing_ends_the_data(self) -> None:
         text = self.made(SCENARIO + '{"x":"<!--<script></script>"}\n', LOG).read_text()
@@ -105,15 +103,10 @@ class Page(unittest.TestCase):
             self.assertIn(f"{kind} 'sha256-{digest}';", policy)
         self.assertNotIn("unsafe", policy)
 
-    def test_which_line_made_an_edge(self) -> None:
-        ticks = loaded(VIEW).ticks_of(SCENARIO.splitlines(), ["relay", "meter"])
-        self.assertEqual(ticks["relay"], [[10, 2], [11, 4], [12, 7]])
-        self.assertEqual(ticks["meter"], [[10, 2], [11, 3], [12, 7]])
-
     def test_lines_that_give_no_edges(self) -> None:
         lines = ['{"do":"seconds","n":0}', '{"do":"seconds","n":"3"}', '{"do":"tick","r":"no"}', '"tick"',
                  '["tick"', '{"do":"tick","r":["relay"]}', '{"do":"carry","g":0,"r":"relay"}']
-        self.assertEqual(loaded(VIEW).ticks_of(lines, ["relay"]), {"relay": []})
+        self.assertEqual(made_edges(lines, ["relay"]), {"relay": []})
 
     def test_a_run_of_the_program(self) -> None:
         if not PROGRAM.exists():
@@ -122,16 +115,19 @@ class Page(unittest.TestCase):
         ran, page = run(self.folder, scenario, "--program", PROGRAM)
         self.assertEqual((ran.returncode, ran.stderr), (0, ""))
         log = (ROOT / "examples/month_end_guard.log").read_text()
-        self.assertEqual(data_in(page)["log"], log.splitlines())
+        shown = data_in(page)["log"]
+        self.assertEqual([line for line in shown if not line.startswith(" ")], log.splitlines())
+        with self.subTest("with what each port told"):
+            self.assertIn(" 1 relay ok ok ok", shown)
         with self.subTest("a refused line"):
             ran, page = run(self.folder, scenario + "[]\n", "--program", PROGRAM)
             self.assertEqual(ran.returncode, 0)
             refused = f"line {scenario.count(chr(10)) + 1}: 25 Shape"
             self.assertTrue(ran.stderr.startswith(refused), ran.stderr)
-            self.assertEqual(data_in(page)["verdict"], f"refused: {refused}")
-        with self.subTest("with what each port told"):
-            ran, page = run(self.folder, scenario, "--program", PROGRAM, "--ports")
-            self.assertIn(" 1 relay ok ok ok", data_in(page)["log"])
+            self.assertEqual(data_in(page)["log"][-1], f"refused: {refused}")
+        with self.subTest("--ports may stand there, and changes nothing"):
+            ran, again = run(self.folder, scenario + "[]\n", "--program", PROGRAM, "--ports")
+            self.assertEqual(data_in(again), data_in(page))
 
     def test_mistakes(self) -> None:
         for options, log, says in (
@@ -393,6 +389,79 @@ class InBrowser(unittest.TestCase):
         self.open(SCENARIO, LOG.replace("\n1 meter", "\n 1 relay ok silence poor:12\n1 meter", 1))
         told = self.text("line").splitlines()
         self.assertEqual(told[:2], ["1 relay - acquiring:1 acquiring", "ports: ok silence poor:12"])
+
+    # Port 1 lies at edges 3 and 4, port 2 at 9 of a leap second, both ports of the meter at 9.
+    TOLD = {3: "ok 2016-12-31T12:00:00Z silence", 4: "ok 2016-12-31T12:00:01Z silence", 9: "ok ok insert"}
+
+    def with_ports(self) -> str:
+        """The log with what ports told."""
+        lines = []
+        for line in LOG.splitlines():
+            edge, reader, *_ = line.split()
+            lines.append(line)
+            if reader == "relay":
+                lines.append(f" {edge} relay {self.TOLD.get(int(edge), 'ok ok ok')}")
+            elif reader == "meter":
+                lines.append(f" {edge} meter {'insert no-leap ok' if edge == '9' else 'ok ok ok'}")
+        return "".join(f"{line}\n" for line in lines)
+
+    def test_lies(self) -> None:
+        self.open(SCENARIO, self.with_ports())
+        self.assertFalse(self.page.ask("document.getElementById('lie').hidden"))
+        self.push("lie")
+        self.assertEqual(self.text("found"), "lie: 1 of 4, port 1 of relay")
+        told = self.text("line").splitlines()
+        self.assertEqual(told[1], "ports: ok 2016-12-31T12:00:00Z silence")
+        self.press("canvas", "l")
+        self.assertEqual(self.text("found"), "lie: 2 of 4, port 2 of relay")
+        self.assertTrue(self.text("line").startswith("9 relay"))
+        self.press("canvas", "l")
+        self.assertEqual(self.text("found"), "lie: 3 of 4, ports 0 and 1 of meter")
+        self.press("canvas", "l")
+        self.assertTrue(self.text("line").startswith("3 relay"), "and round")
+        self.press("canvas", "L")
+        self.assertTrue(self.text("line").startswith("9 meter"))
+        self.set("reader", "relay")
+        self.press("canvas", "L", "L")
+        self.assertEqual(self.text("found"), "lie: 1 of 2, port 1 of relay")
+
+    def test_lies_are_seen(self) -> None:
+        """Their lanes are below the reader's, in the colours of tools/plot."""
+        self.open(SCENARIO, self.with_ports())
+        for edge, port, kind in ((3, 1, "another second"), (9, 2, "another mark"), (5, 0, "agreed")):
+            at = (
+                f"Math.floor(timeline.x_of({edge})),"
+                f" timeline.foot_of(timeline.lanes[0], {port}) - 3, 8, 3"
+            )
+            points = self.page.ask(f"Array.from(timeline.brush.getImageData({at}).data)")
+            assert isinstance(points, list)
+            found = {bytes(points[place:place + 3]).hex() for place in range(0, len(points), 4)}
+            with self.subTest(kind):
+                self.assertIn(PORT_STATES[kind].colour[1:].lower(), found)
+        self.assertIn("port: told another mark", self.text("legend"))
+        self.page.click(*self.on_edge(3, 0))
+        self.assertTrue(self.text("line").startswith("3 relay"))
+        box = self.place("canvas")
+        top = float(str(self.page.ask("timeline.top_of(timeline.lanes[1])")))
+        self.page.click(self.on_edge(4, 0)[0], box["y"] + top + 12)
+        self.assertTrue(self.text("line").startswith("4 meter"))
+
+    def test_a_short_lie_is_seen(self) -> None:
+        lines = [f" {edge} relay ok ok ok" for edge in range(1, 20_001)]
+        lines[9_999] = " 10000 relay ok insert ok"
+        self.open(PLANT, "\n".join(lines))
+        at = "Math.floor(timeline.x_of(9999.5)), timeline.foot_of(timeline.lanes[0], 1) - 8, 1, 1"
+        found = self.page.ask(f"Array.from(timeline.brush.getImageData({at}).data.slice(0, 3))")
+        self.assertEqual(found, [0xCC, 0x79, 0xA7])
+
+    def test_no_ports_no_lies(self) -> None:
+        self.assertTrue(self.page.ask("document.getElementById('lie').hidden"))
+        self.press("canvas", "l")
+        self.assertTrue(self.text("line").startswith("1 relay"))
+
+    def test_keys_work_on_opening(self) -> None:
+        self.page.press("n")
+        self.assertTrue(self.text("line").startswith("1 meter - unlocked no-vote"))
 
 
 if __name__ == "__main__":

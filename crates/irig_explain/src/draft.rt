@@ -1,6 +1,9 @@
 //! What is wrong with a line, written part by part.
 
-use crate::misfit::{Found, JsonPath, Misfit, Note};
+ghost use Rattle.std.specs.Prelude.{◌≡◌, IfOk};
+
+use crate::misfit::{Found, Misfit, Note};
+use crate::place::JsonPath;
 use crate::start::start_of;
 use serde_json::Value;
 use std::alloc::{AllocError, Global};
@@ -48,6 +51,8 @@ impl Parts {
 pub struct Reason {
     /// The place, what stands there, and what may stand there.
     pub text: String,
+    /// The object that it names; none if it names none.
+    pub place: Option<JsonPath>,
     /// Where these stand in the text.
     pub parts: Parts,
 }
@@ -75,7 +80,9 @@ impl Draft {
     }
 
     /// The text and its parts; fails if there was no memory for one.
-    pub(crate) fn end(self) -> Result<Reason, AllocError> {
+    pub(crate) fn end(self, place: Option<JsonPath>) -> Result<Reason, AllocError>
+        ensures { IfOk result (λ reason. reason.place ≡ place) }
+    {
         let Draft {
             text,
             is_short,
@@ -85,7 +92,7 @@ impl Draft {
         if is_short {
             Err(AllocError)
         } else {
-            Ok(Reason { text, parts })
+            Ok(Reason { text, place, parts })
         }
     }
 

@@ -1,27 +1,11 @@
 //! What is wrong in a line: the place, what stands there, and what may stand there.
 
+ghost use Rattle.std.specs.Prelude.{◌≡◌, IfSome};
+
+use crate::place::JsonPath;
 use indexmap::IndexSet;
 use irig_forms::Key;
 use serde_json::Value;
-
-/// An object of a scenario's line.
-#[derive(Clone, Copy)]
-pub(crate) enum JsonPath {
-    /// The line's own.
-    Line,
-    /// A leap of a plant line.
-    Leap(usize),
-    /// A generator.
-    Generator(usize),
-    /// A change of a generator's zone, after the generator.
-    Change(usize, usize),
-    /// A reader.
-    Reader(usize),
-    /// The table of a reader.
-    Table(usize),
-    /// A leap of a reader's table, after the reader.
-    TableLeap(usize, usize),
-}
 
 /// What stands where it should not.
 #[derive(Clone, Copy)]
@@ -87,7 +71,9 @@ pub(crate) struct Misfit<'a> {
 }
 
 impl<'a> Misfit<'a> {
-    pub(crate) fn new(place: JsonPath, found: Found<'a>, expected: Expected<'a>) -> Misfit<'a> {
+    pub(crate) fn new(place: JsonPath, found: Found<'a>, expected: Expected<'a>) -> Misfit<'a>
+        ensures { result.place ≡ place }
+    {
         Misfit {
             place,
             found,
@@ -102,7 +88,9 @@ impl<'a> Misfit<'a> {
         name: &'static str,
         object: &'a Value,
         expected: Expected<'a>,
-    ) -> Option<Misfit<'a>> {
+    ) -> Option<Misfit<'a>>
+        ensures { IfSome result (λ misfit. misfit.place ≡ place) }
+    {
         let item = object.get(name)?;
         Some(Misfit::new(place, Found::AtKey(name, item), expected))
     }
@@ -116,7 +104,9 @@ impl<'a> Misfit<'a> {
         )
     }
 
-    pub(crate) fn with(self, note: Note) -> Misfit<'a> {
+    pub(crate) fn with(self, note: Note) -> Misfit<'a>
+        ensures { result.place ≡ self.entry.place }
+    {
         Misfit { note, ..self }
     }
 }

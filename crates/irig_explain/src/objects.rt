@@ -1,6 +1,11 @@
 //! What is wrong with the form of a plant line's objects, or with a value in one.
 
-use crate::misfit::{Expected, JsonPath, Misfit};
+ghost use Rattle.std.specs.Prelude.{◌≡◌, IfSome, true};
+ghost use Rattle.serde_json.specs.View.{view};
+ghost use Rattle.irig_explain.specs.Places.{is_beyond, is_misformed, version_of_line};
+
+use crate::misfit::{Expected, Misfit};
+use crate::place::{JsonPath, is_beyond, is_misformed, version_of_line};
 use crate::shape::find_in_shape;
 use crate::value::find_in_values;
 use irig_forms::{Key, items_at, whole_at};
@@ -32,7 +37,19 @@ impl Search {
 }
 
 /// What keeps an object of a plant line from its form.
-pub(crate) fn find_in_shapes(value: &Value) -> Option<Misfit<'_>> {
+pub(crate) fn find_in_shapes(value: &Value) -> Option<Misfit<'_>>
+    ensures { IfSome result (λ misfit. is_misformed (version_of_line (view value.now))
+        misfit.place (view value.now) ≡ true) }
+{
+    let misfit = first_misformed(value)?;
+    if is_misformed(version_of_line(value), misfit.place, value) {
+        Some(misfit)
+    } else {
+        None
+    }
+}
+
+fn first_misformed(value: &Value) -> Option<Misfit<'_>> {
     if value.is_object() && whole_at(value, "version").is_some() {
         find_in_objects(Search::Shape, value)
     } else {
@@ -41,7 +58,19 @@ pub(crate) fn find_in_shapes(value: &Value) -> Option<Misfit<'_>> {
 }
 
 /// Which value of a plant line is outside its range.
-pub(crate) fn find_in_ranges(value: &Value) -> Option<Misfit<'_>> {
+pub(crate) fn find_in_ranges(value: &Value) -> Option<Misfit<'_>>
+    ensures { IfSome result (λ misfit. is_beyond (version_of_line (view value.now))
+        misfit.place (view value.now) ≡ true) }
+{
+    let misfit = first_beyond(value)?;
+    if is_beyond(version_of_line(value), misfit.place, value) {
+        Some(misfit)
+    } else {
+        None
+    }
+}
+
+fn first_beyond(value: &Value) -> Option<Misfit<'_>> {
     if let Some(misfit) = find_in_objects(Search::Values, value) {
         return Some(misfit);
     }
@@ -107,7 +136,7 @@ fn find_in_changes(search: Search, at: usize, generator: &Value) -> Option<Misfi
 }
 
 fn find_in_readers(search: Search, value: &Value) -> Option<Misfit<'_>> {
-    let version = version_in(value).unwrap_or(Version::Three);
+    let version = version_of_line(value);
     for (at, reader) in items(value, "readers").iter().enumerate() {
         let misfit = find_in_reader(search, version, at, reader);
         if misfit.is_some() {

@@ -1,11 +1,16 @@
 //! What is wrong with a plant line.
 
-use crate::misfit::{Expected, JsonPath, Misfit};
+ghost use Rattle.std.specs.Prelude.{◌≡◌, IfOk, IfSome};
+ghost use Rattle.serde_json.specs.View.{view};
+ghost use Rattle.irig_explain.specs.Lines.{AreRefusedAt, IsPlantRefusedAt};
+
+use crate::misfit::{Expected, Misfit};
+use crate::names::find_name;
 use crate::objects::{find_in_ranges, find_in_shapes};
-use crate::plan::{find_change, find_in_tables, find_leap, find_offset};
+use crate::place::{JsonPath, version_of_line};
+use crate::plan::find_in_plan;
 use irig_faults::{LineFault, Refusal};
-use irig_forms::{items_at, text_at};
-use irig_values::{PlantValues, is_name, values_of, version_in};
+use irig_values::values_of;
 use serde_json::Value;
 use std::alloc::{AllocError, Global};
 
@@ -14,12 +19,15 @@ pub(crate) fn find_in_plant(
     alloc: Global,
     refusal: Refusal,
     value: &Value,
-) -> Result<Option<Misfit<'_>>, AllocError> {
+) -> Result<Option<Misfit<'_>>, AllocError>
+    ensures { IfOk result (λ found. IfSome found
+        (λ misfit. IsPlantRefusedAt refusal (view value.now) misfit.place)) }
+{
     match refusal {
         Refusal::Shape => Ok(find_in_shapes(value)),
         Refusal::Value => Ok(find_in_ranges(value)),
-        Refusal::Version => Ok(find_at(value, "version", Expected::Text("1, 2 or 3"))),
         Refusal::Names => Ok(find_name(value)),
+        Refusal::Version => Ok(find_at(value, "version", Expected::Text("1, 2 or 3"))),
         Refusal::BadStart => Ok(find_at(value, "start", Expected::Start)),
         Refusal::LeapNotMonthEnd
         | Refusal::LeapTwice
@@ -42,7 +50,10 @@ pub(crate) fn find_in_plant(
     }
 }
 
-fn find_at<'a>(value: &'a Value, name: &'static str, expected: Expected<'a>) -> Option<Misfit<'a>> {
+// At a key of the line's own object, of which there is one.
+fn find_at<'a>(value: &'a Value, name: &'static str, expected: Expected<'a>) -> Option<Misfit<'a>>
+    ensures { IfSome result (λ misfit. misfit.place ≡ JsonPath.Line) }
+{
     Misfit::at(JsonPath::Line, name, value, expected)
 }
 
@@ -51,69 +62,13 @@ fn find_in_values(
     alloc: Global,
     refusal: Refusal,
     value: &Value,
-) -> Result<Option<Misfit<'_>>, AllocError> {
-    let Some(version) = version_in(value) else {
-        return Ok(None);
-    };
-    match values_of(alloc, version, value) {
+) -> Result<Option<Misfit<'_>>, AllocError>
+    ensures { IfOk result (λ found. IfSome found
+        (λ misfit. AreRefusedAt refusal (view value.now) misfit.place)) }
+{
+    match values_of(alloc, version_of_line(value), value) {
         Ok(values) => Ok(find_in_plan(refusal, &values, value)),
         Err(LineFault::Refused(_)) => Ok(None),
         Err(LineFault::Memory) => Err(AllocError),
     }
-}
-
-fn find_in_plan<'a>(
-    refusal: Refusal,
-    values: &PlantValues,
-    value: &'a Value,
-) -> Option<Misfit<'a>> {
-    match refusal {
-        Refusal::Offset => find_offset(&values.generators, value),
-        Refusal::Changes => find_change(&values.generators, value),
-        Refusal::LeapNotMonthEnd | Refusal::LeapTwice | Refusal::OutOfYears => {
-            find_leap(&values.leaps, value)
-        }
-        _ => find_in_tables(&values.readers, value),
-    }
-}
-
-fn find_name(value: &Value) -> Option<Misfit<'_>> {
-    let readers = items_at(value, "readers").unwrap_or(&[]);
-    if readers.is_empty() || readers.len() > 16 {
-        return find_at(value, "readers", Expected::Text("1 to 16"));
-    }
-    find_other_name(readers).or(find_name_twice(readers))
-}
-
-fn find_other_name(readers: &[Value]) -> Option<Misfit<'_>> {
-    let name = Expected::Text("1 to 16 of a to z, 0 to 9, _ and -");
-    for (at, reader) in readers.iter().enumerate() {
-        if !is_name(name_in(reader)) {
-            return Misfit::at(JsonPath::Reader(at), "name", reader, name);
-        }
-    }
-    None
-}
-
-fn find_name_twice(readers: &[Value]) -> Option<Misfit<'_>> {
-    let name = Expected::Text("a name that no reader before it has");
-    for (at, reader) in readers.iter().enumerate() {
-        if is_named_before(name_in(reader), at, readers) {
-            return Misfit::at(JsonPath::Reader(at), "name", reader, name);
-        }
-    }
-    None
-}
-
-fn name_in(reader: &Value) -> &str {
-    text_at(reader, "name").unwrap_or("")
-}
-
-fn is_named_before(name: &str, at: usize, readers: &[Value]) -> bool {
-    for reader in readers.iter().take(at) {
-        if text_at(reader, "name") == Some(name) {
-            return true;
-        }
-    }
-    false
 }

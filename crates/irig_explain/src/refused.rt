@@ -1,8 +1,15 @@
 //! Why a line is refused.
 
+ghost use Rattle.std.specs.Prelude.{IfOk, IfSome};
+ghost use Rattle.serde_json.specs.View.{view};
+ghost use Rattle.irig_forms.specs.Keys.{texts_of};
+ghost use Rattle.irig_explain.specs.Lines.{IsRefusedAt, NamesPlace};
+
 use crate::draft::{Draft, Reason};
 use crate::event::find_in_event;
 use crate::json::push_no_json;
+use crate::misfit::Misfit;
+use crate::place::JsonPath;
 use crate::plant::find_in_plant;
 use indexmap::IndexSet;
 use irig_faults::{Refusal, meaning_of};
@@ -25,15 +32,20 @@ pub fn why_refused(
     refusal: Refusal,
     line: &[u8],
     context: &PlantContext<'_>,
-) -> Result<Reason, AllocError> {
+) -> Result<Reason, AllocError>
+    // the place that it names is one at which the line is refused so
+    ensures { IfOk result (λ reason. IfSome reason.place (NamesPlace refusal
+        (texts_of context.now.names.now.keys) context.now.edges.now line.now)) }
+{
     let mut draft = Draft::new(alloc);
-    match refusal {
+    let place = match refusal {
         Refusal::EndOfYears | Refusal::TooLong | Refusal::NoPlant | Refusal::TooManyLines => {
             push_cause(&mut draft, refusal);
+            None
         }
         _ => push_place(&mut draft, alloc, refusal, line, context),
-    }
-    draft.end()
+    };
+    draft.end(place)
 }
 
 // What the refusal means wherever it stands.
@@ -43,31 +55,71 @@ fn push_cause(draft: &mut Draft, refusal: Refusal) {
     }
 }
 
+#[tactic(auto, using(irig_forms::proofs::JsonLaws::json_of_text))]
 fn push_place(
     draft: &mut Draft,
     alloc: Global,
     refusal: Refusal,
     line: &[u8],
     context: &PlantContext<'_>,
-) {
-    let value = match Value::from_slice(alloc, line) {
-        Ok(value) => value,
-        Err(error) if error.is_memory() => return draft.run_short(),
-        Err(error) => return push_no_json(draft, &error, line),
-    };
-    let found = if context.names.is_empty() {
-        find_in_plant(alloc, refusal, &value)
-    } else {
-        // Made anew, to live no longer than the value.
-        let context = PlantContext {
-            names: context.names,
-            edges: context.edges,
-        };
-        Ok(find_in_event(refusal, &value, &context))
-    };
+) -> Option<JsonPath>
+    ensures { IfSome result (NamesPlace refusal
+        (texts_of context.now.names.now.keys) context.now.edges.now line.now) }
+{
+    match Value::from_slice(alloc, line) {
+        Ok(value) => push_misfit(draft, alloc, refusal, &value, context),
+        Err(error) if error.is_memory() => {
+            draft.run_short();
+            None
+        }
+        Err(error) => {
+            push_no_json(draft, &error, line);
+            None
+        }
+    }
+}
+
+fn push_misfit(
+    draft: &mut Draft,
+    alloc: Global,
+    refusal: Refusal,
+    value: &Value,
+    context: &PlantContext<'_>,
+) -> Option<JsonPath>
+    ensures { IfSome result (IsRefusedAt refusal (texts_of context.now.names.now.keys)
+        context.now.edges.now (view value.now)) }
+{
+    let found = find(alloc, refusal, value, context.names, context.edges);
     match found {
-        Ok(Some(misfit)) => draft.misfit(&misfit),
-        Ok(None) => push_cause(draft, refusal),
-        Err(AllocError) => draft.run_short(),
+        Ok(Some(misfit)) => {
+            draft.misfit(&misfit);
+            Some(misfit.place)
+        }
+        Ok(None) => {
+            push_cause(draft, refusal);
+            None
+        }
+        Err(AllocError) => {
+            draft.run_short();
+            None
+        }
+    }
+}
+
+fn find<'a>(
+    alloc: Global,
+    refusal: Refusal,
+    value: &'a Value,
+    names: &'a IndexSet<String>,
+    edges: &'a [u64],
+) -> Result<Option<Misfit<'a>>, AllocError>
+    ensures { IfOk result (λ found. IfSome found (λ misfit. IsRefusedAt refusal
+        (texts_of names.now.keys) edges.now (view value.now) misfit.place)) }
+{
+    match names.len() {
+        0 => find_in_plant(alloc, refusal, value),
+        1..=16 => Ok(find_in_event(refusal, value, &PlantContext { names, edges })),
+        // No plant has more readers.
+        _ => Ok(None),
     }
 }

@@ -1,6 +1,9 @@
 //! Where an object has not its form: another key, one that is missing, or a value of another type.
 
-use crate::misfit::{Expected, Found, JsonPath, Misfit};
+ghost use Rattle.std.specs.Prelude.{◌≡◌, IfSome};
+
+use crate::misfit::{Expected, Found, Misfit};
+use crate::place::JsonPath;
 use irig_forms::{Key, fits, is_named};
 use serde_json::{Map, Value};
 
@@ -9,7 +12,9 @@ pub(crate) fn find_in_shape<'a>(
     place: JsonPath,
     keys: &'static [Key],
     value: &'a Value,
-) -> Option<Misfit<'a>> {
+) -> Option<Misfit<'a>>
+    ensures { IfSome result (λ misfit. misfit.place ≡ place) }
+{
     match value.as_object() {
         None => Some(Misfit::new(place, Found::NoObject(value), Expected::Object)),
         Some(members) => match other_key(keys, members) {
@@ -28,7 +33,9 @@ fn other_key<'a>(keys: &[Key], members: &'a Map<String, Value>) -> Option<&'a st
     None
 }
 
-fn find_at_keys<'a>(place: JsonPath, keys: &[Key], value: &'a Value) -> Option<Misfit<'a>> {
+fn find_at_keys<'a>(place: JsonPath, keys: &[Key], value: &'a Value) -> Option<Misfit<'a>>
+    ensures { IfSome result (λ misfit. misfit.place ≡ place) }
+{
     for key in keys {
         if !fits(key, value) {
             let found = match value.get(key.name) {

@@ -16,7 +16,7 @@ pub fn why_no_time(alloc: Global, text: &str) -> Result<String, AllocError> {
         }
         None => draft.push(" is not of the form YYYY-MM-DDTHH:MM:SSZ, as 2016-12-31T23:59:59Z"),
     }
-    let Reason { text, .. } = draft.end()?;
+    let Reason { text, .. } = draft.end(None)?;
     Ok(text)
 }
 
@@ -123,7 +123,7 @@ pub fn why_no_frame(alloc: Global, text: &str) -> Result<String, AllocError> {
         }
     }
     draft.push("P, 0, 1, ? and blanks may stand there");
-    let Reason { text, .. } = draft.end()?;
+    let Reason { text, .. } = draft.end(None)?;
     Ok(text)
 }
 

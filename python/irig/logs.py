@@ -1,0 +1,527 @@
+"""Logs of scenarios: the one parser of them, line by line (`read_lines`) or whole (`read_log`). It needs
+no library. docs/OUTPUT.md says what a log has."""
+from __future__ import annotations
+
+import re
+from dataclasses import dataclass, field
+from datetime import datetime
+from functools import cached_property, lru_cache
+from typing import TYPE_CHECKING, Any, Dict, Iterable, Iterator, List, Optional, Sequence, Tuple
+from typing import Union, cast, overload
+
+from .faults import MEANINGS, Detail
+from .seconds import Second
+from .words import CAUSES, LOCKS, MARKS, Cause, Lock, Mark, PortKind
+
+if TYPE_CHECKING:
+    from .stretches import Stretch
+
+# ---- what a line says
+
+
+@dataclass(frozen=True, repr=False)
+class Announced:
+    """At its tick `edge`, counted from 1, a reader announced the second that then began.
+
+    reader: its name
+    lock: "locked" or "holdover"; with the latter `count` is the edges since the last vote
+    cause: "voted" or "held"
+    """
+
+    edge: int
+    reader: str
+    second: Second
+    lock: Lock
+    count: int
+    cause: Cause
+
+    def __str__(self) -> str:
+        return f"{self.edge} {self.reader} {self.second} {lock_text(self.lock, self.count)} {self.cause}"
+
+    def __repr__(self) -> str:
+        return f"<Announced: {self}>"
+
+
+@dataclass(frozen=True, repr=False)
+class Silent:
+    """At its tick `edge` a reader announced nothing; a log with `all` has these.
+
+    reader: its name
+    lock: "unlocked" or "acquiring"; with the latter `count` is the votes so far
+    cause: "acquiring", "no-vote", "expired", "leap-guard", "jump" or "range-end"
+    """
+
+    edge: int
+    reader: str
+    lock: Lock
+    count: int
+    cause: Cause
+
+    def __str__(self) -> str:
+        return f"{self.edge} {self.reader} - {lock_text(self.lock, self.count)} {self.cause}"
+
+    def __repr__(self) -> str:
+        return f"<Silent: {self}>"
+
+
+@dataclass(frozen=True, repr=False)
+class PortWord:
+    """What a port told at a tick, by its word in a line of `--ports`.
+
+    text: the word
+    kind: "agreed" if it is the true claim; "silent"; "faulty", with the fault's `number` and `name`
+        of docs/FAULTS.md and its `place`, if it has one: an element, a field, or how many symbols;
+        "poor", with its `quality`; "another second", with the `second` that was claimed; "another
+        mark", with the `mark`
+    """
+
+    text: str
+    kind: PortKind
+    number: Optional[int] = None
+    name: Optional[str] = None
+    place: Detail = None
+    quality: Optional[int] = None
+    second: Optional[Second] = None
+    mark: Optional[Mark] = None
+
+    @property
+    def is_untrue(self) -> bool:
+        """Whether it claims what is not true: another second or another mark."""
+        return self.kind in UNTRUE
+
+    def __str__(self) -> str:
+        return self.text
+
+    def __repr__(self) -> str:
+        return f"<PortWord: {self}>"
+
+
+@dataclass(frozen=True, repr=False)
+class Ports:
+    """What each port of a reader told at its tick `edge`, in the words of docs/OUTPUT.md. The
+    program writes such lines with --ports. `told` has what the words say."""
+
+    edge: int
+    reader: str
+    words: Tuple[str, ...]
+
+    @property
+    def told(self) -> Tuple[PortWord, ...]:
+        """What each port told."""
+        return tuple(map(port_word, self.words))
+
+    def __str__(self) -> str:
+        return f" {self.edge} {self.reader} {' '.join(self.words)}"
+
+    def __repr__(self) -> str:
+        return f"<Ports: {str(self)[1:]}>"
+
+
+Entry = Union[Announced, Silent, Ports]
+
+
+@dataclass(frozen=True)
+class PremisesKept:
+    """Each second in the log is the true one."""
+
+    kept = True
+
+    def __str__(self) -> str:
+        return "premises kept"
+
+
+@dataclass(frozen=True)
+class PremiseBroken:
+    """At this tick a reader got more false claims than it can outvote, the first to do so."""
+
+    edge: int
+    reader: str
+    kept = False
+
+    def __str__(self) -> str:
+        return f"premises broken: edge {self.edge} reader {self.reader}"
+
+
+@dataclass(frozen=True)
+class TableBroken:
+    """This reader's leap table is not true."""
+
+    reader: str
+    kept = False
+
+    def __str__(self) -> str:
+        return f"premises broken: table of reader {self.reader}"
+
+
+@dataclass(frozen=True)
+class RefusedLine:
+    """A line of the scenario was refused, `number` and `name` say why (docs/FAULTS.md)."""
+
+    line: int
+    number: int
+    name: str
+    kept = False
+
+    def __str__(self) -> str:
+        return f"refused: line {self.line}: {self.number} {self.name}"
+
+
+Verdict = Union[PremisesKept, PremiseBroken, TableBroken]
+LastLine = Union[Verdict, RefusedLine]
+
+
+def lock_text(lock: Lock, count: int) -> str:
+    """The fourth column of a log."""
+    return f"{lock}:{count}" if count else lock
+
+
+# ---- reading lines
+
+NAME = r"[a-z0-9_-]{1,16}"
+ENTRY = re.compile(
+    rf"(\d{{1,20}}) ({NAME}) (\S+) (locked|unlocked|(?:holdover|acquiring):\d+) ({'|'.join(CAUSES)})",
+    re.ASCII,
+)
+PORTS = re.compile(rf" (\d{{1,20}}) ({NAME})((?: \S+){{1,5}})", re.ASCII)
+FAULT = re.compile(r"fault:(\d+):(\w+)(?::(\w+))?", re.ASCII)
+POOR = re.compile(r"poor:(1[0-5])", re.ASCII)
+REFUSAL = re.compile(r"refused: line (\d+): (\d+) (\w+)", re.ASCII)
+BROKEN = re.compile(rf"premises broken: edge (\d+) reader ({NAME})", re.ASCII)
+BROKEN_TABLE = re.compile(rf"premises broken: table of reader ({NAME})", re.ASCII)
+UNTRUE = ("another second", "another mark")
+
+
+def read_lines(lines: Iterable[str]) -> Iterator[Union[Entry, LastLine]]:
+    """What each line of a log says, as they come: entries, and then the last line, if the run did not
+    break off. Empty lines are skipped. A ValueError names the first line that is none."""
+    reading = Reading()
+    for line in lines:
+        said = reading.take(line)
+        if said is not None:
+            yield said
+
+
+class Reading:
+    """What was read of a log so far, to see if the next line can stand there."""
+
+    def __init__(self) -> None:
+        self.number = 0
+        self.is_ended = False
+        self._edges: Dict[str, int] = {}  # the last edge of each reader
+        self._told: Dict[str, Tuple[int, int]] = {}  # the last edge of its ports, and how many
+
+    def take(self, line: str) -> Union[Entry, LastLine, None]:
+        """What the next line says; None if it is empty."""
+        self.number += 1
+        line = line.rstrip("\r\n")
+        if not line.strip():
+            return None
+        if self.is_ended:
+            raise ValueError(f"line {self.number} stands below the last line of a log")
+        found = ENTRY.fullmatch(line)
+        if found:
+            return self._entry(line, found)
+        ports = PORTS.fullmatch(line)
+        if ports:
+            return self._ports(line, ports)
+        last = last_line(line)
+        if last is None:
+            raise self._no_line(line)
+        self.is_ended = True
+        return last
+
+    def _entry(self, line: str, found: re.Match[str]) -> Entry:
+        edge, reader, time = int(found[1]), found[2], found[3]
+        self._follow(reader, edge, self._edges.get(reader, 0))
+        self._edges[reader] = edge
+        word, _, count = found[4].partition(":")
+        lock, cause = LOCKS[LOCKS.index(cast(Lock, word))], cast(Cause, found[5])
+        if time == "-":
+            return Silent(edge, reader, lock, int(count or 0), cause)
+        try:
+            return Announced(edge, reader, Second.read(time), lock, int(count or 0), cause)
+        except ValueError:
+            raise self._no_line(line) from None
+
+    def _ports(self, line: str, found: re.Match[str]) -> Ports:
+        edge, reader, words = int(found[1]), found[2], tuple(found[3].split())
+        try:
+            for word in words:
+                port_word(word)
+        except ValueError:
+            raise self._no_line(line) from None
+        before, count = self._told.get(reader, (0, len(words)))
+        self._follow(reader, edge, max(before, self._edges.get(reader, 1) - 1))
+        if len(words) != count:
+            what = f"{len(words)} ports of {reader}, which had {count}"
+            raise ValueError(f"line {self.number} has {what}")
+        self._edges[reader] = edge
+        self._told[reader] = edge, count
+        return Ports(edge, reader, words)
+
+    def _follow(self, reader: str, edge: int, before: int) -> None:
+        if edge <= before:
+            after = f"after edge {before}" if before else "before edge 1"
+            raise ValueError(f"line {self.number}: edge {edge} of {reader} comes {after}")
+
+    def _no_line(self, line: str) -> ValueError:
+        if line.startswith("{"):
+            what = "of a scenario; its log is what ./irig run prints"
+        else:
+            what = f"no line of a log: {line[:60]!r}"
+        return ValueError(f"line {self.number} is {what}")
+
+
+@lru_cache(maxsize=4096)
+def port_word(text: str) -> PortWord:
+    """What a word of a line of `--ports` says. A ValueError if it is none."""
+    if text == "ok":
+        return PortWord(text, "agreed")
+    if text == "silence":
+        return PortWord(text, "silent")
+    if text in MARKS:
+        return PortWord(text, "another mark", mark=cast(Mark, text))
+    poor, fault = POOR.fullmatch(text), FAULT.fullmatch(text)
+    if poor:
+        return PortWord(text, "poor", quality=int(poor[1]))
+    if fault:
+        return _fault_word(text, int(fault[1]), fault[2], fault[3])
+    return PortWord(text, "another second", second=Second.read(text))
+
+
+def _fault_word(text: str, number: int, name: str, place: Optional[str]) -> PortWord:
+    if number not in MEANINGS or MEANINGS[number].name != name:
+        raise ValueError(f"{text!r} is no fault of docs/FAULTS.md")
+    is_number = place is not None and place.isdecimal()
+    where: Detail = int(place or 0) if is_number else place
+    return PortWord(text, "faulty", number=number, name=name, place=where)
+
+
+def last_line(line: str) -> Optional[LastLine]:
+    """What the last line of a log says; None if it is no such line."""
+    if line == "premises kept":
+        return PremisesKept()
+    broken = BROKEN.fullmatch(line)
+    if broken:
+        return PremiseBroken(int(broken[1]), broken[2])
+    table = BROKEN_TABLE.fullmatch(line)
+    if table:
+        return TableBroken(table[1])
+    refusal = REFUSAL.fullmatch(line)
+    return RefusedLine(int(refusal[1]), int(refusal[2]), refusal[3]) if refusal else None
+
+
+# ---- ticks
+
+
+@dataclass(frozen=True)
+class Tick:
+    """All that a log says of a tick of a reader: its own line, if there is one, and what its ports
+    told, if the log has that."""
+
+    edge: int
+    reader: str
+    said: Union[Announced, Silent, None]
+    ports: Optional[Ports]
+
+    @property
+    def second(self) -> Optional[Second]:
+        """The second that was announced, if one was."""
+        return self.said.second if isinstance(self.said, Announced) else None
+
+
+def ticks_of(lines: Iterable[Union[Entry, LastLine]]) -> Iterator[Tick]:
+    """The ticks of what `read_lines` or a Log gives, in order."""
+    said: Union[Announced, Silent, None] = None
+    for line in lines:
+        if isinstance(line, Ports):
+            is_of_it = said is not None and (said.edge, said.reader) == (line.edge, line.reader)
+            if said and not is_of_it:
+                yield Tick(said.edge, said.reader, said, None)
+            yield Tick(line.edge, line.reader, said if is_of_it else None, line)
+            said = None
+            continue
+        if said:
+            yield Tick(said.edge, said.reader, said, None)
+        said = line if isinstance(line, (Announced, Silent)) else None
+    if said:
+        yield Tick(said.edge, said.reader, said, None)
+
+
+# ---- a whole log
+
+
+@dataclass(frozen=True, repr=False)
+class Log(Sequence[Entry]):
+    """The log of a scenario: its entries, in order.
+
+    text: its lines, as the program prints them; of a run that was refused all but the last
+    verdict: what its last line says; None of a run that was refused
+    scenario: the scenario's bytes, if they are known
+    """
+
+    text: str
+    verdict: Optional[Verdict]
+    scenario: Optional[bytes] = field(default=None, compare=False)
+
+    @property
+    def kept(self) -> bool:
+        """Whether it ends in `premises kept`: each second in it is then the true one."""
+        return self.verdict is not None and self.verdict.kept
+
+    @cached_property
+    def entries(self) -> Tuple[Entry, ...]:
+        """Its lines but the last, in order: `Announced`, `Silent` and `Ports`. A ValueError if one
+        is none."""
+        lines = read_lines(self.text.split("\n"))
+        return tuple(line for line in lines if isinstance(line, (Announced, Silent, Ports)))
+
+    @property
+    def ports(self) -> Tuple[Ports, ...]:
+        """What the ports told at each tick; nothing if the run was without `ports`."""
+        return tuple(entry for entry in self.entries if isinstance(entry, Ports))
+
+    @property
+    def readers(self) -> Tuple[str, ...]:
+        """The names of its readers, in the order in which they come."""
+        return tuple(dict.fromkeys(entry.reader for entry in self.entries))
+
+    def ticks(self) -> Iterator[Tick]:
+        """Its ticks, in order: the line of each, and what its ports told."""
+        return ticks_of(self.entries)
+
+    def to_rows(self, by_port: bool = False) -> List[Dict[str, Any]]:
+        """A table, as `pandas.DataFrame` takes it: a row a tick, with a column for each port, if it
+        has what they told; with `by_port` a row for each port of each tick."""
+        rows = _port_rows if by_port else _rows
+        return list(rows(self.ticks()))
+
+    def blame(self) -> List[Stretch]:
+        """Who lied, or told nothing, and what it cost: what `irig blame` prints of the scenario. A
+        log of `run` gets it by another run, with `all` and `ports`, if it has not all lines.
+
+        A log that was read has to have the lines of `ports`. Without those of `all` the causes of
+        its silences are None. Without the scenario, and with a broken premise, it is not known
+        what is untrue."""
+        from .stretches import stretches_in
+
+        return stretches_in(self)
+
+    def __len__(self) -> int:
+        return len(self.entries)
+
+    @overload
+    def __getitem__(self, place: int) -> Entry: ...
+
+    @overload
+    def __getitem__(self, place: slice) -> Tuple[Entry, ...]: ...
+
+    def __getitem__(self, place: Union[int, slice]) -> Union[Entry, Tuple[Entry, ...]]:
+        return self.entries[place]
+
+    def __iter__(self) -> Iterator[Entry]:
+        return iter(self.entries)
+
+    def __repr__(self) -> str:
+        count = self.text.count("\n") - (self.verdict is not None)
+        return f"<Log: {count} entries, {self.verdict or 'refused'}>"
+
+
+def _rows(ticks: Iterable[Tick]) -> Iterator[Dict[str, Any]]:
+    """A row a tick. In a leap second `utc` is no time, as in a silence; `second` has its text."""
+    for tick in ticks:
+        second = tick.second
+        row = {
+            "edge": tick.edge,
+            "reader": tick.reader,
+            "second": None if second is None else str(second),
+            "utc": _time_of(second),
+            "lock": tick.said and tick.said.lock,
+            "count": tick.said and tick.said.count,
+            "cause": tick.said and tick.said.cause,
+        }
+        words = tick.ports.words if tick.ports else ()
+        yield {**row, **{f"port_{port}": word for port, word in enumerate(words)}}
+
+
+def _port_rows(ticks: Iterable[Tick]) -> Iterator[Dict[str, Any]]:
+    """A row for each port of a tick."""
+    for tick in ticks:
+        for port, told in enumerate(tick.ports.told if tick.ports else ()):
+            yield {
+                "edge": tick.edge,
+                "reader": tick.reader,
+                "port": port,
+                "word": told.text,
+                "kind": told.kind,
+                "number": told.number,
+                "name": told.name,
+                "place": told.place,
+                "quality": told.quality,
+                "second": None if told.second is None else str(told.second),
+                "mark": told.mark,
+            }
+
+
+def _time_of(second: Optional[Second]) -> Optional[datetime]:
+    return None if second is None or second.is_leap else second.to_datetime()
+
+
+class Refused(ValueError):
+    """A line of a scenario was refused. As a text it is what the program says of it.
+
+    line: its number, from 1
+    number, name: why, as docs/FAULTS.md and `irig explain` have it
+    log: what was played before it
+    place: where in the line it is, as `readers[0]`; None if it is the line itself
+    key, value: what stands there
+    allowed: what may stand there
+    reason: the program's words
+
+    What is not known is None: all but line, number and name, if a log was read.
+    """
+
+    def __init__(
+        self,
+        line: int,
+        number: int,
+        name: str,
+        log: Log,
+        reason: Optional[str] = None,
+        place: Optional[str] = None,
+        key: Optional[str] = None,
+        value: Optional[str] = None,
+        allowed: Optional[str] = None,
+    ) -> None:
+        super().__init__(line, number, name, log, reason, place, key, value, allowed)
+        self.line = line
+        self.number = number
+        self.name = name
+        self.log = log
+        self.reason = reason
+        self.place = place
+        self.key = key
+        self.value = value
+        self.allowed = allowed
+
+    def __str__(self) -> str:
+        reason = self.reason or MEANINGS[self.number].cause
+        return f"line {self.line}: {self.number} {self.name}: {reason}"
+
+
+def read_log(text: str, scenario: Union[str, bytes, None] = None) -> Log:
+    """The log of this text, as the program prints it, whole. Raises what `run` raises of such a log.
+
+    scenario: the text of its scenario, if it is at hand; `Log.blame` then knows what is true
+    """
+    if not text.endswith("\n"):
+        raise ValueError("this is no whole log: its last line has no end")
+    held = scenario.encode(errors="surrogatepass") if isinstance(scenario, str) else scenario
+    before, _, last = text[:-1].rpartition("\n")
+    said = last_line(last)
+    if said is None:
+        raise ValueError(f"this is no last line of a log, did the run end? {last!r}")
+    if isinstance(said, RefusedLine):
+        log = Log(before + "\n" if before else "", None, held)
+        raise Refused(said.line, said.number, said.name, log)
+    return Log(text, said, held)
