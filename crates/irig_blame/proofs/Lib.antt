@@ -10,3 +10,4 @@ pub mod RestLaws
 pub mod RunLaws
 pub mod TruthLaws
 pub mod LongestLaws
+pub mod StandardFacts
