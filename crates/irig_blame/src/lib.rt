@@ -1,0 +1,18 @@
+//! A scenario played, and in place of its log who lied and what it cost: each stretch in which a
+//! port of a reader did not tell the true claim, each silence of a reader, and their totals.
+#![tactic(auto)]
+
+mod account;
+mod blamer;
+mod book;
+mod kind;
+mod laws;
+mod line;
+mod observer;
+mod run;
+mod stretch;
+mod text;
+mod tick;
+
+pub use laws::{stretches_are_longest_runs, untrue_seconds_are_not_those_of_their_edges};
+pub use run::blame;
