@@ -5,7 +5,8 @@ ghost use Rattle.irig_frame_text.specs.Frame.{IsFrameOptions};
 ghost use Rattle.irig_command_line.specs.Requests.{IsRequest};
 
 use crate::help::{
-    ABOUT, AFTER, EXPLAIN_AFTER, FLATTEN_AFTER, FRAME_AFTER, READ_AFTER, RUN_AFTER, USAGE,
+    ABOUT, AFTER, BLAME_AFTER, EXPLAIN_AFTER, FLATTEN_AFTER, FRAME_AFTER, READ_AFTER, RUN_AFTER,
+    USAGE,
 };
 use crate::request::{NoRequest, Request};
 use crate::tip::fault_with_tip;
@@ -18,8 +19,11 @@ use irig_time::{Leap, Rules, SbsUse, Sense};
 use std::alloc::{AllocError, Global};
 
 static PENDING: [&str; 2] = ["insert", "delete"];
+
 static PARITY: [&str; 2] = ["even", "odd"];
+
 static SENSE: [&str; 2] = ["add", "subtract"];
+
 static SBS: [&str; 2] = ["check", "ignore"];
 
 /// What the words ask for, of which the first is the program's name: without a second word it is
@@ -64,6 +68,7 @@ fn request_by<'a>(name: &str, matches: &ArgMatches<'a>) -> Option<Request<'a>>
     match name {
         "run" => Some(run_of(matches)),
         "flatten" => Some(flatten_of(matches)),
+        "blame" => Some(blame_of(matches)),
         "frame" => Some(frame_of(matches)),
         "read" => Some(read_of(matches)),
         "explain" => Some(explain_of(matches)),
@@ -90,6 +95,17 @@ fn flatten_of<'a>(matches: &ArgMatches<'a>) -> Request<'a>
     match value(matches, "FILE") {
         "-" => Request::FlattenInput,
         file => Request::Flatten { file },
+    }
+}
+
+// Without a word for FILE it is the input.
+fn blame_of<'a>(matches: &ArgMatches<'a>) -> Request<'a>
+    ensures not_plain { result ≢ Request.Plain }
+    ensures in_range { IsRequest result }
+{
+    match matches.get_str("FILE") {
+        None | Some("-") => Request::BlameInput,
+        Some(file) => Request::Blame { file },
     }
 }
 
@@ -201,6 +217,7 @@ fn sbs(matches: &ArgMatches<'_>) -> SbsUse {
 fn program<'a>(alloc: Global) -> Result<Command<'a>, AllocError> {
     let program = with_command(described_program(alloc), run_command(alloc));
     let program = with_command(program, flatten_command(alloc));
+    let program = with_command(program, blame_command(alloc));
     let program = with_command(program, frame_command(alloc));
     let program = with_command(program, read_command(alloc));
     with_command(program, explain_command(alloc))
@@ -258,6 +275,13 @@ fn ports_option<'a>(alloc: Global) -> Arg<'a> {
 fn flatten_command<'a>(alloc: Global) -> Result<Command<'a>, AllocError> {
     let about = "Writes a scenario out as what its readers hear";
     described(alloc, "flatten", about, FLATTEN_AFTER).arg(file_argument(alloc))
+}
+
+fn blame_command<'a>(alloc: Global) -> Result<Command<'a>, AllocError> {
+    let about = "Says who lied in a scenario, why a reader was silent, and what it cost";
+    described(alloc, "blame", about, BLAME_AFTER).arg(Arg::new(alloc, "FILE").help(
+        "The scenario; without it, or with -, standard input",
+    ))
 }
 
 fn frame_command<'a>(alloc: Global) -> Result<Command<'a>, AllocError> {

@@ -17,6 +17,7 @@ Examples:
   $ irig < examples/leap_inserted.jsonl
   $ irig run examples/two_liars.jsonl --all
   $ irig flatten examples/leap_inserted.jsonl
+  $ irig blame examples/one_liar.jsonl
   $ irig frame 2016-12-31T23:59:59Z --pending=insert
   $ irig read \"$(irig frame 2016-12-31T23:59:59Z)\"
   $ irig explain 26
@@ -59,6 +60,17 @@ If a line of FILE is refused, the last line that is written says so, as that of 
 Example:
   $ irig flatten examples/plain_minute.jsonl | irig run - | tail -n 1
   premises kept";
+
+/// What follows the options of `blame`.
+pub const BLAME_AFTER: &str =
+    "It plays the scenario as `irig run` does. A line names a port and the edges at which it told a reader one kind of
+wrong: silent, faulty, poor, another second or another mark; with what it told first, and what the reader announced
+meanwhile. A line for each silence of a reader has its cause. Both come as soon as they end. Then there are the
+totals of each reader and port, and the last line of the log.
+
+Example:
+  $ irig blame examples/one_liar.jsonl | grep 'another second, '
+  edges 5 to 8: port 1 of relay told another second, first 2017-06-30T23:59:57Z; relay announced 4 seconds";
 
 /// What follows the options of `frame`.
 pub const FRAME_AFTER: &str =

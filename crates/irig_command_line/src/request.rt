@@ -29,6 +29,12 @@ pub enum Request<'a> {
     Flatten {
         file: &'a str,
     },
+    /// The scenario on the input: who lied in it, and what it cost.
+    BlameInput,
+    /// The scenario in a file, so.
+    Blame {
+        file: &'a str,
+    },
     /// The frame of a UTC second.
     Frame {
         time: &'a str,

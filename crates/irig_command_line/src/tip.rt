@@ -23,9 +23,7 @@ fn bad_value(alloc: Global, error: &Error) -> Result<String, AllocError> {
     if !text.as_str().contains("'--local <HALF_HOURS>'") {
         return Ok(text);
     }
-    format!(in alloc;
-        "{text}\n  tip: half hours are whole, -31 to 31; 5 hours 30 minutes are 11"
-    )
+    format!(in alloc; "{text}\n  tip: half hours are whole, -31 to 31; 5 hours 30 minutes are 11")
 }
 
 // Of what `clap` says the first line alone, since its own tip is of no use if all is given.

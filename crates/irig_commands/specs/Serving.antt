@@ -16,8 +16,9 @@ use Rattle.irig_log_text.specs.declared.shown.Shown.{Shown}
 use Rattle.irig_scene.specs.LogLines.{OfWritten}
 use Rattle.irig_scene.specs.Run.{RanShown}
 use Rattle.irig_flatten.specs.Flattening.{HasTheLog, RanFlat}
+use Rattle.irig_blame.specs.Blaming.{RanBlame}
 use Rattle.irig_command_line.specs.declared.request.Request.{Request}
-use Rattle.irig_command_line.specs.declared.request.Request.TheVariants.{Plain, Input, Run, FlattenInput, Flatten, Frame, Read, Explain}
+use Rattle.irig_command_line.specs.declared.request.Request.TheVariants.{Plain, Input, Run, FlattenInput, Flatten, BlameInput, Blame, Frame, Read, Explain}
 use Rattle.irig_command_line.specs.declared.request.NoRequest.{NoRequest}
 use Rattle.irig_command_line.specs.declared.request.NoRequest.TheVariants as none
 use Rattle.irig_commands.specs.declared.fault.Fault.{Fault}
@@ -71,6 +72,19 @@ FlattensFile remaining answer old new =
     ⊎ (((error : Error) × Refuses (fault.Open error) answer old new)
     ⊎ Refuses fault.Memory answer old new)
 
+-- who lied in a scenario on the input was written
+pub record BlamesScene (answer : Answer) (input old new : Bytes) : Type 0 where
+  pub blamed : Result (Unit {0}) SceneFault
+  pub answered : answer ≡ answer_of blamed
+  pub ran : RanBlame blamed input old new
+
+-- so of what a file gives; or it can't be opened, or there is no memory for it
+abbrev pub BlamesFile : {F : Type 0} → (F → Bytes) → Answer → Bytes → Bytes → Type 0
+BlamesFile remaining answer old new =
+    ((input : Bytes) × AreOfFile remaining input × BlamesScene answer input old new)
+    ⊎ (((error : Error) × Refuses (fault.Open error) answer old new)
+    ⊎ Refuses fault.Memory answer old new)
+
 -- the frame of the second that the time names, with the options, if it names one
 abbrev pub ShowsFrame : List ℕ → FrameOptions → Answer → Bytes → Bytes → Type 0
 ShowsFrame time options answer old new =
@@ -110,6 +124,8 @@ reads_input (Input all ports) = true
 reads_input (Run file all ports) = false
 reads_input FlattenInput = true
 reads_input (Flatten file) = false
+reads_input BlameInput = true
+reads_input (Blame file) = false
 reads_input (Frame time options) = false
 reads_input (Read frame rules) = false
 reads_input (Explain word) = false
@@ -126,6 +142,8 @@ Serves remaining (Run file all ports) answer input left old new =
 Serves remaining FlattenInput answer input left old new = FlattensScene answer input old new
 Serves remaining (Flatten file) answer input left old new =
     FlattensFile remaining answer old new
+Serves remaining BlameInput answer input left old new = BlamesScene answer input old new
+Serves remaining (Blame file) answer input left old new = BlamesFile remaining answer old new
 Serves remaining (Frame time options) answer input left old new =
     ShowsFrame time.now options answer old new
 Serves remaining (Read frame rules) answer input left old new =

@@ -59,13 +59,16 @@ fn help_text(
     let text = match (fault, request) {
         (Fault::BadTime, Some(Request::Frame { time, .. })) => why_no_time(alloc, time),
         (Fault::BadFrameText, Some(Request::Read { frame, .. })) => why_no_frame(alloc, frame),
-        (Fault::Open(error), Some(Request::Run { file, .. } | Request::Flatten { file })) => {
-            format!(in alloc; "{file}: {error}")
-        }
-        (Fault::Read, Some(Request::Run { file, .. } | Request::Flatten { file })) =>
-            format!(in alloc;
-                "{file}: it was opened, and could not be read to its end; is it a folder?"
-            ),
+        (
+            Fault::Open(error),
+            Some(Request::Run { file, .. } | Request::Flatten { file } | Request::Blame { file }),
+        ) => { format!(in alloc; "{file}: {error}") }
+        (
+            Fault::Read,
+            Some(Request::Run { file, .. } | Request::Flatten { file } | Request::Blame { file }),
+        ) => format!(in alloc;
+            "{file}: it was opened, and could not be read to its end; is it a folder?"
+        ),
         (Fault::Read, _) => format!(in alloc;
             "standard input could not be read to its end; is it a folder?"
         ),

@@ -7,6 +7,8 @@ ghost use Rattle.irig_device.specs.Watched.{device_of, has_failed};
 ghost use Rattle.irig_frame_text.specs.Frame.{IsFrameOptions};
 ghost use Rattle.irig_commands.specs.Serving.{
   AreOfFile,
+  BlamesFile,
+  BlamesScene,
   FlattensFile,
   FlattensScene,
   IsUnknownWord,
@@ -22,6 +24,7 @@ ghost use Rattle.irig_commands.specs.Serving.{
 
 use crate::explain::tell_refusal;
 use crate::fault::Fault;
+use irig_blame::blame;
 use irig_command_line::Request;
 use irig_device::Watched;
 use irig_explain::{explanation, why_no_word};
@@ -40,8 +43,8 @@ const NOTHING_MORE: Shown = Shown {
     ports: false,
 };
 
-/// Does what is asked for: runs a scenario or writes it out as what its readers hear, writes a frame
-/// or what a frame says, or explains a word. Neither device may have failed before.
+/// Does what is asked for: runs a scenario, writes it out as what its readers hear, or who lied in it,
+/// writes a frame or what one says, or explains a word. Neither device may have failed before.
 ///
 /// `BadTime` if TIME is the text of no second, `BadFrameText` if FRAME has a letter of no
 /// symbol, `CommandLine` if WORD is none that is explained, and then nothing is written; `Refused`
@@ -73,6 +76,8 @@ pub fn serve<'a, R: Files + Eprint + AllocGlobal, I: BufRead, O: Write>(
         Request::Run { file, all, ports } => run_file(rt, file, Shown { all, ports }, output),
         Request::FlattenInput => flatten_input(rt, input, output),
         Request::Flatten { file } => flatten_file(rt, file, output),
+        Request::BlameInput => blame_input(rt, input, output),
+        Request::Blame { file } => blame_file(rt, file, output),
         Request::Frame { time, options } => show_frame(time, &options, output),
         Request::Read { frame, rules } => show_reading(rt.alloc(), frame, rules, output),
         Request::Explain { word } => show_meaning(rt.alloc(), word, output),
@@ -160,6 +165,45 @@ fn flatten_file<R: Files + Eprint + AllocGlobal, O: Write>(
 {
     match open(rt, path) {
         Ok(mut input) => flatten_input(rt, &mut input, output),
+        Err(error) if error.kind() == io::ErrorKind::OutOfMemory => Err(Fault::Memory),
+        Err(error) => Err(Fault::Open(error)),
+    }
+}
+
+fn blame_input<R: Eprint + AllocGlobal, I: BufRead, O: Write>(
+    rt: &R,
+    input: &mut Watched<I>,
+    output: &mut Watched<O>,
+) -> Result<(), Fault>
+    requires input_whole { has_failed input.old ≡ false }
+    requires output_whole { has_failed output.old ≡ false }
+    ensures blamed { BlamesScene result (I.remaining (device_of input.old))
+        (O.contents (device_of output.old)) (O.contents (device_of output.new)) }
+    ensures write { (result ≡ Err Fault.Write) ↔ (has_failed output.new ≡ true) }
+    ensures read { (result ≡ Err Fault.Read) ↔ (has_failed input.new ≡ true) }
+{
+    let mut refused = None;
+    match blame(rt.alloc(), input, output, &mut refused) {
+        Ok(()) => Ok(()),
+        Err(fault) => {
+            tell_refusal(rt, fault, &refused);
+            Err(Fault::from(fault))
+        }
+    }
+}
+
+fn blame_file<R: Files + Eprint + AllocGlobal, O: Write>(
+    rt: &R,
+    path: &str,
+    output: &mut Watched<O>,
+) -> Result<(), Fault>
+    requires { has_failed output.old ≡ false }
+    ensures blamed { BlamesFile R.File.remaining result
+        (O.contents (device_of output.old)) (O.contents (device_of output.new)) }
+    ensures write { (result ≡ Err Fault.Write) ↔ (has_failed output.new ≡ true) }
+{
+    match open(rt, path) {
+        Ok(mut input) => blame_input(rt, &mut input, output),
         Err(error) if error.kind() == io::ErrorKind::OutOfMemory => Err(Fault::Memory),
         Err(error) => Err(Fault::Open(error)),
     }
