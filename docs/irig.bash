@@ -5,6 +5,7 @@ declare -gA _irig_options=(
     [irig]='--help --version'
     [run]='--all --ports --help'
     [flatten]='--help'
+    [blame]='--help'
     [frame]='--local= --pending= --dst --quality= --parity= --sense= --help'
     [read]='--parity= --sense= --sbs= --help'
     [explain]='--help'
@@ -37,14 +38,14 @@ _irig() {
         mapfile -t COMPREPLY < <(compgen -W "${_irig_options[$command]-}" -- "$word")
         [[ ${COMPREPLY-} != *= ]] || compopt -o nospace
     elif [[ $command == irig ]]; then
-        mapfile -t COMPREPLY < <(compgen -W 'run flatten frame read explain help' -- "$word")
-    elif [[ $command == run || $command == flatten ]]; then
+        mapfile -t COMPREPLY < <(compgen -W 'run flatten blame frame read explain help' -- "$word")
+    elif [[ $command == run || $command == flatten || $command == blame ]]; then
         mapfile -t COMPREPLY < <(compgen -f -- "$word")
         compopt -o filenames
     elif [[ $command == explain ]]; then
         mapfile -t COMPREPLY < <(compgen -W "$_irig_explained" -- "$word")
     elif [[ $command == help ]]; then
-        mapfile -t COMPREPLY < <(compgen -W 'run flatten frame read explain' -- "$word")
+        mapfile -t COMPREPLY < <(compgen -W 'run flatten blame frame read explain' -- "$word")
     fi
 }
 

@@ -90,7 +90,7 @@ def over_whole_ports(case: Case) -> Case | None:
     """The same for test_whole_port, which runs what it is given and takes no more words than --all;
     none where a case is of something else."""
     words, input = case.words, case.input
-    if words[:1] == [b"flatten"]:
+    if words[:1] in ([b"flatten"], [b"blame"]):
         return None
     if case.scenario:
         words, input = words[2:], case.scenario

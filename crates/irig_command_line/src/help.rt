@@ -69,7 +69,7 @@ meanwhile. A line for each silence of a reader has its cause. Both come as soon 
 totals of each reader and port, and the last line of the log.
 
 Example:
-  $ irig blame examples/one_liar.jsonl | grep 'another second, '
+  $ irig blame examples/one_liar.jsonl | grep 'told another second'
   edges 5 to 8: port 1 of relay told another second, first 2017-06-30T23:59:57Z; relay announced 4 seconds";
 
 /// What follows the options of `frame`.

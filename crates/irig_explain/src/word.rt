@@ -17,7 +17,7 @@ static WORDS: [Meaning; 21] = [
         name: "held",
         cause: "there was no vote, and the reader counts on from its last one",
         example: "7 relay 2016-06-15T12:00:07Z holdover:1 held",
-        cure: "see which frames are lost, faulty, late or poor: irig run FILE --all --ports",
+        cure: "see which frames are lost, faulty, late or poor: irig blame FILE",
     },
     Meaning {
         name: "acquiring",
@@ -131,7 +131,7 @@ static WORDS: [Meaning; 21] = [
         name: "premises broken",
         cause: "at this tick of this reader two ports of three, or three of five, were the first to tell untrue claims, or the leap table of this reader is not true",
         example: "premises broken: edge 5 reader relay",
-        cure: "see which ports lied: irig run FILE --all --ports; from that edge on this reader follows its votes",
+        cure: "see which ports lied: irig blame FILE; from that edge on this reader follows its votes",
     },
 ];
 
