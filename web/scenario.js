@@ -269,7 +269,8 @@ class ScenarioTab {
 
   on_choice(lane, edge, from) {
     const maker = lane.maker_of(edge);
-    if (from !== this.log) this.log.show(Math.max(lane.line_at(edge), lane.told_at(edge)));
+    const line = lane.line_at(edge);
+    if (from !== this.log) this.log.show(line < 0 ? lane.told_at(edge) : line);
     if (maker >= 0 && this.running.text === this.editor.text) this.editor.show(maker);
   }
 
