@@ -256,19 +256,21 @@ class ScenarioTab {
 
   told_of(lane, edge) { // what there is to say of an edge
     const line = lane.line_at(edge), maker = lane.maker_of(edge);
-    const parts = [`${edge} ${lane.reader}: not announced, no line in this log`];
+    const parts = [`${edge} ${lane.reader}: not announced, no line in this log`], told = lane.told_at(edge);
     if (line >= 0) {
       const text = this.log.lines.at(line), [meaning, look] = data.causes[text.split(" ")[4]] || ["", ""];
       parts[0] = text;
       if (meaning) parts.push(meaning + (look ? ` (${look})` : ""));
     }
+    if (told >= 0) parts.push(`ports told:${this.log.lines.at(told).slice(` ${edge} ${lane.reader}`.length)}`);
     if (maker >= 0) parts.push(`scenario line ${maker + 1}: ${cut(this.ran[maker], 120)}`);
     return parts.join("\n");
   }
 
   on_choice(lane, edge, from) {
     const maker = lane.maker_of(edge);
-    if (from !== this.log) this.log.show(lane.line_at(edge));
+    const line = lane.line_at(edge);
+    if (from !== this.log) this.log.show(line < 0 ? lane.told_at(edge) : line);
     if (maker >= 0 && this.running.text === this.editor.text) this.editor.show(maker);
   }
 
