@@ -399,7 +399,7 @@ class Runs(unittest.TestCase):
         for words, says in (
             ([*one, "--lock-after", 0, "--holdover", 1], '"lock_after" is 0; 1 to 60 may stand here'),
             ([*one, "--lock-after", 1, "--holdover", -1], '"holdover" is -1'),
-            ([*one, "--lock-after", 1, "--holdover", 1, "--start", "noon"], '"start" is "noon"'),
+            ([*one, "--lock-after", 1, "--holdover", 1, "--start", "noon"], "'noon' is no second served"),
             ([*one, "--lock-after", 1, "--holdover", 1, "--generators", 4], "generators"),
             ([*one, "--lock-after", 1, "--holdover", 1, "--hours", 0], "hours is 0"),
             ([*one, "--lock-after", 1, "--holdover", 1, "--hours", "nan"], "hours is nan"),
@@ -417,9 +417,11 @@ class Runs(unittest.TestCase):
         self.assertEqual(ran("table", "x.csv", "colour").returncode, 2)
 
     def test_which_program(self) -> None:
-        """Beside tools that stand alone it is the installed one, and without any there is one line."""
+        """Beside tools and their package alone it is the installed one, and without any there is one
+        line."""
         with tempfile.TemporaryDirectory() as folder:
-            shutil.copytree(ROOT / "tools", Path(folder) / "tools")
+            for name in ("tools", "python"):
+                shutil.copytree(ROOT / name, Path(folder) / name)
             bin_folder = Path(folder) / "bin"
             bin_folder.mkdir()
             words = [sys.executable, Path(folder) / "tools/study", "one", "--lock-after=2",
