@@ -38,7 +38,7 @@ def plant(*lines: dict, **changed: object) -> str:
 
 
 def trap_module() -> bytes:
-    """A module whose `irig_scene_c_run` does nothing but trap, and whose heap gives a place."""
+    """A module whose `irig_scene_c_run_shown` does nothing but trap, and whose heap gives a place."""
 
     def section(number: int, *parts: bytes) -> bytes:
         body = bytes([len(parts)]) + b"".join(parts)
@@ -51,11 +51,11 @@ def trap_module() -> bytes:
     types = section(
         1,
         bytes([0x60, 1, i64, 1, i64]),
-        bytes([0x60, 6, i64, i64, i32, i64, i64, i64, 1, i32]),
+        bytes([0x60, 10, i64, i64, i32, i32, *[i64] * 6, 1, i32]),
     )
     imports = section(2, name("env") + name("memory") + bytes([2, 0, 1]))
     functions = section(3, bytes([0]), bytes([1]))
-    exports = section(7, name("heap_give") + bytes([0, 0]), name("irig_scene_c_run") + bytes([0, 1]))
+    exports = section(7, name("heap_give") + bytes([0, 0]), name("irig_scene_c_run_shown") + bytes([0, 1]))
     give, trap = bytes([5, 0, 0x42, 0x80, 0x08, 0x0B]), bytes([3, 0, 0x00, 0x0B])
     return b"\0asm\1\0\0\0" + types + imports + functions + exports + section(10, give, trap)
 
@@ -175,8 +175,9 @@ class InBrowser(unittest.TestCase):
                 self.page.call("Input.dispatchKeyEvent", type=kind, key="Tab", windowsVirtualKeyCode=9)
             reached.append(self.page.ask("document.activeElement.id"))
         self.assertLessEqual(
-            {"example", "all", "ports", "most", "run", "to-verdict", "cause", "reader", "previous", "next", "edge",
-             "in", "out", "whole", "canvas", "file", "link", "text", "search", "search-next", "save", "log"},
+            {"example", "all", "ports", "most", "run", "to-verdict", "cause", "reader", "previous", "next",
+             "edge", "in", "out", "whole", "canvas", "file", "link", "text", "search", "search-next", "save",
+             "log"},
             set(reached),
         )
 
