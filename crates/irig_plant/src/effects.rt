@@ -69,10 +69,19 @@ impl<P: Port> Plant<P> {
     {
         self.has_port(g, r)?;
         if !self.carry_cached_port(g, r) {
-            let sent = self.sent(g);
-            self.deliver(g, r, pulses(&sent));
+            self.carry_pulses(g, r);
         }
         Ok(())
+    }
+
+    // Apart from `carry`, since a function clears the room of its locals before it begins.
+    fn carry_pulses(&mut self, g: u8, r: u8)
+        requires generator { g < vec_len self.old.generators }
+        requires reader { r < vec_len self.old.readers }
+        ensures { Follows self.old (Event.Carry g r) self.new }
+    {
+        let sent = self.sent(g);
+        self.deliver(g, r, pulses(&sent));
     }
 
     pub(crate) fn damage(&mut self, g: u8, r: u8, at: u8, width: u32) -> Result<(), PlantFault>

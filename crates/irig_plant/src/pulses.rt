@@ -142,20 +142,10 @@ impl<P: Port> Plant<P> {
             P.stands_for result h.setup.rules (symbols_heard (pulses_sent h.setup g h.events))) }
     {
         let mut cached_port = P::fresh(self.rules);
-        if let Some(frame) = self.generators[g as usize].frame(&self.timeline) {
-            take_frame(&mut cached_port, &frame);
+        if let Some(widths) = self.sent(g) {
+            cached_port.pulses(&widths);
         }
         cached_port
-    }
-}
-
-// The pulses of a frame come to an empty port.
-fn take_frame<P: Port>(port: &mut P, frame: &[Symbol; 100])
-    ensures { (rules : Rules) → P.stands_for port.old rules []
-        → P.stands_for port.new rules (symbols_heard (map width_of frame.now)) }
-{
-    for symbol in frame {
-        port.pulse(symbol.width_us());
     }
 }
 

@@ -1,7 +1,7 @@
 -- What is past the 101st symbol changes nothing.
-use Rattle.std.proofs.Common.{◌≡◌, ℕ, List, [], ◌∷◌, ◌++◌, length, take, sym, ◌∙◌, inl, inr, arith, ap, nat_lt, length-append}
+use Rattle.std.proofs.Common.{◌≡◌, ℕ, ◌+◌, ◌<◌, List, [], ◌∷◌, ◌++◌, length, take, get_or, sym, ◌∙◌, inl, inr, arith, ap, nat_lt, length-append, append_assoc}
 use Rattle.std.specs.Prelude.{if◌then◌else◌}
-use Rattle.std.proofs.lemmas.List.{take_all, take-append-le, length-take-le, map-append}
+use Rattle.std.proofs.lemmas.List.{take_all, take-append-le, take_more, length-take-le, map-append}
 use Rattle.std.proofs.lemmas.Bool.{cases_lt, cond_below, cond_above}
 use Rattle.irig_frame.specs.declared.symbol.Symbol.{Symbol}
 use Rattle.irig_frame.specs.Symbols.{symbol_of}
@@ -33,3 +33,10 @@ take-push n s x =
 
 pub heard-push : (ws : List ℕ) (w : ℕ) → symbols_heard (ws ++ w ∷ []) ≡ with_symbol (symbols_heard ws) (symbol_of w)
 heard-push ws w = ap (take 101) (map-append symbol_of ws (w ∷ [])) ∙ take-push 101 (symbols_of ws) (symbol_of w)
+
+-- one more of a list of widths
+pub heard-more : (w ws : List ℕ) (i : ℕ) → i < length ws
+    → symbols_heard (w ++ take (i + 1) ws) ≡ with_symbol (symbols_heard (w ++ take i ws)) (symbol_of (get_or ws i 0))
+heard-more w ws i h =
+    ap (λ (rest : List ℕ). symbols_heard (w ++ rest)) (take_more ws i 0 h)
+    ∙ (ap symbols_heard (sym (append_assoc w (take i ws) (get_or ws i 0 ∷ []))) ∙ heard-push (w ++ take i ws) (get_or ws i 0))

@@ -47,6 +47,11 @@ impl Port for FlowPort {
         self.tally.add(width_us);
     }
 
+    fn pulses(&mut self, widths_us: &[u32]) {
+        self.cached = None;
+        self.tally.add_all(widths_us);
+    }
+
     fn edge(&mut self) -> Told {
         if self.is_empty() {
             return Told::Silence;

@@ -1,11 +1,11 @@
 //! What every port does.
 
-ghost use Rattle.std.specs.Prelude.{◌≡◌, ◌==◌, length, List, []};
+ghost use Rattle.std.specs.Prelude.{◌≡◌, ◌==◌, ◌++◌, length, ℕ, List, []};
 ghost use Rattle.irig_frame.specs.declared.symbol.Symbol.{Symbol};
 ghost use Rattle.irig_frame.specs.Symbols.{symbol_of};
 ghost use Rattle.irig_time.specs.declared.rules.Rules.{Rules};
 ghost use Rattle.irig_time.specs.Seconds.{IsValid};
-ghost use Rattle.irig_port.specs.Heard.{with_symbol};
+ghost use Rattle.irig_port.specs.Heard.{with_symbol, symbols_heard};
 ghost use Rattle.irig_port.specs.Told.{told_of, IfClaim};
 
 use crate::told::Told;
@@ -27,6 +27,11 @@ pub trait Port: Drop {
     fn pulse(&mut self, width_us: u32)
         ensures { (rules : Rules) (s : List Symbol) → stands_for self.old rules s
             → stands_for self.new rules (with_symbol s (symbol_of width_us)) };
+
+    /// Pulses, each of a width in microseconds, in their order, as [`Port::pulse`] takes each.
+    fn pulses(&mut self, widths_us: &[u32])
+        ensures { (rules : Rules) (w : List ℕ) → stands_for self.old rules (symbols_heard w)
+            → stands_for self.new rules (symbols_heard (w ++ widths_us.now)) };
 
     /// What the pulses since the port was last empty tell. The port is then empty. A claim is of a
     /// [`valid`](irig_time::valid) second, whatever the port was fed.

@@ -87,6 +87,7 @@ impl Tally {
     pub fn add_all(&mut self, widths_us: &[u32])
         ensures added { (w : List ℕ) → IsTallyOf self.old (symbols_heard w)
             → IsTallyOf self.new (symbols_heard (w ++ widths_us.now)) }
+        ensures few { self.old.count ≤ 101 → self.new.count ≤ 101 }
     {
         // what a port hears as a rule; three short loops take half the time of the one
         if self.count == 0 && is_right_frame(widths_us) {
@@ -97,8 +98,9 @@ impl Tally {
     }
 
     fn add_each(&mut self, widths_us: &[u32])
-        ensures { (w : List ℕ) → IsTallyOf self.old (symbols_heard w)
+        ensures added { (w : List ℕ) → IsTallyOf self.old (symbols_heard w)
             → IsTallyOf self.new (symbols_heard (w ++ widths_us.now)) }
+        ensures few { self.old.count ≤ 101 → self.new.count ≤ 101 }
     {
         // a copy, which registers can hold
         let mut tally = *self;
@@ -112,7 +114,8 @@ impl Tally {
     fn of_frame(widths_us: &[u32]) -> Tally
         requires whole { length widths_us.now ≡ 100 }
         requires right { first_wrong 0 (symbols_of widths_us.now) ≡ None }
-        ensures { IsTallyOf result (symbols_of widths_us.now) }
+        ensures of_widths { IsTallyOf result (symbols_of widths_us.now) }
+        ensures whole { result.count ≡ 100 }
     {
         Tally {
             count: 100,

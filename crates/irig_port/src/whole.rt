@@ -39,6 +39,12 @@ impl Port for WholePort {
         }
     }
 
+    fn pulses(&mut self, widths_us: &[u32]) {
+        for &width_us in widths_us {
+            self.pulse(width_us);
+        }
+    }
+
     fn edge(&mut self) -> Told {
         let told = tell(&self.rules, self.symbols.as_slice());
         self.symbols.clear();

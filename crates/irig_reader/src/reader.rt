@@ -99,8 +99,12 @@ impl<P: Port> Reader<P> {
         ensures fed { Advances self.old self.new (λ h. after_pulses h port widths_us.now) }
         ensures ports { self.new.redundancy ≡ self.old.redundancy }
     {
-        for width_us in widths_us {
-            self.pulse(port, *width_us);
+        match port {
+            0 => self.a.pulses(widths_us),
+            1 => self.b.pulses(widths_us),
+            2 => self.c.pulses(widths_us),
+            3 => self.d.pulses(widths_us),
+            _ => self.e.pulses(widths_us),
         }
     }
 

@@ -5,10 +5,8 @@ use Rattle.irig_port.specs.Tallies.{IsTallyOf}
 use Rattle.irig_port.proofs.FrameLaws.{heard-whole}
 use Rattle.irig_port.proofs.tally.Tally.add_all.Goals as goal
 
-pub returns-then-is_right_frame : goal.returns-then-is_right_frame
-returns-then-is_right_frame c = record {
-  added = λ w h.
-      let none : length (symbols_heard w) ≡ 0 = omega (arith, h.counted, c.if-self-eq0.true) in
-      let same = heard-whole w c.args.widths_us.now none (c.if-is_right_frame.ensures.0 refl).0 in
-      subst (λ (s : List Symbol). IsTallyOf c.of_frame.result s) (sym same) c.of_frame.ensures;
-}
+pub returns-then-is_right_frame-clause-added : goal.returns-then-is_right_frame-clause-added
+returns-then-is_right_frame-clause-added c w h =
+    let none : length (symbols_heard w) ≡ 0 = omega (arith, h.counted, c.if-self-eq0.true) in
+    let same = heard-whole w c.args.widths_us.now none (c.if-is_right_frame.ensures.0 refl).0 in
+    subst (λ (s : List Symbol). IsTallyOf c.of_frame.result s) (sym same) c.of_frame.ensures.of_widths
