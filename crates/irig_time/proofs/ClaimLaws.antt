@@ -1,7 +1,7 @@
 -- The claim of the frame that codes a second is that second.
 use Rattle.std.proofs.Common.{◌≡◌, ℕ, ◌+◌, ◌*◌, ◌/◌, ◌%◌, ◌≤◌, Bool, true, false, not, ◌&&◌, cond, eqb, ltb, int_lt, Err, refl, ap, ◌∙◌, arith, inl, inr, ℤ, pos, neg_ℤ, unsigned_abs}
 use Rattle.std.proofs.lemmas.Bool.{le-ltb, lt-ltb, ne_eqb, eq-eqb, and_left, and_right, and_from, not_from_true}
-use Rattle.jiff.proofs.SpanFacts.{signed_arith}
+use Rattle.jiff_core.proofs.SignedLemmas.{signed_arith}
 use Rattle.irig_frame.specs.declared.coded.Coded.{Coded}
 use Rattle.irig_control.specs.declared.control.Control.{Control}
 use Rattle.irig_time.specs.declared.second.UtcSecond.{UtcSecond}

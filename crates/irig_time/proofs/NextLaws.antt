@@ -1,7 +1,7 @@
 -- The step by what was heard of a leap is the step of the timeline.
 use Rattle.std.proofs.Common.{◌≡◌, ℕ, ◌+◌, ◌-◌, ◌<◌, ◌≤◌, ◌⊎◌, true, false, List, Option, Some, None, refl, ap, ◌∙◌, arith, inl, inr, pos}
 use Rattle.std.proofs.lemmas.Bool.{cases_Bool, cases_lt, lt-ltb, le-ltb, eq-eqb, ne_eqb, false_from_ne_true, ltb-false}
-use Rattle.jiff.proofs.SpanFacts.{signed_arith}
+use Rattle.jiff_core.proofs.SignedLemmas.{signed_arith}
 use Rattle.jiff_core.specs.Calendar.{days_from_civil, IsCivilDate}
 use Rattle.jiff_core.proofs.CalendarLemmas.{days_from_civil-day_count, day_count-next_year, day_count-last_of_year}
 use Rattle.irig_time.proofs.Dates.{date_of_parts, month_end_is, year_day}

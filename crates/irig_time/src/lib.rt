@@ -1,8 +1,8 @@
 //! UTC seconds from 2000-01-02 to 2099-12-30: their dates, their texts, and how a frame codes them.
 //!
 //! A second is named by its day, counted from 2000-01-01 as day 0, and its second of the day; an
-//! inserted leap second (ITU-R TF.460) is second 86400 of its day. The calendar is asked of `jiff`,
-//! and proved against the formula of `specs/Days.antt`.
+//! inserted leap second (ITU-R TF.460) is second 86400 of its day. The calendar is asked of
+//! `jiff_core`, and proved against the formula of `specs/Days.antt`.
 #![tactic(auto)]
 
 mod calendar;

@@ -1,5 +1,4 @@
-use Rattle.std.proofs.Common.{◌≡◌, ◌↔◌, ◌∙◌, Bool, true, false, refl, sym, arith, eq-eqb, eqb-true, of_z, w8}
-use Rattle.std.proofs.lemmas.Int.{ints}
+use Rattle.std.proofs.Common.{◌≡◌, ◌↔◌, Bool, true, false, refl, sym, eq-eqb, eqb-true}
 use Rattle.std.proofs.lemmas.Bool.{both_ways, false_from_ne_true}
 use Rattle.irig_time.specs.Days.{IsMonthEnd}
 use Rattle.irig_time.proofs.Dates.{month_end_is}
@@ -12,14 +11,11 @@ same_test false b P there back test = sym (false_from_ne_true b (λ on. both_way
 
 pub returns-clause-calendar : goal.returns-clause-calendar
 returns-clause-calendar c =
-    let day = c.day.ensures in
     let same = month_end_is c.date_of.result c.args.day c.date_of.ensures in
-    let n : of_z w8 c.day.result ≡ c.date_of.result.day = omega (arith, ints) in
-    (λ t. same.0 (sym n ∙ eqb-true _ _ t), λ h. eq-eqb _ _ (n ∙ same.1 h))
+    (λ t. same.0 (eqb-true _ _ t), λ h. eq-eqb _ _ (same.1 h))
 
 pub returns-clause-test : goal.returns-clause-test
 returns-clause-test c low =
     let test = month_end_test c.args.day low c.date_of.result c.date_of.ensures in
     let same = month_end_is c.date_of.result c.args.day c.date_of.ensures in
-    let n : of_z w8 c.day.result ≡ c.date_of.result.day = rw c.day.ensures (omega (arith, ints)) in
-    same_test _ _ (IsMonthEnd c.args.day) (λ t. same.0 (sym n ∙ eqb-true _ _ t)) (λ h. eq-eqb _ _ (n ∙ same.1 h)) test
+    same_test _ _ (IsMonthEnd c.args.day) (λ t. same.0 (eqb-true _ _ t)) (λ h. eq-eqb _ _ (same.1 h)) test
