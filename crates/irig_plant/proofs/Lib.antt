@@ -5,6 +5,7 @@ pub mod RunLaws
 pub mod SoundLaws
 pub mod ToldLaws
 pub mod TableLaws
+pub mod TableEnds
 pub mod HeadlineVotes
 pub mod Headline
 pub mod AuditLaws

@@ -57,7 +57,16 @@ fn agrees_from(timeline: &Timeline, table: &LeapTable, first: u32) -> bool
     ensures { result ≡ list_all (audits.agrees_on timeline.now table.now)
         (range_with_len first (LAST_DAY + 1 - first)) }
 {
-    (first..LAST_DAY + 1).all(|day| agrees(table.mark(day), timeline.leap(day)))
+    // past its end a table says nothing
+    agrees_between(timeline, table, first, table.until().min(LAST_DAY) + 1)
+}
+
+fn agrees_between(timeline: &Timeline, table: &LeapTable, first: u32, end: u32) -> bool
+    requires { end ≤ LAST_DAY + 1 }
+    ensures { result ≡ list_all (audits.agrees_on timeline.now table.now)
+        (range_with_len first (end - first)) }
+{
+    (first..end).all(|day| agrees(table.mark(day), timeline.leap(day)))
 }
 
 fn agrees(said: Mark, leap: Option<Leap>) -> bool

@@ -95,6 +95,13 @@ impl LeapTable {
         }
     }
 
+    /// The last day of which the table speaks; 0, which is not served, if it speaks of none.
+    pub fn until(&self) -> u32
+        ensures { result ≡ self.now.until }
+    {
+        self.until
+    }
+
     /// What the table says of the end of the day, at most [`LAST_DAY`]: unspoken if it is not a
     /// month's last or lies past the table's end.
     pub fn mark(&self, day: u32) -> Mark
