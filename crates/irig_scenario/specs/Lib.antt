@@ -1,3 +1,4 @@
 pub mod EventLine
 pub mod PlantLine
 pub mod NamesAndTimes
+pub mod KnownLines

@@ -3,9 +3,11 @@
 #![tactic(auto)]
 
 mod event_line;
+mod event_reader;
 mod plant_line;
 mod whole_second;
 
 pub use event_line::{Command, event_of_line};
+pub use event_reader::EventReader;
 pub use plant_line::{BuiltPlant, plant_of_line};
 pub use whole_second::second_of;

@@ -156,13 +156,12 @@ acted_takes (Err (stop.Failed f)) x c command shown player old new is acted =
     subst (λ (c : Result Command Refusal). OutputGrewByPartOf shown (Some x) (step_of_command x c).scene old new) (sym is) acted
 
 -- an event line gives no command
-pub event_stops : {P : Type 0} {g : Ghosts P} (fault : LineFault) (x : Scene) (names : List (List ℕ)) (line : List ℕ) (shown : Shown) (player : Player P g) (out : Option (List ℕ)) → names ≡ x.plan.names → IsUnlessMemory (λ (command : Command). command) (command_in_line names line) (Err fault)
+pub event_stops : {P : Type 0} {g : Ghosts P} (fault : LineFault) (x : Scene) (line : List ℕ) (shown : Shown) (player : Player P g) (out : Option (List ℕ)) → IsUnlessMemory (λ (command : Command). command) (command_in_line x.plan.names line) (Err fault)
     → IsPlayerAt shown player x → ProcessedLine (Err (stop_of fault)) (step_of_command x (command_in_line x.plan.names line)) shown (Some x) (Some player) out out
-event_stops (line_fault.Refused k) x names line shown player out same is stands =
-    let here : command_in_line x.plan.names line ≡ Err k = ap (λ names. command_in_line names line) (sym same) ∙ is in
-    subst (λ (c : Result Command Refusal). ProcessedLine (Err (stop.Refused k)) (step_of_command x c) shown (Some x) (Some player) out out) (sym here)
+event_stops (line_fault.Refused k) x line shown player out is stands =
+    subst (λ (c : Result Command Refusal). ProcessedLine (Err (stop.Refused k)) (step_of_command x c) shown (Some x) (Some player) out out) (sym is)
     (record { refused = refl; stands = stands; grew = nothing_grew shown (Some x) out })
-event_stops line_fault.Memory x names line shown player out same is stands = memory_following shown x (command_in_line x.plan.names line) out
+event_stops line_fault.Memory x line shown player out is stands = memory_following shown x (command_in_line x.plan.names line) out
 
 nothing_logged : (shown : Shown) (plan : Plan) → log_text shown (Some (scene plan [])) ≡ []
 nothing_logged shown plan = no_lines plan.names shown

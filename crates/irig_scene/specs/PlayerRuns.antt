@@ -25,7 +25,7 @@ pub record IsPlayerAt {P : Type 0} {g : Ghosts P} (shown : Shown) (player : Play
     (x : Scene) : Type 0 where
   pub gone : ℕ
   pub plant : HasPlantHistory player.rounds.plant (history_past gone shown x)
-  pub names : map string_bytes player.names.keys ≡ x.plan.names
+  pub names : map string_bytes player.lines.names.keys ≡ x.plan.names
   pub second : player.rounds.second.items ≡ second_in x.plan
 
 -- the output grew by what the log of one scene has more than that of another

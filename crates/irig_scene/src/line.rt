@@ -24,7 +24,7 @@ use crate::stop::Stop;
 use irig_device::{LineEnd, ReadFault, Watched};
 use irig_faults::Refusal;
 use irig_port::Port;
-use irig_scenario::{event_of_line, plant_of_line};
+use irig_scenario::plant_of_line;
 use std::alloc::Global;
 use std::io::{BufRead, Write};
 
@@ -141,7 +141,7 @@ fn process_event_line<P: Port, W: Write>(
         (W.contents (device_of output.old)) (W.contents (device_of output.new)) }
     ensures note { has_failed output.new ≡ (has_failed output.old || stopped_write result) }
 {
-    let command = event_of_line(log.alloc, player.names(), line)?;
+    let command = player.event_of_line(log.alloc, line)?;
     player.run_command(command, log, output)
 }
 

@@ -11,20 +11,19 @@ use crate::rounds::{Round, Rounds};
 use crate::stop::{Failure, Stop};
 use indexmap::IndexSet;
 use irig_device::Watched;
-use irig_faults::Refusal;
+use irig_faults::{LineFault, Refusal};
 use irig_plant::{Audit, Plant};
 use irig_port::Port;
-use irig_scenario::{BuiltPlant, Command, second_of};
+use irig_scenario::{BuiltPlant, Command, EventReader, second_of};
 use std::alloc::Global;
 use std::io::Write;
 
-/// A plant in rounds, its readers' names, and the text of its log.
+/// A plant in rounds, what reads the lines of its events, and the text of its log.
 #[derive(Drop)]
 pub(crate) struct Player<P: Port> {
     rounds: Rounds<P>,
-    names: IndexSet<String>,
+    lines: EventReader,
     text: LogText,
-    ghost few: { length names.keys ≤ 16 },
 }
 
 impl<P: Port> Player<P> {
@@ -32,6 +31,8 @@ impl<P: Port> Player<P> {
     ghost use Rattle.irig_plant.specs.History.{AreGenerators, AreReaders};
     ghost use Rattle.irig_plant.specs.WholeSecond.{times};
     ghost use Rattle.irig_log_text.specs.declared.shown.Shown.{Shown};
+    ghost use Rattle.irig_faults.specs.Refusals.{IsUnlessMemory};
+    ghost use Rattle.irig_scenario.specs.EventLine.{command_in_line};
     ghost use Rattle.irig_scenario.specs.PlantLine.{plan_of};
     ghost use Rattle.irig_scene.specs.Scene.{Scene as SceneOf, scene, audit_in, events_of};
     ghost use Rattle.irig_scene.specs.PlayerRuns.{IsPlayerAt, Plays, second_in};
@@ -54,6 +55,9 @@ impl<P: Port> Player<P> {
             names,
         } = line;
         let LogWriter { alloc, shown } = log;
+        let Ok(lines) = EventReader::new(alloc, names) else {
+            return Err(Failure::Memory);
+        };
         let second = second_of(alloc, generators.len() as u8, readers.len() as u8);
         let plant = Plant::new(alloc, timeline, generators, rules, &readers);
         match (plant, second) {
@@ -65,7 +69,7 @@ impl<P: Port> Player<P> {
                 let text = LogText::new(alloc);
                 Ok(Player {
                     rounds,
-                    names,
+                    lines,
                     text,
                 })
             }
@@ -75,10 +79,20 @@ impl<P: Port> Player<P> {
 
     /// The readers' names, in order.
     pub(crate) fn names(&self) -> &IndexSet<String>
-        ensures names { result.now ≡ self.now.names }
+        ensures names { result.now ≡ self.now.lines.names }
         ensures few { length result.now.keys ≤ 16 }
     {
-        &self.names
+        self.lines.names()
+    }
+
+    /// What a line after the plant line asks for.
+    pub(crate) fn event_of_line(&mut self, alloc: Global, line: &[u8]) -> Result<Command, LineFault>
+        ensures said { (shown : Shown) (x : SceneOf) → IsPlayerAt shown self.old x
+            → IsUnlessMemory (λ c. c) (command_in_line x.plan.names line.now) result }
+        ensures stands { (shown : Shown) (x : SceneOf) → IsPlayerAt shown self.old x
+            → IsPlayerAt shown self.new x }
+    {
+        self.lines.event_of_line(alloc, line)
     }
 
     /// The audit so far.
@@ -91,7 +105,8 @@ impl<P: Port> Player<P> {
 
     /// What explains the refusal of this line.
     pub(crate) fn refused(self, alloc: Global, refusal: Refusal, line: Vec<u8>) -> RefusedLine {
-        let Player { rounds, names, .. } = self;
+        let Player { rounds, lines, .. } = self;
+        let names = lines.into_names();
         RefusedLine::of_plant(alloc, refusal, line, names, rounds.plant().generators())
     }
 
@@ -146,7 +161,7 @@ impl<P: Port> Player<P> {
         let plant = self.rounds.plant();
         log.write_log(
             &mut self.text,
-            &self.names,
+            self.lines.names(),
             plant.log(),
             plant.told(),
             output,
