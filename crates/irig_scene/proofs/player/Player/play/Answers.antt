@@ -1,4 +1,5 @@
-use Rattle.std.proofs.Common.{◌∙◌, length}
+use Rattle.std.proofs.Common.{◌∙◌, ap, length, map}
+use Rattle.std.specs.Prelude.{string_bytes}
 use Rattle.std.proofs.lemmas.Result.{err_from_is_err_and}
 use Rattle.irig_plant.specs.Schedule.{log_of}
 use Rattle.irig_scene.specs.Rounds.{history_with_log, events_in}
@@ -17,7 +18,7 @@ returns-in_err-write_log-clause-plays g c =
     rw (p.1, p.2) (λ x at.
     let ran = round_ran c.args.log.shown x c.args.self.now c.args.round _ _ at c.in_ok-refusal.ensures.runs in
     let then = history_with_log c.args.log.shown x (events_in (second_in x.plan) c.args.round) in
-    lines_shown_in_part x _ _ _ _ _ _ _ at.names (c.log.ensures.entries then (rw c.plant-plant.ensures ran.stands)) (c.told.ensures.told then (rw c.plant-plant.ensures ran.stands)) c.in_err-write_log.ensures.wrote)
+    lines_shown_in_part x _ _ _ _ _ _ _ (ap (λ names. map string_bytes names.keys) c.names.ensures.names ∙ at.names) (c.log.ensures.entries then (rw c.plant-plant.ensures ran.stands)) (c.told.ensures.told then (rw c.plant-plant.ensures ran.stands)) c.in_err-write_log.ensures.wrote)
 
 pub returns-in-None-clause-plays : goal.returns-in-None-clause-plays
 returns-in-None-clause-plays g c = λ x at.
@@ -31,7 +32,7 @@ returns-in-None-clause-plays g c = λ x at.
         names = at.names;
         second = rw c.run.ensures.second at.second;
       };
-      grew = lines_shown x _ _ _ _ _ _ _ at.names (c.log.ensures.entries then (rw c.plant-plant.ensures ran.stands)) (c.told.ensures.told then (rw c.plant-plant.ensures ran.stands)) c.in_ok-write_log.ensures.wrote;
+      grew = lines_shown x _ _ _ _ _ _ _ (ap (λ names. map string_bytes names.keys) c.names.ensures.names ∙ at.names) (c.log.ensures.entries then (rw c.plant-plant.ensures ran.stands)) (c.told.ensures.told then (rw c.plant-plant.ensures ran.stands)) c.in_ok-write_log.ensures.wrote;
     }
 
 pub returns-in-Some-clause-plays : goal.returns-in-Some-clause-plays
@@ -46,5 +47,5 @@ returns-in-Some-clause-plays g c = λ x at.
         names = at.names;
         second = rw c.run.ensures.second at.second;
       };
-      grew = lines_shown x _ _ _ _ _ _ _ at.names (c.log.ensures.entries then (rw c.plant-plant.ensures ran.stands)) (c.told.ensures.told then (rw c.plant-plant.ensures ran.stands)) c.in_ok-write_log.ensures.wrote;
+      grew = lines_shown x _ _ _ _ _ _ _ (ap (λ names. map string_bytes names.keys) c.names.ensures.names ∙ at.names) (c.log.ensures.entries then (rw c.plant-plant.ensures ran.stands)) (c.told.ensures.told then (rw c.plant-plant.ensures ran.stands)) c.in_ok-write_log.ensures.wrote;
     }
