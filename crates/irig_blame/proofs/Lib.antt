@@ -4,9 +4,6 @@ pub mod CountLaws
 pub mod GrowLaws
 pub mod BookLaws
 pub mod ObserverLaws
-pub mod PlayedLaws
-pub mod LineLaws
-pub mod RestLaws
 pub mod RunLaws
 pub mod TruthLaws
 pub mod LongestLaws

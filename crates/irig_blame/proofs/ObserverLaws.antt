@@ -1,6 +1,6 @@
 -- What an observer does with an event that its plant has taken.
 use Rattle.std.proofs.Common.{◌≡◌, ℕ, ◌<◌, false, List, [], ◌∷◌, ◌++◌, length, Option, Some, None, Result, Ok, Err, refl, sym, ap, ◌∙◌, subst, arith}
-use Rattle.std.specs.Prelude.{OnOk, is_err, slice_index_or, vec_len}
+use Rattle.std.specs.Prelude.{All, OnOk, is_err, slice_index_or, vec_len}
 use Rattle.std.specs.Io.KnownBytes.{Appends}
 use Rattle.std.proofs.KnownBytes.{Appends-nil}
 use Rattle.irig_device.specs.Watched.{AppendsPart}
@@ -8,6 +8,7 @@ use Rattle.irig_log_text.specs.Text.{name_at, texts_of, audit_text}
 use Rattle.irig_plant.specs.declared.audit.Audit.{Audit}
 use Rattle.irig_plant.specs.declared.event.Event.{Event}
 use Rattle.irig_plant.specs.declared.event.Event.TheVariants.{GenEdge, Tick, Carry, Damage, Replay, Raw, Fault, Repair, Restart}
+use Rattle.irig_plant.specs.History.{HasPlantHistory}
 use Rattle.irig_plant.specs.Refusals.{refusal}
 use Rattle.irig_plant.specs.Schedule.{Setup, log_of}
 use Rattle.irig_scene.specs.declared.stop.Failure.{Failure}
@@ -20,10 +21,23 @@ use Rattle.irig_blame.specs.declared.tick.Tick.{Tick as TickOf}
 use Rattle.irig_blame.specs.Accounts.{account_of}
 use Rattle.irig_blame.specs.Books.{tick_of, account_at, IsBookOf}
 use Rattle.irig_blame.specs.BlameText.{ended_text, closing_in}
-use Rattle.irig_blame.specs.Blaming.{IsObserverAt, HasTaken, ToldTick}
+use Rattle.irig_blame.specs.Blaming.{history_of, IsObserverAt, HasTaken, ToldTick}
 use Rattle.irig_blame.specs.Text.{texts_below, ended_lines, open_lines, total_lines}
 use Rattle.irig_blame.proofs.GrowLaws.{text_then, texts_alike}
 use Rattle.irig_blame.proofs.BookLaws.{latest, the_tick, no_tick, known_reader}
+
+-- ---- a new plant
+
+pub begins_at : (o : Observer) (x : Scene) → x.events ≡ [] → HasPlantHistory o.plant (history_of 0 (scene x.plan [])) → texts_of o.names.keys ≡ x.plan.names
+    → vec_len o.book.accounts ≡ length x.plan.setup.readers → All (λ (a : Account). a ≡ account_of []) o.book.accounts.items → o.book.ports ≡ length x.plan.setup.generators
+    → IsObserverAt o x
+begins_at o x begun stands named count new ports = record {
+  gone = 0;
+  stands = subst (λ ev. HasPlantHistory o.plant (history_of 0 (scene x.plan ev))) (sym begun) stands;
+  named = named;
+  book = subst (λ ev. IsBookOf o.book x.plan.setup ev) (sym begun) (record { count = count; each = λ r d lt. new r d (omega (arith, lt, count, o.book.accounts.ok.0)) });
+  ports = ports;
+}
 
 -- ---- no tick
 

@@ -35,7 +35,7 @@ impl Book {
         ensures count { IfOk result (λ book. vec_len book.accounts ≡ readers) }
         ensures new { IfOk result (λ book. All (λ x. x ≡ account_of []) book.accounts.items) }
     {
-        let accounts = new_accounts(alloc, readers)?;
+        let accounts = vec![in alloc; Account::new(); readers]?;
         Ok(Book { accounts, ports })
     }
 
@@ -117,16 +117,4 @@ impl Book {
     {
         self.accounts.len() as u8
     }
-}
-
-fn new_accounts(alloc: Global, count: usize) -> Result<Vec<Account>, AllocError>
-    ensures count { IfOk result (λ accounts. vec_len accounts ≡ count) }
-    ensures new { IfOk result (λ accounts. All (λ x. x ≡ account_of []) accounts.items) }
-    ensures sound { IfOk result (λ accounts. All IsSoundAccount accounts.items) }
-{
-    let mut accounts = Vec::new(alloc);
-    for _ in 0..count {
-        accounts.push(Account::new())?;
-    }
-    Ok(accounts)
 }

@@ -3,11 +3,9 @@
 #![tactic(auto)]
 
 mod account;
-mod blamer;
 mod book;
 mod kind;
 mod laws;
-mod line;
 mod observer;
 mod run;
 mod stretch;

@@ -1,15 +1,14 @@
 //! A scenario from its first line to its last.
 
-ghost use Rattle.std.specs.Prelude.{◌≡◌, ◌↔◌, Err, None, false, true};
+ghost use Rattle.std.specs.Prelude.{◌≡◌, ◌↔◌, Err, false, true};
 ghost use Rattle.irig_device.specs.Watched.{has_failed};
 ghost use Rattle.irig_scene.specs.WholeRun.{left, written};
 ghost use Rattle.irig_blame.specs.Blaming.{RanBlame};
 
-use crate::blamer::Blamer;
-use crate::line::{run_last, run_line, stop};
-use irig_device::{LineEnd, Watched};
-use irig_faults::Refusal;
-use irig_scene::{RefusedLine, SceneFault, limit_of, read_line, too_long};
+use crate::observer::Observer;
+use irig_device::Watched;
+use irig_report::run_report;
+use irig_scene::{RefusedLine, SceneFault};
 use std::alloc::Global;
 use std::io::{BufRead, Write};
 
@@ -39,55 +38,5 @@ pub fn blame<R: BufRead, W: Write>(
     ensures read { (result ≡ Err SceneFault.Read) ↔ (has_failed input.new ≡ true) }
     ensures write { (result ≡ Err SceneFault.Write) ↔ (has_failed output.new ≡ true) }
 {
-    let mut line = Vec::new(alloc);
-    let mut blamer: Option<Blamer> = None;
-    let result = blame_lines(alloc, &mut line, &mut blamer, input, output);
-    if let Err(SceneFault::Refused { number, .. }) = result
-        && let Some(refusal) = Refusal::of_number(number)
-    {
-        *refused = Some(refused_line(alloc, refusal, line, blamer));
-    }
-    result
-}
-
-fn blame_lines<R: BufRead, W: Write>(
-    alloc: Global,
-    line: &mut Vec<u8>,
-    blamer: &mut Option<Blamer>,
-    input: &mut Watched<R>,
-    output: &mut Watched<W>,
-) -> Result<(), SceneFault>
-    requires none { blamer.old ≡ None }
-    requires input_whole { has_failed input.old ≡ false }
-    requires output_whole { has_failed output.old ≡ false }
-    ensures ran { RanBlame result (left R.remaining input.old)
-        (written W.contents output.old) (written W.contents output.new) }
-    ensures read { (result ≡ Err SceneFault.Read) ↔ (has_failed input.new ≡ true) }
-    ensures write { (result ≡ Err SceneFault.Write) ↔ (has_failed output.new ≡ true) }
-{
-    let mut number = 1;
-    loop {
-        match read_line(input, limit_of(number), line)? {
-            LineEnd::Newline => {
-                run_line(alloc, blamer, number, line, output)?;
-                number += 1;
-            }
-            LineEnd::TooLong => {
-                return Err(stop(alloc, blamer, number, too_long(number), output));
-            }
-            LineEnd::EndOfInput => return run_last(alloc, blamer, number, line, output),
-        }
-    }
-}
-
-fn refused_line(
-    alloc: Global,
-    refusal: Refusal,
-    line: Vec<u8>,
-    blamer: Option<Blamer>,
-) -> RefusedLine {
-    match blamer {
-        Some(blamer) => blamer.refused(alloc, refusal, line),
-        None => RefusedLine::before_plant(alloc, refusal, line),
-    }
+    run_report::<Observer, R, W>(alloc, input, output, refused)
 }

@@ -23,6 +23,8 @@ use Rattle.irig_command_line.specs.declared.request.NoRequest.{NoRequest}
 use Rattle.irig_command_line.specs.declared.request.NoRequest.TheVariants as none
 use Rattle.irig_commands.specs.declared.fault.Fault.{Fault}
 use Rattle.irig_commands.specs.declared.fault.Fault.TheVariants as fault
+use Rattle.irig_commands.specs.declared.reports.ReportKind.{ReportKind}
+use Rattle.irig_commands.specs.declared.reports.ReportKind.TheVariants as kind
 use Rattle.irig_commands.specs.Status.{answer_of, result_of, status_of_answer}
 
 -- what the program answers
@@ -65,23 +67,27 @@ pub record FlattensScene (answer : Answer) (input old new : Bytes) : Type 0 wher
   pub same_log : IfSome input (λ x. OfWritten old new (HasTheLog flat x))
   pub ran : RanFlat flat input old new
 
--- so what a file gives; or it can't be opened, or there is no memory for it
-abbrev pub FlattensFile : {F : Type 0} → (F → Bytes) → Answer → Bytes → Bytes → Type 0
-FlattensFile remaining answer old new =
-    ((input : Bytes) × AreOfFile remaining input × FlattensScene answer input old new)
-    ⊎ (((error : Error) × Refuses (fault.Open error) answer old new)
-    ⊎ Refuses fault.Memory answer old new)
-
 -- who lied in a scenario on the input was written
 pub record BlamesScene (answer : Answer) (input old new : Bytes) : Type 0 where
   pub blamed : Result (Unit {0}) SceneFault
   pub answered : answer ≡ answer_of blamed
   pub ran : RanBlame blamed input old new
 
+-- what was written is what readers hear, with the log of the scenario, or who lied
+abbrev pub IsReport : ReportKind → Result (Unit {0}) SceneFault → Bytes → Bytes → Bytes → Type 0
+IsReport kind.Heard r input old new =
+    IfSome input (λ x. OfWritten old new (HasTheLog r x)) × RanFlat r input old new
+IsReport kind.Blame r input old new = RanBlame r input old new
+
+-- so of a scenario on the input
+abbrev pub ReportsScene : ReportKind → Answer → Bytes → Bytes → Bytes → Type 0
+ReportsScene kind.Heard answer input old new = FlattensScene answer input old new
+ReportsScene kind.Blame answer input old new = BlamesScene answer input old new
+
 -- so of what a file gives; or it can't be opened, or there is no memory for it
-abbrev pub BlamesFile : {F : Type 0} → (F → Bytes) → Answer → Bytes → Bytes → Type 0
-BlamesFile remaining answer old new =
-    ((input : Bytes) × AreOfFile remaining input × BlamesScene answer input old new)
+abbrev pub ReportsFile : {F : Type 0} → (F → Bytes) → ReportKind → Answer → Bytes → Bytes → Type 0
+ReportsFile remaining kind answer old new =
+    ((input : Bytes) × AreOfFile remaining input × ReportsScene kind answer input old new)
     ⊎ (((error : Error) × Refuses (fault.Open error) answer old new)
     ⊎ Refuses fault.Memory answer old new)
 
@@ -141,9 +147,10 @@ Serves remaining (Run file all ports) answer input left old new =
     RunsFile remaining (shown all ports) answer old new
 Serves remaining FlattenInput answer input left old new = FlattensScene answer input old new
 Serves remaining (Flatten file) answer input left old new =
-    FlattensFile remaining answer old new
+    ReportsFile remaining kind.Heard answer old new
 Serves remaining BlameInput answer input left old new = BlamesScene answer input old new
-Serves remaining (Blame file) answer input left old new = BlamesFile remaining answer old new
+Serves remaining (Blame file) answer input left old new =
+    ReportsFile remaining kind.Blame answer old new
 Serves remaining (Frame time options) answer input left old new =
     ShowsFrame time.now options answer old new
 Serves remaining (Read frame rules) answer input left old new =

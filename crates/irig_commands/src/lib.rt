@@ -5,6 +5,7 @@
 mod explain;
 mod fault;
 mod program;
+mod reports;
 mod request;
 
 pub use fault::{Fault, report};

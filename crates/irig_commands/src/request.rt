@@ -7,10 +7,6 @@ ghost use Rattle.irig_device.specs.Watched.{device_of, has_failed};
 ghost use Rattle.irig_frame_text.specs.Frame.{IsFrameOptions};
 ghost use Rattle.irig_commands.specs.Serving.{
   AreOfFile,
-  BlamesFile,
-  BlamesScene,
-  FlattensFile,
-  FlattensScene,
   IsUnknownWord,
   RunsFile,
   RunsScene,
@@ -24,11 +20,10 @@ ghost use Rattle.irig_commands.specs.Serving.{
 
 use crate::explain::tell_refusal;
 use crate::fault::Fault;
-use irig_blame::blame;
+use crate::reports::{ReportKind, report_file, report_input};
 use irig_command_line::Request;
 use irig_device::Watched;
 use irig_explain::{explanation, why_no_word};
-use irig_flatten::flatten;
 use irig_frame_text::{FrameOptions, frame_lines, frame_text};
 use irig_scene::{Shown, run_scene_shown};
 use irig_time::Rules;
@@ -74,10 +69,10 @@ pub fn serve<'a, R: Files + Eprint + AllocGlobal, I: BufRead, O: Write>(
         Request::Plain => run_input(rt, input, output, NOTHING_MORE),
         Request::Input { all, ports } => run_input(rt, input, output, Shown { all, ports }),
         Request::Run { file, all, ports } => run_file(rt, file, Shown { all, ports }, output),
-        Request::FlattenInput => flatten_input(rt, input, output),
-        Request::Flatten { file } => flatten_file(rt, file, output),
-        Request::BlameInput => blame_input(rt, input, output),
-        Request::Blame { file } => blame_file(rt, file, output),
+        Request::FlattenInput => report_input(rt, ReportKind::Heard, input, output),
+        Request::Flatten { file } => report_file(rt, ReportKind::Heard, file, output),
+        Request::BlameInput => report_input(rt, ReportKind::Blame, input, output),
+        Request::Blame { file } => report_file(rt, ReportKind::Blame, file, output),
         Request::Frame { time, options } => show_frame(time, &options, output),
         Request::Read { frame, rules } => show_reading(rt.alloc(), frame, rules, output),
         Request::Explain { word } => show_meaning(rt.alloc(), word, output),
@@ -131,85 +126,11 @@ fn run_file<R: Files + Eprint + AllocGlobal, O: Write>(
     }
 }
 
-fn flatten_input<R: Eprint + AllocGlobal, I: BufRead, O: Write>(
-    rt: &R,
-    input: &mut Watched<I>,
-    output: &mut Watched<O>,
-) -> Result<(), Fault>
-    requires input_whole { has_failed input.old ≡ false }
-    requires output_whole { has_failed output.old ≡ false }
-    ensures flattened { FlattensScene result (I.remaining (device_of input.old))
-        (O.contents (device_of output.old)) (O.contents (device_of output.new)) }
-    ensures write { (result ≡ Err Fault.Write) ↔ (has_failed output.new ≡ true) }
-    ensures read { (result ≡ Err Fault.Read) ↔ (has_failed input.new ≡ true) }
-{
-    let mut refused = None;
-    match flatten(rt.alloc(), input, output, &mut refused) {
-        Ok(()) => Ok(()),
-        Err(fault) => {
-            tell_refusal(rt, fault, &refused);
-            Err(Fault::from(fault))
-        }
-    }
-}
-
-fn flatten_file<R: Files + Eprint + AllocGlobal, O: Write>(
+/// Opens a file to be read.
+pub(crate) fn open<R: Files + AllocGlobal>(
     rt: &R,
     path: &str,
-    output: &mut Watched<O>,
-) -> Result<(), Fault>
-    requires { has_failed output.old ≡ false }
-    ensures flattened { FlattensFile R.File.remaining result
-        (O.contents (device_of output.old)) (O.contents (device_of output.new)) }
-    ensures write { (result ≡ Err Fault.Write) ↔ (has_failed output.new ≡ true) }
-{
-    match open(rt, path) {
-        Ok(mut input) => flatten_input(rt, &mut input, output),
-        Err(error) if error.kind() == io::ErrorKind::OutOfMemory => Err(Fault::Memory),
-        Err(error) => Err(Fault::Open(error)),
-    }
-}
-
-fn blame_input<R: Eprint + AllocGlobal, I: BufRead, O: Write>(
-    rt: &R,
-    input: &mut Watched<I>,
-    output: &mut Watched<O>,
-) -> Result<(), Fault>
-    requires input_whole { has_failed input.old ≡ false }
-    requires output_whole { has_failed output.old ≡ false }
-    ensures blamed { BlamesScene result (I.remaining (device_of input.old))
-        (O.contents (device_of output.old)) (O.contents (device_of output.new)) }
-    ensures write { (result ≡ Err Fault.Write) ↔ (has_failed output.new ≡ true) }
-    ensures read { (result ≡ Err Fault.Read) ↔ (has_failed input.new ≡ true) }
-{
-    let mut refused = None;
-    match blame(rt.alloc(), input, output, &mut refused) {
-        Ok(()) => Ok(()),
-        Err(fault) => {
-            tell_refusal(rt, fault, &refused);
-            Err(Fault::from(fault))
-        }
-    }
-}
-
-fn blame_file<R: Files + Eprint + AllocGlobal, O: Write>(
-    rt: &R,
-    path: &str,
-    output: &mut Watched<O>,
-) -> Result<(), Fault>
-    requires { has_failed output.old ≡ false }
-    ensures blamed { BlamesFile R.File.remaining result
-        (O.contents (device_of output.old)) (O.contents (device_of output.new)) }
-    ensures write { (result ≡ Err Fault.Write) ↔ (has_failed output.new ≡ true) }
-{
-    match open(rt, path) {
-        Ok(mut input) => blame_input(rt, &mut input, output),
-        Err(error) if error.kind() == io::ErrorKind::OutOfMemory => Err(Fault::Memory),
-        Err(error) => Err(Fault::Open(error)),
-    }
-}
-
-fn open<R: Files + AllocGlobal>(rt: &R, path: &str) -> io::Result<Watched<BufReader<R::File>>>
+) -> io::Result<Watched<BufReader<R::File>>>
     ensures whole { IfOk result (λ input. has_failed input ≡ false) }
     ensures bytes { IfOk result (λ input. AreOfFile R.File.remaining
         (reader_remaining R.File.remaining (device_of input))) }

@@ -1,6 +1,3 @@
-pub mod PlayedLaws
-pub mod FlatLaws
-pub mod RestLaws
 pub mod RunLaws
 pub mod RecordingLaws
 pub mod WidthLaws

@@ -1,261 +1,86 @@
--- What the loop over the lines has done so far, and what each way out of it tells.
-use Rattle.std.proofs.Common.{◌≡◌, ℕ, ◌+◌, ◌<◌, ◌≤◌, Bool, true, false, not, cond, List, [], ◌∷◌, ◌++◌, length, All, Option, Some, None, Result, Ok, Err, refl, ap, sym, subst, ◌∙◌, append_assoc, append-nil, arith, rules, nat_lt}
-use Rattle.std.specs.Prelude.{IfSome, is_some, unwrap_or}
-use Rattle.std.specs.List.{find}
-use Rattle.std.specs.Io.KnownBytes.{Appends, Consumes}
-use Rattle.std.proofs.KnownBytes.{Consumes-trans, Consumes-nil}
-use Rattle.std.proofs.lemmas.List.Elements.{All-push}
+-- What the report writes is what readers hear, and has the log of the scenario.
+use Rattle.std.proofs.Common.{◌≡◌, ℕ, ◌≤◌, false, List, [], ◌∷◌, ◌++◌, length, Option, Some, None, Result, Ok, Err, refl, ap, sym, subst, ◌∙◌, append_assoc, append-nil}
+use Rattle.std.specs.Prelude.{IfSome, OnOk, is_err, option_map, option_to_list}
+use Rattle.std.specs.Io.KnownBytes.{Appends}
+use Rattle.std.proofs.KnownBytes.{Appends-trans}
 use Rattle.std.proofs.lemmas.Grind.{flat_map-append}
 use Rattle.std.proofs.lemmas.List.{append_cancel_left}
-use Rattle.irig_device.specs.declared.line.LineEnd.{LineEnd}
-use Rattle.irig_device.specs.declared.line.LineEnd.TheVariants.{Newline, EndOfInput, TooLong}
-use Rattle.irig_device.specs.Lines.{HasNoNewline, HasLength, spelling, GivesLine, GivesPart}
 use Rattle.irig_device.specs.Watched.{AppendsPart}
-use Rattle.irig_faults.specs.declared.refusal.Refusal.{Refusal}
-use Rattle.irig_faults.specs.declared.refusal.Refusal.TheVariants as refusal
-use Rattle.irig_scenario.specs.declared.event_line.Command.{Command}
-use Rattle.irig_scenario.specs.EventLine.{command_in_line}
-use Rattle.irig_scenario.specs.PlantLine.{Plan, plan_in_line}
+use Rattle.irig_log_text.specs.Text.{refusal_text}
+use Rattle.irig_plant.specs.declared.event.Event.{Event}
+use Rattle.irig_scenario.specs.PlantLine.{Plan}
 use Rattle.irig_scene.specs.declared.fault.SceneFault.{SceneFault}
 use Rattle.irig_scene.specs.declared.fault.SceneFault.TheVariants.{Refused, Read, Write, Memory}
-use Rattle.irig_scene.specs.Faults.{IsFaultOfReading}
-use Rattle.irig_scene.specs.LineRuns.{WroteRefusal, too_long}
-use Rattle.irig_scene.specs.Lines.{lines, unlines, is_blank, max_line, max_lines, limit_of}
+use Rattle.irig_scene.specs.declared.stop.Failure.{Failure}
+use Rattle.irig_scene.specs.Faults.{WroteText}
+use Rattle.irig_scene.specs.Lines.{lines, unlines, max_lines}
 use Rattle.irig_scene.specs.LogLines.{OfWritten}
-use Rattle.irig_scene.specs.Run.{AreBytesOf}
-use Rattle.irig_scene.specs.Scene.{Scene, Step, step_to, step_of_plan, step_of_command, step_of_line, step, Meaning, meaning, refusal_at, meaning_from, meaning_of, output_shown}
-use Rattle.irig_scene.proofs.LineLaws.{line_first, lines_after, one_line, Opens, opens}
-use Rattle.irig_scene.proofs.RunLaws.{known_rest, all_bytes, as_newline, stops_long}
-use Rattle.irig_scene.proofs.StepLaws.{meaning_goes, meaning_stops}
-use Rattle.irig_flatten.specs.declared.flattener.Flattener.{Flattener}
-use Rattle.irig_flatten.specs.FlatText.{first_of, flat_meaning, flat_text}
-use Rattle.irig_flatten.specs.Flattening.{IsAt, FlatMore, TookTo, IsFirst, RunsFlatLine, FlatRest, FlatRun, RanFlat, HasTheLog}
-use Rattle.irig_flatten.proofs.FlatLaws.{FlatFront, front_of_meaning, nothing_more, more_on}
-use Rattle.irig_flatten.proofs.RestLaws.{rest_on, refused_rest}
+use Rattle.irig_scene.specs.Scene.{Scene, Refused as RefusedLine, meaning, meaning_of, output_shown}
+use Rattle.irig_event_text.specs.EventText.{event_line}
+use Rattle.irig_report.specs.Texts.{first_of, said, meaning_text, report_text}
+use Rattle.irig_report.specs.Reports.{ReportRun, RanReport}
+use Rattle.irig_flatten.specs.Recording.{heard_of}
+use Rattle.irig_flatten.specs.FlatText.{heard_line, heard_lines, line_text, heard_text, flat_texts, flat_meaning, flat_text}
+use Rattle.irig_flatten.specs.Flattening.{FlatRun, RanFlat, HasTheLog}
 use Rattle.irig_flatten.proofs.TextLaws.{same_output}
 
--- ---- the first line that is not blank
+-- ---- what is written
 
-abbrev is_full : List ℕ → Bool
-is_full line = not (is_blank line)
+-- what holds of an answer that is no error
+pub unless_err : {A E : Type 0} {P : Type 0} (r : Result A E) → is_err r ≡ false → OnOk r P → P
+unless_err (Ok x) e h = h
+unless_err (Err x) e h = absurd cc
 
-abbrev first_in : List (List ℕ) → Option (List ℕ)
-first_in ls = find is_full ls
-
--- so far all lines are blank before there is a plant, and then one is not
-abbrev pub IsPlanted : Option Scene → List (List ℕ) → Type 0
-IsPlanted None past = first_in past ≡ None
-IsPlanted (Some x) past = is_some (first_in past) ≡ true
-
-find_past : (ls more : List (List ℕ)) → first_in ls ≡ None → first_in (ls ++ more) ≡ first_in more
-find_past [] more h = refl
-find_past (l ∷ ls) more h = elim (is_full l) as (λ b. cond b (Some l) (first_in ls) ≡ None → cond b (Some l) (first_in (ls ++ more)) ≡ first_in more) [
-  | true ↦ λ h. absurd cc
-  | false ↦ λ h. find_past ls more h
-] h
-
-find_within : (ls more : List (List ℕ)) → is_some (first_in ls) ≡ true → first_in (ls ++ more) ≡ first_in ls
-find_within [] more h = absurd cc
-find_within (l ∷ ls) more h = elim (is_full l) as (λ b. is_some (cond b (Some l) (first_in ls)) ≡ true → cond b (Some l) (first_in (ls ++ more)) ≡ cond b (Some l) (first_in ls)) [
-  | true ↦ λ h. refl
-  | false ↦ λ h. find_within ls more h
-] h
-
-full_first : (l : List ℕ) (ls : List (List ℕ)) → is_blank l ≡ false → first_in (l ∷ ls) ≡ Some l
-full_first l ls h = rw h refl
-
-blank_first : (l : List ℕ) → is_blank l ≡ true → first_in (l ∷ []) ≡ None
-blank_first l h = rw h refl
-
--- the next line, if it is the first
-pub first_is : (at : Option Scene) (past : List (List ℕ)) (l : List ℕ) (rest : List (List ℕ)) → IsPlanted at past → IsFirst at l (first_of (past ++ l ∷ rest))
-first_is (Some x) past l rest h = tt
-first_is None past l rest h = λ full. ap (λ o. unwrap_or o []) (find_past past (l ∷ rest) h ∙ full_first l rest full)
-
--- so of the last one, which may be empty
-first_last : (at : Option Scene) (past : List (List ℕ)) (l : List ℕ) → HasNoNewline l → IsPlanted at past → IsFirst at l (first_of (past ++ lines l))
-first_last (Some x) past l whole h = tt
-first_last None past [] whole h = λ full. absurd cc
-first_last None past (b ∷ bs) whole h =
-    subst (λ ls. IsFirst None (b ∷ bs) (first_of (past ++ ls))) (sym (one_line (b ∷ bs) whole (omega arith))) (first_is None past (b ∷ bs) [] h)
-
--- the text so far does not rest on later lines
-grew_to : (at : Option Scene) (past rest : List (List ℕ)) (old new : Option (List ℕ)) → IsPlanted at past → FlatMore (first_of past) None at old new → FlatMore (first_of (past ++ rest)) None at old new
-grew_to None past rest old new h grew = record { text = grew.text; more = grew.more; wrote = grew.wrote }
-grew_to (Some x) past rest old new h grew = subst (λ o. FlatMore (unwrap_or o []) None (Some x) old new) (sym (find_within past rest h)) grew
-
-stays_some : (past : List (List ℕ)) (l : List ℕ) → is_some (first_in past) ≡ true → is_some (first_in (past ++ l ∷ [])) ≡ true
-stays_some past l h = ap is_some (find_within past (l ∷ []) h) ∙ h
-
-commanded_some : (x : Scene) (past : List (List ℕ)) (l : List ℕ) (c : Result Command Refusal) → is_some (first_in past) ≡ true → IsPlanted (step_of_command x c).scene (past ++ l ∷ [])
-commanded_some x past l (Ok c) h = stays_some past l h
-commanded_some x past l (Err k) h = stays_some past l h
-
-planned_some : (past : List (List ℕ)) (l : List ℕ) (p : Result Plan Refusal) → first_in past ≡ None → is_blank l ≡ false → (step_of_plan p).refusal ≡ None → IsPlanted (step_of_plan p).scene (past ++ l ∷ [])
-planned_some past l (Ok plan) h full taken = ap is_some (find_past past (l ∷ []) h ∙ full_first l [] full)
-planned_some past l (Err k) h full taken = absurd cc
-
-planted_line : (at : Option Scene) (past : List (List ℕ)) (l : List ℕ) → IsPlanted at past → is_blank l ≡ false → (step_of_line at l).refusal ≡ None → IsPlanted (step_of_line at l).scene (past ++ l ∷ [])
-planted_line None past l h full taken = planned_some past l (plan_in_line l) h full taken
-planted_line (Some x) past l h full taken = commanded_some x past l (command_in_line x.plan.names l) h
-
-planted_blank : (at : Option Scene) (past : List (List ℕ)) (l : List ℕ) → IsPlanted at past → is_blank l ≡ true → IsPlanted at (past ++ l ∷ [])
-planted_blank None past l h blank = find_past past (l ∷ []) h ∙ blank_first l blank
-planted_blank (Some x) past l h blank = stays_some past l h
-
-planted_next : (n : ℕ) (at : Option Scene) (past : List (List ℕ)) (l : List ℕ) → IsPlanted at past → (step n at l).refusal ≡ None → IsPlanted (step n at l).scene (past ++ l ∷ [])
-unfolding step
-planted_next n at past l h taken = by_tests (nat_lt max_lines n) (nat_lt max_line (length l)) (is_blank l) refl taken
-  where
-    by_tests : (many long blank : Bool) → is_blank l ≡ blank
-        → (cond many (step_to at (Some refusal.TooManyLines)) (cond long (step_to at (Some refusal.TooLong)) (cond blank (step_to at None) (step_of_line at l)))).refusal ≡ None
-        → IsPlanted (cond many (step_to at (Some refusal.TooManyLines)) (cond long (step_to at (Some refusal.TooLong)) (cond blank (step_to at None) (step_of_line at l)))).scene (past ++ l ∷ [])
-    by_tests true long blank is taken = absurd cc
-    by_tests false true blank is taken = absurd cc
-    by_tests false false true is taken = planted_blank at past l h is
-    by_tests false false false is taken = planted_line at past l h is taken
-
--- ---- the loop
-
--- it stands before line n: these whole lines were played, and what readers heard was written
-pub record HasFlattened (f : Option Flattener) (in0 in1 out0 out1 : Option (List ℕ)) (n : ℕ) : Type 0 where
-  pub at : Option Scene
-  pub stands : IsAt f at
-  pub past : List (List ℕ)
-  pub whole : All HasNoNewline past
-  pub took : Consumes in0 in1 (unlines past)
-  pub means : (rest : List (List ℕ)) → meaning_from (past ++ rest) 1 None ≡ meaning_from rest n at
-  pub planted : IsPlanted at past
-  pub grew : FlatMore (first_of past) None at out0 out1
-
-pub has_begun : (in0 out0 : Option (List ℕ)) → HasFlattened None in0 in0 out0 out0 1
-has_begun in0 out0 = record {
-  at = None;
-  stands = tt;
-  past = [];
-  whole = search rules;
-  took = Consumes-nil in0;
-  means = λ rest. refl;
-  planted = refl;
-  grew = nothing_more [] None out0;
+pub line_part : (line : List ℕ) (old new : Option (List ℕ)) → AppendsPart old new line → AppendsPart old new (line ++ 10 ∷ [])
+line_part line old new h = record {
+  front = h.front;
+  rest = h.rest ++ 10 ∷ [];
+  whole = ap (λ l. l ++ 10 ∷ []) h.whole ∙ append_assoc h.front h.rest (10 ∷ []);
+  wrote = h.wrote;
 }
 
-pub line_done : (was is : Option Flattener) (in0 in1 in2 out0 out1 out2 : Option (List ℕ)) (n limit : ℕ) (l line : List ℕ) (end : LineEnd) (run : HasFlattened was in0 in1 out0 out1 n)
-    → GivesLine end limit line in1 in2 → end ≡ Newline → l ≡ line → RunsFlatLine was n l (Ok _) is out1 out2 → HasFlattened is in0 in2 out0 out2 (n + 1)
-line_done was is in0 in1 in2 out0 out1 out2 n limit l line end run got ends same runs =
-    let h : HasNoNewline l = subst HasNoNewline (sym same) got.whole in
-    let read : Consumes in1 in2 (l ++ 10 ∷ []) = subst (λ l. Consumes in1 in2 (l ++ 10 ∷ [])) (sym same) (as_newline end line in1 in2 ends got.taken) in
-    let first = first_of (run.past ++ l ∷ []) in
-    let took : TookTo (step n run.at l) first run.at is None out1 out2 = runs run.at first run.stands (first_is run.at run.past l [] run.planted) in
-    let grown : unlines (run.past ++ l ∷ []) ≡ unlines run.past ++ (l ++ 10 ∷ []) =
-    flat_map-append (λ l. l ++ 10 ∷ []) run.past (l ∷ []) ∙ ap (λ more. unlines run.past ++ more) (append-nil (l ++ 10 ∷ [])) in
-    record {
-      at = (step n run.at l).scene;
-      stands = took.stands;
-      past = run.past ++ l ∷ [];
-      whole = All-push HasNoNewline _ _ run.whole h;
-      took = subst (Consumes in0 in2) (sym grown) (Consumes-trans in0 in1 in2 _ _ run.took read);
-      means = λ rest. ap (λ ls. meaning_from ls 1 None) (append_assoc run.past (l ∷ []) rest) ∙ run.means (l ∷ rest) ∙ meaning_goes l rest n run.at took.refused;
-      planted = planted_next n run.at run.past l run.planted took.refused;
-      grew = more_on first None run.at (step n run.at l).scene out0 out1 out2 (grew_to run.at run.past (l ∷ []) out0 out1 run.planted run.grew) took.grew;
-    }
+pub then_newline : (r : Result (Unit {0}) Failure) (line : List ℕ) (o0 o1 o2 : Option (List ℕ)) → Appends o0 o1 line → WroteText r o1 o2 (10 ∷ []) → WroteText r o0 o2 (line ++ 10 ∷ [])
+then_newline (Ok done) line o0 o1 o2 h k = Appends-trans o0 o1 o2 _ _ h k
+then_newline (Err f) line o0 o1 o2 h k = record {
+  front = line ++ k.front;
+  rest = k.rest;
+  whole = ap (λ t. line ++ t) k.whole ∙ sym (append_assoc line k.front k.rest);
+  wrote = Appends-trans o0 o1 o2 _ _ h k.wrote;
+}
 
--- ---- the ways out
+-- ---- the report's text
 
-conclude : (r : Result (Unit {0}) SceneFault) (x first : List ℕ) (old new : Option (List ℕ)) → first ≡ first_of (lines x) → FlatRest r (meaning_of x) first None old new → FlatRun r x old new
-conclude (Ok done) x first old new e h = (h.0, subst (Appends old new) (sym (ap (λ f. flat_meaning f (meaning_of x)) (sym e) ∙ h.1.is)) h.1.wrote)
-conclude (Err (Refused line number)) x first old new e h = (h.0, subst (Appends old new) (sym (ap (λ f. flat_meaning f (meaning_of x)) (sym e) ∙ h.1.is)) h.1.wrote)
-conclude (Err Read) x first old new e h = absurd h
-conclude (Err Write) x first old new e h = subst (AppendsPart old new) (sym (ap (λ f. flat_meaning f (meaning_of x)) (sym e) ∙ h.is)) h.wrote
-conclude (Err Memory) x first old new e h = subst (AppendsPart old new) (sym (ap (λ f. flat_meaning f (meaning_of x)) (sym e) ∙ h.is)) h.wrote
+text_of_line : (names : List (List ℕ)) (o : Option Event) → unlines (option_to_list (option_map (event_line names) o)) ≡ line_text names o
+text_of_line names None = refl
+text_of_line names (Some e) = append-nil (event_line names e ++ 10 ∷ [])
 
-module _ (f : Option Flattener) (in0 in1 out0 out1 : Option (List ℕ)) (n : ℕ) (run : HasFlattened f in0 in1 out0 out1 n) where
-  -- the next line is the first, if none was yet
-  pub line_first_is : (l : List ℕ) → IsFirst run.at l (first_of (run.past ++ l ∷ []))
-  line_first_is l = first_is run.at run.past l [] run.planted
+all_said : (plan : Plan) (ev : List Event) → said flat_texts plan ev ≡ unlines (heard_lines plan.names plan.setup ev)
+all_said plan [] = refl
+all_said plan (e ∷ ev) =
+    let names = plan.names in
+    let s = plan.setup in
+    ap (λ t. t ++ heard_text names s e ev) (all_said plan ev) ∙ ap (λ t. unlines (heard_lines names s ev) ++ t) (sym (text_of_line names (heard_of s e ev)))
+    ∙ sym (flat_map-append (λ l. l ++ 10 ∷ []) (heard_lines names s ev) (option_to_list (heard_line names s e ev)))
 
-  pub last_first_is : (limit : ℕ) (l line : List ℕ) (end : LineEnd) (in2 : Option (List ℕ)) → GivesLine end limit line in1 in2 → l ≡ line → IsFirst run.at l (first_of (run.past ++ lines l))
-  last_first_is limit l line end in2 got same = first_last run.at run.past l (subst HasNoNewline (sym same) got.whole) run.planted
+same_meaning : (first : List ℕ) (at : Option Scene) (k : Option RefusedLine) → meaning_text flat_texts first (meaning at k) ≡ flat_meaning first (meaning at k)
+same_meaning first None None = refl
+same_meaning first None (Some k) = refl
+same_meaning first (Some x) None = ap (λ t. ((first ++ 10 ∷ []) ++ t) ++ []) (all_said x.plan x.events)
+same_meaning first (Some x) (Some k) = ap (λ t. ((first ++ 10 ∷ []) ++ t) ++ refusal_text k.line k.refusal) (all_said x.plan x.events)
 
-  -- the lines that are left mean what all of them mean
-  left_means : (y : List ℕ) → meaning_of (unlines run.past ++ y) ≡ meaning_from (lines y) n run.at
-  left_means y = ap (λ ls. meaning_from ls 1 None) (lines_after run.past y run.whole) ∙ run.means (lines y)
+same_text : (x : List ℕ) → report_text flat_texts x ≡ flat_text x
+same_text x = let m = meaning_of x in same_meaning (first_of (lines x)) m.scene m.refused
 
-  -- y is left
-  exit : (r : Result (Unit {0}) SceneFault) (out2 : Option (List ℕ)) (y : List ℕ) (ls : List (List ℕ)) → AreBytesOf in1 y → lines y ≡ ls
-      → FlatRest r (meaning_from ls n run.at) (first_of (run.past ++ ls)) run.at out1 out2 → RanFlat r in0 out0 out2
-  exit r out2 y ls of_y is tells =
-      let x = unlines run.past ++ y in
-      let first = first_of (run.past ++ ls) in
-      let here : FlatRest r (meaning_of x) first run.at out1 out2 = subst (λ (m : Meaning). FlatRest r m first run.at out1 out2) (sym (left_means y ∙ ap (λ ls. meaning_from ls n run.at) is)) tells in
-      record {
-        bytes = x;
-        of_input = all_bytes in0 in1 (unlines run.past) y run.took of_y;
-        ran = conclude r x first out0 out2 (ap first_of (sym (lines_after run.past y run.whole ∙ ap (λ ls. run.past ++ ls) is)))
-            (rest_on r (meaning_of x) first None run.at out0 out1 out2 (grew_to run.at run.past ls out0 out1 run.planted run.grew) here);
-      }
-
-  pub left_ended : (e : SceneFault) (is : Option Flattener) (in2 out2 : Option (List ℕ)) (limit : ℕ) (l line : List ℕ) (end : LineEnd)
-      → GivesLine end limit line in1 in2 → end ≡ Newline → l ≡ line → RunsFlatLine f n l (Err e) is out1 out2 → RanFlat (Err e) in0 out0 out2
-  left_ended e is in2 out2 limit l line end got ends same ended =
-      let h : HasNoNewline l = subst HasNoNewline (sym same) got.whole in
-      let read : Consumes in1 in2 (l ++ 10 ∷ []) = subst (λ l. Consumes in1 in2 (l ++ 10 ∷ [])) (sym same) (as_newline end line in1 in2 ends got.taken) in
-      let known = known_rest in1 in2 (l ++ 10 ∷ []) read in
-      let ls = lines known.0 in
-      exit (Err e) out2 ((l ++ 10 ∷ []) ++ known.0) (l ∷ ls) known.1 (line_first l known.0 h)
-      (ended run.at (first_of (run.past ++ l ∷ ls)) run.stands (first_is run.at run.past l ls run.planted) ls)
-
-  pub left_too_long : (e : SceneFault) (in2 out2 : Option (List ℕ)) (limit : ℕ) (line : List ℕ) (end : LineEnd) (k : Refusal)
-      → GivesLine end limit line in1 in2 → end ≡ TooLong → limit ≡ limit_of n → k ≡ too_long n → WroteRefusal e n k out1 out2 → RanFlat (Err e) in0 out0 out2
-  left_too_long e in2 out2 limit line end k got ends limited is tells =
-      let beyond : length line ≡ limit + 1 = subst (λ end. HasLength end limit line) ends got.has_length in
-      let long : limit_of n < length line = omega (arith, beyond, limited) in
-      let read : Consumes in1 in2 line = subst (λ end. Consumes in1 in2 (spelling end line)) ends got.taken in
-      let known = known_rest in1 in2 line read in
-      let y = line ++ known.0 in
-      let first : Opens y line = opens line known.0 y got.whole (omega (arith, beyond)) refl in
-      let l = line ++ first.more in
-      let stop : step n run.at l ≡ step_to run.at (Some k) = stops_long n run.at line first.more long ∙ ap (λ k. step_to run.at (Some k)) (sym is) in
-      let means : meaning_from (l ∷ first.others) n run.at ≡ meaning run.at (Some (refusal_at n k)) =
-      meaning_stops l first.others n run.at k (ap (λ (s : Step). s.refusal) stop) ∙ ap (λ (s : Step). meaning s.scene (Some (refusal_at n k))) stop in
-      exit (Err e) out2 y (l ∷ first.others) known.1 first.is
-      (refused_rest e (first_of (run.past ++ l ∷ first.others)) run.at (meaning_from (l ∷ first.others) n run.at) n k out1 out2 means tells)
-
-  ended_bytes : (l line : List ℕ) → l ≡ line → IfSome in1 (λ left. left ≡ line) → AreBytesOf in1 l
-  ended_bytes l line same at_end = elim in1 as (λ in1. IfSome in1 (λ left. left ≡ line) → AreBytesOf in1 l) [
-    | None ↦ λ at_end. tt
-    | Some left ↦ λ at_end. same ∙ sym at_end
-  ] at_end
-
-  pub left_last : (r : Result (Unit {0}) SceneFault) (in2 out2 : Option (List ℕ)) (limit : ℕ) (l line : List ℕ) (end : LineEnd)
-      → GivesLine end limit line in1 in2 → end ≡ EndOfInput → l ≡ line
-      → ((at : Option Scene) (first : List ℕ) → IsAt f at → IsFirst at l first → FlatRest r (meaning_from (lines l) n at) first at out1 out2) → RanFlat r in0 out0 out2
-  left_last r in2 out2 limit l line end got ends same tells =
-      let first = first_of (run.past ++ lines l) in
-      exit r out2 l (lines l) (ended_bytes l line same (got.at_end ends)) refl
-      (tells run.at first run.stands (first_last run.at run.past l (subst HasNoNewline (sym same) got.whole) run.planted))
-
-  -- ---- a failed read
-
-  pub left_read : (e : SceneFault) (in2 : Option (List ℕ)) → IsFaultOfReading e → GivesPart in1 in2 → RanFlat (Err e) in0 out0 out1
-  left_read e in2 kind got =
-      let known = known_rest in1 in2 got.part got.taken in
-      let y = got.part ++ known.0 in
-      let x = unlines run.past ++ y in
-      let first = first_of (lines x) in
-      let grew : FlatMore first None run.at out0 out1 = subst (λ ls. FlatMore (first_of ls) None run.at out0 out1) (sym (lines_after run.past y run.whole)) (grew_to run.at run.past (lines y) out0 out1 run.planted run.grew) in
-      let front : FlatFront first run.at (flat_text x) = subst (λ (m : Meaning). FlatFront first run.at (flat_meaning first m)) (sym (left_means y)) (front_of_meaning first (lines y) n run.at) in
-      record {
-        bytes = x;
-        of_input = all_bytes in0 in1 (unlines run.past) y run.took known.1;
-        ran = of_kind e kind x (record { front = grew.text; rest = front.rest; whole = front.is ∙ ap (λ t. t ++ front.rest) grew.more; wrote = grew.wrote });
-      }
-    where
-      of_kind : (e : SceneFault) → IsFaultOfReading e → (x : List ℕ) → AppendsPart out0 out1 (flat_text x) → FlatRun (Err e) x out0 out1
-      of_kind (Refused line number) kind x part = absurd kind
-      of_kind Read kind x part = part
-      of_kind Write kind x part = absurd kind
-      of_kind Memory kind x part = part
+-- a report of what readers hear is that
+pub ran_flat : (r : Result (Unit {0}) SceneFault) (was old new : Option (List ℕ)) → RanReport flat_texts r was old new → RanFlat r was old new
+ran_flat r was old new ran = record { bytes = ran.bytes; of_input = ran.of_input; ran = of_run r ran.ran }
+  where
+    of_run : (r : Result (Unit {0}) SceneFault) → ReportRun flat_texts r ran.bytes old new → FlatRun r ran.bytes old new
+    of_run (Ok done) h = (h.0, subst (Appends old new) (same_text ran.bytes) h.1)
+    of_run (Err (Refused line number)) h = (h.0, subst (Appends old new) (same_text ran.bytes) h.1)
+    of_run (Err Read) h = subst (AppendsPart old new) (same_text ran.bytes) h
+    of_run (Err Write) h = subst (AppendsPart old new) (same_text ran.bytes) h
+    of_run (Err Memory) h = subst (AppendsPart old new) (same_text ran.bytes) h
 
 -- ---- what was written has the log
 

@@ -1,13 +1,13 @@
 -- A scenario written out as what its readers hear: its plant line as it stands, and lines of
 -- pulses, ticks and restarts alone.
 -- Source: docs/SCENARIOS.md.
-use Rattle.std.specs.Prelude.{ℕ, List, [], ◌∷◌, ◌++◌, not, option_to_list, unwrap_or, option_map, Option, Some, None}
-use Rattle.std.specs.List.{find}
+use Rattle.std.specs.Prelude.{ℕ, List, [], ◌∷◌, ◌++◌, option_to_list, option_map, Option, Some, None}
 use Rattle.irig_plant.specs.declared.event.Event.{Event}
 use Rattle.irig_plant.specs.Schedule.{Setup}
 use Rattle.irig_event_text.specs.EventText.{event_line}
 use Rattle.irig_log_text.specs.Text.{refusal_text}
-use Rattle.irig_scene.specs.Lines.{lines, unlines, is_blank}
+use Rattle.irig_report.specs.Texts.{Texts, first_of}
+use Rattle.irig_scene.specs.Lines.{lines, unlines}
 use Rattle.irig_scene.specs.Scene.{Scene, Refused, Meaning, meaning_of}
 use Rattle.irig_flatten.specs.Recording.{heard_of}
 
@@ -19,10 +19,6 @@ heard_line names s e ev = option_map (event_line names) (heard_of s e ev)
 abbrev pub heard_lines : List (List ℕ) → Setup → List Event → List (List ℕ)
 heard_lines names s [] = []
 heard_lines names s (e ∷ ev) = heard_lines names s ev ++ option_to_list (heard_line names s e ev)
-
--- the first line that is not blank: the plant line
-abbrev pub first_of : List (List ℕ) → List ℕ
-first_of ls = unwrap_or (find (λ line. not (is_blank line)) ls) []
 
 -- the plant line, and what readers heard since; nothing before there is a plant
 abbrev pub flat_lines : List ℕ → Option Scene → List (List ℕ)
@@ -45,3 +41,23 @@ flat_meaning first m = flat_of first m.scene ++ refused_text m.refused
 -- all that is written for the bytes x
 abbrev pub flat_text : List ℕ → List ℕ
 flat_text x = flat_meaning (first_of (lines x)) (meaning_of x)
+
+-- ---- the report of that
+
+-- the line of pulses, a tick or a restart with its newline, or nothing
+abbrev pub line_text : List (List ℕ) → Option Event → List ℕ
+line_text names None = []
+line_text names (Some e) = event_line names e ++ 10 ∷ []
+
+-- what readers hear of an event that comes after ev
+abbrev pub heard_text : List (List ℕ) → Setup → Event → List Event → List ℕ
+heard_text names s e ev = line_text names (heard_of s e ev)
+
+-- the plant line as it stands, what readers hear of each event, and nothing at the end
+abbrev pub flat_texts : Texts
+flat_texts = record {
+  first = λ line. line ++ 10 ∷ [];
+  event = λ plan e ev. heard_text plan.names plan.setup e ev;
+  closing = λ x. [];
+  end = λ x. [];
+}

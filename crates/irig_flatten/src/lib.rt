@@ -5,9 +5,7 @@
 //! to a device, or changed by hand. The log of what is written is the log of the scenario.
 #![tactic(auto)]
 
-mod flattener;
 mod laws;
-mod line;
 mod record;
 mod run;
 

@@ -1,64 +1,95 @@
 //! Events that are played, and what readers hear of them.
 
-ghost use Rattle.std.specs.Prelude.{◌≡◌, ◌++◌, ◌∷◌, [], None, OnOk, string_bytes, ◌||◌};
+ghost use Rattle.std.specs.Prelude.{◌≡◌, ◌≤◌, ◌++◌, ◌∷◌, [], None, OnOk, length, string_bytes, ◌||◌};
 ghost use Rattle.irig_device.specs.Watched.{device_of, has_failed};
 ghost use Rattle.irig_log_text.specs.Text.{texts_of};
 ghost use Rattle.irig_plant.specs.History.{ForHistory};
 ghost use Rattle.irig_plant.specs.Refusals.{refusal};
-ghost use Rattle.irig_scene.specs.Faults.{stopped_write};
-ghost use Rattle.irig_flatten.specs.Flattening.{heard_text, line_text, Records};
+ghost use Rattle.irig_flatten.specs.FlatText.{heard_text, line_text};
 ghost use Rattle.irig_flatten.specs.Recording.{pulses_at};
 
 use indexmap::IndexSet;
 use irig_device::Watched;
 use irig_event_text::{push_pulses, push_restart, push_tick};
+use irig_faults::Refusal;
 use irig_plant::{Event, Plant};
 use irig_port::FlowPort;
-use irig_scene::{Failure, Stop, refusal_as, write_text};
-use std::alloc::AllocError;
+use irig_report::Report;
+use irig_scene::{Failure, RefusedLine, Stop, refusal_as, write_text};
+use std::alloc::{AllocError, Global};
 use std::io::Write;
 
-/// Plays events up to the first that is refused, and writes what readers hear of each.
-pub(crate) fn record_events<W: Write>(
-    plant: &mut Plant<FlowPort>,
-    names: &IndexSet<String>,
-    text: &mut String,
-    events: &[Event],
-    output: &mut Watched<W>,
-) -> Result<(), Stop>
-    ensures records { Records (texts_of names.now.keys) plant.old events.now result plant.new
-        (W.contents (device_of output.old)) (W.contents (device_of output.new)) }
-    ensures note { has_failed output.new ≡ (has_failed output.old || stopped_write result) }
-{
-    for event in events {
-        record_event(plant, names, text, event, output)?;
-    }
-    Ok(())
+/// A plant, its readers' names, and memory for a line.
+#[derive(Drop)]
+pub(crate) struct Recorder {
+    plant: Plant<FlowPort>,
+    names: IndexSet<String>,
+    text: String,
+    ghost few: { length names.keys ≤ 16 },
 }
 
-/// Plays an event, and writes what readers hear of it, unless it is refused.
-pub(crate) fn record_event<W: Write>(
-    plant: &mut Plant<FlowPort>,
-    names: &IndexSet<String>,
-    text: &mut String,
-    event: &Event,
-    output: &mut Watched<W>,
-) -> Result<(), Stop>
-    ensures records { Records (texts_of names.now.keys) plant.old (event.now ∷ []) result plant.new
-        (W.contents (device_of output.old)) (W.contents (device_of output.new)) }
-    ensures note { has_failed output.new ≡ (has_failed output.old || stopped_write result) }
-{
-    text.clear();
-    if push_heard(text, names, plant, event).is_err() {
-        return Err(Stop::Failed(Failure::Memory));
+impl Report for Recorder {
+    ghost use Rattle.irig_flatten.specs.FlatText.{flat_texts};
+    ghost use Rattle.irig_flatten.specs.Flattening.{IsRecorderAt};
+
+    ghost texts = { flat_texts };
+
+    ghost stands_for = { IsRecorderAt };
+
+    fn of_plant(
+        alloc: Global,
+        plant: Plant<FlowPort>,
+        names: IndexSet<String>,
+        _ports: u8,
+    ) -> Result<Recorder, AllocError> {
+        Ok(Recorder {
+            plant,
+            names,
+            text: String::new(alloc),
+        })
     }
-    plant.clear_log();
-    match plant.apply(event) {
-        Ok(()) => Ok(write_text(output, text.as_str())?),
-        Err(fault) => match refusal_as(fault) {
-            Some(refusal) => Err(Stop::Refused(refusal)),
-            None => Err(Stop::Failed(Failure::Memory)),
-        },
+
+    fn write_first<W: Write>(line: &[u8], output: &mut Watched<W>) -> Result<(), Failure> {
+        match output.write_all(line) {
+            Ok(()) => write_text(output, "\n"),
+            Err(_) => Err(Failure::Write),
+        }
+    }
+
+    fn play<W: Write>(&mut self, event: &Event, output: &mut Watched<W>) -> Result<(), Stop> {
+        self.text.clear();
+        if push_heard(&mut self.text, &self.names, &self.plant, event).is_err() {
+            return Err(Stop::Failed(Failure::Memory));
+        }
+        self.plant.clear_log();
+        match self.plant.apply(event) {
+            Ok(()) => Ok(write_text(output, self.text.as_str())?),
+            Err(fault) => match refusal_as(fault) {
+                Some(refusal) => Err(Stop::Refused(refusal)),
+                None => Err(Stop::Failed(Failure::Memory)),
+            },
+        }
+    }
+
+    fn write_closing<W: Write>(
+        &self,
+        _alloc: Global,
+        _output: &mut Watched<W>,
+    ) -> Result<(), Failure> {
+        Ok(())
+    }
+
+    fn write_end<W: Write>(&self, _alloc: Global, _output: &mut Watched<W>) -> Result<(), Failure> {
+        Ok(())
+    }
+
+    fn names(&self) -> &IndexSet<String> {
+        &self.names
+    }
+
+    fn refused(self, alloc: Global, refusal: Refusal, line: Vec<u8>) -> RefusedLine {
+        let Recorder { plant, names, .. } = self;
+        RefusedLine::of_plant(alloc, refusal, line, names, plant.generators())
     }
 }
 

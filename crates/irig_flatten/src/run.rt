@@ -1,16 +1,15 @@
 //! A scenario from its first line to its last.
 
-ghost use Rattle.std.specs.Prelude.{◌≡◌, ◌↔◌, Err, None, IfSome, false, true};
+ghost use Rattle.std.specs.Prelude.{◌≡◌, ◌↔◌, Err, IfSome, false, true};
 ghost use Rattle.irig_device.specs.Watched.{has_failed};
 ghost use Rattle.irig_scene.specs.LogLines.{OfWritten};
 ghost use Rattle.irig_scene.specs.WholeRun.{left, written};
 ghost use Rattle.irig_flatten.specs.Flattening.{HasTheLog, RanFlat};
 
-use crate::flattener::Flattener;
-use crate::line::{run_last, run_line};
-use irig_device::{LineEnd, Watched};
-use irig_faults::Refusal;
-use irig_scene::{RefusedLine, SceneFault, limit_of, read_line, refuse, too_long};
+use crate::record::Recorder;
+use irig_device::Watched;
+use irig_report::run_report;
+use irig_scene::{RefusedLine, SceneFault};
 use std::alloc::Global;
 use std::io::{BufRead, Write};
 
@@ -38,53 +37,5 @@ pub fn flatten<R: BufRead, W: Write>(
     ensures read { (result ≡ Err SceneFault.Read) ↔ (has_failed input.new ≡ true) }
     ensures write { (result ≡ Err SceneFault.Write) ↔ (has_failed output.new ≡ true) }
 {
-    let mut line = Vec::new(alloc);
-    let mut flattener: Option<Flattener> = None;
-    let result = flatten_lines(alloc, &mut line, &mut flattener, input, output);
-    if let Err(SceneFault::Refused { number, .. }) = result
-        && let Some(refusal) = Refusal::of_number(number)
-    {
-        *refused = Some(refused_line(alloc, refusal, line, flattener));
-    }
-    result
-}
-
-fn flatten_lines<R: BufRead, W: Write>(
-    alloc: Global,
-    line: &mut Vec<u8>,
-    flattener: &mut Option<Flattener>,
-    input: &mut Watched<R>,
-    output: &mut Watched<W>,
-) -> Result<(), SceneFault>
-    requires none { flattener.old ≡ None }
-    requires input_whole { has_failed input.old ≡ false }
-    requires output_whole { has_failed output.old ≡ false }
-    ensures ran { RanFlat result (left R.remaining input.old)
-        (written W.contents output.old) (written W.contents output.new) }
-    ensures read { (result ≡ Err SceneFault.Read) ↔ (has_failed input.new ≡ true) }
-    ensures write { (result ≡ Err SceneFault.Write) ↔ (has_failed output.new ≡ true) }
-{
-    let mut number = 1;
-    loop {
-        match read_line(input, limit_of(number), line)? {
-            LineEnd::Newline => {
-                run_line(alloc, flattener, number, line, output)?;
-                number += 1;
-            }
-            LineEnd::TooLong => return Err(refuse(alloc, number, too_long(number), output)),
-            LineEnd::EndOfInput => return run_last(alloc, flattener, number, line, output),
-        }
-    }
-}
-
-fn refused_line(
-    alloc: Global,
-    refusal: Refusal,
-    line: Vec<u8>,
-    flattener: Option<Flattener>,
-) -> RefusedLine {
-    match flattener {
-        Some(flattener) => flattener.refused(alloc, refusal, line),
-        None => RefusedLine::before_plant(alloc, refusal, line),
-    }
+    run_report::<Recorder, R, W>(alloc, input, output, refused)
 }

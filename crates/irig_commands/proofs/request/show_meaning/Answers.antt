@@ -1,4 +1,4 @@
-use Rattle.std.proofs.Common.{◌≡◌, false, true, inr, subst}
+use Rattle.std.proofs.Common.{◌≡◌, false, subst}
 use Rattle.irig_device.specs.Watched.{has_failed}
 use Rattle.irig_commands.specs.declared.fault.Fault.TheVariants.{BadTime, BadFrameText, Write}
 use Rattle.irig_commands.specs.Serving.{IsUnknownWord}

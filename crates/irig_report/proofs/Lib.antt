@@ -1,0 +1,4 @@
+pub mod PlayedLaws
+pub mod LineLaws
+pub mod RestLaws
+pub mod RunLaws

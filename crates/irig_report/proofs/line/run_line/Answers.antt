@@ -1,0 +1,10 @@
+use Rattle.irig_report.proofs.RestLaws.{line_stops, line_fails}
+use Rattle.irig_report.proofs.line.run_line.Goals as goal
+
+pub returns-in-Err-Refused-clause-runs : goal.returns-in-Err-Refused-clause-runs
+returns-in-Err-Refused-clause-runs g c = λ at first stands here.
+    line_stops g.T.Report.stands_for g.T.Report.texts _ _ _ _ first at _ _ _ _ _ c.in-Err-Refused.field-0-is (c.in-Err-Refused.ensures.takes at first stands here) c.stop.ensures.wrote
+
+pub returns-in-Err-Failed-clause-runs : goal.returns-in-Err-Failed-clause-runs
+returns-in-Err-Failed-clause-runs g c =
+    rw c.from.ensures (λ at first stands here. line_fails g.T.Report.stands_for g.T.Report.texts _ _ _ _ first at _ _ _ c.in-Err-Failed.field-0-is (c.in-Err-Failed.ensures.takes at first stands here))

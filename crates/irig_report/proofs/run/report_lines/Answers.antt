@@ -1,0 +1,69 @@
+use Rattle.std.proofs.Common.{rules, arith, [], None}
+use Rattle.std.proofs.lemmas.Result.{err_from_is_err_and}
+use Rattle.std.proofs.lemmas.Grind.{common_steps}
+use Rattle.irig_report.proofs.RestLaws.{no_read_failed}
+use Rattle.irig_report.proofs.RunLaws.{has_begun, line_done, line_first_is, left_read, left_ended, left_too_long, left_last, last_first_is}
+use Rattle.irig_report.proofs.run.report_lines.Goals as goal
+
+pub loop-reporter-init : goal.loop-reporter-init
+loop-reporter-init g c = (omega arith, omega arith, c.requires.output_whole, c.requires.input_whole, rw c.requires.none (has_begun g.T.Report.stands_for g.T.Report.texts _ _))
+
+pub returns-in_err-read_line-clause-ran : goal.returns-in_err-read_line-clause-ran
+returns-in_err-read_line-clause-ran g c =
+    let p = err_from_is_err_and c.from_residual.result c.from_residual.ensures.1 in
+    rw (p.1, p.2) (left_read g.T.Report.stands_for g.T.Report.texts _ _ _ _ _ _ c.loop-reporter.invariant.4 _ _ c.in_err-read_line.ensures.fault c.in_err-read_line.ensures.part)
+
+pub returns-in_err-run_line-in-Newline-clause-ran : goal.returns-in_err-run_line-in-Newline-clause-ran
+returns-in_err-run_line-in-Newline-clause-ran g c =
+    let p = err_from_is_err_and c.from_residual-in_err-run_line-in-Newline.result c.from_residual-in_err-run_line-in-Newline.ensures.1 in
+    rw (p.1, p.2) (left_ended g.T.Report.stands_for g.T.Report.texts _ _ _ _ _ _ c.loop-reporter.invariant.4 _ None _ _ _ _ _ _ c.in_ok-read_line.ensures.line c.in-Newline.is c.deref.ensures.value
+    c.in_err-run_line-in-Newline.ensures.runs)
+
+pub loop-reporter-preserved : goal.loop-reporter-preserved
+loop-reporter-preserved g c = (
+  omega arith,
+  search rules,
+  search rules,
+  search rules,
+  line_done g.T.Report.stands_for g.T.Report.texts _ _ _ _ _ _ _ _ _ _ _ _ _ c.loop-reporter.invariant.4 c.in_ok-read_line.ensures.line c.in-Newline.is c.deref.ensures.value
+      c.in_ok-run_line-in-Newline.ensures.runs,
+)
+
+pub returns-in-TooLong-clause-ran : goal.returns-in-TooLong-clause-ran
+returns-in-TooLong-clause-ran g c =
+    left_too_long g.T.Report.stands_for g.T.Report.texts _ _ _ _ _ _ c.loop-reporter.invariant.4 _ _ _ _ _ _ _ c.in_ok-read_line.ensures.line c.in-TooLong.is c.limit_of.ensures
+    c.too_long.ensures c.stop.ensures.wrote
+
+pub returns-in-EndOfInput-clause-ran : goal.returns-in-EndOfInput-clause-ran
+returns-in-EndOfInput-clause-ran g c =
+    left_last g.T.Report.stands_for g.T.Report.texts _ _ _ _ _ _ c.loop-reporter.invariant.4 _ _ _ _ _ _ _ c.in_ok-read_line.ensures.line c.in-EndOfInput.is c.deref-in-EndOfInput.ensures.value
+    c.run_last.ensures.runs
+
+pub returns-in-TooLong-clause-read : goal.returns-in-TooLong-clause-read
+returns-in-TooLong-clause-read g c = grind (arith, common_steps)
+
+pub returns-in-TooLong-clause-write : goal.returns-in-TooLong-clause-write
+returns-in-TooLong-clause-write g c = grind (arith, common_steps)
+
+pub returns-in-EndOfInput-clause-read : goal.returns-in-EndOfInput-clause-read
+returns-in-EndOfInput-clause-read g c =
+    let run = c.loop-reporter.invariant.4 in
+    no_read_failed g.T.Report.texts _ _ _ run.at _ _ _ (c.run_last.ensures.runs run.at _ run.stands (last_first_is g.T.Report.stands_for g.T.Report.texts _ _ _ _ _ _ run _ _ _ _ _ c.in_ok-read_line.ensures.line c.deref-in-EndOfInput.ensures.value)) (search rules)
+
+pub returns-in-EndOfInput-clause-write : goal.returns-in-EndOfInput-clause-write
+returns-in-EndOfInput-clause-write g c = grind (arith, common_steps)
+
+pub returns-in_err-read_line-clause-read : goal.returns-in_err-read_line-clause-read
+returns-in_err-read_line-clause-read g c = grind (arith, common_steps)
+
+pub returns-in_err-read_line-clause-write : goal.returns-in_err-read_line-clause-write
+returns-in_err-read_line-clause-write g c = grind (arith, common_steps)
+
+pub returns-in_err-run_line-in-Newline-clause-read : goal.returns-in_err-run_line-in-Newline-clause-read
+returns-in_err-run_line-in-Newline-clause-read g c =
+    let p = err_from_is_err_and c.from_residual-in_err-run_line-in-Newline.result c.from_residual-in_err-run_line-in-Newline.ensures.1 in
+    let run = c.loop-reporter.invariant.4 in
+    rw (p.1, p.2) (no_read_failed g.T.Report.texts _ _ _ run.at _ _ _ (c.in_err-run_line-in-Newline.ensures.runs run.at _ run.stands (line_first_is g.T.Report.stands_for g.T.Report.texts _ _ _ _ _ _ run _) []) (search rules))
+
+pub returns-in_err-run_line-in-Newline-clause-write : goal.returns-in_err-run_line-in-Newline-clause-write
+returns-in_err-run_line-in-Newline-clause-write g c = grind (arith, common_steps)
