@@ -1,11 +1,11 @@
 -- What the entries of lines count: the ticks of a reader among the events that are played.
-use Rattle.std.proofs.Common.{◌≡◌, ◌≢◌, ℕ, zero, suc, ◌+◌, ◌<◌, ◌≤◌, ◌==◌, ◌||◌, Bool, true, false, cond, List, [], ◌∷◌, ◌++◌, length, map, take, Option, Some, None, Result, Ok, Err, refl, ap, sym, subst, ◌∙◌, arith, rules, codes, append_assoc, append-nil, length-append, drop, slice_index}
+use Rattle.std.proofs.Common.{All, ◌≡◌, ◌≢◌, ℕ, zero, suc, ◌+◌, ◌<◌, ◌≤◌, ◌==◌, ◌||◌, Bool, true, false, cond, List, [], ◌∷◌, ◌++◌, length, map, take, Option, Some, None, Result, Ok, Err, refl, ap, sym, subst, ◌∙◌, arith, rules, codes, append_assoc, append-nil, length-append, drop, slice_index}
 use Rattle.std.specs.Prelude.{option_and_then, sum_by, nat_lt, IsSome}
 use Rattle.std.specs.List.{flat_map, range_with_len, position}
 use Rattle.std.specs.Str.{bytes_eq}
 use Rattle.std.proofs.lemmas.Bool.{eqb-true, eq-eqb, false≢true, false_from_ne_true}
 use Rattle.std.proofs.lemmas.List.Quantifiers.{position-Some}
-use Rattle.std.proofs.lemmas.List.Elements.{All-from_get_or}
+use Rattle.std.proofs.lemmas.List.Elements.{All-from_get_or, All-from_recursion, All-push}
 use Rattle.memchr.specs.Find.{Nowhere, Passes, is_byte}
 use Rattle.std.proofs.lemmas.List.{get_or-take, length-take, take-append-le, take-append-drop}
 use Rattle.std.proofs.Math.Seq.{drop-cons}
@@ -41,7 +41,8 @@ use Rattle.irig_scene.specs.Lines.{lines, is_blank, max_line, max_lines}
 use Rattle.irig_scene.specs.LineRuns.{too_long}
 use Rattle.irig_scene.specs.Scene.{Scene, scene, Play, play, unless_refused, refusal_as, events_of, Step, step, step_to, step_of_plan, step_of_command, Meaning, meaning, refusal_at, unless_stopped, meaning_from}
 use Rattle.irig_scene_c.specs.declared.edges.IrigEdges.{IrigEdges}
-use Rattle.irig_scene_c.specs.Edges.{edges, each_reader, no_edges, edges_of, edges_if_taken, is_beyond, Names, names_in_line, LineEdges, line_with, line_after, ends_after, edges_in_line, edges_from, line_edges, edges_at, TellsTicks, CountsTicks}
+use Rattle.irig_scene_c.specs.declared.edges.ReadLine.{ReadLine}
+use Rattle.irig_scene_c.specs.Edges.{edges, each_reader, no_edges, edges_of, edges_if_taken, is_beyond, Names, names_in_line, LineEdges, line_with, line_after, ends_after, edges_in_line, edges_from, line_edges, edges_at, TellsTicks, CountsTicks, IsRead}
 use Rattle.irig_scene_c.specs.Runs.{written_over}
 use Rattle.irig_scene_c.proofs.RunLaws.{left_of}
 
@@ -487,3 +488,17 @@ pub split_at_end : (text : List ℕ) → 0 < length text → Nowhere (Passes (is
 split_at_end text some none =
     let whole : HasNoNewline text = All-from_get_or (λ b. b ≢ 10) text 0 (λ i low is. none i (omega arith) low (eq-eqb (slice_index text i) 10 is)) in
     one_line text whole some ∙ ap (λ rest. text ∷ rest) (sym no_line)
+
+-- ---- lines that were read before
+
+pub nothing_read : (names : List (List ℕ)) (reads : List (ReadLine)) → reads ≡ [] → All (IsRead names) reads
+nothing_read names reads none = rw none (All-from_recursion (IsRead names) [] tt)
+
+-- an empty line is no JSON
+empty_read : (names : List (List ℕ)) (read : ReadLine) → read.line.now ≡ [] → read.edges ≡ no_edges → IsRead names read
+unfolding command_in_line
+empty_read names read empty none =
+    none ∙ sym (ap (λ line. edges_if_taken (command_in_line names line)) empty ∙ ap (λ o. edges_if_taken (or_else refusal.Json o >>= command_in_object names)) (blank_json [] refl))
+
+pub one_read : (names : List (List ℕ)) (reads : List ReadLine) (read : ReadLine) (more : List ReadLine) → All (IsRead names) reads → read.line.now ≡ [] → read.edges ≡ no_edges → more ≡ reads ++ read ∷ [] → All (IsRead names) more
+one_read names reads read more are empty none pushed = rw pushed (All-push (IsRead names) reads read are (empty_read names read empty none))

@@ -1,8 +1,6 @@
 -- How many edges of which reader the lines of a scenario ask for.
 -- Source: docs/SCENARIOS.md, docs/C.md.
-use Rattle.std.specs.Prelude.{◌≡◌, ℕ, ◌+◌, ◌<◌, ◌≤◌, ◌||◌, ◌==◌, Bool, List, [], ◌∷◌, length, take, sum_by, if◌then◌else◌, nat_lt, option_map, String, Option, Some, None, Result, Ok, Err}
-use Rattle.std.specs.declared.alloc.Global.{Global}
-use Rattle.indexmap.specs.IndexSet.{IndexSet}
+use Rattle.std.specs.Prelude.{◌≡◌, ℕ, ◌+◌, ◌<◌, ◌≤◌, ◌||◌, ◌==◌, All, Bool, List, [], ◌∷◌, length, take, sum_by, if◌then◌else◌, nat_lt, option_map, Option, Some, None, Result, Ok, Err}
 use Rattle.irig_faults.specs.declared.refusal.Refusal.{Refusal}
 use Rattle.irig_faults.specs.declared.refusal.Refusal.TheVariants.{NoPlant}
 use Rattle.irig_faults.specs.Refusals.{◌>>=◌}
@@ -17,6 +15,8 @@ use Rattle.irig_scene.specs.Lines.{lines, is_blank, max_line, max_lines}
 use Rattle.irig_scene.specs.LineRuns.{too_long}
 use Rattle.irig_scene.specs.Scene.{Scene, events_of, meaning, meaning_from}
 use Rattle.irig_scene_c.specs.declared.edges.IrigEdges.{IrigEdges}
+use Rattle.irig_scene_c.specs.declared.edges.ReadLine.{ReadLine}
+use Rattle.irig_scene_c.specs.declared.edges.Readers.{Readers}
 
 -- ---- one line
 
@@ -57,10 +57,6 @@ edges_in_line n names line =
 -- the names of the readers in order, none before the plant line
 abbrev pub Names : Type 0
 Names = Option (List (List ℕ))
-
--- the names in a set
-abbrev pub names_seen : {S : Type 0} → Option (IndexSet (String Global) S) → Names
-names_seen found = option_map (λ names. texts_of names.keys) found
 
 -- the readers' names in line n, if it is the plant line, and none in a blank one before it
 unfoldable pub names_in_line : ℕ → List ℕ → Result Names Refusal
@@ -121,3 +117,23 @@ CountsTicks x es =
     → meaning_from (take k (lines x)) 1 None ≡ meaning (Some at) None
     → r < length at.plan.setup.readers
     → ticks_of r at.events ≡ sum_by (edges_at r) (take k es)
+
+-- ---- lines that were read before
+
+-- the names of some readers
+abbrev pub names_of : Readers → List (List ℕ)
+names_of readers = texts_of readers.names.keys
+
+-- the names of the readers, if there are any
+abbrev pub names_seen : Option Readers → Names
+names_seen readers = option_map names_of readers
+
+-- the edges are those of the line
+abbrev pub IsRead : List (List ℕ) → ReadLine → Type 0
+IsRead names read = read.edges ≡ edges_if_taken (command_in_line names read.line.now)
+
+-- they are few, and the lines were read by their names
+pub record HaveRead (readers : Readers) : Type 0 where
+  pub few : length readers.names.keys ≤ 16
+  pub count : length readers.lines.items ≡ 256
+  pub read : All (IsRead (names_of readers)) readers.lines.items
