@@ -140,12 +140,12 @@ pub extern "C" fn irig_scene_c_line_edges(
     ensures status { (result ≡ 0) ⊎ ((result ≡ 3) ⊎ (result ≡ 6)) }
     ensures edges { result ≡ 0 → (told : List IrigEdges) × (line_edges text.now ≡ Ok told)
         × (whole.new ≡ length told) × (edges.new ≡ written_over edges.old told) }
-    // so the entries up to some line say how often each reader has ticked
-    ensures counts { result ≡ 0 → CountsTicks text.now (take whole.new edges.new) }
     ensures done { result ≡ 0 → IsSome (meaning_of text.now).scene }
     ensures refused { result ≡ 3 → (meaning_of text.now).scene ≡ None }
     ensures unchanged { result ≢ 0 → edges.new ≡ edges.old }
     ensures none { result ≢ 0 → whole.new ≡ 0 }
+    // the entries up to a line say how often each reader has ticked then
+    ensures counts { result ≡ 0 → CountsTicks text.now (take whole.new edges.new) }
 {
     *whole = 0;
     match edges::line_edges(alloc, text) {
