@@ -7,8 +7,8 @@
  * `memcpy`, `memmove` and `memset` of the C library and `__udivti3`, which compilers bring along.
  *
  * Pointers. `text` leads to `count` bytes that no other call writes meanwhile, `log` to `room`
- * bytes, `reason` to `reason_room`, `whole` and `refusal` each to one object; no other call reads or
- * writes these meanwhile, and none of them overlap. Of no bytes a pointer may be null; any other
+ * bytes, `edges` to `room` entries, `reason` to `reason_room` bytes, `whole` and `refusal` each to
+ * one object; no other call reads or writes these meanwhile, and none of them overlap. Of no bytes a pointer may be null; any other
  * null pointer is answered with IRIG_RUN_NULL. What the text says is no duty of the caller: any
  * bytes are a scenario, or are refused.
  *
@@ -70,6 +70,26 @@ typedef struct irig_refusal {
 uint8_t irig_run_shown(const uint8_t *text, size_t count, bool all, bool ports, uint8_t *log,
                        size_t room, size_t *whole, uint8_t *reason, size_t reason_room,
                        irig_refusal *refusal);
+
+/* Edges that a line of a scenario asks for: zeros if it asks for none. */
+typedef struct irig_edges {
+    uint32_t count; /* of each reader that is meant, 0 to 100,000 */
+    uint8_t reader; /* its place among the readers of the plant line, 0 to 15, or IRIG_EACH_READER */
+} irig_edges;
+
+enum { IRIG_EACH_READER = 255 };
+
+/* Tells for each line of a scenario of `count` bytes how many edges of which reader it asks for, by
+ * itself: zeros for the plant line, a line that is skipped, one that a run refuses whatever came
+ * before, and an event without a tick. So up to the end of a line each reader has as many edges as
+ * the entries so far say, if a run refuses none of these lines.
+ *
+ * As much is written to `edges` as `room` entries hold; the entries after that stay as they were.
+ * `*whole` is how many lines there are, which may be more. A `room` of 0 only asks how many. After
+ * IRIG_RUN_REFUSED, that there is no plant line or it is refused, and after IRIG_RUN_NO_MEMORY
+ * `*whole` is 0, and nothing is written. */
+uint8_t irig_line_edges(const uint8_t *text, size_t count, irig_edges *edges, size_t room,
+                        size_t *whole);
 
 /* ---- the texts of frames */
 

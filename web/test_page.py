@@ -30,6 +30,8 @@ PLANT = {
     "readers": [{"name": "relay", "lock_after": 2, "holdover": 3600}],
 }
 
+REFUSED = 3  # a status
+
 SIXTEEN = [{"name": f"r{number}", "lock_after": 2, "holdover": 9} for number in range(16)]
 
 
@@ -38,7 +40,8 @@ def plant(*lines: dict, **changed: object) -> str:
 
 
 def trap_module() -> bytes:
-    """A module whose `irig_scene_c_run_shown` does nothing but trap, and whose heap gives a place."""
+    """A module whose `irig_scene_c_run_shown` does nothing but trap, whose heap gives a place, and which
+    tells of no edges."""
 
     def section(number: int, *parts: bytes) -> bytes:
         body = bytes([len(parts)]) + b"".join(parts)
@@ -52,12 +55,16 @@ def trap_module() -> bytes:
         1,
         bytes([0x60, 1, i64, 1, i64]),
         bytes([0x60, 10, i64, i64, i32, i32, *[i64] * 6, 1, i32]),
+        bytes([0x60, 5, *[i64] * 5, 1, i32]),
     )
     imports = section(2, name("env") + name("memory") + bytes([2, 0, 1]))
-    functions = section(3, bytes([0]), bytes([1]))
-    exports = section(7, name("heap_give") + bytes([0, 0]), name("irig_scene_c_run_shown") + bytes([0, 1]))
-    give, trap = bytes([5, 0, 0x42, 0x80, 0x08, 0x0B]), bytes([3, 0, 0x00, 0x0B])
-    return b"\0asm\1\0\0\0" + types + imports + functions + exports + section(10, give, trap)
+    functions = section(3, bytes([0]), bytes([1]), bytes([2]))
+    names = "heap_give", "irig_scene_c_run_shown", "irig_scene_c_line_edges"
+    exports = section(7, *(name(text) + bytes([0, place]) for place, text in enumerate(names)))
+    give, trap, refuse = (
+        bytes([5, 0, 0x42, 0x80, 0x08, 0x0B]), bytes([3, 0, 0x00, 0x0B]), bytes([4, 0, 0x41, REFUSED, 0x0B]),
+    )
+    return b"\0asm\1\0\0\0" + types + imports + functions + exports + section(10, give, trap, refuse)
 
 
 class InBrowser(unittest.TestCase):

@@ -4,7 +4,7 @@
 
 const PAGE = 65536, FIRST_PAGES = 64; // of the module's memory
 const LEAST_ROOM = 1 << 20, SPARE = 1 << 22; // bytes: for a log, and for all but the log
-const NO_LOG = 5, NO_MEMORY = 6; // statuses, as c/irig_scene.h has them
+const DONE = 0, NO_LOG = 5, NO_MEMORY = 6; // statuses, as c/irig_scene.h has them
 // The bytes of a line of the log without edge and name: one with a vote, and the longest.
 const USUAL_LINE = " 2000-01-01T00:00:00Z locked voted\n".length + 1;
 const LONGEST_LINE = " 2000-01-01T00:00:00Z holdover:1000000 leap-guard\n".length + 1;
@@ -12,47 +12,69 @@ const LAST_LINE = 200;
 // And those of a line of what ports told: with three that agree, and the longest of five.
 const USUAL_PORTS = "   ok ok ok\n".length, LONGEST_PORTS = "  \n".length + 5 * " fault:10:DeletedSecond".length;
 
+// ---- the module
+
+// Its calls, over a memory of their own with at most so many bytes. When a block of memory grows, it tells to
+// how many.
+function calls_of(module, most, on_growth) {
+  const memory = new WebAssembly.Memory({ initial: FIRST_PAGES, maximum: Math.floor(most / PAGE) });
+  const grows = (bytes) => on_growth(Number(bytes));
+  const calls = new WebAssembly.Instance(module, { env: { memory }, page: { grows } }).exports;
+  const give = (bytes) => calls.heap_give(BigInt(bytes || 1));
+  return { memory, calls, give };
+}
+
 // ---- the scenario: which edges its lines make
 
-function json_of(line) {
-  try {
-    return JSON.parse(line);
-  } catch {
-    return null;
-  }
+const NEWLINE = 10, BLANKS = [32, 9, 13, NEWLINE];
+const MOST_LINES = 1000000; // that a run takes
+const ENTRY = { COUNT: 0, READER: 4, SIZE: 8 }, EACH_READER = 255; // of a line, as c/irig_scene.h has it
+
+function lines_in(text) { // how many there are at most, of those that a run takes
+  let count = 1;
+  for (let at = text.indexOf(NEWLINE); at >= 0 && count < MOST_LINES; at = text.indexOf(NEWLINE, at + 1)) count++;
+  return count;
 }
 
-const no_ticks = () => ({ ends: new Numbers(Float64Array), makers: new Numbers(Uint32Array) });
-
-// For each reader the lines that gave it edges, by their place from 0, and the last edge of each.
-function ticks_of(lines) {
-  const first = lines.findIndex((line) => line.trim());
-  const plant = json_of(lines[first] || "");
-  const ticks = new Map();
-  if (!plant || !Array.isArray(plant.readers)) return ticks;
-  for (const reader of plant.readers) {
-    if (reader && typeof reader.name === "string") ticks.set(reader.name, no_ticks());
-  }
-  for (let place = first + 1; place < lines.length; place++) add_ticks(ticks, lines[place], place);
-  return ticks;
+function names_in(text) { // of the readers, in a plant line that the module took
+  const from = text.findIndex((byte) => !BLANKS.includes(byte)), end = text.indexOf(NEWLINE, from);
+  const line = new TextDecoder().decode(text.subarray(from, end < 0 ? text.length : end));
+  return JSON.parse(line).readers.map(({ name }) => name);
 }
 
-function add_ticks(ticks, line, place) {
-  if (!line.includes('"tick"') && !line.includes('"seconds"')) return;
-  const event = json_of(line);
-  if (!event) return;
-  const of_all = event.do === "seconds" && Number.isSafeInteger(event.n) && event.n > 0;
-  const of_one = event.do === "tick" && ticks.has(event.r);
-  for (const { ends, makers } of of_all ? ticks.values() : of_one ? [ticks.get(event.r)] : []) {
-    ends.push(ends.last + (of_all ? event.n : 1));
-    makers.push(place);
+const no_edges = () => ({ ends: new Numbers(Float64Array), makers: new Numbers(Uint32Array) });
+
+// For each reader the lines that gave it edges, by their place from 0, and the last edge of each: as the module
+// tells them. There are none if it refuses the plant line, or has no memory.
+function edges_of(module, text, most) {
+  const { memory, calls, give } = calls_of(module, most, () => {});
+  const room = lines_in(text);
+  const from = give(text.length), entries = give(room * ENTRY.SIZE), whole = give(8);
+  if (!from || !entries || !whole) return new Map();
+  new Uint8Array(memory.buffer).set(text, Number(from));
+  const status = calls.irig_scene_c_line_edges(from, BigInt(text.length), entries, BigInt(room), whole) & 255;
+  if (status !== DONE) return new Map();
+  const readers = names_in(text).map((name) => [name, no_edges()]);
+  const told = new DataView(memory.buffer, Number(entries), room * ENTRY.SIZE);
+  const count = Math.min(room, Number(new DataView(memory.buffer).getBigUint64(Number(whole), true)));
+  for (let line = 0; line < count; line++) add_edges(readers, told, line);
+  return new Map(readers);
+}
+
+function add_edges(readers, told, line) {
+  const count = told.getUint32(line * ENTRY.SIZE + ENTRY.COUNT, true);
+  if (!count) return;
+  const place = told.getUint8(line * ENTRY.SIZE + ENTRY.READER);
+  for (const [, { ends, makers }] of place === EACH_READER ? readers : [readers[place]]) {
+    ends.push(ends.last + count);
+    makers.push(line);
   }
 }
 
 // How many bytes the log has if each edge has lines of so many bytes beside edge and name.
-function bytes_of(ticks, ...lines) {
+function bytes_of(edges, ...lines) {
   let bytes = LAST_LINE;
-  for (const [name, { ends }] of ticks) {
+  for (const [name, { ends }] of edges) {
     for (const line of lines) bytes += ends.last * (String(ends.last).length + name.length + line);
   }
   return bytes;
@@ -73,13 +95,10 @@ function refusal_in(memory, place, reason) {
 }
 
 // Runs a scenario of these bytes in at most so many bytes of memory, with this room for the log; if that
-// is too little it runs once more, in a new memory. When a block of memory grows, it tells to how many bytes.
+// is too little it runs once more, in a new memory.
 function run_of(module, text, shown, most, room, on_growth) {
-  const memory = new WebAssembly.Memory({ initial: FIRST_PAGES, maximum: Math.floor(most / PAGE) });
-  const grows = (bytes) => on_growth(Number(bytes));
-  const calls = new WebAssembly.Instance(module, { env: { memory }, page: { grows } }).exports;
+  const { memory, calls, give } = calls_of(module, most, on_growth);
   const ended = (status, log, refusal = null) => ({ status, log, refusal, memory: memory.buffer.byteLength });
-  const give = (bytes) => calls.heap_give(BigInt(bytes || 1));
   const from = give(text.length), whole = give(8), reason = give(REASON_ROOM), refusal = give(REFUSAL.SIZE);
   const log = give(room);
   if (!from || !whole || !reason || !refusal) return ended(NO_MEMORY, new Uint8Array(0));
@@ -99,13 +118,13 @@ function run_of(module, text, shown, most, room, on_growth) {
 
 // What the page is given at the end, with how long the run took in milliseconds.
 function told_of({ module, text, shown, most }, tell) {
-  const ticks = ticks_of(new TextDecoder().decode(text).split("\n"));
+  const edges = edges_of(module, text, most);
   const usual = [USUAL_LINE, ...shown.ports ? [USUAL_PORTS] : []];
   const longest = [LONGEST_LINE, ...shown.ports ? [LONGEST_PORTS] : []];
-  const expected = bytes_of(ticks, ...usual);
+  const expected = bytes_of(edges, ...usual);
   // The run's own copy of the log may take twice as much as the log itself.
   const most_room = Math.floor(most / 3) - SPARE;
-  const room = Math.min(Math.max(LEAST_ROOM, bytes_of(ticks, ...longest)), most_room);
+  const room = Math.min(Math.max(LEAST_ROOM, bytes_of(edges, ...longest)), most_room);
   const begun = performance.now();
   let largest = LEAST_ROOM;
   const on_growth = (bytes) => {
@@ -118,7 +137,7 @@ function told_of({ module, text, shown, most }, tell) {
   tell({ kind: "progress", spent, written: length, expected: length, is_read: true });
   const result = { kind: "done", ...ended, spent, ...read_log(ended.log) };
   for (const lane of result.lanes) {
-    const { ends, makers } = ticks.get(lane.reader) || no_ticks();
+    const { ends, makers } = edges.get(lane.reader) || no_edges();
     Object.assign(lane, { ends: ends.whole(), makers: makers.whole() });
   }
   return result;

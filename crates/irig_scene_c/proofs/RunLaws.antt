@@ -1,5 +1,5 @@
 -- What a run leaves in memory is a prefix of the log, so what is proved of prefixes holds of it.
-use Rattle.std.proofs.Common.{◌≡◌, ℕ, ◌≤◌, inl, inr, Bool, false, List, [], ◌++◌, length, take, drop, length-append, ◌+◌, Option, Some, Result, Ok, Err, sym, ap, ◌∙◌, append-nil, append_assoc, subst, arith}
+use Rattle.std.proofs.Common.{◌≡◌, ℕ, ◌≤◌, inl, inr, List, [], ◌++◌, length, take, drop, length-append, ◌+◌, Option, Some, Result, Ok, Err, sym, ap, ◌∙◌, append-nil, append_assoc, subst, arith}
 use Rattle.std.proofs.lemmas.Bool.{cases_lt}
 use Rattle.std.proofs.lemmas.List.{take_all, take-append-drop, length-take}
 use Rattle.std.proofs.Math.Seq.{take-append_seam}
@@ -30,21 +30,24 @@ front_ran (Err Read) x shown left log ran = of_known x shown log ran.bytes ran.o
 front_ran (Err Write) x shown left log ran = of_known x shown log ran.bytes ran.of_input (part_of log (output_shown ran.bytes shown) ran.ran.0)
 front_ran (Err Memory) x shown left log ran = of_known x shown log ran.bytes ran.of_input (part_of log (output_shown ran.bytes shown) ran.ran.0)
 
--- what memory has of some bytes is a prefix of them, with room for all or not
-front_over : (old bytes : List ℕ) → IsFront (take (length bytes) (written_over old bytes)) bytes
-front_over old bytes = elim (cases_lt (length old) (length bytes)) [
+-- what memory has of some items is a front of them, with room for all or not
+pub left_of : {A : Type 0} (old items : List A) → (rest : List A) × (items ≡ take (length items) (written_over old items) ++ rest)
+left_of old items = elim (cases_lt (length old) (length items)) [
   | inl less ↦
-      let part = take (length old) bytes in
-      let none : drop (length bytes) old ≡ [] = drop_of_length-le old (omega (arith, less)) in
-      let short : length part ≤ length bytes = omega (arith, length-take (length old) bytes) in
-      let over : written_over old bytes ≡ part = ap (λ rest. part ++ rest) none ∙ append-nil part in
-      let seen : take (length bytes) (written_over old bytes) ≡ part = ap (λ m. take (length bytes) m) over ∙ take_all (length bytes) part short in
-      record { rest = drop (length old) bytes; is = sym (take-append-drop (length old) bytes) ∙ ap (λ f. f ++ drop (length old) bytes) (sym seen) }
+      let part = take (length old) items in
+      let none : drop (length items) old ≡ [] = drop_of_length-le old (omega (arith, less)) in
+      let short : length part ≤ length items = omega (arith, length-take (length old) items) in
+      let over : written_over old items ≡ part = ap (λ rest. part ++ rest) none ∙ append-nil part in
+      let seen : take (length items) (written_over old items) ≡ part = ap (λ m. take (length items) m) over ∙ take_all (length items) part short in
+      (drop (length old) items, sym (take-append-drop (length old) items) ∙ ap (λ f. f ++ drop (length old) items) (sym seen))
   | inr fits ↦
-      let over : written_over old bytes ≡ bytes ++ drop (length bytes) old = ap (λ b. b ++ drop (length bytes) old) (take_all (length old) bytes fits) in
-      all_of (take (length bytes) (written_over old bytes)) bytes
-      (ap (λ m. take (length bytes) m) over ∙ take-append_seam bytes (drop (length bytes) old))
+      let over : written_over old items ≡ items ++ drop (length items) old = ap (λ b. b ++ drop (length items) old) (take_all (length old) items fits) in
+      let seen : take (length items) (written_over old items) ≡ items = ap (λ m. take (length items) m) over ∙ take-append_seam items (drop (length items) old) in
+      ([], sym seen ∙ sym (append-nil (take (length items) (written_over old items))))
 ]
+
+front_over : (old bytes : List ℕ) → IsFront (take (length bytes) (written_over old bytes)) bytes
+front_over old bytes = let left = left_of old bytes in record { rest = left.0; is = left.1 }
 
 -- what a run leaves in memory, as far as it says, is a prefix of the log
 front_left : (x : List ℕ) (shown : Shown) (r : Result Outcome SceneFault) (log old : List ℕ) → IsRun x shown r log → IsFront (take (length log) (written_over old log)) (output_shown x shown)

@@ -48,6 +48,6 @@ pub record IsRun (text : List ℕ) (shown : Shown) (answer : Result Outcome Scen
   pub left : Option (List ℕ)
   pub ran : RanShown answer shown (Some text) left (Some []) (Some log)
 
--- what stood in memory, with these bytes over its beginning, as many as it has room for
-abbrev pub written_over : List ℕ → List ℕ → List ℕ
-written_over old bytes = take (length old) bytes ++ drop (length bytes) old
+-- what stood in memory, with these items over its beginning, as many as it has room for
+abbrev pub written_over : {A : Type 0} → List A → List A → List A
+written_over old items = take (length old) items ++ drop (length items) old

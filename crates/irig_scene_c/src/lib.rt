@@ -5,7 +5,7 @@
 //! C library for memory, gives all of it back, and keeps nothing between calls.
 #![tactic(auto)]
 
-ghost use Rattle.std.specs.Prelude.{◌≡◌, ◌≢◌, ◌≤◌, ℕ, List, IsSome, None, length, take, true};
+ghost use Rattle.std.specs.Prelude.{◌≡◌, ◌≢◌, ◌≤◌, ◌⊎◌, ℕ, List, IsSome, None, Ok, length, take, true};
 ghost use Rattle.irig_frame_text.specs.Frame.{ShowsFrameOf};
 ghost use Rattle.irig_frame_text.specs.Reading.{IsReadingOf};
 ghost use Rattle.irig_log_text.specs.declared.shown.Shown.{Shown};
@@ -14,26 +14,34 @@ ghost use Rattle.irig_scene.specs.LogLines.{TellsTruth, VouchesForItself};
 ghost use Rattle.irig_scene.specs.PortLines.{without_port_lines};
 ghost use Rattle.irig_scene.specs.Scene.{meaning_of, output, output_shown};
 ghost use Rattle.irig_scene.specs.VouchedByPorts.{VouchesByPorts};
+ghost use Rattle.irig_scene_c.specs.Edges.{CountsTicks, line_edges};
 ghost use Rattle.irig_scene_c.specs.Frames.{are_options, are_rules, options_in, rules_in};
 ghost use Rattle.irig_scene_c.specs.Runs.{HasWholeLog, IsRefusalOf, IsStatus, shown_of, written_over};
 
+mod edges;
 mod frame;
+mod laws;
 mod refusal;
 mod run;
 
+pub use edges::IrigEdges;
 pub use frame::IrigFrameOptions;
 use irig_explain::Parts;
+use irig_faults::LineFault;
 use irig_frame_text::{FrameText, ReadingFault, frame_lines, frame_text};
 use irig_scene::Shown;
+pub use laws::line_edges_are_ticks;
 pub use refusal::{IrigRefusal, IrigSpan};
 use std::alloc::Global;
 use std::str;
 
-// Of the texts of frames: written; and not, for a text that is none of a second or of a frame, or a
-// number without a meaning; and not, for lack of memory.
+// Of edges and of the texts of frames: written; and not, for a text that is none of a second or of a
+// frame, or a number without a meaning; for want of a plant; and for lack of memory.
 const DONE: u8 = 0;
 
 const BAD_TEXT: u8 = 1;
+
+const REFUSED: u8 = 3;
 
 const NO_MEMORY: u8 = 6;
 
@@ -114,6 +122,41 @@ pub extern "C" fn irig_scene_c_run_shown(
         _ => IrigRefusal::new(line, number, 0, Parts::NONE),
     };
     run::status_of(&ended.answer)
+}
+
+/// Tells for each line of a scenario how many edges of which reader it asks for, by itself: none is
+/// told for the plant line, for one that is skipped or refused, and for events without a tick. As
+/// much is written into `edges` as that has room for, and `whole` is how many lines there are.
+///
+/// 0 if it was told. 3 if there is no plant line or it is refused, and 6 if there was no memory:
+/// nothing is written then, and `whole` is 0.
+#[unsafe(no_mangle)]
+pub extern "C" fn irig_scene_c_line_edges(
+    alloc: Global,
+    text: &[u8],
+    edges: &mut [IrigEdges],
+    whole: &mut usize,
+) -> u8
+    ensures status { (result ≡ 0) ⊎ ((result ≡ 3) ⊎ (result ≡ 6)) }
+    ensures edges { result ≡ 0 → (told : List IrigEdges) × (line_edges text.now ≡ Ok told)
+        × (whole.new ≡ length told) × (edges.new ≡ written_over edges.old told) }
+    ensures done { result ≡ 0 → IsSome (meaning_of text.now).scene }
+    ensures refused { result ≡ 3 → (meaning_of text.now).scene ≡ None }
+    ensures unchanged { result ≢ 0 → edges.new ≡ edges.old }
+    ensures none { result ≢ 0 → whole.new ≡ 0 }
+    // the entries up to a line say how often each reader has ticked then
+    ensures counts { result ≡ 0 → CountsTicks text.now (take whole.new edges.new) }
+{
+    *whole = 0;
+    match edges::line_edges(alloc, text) {
+        Ok(told) => {
+            run::write_over(edges, &told);
+            *whole = told.len();
+            DONE
+        }
+        Err(LineFault::Refused(_)) => REFUSED,
+        Err(LineFault::Memory) => NO_MEMORY,
+    }
 }
 
 /// Writes the frame of the UTC second whose text this is, as `irig frame` prints it: ten groups of

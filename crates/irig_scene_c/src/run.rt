@@ -76,10 +76,10 @@ pub(crate) fn why(
     Ok(Some(reason))
 }
 
-/// Writes the bytes over the beginning of `room`, as many as it has room for.
-pub(crate) fn write_over(room: &mut [u8], bytes: &[u8])
-    ensures { room.new ≡ written_over room.old bytes.now }
+/// Writes the items over the beginning of `room`, as many as it has room for.
+pub(crate) fn write_over<T: Copy>(room: &mut [T], items: &[T])
+    ensures { room.new ≡ written_over room.old items.now }
 {
-    let count = room.len().min(bytes.len());
-    room[..count].copy_from_slice(&bytes[..count]);
+    let count = room.len().min(items.len());
+    room[..count].copy_from_slice(&items[..count]);
 }
