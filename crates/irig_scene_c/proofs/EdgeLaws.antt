@@ -41,8 +41,7 @@ use Rattle.irig_scene.specs.Lines.{lines, is_blank, max_line, max_lines}
 use Rattle.irig_scene.specs.LineRuns.{too_long}
 use Rattle.irig_scene.specs.Scene.{Scene, scene, Play, play, unless_refused, refusal_as, events_of, Step, step, step_to, step_of_plan, step_of_command, Meaning, meaning, refusal_at, unless_stopped, meaning_from}
 use Rattle.irig_scene_c.specs.declared.edges.IrigEdges.{IrigEdges}
-use Rattle.irig_scene_c.specs.declared.edges.ReadLine.{ReadLine}
-use Rattle.irig_scene_c.specs.Edges.{edges, each_reader, no_edges, edges_of, edges_if_taken, is_beyond, Names, names_in_line, LineEdges, line_with, line_after, ends_after, edges_in_line, edges_from, line_edges, edges_at, TellsTicks, CountsTicks, IsRead}
+use Rattle.irig_scene_c.specs.Edges.{edges, each_reader, no_edges, edges_of, edges_if_taken, is_beyond, Names, names_in_line, LineEdges, line_with, line_after, ends_after, edges_in_line, edges_from, line_edges, edges_at, TellsTicks, CountsTicks}
 use Rattle.irig_scene_c.specs.Runs.{written_over}
 use Rattle.irig_scene_c.proofs.RunLaws.{left_of}
 
@@ -488,17 +487,3 @@ pub split_at_end : (text : List ℕ) → 0 < length text → Nowhere (Passes (is
 split_at_end text some none =
     let whole : HasNoNewline text = All-from_get_or (λ b. b ≢ 10) text 0 (λ i low is. none i (omega arith) low (eq-eqb (slice_index text i) 10 is)) in
     one_line text whole some ∙ ap (λ rest. text ∷ rest) (sym no_line)
-
--- ---- lines that were read before
-
-pub nothing_read : (names : List (List ℕ)) (reads : List (ReadLine)) → reads ≡ [] → All (IsRead names) reads
-nothing_read names reads none = rw none (All-from_recursion (IsRead names) [] tt)
-
--- an empty line is no JSON
-empty_read : (names : List (List ℕ)) (read : ReadLine) → read.line.now ≡ [] → read.edges ≡ no_edges → IsRead names read
-unfolding command_in_line
-empty_read names read empty none =
-    none ∙ sym (ap (λ line. edges_if_taken (command_in_line names line)) empty ∙ ap (λ o. edges_if_taken (or_else refusal.Json o >>= command_in_object names)) (blank_json [] refl))
-
-pub one_read : (names : List (List ℕ)) (reads : List ReadLine) (read : ReadLine) (more : List ReadLine) → All (IsRead names) reads → read.line.now ≡ [] → read.edges ≡ no_edges → more ≡ reads ++ read ∷ [] → All (IsRead names) more
-one_read names reads read more are empty none pushed = rw pushed (All-push (IsRead names) reads read are (empty_read names read empty none))

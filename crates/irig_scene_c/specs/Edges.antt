@@ -1,6 +1,6 @@
 -- How many edges of which reader the lines of a scenario ask for.
 -- Source: docs/SCENARIOS.md, docs/C.md.
-use Rattle.std.specs.Prelude.{◌≡◌, ℕ, ◌+◌, ◌<◌, ◌≤◌, ◌||◌, ◌==◌, All, Bool, List, [], ◌∷◌, length, take, sum_by, if◌then◌else◌, nat_lt, option_map, Option, Some, None, Result, Ok, Err}
+use Rattle.std.specs.Prelude.{◌≡◌, ℕ, ◌+◌, ◌<◌, ◌≤◌, ◌||◌, ◌==◌, Bool, List, [], ◌∷◌, length, take, sum_by, if◌then◌else◌, nat_lt, option_map, Option, Some, None, Result, Ok, Err}
 use Rattle.irig_faults.specs.declared.refusal.Refusal.{Refusal}
 use Rattle.irig_faults.specs.declared.refusal.Refusal.TheVariants.{NoPlant}
 use Rattle.irig_faults.specs.Refusals.{◌>>=◌}
@@ -8,6 +8,7 @@ use Rattle.irig_forms.specs.Keys.{texts_of}
 use Rattle.irig_plant.specs.declared.event.Event.TheVariants.{Tick}
 use Rattle.irig_plant.specs.Schedule.{ticks_of}
 use Rattle.irig_scenario.specs.declared.event_line.Command.{Command}
+use Rattle.irig_scenario.specs.declared.event_reader.EventReader.{EventReader}
 use Rattle.irig_scenario.specs.declared.event_line.Command.TheVariants.{Event, Seconds}
 use Rattle.irig_scenario.specs.EventLine.{command_in_line}
 use Rattle.irig_scenario.specs.PlantLine.{Plan, plan_in_line}
@@ -15,8 +16,6 @@ use Rattle.irig_scene.specs.Lines.{lines, is_blank, max_line, max_lines}
 use Rattle.irig_scene.specs.LineRuns.{too_long}
 use Rattle.irig_scene.specs.Scene.{Scene, events_of, meaning, meaning_from}
 use Rattle.irig_scene_c.specs.declared.edges.IrigEdges.{IrigEdges}
-use Rattle.irig_scene_c.specs.declared.edges.ReadLine.{ReadLine}
-use Rattle.irig_scene_c.specs.declared.edges.Readers.{Readers}
 
 -- ---- one line
 
@@ -118,22 +117,12 @@ CountsTicks x es =
     → r < length at.plan.setup.readers
     → ticks_of r at.events ≡ sum_by (edges_at r) (take k es)
 
--- ---- lines that were read before
+-- ---- what reads the lines
 
--- the names of some readers
-abbrev pub names_of : Readers → List (List ℕ)
-names_of readers = texts_of readers.names.keys
+-- the names of the readers
+abbrev pub names_of : EventReader → List (List ℕ)
+names_of reader = texts_of reader.names.keys
 
--- the names of the readers, if there are any
-abbrev pub names_seen : Option Readers → Names
-names_seen readers = option_map names_of readers
-
--- the edges are those of the line
-abbrev pub IsRead : List (List ℕ) → ReadLine → Type 0
-IsRead names read = read.edges ≡ edges_if_taken (command_in_line names read.line.now)
-
--- they are few, and the lines were read by their names
-pub record HaveRead (readers : Readers) : Type 0 where
-  pub few : length readers.names.keys ≤ 16
-  pub count : length readers.lines.items ≡ 256
-  pub read : All (IsRead (names_of readers)) readers.lines.items
+-- the names of the readers, if there is a plant
+abbrev pub names_seen : Option EventReader → Names
+names_seen reader = option_map names_of reader

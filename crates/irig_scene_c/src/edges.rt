@@ -1,19 +1,16 @@
 //! How many edges the lines of a scenario ask for.
 
-ghost use Rattle.std.specs.Prelude.{◌≡◌, ◌<◌, ◌≤◌, ◌∷◌, ℕ, All, IfOk, IfSome, List, Ok, length};
-ghost use Rattle.irig_scenario.specs.EventLine.{command_in_line};
+ghost use Rattle.std.specs.Prelude.{◌≡◌, ◌<◌, ◌∷◌, Ok, length};
 ghost use Rattle.irig_faults.specs.Refusals.{IsUnlessMemory};
-ghost use Rattle.irig_forms.specs.Keys.{texts_of};
 ghost use Rattle.irig_scene.specs.Lines.{lines};
-ghost use Rattle.irig_scene_c.specs.Edges.{HaveRead, IsRead, edges_if_taken, edges_in_line, edges_of, is_beyond, line_after, line_edges, line_with, names_in_line, names_of, names_seen};
+ghost use Rattle.irig_scene_c.specs.Edges.{edges_in_line, edges_of, is_beyond, line_after, line_edges, line_with, names_in_line, names_of, names_seen};
 
-use indexmap::IndexSet;
 use irig_faults::{LineFault, Refusal};
 use irig_plant::Event;
-use irig_scenario::{BuiltPlant, Command, event_of_line, plant_of_line};
+use irig_scenario::{BuiltPlant, Command, EventReader, plant_of_line};
 use irig_scene::{MAX_LINES, is_blank, limit_of, too_long};
 use memchr::memchr;
-use std::alloc::{AllocError, Global};
+use std::alloc::Global;
 
 /// The edges that a line of a scenario asks for: zeros if it asks for none.
 #[repr(C)]
@@ -32,24 +29,6 @@ const NO_EDGES: IrigEdges = IrigEdges {
     reader: 0,
 };
 
-/// A line that was read, and its edges.
-#[derive(Clone, Copy, Drop)]
-struct ReadLine<'a> {
-    line: &'a [u8],
-    edges: IrigEdges,
-}
-
-/// The readers' names, and lines that were read by them. Most lines of a long scenario have been read
-/// before, and need not be read again.
-#[derive(Drop)]
-struct Readers<'a> {
-    names: IndexSet<String>,
-    lines: Vec<ReadLine<'a>>,
-}
-
-// How many lines are kept at most.
-const PLACES: usize = 256;
-
 /// The edges that each line asks for.
 ///
 /// `Refused` if there is no plant line or it is refused, `Memory` if there was none.
@@ -57,15 +36,15 @@ pub(crate) fn line_edges(alloc: Global, text: &[u8]) -> Result<Vec<IrigEdges>, L
     ensures { IsUnlessMemory (λ edges. edges.items) (line_edges text.now) result }
 {
     let mut edges = Vec::new(alloc);
-    let mut readers = None;
+    let mut reader = None;
     let mut rest = text;
     while !rest.is_empty() {
         let (line, behind) = split_line(rest);
         let number = edges.len() as u64 + 1;
-        edges.push(take_line(alloc, number, &mut readers, line)?)?;
+        edges.push(take_line(alloc, number, &mut reader, line)?)?;
         rest = behind;
     }
-    match readers {
+    match reader {
         Some(_) => Ok(edges),
         None => Err(LineFault::Refused(Refusal::NoPlant)),
     }
@@ -83,35 +62,28 @@ fn split_line(text: &[u8]) -> (&[u8], &[u8])
     }
 }
 
-// The edges of the line with this number, after which these are the readers.
-fn take_line<'a>(
+// The edges of the line with this number, after which this reads the next ones.
+fn take_line(
     alloc: Global,
     number: u64,
-    readers: &mut Option<Readers<'a>>,
-    line: &'a [u8],
+    reader: &mut Option<EventReader>,
+    line: &[u8],
 ) -> Result<IrigEdges, LineFault>
-    requires { IfSome readers.old HaveRead }
-    ensures line { IsUnlessMemory (λ edges. line_with (names_seen readers.new) edges)
-        (line_after number (names_seen readers.old) line.now) result }
-    ensures read { IfSome readers.new HaveRead }
+    ensures { IsUnlessMemory (λ edges. line_with (names_seen reader.new) edges)
+        (line_after number (names_seen reader.old) line.now) result }
 {
-    match readers {
-        Some(readers) => edges_in_line(alloc, number, readers, line),
+    match reader {
+        Some(reader) => edges_in_line(alloc, number, reader, line),
         None => {
-            *readers = readers_in_line(alloc, number, line)?;
+            *reader = reader_in_line(alloc, number, line)?;
             Ok(NO_EDGES)
         }
     }
 }
 
 #[tactic(auto, unfolding(crate::specs::Edges::names_in_line))]
-fn readers_in_line<'a>(
-    alloc: Global,
-    number: u64,
-    line: &[u8],
-) -> Result<Option<Readers<'a>>, LineFault>
-    ensures names { IsUnlessMemory names_seen (names_in_line number line.now) result }
-    ensures read { IfOk result (λ found. IfSome found HaveRead) }
+fn reader_in_line(alloc: Global, number: u64, line: &[u8]) -> Result<Option<EventReader>, LineFault>
+    ensures { IsUnlessMemory names_seen (names_in_line number line.now) result }
 {
     if is_beyond(number, line) {
         return Err(LineFault::Refused(too_long(number)));
@@ -120,68 +92,24 @@ fn readers_in_line<'a>(
         return Ok(None);
     }
     let BuiltPlant { names, .. } = plant_of_line(alloc, line)?;
-    let lines = no_lines(alloc)?;
-    Ok(Some(Readers { names, lines }))
-}
-
-// As many as are kept at most, all of them empty.
-fn no_lines<'a>(alloc: Global) -> Result<Vec<ReadLine<'a>>, AllocError>
-    ensures count { IfOk result (λ lines. length lines.items ≡ 256) }
-    ensures read { (names : List (List ℕ)) → IfOk result (λ lines. All (IsRead names) lines.items) }
-{
-    let mut lines = Vec::new(alloc);
-    for _ in 0..PLACES {
-        lines.push(ReadLine {
-            line: &[],
-            edges: NO_EDGES,
-        })?;
-    }
-    Ok(lines)
+    Ok(Some(EventReader::new(alloc, names)?))
 }
 
 #[tactic(auto, unfolding(crate::specs::Edges::edges_in_line))]
-fn edges_in_line<'a>(
+fn edges_in_line(
     alloc: Global,
     number: u64,
-    readers: &mut Readers<'a>,
-    line: &'a [u8],
+    reader: &mut EventReader,
+    line: &[u8],
 ) -> Result<IrigEdges, LineFault>
-    requires { HaveRead readers.old }
     ensures edges { IsUnlessMemory (λ edges. edges)
-        (Ok (edges_in_line number (names_of readers.old) line.now)) result }
-    ensures names { names_of readers.new ≡ names_of readers.old }
-    ensures read { HaveRead readers.new }
+        (Ok (edges_in_line number (names_of reader.old) line.now)) result }
+    ensures names { names_of reader.new ≡ names_of reader.old }
 {
     if is_beyond(number, line) || is_blank(line) {
         return Ok(NO_EDGES);
     }
-    let place = place_of(line);
-    let found = readers.lines[place];
-    if found.line == line {
-        return Ok(found.edges);
-    }
-    let edges = read_edges(alloc, &readers.names, line)?;
-    readers.lines[place] = ReadLine { line, edges };
-    Ok(edges)
-}
-
-// Where a line is kept; lines alike are kept at one place.
-fn place_of(line: &[u8]) -> usize
-    ensures { result < 256 }
-{
-    let mut place = 0u8;
-    for byte in line {
-        place = place.wrapping_mul(31).wrapping_add(*byte);
-    }
-    usize::from(place)
-}
-
-fn read_edges(alloc: Global, names: &IndexSet<String>, line: &[u8]) -> Result<IrigEdges, LineFault>
-    requires { length names.now.keys ≤ 16 }
-    ensures { IsUnlessMemory (λ edges. edges)
-        (Ok (edges_if_taken (command_in_line (texts_of names.now.keys) line.now))) result }
-{
-    match event_of_line(alloc, names, line) {
+    match reader.event_of_line(alloc, line) {
         Ok(command) => Ok(edges_of(&command)),
         Err(LineFault::Refused(_)) => Ok(NO_EDGES),
         Err(LineFault::Memory) => Err(LineFault::Memory),

@@ -1,13 +1,12 @@
-use Rattle.std.proofs.Common.{◌+◌, None, length, IfSome}
+use Rattle.std.proofs.Common.{◌+◌, None, length}
 use Rattle.irig_scene.specs.Lines.{lines}
-use Rattle.irig_scene_c.specs.Edges.{HaveRead, edges_from, names_seen}
+use Rattle.irig_scene_c.specs.Edges.{edges_from, names_seen}
 use Rattle.irig_scene_c.proofs.EdgeLaws.{IsWhole}
 use Rattle.irig_scene_c.proofs.edges.line_edges.Given as goal
 
 abbrev pub invariant-loop-rest : goal.invariant-loop-rest
 invariant-loop-rest l =
-    IsWhole (edges_from 1 None (lines l.text)) l.edges.items (length l.edges.items + 1) (names_seen l.readers) (lines l.rest)
-    × IfSome l.readers HaveRead
+    IsWhole (edges_from 1 None (lines l.text)) l.edges.items (length l.edges.items + 1) (names_seen l.reader) (lines l.rest)
 
 abbrev pub decreases-loop-rest : goal.decreases-loop-rest
 decreases-loop-rest l = length l.rest
