@@ -5,8 +5,6 @@ ghost use Rattle.serde_json.specs.View.{view};
 ghost use Rattle.irig_forms.specs.Keys.{texts_of};
 ghost use Rattle.irig_explain.specs.Lines.{has_event_form, has_event_values, has_generator, has_reached, is_event_refused};
 
-use crate::misfit::{Expected, Found, Misfit, Note};
-use crate::place::JsonPath;
 use crate::range::have_values;
 use crate::refused::PlantContext;
 use crate::shape::find_in_shape;
@@ -14,6 +12,7 @@ use crate::value::find_in_values;
 use indexmap::IndexSet;
 use irig_faults::Refusal;
 use irig_forms::{has_form, natural_at, reader_at, text_at};
+use irig_reason_text::{Expected, Found, JsonPath, Misfit, Note};
 use irig_values::{ACTION_WORDS, EDGE, FAULT_WORDS, G, R, event_keys};
 use serde_json::Value;
 

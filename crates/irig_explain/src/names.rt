@@ -9,9 +9,8 @@ ghost use Rattle.irig_values.specs.Names.{name_in};
 ghost use Rattle.irig_values.specs.PlantValues.{readers_in};
 ghost use Rattle.irig_explain.specs.Places.{is_misnamed, is_unnamed};
 
-use crate::misfit::{Expected, Misfit};
-use crate::place::JsonPath;
 use irig_forms::{items_at, text_at};
+use irig_reason_text::{Expected, JsonPath, Misfit};
 use irig_values::is_name;
 use serde_json::Value;
 

@@ -4,11 +4,11 @@ ghost use Rattle.std.specs.Prelude.{◌≡◌, IfSome, true};
 ghost use Rattle.serde_json.specs.View.{view};
 ghost use Rattle.irig_explain.specs.Places.{is_beyond, is_misformed, version_of_line};
 
-use crate::misfit::{Expected, Misfit};
-use crate::place::{JsonPath, is_beyond, is_misformed, version_of_line};
+use crate::place::{is_beyond, is_misformed, version_of_line};
 use crate::shape::find_in_shape;
 use crate::value::find_in_values;
 use irig_forms::{Key, items_at, whole_at};
+use irig_reason_text::{Expected, Found, JsonPath, Misfit};
 use irig_values::{
     Version, change_keys, generator_keys, leap_keys, plant_keys, reader_keys, table_keys,
     version_in,
@@ -153,7 +153,7 @@ fn find_in_reader(
     reader: &Value,
 ) -> Option<Misfit<'_>> {
     let misfit = match reader.get("table") {
-        Some(_) if version == Version::One => Some(Misfit::early_table(at)),
+        Some(_) if version == Version::One => Some(early_table(at)),
         Some(table) => find_in_table(search, at, table),
         None => None,
     };
@@ -161,6 +161,12 @@ fn find_in_reader(
         Some(misfit) => Some(misfit),
         None => search.find(JsonPath::Reader(at), reader_keys(version), reader),
     }
+}
+
+// A reader's table in version 1, which has none.
+fn early_table<'a>(reader: usize) -> Misfit<'a> {
+    let place = JsonPath::Reader(reader);
+    Misfit::new(place, Found::EarlyTable, Expected::Nothing)
 }
 
 fn find_in_table(search: Search, at: usize, table: &Value) -> Option<Misfit<'_>> {

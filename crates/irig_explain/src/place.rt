@@ -8,31 +8,13 @@ ghost use Rattle.irig_values.specs.Names.{name_in};
 ghost use Rattle.irig_explain.specs.Places.{has_count, is_beyond, is_line, is_misformed, is_misvalued, is_misnamed, is_unnamed, item_at, keys_at, object_at, table_at, version_of_line};
 
 use crate::range::have_values;
-use irig_forms::{Key, has_form, items_at, text_at};
+use irig_forms::{Key, has_form, items_at};
+use irig_reason_text::JsonPath;
 use irig_values::{
-    Version, change_keys, generator_keys, is_name, leap_keys, plant_keys, reader_keys, table_keys,
+    Version, change_keys, generator_keys, leap_keys, plant_keys, reader_keys, table_keys,
     version_in,
 };
 use serde_json::Value;
-
-/// An object of a scenario's line.
-#[derive(Clone, Copy)]
-pub enum JsonPath {
-    /// The line's own.
-    Line,
-    /// A leap of a plant line.
-    Leap(usize),
-    /// A generator.
-    Generator(usize),
-    /// A change of a generator's zone, after the generator.
-    Change(usize, usize),
-    /// A reader.
-    Reader(usize),
-    /// The table of a reader.
-    Table(usize),
-    /// A leap of a reader's table, after the reader.
-    TableLeap(usize, usize),
-}
 
 /// An item, from 0, of the list at a key.
 #[tactic(auto, unfolding(crate::specs::Places::item_at), using(crate::proofs::PlaceLaws::viewed_item))]

@@ -4,10 +4,10 @@ ghost use Rattle.std.specs.Prelude.{◌≡◌, ◌≤◌, IfSome, Some};
 ghost use Rattle.irig_time.specs.declared.second.TheConstants.{LAST_DAY};
 ghost use Rattle.irig_explain.specs.Refused.{change_refusal, change_refusal_at, entry_fault_at, entry_refusal, leap_refusal, minute_before, refusal_at, refusal_in, table_refusal, zone_refusal};
 
-use crate::misfit::{Expected, Misfit};
-use crate::place::{JsonPath, item_at};
+use crate::place::item_at;
 use irig_faults::{LineFault, Refusal};
 use irig_gen::{Change, Zone, is_change_time, minute_number};
+use irig_reason_text::{Expected, JsonPath, Misfit};
 use irig_time::{LAST_DAY, LAST_NAMED_DAY, Leap, TableFault, entry_fault, leap_fault, month_end};
 use irig_values::{GeneratorValues, PlantValues, ReaderValues};
 use serde_json::Value;
@@ -215,10 +215,7 @@ fn find_in_changes<'a>(
 
 fn zone_misfit(refusal: Refusal, place: JsonPath, object: &Value) -> Option<Misfit<'_>> {
     match refusal {
-        Refusal::Offset => {
-            let offset = Expected::Text("-31 to 31 half hours");
-            Misfit::at(place, "local", object, offset)
-        }
+        Refusal::Offset => Misfit::at(place, "local", object, Expected::Offset),
         _ => {
             let time = Expected::Clause(
                 "the first second of a minute, later than the change before",

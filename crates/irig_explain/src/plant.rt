@@ -4,12 +4,12 @@ ghost use Rattle.std.specs.Prelude.{◌≡◌, IfOk, IfSome};
 ghost use Rattle.serde_json.specs.View.{view};
 ghost use Rattle.irig_explain.specs.Lines.{AreRefusedAt, IsPlantRefusedAt};
 
-use crate::misfit::{Expected, Misfit};
 use crate::names::find_name;
 use crate::objects::{find_in_ranges, find_in_shapes};
-use crate::place::{JsonPath, version_of_line};
+use crate::place::version_of_line;
 use crate::plan::find_in_plan;
 use irig_faults::{LineFault, Refusal};
+use irig_reason_text::{Expected, JsonPath, Misfit};
 use irig_values::values_of;
 use serde_json::Value;
 use std::alloc::{AllocError, Global};

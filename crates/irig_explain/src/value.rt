@@ -2,11 +2,10 @@
 
 ghost use Rattle.std.specs.Prelude.{◌≡◌, IfSome};
 
-use crate::misfit::{Expected, Found, Misfit, Note};
-use crate::place::JsonPath;
 use crate::range::has_value;
-use crate::words::{reason_of_day, reason_of_time};
 use irig_forms::{Key, Kind, Text, at_most, natural_in};
+use irig_reason_text::{Expected, Found, JsonPath, Misfit, Note, reason_of_day, reason_of_time};
+use irig_values::LOCAL;
 use serde_json::Value;
 
 /// Which value of an object is outside the range of its key, if one is.
@@ -37,7 +36,16 @@ fn misfit_at(place: JsonPath, key: Key, item: &Value) -> Misfit<'_>
         return Misfit::new(place, found, Expected::Range(0, i128::from(most)));
     }
     let found = Found::AtKey(key.name, item);
-    Misfit::new(place, found, Expected::Ranged(key)).with(why_no_date(key.kind, item))
+    Misfit::new(place, found, ranged(key)).with(why_no_date(key.kind, item))
+}
+
+// Of an offset what a generator takes, and not what a line can have.
+fn ranged(key: Key) -> Expected<'static> {
+    if key.name == LOCAL.name {
+        Expected::Offset
+    } else {
+        Expected::Ranged(key)
+    }
 }
 
 fn why_no_date(kind: Kind, item: &Value) -> Note {

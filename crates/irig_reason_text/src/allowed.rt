@@ -3,7 +3,8 @@
 use crate::draft::Draft;
 use crate::misfit::Expected;
 use irig_forms::{Key, Kind, Text};
-use irig_values::LOCAL;
+
+static OFFSET: &str = "-31 to 31 half hours";
 
 static START_RULE: &str =
     ": 23:59:60 needs an \"insert\" of that day, and a \"delete\" takes 23:59:59 away";
@@ -42,9 +43,14 @@ impl Draft {
                 if is_number(key.kind) {
                     self.push("a whole number, ");
                 }
-                self.of_key(key);
+                self.kind(key.kind);
             }
-            Expected::Ranged(key) => self.of_key(key),
+            Expected::Ranged(key) => self.kind(key.kind),
+            Expected::TypedOffset => {
+                self.push("a whole number, ");
+                self.push(OFFSET);
+            }
+            Expected::Offset => self.push(OFFSET),
             Expected::Range(least, most) => self.range(least, most),
             Expected::Start => self.push("a second that \"leaps\" gives its day"),
             Expected::Text(text) | Expected::Clause(text) => self.push(text),
@@ -61,15 +67,6 @@ impl Draft {
     fn words(&mut self, words: &[&str]) {
         for (at, word) in words.iter().enumerate() {
             self.next_word(at == 0, word);
-        }
-    }
-
-    // Of an offset what a generator takes, and not what a line can have.
-    fn of_key(&mut self, key: Key) {
-        if key.name == LOCAL.name {
-            self.push("-31 to 31 half hours");
-        } else {
-            self.kind(key.kind);
         }
     }
 
@@ -104,7 +101,7 @@ fn is_number(kind: Kind) -> bool {
 // Whether the words for it have a comma, so that one stands behind them too.
 fn has_comma(expected: Expected<'_>) -> bool {
     match expected {
-        Expected::Clause(_) => true,
+        Expected::Clause(_) | Expected::TypedOffset => true,
         Expected::Typed(key) => is_number(key.kind) || has_clause(key.kind),
         Expected::Ranged(key) => has_clause(key.kind),
         _ => false,

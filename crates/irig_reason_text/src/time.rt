@@ -1,27 +1,9 @@
-//! What is wrong with the TIME or the FRAME of a command line.
+//! Why a text is no time, or no day, that is served.
 
-use crate::draft::{Draft, Reason};
 use irig_time::{FIRST_DAY, LAST_DAY, month_end, read_day};
-use std::alloc::{AllocError, Global};
-
-/// Why a text names no UTC second of those that are served, in one line. Fails for lack of memory
-/// alone.
-pub fn why_no_time(alloc: Global, text: &str) -> Result<String, AllocError> {
-    let mut draft = Draft::new(alloc);
-    draft.quoted(text);
-    match TimeText::of(text.as_bytes()) {
-        Some(time) => {
-            draft.push(": ");
-            draft.push(time.reason());
-        }
-        None => draft.push(" is not of the form YYYY-MM-DDTHH:MM:SSZ, as 2016-12-31T23:59:59Z"),
-    }
-    let Reason { text, .. } = draft.end(None)?;
-    Ok(text)
-}
 
 /// Why a text is none of the seconds served.
-pub(crate) fn reason_of_time(text: &str) -> &'static str {
+pub fn reason_of_time(text: &str) -> &'static str {
     match TimeText::of(text.as_bytes()) {
         Some(time) => time.reason(),
         None => "its form is another",
@@ -29,7 +11,7 @@ pub(crate) fn reason_of_time(text: &str) -> &'static str {
 }
 
 /// Why a text is none of the days that can be named.
-pub(crate) fn reason_of_day(text: &str) -> &'static str {
+pub fn reason_of_day(text: &str) -> &'static str {
     let form = FORM.get(..10).unwrap_or(FORM);
     if text.len() == 10 && has_form(text.as_bytes(), form) {
         "there is no such day in these years"
@@ -40,7 +22,7 @@ pub(crate) fn reason_of_day(text: &str) -> &'static str {
 
 /// The parts of a time that has its form, whatever they say.
 #[derive(Clone, Copy)]
-struct TimeText {
+pub(crate) struct TimeText {
     /// The day, counted from 2000-01-01; none if there is no such day in those years.
     day: Option<u32>,
     hour: u8,
@@ -49,7 +31,7 @@ struct TimeText {
 }
 
 impl TimeText {
-    fn of(text: &[u8]) -> Option<TimeText> {
+    pub(crate) fn of(text: &[u8]) -> Option<TimeText> {
         if text.len() != 20 || !has_form(text, FORM) {
             return None;
         }
@@ -61,7 +43,7 @@ impl TimeText {
         })
     }
 
-    fn reason(&self) -> &'static str {
+    pub(crate) fn reason(&self) -> &'static str {
         let Some(day) = self.day else {
             return "there is no such day from 2000-01-02 to 2099-12-30";
         };
@@ -106,27 +88,4 @@ fn two_digits(text: &[u8], place: usize) -> Option<u8> {
         }
         _ => None,
     }
-}
-
-/// Which character of a text is no symbol of a frame, and at which place, in one line. Fails
-/// only if there is no memory.
-pub fn why_no_frame(alloc: Global, text: &str) -> Result<String, AllocError> {
-    let mut draft = Draft::new(alloc);
-    for (place, letter) in text.chars().enumerate() {
-        if !is_letter(letter) {
-            draft.push("character ");
-            draft.number(place.saturating_add(1) as i128);
-            draft.push(" is ");
-            draft.letter(letter);
-            draft.push("; ");
-            break;
-        }
-    }
-    draft.push("P, 0, 1, ? and blanks may stand there");
-    let Reason { text, .. } = draft.end(None)?;
-    Ok(text)
-}
-
-fn is_letter(letter: char) -> bool {
-    matches!(letter, 'P' | '0' | '1' | '?' | ' ')
 }
