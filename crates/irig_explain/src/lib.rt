@@ -12,6 +12,7 @@ mod range;
 mod refused;
 mod shape;
 mod value;
+mod walk;
 
 pub use irig_reason_text::{JsonPath, Parts, Reason, Span};
 pub use refused::{PlantContext, why_refused};

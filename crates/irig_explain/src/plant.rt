@@ -27,8 +27,8 @@ pub(crate) fn find_in_plant(
         Refusal::Shape => Ok(find_in_shapes(value)),
         Refusal::Value => Ok(find_in_ranges(value)),
         Refusal::Names => Ok(find_name(value)),
-        Refusal::Version => Ok(find_at(value, "version", Expected::Text("1, 2 or 3"))),
-        Refusal::BadStart => Ok(find_at(value, "start", Expected::Start)),
+        Refusal::Version => Ok(Some(at(value, "version", Expected::Text("1, 2 or 3")))),
+        Refusal::BadStart => Ok(Some(at(value, "start", Expected::Start))),
         Refusal::LeapNotMonthEnd
         | Refusal::LeapTwice
         | Refusal::OutOfYears
@@ -51,8 +51,8 @@ pub(crate) fn find_in_plant(
 }
 
 // At a key of the line's own object, of which there is one.
-fn find_at<'a>(value: &'a Value, name: &'static str, expected: Expected<'a>) -> Option<Misfit<'a>>
-    ensures { IfSome result (λ misfit. misfit.place ≡ JsonPath.Line) }
+fn at<'a>(value: &'a Value, name: &'static str, expected: Expected<'a>) -> Misfit<'a>
+    ensures { result.place ≡ JsonPath.Line }
 {
     Misfit::at(JsonPath::Line, name, value, expected)
 }

@@ -38,11 +38,7 @@ fn find_at_keys<'a>(place: JsonPath, keys: &[Key], value: &'a Value) -> Option<M
 {
     for key in keys {
         if !fits(key, value) {
-            let found = match value.get(key.name) {
-                Some(item) => Found::AtKey(key.name, item),
-                None => Found::Missing(key.name),
-            };
-            return Some(Misfit::new(place, found, typed(*key)));
+            return Some(Misfit::at(place, key.name, value, typed(*key)));
         }
     }
     None

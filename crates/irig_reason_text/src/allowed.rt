@@ -2,9 +2,8 @@
 
 use crate::draft::Draft;
 use crate::misfit::Expected;
+use indexmap::IndexSet;
 use irig_forms::{Key, Kind, Text};
-
-static OFFSET: &str = "-31 to 31 half hours";
 
 static START_RULE: &str =
     ": 23:59:60 needs an \"insert\" of that day, and a \"delete\" takes 23:59:59 away";
@@ -34,28 +33,31 @@ impl Draft {
             Expected::Object => self.push("an object"),
             Expected::Keys(keys) => self.keys(keys),
             Expected::Words(words) => self.words(words),
-            Expected::Names(names) => {
-                for (at, name) in names.iter().enumerate() {
-                    self.next_word(at == 0, name.as_str());
-                }
-            }
-            Expected::Typed(key) => {
-                if is_number(key.kind) {
-                    self.push("a whole number, ");
-                }
-                self.kind(key.kind);
-            }
+            Expected::Names(names) => self.names(names),
+            Expected::Typed(key) => self.typed(key.kind),
             Expected::Ranged(key) => self.kind(key.kind),
-            Expected::TypedOffset => {
-                self.push("a whole number, ");
-                self.push(OFFSET);
-            }
-            Expected::Offset => self.push(OFFSET),
+            Expected::Offset => self.push("-31 to 31 half hours"),
+            Expected::TypedOffset => self.push("a whole number, -31 to 31 half hours"),
             Expected::Range(least, most) => self.range(least, most),
             Expected::Start => self.push("a second that \"leaps\" gives its day"),
             Expected::Text(text) | Expected::Clause(text) => self.push(text),
             Expected::Nothing => {}
         }
+    }
+
+    fn names(&mut self, names: &IndexSet<String>) {
+        let mut is_first = true;
+        for name in names.iter() {
+            self.next_word(is_first, name.as_str());
+            is_first = false;
+        }
+    }
+
+    fn typed(&mut self, kind: Kind) {
+        if is_number(kind) {
+            self.push("a whole number, ");
+        }
+        self.kind(kind);
     }
 
     fn keys(&mut self, keys: &[Key]) {

@@ -1,6 +1,6 @@
 //! What is wrong in a line: the place, what stands there, and what may stand there.
 
-ghost use Rattle.std.specs.Prelude.{◌≡◌, IfSome};
+ghost use Rattle.std.specs.Prelude.{◌≡◌};
 
 use crate::path::JsonPath;
 use indexmap::IndexSet;
@@ -92,20 +92,23 @@ impl<'a> Misfit<'a> {
         }
     }
 
-    /// What stands at a key of an object, if anything does, where something else may.
+    /// What stands at a key of an object, where something else may; or that nothing does.
     pub fn at(
         place: JsonPath,
         name: &'static str,
         object: &'a Value,
         expected: Expected<'a>,
-    ) -> Option<Misfit<'a>>
-        ensures { IfSome result (λ misfit. misfit.place ≡ place) }
+    ) -> Misfit<'a>
+        ensures { result.place ≡ place }
     {
-        let item = object.get(name)?;
-        Some(Misfit::new(place, Found::AtKey(name, item), expected))
+        let found = match object.get(name) {
+            Some(item) => Found::AtKey(name, item),
+            None => Found::Missing(name),
+        };
+        Misfit::new(place, found, expected)
     }
 
-    /// The same, and this is said besides.
+    /// The same misfit, of which this is said besides.
     pub fn with(self, note: Note) -> Misfit<'a>
         ensures { result.place ≡ self.entry.place }
     {
