@@ -2,8 +2,10 @@
 
 use crate::fault::Fault;
 use irig_command_line::Request;
-use irig_explain::{PlantContext, meaning_of, why_no_frame, why_no_time, why_refused};
+use irig_explain::{PlantContext, why_refused};
+use irig_reason_text::{why_no_frame, why_no_time};
 use irig_scene::{RefusedLine, SceneFault};
+use irig_words::meaning_of;
 use std::alloc::{AllocError, Global};
 
 /// Writes why a line is refused to the standard error. Without memory, or if it takes nothing,

@@ -9,8 +9,8 @@ use Rattle.irig_forms.specs.Json.{json_of, is_there}
 use Rattle.irig_forms.specs.Fields.{has_form, natural_at, reader_at}
 use Rattle.irig_values.specs.Forms.{action_of, keys_of, g, r, edge}
 use Rattle.irig_values.specs.PlantValues.{PlantValues, plant_values}
-use Rattle.irig_explain.specs.declared.place.JsonPath.{JsonPath}
-use Rattle.irig_explain.specs.declared.place.JsonPath.TheVariants.{Line}
+use Rattle.irig_reason_text.specs.declared.path.JsonPath.{JsonPath}
+use Rattle.irig_reason_text.specs.declared.path.JsonPath.TheVariants.{Line}
 use Rattle.irig_explain.specs.Values.{have_values}
 use Rattle.irig_explain.specs.Places.{version_of_line, is_misformed, is_beyond, is_misnamed}
 use Rattle.irig_explain.specs.Refused.{refusal_at}

@@ -13,8 +13,8 @@ use Rattle.irig_values.specs.PlantShape.{version_of, plant_keys, leap_keys, gene
 use Rattle.irig_forms.specs.Json.{items_at, whole_at, is_there}
 use Rattle.irig_forms.specs.Keys.{KeyValue}
 use Rattle.irig_forms.specs.Fields.{has_form}
-use Rattle.irig_explain.specs.declared.place.JsonPath.{JsonPath}
-use Rattle.irig_explain.specs.declared.place.JsonPath.TheVariants.{Line, Leap, Generator, Change, Reader, Table, TableLeap}
+use Rattle.irig_reason_text.specs.declared.path.JsonPath.{JsonPath}
+use Rattle.irig_reason_text.specs.declared.path.JsonPath.TheVariants.{Line, Leap, Generator, Change, Reader, Table, TableLeap}
 use Rattle.irig_explain.specs.Values.{have_values}
 
 -- the i-th item, from 0, of the list at a key

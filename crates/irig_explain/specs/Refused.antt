@@ -17,8 +17,8 @@ use Rattle.irig_faults.specs.declared.refusal.LineFault.{LineFault}
 use Rattle.irig_faults.specs.declared.refusal.LineFault.TheVariants.{Refused, Memory}
 use Rattle.irig_faults.specs.Refusals.{of_timeline, of_table}
 use Rattle.irig_values.specs.PlantValues.{PlantValues, GeneratorValues, ReaderValues}
-use Rattle.irig_explain.specs.declared.place.JsonPath.{JsonPath}
-use Rattle.irig_explain.specs.declared.place.JsonPath.TheVariants.{Line, Leap, Generator, Change, Reader, Table, TableLeap}
+use Rattle.irig_reason_text.specs.declared.path.JsonPath.{JsonPath}
+use Rattle.irig_reason_text.specs.declared.path.JsonPath.TheVariants.{Line, Leap, Generator, Change, Reader, Table, TableLeap}
 
 -- the refusal of a fault of a part, if it is one
 abbrev pub refusal_in : LineFault → Option Refusal

@@ -5,8 +5,6 @@ ghost use Rattle.serde_json.specs.View.{view};
 ghost use Rattle.irig_forms.specs.Keys.{texts_of};
 ghost use Rattle.irig_explain.specs.Lines.{has_event_form, has_event_values, has_generator, has_reached, is_event_refused};
 
-use crate::misfit::{Expected, Found, Misfit, Note};
-use crate::place::JsonPath;
 use crate::range::have_values;
 use crate::refused::PlantContext;
 use crate::shape::find_in_shape;
@@ -14,6 +12,7 @@ use crate::value::find_in_values;
 use indexmap::IndexSet;
 use irig_faults::Refusal;
 use irig_forms::{has_form, natural_at, reader_at, text_at};
+use irig_reason_text::{Expected, JsonPath, Misfit, Note};
 use irig_values::{ACTION_WORDS, EDGE, FAULT_WORDS, G, R, event_keys};
 use serde_json::Value;
 
@@ -28,9 +27,8 @@ pub(crate) fn find_in_event<'a>(
         (texts_of context.now.names.now.keys) context.now.edges.now (view value.now) ≡ true) }
     ensures place { IfSome result (λ misfit. misfit.place ≡ JsonPath.Line) }
 {
-    let misfit = find(refusal, value, context)?;
     if is_event_refused(refusal, context.names, context.edges, value) {
-        Some(misfit)
+        find(refusal, value, context)
     } else {
         None
     }
@@ -41,16 +39,10 @@ fn find<'a>(refusal: Refusal, value: &'a Value, context: &PlantContext<'a>) -> O
 {
     match refusal {
         Refusal::Shape => find_shape(value),
-        Refusal::Value => find_in_values(JsonPath::Line, event_keys(value)?, value),
-        Refusal::NoSuchReader => {
-            Misfit::at(JsonPath::Line, "r", value, Expected::Names(context.names))
-        }
-        Refusal::NoSuchGenerator => {
-            let last = context.edges.len().checked_sub(1)?;
-            let generators = Expected::Range(0, last as i128);
-            Misfit::at(JsonPath::Line, "g", value, generators)
-        }
-        Refusal::FutureReplay => find_replay(value, context),
+        Refusal::Value => find_value(value),
+        Refusal::NoSuchReader => Some(other_reader(value, context.names)),
+        Refusal::NoSuchGenerator => find_generator(value, context.edges),
+        Refusal::FutureReplay => find_replay(value, context.edges),
         _ => None,
     }
 }
@@ -61,37 +53,65 @@ fn find_shape(value: &Value) -> Option<Misfit<'_>>
     match event_keys(value) {
         Some(keys) => find_in_shape(JsonPath::Line, keys, value),
         None if !value.is_object() => find_in_shape(JsonPath::Line, &[], value),
-        None if text_at(value, "do") == Some("fault") => {
-            Some(other_word("kind", &FAULT_WORDS, value))
-        }
-        None => Some(other_word("do", &ACTION_WORDS, value)),
+        None => Some(other_action(value)),
     }
 }
 
-// A key whose text is none of these words.
-fn other_word<'a>(
-    name: &'static str,
-    words: &'static [&'static str],
-    value: &'a Value,
-) -> Misfit<'a>
+fn other_action(value: &Value) -> Misfit<'_>
     ensures { result.place ≡ JsonPath.Line }
 {
-    let found = match value.get(name) {
-        Some(item) => Found::AtKey(name, item),
-        None => Found::Missing(name),
-    };
-    Misfit::new(JsonPath::Line, found, Expected::Words(words))
+    match text_at(value, "do") {
+        Some("fault") => at(value, "kind", Expected::Words(&FAULT_WORDS)),
+        _ => at(value, "do", Expected::Words(&ACTION_WORDS)),
+    }
 }
 
-fn find_replay<'a>(value: &'a Value, context: &PlantContext<'a>) -> Option<Misfit<'a>>
+fn at<'a>(value: &'a Value, name: &'static str, expected: Expected<'a>) -> Misfit<'a>
+    ensures { result.place ≡ JsonPath.Line }
+{
+    Misfit::at(JsonPath::Line, name, value, expected)
+}
+
+fn find_value(value: &Value) -> Option<Misfit<'_>>
     ensures { IfSome result (λ misfit. misfit.place ≡ JsonPath.Line) }
 {
-    let generator = value.get("g").and_then(Value::as_u64)?;
-    let place = usize::try_from(generator).ok()?;
-    let edge = *context.edges.get(place)?;
+    match event_keys(value) {
+        Some(keys) => find_in_values(JsonPath::Line, keys, value),
+        None => None,
+    }
+}
+
+fn other_reader<'a>(value: &'a Value, names: &'a IndexSet<String>) -> Misfit<'a>
+    ensures { result.place ≡ JsonPath.Line }
+{
+    at(value, "r", Expected::Names(names))
+}
+
+fn find_generator<'a>(value: &'a Value, edges: &[u64]) -> Option<Misfit<'a>>
+    ensures { IfSome result (λ misfit. misfit.place ≡ JsonPath.Line) }
+{
+    match edges {
+        [_, others @ ..] => Some(at(value, "g", Expected::Range(0, others.len() as i128))),
+        [] => None,
+    }
+}
+
+fn find_replay<'a>(value: &'a Value, edges: &[u64]) -> Option<Misfit<'a>>
+    ensures { IfSome result (λ misfit. misfit.place ≡ JsonPath.Line) }
+{
+    let generator = natural_at(G, value)?;
+    match edges.get(generator as usize) {
+        Some(edge) => Some(past_of(value, generator, *edge)),
+        None => None,
+    }
+}
+
+// It asks for what this generator sends at a later edge than this one, at which it is.
+fn past_of(value: &Value, generator: u64, edge: u64) -> Misfit<'_>
+    ensures { result.place ≡ JsonPath.Line }
+{
     let past = Expected::Range(0, i128::from(edge));
-    let misfit = Misfit::at(JsonPath::Line, "edge", value, past)?;
-    Some(misfit.with(Note::Edge(generator, edge)))
+    at(value, "edge", past).with(Note::Edge(generator, edge))
 }
 
 // ---- the test of one

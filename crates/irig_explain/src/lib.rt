@@ -1,12 +1,8 @@
-//! What the program says of its numbers, and why a line is refused: the place in the line, what
-//! stands there and what may stand there, by the tables by which the line was read.
+//! Why a line is refused: the place in the line, what stands there and what may stand there, by the
+//! tables by which the line was read.
 #![tactic(auto)]
 
-mod draft;
 mod event;
-mod json;
-mod kind;
-mod misfit;
 mod names;
 mod objects;
 mod place;
@@ -15,14 +11,8 @@ mod plant;
 mod range;
 mod refused;
 mod shape;
-mod start;
 mod value;
-mod word;
-mod words;
+mod walk;
 
-pub use draft::{Parts, Reason, Span};
-pub use irig_faults::{Meaning, meaning_of};
-pub use place::JsonPath;
+pub use irig_reason_text::{JsonPath, Parts, Reason, Span};
 pub use refused::{PlantContext, why_refused};
-pub use word::{explanation, why_no_word};
-pub use words::{why_no_frame, why_no_time};

@@ -9,9 +9,8 @@ ghost use Rattle.irig_values.specs.Names.{name_in};
 ghost use Rattle.irig_values.specs.PlantValues.{readers_in};
 ghost use Rattle.irig_explain.specs.Places.{is_misnamed, is_unnamed};
 
-use crate::misfit::{Expected, Misfit};
-use crate::place::JsonPath;
 use irig_forms::{items_at, text_at};
+use irig_reason_text::{Expected, JsonPath, Misfit};
 use irig_values::is_name;
 use serde_json::Value;
 
@@ -20,18 +19,16 @@ use serde_json::Value;
 pub(crate) fn find_name(value: &Value) -> Option<Misfit<'_>>
     ensures { IfSome result (λ misfit. is_misnamed misfit.place (view value.now) ≡ true) }
 {
-    let misfit = first_misnamed(value)?;
-    if is_misnamed(misfit.place, value) {
-        Some(misfit)
-    } else {
-        None
+    match first_misnamed(value) {
+        Some(misfit) if is_misnamed(misfit.place, value) => Some(misfit),
+        _ => None,
     }
 }
 
 fn first_misnamed(value: &Value) -> Option<Misfit<'_>> {
     let readers = readers_in(value);
     if readers.is_empty() || readers.len() > 16 {
-        return Misfit::at(JsonPath::Line, "readers", value, Expected::Text("1 to 16"));
+        return Some(Misfit::at(JsonPath::Line, "readers", value, Expected::Text("1 to 16")));
     }
     find_other_name(readers).or(find_name_twice(readers))
 }
@@ -40,7 +37,7 @@ fn find_other_name(readers: &[Value]) -> Option<Misfit<'_>> {
     let name = Expected::Text("1 to 16 of a to z, 0 to 9, _ and -");
     for (at, reader) in readers.iter().enumerate() {
         if !is_name(name_in(reader)) {
-            return Misfit::at(JsonPath::Reader(at), "name", reader, name);
+            return Some(Misfit::at(JsonPath::Reader(at), "name", reader, name));
         }
     }
     None
@@ -51,7 +48,7 @@ fn find_name_twice(readers: &[Value]) -> Option<Misfit<'_>> {
     for at in 0..readers.len() {
         let reader = &readers[at];
         if is_unnamed(readers, at, reader) {
-            return Misfit::at(JsonPath::Reader(at), "name", reader, name);
+            return Some(Misfit::at(JsonPath::Reader(at), "name", reader, name));
         }
     }
     None

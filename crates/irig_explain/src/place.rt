@@ -1,6 +1,6 @@
 //! The objects of a plant line, by their places, and what is wrong with one.
 
-ghost use Rattle.std.specs.Prelude.{◌≡◌, map, option_map};
+ghost use Rattle.std.specs.Prelude.{◌≡◌, map, option_and_then, option_map};
 ghost use Rattle.serde_json.specs.View.{view};
 ghost use Rattle.irig_forms.specs.Keys.{key_value};
 ghost use Rattle.irig_values.specs.PlantValues.{is_count, readers_in};
@@ -8,31 +8,13 @@ ghost use Rattle.irig_values.specs.Names.{name_in};
 ghost use Rattle.irig_explain.specs.Places.{has_count, is_beyond, is_line, is_misformed, is_misvalued, is_misnamed, is_unnamed, item_at, keys_at, object_at, table_at, version_of_line};
 
 use crate::range::have_values;
-use irig_forms::{Key, has_form, items_at, text_at};
+use irig_forms::{Key, has_form, items_at};
+use irig_reason_text::JsonPath;
 use irig_values::{
-    Version, change_keys, generator_keys, is_name, leap_keys, plant_keys, reader_keys, table_keys,
+    Version, change_keys, generator_keys, leap_keys, plant_keys, reader_keys, table_keys,
     version_in,
 };
 use serde_json::Value;
-
-/// An object of a scenario's line.
-#[derive(Clone, Copy)]
-pub enum JsonPath {
-    /// The line's own.
-    Line,
-    /// A leap of a plant line.
-    Leap(usize),
-    /// A generator.
-    Generator(usize),
-    /// A change of a generator's zone, after the generator.
-    Change(usize, usize),
-    /// A reader.
-    Reader(usize),
-    /// The table of a reader.
-    Table(usize),
-    /// A leap of a reader's table, after the reader.
-    TableLeap(usize, usize),
-}
 
 /// An item, from 0, of the list at a key.
 #[tactic(auto, unfolding(crate::specs::Places::item_at), using(crate::proofs::PlaceLaws::viewed_item))]
@@ -42,14 +24,29 @@ pub(crate) fn item_at<'a>(value: &'a Value, key: &str, at: usize) -> Option<&'a 
     items_at(value, key)?.get(at)
 }
 
-fn table_at(value: &Value, reader: usize) -> Option<&Value>
-    ensures { option_map (λ v. view v.now) result ≡ table_at reader (view value.now) }
+fn item_in<'a>(value: Option<&'a Value>, key: &str, at: usize) -> Option<&'a Value>
+    ensures { option_map (λ v. view v.now) result ≡ option_and_then (item_at key.now at)
+        (option_map (λ v. view v.now) value.entry) }
 {
-    item_at(value, "readers", reader)?.get("table")
+    match value {
+        Some(value) => item_at(value, key, at),
+        None => None,
+    }
 }
 
+/// The table of a reader, from 0.
+pub(crate) fn table_at(value: &Value, reader: usize) -> Option<&Value>
+    ensures { option_map (λ v. view v.now) result ≡ table_at reader (view value.now) }
+{
+    match item_at(value, "readers", reader) {
+        Some(reader) => reader.get("table"),
+        None => None,
+    }
+}
+
+/// The object at a place.
 #[tactic(auto, unfolding(crate::specs::Places::object_at))]
-fn object_at(value: &Value, place: JsonPath) -> Option<&Value>
+pub(crate) fn object_at(value: &Value, place: JsonPath) -> Option<&Value>
     ensures { option_map (λ v. view v.now) result ≡ object_at place (view value.now) }
 {
     match place {
@@ -57,15 +54,16 @@ fn object_at(value: &Value, place: JsonPath) -> Option<&Value>
         JsonPath::Leap(at) => item_at(value, "leaps", at),
         JsonPath::Generator(at) => item_at(value, "generators", at),
         JsonPath::Change(above, at) => {
-            item_at(item_at(value, "generators", above)?, "changes", at)
+            item_in(item_at(value, "generators", above), "changes", at)
         }
         JsonPath::Reader(at) => item_at(value, "readers", at),
         JsonPath::Table(at) => table_at(value, at),
-        JsonPath::TableLeap(above, at) => item_at(table_at(value, above)?, "leaps", at),
+        JsonPath::TableLeap(above, at) => item_in(table_at(value, above), "leaps", at),
     }
 }
 
-fn keys_at(version: Version, place: JsonPath) -> &'static [Key]
+/// The keys that it may have.
+pub(crate) fn keys_at(version: Version, place: JsonPath) -> &'static [Key]
     ensures { map key_value result.now ≡ keys_at version place }
 {
     match place {
@@ -89,9 +87,9 @@ pub(crate) fn is_misformed(version: Version, place: JsonPath, value: &Value) -> 
     }
 }
 
-// Whether a value in the object at a place is not in its range.
+/// Whether a value in the object at a place is not in its range.
 #[tactic(auto, unfolding(crate::specs::Places::is_misvalued))]
-fn is_misvalued(version: Version, place: JsonPath, value: &Value) -> bool
+pub(crate) fn is_misvalued(version: Version, place: JsonPath, value: &Value) -> bool
     ensures { result ≡ is_misvalued version place (view value.now) }
 {
     match object_at(value, place) {
@@ -114,10 +112,7 @@ pub(crate) fn version_of_line(value: &Value) -> Version
 fn is_line(place: JsonPath) -> bool
     ensures { result ≡ is_line place }
 {
-    match place {
-        JsonPath::Line => true,
-        _ => false,
-    }
+    matches!(place, JsonPath::Line)
 }
 
 #[tactic(auto, unfolding(crate::specs::Places::has_count))]

@@ -4,10 +4,11 @@ ghost use Rattle.std.specs.Prelude.{◌≡◌, ◌≤◌, IfSome, Some};
 ghost use Rattle.irig_time.specs.declared.second.TheConstants.{LAST_DAY};
 ghost use Rattle.irig_explain.specs.Refused.{change_refusal, change_refusal_at, entry_fault_at, entry_refusal, leap_refusal, minute_before, refusal_at, refusal_in, table_refusal, zone_refusal};
 
-use crate::misfit::{Expected, Misfit};
-use crate::place::{JsonPath, item_at};
+use crate::place::object_at;
+use crate::walk::{Wrong, first_place};
 use irig_faults::{LineFault, Refusal};
 use irig_gen::{Change, Zone, is_change_time, minute_number};
+use irig_reason_text::{Expected, JsonPath, Misfit};
 use irig_time::{LAST_DAY, LAST_NAMED_DAY, Leap, TableFault, entry_fault, leap_fault, month_end};
 use irig_values::{GeneratorValues, PlantValues, ReaderValues};
 use serde_json::Value;
@@ -137,153 +138,65 @@ pub(crate) fn find_in_plan<'a>(
 ) -> Option<Misfit<'a>>
     ensures { IfSome result (λ misfit. refusal_at values.now misfit.place ≡ Some refusal) }
 {
-    let misfit = find(refusal, values, value)?;
-    if refusal_at(values, misfit.place)? == refusal {
-        Some(misfit)
+    let place = refused_place(refusal, values, value)?;
+    let object = object_at(value, place)?;
+    let expected = expected_for(refusal, values, place);
+    Some(Misfit::at(place, key_of(refusal), object, expected))
+}
+
+fn refused_place(refusal: Refusal, values: &PlantValues, value: &Value) -> Option<JsonPath>
+    ensures { IfSome result (λ place. refusal_at values.now place ≡ Some refusal) }
+{
+    let place = first_place(Wrong::Values(refusal, values), value)?;
+    if refusal_at(values, place)? == refusal {
+        Some(place)
     } else {
         None
     }
 }
 
-fn find<'a>(refusal: Refusal, values: &PlantValues, value: &'a Value) -> Option<Misfit<'a>> {
+// The key whose value is refused so.
+fn key_of(refusal: Refusal) -> &'static str {
     match refusal {
-        Refusal::Offset | Refusal::Changes => find_in_generators(refusal, values, value),
-        Refusal::LeapNotMonthEnd | Refusal::LeapTwice | Refusal::OutOfYears => {
-            find_in_leaps(refusal, values, value)
-        }
-        _ => find_in_tables(refusal, values, value),
+        Refusal::Offset => "local",
+        Refusal::Changes => "at",
+        Refusal::TableEnd => "until",
+        Refusal::TableLong => "leaps",
+        _ => "day",
     }
 }
 
-fn find_in_leaps<'a>(
-    refusal: Refusal,
-    values: &PlantValues,
-    value: &'a Value,
-) -> Option<Misfit<'a>> {
-    for at in 0..values.leaps.len() {
-        let place = JsonPath::Leap(at);
-        if refusal_at(values, place) == Some(refusal) {
-            let leap = item_at(value, "leaps", at)?;
-            return Misfit::at(place, "day", leap, Expected::Text(day_for(refusal)));
-        }
-    }
-    None
-}
-
-fn day_for(refusal: Refusal) -> &'static str {
+fn expected_for(refusal: Refusal, values: &PlantValues, place: JsonPath) -> Expected<'static> {
     match refusal {
-        Refusal::LeapNotMonthEnd => "the last day of a month",
-        Refusal::OutOfYears => "2000-01-02 to 2099-12-30",
-        _ => "a day that no leap before it has",
+        Refusal::Offset => Expected::Offset,
+        Refusal::Changes => {
+            Expected::Clause("the first second of a minute, later than the change before")
+        }
+        Refusal::LeapNotMonthEnd => Expected::Text("the last day of a month"),
+        Refusal::OutOfYears => Expected::Text("2000-01-02 to 2099-12-30"),
+        Refusal::TableEnd => Expected::Text("a day up to 2099-12-30"),
+        Refusal::TableLong => Expected::Text("at most 64"),
+        Refusal::TableDay if is_late(values, place) => Expected::Text("a day up to \"until\""),
+        Refusal::TableDay => Expected::Text("the last day of a month"),
+        _ => Expected::Text("a day that no leap before it has"),
     }
 }
 
-fn find_in_generators<'a>(
-    refusal: Refusal,
-    values: &PlantValues,
-    value: &'a Value,
-) -> Option<Misfit<'a>> {
-    for at in 0..values.generators.len() {
-        let place = JsonPath::Generator(at);
-        let object = item_at(value, "generators", at)?;
-        if refusal_at(values, place) == Some(refusal) {
-            return zone_misfit(refusal, place, object);
-        }
-        let misfit = find_in_changes(refusal, values, at, object);
-        if misfit.is_some() {
-            return misfit;
-        }
-    }
-    None
-}
-
-fn find_in_changes<'a>(
-    refusal: Refusal,
-    values: &PlantValues,
-    generator: usize,
-    object: &'a Value,
-) -> Option<Misfit<'a>> {
-    let count = values.generators.get(generator)?.changes.len();
-    for nth in 0..count {
-        let place = JsonPath::Change(generator, nth);
-        if refusal_at(values, place) == Some(refusal) {
-            return zone_misfit(refusal, place, item_at(object, "changes", nth)?);
-        }
-    }
-    None
-}
-
-fn zone_misfit(refusal: Refusal, place: JsonPath, object: &Value) -> Option<Misfit<'_>> {
-    match refusal {
-        Refusal::Offset => {
-            let offset = Expected::Text("-31 to 31 half hours");
-            Misfit::at(place, "local", object, offset)
-        }
-        _ => {
-            let time = Expected::Clause(
-                "the first second of a minute, later than the change before",
-            );
-            Misfit::at(place, "at", object, time)
-        }
+// Whether the leap of a table is at the end of a month, so that only the table's own end is before
+// it.
+fn is_late(values: &PlantValues, place: JsonPath) -> bool {
+    let JsonPath::TableLeap(reader, at) = place else {
+        return false;
+    };
+    match values.readers.get(reader) {
+        Some(reader) => is_month_end_at(&reader.leaps, at),
+        None => false,
     }
 }
 
-fn find_in_tables<'a>(
-    refusal: Refusal,
-    values: &PlantValues,
-    value: &'a Value,
-) -> Option<Misfit<'a>> {
-    for at in 0..values.readers.len() {
-        if let Some(table) = item_at(value, "readers", at)?.get("table") {
-            let misfit = find_in_table(refusal, values, at, table);
-            if misfit.is_some() {
-                return misfit;
-            }
-        }
-    }
-    None
-}
-
-fn find_in_table<'a>(
-    refusal: Refusal,
-    values: &PlantValues,
-    at: usize,
-    table: &'a Value,
-) -> Option<Misfit<'a>> {
-    let place = JsonPath::Table(at);
-    if refusal_at(values, place) == Some(refusal) {
-        return table_misfit(refusal, place, table);
-    }
-    let reader = values.readers.get(at)?;
-    for nth in 0..reader.leaps.len() {
-        let place = JsonPath::TableLeap(at, nth);
-        if refusal_at(values, place) == Some(refusal) {
-            let leap = item_at(table, "leaps", nth)?;
-            let day = Expected::Text(entry_for(refusal, reader.leaps[nth].0));
-            return Misfit::at(place, "day", leap, day);
-        }
-    }
-    None
-}
-
-fn table_misfit(refusal: Refusal, place: JsonPath, table: &Value) -> Option<Misfit<'_>> {
-    match refusal {
-        Refusal::TableEnd => {
-            Misfit::at(
-                place,
-                "until",
-                table,
-                Expected::Text("a day up to 2099-12-30"),
-            )
-        }
-        _ => Misfit::at(place, "leaps", table, Expected::Text("at most 64")),
-    }
-}
-
-fn entry_for(refusal: Refusal, day: u32) -> &'static str {
-    match refusal {
-        Refusal::TableTwice => "a day that no leap before it has",
-        _ if day <= LAST_NAMED_DAY && month_end(day) => "a day up to \"until\"",
-        _ => "the last day of a month",
+fn is_month_end_at(leaps: &[(u32, Leap)], at: usize) -> bool {
+    match leaps.get(at) {
+        Some((day, _)) => *day <= LAST_NAMED_DAY && month_end(*day),
+        None => false,
     }
 }

@@ -4,12 +4,12 @@ ghost use Rattle.std.specs.Prelude.{◌≡◌, IfOk, IfSome};
 ghost use Rattle.serde_json.specs.View.{view};
 ghost use Rattle.irig_explain.specs.Lines.{AreRefusedAt, IsPlantRefusedAt};
 
-use crate::misfit::{Expected, Misfit};
 use crate::names::find_name;
 use crate::objects::{find_in_ranges, find_in_shapes};
-use crate::place::{JsonPath, version_of_line};
+use crate::place::version_of_line;
 use crate::plan::find_in_plan;
 use irig_faults::{LineFault, Refusal};
+use irig_reason_text::{Expected, JsonPath, Misfit};
 use irig_values::values_of;
 use serde_json::Value;
 use std::alloc::{AllocError, Global};
@@ -27,8 +27,8 @@ pub(crate) fn find_in_plant(
         Refusal::Shape => Ok(find_in_shapes(value)),
         Refusal::Value => Ok(find_in_ranges(value)),
         Refusal::Names => Ok(find_name(value)),
-        Refusal::Version => Ok(find_at(value, "version", Expected::Text("1, 2 or 3"))),
-        Refusal::BadStart => Ok(find_at(value, "start", Expected::Start)),
+        Refusal::Version => Ok(Some(at(value, "version", Expected::Text("1, 2 or 3")))),
+        Refusal::BadStart => Ok(Some(at(value, "start", Expected::Start))),
         Refusal::LeapNotMonthEnd
         | Refusal::LeapTwice
         | Refusal::OutOfYears
@@ -51,8 +51,8 @@ pub(crate) fn find_in_plant(
 }
 
 // At a key of the line's own object, of which there is one.
-fn find_at<'a>(value: &'a Value, name: &'static str, expected: Expected<'a>) -> Option<Misfit<'a>>
-    ensures { IfSome result (λ misfit. misfit.place ≡ JsonPath.Line) }
+fn at<'a>(value: &'a Value, name: &'static str, expected: Expected<'a>) -> Misfit<'a>
+    ensures { result.place ≡ JsonPath.Line }
 {
     Misfit::at(JsonPath::Line, name, value, expected)
 }

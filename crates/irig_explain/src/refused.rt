@@ -5,14 +5,11 @@ ghost use Rattle.serde_json.specs.View.{view};
 ghost use Rattle.irig_forms.specs.Keys.{texts_of};
 ghost use Rattle.irig_explain.specs.Lines.{IsRefusedAt, NamesPlace};
 
-use crate::draft::{Draft, Reason};
 use crate::event::find_in_event;
-use crate::json::push_no_json;
-use crate::misfit::Misfit;
-use crate::place::JsonPath;
 use crate::plant::find_in_plant;
 use indexmap::IndexSet;
 use irig_faults::{Refusal, meaning_of};
+use irig_reason_text::{Misfit, Reason, reason_of_cause, reason_of_json};
 use serde_json::Value;
 use std::alloc::{AllocError, Global};
 
@@ -37,72 +34,52 @@ pub fn why_refused(
     ensures { IfOk result (λ reason. IfSome reason.place (NamesPlace refusal
         (texts_of context.now.names.now.keys) context.now.edges.now line.now)) }
 {
-    let mut draft = Draft::new(alloc);
-    let place = match refusal {
+    match refusal {
         Refusal::EndOfYears | Refusal::TooLong | Refusal::NoPlant | Refusal::TooManyLines => {
-            push_cause(&mut draft, refusal);
-            None
+            reason_of_cause(alloc, cause_of(refusal))
         }
-        _ => push_place(&mut draft, alloc, refusal, line, context),
-    };
-    draft.end(place)
+        _ => reason_in_line(alloc, refusal, line, context),
+    }
 }
 
 // What the refusal means wherever it stands.
-fn push_cause(draft: &mut Draft, refusal: Refusal) {
-    if let Some(meaning) = meaning_of(refusal.number()) {
-        draft.push(meaning.cause);
+fn cause_of(refusal: Refusal) -> &'static str {
+    match meaning_of(refusal.number()) {
+        Some(meaning) => meaning.cause,
+        None => "",
     }
 }
 
 #[tactic(auto, using(irig_forms::proofs::JsonLaws::json_of_text))]
-fn push_place(
-    draft: &mut Draft,
+fn reason_in_line(
     alloc: Global,
     refusal: Refusal,
     line: &[u8],
     context: &PlantContext<'_>,
-) -> Option<JsonPath>
-    ensures { IfSome result (NamesPlace refusal
-        (texts_of context.now.names.now.keys) context.now.edges.now line.now) }
+) -> Result<Reason, AllocError>
+    ensures { IfOk result (λ reason. IfSome reason.place (NamesPlace refusal
+        (texts_of context.now.names.now.keys) context.now.edges.now line.now)) }
 {
     match Value::from_slice(alloc, line) {
-        Ok(value) => push_misfit(draft, alloc, refusal, &value, context),
-        Err(error) if error.is_memory() => {
-            draft.run_short();
-            None
-        }
-        Err(error) => {
-            push_no_json(draft, &error, line);
-            None
-        }
+        Ok(value) => reason_in_value(alloc, refusal, &value, context),
+        Err(error) if error.is_memory() => Err(AllocError),
+        Err(error) => reason_of_json(alloc, &error, line),
     }
 }
 
-fn push_misfit(
-    draft: &mut Draft,
+fn reason_in_value(
     alloc: Global,
     refusal: Refusal,
     value: &Value,
     context: &PlantContext<'_>,
-) -> Option<JsonPath>
-    ensures { IfSome result (IsRefusedAt refusal (texts_of context.now.names.now.keys)
-        context.now.edges.now (view value.now)) }
+) -> Result<Reason, AllocError>
+    ensures { IfOk result (λ reason. IfSome reason.place (IsRefusedAt refusal
+        (texts_of context.now.names.now.keys) context.now.edges.now (view value.now))) }
 {
-    let found = find(alloc, refusal, value, context.names, context.edges);
-    match found {
-        Ok(Some(misfit)) => {
-            draft.misfit(&misfit);
-            Some(misfit.place)
-        }
-        Ok(None) => {
-            push_cause(draft, refusal);
-            None
-        }
-        Err(AllocError) => {
-            draft.run_short();
-            None
-        }
+    match find(alloc, refusal, value, context.names, context.edges) {
+        Ok(Some(misfit)) => misfit.reason(alloc),
+        Ok(None) => reason_of_cause(alloc, cause_of(refusal)),
+        Err(AllocError) => Err(AllocError),
     }
 }
 

@@ -2,9 +2,9 @@
 
 ghost use Rattle.std.specs.Prelude.{◌≡◌, IfSome};
 
-use crate::misfit::{Expected, Found, Misfit};
-use crate::place::JsonPath;
 use irig_forms::{Key, fits, is_named};
+use irig_reason_text::{Expected, Found, JsonPath, Misfit};
+use irig_values::LOCAL;
 use serde_json::{Map, Value};
 
 /// What keeps a value at a place from the form of these keys, if anything does.
@@ -38,12 +38,17 @@ fn find_at_keys<'a>(place: JsonPath, keys: &[Key], value: &'a Value) -> Option<M
 {
     for key in keys {
         if !fits(key, value) {
-            let found = match value.get(key.name) {
-                Some(item) => Found::AtKey(key.name, item),
-                None => Found::Missing(key.name),
-            };
-            return Some(Misfit::new(place, found, Expected::Typed(*key)));
+            return Some(Misfit::at(place, key.name, value, typed(*key)));
         }
     }
     None
+}
+
+// Of an offset what a generator takes, and not what a line can have.
+fn typed(key: Key) -> Expected<'static> {
+    if key.name == LOCAL.name {
+        Expected::TypedOffset
+    } else {
+        Expected::Typed(key)
+    }
 }

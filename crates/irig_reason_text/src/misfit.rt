@@ -1,15 +1,15 @@
 //! What is wrong in a line: the place, what stands there, and what may stand there.
 
-ghost use Rattle.std.specs.Prelude.{◌≡◌, IfSome};
+ghost use Rattle.std.specs.Prelude.{◌≡◌};
 
-use crate::place::JsonPath;
+use crate::path::JsonPath;
 use indexmap::IndexSet;
 use irig_forms::Key;
 use serde_json::Value;
 
 /// What stands where it should not.
 #[derive(Clone, Copy)]
-pub(crate) enum Found<'a> {
+pub enum Found<'a> {
     /// This, where an object belongs.
     NoObject(&'a Value),
     /// A key that the object does not have.
@@ -26,7 +26,7 @@ pub(crate) enum Found<'a> {
 
 /// What may stand there.
 #[derive(Clone, Copy)]
-pub(crate) enum Expected<'a> {
+pub enum Expected<'a> {
     /// An object.
     Object,
     /// One of these keys.
@@ -35,6 +35,10 @@ pub(crate) enum Expected<'a> {
     Typed(Key),
     /// A value of the range of a key.
     Ranged(Key),
+    /// An offset from UTC that a generator takes.
+    Offset,
+    /// The same, where what stands there is no whole number.
+    TypedOffset,
     /// One of these words.
     Words(&'static [&'static str]),
     /// One of these names.
@@ -53,7 +57,8 @@ pub(crate) enum Expected<'a> {
 
 /// What is said besides.
 #[derive(Clone, Copy)]
-pub(crate) enum Note {
+pub enum Note {
+    /// Nothing.
     Nothing,
     /// Why it does not fit.
     Why(&'static str),
@@ -63,15 +68,20 @@ pub(crate) enum Note {
 
 /// Something in a line that does not fit.
 #[derive(Clone, Copy)]
-pub(crate) struct Misfit<'a> {
-    pub(crate) place: JsonPath,
-    pub(crate) found: Found<'a>,
-    pub(crate) expected: Expected<'a>,
-    pub(crate) note: Note,
+pub struct Misfit<'a> {
+    /// The object in which it stands.
+    pub place: JsonPath,
+    /// What stands there.
+    pub found: Found<'a>,
+    /// What may stand there.
+    pub expected: Expected<'a>,
+    /// What is said besides.
+    pub note: Note,
 }
 
 impl<'a> Misfit<'a> {
-    pub(crate) fn new(place: JsonPath, found: Found<'a>, expected: Expected<'a>) -> Misfit<'a>
+    /// This at a place where something else may stand.
+    pub fn new(place: JsonPath, found: Found<'a>, expected: Expected<'a>) -> Misfit<'a>
         ensures { result.place ≡ place }
     {
         Misfit {
@@ -82,29 +92,24 @@ impl<'a> Misfit<'a> {
         }
     }
 
-    /// What stands at a key of an object, if anything does, where something else may.
-    pub(crate) fn at(
+    /// What stands at a key of an object, where something else may; or that nothing does.
+    pub fn at(
         place: JsonPath,
         name: &'static str,
         object: &'a Value,
         expected: Expected<'a>,
-    ) -> Option<Misfit<'a>>
-        ensures { IfSome result (λ misfit. misfit.place ≡ place) }
+    ) -> Misfit<'a>
+        ensures { result.place ≡ place }
     {
-        let item = object.get(name)?;
-        Some(Misfit::new(place, Found::AtKey(name, item), expected))
+        let found = match object.get(name) {
+            Some(item) => Found::AtKey(name, item),
+            None => Found::Missing(name),
+        };
+        Misfit::new(place, found, expected)
     }
 
-    /// A reader's table in version 1, which has none.
-    pub(crate) fn early_table(reader: usize) -> Misfit<'a> {
-        Misfit::new(
-            JsonPath::Reader(reader),
-            Found::EarlyTable,
-            Expected::Nothing,
-        )
-    }
-
-    pub(crate) fn with(self, note: Note) -> Misfit<'a>
+    /// The same misfit, of which this is said besides.
+    pub fn with(self, note: Note) -> Misfit<'a>
         ensures { result.place ≡ self.entry.place }
     {
         Misfit { note, ..self }

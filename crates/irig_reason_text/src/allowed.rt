@@ -2,8 +2,8 @@
 
 use crate::draft::Draft;
 use crate::misfit::Expected;
+use indexmap::IndexSet;
 use irig_forms::{Key, Kind, Text};
-use irig_values::LOCAL;
 
 static START_RULE: &str =
     ": 23:59:60 needs an \"insert\" of that day, and a \"delete\" takes 23:59:59 away";
@@ -33,23 +33,31 @@ impl Draft {
             Expected::Object => self.push("an object"),
             Expected::Keys(keys) => self.keys(keys),
             Expected::Words(words) => self.words(words),
-            Expected::Names(names) => {
-                for (at, name) in names.iter().enumerate() {
-                    self.next_word(at == 0, name.as_str());
-                }
-            }
-            Expected::Typed(key) => {
-                if is_number(key.kind) {
-                    self.push("a whole number, ");
-                }
-                self.of_key(key);
-            }
-            Expected::Ranged(key) => self.of_key(key),
+            Expected::Names(names) => self.names(names),
+            Expected::Typed(key) => self.typed(key.kind),
+            Expected::Ranged(key) => self.kind(key.kind),
+            Expected::Offset => self.push("-31 to 31 half hours"),
+            Expected::TypedOffset => self.push("a whole number, -31 to 31 half hours"),
             Expected::Range(least, most) => self.range(least, most),
             Expected::Start => self.push("a second that \"leaps\" gives its day"),
             Expected::Text(text) | Expected::Clause(text) => self.push(text),
             Expected::Nothing => {}
         }
+    }
+
+    fn names(&mut self, names: &IndexSet<String>) {
+        let mut is_first = true;
+        for name in names.iter() {
+            self.next_word(is_first, name.as_str());
+            is_first = false;
+        }
+    }
+
+    fn typed(&mut self, kind: Kind) {
+        if is_number(kind) {
+            self.push("a whole number, ");
+        }
+        self.kind(kind);
     }
 
     fn keys(&mut self, keys: &[Key]) {
@@ -61,15 +69,6 @@ impl Draft {
     fn words(&mut self, words: &[&str]) {
         for (at, word) in words.iter().enumerate() {
             self.next_word(at == 0, word);
-        }
-    }
-
-    // Of an offset what a generator takes, and not what a line can have.
-    fn of_key(&mut self, key: Key) {
-        if key.name == LOCAL.name {
-            self.push("-31 to 31 half hours");
-        } else {
-            self.kind(key.kind);
         }
     }
 
@@ -104,7 +103,7 @@ fn is_number(kind: Kind) -> bool {
 // Whether the words for it have a comma, so that one stands behind them too.
 fn has_comma(expected: Expected<'_>) -> bool {
     match expected {
-        Expected::Clause(_) => true,
+        Expected::Clause(_) | Expected::TypedOffset => true,
         Expected::Typed(key) => is_number(key.kind) || has_clause(key.kind),
         Expected::Ranged(key) => has_clause(key.kind),
         _ => false,

@@ -1,10 +1,23 @@
 //! Where a line stops being JSON.
 
-use crate::draft::Draft;
-use serde_json::Error;
+ghost use Rattle.std.specs.Prelude.{◌≡◌, IfOk, None};
 
-/// Adds where a line stops being one JSON value, and what helps.
-pub(crate) fn push_no_json(draft: &mut Draft, error: &Error, line: &[u8]) {
+use crate::draft::Draft;
+use crate::reason::Reason;
+use serde_json::Error;
+use std::alloc::{AllocError, Global};
+
+/// Where a line, for which the reader of JSON has this error, stops being one JSON value, and what
+/// helps. It names no object. Fails only if there is no memory.
+pub fn reason_of_json(alloc: Global, error: &Error, line: &[u8]) -> Result<Reason, AllocError>
+    ensures { IfOk result (λ reason. reason.place ≡ None) }
+{
+    let mut draft = Draft::new(alloc);
+    push_no_json(&mut draft, error, line);
+    draft.end(None)
+}
+
+fn push_no_json(draft: &mut Draft, error: &Error, line: &[u8]) {
     if let Some(encoding) = other_encoding(line) {
         push_byte_number(draft, 1);
         draft.push(encoding);

@@ -209,6 +209,11 @@ fn is_name(meaning: &Meaning, word: &str) -> bool {
 
 // ---- what it means
 
+// A loop over the table itself would have all of it in its proof.
+fn words() -> &'static [Meaning] {
+    &WORDS
+}
+
 fn push_numbers_named(text: &mut String, name: &str) -> Result<(), AllocError> {
     for number in 1..=LAST_NUMBER {
         if matches!(meaning_of(number), Some(meaning) if is_name(meaning, name)) {
@@ -219,7 +224,7 @@ fn push_numbers_named(text: &mut String, name: &str) -> Result<(), AllocError> {
 }
 
 fn push_words_named(text: &mut String, name: &str) -> Result<(), AllocError> {
-    for meaning in &WORDS {
+    for meaning in words() {
         if is_name(meaning, name) || is_last_word(meaning, name) {
             push_meaning(text, meaning)?;
         }
@@ -256,32 +261,36 @@ fn push_meaning(text: &mut String, meaning: &Meaning) -> Result<(), AllocError> 
 /// line.
 pub fn why_no_word(alloc: Global, word: &str) -> Result<String, AllocError> {
     let mut text = String::new(alloc);
-    let may = if word.parse::<i64>().is_ok() {
-        "a number from 1 to 34"
-    } else {
-        "a number from 1 to 34, a name or a word of a log"
-    };
+    let may = what_may_stand(word);
     write!(
         text,
-        "error: invalid value '{word}' for '<WORD>': {may} may stand here\n\n"
-    )?;
-    text.push_str(
-        "  tip: of `refused: line 3: 25 Shape` the number is 25, and Shape the name: irig explain 25\n",
+        "error: invalid value '{word}' for '<WORD>': {may} may stand here\n\n{NUMBERS_TIP}"
     )?;
     push_words(&mut text)?;
-    text.push_str(
-        "  tip: docs/FAULTS.md has all numbers and names, docs/OUTPUT.md the words of a log\n\n",
-    )?;
-    text.push_str("For more information, try '--help'.")?;
+    text.push_str(LAST_TIP)?;
     Ok(text)
+}
+
+static NUMBERS_TIP: &str =
+    "  tip: of `refused: line 3: 25 Shape` the number is 25, and Shape the name: irig explain 25\n";
+
+static LAST_TIP: &str =
+    "  tip: docs/FAULTS.md has all numbers and names, docs/OUTPUT.md the words of a log
+
+For more information, try '--help'.";
+
+fn what_may_stand(word: &str) -> &'static str {
+    match word.parse::<i64>() {
+        Ok(_) => "a number from 1 to 34",
+        Err(_) => "a number from 1 to 34, a name or a word of a log",
+    }
 }
 
 fn push_words(text: &mut String) -> Result<(), AllocError> {
     text.push_str("  tip: the words of a log are")?;
     let mut separator = " ";
-    for meaning in &WORDS {
-        text.push_str(separator)?;
-        text.push_str(meaning.name)?;
+    for meaning in words() {
+        write!(text, "{separator}{}", meaning.name)?;
         separator = ", ";
     }
     text.push_str("\n")
