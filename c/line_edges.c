@@ -1,9 +1,9 @@
 /* How many edges the lines of scenarios ask for, by the library.
  *
- *     line_edges              tries texts written here, and null pointers
- *     line_edges SCENARIO     prints for each of 16 places how many edges of that reader there are, with
- *                             no room for the entries, too little, all and more, each at its exact size
- *     line_edges --once SCENARIO     makes one call; the status is the call's
+ *     line_edges                    tries texts written here, and null pointers
+ *     line_edges SCENARIO           prints how many edges a reader at each of 16 places has, with no
+ *                                   room for the entries, too little, all and more, each at its size
+ *     line_edges --once SCENARIO    makes one call; the status is the call's
  *
  * Compile with -fsanitize=address,undefined. */
 #include "irig_scene.h"
