@@ -28,7 +28,7 @@ STRUCTURES = {
     "irig_span": _library.Span,
     "irig_refusal": _library.Refusal,
 }
-UNUSED = {"irig_frame_options"}
+UNUSED = {"irig_edges", "irig_frame_options"}
 
 
 def laid_out_by_c() -> list[str]:
