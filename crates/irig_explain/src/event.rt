@@ -99,10 +99,12 @@ fn find_generator<'a>(value: &'a Value, edges: &[u64]) -> Option<Misfit<'a>>
 fn find_replay<'a>(value: &'a Value, edges: &[u64]) -> Option<Misfit<'a>>
     ensures { IfSome result (λ misfit. misfit.place ≡ JsonPath.Line) }
 {
-    let generator = natural_at(G, value)?;
-    match edges.get(generator as usize) {
-        Some(edge) => Some(past_of(value, generator, *edge)),
-        None => None,
+    if let Some(generator) = natural_at(G, value)
+        && let Some(edge) = edges.get(generator as usize)
+    {
+        Some(past_of(value, generator, *edge))
+    } else {
+        None
     }
 }
 
@@ -170,11 +172,12 @@ fn has_generator(edges: &[u64], value: &Value) -> bool
 fn has_reached(edges: &[u64], value: &Value) -> bool
     ensures { result ≡ has_reached edges.now (view value.now) }
 {
-    let (Some(number), Some(wanted)) = (natural_at(G, value), natural_at(EDGE, value)) else {
-        return false;
-    };
-    match edges.get(number as usize) {
-        Some(at) => wanted <= *at,
-        None => false,
+    if let Some(number) = natural_at(G, value)
+        && let Some(wanted) = natural_at(EDGE, value)
+        && let Some(at) = edges.get(number as usize)
+    {
+        wanted <= *at
+    } else {
+        false
     }
 }

@@ -21,7 +21,10 @@ use serde_json::Value;
 pub(crate) fn item_at<'a>(value: &'a Value, key: &str, at: usize) -> Option<&'a Value>
     ensures { option_map (λ v. view v.now) result ≡ item_at key.now at (view value.now) }
 {
-    items_at(value, key)?.get(at)
+    match items_at(value, key) {
+        Some(items) => items.get(at),
+        None => None,
+    }
 }
 
 fn item_in<'a>(value: Option<&'a Value>, key: &str, at: usize) -> Option<&'a Value>

@@ -23,10 +23,22 @@ pub(crate) fn refusal_at(values: &PlantValues, place: JsonPath) -> Option<Refusa
     match place {
         JsonPath::Line | JsonPath::Reader(_) => None,
         JsonPath::Leap(at) => leap_refusal(&values.leaps, at),
-        JsonPath::Generator(at) => generator_refusal(values.generators.get(at)?),
-        JsonPath::Change(above, at) => change_refusal_at(values.generators.get(above)?, at),
-        JsonPath::Table(at) => table_refusal(values.readers.get(at)?),
-        JsonPath::TableLeap(above, at) => entry_refusal(at, values.readers.get(above)?),
+        JsonPath::Generator(at) => match values.generators.get(at) {
+            Some(generator) => generator_refusal(generator),
+            None => None,
+        },
+        JsonPath::Change(above, at) => match values.generators.get(above) {
+            Some(generator) => change_refusal_at(generator, at),
+            None => None,
+        },
+        JsonPath::Table(at) => match values.readers.get(at) {
+            Some(reader) => table_refusal(reader),
+            None => None,
+        },
+        JsonPath::TableLeap(above, at) => match values.readers.get(above) {
+            Some(reader) => entry_refusal(at, reader),
+            None => None,
+        },
     }
 }
 
@@ -42,9 +54,13 @@ fn refusal_in(fault: LineFault) -> Option<Refusal>
 fn leap_refusal(leaps: &[(u32, Leap)], at: usize) -> Option<Refusal>
     ensures { result ≡ leap_refusal leaps.now at }
 {
-    let (day, _) = *leaps.get(at)?;
-    let fault = leap_fault(&leaps[..at], day)?;
-    refusal_in(LineFault::from(fault))
+    if let Some((day, _)) = leaps.get(at)
+        && let Some(fault) = leap_fault(&leaps[..at], *day)
+    {
+        refusal_in(LineFault::from(fault))
+    } else {
+        None
+    }
 }
 
 fn generator_refusal(generator: &GeneratorValues) -> Option<Refusal>
@@ -66,8 +82,10 @@ fn zone_refusal(zone: Zone) -> Option<Refusal>
 fn change_refusal_at(generator: &GeneratorValues, at: usize) -> Option<Refusal>
     ensures { result ≡ change_refusal_at at generator.now }
 {
-    let change = *generator.changes.get(at)?;
-    change_refusal(&generator.changes, at, change)
+    match generator.changes.get(at) {
+        Some(change) => change_refusal(&generator.changes, at, *change),
+        None => None,
+    }
 }
 
 fn change_refusal(changes: &[Change], at: usize, change: Change) -> Option<Refusal>
@@ -124,8 +142,10 @@ fn entry_fault_at(until: u32, leaps: &[(u32, Leap)], at: usize) -> Option<TableF
     requires { until ≤ LAST_DAY }
     ensures { result ≡ entry_fault_at until leaps.now at }
 {
-    let (day, _) = *leaps.get(at)?;
-    entry_fault(until, &leaps[..at], day)
+    match leaps.get(at) {
+        Some((day, _)) => entry_fault(until, &leaps[..at], *day),
+        None => None,
+    }
 }
 
 // ---- the first place at which it is refused so
@@ -138,17 +158,23 @@ pub(crate) fn find_in_plan<'a>(
 ) -> Option<Misfit<'a>>
     ensures { IfSome result (λ misfit. refusal_at values.now misfit.place ≡ Some refusal) }
 {
-    let place = refused_place(refusal, values, value)?;
-    let object = object_at(value, place)?;
-    let expected = expected_for(refusal, values, place);
-    Some(Misfit::at(place, key_of(refusal), object, expected))
+    if let Some(place) = refused_place(refusal, values, value)
+        && let Some(object) = object_at(value, place)
+    {
+        let expected = expected_for(refusal, values, place);
+        Some(Misfit::at(place, key_of(refusal), object, expected))
+    } else {
+        None
+    }
 }
 
 fn refused_place(refusal: Refusal, values: &PlantValues, value: &Value) -> Option<JsonPath>
     ensures { IfSome result (λ place. refusal_at values.now place ≡ Some refusal) }
 {
-    let place = first_place(Wrong::Values(refusal, values), value)?;
-    if refusal_at(values, place)? == refusal {
+    if let Some(place) = first_place(Wrong::Values(refusal, values), value)
+        && let Some(found) = refusal_at(values, place)
+        && found == refusal
+    {
         Some(place)
     } else {
         None

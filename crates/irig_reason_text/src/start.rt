@@ -6,6 +6,8 @@ ghost use Rattle.std.specs.Prelude.{◌≡◌, IfSome, length, take};
 pub(crate) fn start_of(text: &str, most: usize) -> Option<&str>
     ensures { IfSome result (λ start. start.now ≡ take (length start.now) text.now) }
 {
-    let (end, _) = text.char_indices().nth(most)?;
-    text.get(..end)
+    match text.char_indices().nth(most) {
+        Some((end, _)) => text.get(..end),
+        None => None,
+    }
 }

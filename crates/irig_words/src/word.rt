@@ -173,13 +173,16 @@ fn number_in(word: &str) -> Option<u8> {
 // The number in `3:Pulse:12`, if it has the name that stands behind it.
 fn number_in_fault(fault: &str) -> Option<u8> {
     let (number, rest) = fault.split_once(':').unwrap_or((fault, ""));
-    let number = number.parse().ok()?;
-    let (name, _) = rest.split_once(':').unwrap_or((rest, ""));
-    if name.is_empty() || is_name(meaning_of(number)?, name) {
-        Some(number)
-    } else {
-        None
+    match number.parse() {
+        Ok(number) if may_be_followed(number, rest) => Some(number),
+        _ => None,
     }
+}
+
+// Whether nothing stands behind a number, or first its name.
+fn may_be_followed(number: u8, rest: &str) -> bool {
+    let (name, _) = rest.split_once(':').unwrap_or((rest, ""));
+    name.is_empty() || matches!(meaning_of(number), Some(meaning) if is_name(meaning, name))
 }
 
 // The word without a count behind its colon, where a count may stand.
