@@ -142,8 +142,8 @@ impl<P: Port> Plant<P> {
             P.stands_for result h.setup.rules (symbols_heard (pulses_sent h.setup g h.events))) }
     {
         let mut cached_port = P::fresh(self.rules);
-        if let Some(widths) = self.sent(g) {
-            cached_port.pulses(&widths);
+        if let Some(frame) = self.generators[g as usize].frame(&self.timeline) {
+            cached_port.pulses(&widths_of(&frame));
         }
         cached_port
     }
@@ -153,7 +153,11 @@ impl<P: Port> Plant<P> {
 pub(crate) fn widths_of(frame: &[Symbol; 100]) -> [u32; 100]
     ensures { result ≡ map width_of frame.now }
 {
-    frame.map(Symbol::width_us)
+    let mut widths = [0; 100];
+    for element in 0..widths.len() {
+        widths[element] = frame[element].width_us();
+    }
+    widths
 }
 
 pub(crate) fn with_damage(sent: Option<[u32; 100]>, at: u8, width: u32) -> Option<[u32; 100]>

@@ -68,6 +68,9 @@ impl EventReader {
             (command_in_line (texts_of self.old.names.keys) line.now) result }
         ensures names { self.new.names ≡ self.old.names }
     {
+        if line.len() > LONGEST {
+            return event_of_line(alloc, &self.names, line);
+        }
         if let Some(command) = self.known(line) {
             return Ok(command);
         }
