@@ -5,8 +5,9 @@
 //! sent as 0 and ignored, is this project's profile.
 //!
 //! [`pack`] gives the bits of a [`Control`] as the number that a frame codes, and [`unpack`] what
-//! such a number says. [`set_parity`] gives a frame its [`Parity`], and [`parity_ok`] tests it. The
-//! table of the control bits stands once as data in `specs/ControlTable.antt`.
+//! such a number says. [`set_parity`] gives a frame its [`Parity`], [`encode_with_parity`] the frame
+//! of a value, and [`parity_ok`] tests it. The table of the control bits stands once as data in
+//! `specs/ControlTable.antt`.
 #![tactic(auto)]
 
 mod control;
@@ -15,4 +16,4 @@ mod parity;
 
 pub use control::{Control, in_range, pack, unpack};
 pub use laws::{inverses, parity_keeps, with_parity_is};
-pub use parity::{Parity, parity_ok, set_parity};
+pub use parity::{Parity, encode_with_parity, parity_ok, set_parity};

@@ -1,10 +1,12 @@
 //! The parity of a frame.
 
 ghost use Rattle.std.specs.Prelude.{◌≡◌, ◌≤◌, Bool, Some, count_by, length, slice_set};
+ghost use Rattle.irig_frame.specs.Decoder.{IsCoded};
+ghost use Rattle.irig_frame.specs.Encoder.{frame_of_coded};
 ghost use Rattle.irig_frame.specs.Values.{is_one};
-ghost use Rattle.irig_control.specs.Parity.{ones, remainder_of, has_parity, HasParity, data_symbol};
+ghost use Rattle.irig_control.specs.Parity.{ones, remainder_of, has_parity, HasParity, data_symbol, with_parity};
 
-use irig_frame::Symbol;
+use irig_frame::{Coded, Symbol, encode};
 
 /// Whether the ones that the parity counts are even or odd in number.
 ///
@@ -44,11 +46,23 @@ pub fn parity_ok(frame: &[Symbol; 100], parity: Parity) -> bool
 pub fn set_parity(frame: &mut [Symbol; 100], parity: Parity)
     ensures parity { HasParity parity frame.new }
     ensures others { (b : Bool) × (frame.new ≡ slice_set frame.old 75 (data_symbol b)) }
+    ensures exact { frame.new ≡ with_parity parity frame.old }
 {
     frame[75] = Symbol::Zero;
     if !parity_ok(frame, parity) {
         frame[75] = Symbol::One;
     }
+}
+
+/// The frame of a value that [`irig_frame::in_range`] passes, as [`encode`] gives it, with the
+/// parity.
+pub fn encode_with_parity(coded: &Coded, parity: Parity) -> [Symbol; 100]
+    requires { IsCoded coded.now }
+    ensures { result ≡ with_parity parity (frame_of_coded coded.now) }
+{
+    let mut frame = encode(coded);
+    set_parity(&mut frame, parity);
+    frame
 }
 
 // Between the marker places, so that no element is asked whether it is one.

@@ -4,7 +4,7 @@ ghost use Rattle.std.specs.Prelude.{◌≡◌, ◌<◌, ◌-◌, ◌%◌, length
 ghost use Rattle.irig_frame.specs.Values.{IsInFrame};
 ghost use Rattle.irig_frame.specs.Decoder.{Reads, IsCoded};
 ghost use Rattle.irig_frame.specs.Faults.{decode_result};
-ghost use Rattle.irig_frame.specs.Encoder.{HasUnusedZeros, bit_symbol, with_bits, with_parts, digits_of, parts_of, blank_at, IsBlank};
+ghost use Rattle.irig_frame.specs.Encoder.{HasUnusedZeros, frame_of_coded, bit_symbol, with_bits, with_parts, digits_of, parts_of, blank_at, IsBlank};
 
 use crate::coded::Coded;
 use crate::layout::{self, BitPosition, Field};
@@ -17,6 +17,7 @@ pub fn encode(coded: &Coded) -> [Symbol; 100]
     requires { IsCoded coded.now }
     ensures reads { Reads result coded.now }
     ensures spare { HasUnusedZeros result }
+    ensures exact { result ≡ frame_of_coded coded.now }
     ensures round_trip { decode_result result ≡ Ok coded.now }
 {
     frame_of(coded)

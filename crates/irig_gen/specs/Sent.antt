@@ -1,10 +1,14 @@
 -- The frames of a generator as functions: the one list of symbols that IsFrameOrNone and IsSent of
 -- specs/Frames.antt name.
 -- Source: docs/GENERATORS.md, by the definitions of Frames.antt.
-use Rattle.std.specs.Prelude.{◌≡◌, ℕ, ◌-◌, ◌^◌, min, List, Option, Some, None}
+use Rattle.std.specs.Prelude.{◌≡◌, ℕ, ◌-◌, ◌^◌, ◌<◌, min, List, Option, Some, None}
 use Rattle.std.specs.Option.{option_map}
 use Rattle.std.specs.List.{list_any}
 use Rattle.irig_frame.specs.declared.symbol.Symbol.{Symbol}
+use Rattle.irig_frame.specs.declared.coded.Coded.{Coded}
+use Rattle.irig_frame.specs.Decoder.{IsCoded}
+use Rattle.irig_frame.specs.Encoder.{frame_of_coded}
+use Rattle.irig_control.specs.Parity.{with_parity}
 use Rattle.irig_time.specs.declared.second.UtcSecond.{UtcSecond}
 use Rattle.irig_time.specs.Frames.{frame_of_second}
 use Rattle.irig_time.specs.Timelines.{TimelineValue, second_at}
@@ -35,6 +39,14 @@ sent_from (Some edge) g t = frame_of g.fault g t edge
 -- what a generator now sends
 unfoldable pub sent_of : GeneratorValue → TimelineValue → Option (List Symbol)
 sent_of g t = sent_from (sent_edge g.fault g.edge g.since) g t
+
+-- the frame of a value whose parity bit is 0, as the generator sends it
+abbrev pub frame_of_value : GeneratorValue → Coded → List Symbol
+frame_of_value g c = with_parity g.rules.parity (frame_of_coded c)
+
+-- a value in range, with 0 for the parity and for the last three control bits
+abbrev pub IsValueSent : Coded → Type 0
+IsValueSent c = IsCoded c × (c.control < 2 ^ 14)
 
 -- the edge whose frame is sent, as far as a word of 64 bits counts
 abbrev pub last_sent : GeneratorValue → Option ℕ

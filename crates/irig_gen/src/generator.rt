@@ -1,19 +1,21 @@
 //! A generator.
 
-ghost use Rattle.std.specs.Prelude.{◌≡◌, ◌+◌, ◌<◌, ℕ, true, Some, None, unwrap_or, MatchResult};
+ghost use Rattle.std.specs.Prelude.{◌≡◌, ◌+◌, ◌<◌, ℕ, true, Some, None, unwrap_or, IfSome, MatchResult};
+ghost use Rattle.std.specs.Option.{option_map};
 ghost use Rattle.irig_time.specs.declared.second.UtcSecond.{UtcSecond};
 ghost use Rattle.irig_time.specs.Timelines.{second_at};
 ghost use Rattle.irig_gen.specs.Faults.{sent_edge};
 ghost use Rattle.irig_gen.specs.Frames.{gen, IsFrameOrNone, IsSent};
-ghost use Rattle.irig_gen.specs.Sent.{ShowSame, frame_of, last_sent, sent_of};
+ghost use Rattle.irig_gen.specs.Sent.{IsValueSent, ShowSame, frame_of, frame_of_value, last_sent, sent_of};
 ghost use Rattle.irig_time.specs.TimelineFaults.{IsTimeline};
 ghost use Rattle.irig_gen.specs.Refusals.{gen_refusal};
 
 use crate::control::{any_ends, control_at};
 use crate::fault::{GenFault, control_with_fault, edge_sent};
 use crate::zone::{Change, Zone, all_fit, in_order, zone_at};
-use irig_frame::Symbol;
-use irig_time::{Rules, Timeline, UtcSecond, frame_of_second};
+use irig_control::encode_with_parity;
+use irig_frame::{Coded, Symbol};
+use irig_time::{Rules, Timeline, UtcSecond, value_of_second};
 use std::alloc::Global;
 use std::marker::Model;
 
@@ -194,27 +196,62 @@ impl Generator {
         ensures frame { IsSent self.now timeline.now result }
         ensures value { result ≡ sent_of self.now timeline.now }
     {
-        let edge = edge_sent(self.fault, self.edge, self.since)?;
-        self.frame_by(timeline, edge, self.fault)
+        let coded = self.value(timeline)?;
+        Some(encode_with_parity(&coded, self.rules.parity))
     }
 
-    /// The frame of an edge, with the control bits that a fault makes of the true ones.
+    /// What the frame that is now sent reads as, but for its parity bit, which is 0.
+    pub fn value(&self, timeline: &Timeline) -> Option<Coded>
+        ensures frame { IsSent self.now timeline.now (option_map (frame_of_value self.now) result) }
+        ensures value { option_map (frame_of_value self.now) result
+            ≡ sent_of self.now timeline.now }
+        ensures in_range { IfSome result IsValueSent }
+    {
+        let edge = edge_sent(self.fault, self.edge, self.since)?;
+        self.value_by(timeline, edge, self.fault)
+    }
+
+    /// The rules by which its frames are made.
+    pub fn rules(&self) -> Rules
+        ensures { result ≡ self.now.rules }
+    {
+        self.rules
+    }
+
     fn frame_by(
         &self,
         timeline: &Timeline,
         edge: u64,
         fault: Option<GenFault>,
     ) -> Option<[Symbol; 100]>
-        ensures sound { IsTimeline timeline.now }
         ensures frame { IsFrameOrNone fault self.now timeline.now edge result }
         ensures value { result ≡ frame_of fault self.now timeline.now edge }
+    {
+        let coded = self.value_by(timeline, edge, fault)?;
+        Some(encode_with_parity(&coded, self.rules.parity))
+    }
+
+    /// What the frame of an edge reads as, with the control bits that a fault makes of the true
+    /// ones.
+    fn value_by(
+        &self,
+        timeline: &Timeline,
+        edge: u64,
+        fault: Option<GenFault>,
+    ) -> Option<Coded>
+        ensures sound { IsTimeline timeline.now }
+        ensures frame { IsFrameOrNone fault self.now timeline.now edge
+            (option_map (frame_of_value self.now) result) }
+        ensures value { option_map (frame_of_value self.now) result
+            ≡ frame_of fault self.now timeline.now edge }
+        ensures in_range { IfSome result IsValueSent }
     {
         let utc = timeline.at(edge)?;
         let zone = zone_at(self.zone, &self.changes, &utc);
         let leap = timeline.leap(utc.day);
         let control = control_at(self.rules.sense, zone, &self.changes, leap, &utc);
         let sent = control_with_fault(fault, control);
-        Some(frame_of_second(self.rules.parity, &utc, zone.half_hours, &sent))
+        Some(value_of_second(&utc, zone.half_hours, &sent))
     }
 }
 

@@ -82,6 +82,14 @@ early u NoLeap h = rw (lt-ltb u.sod 86399 (omega arith)) refl
 early u Insert h = rw (lt-ltb u.sod 86400 (omega arith)) refl
 early u Delete h = rw (lt-ltb u.sod 86398 h) refl
 
+-- before the last seconds of a day it counts for nothing
+pub next_early : (u : UtcSecond) (mark : Mark) → u.sod < 86398 → next_of u mark ≡ Some (plain u)
+next_early u mark h =
+    elim (cases_Bool (is_month_end u.day)) [
+      | inl end ↦ rw end (early u mark h)
+      | inr mid ↦ rw (mid, lt-ltb u.sod 86399 (omega arith)) refl
+    ]
+
 late : (u : UtcSecond) (mark : Mark) → 86400 ≤ u.sod → next_at_month_end u mark ≡ next_day u
 late u Unspoken h = rw (le-ltb u.sod 86398 (omega arith), le-ltb u.sod 86400 h) refl
 late u NoLeap h = rw (le-ltb u.sod 86399 (omega arith)) refl

@@ -152,6 +152,12 @@ fn step<T: Leaps>(from: UtcSecond, age: u32, heard: Mark, table: &T) -> Result<H
     requires { IsValid from }
     ensures { result ≡ hold_step (T.says table.now) from age heard }
 {
+    // Before the last seconds of a day none that is left out or comes in is near.
+    if from.sod < 86398 {
+        let sod = from.sod + 1;
+        let last = UtcSecond { day: from.day, sod };
+        return Ok(Hold { last, age, heard });
+    }
     match next(from, spoken(heard, table, from.day)) {
         Some(last) => Ok(Hold {
             last,

@@ -1,6 +1,6 @@
 //! The text of a log, and the last line of a run.
 
-ghost use Rattle.std.specs.Prelude.{◌≡◌, ◌++◌, ◌||◌, is_some, string_bytes, All, IfOk, IfSome, OnOk, IsTrue, Some};
+ghost use Rattle.std.specs.Prelude.{◌≡◌, ◌++◌, ◌||◌, is_some, codes, string_bytes, All, IfOk, IfSome, OnOk, IsTrue, Some};
 ghost use Rattle.std.specs.Option.{ForSome};
 ghost use Rattle.std.specs.Fmt.{decimal};
 ghost use Rattle.irig_time.specs.Seconds.{IsValid};
@@ -26,9 +26,11 @@ use irig_time::{UtcSecond, push_text};
 use itoa::Buffer;
 use std::alloc::{AllocError, Global};
 
-/// The text of the last report, since readers that tick together mostly say the same.
+/// The text of the last report and of its edge, since readers that tick together mostly say the
+/// same.
 #[derive(Drop)]
 pub struct ReportText {
+    edge: EdgeText,
     report: Option<Report>,
     text: String,
     ghost exact: { ForSome report (λ report. string_bytes text ≡ report_text report) },
@@ -38,42 +40,68 @@ impl ReportText {
     /// The text of no report, to begin with.
     pub fn new(alloc: Global) -> ReportText {
         ReportText {
+            edge: EdgeText {
+                edge: None,
+                text: String::new(alloc),
+            },
             report: None,
             text: String::new(alloc),
         }
     }
 
     // The text of this report.
-    fn of(&mut self, report: Report) -> Result<&str, AllocError>
-        requires { IfSome report.announce IsValid }
-        ensures { IfOk result (λ text. text.now ≡ report_text report) }
+    fn of(&mut self, report: &Report) -> Result<&str, AllocError>
+        requires { IfSome report.now.announce IsValid }
+        ensures { IfOk result (λ text. text.now ≡ report_text report.now) }
     {
-        if is_kept(self.report, report) {
+        if is_kept(&self.report, report) {
             return Ok(self.text.as_str());
         }
         self.report = None;
         self.text.clear();
-        push_report(&mut self.text, report)?;
-        self.report = Some(report);
+        push_report(&mut self.text, *report)?;
+        self.report = Some(*report);
         Ok(self.text.as_str())
     }
 }
 
 // The test of `==`, field by field.
-fn is_kept(kept: Option<Report>, report: Report) -> bool
-    ensures { IsTrue result → kept ≡ Some report }
+fn is_kept(kept: &Option<Report>, report: &Report) -> bool
+    ensures { IsTrue result → kept.now ≡ Some report.now }
 {
-    let Some(
-        Report {
-            announce,
-            lock,
-            cause,
-        },
-    ) = kept
-    else {
-        return false;
-    };
-    announce == report.announce && lock == report.lock && cause == report.cause
+    match kept {
+        Some(kept) => {
+            kept.announce == report.announce
+                && kept.lock == report.lock
+                && kept.cause == report.cause
+        }
+        None => false,
+    }
+}
+
+// How the line of an entry begins: its edge and a blank.
+#[derive(Drop)]
+struct EdgeText {
+    edge: Option<u64>,
+    text: String,
+    ghost exact: { ForSome edge (λ edge. string_bytes text ≡ decimal edge ++ codes " ") },
+}
+
+impl EdgeText {
+    // The text of this edge.
+    fn of(&mut self, edge: u64) -> Result<&str, AllocError>
+        ensures { IfOk result (λ text. text.now ≡ decimal edge ++ codes " ") }
+    {
+        if matches!(self.edge, Some(kept) if kept == edge) {
+            return Ok(self.text.as_str());
+        }
+        self.edge = None;
+        self.text.clear();
+        push_number(&mut self.text, edge)?;
+        self.text.push_str(" ")?;
+        self.edge = Some(edge);
+        Ok(self.text.as_str())
+    }
 }
 
 /// Adds a line for each entry with an announcement, or for each entry if all are shown. Like all
@@ -116,10 +144,9 @@ fn push_entry(
     ensures { OnOk result (string_bytes text.new
         ≡ string_bytes text.old ++ entry_text (texts_of names.now.keys) entry.now) }
 {
-    push_number(text, entry.edge)?;
-    text.push_str(" ")?;
+    text.push_str(last.edge.of(entry.edge)?)?;
     text.push_str(name_at(names, entry.reader))?;
-    text.push_str(last.of(entry.report)?)
+    text.push_str(last.of(&entry.report)?)
 }
 
 /// Adds a number in decimal. It fails only if there is no memory.

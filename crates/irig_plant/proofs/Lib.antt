@@ -1,6 +1,7 @@
 pub mod ListLaws
 pub mod FeedLaws
 pub mod StepLaws
+pub mod NothingLaws
 pub mod RunLaws
 pub mod SoundLaws
 pub mod ToldLaws

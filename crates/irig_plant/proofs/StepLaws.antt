@@ -77,7 +77,7 @@ delivers s (Repair g) ev d h = absurd cc
 delivers s (Restart r) ev d h = absurd cc
 
 -- what a port has heard after a delivery
-heard_is : (s : Setup) (e : Event) (ev : List Event) (d : Delivery) (r p : ℕ) → delivery_of s e ev ≡ Some d → heard_at s r p (e ∷ ev) ≡ with_delivery r p (Some d) (heard_at s r p ev)
+pub heard_is : (s : Setup) (e : Event) (ev : List Event) (d : Delivery) (r p : ℕ) → delivery_of s e ev ≡ Some d → heard_at s r p (e ∷ ev) ≡ with_delivery r p (Some d) (heard_at s r p ev)
 heard_is s e ev d r p h = rw ((delivers s e ev d h).keeps r, h) refl
 
 -- the reader to which it comes

@@ -1,6 +1,6 @@
 //! The audit: whether the premises hold under which readers announce the truth.
 
-ghost use Rattle.std.specs.Prelude.{◌≡◌, ◌≤◌, ◌+◌, ◌-◌, None, Some, length, nat_lt};
+ghost use Rattle.std.specs.Prelude.{◌≡◌, ◌≤◌, ◌+◌, ◌-◌, ◌∷◌, [], None, Some, length, nat_lt};
 ghost use Rattle.std.specs.List.{list_all, range_with_len};
 ghost use Rattle.irig_time.specs.declared.mark.Mark.{Mark};
 ghost use Rattle.irig_time.specs.declared.second.TheConstants.{LAST_DAY};
@@ -114,17 +114,27 @@ fn untrue_ports(truth: Claim, told: &Tells, redundancy: Redundancy) -> u8
     ensures { result ≡ audits.untrue_ports (Some truth) (ports_of told.now redundancy) }
 {
     match redundancy {
-        Redundancy::One => untrue_in(truth, &[told.a]),
-        Redundancy::Three => untrue_in(truth, &[told.a, told.b, told.c]),
-        Redundancy::Five => untrue_in(truth, &[told.a, told.b, told.c, told.d, told.e]),
+        Redundancy::One => untrue(truth, &told.a),
+        Redundancy::Three => untrue_in_three(truth, told),
+        Redundancy::Five => {
+            untrue_in_three(truth, told) + untrue(truth, &told.d) + untrue(truth, &told.e)
+        }
     }
 }
 
-fn untrue_in(truth: Claim, ports: &[Told]) -> u8
-    requires { length ports.now ≤ 5 }
-    ensures { result ≡ audits.untrue_ports (Some truth) ports.now }
+fn untrue_in_three(truth: Claim, told: &Tells) -> u8
+    ensures value { result ≡ audits.untrue_ports (Some truth) (ports_of told.now Redundancy.Three) }
+    ensures few { result ≤ 3 }
 {
-    ports.iter().filter(|told| is_untrue(truth, told)).count() as u8
+    untrue(truth, &told.a) + untrue(truth, &told.b) + untrue(truth, &told.c)
+}
+
+// One if the port tells an untrue claim, else none.
+fn untrue(truth: Claim, told: &Told) -> u8
+    ensures value { result ≡ audits.untrue_ports (Some truth) (told.now ∷ []) }
+    ensures few { result ≤ 1 }
+{
+    u8::from(is_untrue(truth, told))
 }
 
 fn is_untrue(truth: Claim, told: &Told) -> bool

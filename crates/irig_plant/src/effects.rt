@@ -1,6 +1,6 @@
 //! What a plant does with each kind of event.
 
-ghost use Rattle.std.specs.Prelude.{◌≡◌, ◌<◌, ◌≤◌, ◌+◌, [], IfErr, OnOk, OnErr, unwrap_or, vec_len, Some, None};
+ghost use Rattle.std.specs.Prelude.{◌≡◌, ◌<◌, ◌≤◌, ◌+◌, [], IfErr, OnOk, OnErr, unwrap_or, vec_len, Some, None, true};
 
 use crate::audit::{TickOfReader, audit_after};
 use crate::entry::Entry;
@@ -14,6 +14,7 @@ use irig_port::Port;
 
 impl<P: Port> Plant<P> {
     ghost use Rattle.irig_plant.specs.Refusals.{unless_reader, unless_generator};
+    ghost use Rattle.irig_plant.specs.Schedule.{pulses_sent};
     ghost use Rattle.irig_plant.specs.History.{ForHistory, Accepts, Does, Follows, RefusesAtLast, Keeps};
 
     pub(crate) fn step(&mut self, g: u8) -> Result<(), PlantFault>
@@ -39,7 +40,7 @@ impl<P: Port> Plant<P> {
     {
         self.has_reader(r)?;
         let ticks = self.readers[r as usize].ticks;
-        let Some(truth) = self.timeline.truth(ticks) else {
+        let Some(truth) = self.truth.at(&self.timeline, ticks) else {
             return Err(PlantFault::EndOfYears);
         };
         self.log.reserve(1)?;
@@ -68,10 +69,25 @@ impl<P: Port> Plant<P> {
         ensures { Does self.old (Event.Carry g r) self.new result }
     {
         self.has_port(g, r)?;
+        if self.brings_nothing(g) {
+            return Ok(());
+        }
         if !self.carry_cached_port(g, r) {
             self.carry_pulses(g, r);
         }
         Ok(())
+    }
+
+    // Whether it is known that a generator now sends no pulse.
+    fn brings_nothing(&self, g: u8) -> bool
+        requires { g < vec_len self.now.generators }
+        ensures { result ≡ true → ForHistory self.now (λ h.
+            pulses_sent h.setup g h.events ≡ []) }
+    {
+        match &self.cached_ports[g as usize] {
+            Some(cached_port) => cached_port.is_empty(),
+            None => false,
+        }
     }
 
     // Apart from `carry`, since a function clears the room of its locals before it begins.

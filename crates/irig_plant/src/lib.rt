@@ -21,6 +21,7 @@ mod pulses;
 mod setup;
 mod ticked_reader;
 mod told_log;
+mod truth;
 
 pub use audit::Audit;
 pub use entry::Entry;

@@ -2,6 +2,7 @@
 
 ghost use Rattle.std.specs.Prelude.{◌≡◌, ◌<◌, All, [], IfSome, IfOk, IfErr, OnOk, OnErr, length, take, drop, slice_get, vec_len, None, true, if◌then◌else◌, ℕ, slice_index_or};
 ghost use Rattle.irig_time.specs.TimelineFaults.{timeline_fault};
+ghost use Rattle.irig_time.specs.Timelines.{truth_at};
 ghost use Rattle.irig_vote.specs.Vote.{ports_in};
 ghost use Rattle.irig_plant.specs.Sound.{IsSound, IsToldSoundly};
 
@@ -12,6 +13,7 @@ use crate::fault::{PlantFault, Refused};
 use crate::setup::ReaderSetup;
 use crate::ticked_reader::TickedReader;
 use crate::told_log::{ToldEntry, ToldLog};
+use crate::truth::Truth;
 use irig_gen::Generator;
 use irig_port::Port;
 use irig_reader::Reader;
@@ -23,6 +25,8 @@ use std::alloc::{AllocError, Global};
 #[derive(Drop)]
 pub struct Plant<P: Port> {
     pub(crate) timeline: Timeline,
+    /// What is true at the edge at which a reader last ticked.
+    pub(crate) truth: Truth,
     pub(crate) rules: Rules,
     pub(crate) redundancy: Redundancy,
     pub(crate) generators: Vec<Generator>,
@@ -36,6 +40,7 @@ pub struct Plant<P: Port> {
     ghost carried: { vec_len cached_ports ≡ vec_len generators },
     ghost wired: { All (λ x. x.reader.redundancy ≡ redundancy) readers.items },
     ghost timed: { timeline_fault timeline.start timeline.leaps ≡ None },
+    ghost true_there: { truth.claim ≡ truth_at timeline truth.number },
     ghost sound: { ∥ All IsSound log.items ∥₁ },
     ghost claimed: { ∥ All IsToldSoundly told.entries.items ∥₁ },
     ghost known: { All (λ e. e.reader < vec_len readers) log.items },
@@ -73,8 +78,10 @@ impl<P: Port> Plant<P> {
         let audit = first_audit(&timeline, readers);
         let cached_ports = Self::no_cached_ports(alloc, generators.len())?;
         let ticked = Self::new_readers(alloc, rules, redundancy, readers)?;
+        let truth = Truth::of(&timeline, 0);
         Ok(Plant {
             timeline,
+            truth,
             rules,
             redundancy,
             generators,

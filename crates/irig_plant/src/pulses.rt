@@ -141,11 +141,11 @@ impl<P: Port> Plant<P> {
         ensures { ForHistory self.now (λ h.
             P.stands_for result h.setup.rules (symbols_heard (pulses_sent h.setup g h.events))) }
     {
-        let mut cached_port = P::fresh(self.rules);
-        if let Some(frame) = self.generators[g as usize].frame(&self.timeline) {
-            cached_port.pulses(&widths_of(&frame));
+        let generator = &self.generators[g as usize];
+        match generator.value(&self.timeline) {
+            Some(coded) => P::with_frame(self.rules, &coded, generator.rules().parity),
+            None => P::fresh(self.rules),
         }
-        cached_port
     }
 }
 

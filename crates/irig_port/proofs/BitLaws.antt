@@ -19,7 +19,7 @@ use Rattle.irig_frame.specs.Values.{is_one, value}
 use Rattle.irig_port.specs.Bits.{bits_from, time_bits, control_bits, bits_at, counted_ones}
 use Rattle.irig_port.proofs.SumLaws.{held, value-held, place-push, cond-same}
 
-abbrev bit_of : List Symbol → ℕ → ℕ
+abbrev pub bit_of : List Symbol → ℕ → ℕ
 bit_of s i = cond (is_one (slice_get s i)) 1 0
 
 cond-le-one : (b : Bool) → cond b 1 0 ≤ 1
@@ -146,7 +146,7 @@ held-doubling (suc n) i w s =
     let moved : 2 * w * bits_from (i + 1) n s ≡ w * (2 * bits_from (i + 1) n s) = rw (mul_comm 2 w) (mul_assoc w 2 (bits_from (i + 1) n s)) in
     omega (arith, here, rest, apart, moved)
 
-value-doubling : (n i w : ℕ) (s : List Symbol) → value (doubling i w n) s ≡ w * bits_from i n s
+pub value-doubling : (n i w : ℕ) (s : List Symbol) → value (doubling i w n) s ≡ w * bits_from i n s
 value-doubling n i w s = value-held (doubling i w n) s ∙ held-doubling n i w s
 
 pub time-digit : (s : List Symbol) (p k n w : ℕ) → 60 ≡ p + (k + n) → value (doubling p w k) s ≡ w * bits_at (time_bits s) p k
@@ -197,7 +197,7 @@ ones-split (suc k) n i s =
     ap (λ (m : ℕ). ones_from i m s) more ∙ omega (arith, rest)
 
 -- no marker place holds a one
-abbrev HasRightMarkers : List Symbol → Type 0
+abbrev pub HasRightMarkers : List Symbol → Type 0
 HasRightMarkers s = (i : ℕ) → is_marker_place i ≡ true → is_one (slice_get s i) ≡ false
 
 -- a marker place where nothing is wrong holds no one
@@ -219,7 +219,7 @@ markers-from k (x ∷ s) h (suc i) m =
     let there : k + suc i ≡ k + 1 + i = omega arith in
     markers-from (k + 1) s (first-none (element_fault k x) (first_wrong (k + 1) s) h).1 i (subst (λ (j : ℕ). is_marker_place j ≡ true) there m)
 
-right-markers : (s : List Symbol) → first_wrong 0 s ≡ None → HasRightMarkers s
+pub right-markers : (s : List Symbol) → first_wrong 0 s ≡ None → HasRightMarkers s
 right-markers s h i m = markers-from 0 s h i (subst (λ (j : ℕ). is_marker_place j ≡ true) (sym (zero-add i)) m)
 
 counted-bit : (s : List Symbol) → HasRightMarkers s → (i : ℕ) → cond (is_counted s i) 1 0 ≡ bit_of s i

@@ -7,6 +7,7 @@ pub mod BitLaws
 pub mod TableLaws
 pub mod NumberLaws
 pub mod FrameLaws
+pub mod ValueLaws
 pub mod DamageLaws
 pub mod RunLaws
 pub mod FaultLaws

@@ -117,10 +117,10 @@ held-append : (ps qs : List TableEntry) (s : List Symbol) → held (ps ++ qs) s 
 held-append [] qs s = sym (zero-add (held qs s))
 held-append (p ∷ ps) qs s = omega (arith, held-append ps qs s)
 
-value-append : (ps qs : List TableEntry) (s : List Symbol) → value (ps ++ qs) s ≡ value ps s + value qs s
+pub value-append : (ps qs : List TableEntry) (s : List Symbol) → value (ps ++ qs) s ≡ value ps s + value qs s
 value-append ps qs s = omega (arith, value-held (ps ++ qs) s, value-held ps s, value-held qs s, held-append ps qs s)
 
-value-places : (s : List Symbol) (f : Field) → value (places_of f) s ≡ value (units_of f) s + value (tens_of f) s + value (hundreds_of f) s
+pub value-places : (s : List Symbol) (f : Field) → value (places_of f) s ≡ value (units_of f) s + value (tens_of f) s + value (hundreds_of f) s
 value-places s f = omega (arith, value-append (units_of f ++ tens_of f) (hundreds_of f) s, value-append (units_of f) (tens_of f) s)
 
 field-from : (s : List Symbol) (f : Field) → field_at s f ≡ field_from f (value (units_of f) s) (value (tens_of f) s) (value (hundreds_of f) s)

@@ -35,6 +35,25 @@ control_bits s = bits_from 60 40 s
 abbrev pub bits_at : ℕ → ℕ → ℕ → ℕ
 bits_at number p k = number / 2 ^ p % 2 ^ k
 
+-- the decimal digits of a number below 1000, each five bits after the one before: so those of a
+-- field stand from its first element on
+abbrev pub digit_bits : ℕ → ℕ
+digit_bits n = n % 10 + 2 ^ 5 * (n / 10 % 10) + 2 ^ 10 * (n / 100)
+
+-- the elements 0 to 59 of the frame of a value
+abbrev pub time_number : Coded → ℕ
+time_number c =
+    2 * digit_bits c.second + 2 ^ 10 * digit_bits c.minute + 2 ^ 20 * digit_bits c.hour
+    + 2 ^ 30 * digit_bits c.day + 2 ^ 50 * digit_bits c.year
+
+-- nine bits of a number, a marker's place, and the others
+abbrev pub word_bits : ℕ → ℕ
+word_bits n = n % 2 ^ 9 + 2 ^ 10 * (n / 2 ^ 9)
+
+-- the elements 60 to 99 of the frame of a value
+abbrev pub control_number : Coded → ℕ
+control_number c = word_bits c.control + 2 ^ 20 * word_bits c.sbs
+
 -- how many ones the parity counts of a frame without a wrong element: those at the elements 0 to 75,
 -- as no marker is a one
 abbrev pub counted_ones : ℕ → ℕ → ℕ

@@ -11,6 +11,8 @@ ghost use Rattle.irig_port.specs.Tallies.{tally_told};
 use crate::port::Port;
 use crate::tally::Tally;
 use crate::told::Told;
+use irig_control::Parity;
+use irig_frame::Coded;
 use irig_time::Rules;
 
 /// A port that keeps what its symbols come to, a [`Tally`].
@@ -35,6 +37,14 @@ impl Port for FlowPort {
         FlowPort {
             rules,
             tally: Tally::none(),
+            cached: None,
+        }
+    }
+
+    fn with_frame(rules: Rules, coded: &Coded, parity: Parity) -> Self {
+        FlowPort {
+            rules,
+            tally: Tally::of_value(coded, parity),
             cached: None,
         }
     }

@@ -14,6 +14,7 @@ mod port;
 mod table;
 mod tally;
 mod told;
+mod value;
 mod verdict;
 mod whole;
 

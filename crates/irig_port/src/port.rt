@@ -1,14 +1,19 @@
 //! What every port does.
 
-ghost use Rattle.std.specs.Prelude.{◌≡◌, ◌==◌, ◌++◌, length, ℕ, List, []};
+ghost use Rattle.std.specs.Prelude.{◌≡◌, ◌==◌, ◌++◌, ◌<◌, ◌^◌, length, ℕ, List, []};
 ghost use Rattle.irig_frame.specs.declared.symbol.Symbol.{Symbol};
+ghost use Rattle.irig_frame.specs.Decoder.{IsCoded};
+ghost use Rattle.irig_frame.specs.Encoder.{frame_of_coded};
 ghost use Rattle.irig_frame.specs.Symbols.{symbol_of};
+ghost use Rattle.irig_control.specs.Parity.{with_parity};
 ghost use Rattle.irig_time.specs.declared.rules.Rules.{Rules};
 ghost use Rattle.irig_time.specs.Seconds.{IsValid};
 ghost use Rattle.irig_port.specs.Heard.{with_symbol, symbols_heard};
 ghost use Rattle.irig_port.specs.Told.{told_of, IfClaim};
 
 use crate::told::Told;
+use irig_control::Parity;
+use irig_frame::Coded;
 use irig_time::Rules;
 
 /// Takes pulses, and tells at an edge what they said.
@@ -22,6 +27,14 @@ pub trait Port: Drop {
     /// A port that was fed nothing, for frames that are read by these rules.
     fn fresh(rules: Rules) -> Self
         ensures { stands_for result rules [] };
+
+    /// A port that was fed the 100 pulses of one frame: that of a value in range
+    /// ([`irig_frame::in_range`]) whose parity bit and last three control bits are 0, with the
+    /// parity.
+    fn with_frame(rules: Rules, coded: &Coded, parity: Parity) -> Self
+        requires value { IsCoded coded.now }
+        requires unused { coded.now.control < 2 ^ 14 }
+        ensures { stands_for result rules (with_parity parity (frame_of_coded coded.now)) };
 
     /// One pulse, `width_us` microseconds wide. From the 102nd on a pulse changes nothing.
     fn pulse(&mut self, width_us: u32)

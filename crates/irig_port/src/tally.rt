@@ -31,7 +31,7 @@ pub struct FirstFault {
     pub element: u8,
 }
 
-const NO_FAULT: FirstFault = FirstFault {
+pub(crate) const NO_FAULT: FirstFault = FirstFault {
     kind: 0,
     element: 0,
 };
@@ -303,7 +303,7 @@ fn tell_frame(rules: &Rules, tally: &Tally) -> Told
 }
 
 /// How many ones the parity counts, which are those at the elements 0 to 75.
-fn ones_in(tally: &Tally) -> u32
+pub(crate) fn ones_in(tally: &Tally) -> u32
     ensures exact { result ≡ counted_ones tally.now.time tally.now.control }
     ensures few { result ≤ 128 }
 {

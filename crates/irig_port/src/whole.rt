@@ -10,7 +10,7 @@ use crate::port::Port;
 use crate::told::{PortFault, Told};
 use crate::verdict::tell_values;
 use arrayvec::ArrayVec;
-use irig_control::{Parity, parity_ok};
+use irig_control::{Parity, encode_with_parity, parity_ok};
 use irig_frame::{Coded, FrameFault, Symbol, classify, decode};
 use irig_time::Rules;
 
@@ -31,6 +31,14 @@ impl Port for WholePort {
             rules,
             symbols: ArrayVec::new(),
         }
+    }
+
+    fn with_frame(rules: Rules, coded: &Coded, parity: Parity) -> Self {
+        let mut symbols = ArrayVec::new();
+        symbols
+            .try_extend_from_slice(&encode_with_parity(coded, parity))
+            .unwrap();
+        WholePort { rules, symbols }
     }
 
     fn pulse(&mut self, width_us: u32) {

@@ -1,5 +1,6 @@
 pub mod VoteLaws
 pub mod FedLaws
+pub mod SilentLaws
 pub mod OneEdge
 pub mod TrueSteps
 pub mod VotesInARow

@@ -1,6 +1,6 @@
 //! A reader with its ports.
 
-ghost use Rattle.std.specs.Prelude.{◌≡◌, ◌+◌, ◌<◌, ◌≤◌, ◌==◌, IfSome, Some, ℕ, List, [], length, true, false};
+ghost use Rattle.std.specs.Prelude.{◌≡◌, ◌+◌, ◌<◌, ◌≤◌, ◌==◌, ◌∷◌, IfSome, Some, ℕ, List, [], length, true, false};
 ghost use Rattle.irig_frame.specs.declared.symbol.Symbol.{Symbol};
 ghost use Rattle.irig_sync.specs.Sync.{flag, is_marker, place_of};
 ghost use Rattle.irig_port.specs.Heard.{symbols_heard};
@@ -9,7 +9,7 @@ ghost use Rattle.irig_time.specs.Seconds.{IsValid};
 ghost use Rattle.irig_time.specs.Timelines.{TimelineValue, IsSecond};
 ghost use Rattle.irig_time.specs.TimelineFaults.{IsTimeline};
 ghost use Rattle.irig_vote.specs.Vote.{ports_in, AreOfUtc};
-ghost use Rattle.irig_reader.specs.Rule.{count_of};
+ghost use Rattle.irig_reader.specs.Rule.{count_of, step_of};
 ghost use Rattle.irig_reader.specs.Rules.{IsReaderRules};
 ghost use Rattle.irig_reader.specs.Clean.{IsClean};
 ghost use Rattle.irig_reader.specs.declared.report.Cause.TheVariants as Cause;
@@ -17,9 +17,9 @@ ghost use Rattle.irig_reader.specs.declared.report.Cause.TheVariants as Cause;
 use crate::report::Report;
 use crate::rule::{State, step_of};
 use crate::rules::ReaderRules;
-use irig_port::{Port, hear};
+use irig_port::{Port, Told, hear};
 use irig_sync::Sync;
-use irig_time::{LeapTable, Rules};
+use irig_time::{Claim, LeapTable, Rules};
 use irig_vote::{Redundancy, Tells, vote};
 use std::mem;
 
@@ -50,7 +50,7 @@ pub struct Reader<P: Port> {
 }
 
 impl<P: Port> Reader<P> {
-    ghost use Rattle.irig_reader.specs.History.{new_history, after_pulse, after_pulses, after_hearing, told_at_tick, report_at_tick, after_tick, after_restart, fed_to};
+    ghost use Rattle.irig_reader.specs.History.{new_history, no_pulses, after_pulse, after_pulses, after_hearing, told_at_tick, report_at_tick, after_tick, after_restart, fed_to};
     ghost use Rattle.irig_reader.specs.Readers.{Advances, ForReaderHistory, HasReaderHistory};
 
     /// A reader to which nothing has happened, with rules that are [`in_range`](crate::in_range).
@@ -176,6 +176,19 @@ impl<P: Port> Reader<P> {
             → IsClean t n result.told self.old.redundancy → result.report.cause ≡ Cause.Voted
             → result.report.announce ≡ Some u → IsSecond t (n + 1) u }
     {
+        if self.heard_nothing() {
+            let report = self.go_on(None);
+            return Ticked {
+                report,
+                told: Tells {
+                    a: Told::Silence,
+                    b: Told::Silence,
+                    c: Told::Silence,
+                    d: Told::Silence,
+                    e: Told::Silence,
+                },
+            };
+        }
         let told = Tells {
             a: self.a.edge(),
             b: self.b.edge(),
@@ -184,13 +197,34 @@ impl<P: Port> Reader<P> {
             e: self.e.edge(),
         };
         let vote = vote(&told, self.redundancy);
+        let report = self.go_on(vote);
+        Ticked { report, told }
+    }
+
+    // Whether all ports are empty: they then tell silence, and there is no vote.
+    fn heard_nothing(&self) -> bool
+        ensures { result ≡ true → ForReaderHistory self.now (λ h. h.fed ≡ no_pulses) }
+    {
+        self.a.is_empty()
+            && self.b.is_empty()
+            && self.c.is_empty()
+            && self.d.is_empty()
+            && self.e.is_empty()
+    }
+
+    // What the rule makes of a vote, or of none.
+    fn go_on(&mut self, vote: Option<Claim>) -> Report
+        requires { IfSome vote (λ claim. IsValid claim.at) }
+        ensures report { result
+            ≡ (step_of self.old.reader_rules self.old.table self.old.state vote).report }
+        ensures votes { Advances self.old self.new (λ h. record h { votes = vote ∷ h.votes }) }
+        ensures ports { self.new.redundancy ≡ self.old.redundancy }
+        ensures valid { IfSome result.announce IsValid }
+    {
         let state = mem::replace(&mut self.state, State::Idle);
         let step = step_of(self.reader_rules, &self.table, state, vote);
         self.state = step.state;
-        Ticked {
-            report: step.report,
-            told,
-        }
+        step.report
     }
 
     /// Clears the ports, and forgets what was voted.

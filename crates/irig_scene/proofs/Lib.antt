@@ -1,6 +1,7 @@
 pub mod RoundLaws
 pub mod PlayLaws
 pub mod SecondsPlayed
+pub mod HeldText
 pub mod StepLaws
 pub mod LineRunLaws
 pub mod LineLaws

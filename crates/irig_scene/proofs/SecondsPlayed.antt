@@ -100,7 +100,7 @@ plays_no_further s [] b ev r h = absurd cc
 plays_no_further s (e ∷ a) b ev r h =
     stop_unless (option_and_then refusal_as (refusal s e ev)) ev (play s a (e ∷ ev)) (play s (a ++ b) (e ∷ ev)) r h (plays_no_further s a b (e ∷ ev) r)
 
-grows_past : (s : Setup) (a b ev : List Event) (k : Option Refusal) → (play s a ev).refusal ≡ k → LogGrows s (play s a ev).events (play s (a ++ b) ev).events
+pub grows_past : (s : Setup) (a b ev : List Event) (k : Option Refusal) → (play s a ev).refusal ≡ k → LogGrows s (play s a ev).events (play s (a ++ b) ev).events
 grows_past s a b ev None h =
     subst (λ (p : Play). LogGrows s (play s a ev).events p.events) (sym (plays_on s a b ev h)) (grows_by_play s b (play s a ev).events)
 grows_past s a b ev (Some r) h =
@@ -108,7 +108,7 @@ grows_past s a b ev (Some r) h =
 
 -- ---- a plant
 
-plays_alike : {P : Type 0} {g : Ghosts P} (x : Scene) (a b : List Event) (shown : Shown) (p : Player P g) (k : Option Refusal) (o0 o1 : Option (List ℕ))
+pub plays_alike : {P : Type 0} {g : Ghosts P} (x : Scene) (a b : List Event) (shown : Shown) (p : Player P g) (k : Option Refusal) (o0 o1 : Option (List ℕ))
     → play x.plan.setup a x.events ≡ play x.plan.setup b x.events → PlaysFor x a shown p k o0 o1 → PlaysFor x b shown p k o0 o1
 plays_alike x a b shown p k o0 o1 e h =
     record {
@@ -118,7 +118,7 @@ plays_alike x a b shown p k o0 o1 e h =
     }
 
 -- and then others
-then_plays : {P : Type 0} {g : Ghosts P} (x : Scene) (a b : List Event) (shown : Shown) (p q : Player P g) (k : Option Refusal) (o0 o1 o2 : Option (List ℕ))
+pub then_plays : {P : Type 0} {g : Ghosts P} (x : Scene) (a b : List Event) (shown : Shown) (p q : Player P g) (k : Option Refusal) (o0 o1 o2 : Option (List ℕ))
     → PlaysFor x a shown p None o0 o1 → PlaysFor (after_events x a) b shown q k o1 o2 → PlaysFor x (a ++ b) shown q k o0 o2
 then_plays x a b shown p q k o0 o1 o2 h l =
     let s = x.plan.setup in
@@ -153,7 +153,7 @@ second_more x i es shown p q o0 o1 o2 h l =
     (ap (λ more. play x.plan.setup more x.events) (sym (one_time_more i es)))
     (then_plays x (times i es) es shown p q None o0 o1 o2 h l)
 
-stops_at : {P : Type 0} {g : Ghosts P} (x : Scene) (i n : ℕ) (es : List Event) (shown : Shown) (p q : Player P g) (r : Refusal) (o0 o1 o2 : Option (List ℕ)) → i < n
+pub stops_at : {P : Type 0} {g : Ghosts P} (x : Scene) (i n : ℕ) (es : List Event) (shown : Shown) (p q : Player P g) (r : Refusal) (o0 o1 o2 : Option (List ℕ)) → i < n
     → PlaysFor x (times i es) shown p None o0 o1 → PlaysFor (after_events x (times i es)) es shown q (Some r) o1 o2 → PlaysFor x (times n es) shown q (Some r) o0 o2
 stops_at x i n es shown p q r o0 o1 o2 lt h l =
     let both = then_plays x (times i es) es shown p q (Some r) o0 o1 o2 h l in

@@ -1,5 +1,5 @@
 -- A player that plays events: what stands after it, and by how much the output grew.
-use Rattle.std.specs.Prelude.{◌≡◌, ℕ, List, ◌++◌, length, map, string_bytes, Option, Some, None, Result, Ok, Err}
+use Rattle.std.specs.Prelude.{◌≡◌, ℕ, List, [], ◌++◌, length, map, string_bytes, Option, Some, None, Result, Ok, Err}
 use Rattle.std.specs.Io.KnownBytes.{Appends}
 use Rattle.irig_port.specs.declared.port.Port.{Ghosts}
 use Rattle.irig_plant.specs.declared.event.Event.{Event}
@@ -13,7 +13,8 @@ use Rattle.irig_device.specs.Lines.{Bytes}
 use Rattle.irig_device.specs.Watched.{AppendsPart}
 use Rattle.irig_log_text.specs.declared.shown.Shown.{Shown}
 use Rattle.irig_scenario.specs.PlantLine.{Plan}
-use Rattle.irig_scene.specs.Rounds.{history_past}
+use Rattle.irig_scene.specs.declared.rounds.Round.{Round}
+use Rattle.irig_scene.specs.Rounds.{events_in, history_past}
 use Rattle.irig_scene.specs.Scene.{Scene, scene, play, log_text}
 
 -- the events of a whole second of a plan
@@ -67,3 +68,23 @@ abbrev pub Plays : {P : Type 0} {g : Ghosts P} → Player P g → (Plan → List
     → Result (Unit {0}) Stop → Player P g → Bytes → Bytes → Type 0
 Plays was events shown result is old new =
     (x : Scene) → IsPlayerAt shown was x → Played result x (events x.plan) shown is old new
+
+-- ---- text that is yet to be written
+
+-- the text that a player holds
+abbrev pub text_in : {P : Type 0} {g : Ghosts P} → Player P g → List ℕ
+text_in player = string_bytes player.text.lines
+
+-- a player played a round, up to a refusal if there is one, and its text grew by their entries
+abbrev pub AddsRound : {P : Type 0} {g : Ghosts P} → Player P g → Round → Shown → Player P g
+    → Option Refusal → Type 0
+AddsRound was round shown is refusal =
+    (x : Scene) → IsPlayerAt shown was x → PlaysFor x (events_in (second_in x.plan) round) shown
+    is refusal (Some (text_in was)) (Some (text_in is))
+
+-- it played events without a refusal; of their text the front was written, and it holds the rest
+pub record HoldsTextOf {P : Type 0} {g : Ghosts P} (x : Scene) (events : List Event)
+    (shown : Shown) (player : Player P g) (old new : Bytes) : Type 0 where
+  pub front : List ℕ
+  pub plays : PlaysFor x events shown player None (Some []) (Some (front ++ text_in player))
+  pub wrote : Appends old new front

@@ -1,8 +1,9 @@
 //! The text of a log, written to the output.
 
-ghost use Rattle.std.specs.Prelude.{◌≡◌, All, IfSome, ◌||◌};
+ghost use Rattle.std.specs.Prelude.{◌≡◌, ◌++◌, [], All, IfErr, IfSome, OnOk, string_bytes, ◌||◌};
 ghost use Rattle.irig_device.specs.Watched.{device_of, has_failed};
 ghost use Rattle.irig_time.specs.Seconds.{IsValid};
+ghost use Rattle.irig_scene.specs.declared.stop.Failure.TheVariants.{Memory};
 ghost use Rattle.irig_scene.specs.Faults.{WroteText, failed_write};
 ghost use Rattle.irig_vote.specs.Vote.{AreOfUtc};
 ghost use Rattle.irig_log_text.specs.Text.{audit_text, lines_text, refusal_text, texts_of};
@@ -16,7 +17,10 @@ use irig_plant::{Audit, Entry, ToldEntry};
 use std::alloc::Global;
 use std::io::Write;
 
-/// The text of log lines, in memory that is kept from one round to the next.
+// So many bytes of text are written at once, though not past the line that asks for them.
+const MANY: usize = 8192;
+
+/// Text of a log that is yet to be written, in memory that is kept from one round to the next.
 #[derive(Drop)]
 pub(crate) struct LogText {
     lines: String,
@@ -31,6 +35,31 @@ impl LogText {
             last: ReportText::new(alloc),
         }
     }
+
+    /// Lets the text go.
+    pub(crate) fn clear(&mut self)
+        ensures { string_bytes self.new.lines ≡ [] }
+    {
+        self.lines.clear();
+    }
+
+    /// Whether there is enough text for a call of the output.
+    pub(crate) fn is_long(&self) -> bool {
+        self.lines.len() >= MANY
+    }
+
+    /// Writes the text, and lets it go.
+    pub(crate) fn write<W: Write>(&mut self, output: &mut Watched<W>) -> Result<(), Failure>
+        ensures wrote { WroteText result
+            (W.contents (device_of output.old)) (W.contents (device_of output.new))
+            (string_bytes self.old.lines) }
+        ensures empty { OnOk result (string_bytes self.new.lines ≡ []) }
+        ensures note { has_failed output.new ≡ (has_failed output.old || failed_write result) }
+    {
+        write_text(output, self.lines.as_str())?;
+        self.clear();
+        Ok(())
+    }
 }
 
 /// Writes the text of a log, which it makes in memory first.
@@ -41,33 +70,30 @@ pub(crate) struct LogWriter {
 }
 
 impl LogWriter {
-    /// Writes the lines of log entries, and of what ports told if that is shown.
-    pub(crate) fn write_log<W: Write>(
+    /// Adds the lines of log entries to the text, and of what ports told if that is shown.
+    pub(crate) fn push_log(
         self,
         text: &mut LogText,
         names: &IndexSet<String>,
         entries: &[Entry],
         tolds: &[ToldEntry],
-        output: &mut Watched<W>,
     ) -> Result<(), Failure>
         requires entries { All (λ entry. IfSome entry.report.announce IsValid) entries.now }
         requires tolds { All (λ entry. AreOfUtc entry.told) tolds.now }
-        ensures wrote { WroteText result
-            (W.contents (device_of output.old)) (W.contents (device_of output.new))
-            (lines_text (texts_of names.now.keys) self.shown entries.now tolds.now) }
-        ensures note { has_failed output.new ≡ (has_failed output.old || failed_write result) }
+        ensures pushed { OnOk result (string_bytes text.new.lines ≡ string_bytes text.old.lines
+            ++ lines_text (texts_of names.now.keys) self.shown entries.now tolds.now) }
+        ensures memory { IfErr result (λ failure. failure ≡ Memory) }
     {
         let LogText { lines, last } = text;
-        lines.clear();
         let pushed = if self.shown.ports {
             push_ticks(lines, last, names, entries, tolds, self.shown)
         } else {
             push_entries(lines, last, names, entries, self.shown)
         };
-        if pushed.is_err() {
-            return Err(Failure::Memory);
+        match pushed {
+            Ok(()) => Ok(()),
+            Err(_) => Err(Failure::Memory),
         }
-        write_text(output, lines.as_str())
     }
 
     /// Writes the last line of a run without a refusal.

@@ -1,6 +1,6 @@
 //! A plant that plays the events of lines, with what is written of it.
 
-ghost use Rattle.std.specs.Prelude.{◌≡◌, ◌≤◌, [], IfOk, IfErr, length, ◌||◌};
+ghost use Rattle.std.specs.Prelude.{◌≡◌, ◌≤◌, [], ◌∷◌, IfOk, IfErr, length, ◌||◌};
 ghost use Rattle.irig_device.specs.Watched.{device_of, has_failed};
 ghost use Rattle.irig_scene.specs.declared.stop.Failure.TheVariants.{Memory};
 ghost use Rattle.irig_scene.specs.Faults.{stopped_write};
@@ -12,7 +12,7 @@ use crate::stop::{Failure, Stop};
 use indexmap::IndexSet;
 use irig_device::Watched;
 use irig_faults::{LineFault, Refusal};
-use irig_plant::{Audit, Plant};
+use irig_plant::{Audit, Event, Plant};
 use irig_port::Port;
 use irig_scenario::{BuiltPlant, Command, EventReader, second_of};
 use std::alloc::Global;
@@ -35,8 +35,7 @@ impl<P: Port> Player<P> {
     ghost use Rattle.irig_scenario.specs.EventLine.{command_in_line};
     ghost use Rattle.irig_scenario.specs.PlantLine.{plan_of};
     ghost use Rattle.irig_scene.specs.Scene.{Scene as SceneOf, scene, audit_in, events_of};
-    ghost use Rattle.irig_scene.specs.PlayerRuns.{IsPlayerAt, Plays, second_in};
-    ghost use Rattle.irig_scene.specs.Rounds.{events_in};
+    ghost use Rattle.irig_scene.specs.PlayerRuns.{AddsRound, IsPlayerAt, Plays, second_in};
 
     /// The player of a plant to which nothing has happened, for what is to be shown.
     pub(crate) fn new(line: BuiltPlant, log: LogWriter) -> Result<Player<P>, Failure>
@@ -122,13 +121,13 @@ impl<P: Port> Player<P> {
         ensures note { has_failed output.new ≡ (has_failed output.old || stopped_write result) }
     {
         match command {
-            Command::Event(event) => self.play(Round::Event(event), log, output),
+            Command::Event(event) => self.play(event, log, output),
             Command::Seconds(count) => self.play_seconds(count, log, output),
         }
     }
 
-    // Plays so many whole seconds, up to an event that is refused, and writes what the readers said
-    // after each second.
+    // Plays so many whole seconds, up to an event that is refused, and writes what the readers said,
+    // that of several seconds at once: a call of the output takes longer than a second does.
     fn play_seconds<W: Write>(
         &mut self,
         count: u32,
@@ -139,36 +138,54 @@ impl<P: Port> Player<P> {
             self.new (W.contents (device_of output.old)) (W.contents (device_of output.new)) }
         ensures note { has_failed output.new ≡ (has_failed output.old || stopped_write result) }
     {
+        self.text.clear();
         for _ in 0..count {
-            self.play(Round::Second, log, output)?;
+            if let Some(refusal) = self.play_round(Round::Second, log)? {
+                self.text.write(output)?;
+                return Err(Stop::Refused(refusal));
+            }
+            if self.text.is_long() {
+                self.text.write(output)?;
+            }
         }
+        self.text.write(output)?;
         Ok(())
     }
 
-    // Plays a round up to the first event that is refused, and writes what the readers said, before
-    // a refusal too.
+    // Plays an event, and writes what the readers said, before a refusal too.
     fn play<W: Write>(
         &mut self,
-        round: Round,
+        event: Event,
         log: LogWriter,
         output: &mut Watched<W>,
     ) -> Result<(), Stop>
-        ensures plays { Plays self.old (λ plan. events_in (second_in plan) round) log.shown result
+        ensures plays { Plays self.old (λ plan. event ∷ []) log.shown result
             self.new (W.contents (device_of output.old)) (W.contents (device_of output.new)) }
         ensures note { has_failed output.new ≡ (has_failed output.old || stopped_write result) }
     {
-        let refusal = self.rounds.run(round)?;
-        let plant = self.rounds.plant();
-        log.write_log(
-            &mut self.text,
-            self.lines.names(),
-            plant.log(),
-            plant.told(),
-            output,
-        )?;
+        self.text.clear();
+        let refusal = self.play_round(Round::Event(event), log)?;
+        self.text.write(output)?;
         match refusal {
             None => Ok(()),
             Some(refusal) => Err(Stop::Refused(refusal)),
         }
+    }
+
+    // Plays a round up to the first event that is refused, whose refusal it answers, and adds what
+    // the readers said to the text.
+    fn play_round(&mut self, round: Round, log: LogWriter) -> Result<Option<Refusal>, Failure>
+        ensures plays { IfOk result (AddsRound self.old round log.shown self.new) }
+        ensures memory { IfErr result (λ failure. failure ≡ Memory) }
+    {
+        let refusal = self.rounds.run(round)?;
+        let plant = self.rounds.plant();
+        log.push_log(
+            &mut self.text,
+            self.lines.names(),
+            plant.log(),
+            plant.told(),
+        )?;
+        Ok(refusal)
     }
 }

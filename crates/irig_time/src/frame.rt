@@ -1,16 +1,18 @@
 //! The time that a frame codes for a second of UTC, and the frame of the second.
 
-ghost use Rattle.std.specs.Prelude.{◌≡◌, ◌≤◌, unsigned_abs};
+ghost use Rattle.std.specs.Prelude.{◌≡◌, ◌<◌, ◌≤◌, ◌^◌, unsigned_abs};
 ghost use Rattle.irig_frame.specs.Decoder.{IsCoded};
+ghost use Rattle.irig_frame.specs.Encoder.{frame_of_coded};
 ghost use Rattle.irig_control.specs.Control.{IsControl};
+ghost use Rattle.irig_control.specs.Parity.{with_parity};
 ghost use Rattle.irig_time.specs.Seconds.{IsValid};
 ghost use Rattle.irig_time.specs.CodedTime.{IsCodedOf};
 ghost use Rattle.irig_time.specs.Frames.{IsFrameOfSecond, frame_of_second};
 
 use crate::calendar::year_and_day;
 use crate::second::UtcSecond;
-use irig_control::{Control, Parity, pack, set_parity};
-use irig_frame::{Coded, Symbol, encode};
+use irig_control::{Control, Parity, encode_with_parity, pack};
+use irig_frame::{Coded, Symbol};
 
 /// What a clock shows that is `local_half_hours` half hours ahead of UTC, -31 to 31, with the
 /// straight binary seconds of that time and without control bits.
@@ -42,6 +44,27 @@ pub fn coded_of(utc: &UtcSecond, local_half_hours: i8) -> Coded
     }
 }
 
+/// What the frame of a [`valid`](crate::valid) second reads as, but for its parity bit, which is 0:
+/// with these control bits, by a clock `half_hours` half hours ahead of UTC, -31 to 31.
+///
+/// The control bits are in range ([`irig_control::in_range`]).
+pub fn value_of_second(utc: &UtcSecond, half_hours: i8, control: &Control) -> Coded
+    requires valid { IsValid utc.now }
+    requires local { unsigned_abs half_hours ≤ 31 }
+    requires control { IsControl control.now }
+    ensures in_range { IsCoded result }
+    ensures unused { result.control < 2 ^ 14 }
+    ensures frame { (parity : Parity) → IsFrameOfSecond parity utc.now half_hours control.now
+        (with_parity parity (frame_of_coded result)) }
+    ensures value { (parity : Parity) → with_parity parity (frame_of_coded result)
+        ≡ frame_of_second parity utc.now half_hours control.now }
+{
+    Coded {
+        control: pack(control),
+        ..coded_of(utc, half_hours)
+    }
+}
+
 /// The frame of a [`valid`](crate::valid) second with these control bits, by a clock `half_hours`
 /// half hours ahead of UTC, -31 to 31.
 ///
@@ -60,11 +83,5 @@ pub fn frame_of_second(
     ensures frame { IsFrameOfSecond parity utc.now half_hours control.now result }
     ensures value { result ≡ frame_of_second parity utc.now half_hours control.now }
 {
-    let coded = Coded {
-        control: pack(control),
-        ..coded_of(utc, half_hours)
-    };
-    let mut frame = encode(&coded);
-    set_parity(&mut frame, parity);
-    frame
+    encode_with_parity(&value_of_second(utc, half_hours, control), parity)
 }

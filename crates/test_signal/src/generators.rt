@@ -1,4 +1,4 @@
-use crate::texts::{LEAP_DAY, LOCAL_LEAP_DAY, frame};
+use crate::texts::{LEAP_DAY, LEAP_DAY_VALUE, LOCAL_LEAP_DAY, frame};
 use irig_gen::{Change, Generator, Zone};
 use irig_time::{Leap, Rules, Timeline, UtcSecond};
 use std::test::Fail;
@@ -22,6 +22,27 @@ fn a_generator_sends_the_frame_of_a_leap_day_by_its_clock(rt: HostRuntime) -> Re
         };
         assert!(rt; generator.frame(&timeline) == Some(frame(text)));
     }
+    Ok(())
+}
+
+#[test]
+fn a_generator_sends_the_value_of_a_leap_day(rt: HostRuntime) -> Result<(), Fail> {
+    let start = UtcSecond {
+        day: 6209,
+        sod: 86399,
+    };
+    let zone = Zone {
+        half_hours: 0,
+        dst: false,
+    };
+    let (Ok(timeline), Ok(generator)) = (
+        Timeline::new(rt.alloc(), start, &[(6209, Leap::Insert)]),
+        Generator::new(rt.alloc(), zone, &[], Rules::PLAIN),
+    ) else {
+        return Err(Fail::from("no plant"));
+    };
+    assert!(rt; generator.value(&timeline) == Some(LEAP_DAY_VALUE));
+    assert!(rt; generator.rules() == Rules::PLAIN);
     Ok(())
 }
 

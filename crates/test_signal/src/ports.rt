@@ -1,4 +1,5 @@
-use crate::texts::{LEAP_DAY, frame};
+use crate::texts::{LEAP_DAY, LEAP_DAY_VALUE, frame};
+use irig_control::Parity;
 use irig_frame::{FrameFault, Symbol};
 use irig_port::{FlowPort, Port, PortFault, Told, WholePort, hear};
 use irig_sync::Sync;
@@ -39,6 +40,20 @@ fn tells_of_what_came_last<P: Port>(rt: &impl Abort) {
 fn an_edge_tells_of_the_pulses_since_the_port_was_empty(rt: HostRuntime) {
     tells_of_what_came_last::<WholePort>(&rt);
     tells_of_what_came_last::<FlowPort>(&rt);
+}
+
+fn tells_of_a_frame_by_its_value<P: Port>(rt: &impl Abort) {
+    let mut port = P::with_frame(Rules::PLAIN, &LEAP_DAY_VALUE, Parity::Even);
+    assert!(rt; port.edge() == LEAP_DAY_TOLD);
+    assert!(rt; port.edge() == Told::Silence);
+    let mut port = P::with_frame(Rules::PLAIN, &LEAP_DAY_VALUE, Parity::Odd);
+    assert!(rt; port.edge() == Told::Fault(PortFault::Parity));
+}
+
+#[test]
+fn a_frame_comes_whole_by_its_value(rt: HostRuntime) {
+    tells_of_a_frame_by_its_value::<WholePort>(&rt);
+    tells_of_a_frame_by_its_value::<FlowPort>(&rt);
 }
 
 /// Hears a pulse each 10 ms, and answers the last one's place.

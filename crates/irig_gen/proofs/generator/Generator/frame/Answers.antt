@@ -1,29 +1,31 @@
-use Rattle.std.proofs.Common.{Option, sym, ap, subst, ◌∙◌}
+use Rattle.std.proofs.Common.{◌≡◌, Option, List, None, Some, sym, ap, subst, ◌∙◌}
 use Rattle.std.specs.Option.{option_map}
-use Rattle.irig_gen.specs.declared.fault.GenFault.{GenFault}
-use Rattle.irig_gen.specs.Faults.{sent_edge}
-use Rattle.irig_gen.specs.Frames.{GeneratorValue, IsFrameOrNone}
-use Rattle.irig_gen.proofs.GenLaws.{sent_from, last_edge}
-use Rattle.irig_gen.proofs.SentLaws.{sent_of_by, nothing_sent}
-use Rattle.irig_gen.specs.Refusals.{IsGenerator}
+use Rattle.irig_frame.specs.declared.symbol.Symbol.{Symbol}
+use Rattle.irig_gen.specs.Frames.{GeneratorValue, IsSent}
+use Rattle.irig_gen.specs.Sent.{frame_of_value}
 use Rattle.irig_gen.proofs.generator.Generator.frame.Goals as goal
+
+pub returns-clause-value : goal.returns-clause-value
+returns-clause-value c =
+    let g = c.args.self.now in
+    let coded = c.in_ok-coded.coded in
+    let own = c.encode_with_parity.ensures ∙ ap (λ (x : GeneratorValue). frame_of_value x coded) c.self.view_is in
+    let there : Some (frame_of_value g coded) ≡ option_map (frame_of_value g) c.value.result = ap (option_map (frame_of_value g)) (sym c.in_ok-coded.was) in
+    ap (λ (s : List Symbol). let o : Option (List Symbol) = Some s in o) own ∙ there ∙ c.value.ensures.value
 
 pub returns-clause-frame : goal.returns-clause-frame
 returns-clause-frame c =
     let g = c.args.self.now in
     let t = c.args.timeline.now in
-    let o = c.frame_by.result in
-    let edge = c.in_ok-edge.edge in
-    let sent = sym (ap (λ (x : GeneratorValue). option_map last_edge (sent_edge x.fault x.edge x.since)) c.self.view_is) ∙ sym c.edge_sent.ensures ∙ c.in_ok-edge.was in
-    let fault = ap (λ (x : GeneratorValue). x.fault) c.self.view_is in
-    sent_from g t o (sent_edge g.fault g.edge g.since) edge sent
-    (subst (λ (f : Option GenFault). IsFrameOrNone f g t edge o) fault c.frame_by.ensures.frame)
+    subst (λ (o : Option (List Symbol)). IsSent g t o) (c.value.ensures.value ∙ sym (returns-clause-value c)) c.value.ensures.frame
 
-pub returns-clause-value : goal.returns-clause-value
-returns-clause-value c =
-    sent_of_by c.args.self.now c.args.timeline.now c.frame_by.result (subst IsGenerator c.self.view_is c.self.invariant) c.frame_by.ensures.sound (returns-clause-frame c)
+pub returns-in_err-coded-clause-value : goal.returns-in_err-coded-clause-value
+returns-in_err-coded-clause-value c =
+    let none : None ≡ option_map (frame_of_value c.args.self.now) c.value.result = ap (option_map (frame_of_value c.args.self.now)) (sym c.in_err-coded.was) in
+    c.from_residual.ensures ∙ none ∙ c.value.ensures.value
 
-pub returns-in_err-edge-clause-value : goal.returns-in_err-edge-clause-value
-returns-in_err-edge-clause-value c =
-    let sent = sym (ap (λ (x : GeneratorValue). option_map last_edge (sent_edge x.fault x.edge x.since)) c.self.view_is) ∙ sym c.edge_sent.ensures ∙ c.in_err-edge.was in
-    c.from_residual.ensures ∙ sym (nothing_sent c.args.self.now c.args.timeline.now sent)
+pub returns-in_err-coded-clause-frame : goal.returns-in_err-coded-clause-frame
+returns-in_err-coded-clause-frame c =
+    let g = c.args.self.now in
+    let t = c.args.timeline.now in
+    subst (λ (o : Option (List Symbol)). IsSent g t o) (c.value.ensures.value ∙ sym (returns-in_err-coded-clause-value c)) c.value.ensures.frame

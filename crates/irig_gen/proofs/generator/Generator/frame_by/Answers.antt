@@ -1,68 +1,31 @@
-use Rattle.std.proofs.Common.{◌≡◌, ◌≤◌, ℤ, List, Option, Some, None, MatchOption, sym, subst, ◌∙◌, unsigned_abs}
-use Rattle.irig_control.specs.Control.{IsControl}
+use Rattle.std.proofs.Common.{◌≡◌, Option, List, None, Some, sym, ap, subst, ◌∙◌}
+use Rattle.std.specs.Option.{option_map}
 use Rattle.irig_frame.specs.declared.symbol.Symbol.{Symbol}
-use Rattle.irig_time.specs.declared.second.UtcSecond.{UtcSecond}
-use Rattle.irig_time.specs.Timelines.{IsSecond}
-use Rattle.irig_gen.specs.Frames.{gen, IsFrameWithFault}
-use Rattle.irig_control.proofs.ControlLaws.{in_byte}
-use Rattle.irig_gen.proofs.GenLaws.{changes_ordered, sent_zone_fits, control_fits, frame_at_is, faulted_fits}
-use Rattle.irig_gen.proofs.SentLaws.{frame_of_by, no_frame}
-use Rattle.irig_gen.specs.Refusals.{IsGenerator}
+use Rattle.irig_gen.specs.Frames.{GeneratorValue, IsFrameOrNone}
+use Rattle.irig_gen.specs.Sent.{frame_of_value}
 use Rattle.irig_gen.proofs.generator.Generator.frame_by.Goals as goal
-
-pub zone_at-zone-requires : goal.zone_at-zone-requires
-zone_at-zone-requires c =
-    let i = c.self.inside in
-    changes_ordered (gen i.zone i.changes.items i.rules i.edge i.fault i.since) _ c.self.invariant c.deref.ensures.value
-
-pub control_at-control-requires-clause-order : goal.control_at-control-requires-clause-order
-control_at-control-requires-clause-order c =
-    let i = c.self.inside in
-    changes_ordered (gen i.zone i.changes.items i.rules i.edge i.fault i.since) _ c.self.invariant c.deref-2.ensures.value
-
-pub control_at-control-requires-clause-zone : goal.control_at-control-requires-clause-zone
-control_at-control-requires-clause-zone c =
-    let i = c.self.inside in
-    sent_zone_fits (gen i.zone i.changes.items i.rules i.edge i.fault i.since) _ c.in_ok-utc.utc c.zone_at-zone.result c.self.invariant c.deref.ensures.value c.zone_at-zone.ensures
-
-pub frame_of_second-requires-clause-local : goal.frame_of_second-requires-clause-local
-frame_of_second-requires-clause-local c =
-    let i = c.self.inside in
-    let small = sent_zone_fits (gen i.zone i.changes.items i.rules i.edge i.fault i.since) _ c.in_ok-utc.utc c.zone_at-zone.result c.self.invariant c.deref.ensures.value c.zone_at-zone.ensures in
-    subst (λ (h : ℤ). unsigned_abs h ≤ 31) (sym (in_byte c.zone_at-zone.result.half_hours small)) small
-
-pub frame_of_second-requires-clause-control : goal.frame_of_second-requires-clause-control
-frame_of_second-requires-clause-control c =
-    let i = c.self.inside in
-    let small = sent_zone_fits (gen i.zone i.changes.items i.rules i.edge i.fault i.since) _ c.in_ok-utc.utc c.zone_at-zone.result c.self.invariant c.deref.ensures.value c.zone_at-zone.ensures in
-    let k = subst IsControl (sym c.control_at-control.ensures) (control_fits i.rules.sense c.zone_at-zone.result c.deref-2.result.now c.leap-leap.result c.in_ok-utc.utc small) in
-    subst IsControl (sym c.control_with_fault-sent.ensures) (faulted_fits c.args.fault c.control_at-control.result k)
-
-pub returns-clause-frame : goal.returns-clause-frame
-returns-clause-frame c =
-    let i = c.self.inside in
-    let u = c.in_ok-utc.utc in
-    let z = c.zone_at-zone.result in
-    let g = gen i.zone i.changes.items i.rules i.edge i.fault i.since in
-    let small = sent_zone_fits g _ u z c.self.invariant c.deref.ensures.value c.zone_at-zone.ensures in
-    frame_at_is g c.args.self.now c.args.timeline.now c.args.edge u c.frame_of_second.result _ z c.control_at-control.result c.deref.result.now c.deref-2.result.now c.leap-leap.result
-    c.self.view_is ((c.at.ensures.second u).0 c.in_ok-utc.was) c.deref.ensures.value c.deref-2.ensures.value c.zone_at-zone.ensures (in_byte z.half_hours small)
-    c.leap-leap.ensures c.control_at-control.ensures c.args.fault c.control_with_fault-sent.result c.control_with_fault-sent.ensures c.frame_of_second.ensures.frame
-
-pub returns-in_err-utc-clause-frame : goal.returns-in_err-utc-clause-frame
-returns-in_err-utc-clause-frame c =
-    subst (λ (o : Option (List Symbol)). MatchOption o ((u : UtcSecond) → ¬ IsSecond c.args.timeline.now c.args.edge u) (IsFrameWithFault c.args.fault c.args.self.now c.args.timeline.now c.args.edge))
-    (sym c.from_residual.ensures)
-    (λ u h.
-    let some : c.at.result ≡ Some u = (c.at.ensures.second u).1 h in
-    let none : c.at.result ≡ None = c.in_err-utc.was in
-    cc)
 
 pub returns-clause-value : goal.returns-clause-value
 returns-clause-value c =
-    frame_of_by c.args.fault c.args.self.now c.args.timeline.now c.args.edge _ (subst IsGenerator c.self.view_is c.self.invariant) c.at.ensures.sound (returns-clause-frame c)
+    let g = c.args.self.now in
+    let coded = c.in_ok-coded.coded in
+    let own = c.encode_with_parity.ensures ∙ ap (λ (x : GeneratorValue). frame_of_value x coded) c.self.view_is in
+    let there : Some (frame_of_value g coded) ≡ option_map (frame_of_value g) c.value_by.result = ap (option_map (frame_of_value g)) (sym c.in_ok-coded.was) in
+    ap (λ (s : List Symbol). let o : Option (List Symbol) = Some s in o) own ∙ there ∙ c.value_by.ensures.value
 
-pub returns-in_err-utc-clause-value : goal.returns-in_err-utc-clause-value
-returns-in_err-utc-clause-value c =
-    let none : c.at.result ≡ None = c.in_err-utc.was in
-    c.from_residual.ensures ∙ sym (no_frame c.args.fault c.args.self.now c.args.timeline.now c.args.edge (sym c.at.ensures.value ∙ none))
+pub returns-clause-frame : goal.returns-clause-frame
+returns-clause-frame c =
+    let g = c.args.self.now in
+    let t = c.args.timeline.now in
+    subst (λ (o : Option (List Symbol)). IsFrameOrNone c.args.fault g t c.args.edge o) (c.value_by.ensures.value ∙ sym (returns-clause-value c)) c.value_by.ensures.frame
+
+pub returns-in_err-coded-clause-value : goal.returns-in_err-coded-clause-value
+returns-in_err-coded-clause-value c =
+    let none : None ≡ option_map (frame_of_value c.args.self.now) c.value_by.result = ap (option_map (frame_of_value c.args.self.now)) (sym c.in_err-coded.was) in
+    c.from_residual.ensures ∙ none ∙ c.value_by.ensures.value
+
+pub returns-in_err-coded-clause-frame : goal.returns-in_err-coded-clause-frame
+returns-in_err-coded-clause-frame c =
+    let g = c.args.self.now in
+    let t = c.args.timeline.now in
+    subst (λ (o : Option (List Symbol)). IsFrameOrNone c.args.fault g t c.args.edge o) (c.value_by.ensures.value ∙ sym (returns-in_err-coded-clause-value c)) c.value_by.ensures.frame

@@ -25,6 +25,19 @@ invariant_of-self g c = record {
   carried = c.args.self.now.carried;
   wired = c.args.self.now.wired;
   timed = c.args.self.now.timed;
+  true_there = c.at.ensures.stands;
+  sound = c.args.self.now.sound;
+  claimed = c.args.self.now.claimed;
+  known = c.args.self.now.known;
+}
+
+pub invariant_of-self-in-Break-branch-2 : goal.invariant_of-self-in-Break-branch-2
+invariant_of-self-in-Break-branch-2 g c = record {
+  fed = c.args.self.now.fed;
+  carried = c.args.self.now.carried;
+  wired = c.args.self.now.wired;
+  timed = c.args.self.now.timed;
+  true_there = c.at.ensures.stands;
   sound = rw c.reserve.ensures.items c.args.self.now.sound;
   claimed = c.args.self.now.claimed;
   known = rw c.reserve.ensures.items c.args.self.now.known;
@@ -36,6 +49,7 @@ invariant_of-self-in-Break-branch-3 g c = record {
   carried = c.args.self.now.carried;
   wired = c.args.self.now.wired;
   timed = c.args.self.now.timed;
+  true_there = c.at.ensures.stands;
   sound = rw c.reserve.ensures.items c.args.self.now.sound;
   claimed = rw c.reserve-2.ensures.same c.args.self.now.claimed;
   known = rw c.reserve.ensures.items c.args.self.now.known;
@@ -75,7 +89,7 @@ returns-clause-stands g c = λ h p.
     let report : c.tick-ticked.result.report ≡ report_at_tick (history_of s r ev) = c.tick-ticked.ensures.report (history_of s r ev) old.reader in
     let told : c.tick-ticked.result.told ≡ told_at_tick (history_of s r ev) = c.tick-ticked.ensures.told (history_of s r ev) old.reader in
     let truth : Some c.in-Some.truth ≡ truth_at s.times (ticks_of r ev) =
-    sym c.in-Some.is ∙ c.truth.ensures.value ∙ ap (λ (t : TimelineValue). truth_at t c.index.result.now.ticks) p.timeline ∙ ap (truth_at s.times) first.ticked in
+    sym c.in-Some.is ∙ c.at.ensures.value ∙ ap (λ (t : TimelineValue). truth_at t c.index.result.now.ticks) p.timeline ∙ ap (truth_at s.times) first.ticked in
     record {
       timeline = p.timeline;
       rules = p.rules;

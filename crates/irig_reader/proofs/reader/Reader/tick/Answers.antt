@@ -1,16 +1,40 @@
-use Rattle.std.proofs.Common.{rules, ◌≡◌, ◌∙◌, Some, ap, subst}
+use Rattle.std.proofs.Common.{◌≡◌, ◌∷◌, ◌∙◌, Some, refl, sym, ap, subst}
 use Rattle.irig_port.specs.Heard.{symbols_heard}
 use Rattle.irig_port.proofs.HeardLaws.{told_of-heard}
-use Rattle.irig_reader.specs.Rule.{state_of, step_of}
-use Rattle.irig_reader.specs.History.{after_tick}
-use Rattle.irig_reader.specs.declared.rule.Step.{Step}
+use Rattle.irig_reader.specs.Rule.{step_of}
+use Rattle.irig_reader.specs.Readers.{HasReaderHistory}
+use Rattle.irig_reader.specs.History.{ReaderHistory, no_pulses, vote_at_tick}
+use Rattle.irig_reader.specs.declared.report.Report.{Report}
 use Rattle.irig_reader.specs.declared.report.Cause.TheVariants.{Voted}
 use Rattle.irig_reader.proofs.VoteLaws.{vote_valid}
 use Rattle.irig_reader.proofs.OneEdge.{voted_seconds}
+use Rattle.irig_reader.proofs.SilentLaws.{silent, told_silent, silent_vote, no_vote}
 use Rattle.irig_reader.proofs.reader.Reader.tick.Goals as goal
 
-pub step_of-step-requires-clause-valid : goal.step_of-step-requires-clause-valid
-step_of-step-requires-clause-valid g c =
+-- ---- nothing was heard
+
+pub returns-then-heard_nothing-clause-told : goal.returns-then-heard_nothing-clause-told
+returns-then-heard_nothing-clause-told g c history s = sym (told_silent history (c.heard_nothing.ensures c.if-heard_nothing.true history s))
+
+pub returns-then-heard_nothing-clause-report : goal.returns-then-heard_nothing-clause-report
+returns-then-heard_nothing-clause-report g c history s =
+    c.go_on-report.ensures.report ∙ rw (s.reader_rules, s.table, s.state, silent_vote history (c.heard_nothing.ensures c.if-heard_nothing.true history s)) refl
+
+pub returns-then-heard_nothing-clause-after : goal.returns-then-heard_nothing-clause-after
+returns-then-heard_nothing-clause-after g c history s =
+    let empty = c.heard_nothing.ensures c.if-heard_nothing.true history s in
+    rw (silent_vote history empty, ← empty) (c.go_on-report.ensures.votes history s)
+
+pub returns-then-heard_nothing-clause-truth : goal.returns-then-heard_nothing-clause-truth
+returns-then-heard_nothing-clause-truth g c t n u sound clean voted says =
+    let self = c.args.self.now in
+    let report = c.go_on-report.ensures.report ∙ ap (λ v. (step_of self.reader_rules self.table self.state v).report) (sym (no_vote self.redundancy)) in
+    voted_seconds t n _ _ _ silent self.redundancy u sound clean (subst (λ (r : Report). r.cause ≡ Voted) report voted) (subst (λ (r : Report). r.announce ≡ Some u) report says)
+
+-- ---- else
+
+pub go_on-report-requires-2 : goal.go_on-report-requires-2
+go_on-report-requires-2 g c =
     vote_valid _ _ c.vote-vote.result
     c.edge.ensures.valid c.edge-2.ensures.valid c.edge-3.ensures.valid c.edge-4.ensures.valid c.edge-5.ensures.valid c.vote-vote.ensures.value
 
@@ -21,16 +45,31 @@ returns-clause-told g c history s =
 
 pub returns-clause-report : goal.returns-clause-report
 returns-clause-report g c history s =
-    let told = returns-clause-told g c history s in cc
+    let told = returns-clause-told g c history s in
+    let vote = c.vote-vote.ensures.value in
+    let report = c.go_on-report-2.ensures.report in
+    cc
 
 pub returns-clause-after : goal.returns-clause-after
 returns-clause-after g c history s =
+    let read : ReaderHistory = record history { fed = no_pulses } in
     let told = returns-clause-told g c history s in
-    let state : c.step_of-step.result.state ≡ state_of history.reader_rules history.table (after_tick history).votes = cc in
-    search rules
+    let vote : c.vote-vote.result ≡ vote_at_tick history = c.vote-vote.ensures.value ∙ rw (told, s.redundancy) refl in
+    let empty = c.go_on-report-2.ensures.votes read (record {
+      a = c.edge.ensures.empty _ _ s.a;
+      b = c.edge-2.ensures.empty _ _ s.b;
+      c = c.edge-3.ensures.empty _ _ s.c;
+      d = c.edge-4.ensures.empty _ _ s.d;
+      e = c.edge-5.ensures.empty _ _ s.e;
+      reader_rules = s.reader_rules;
+      table = s.table;
+      redundancy = s.redundancy;
+      state = s.state;
+    }) in
+    subst (λ v. HasReaderHistory c.go_on-report-2.new.self (record read { votes = v ∷ history.votes })) vote empty
 
 pub returns-clause-truth : goal.returns-clause-truth
 returns-clause-truth g c t n u sound clean voted says =
-    let step = c.step_of-step.ensures.step ∙ ap (step_of _ _ _) c.vote-vote.ensures.value in
-    voted_seconds t n _ _ _ _ c.args.self.now.redundancy u sound clean
-    (subst (λ (s : Step). s.report.cause ≡ Voted) step voted) (subst (λ (s : Step). s.report.announce ≡ Some u) step says)
+    let self = c.args.self.now in
+    let report = c.go_on-report-2.ensures.report ∙ ap (λ v. (step_of self.reader_rules self.table self.state v).report) c.vote-vote.ensures.value in
+    voted_seconds t n _ _ _ _ self.redundancy u sound clean (subst (λ (r : Report). r.cause ≡ Voted) report voted) (subst (λ (r : Report). r.announce ≡ Some u) report says)
