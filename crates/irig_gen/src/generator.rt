@@ -233,12 +233,7 @@ impl Generator {
 
     /// What the frame of an edge reads as, with the control bits that a fault makes of the true
     /// ones.
-    fn value_by(
-        &self,
-        timeline: &Timeline,
-        edge: u64,
-        fault: Option<GenFault>,
-    ) -> Option<Coded>
+    fn value_by(&self, timeline: &Timeline, edge: u64, fault: Option<GenFault>) -> Option<Coded>
         ensures sound { IsTimeline timeline.now }
         ensures frame { IsFrameOrNone fault self.now timeline.now edge
             (option_map (frame_of_value self.now) result) }

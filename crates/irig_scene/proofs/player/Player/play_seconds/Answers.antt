@@ -50,7 +50,7 @@ loop-preserved g c = (
       (subst (λ (k : Option Refusal). PlaysFor (after_events x (times c.loop.counter (second_in x.plan))) (second_in x.plan) c.args.log.shown c.play_round.new.self k (Some (text_in c.loop.self)) (Some (text_in c.play_round.new.self))) c.in_default.is more) in
       elim c.if-is_long.branch [
         | then-is_long+in_ok-write-2 w ↦ rw (w.self-is, w.output-is)
-          (held_is_written x (times (c.loop.counter + 1) (second_in x.plan)) c.args.log.shown c.play_round.new.self _ _ _ _ held w.in_ok-write-2.ensures.wrote w.in_ok-write-2.ensures.empty (λ y h. other_text c.args.log.shown y c.play_round.new.self w.write-then-is_long.new.self h))
+            (held_is_written x (times (c.loop.counter + 1) (second_in x.plan)) c.args.log.shown c.play_round.new.self _ _ _ _ held w.in_ok-write-2.ensures.wrote w.in_ok-write-2.ensures.empty (λ y h. other_text c.args.log.shown y c.play_round.new.self w.write-then-is_long.new.self h))
         | else-is_long w ↦ rw (w.self-is, w.output-is) held
       ],
 )
