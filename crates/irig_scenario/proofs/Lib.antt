@@ -5,3 +5,6 @@ pub mod BlankLines
 pub mod PlainLines
 pub mod StandardFacts
 pub mod NamesAndTimes
+pub mod RawNumbers
+pub mod RawLoops
+pub mod RawLaws

@@ -8,6 +8,7 @@ ghost use Rattle.irig_scenario.specs.EventLine.{command_in_line};
 ghost use Rattle.irig_scenario.specs.KnownLines.{IsKnown};
 
 use crate::event_line::{Command, event_of_line};
+use crate::raw_line::RawReader;
 use arrayvec::ArrayVec;
 use indexmap::IndexSet;
 use irig_faults::LineFault;
@@ -27,11 +28,13 @@ pub struct KnownLine {
 }
 
 /// Reads lines after the plant line. It knows some short ones that came before, as those of steps
-/// and ticks come again and again, and reads these no second time.
+/// and ticks come again and again, and reads these no second time. Plain lines of raw widths, which
+/// are the longest, it reads without a tree of their values.
 #[derive(Drop)]
 pub struct EventReader {
     names: IndexSet<String>,
     known: Vec<Option<KnownLine>>,
+    raw: Box<RawReader>,
     ghost few: { length names.keys ≤ 16 },
     ghost right: { All (λ line. ForSome line (IsKnown (texts_of names.keys))) known.items },
 }
@@ -44,7 +47,8 @@ impl EventReader {
         ensures { IfOk result (λ reader. reader.names ≡ names) }
     {
         let known = no_lines(alloc)?;
-        Ok(EventReader { names, known })
+        let raw = RawReader::new(alloc)?;
+        Ok(EventReader { names, known, raw })
     }
 
     /// The names of the plant's readers, in order.
@@ -69,7 +73,10 @@ impl EventReader {
         ensures names { self.new.names ≡ self.old.names }
     {
         if line.len() > LONGEST {
-            return event_of_line(alloc, &self.names, line);
+            return match self.raw.event_of_line(alloc, &self.names, line) {
+                Some(event) => Ok(Command::Event(event)),
+                None => event_of_line(alloc, &self.names, line),
+            };
         }
         if let Some(command) = self.known(line) {
             return Ok(command);

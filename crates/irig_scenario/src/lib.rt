@@ -5,6 +5,7 @@
 mod event_line;
 mod event_reader;
 mod plant_line;
+mod raw_line;
 mod whole_second;
 
 pub use event_line::{Command, event_of_line};
