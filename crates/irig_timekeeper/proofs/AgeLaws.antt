@@ -1,0 +1,163 @@
+-- What edges without a vote leave of a reader's rule.
+use Rattle.std.specs.Prelude.{nat_le}
+use Rattle.std.proofs.Common.{◌≡◌, ◌==◌, ◌∙◌, ◌⊎◌, ℕ, zero, suc, ◌+◌, ◌<◌, ◌≤◌, Option, Some, None, Result, Ok, Err, refl, ap, subst, arith, inl, inr}
+use Rattle.std.proofs.lemmas.Bool.{cases_Bool, leb-false}
+use Rattle.irig_time.specs.declared.second.UtcSecond.{UtcSecond}
+use Rattle.irig_time.specs.declared.mark.Mark.{Mark}
+use Rattle.irig_time.specs.Next.{next_of}
+use Rattle.irig_time.specs.Timelines.{TimelineValue}
+use Rattle.irig_time.specs.TimelineFaults.{IsTimeline}
+use Rattle.irig_time.specs.Tables.{TableValue, spoken_mark}
+use Rattle.irig_hold.specs.declared.hold.Turn.{Turn}
+use Rattle.irig_hold.specs.declared.hold.Turn.TheVariants as turn
+use Rattle.irig_hold.specs.Steps.{HoldValue, stop_on, hold_or_stop, hold_start, voted_by, outcome_of}
+use Rattle.irig_hold.specs.Truth.{IsTrueTable}
+use Rattle.irig_reader.specs.declared.rules.ReaderRules.{ReaderRules}
+use Rattle.irig_reader.specs.declared.report.Lock.TheVariants as lock
+use Rattle.irig_reader.specs.declared.report.Cause.TheVariants as cause
+use Rattle.irig_reader.specs.declared.rule.State.{State}
+use Rattle.irig_reader.specs.declared.rule.State.TheVariants.{Idle, Acquiring, Locked}
+use Rattle.irig_reader.specs.declared.rule.Step.{Step}
+use Rattle.irig_reader.specs.Rule.{count_step, first_vote_step, later_vote_step_by, locked_step, holdover_step, step_of}
+use Rattle.irig_reader.specs.Standing.{StandsAtTruth}
+use Rattle.irig_reader.proofs.TrueSteps.{step_true}
+use Rattle.irig_time.specs.declared.claim.Claim.{Claim}
+use Rattle.irig_reader.specs.declared.rule.Step.{Step}
+use Rattle.irig_timekeeper.specs.Clock.{lasted}
+use Rattle.irig_timekeeper.specs.Rule.{missed}
+use Rattle.irig_timekeeper.specs.Truth.{age_of}
+
+-- a step without a vote: silent and with nothing to go on, or locked and one edge older
+pub record IsOlder (limit age : ℕ) (s : State) : Type 0 where
+  pub h : HoldValue
+  pub is : s ≡ Locked h
+  pub older : h.age ≡ age
+  pub young : h.age ≤ limit
+
+-- and the report says so
+pub record IsHeld (limit age : ℕ) (step : Step) : Type 0 where
+  pub locked : IsOlder limit age step.state
+  pub says : step.report.lock ≡ lock.Holdover age
+
+abbrev pub IsAlone : ℕ → ℕ → Step → Type 0
+IsAlone limit age step = ((step.state ≡ Idle) × (step.report.announce ≡ None)) ⊎ IsHeld limit age step
+
+module _ (rules : ReaderRules) (table : TableValue) where
+  stopped : (age : ℕ) (answer : Turn) (h : HoldValue) → ((u : UtcSecond) → ¬ (answer ≡ turn.Now u)) → IsAlone rules.holdover age (locked_step (lock.Holdover h.age) cause.Held answer h)
+  stopped age (turn.Now u) h never = absurd (never u refl)
+  stopped age turn.LeapGuard h never = inl (refl, refl)
+  stopped age turn.Expired h never = inl (refl, refl)
+  stopped age turn.RangeEnd h never = inl (refl, refl)
+  stopped age turn.Jump h never = inl (refl, refl)
+
+  no_step : (day : ℕ) (u : UtcSecond) → ¬ (stop_on day ≡ turn.Now u)
+  no_step day u e =
+      elim (cases_Bool (day == 36523)) [
+        | inl last ↦ let both : turn.RangeEnd ≡ turn.Now u = rw last at e in cc
+        | inr before ↦ let both : turn.LeapGuard ≡ turn.Now u = rw before at e in cc
+      ]
+
+  stepped : (h : HoldValue) (mark : Mark) (o : Option UtcSecond) → h.age < rules.holdover → IsAlone rules.holdover (h.age + 1) (holdover_step (outcome_of h (hold_or_stop h.last (h.age + 1) mark o)))
+  stepped h mark None young = stopped (h.age + 1) (stop_on h.last.day) h (no_step h.last.day)
+  stepped h mark (Some u) young = inr (record { locked = record { h = _; is = refl; older = refl; young = omega (arith, young) }; says = refl })
+
+  pub alone_step : (s : State) → IsAlone rules.holdover (age_of s + 1) (step_of rules table s None)
+  unfolding step_of
+  alone_step Idle = inl (refl, refl)
+  alone_step (Acquiring h count) = inl (refl, refl)
+  alone_step (Locked h) = elim (cases_Bool (nat_le rules.holdover h.age)) [
+    | inl long ↦ rw long (inl (refl, refl))
+    | inr short ↦ rw short (stepped h h.heard (next_of h.last (spoken_mark table h.heard h.last.day)) (leb-false rules.holdover h.age short))
+  ]
+
+  -- ---- how long a holdover has lasted, whatever the vote
+
+  counted_lasts : (h : HoldValue) (count : ℕ) → lasted (count_step rules h count).report.lock ≤ rules.holdover
+  counted_lasts h count = elim (cases_Bool (count == rules.lock_after)) [
+    | inl enough ↦ rw enough (omega arith)
+    | inr more ↦ rw more (omega arith)
+  ]
+
+  first_lasts : (o : Result HoldValue Turn) → lasted (first_vote_step rules o).report.lock ≤ rules.holdover
+  first_lasts (Ok h) = counted_lasts h 1
+  first_lasts (Err stop) = omega arith
+
+  later_lasts : (count : ℕ) (anew : Step) (answer : Turn) (h : HoldValue) → lasted anew.report.lock ≤ rules.holdover → lasted (later_vote_step_by rules count anew answer h).report.lock ≤ rules.holdover
+  later_lasts count anew (turn.Now u) h e = counted_lasts h (count + 1)
+  later_lasts count anew turn.Jump h e = e
+  later_lasts count anew turn.LeapGuard h e = omega arith
+  later_lasts count anew turn.Expired h e = omega arith
+  later_lasts count anew turn.RangeEnd h e = omega arith
+
+  voted_lasts : (answer : Turn) (h : HoldValue) → lasted (locked_step lock.Locked cause.Voted answer h).report.lock ≤ rules.holdover
+  voted_lasts (turn.Now u) h = omega arith
+  voted_lasts turn.LeapGuard h = omega arith
+  voted_lasts turn.Expired h = omega arith
+  voted_lasts turn.RangeEnd h = omega arith
+  voted_lasts turn.Jump h = omega arith
+
+  alone_lasts : (answer : Turn) (h new : HoldValue) → ((u : UtcSecond) → answer ≡ turn.Now u → new.age ≤ rules.holdover) → lasted (locked_step (lock.Holdover new.age) cause.Held answer h).report.lock ≤ rules.holdover
+  alone_lasts (turn.Now u) h new few = few u refl
+  alone_lasts turn.LeapGuard h new few = omega arith
+  alone_lasts turn.Expired h new few = omega arith
+  alone_lasts turn.RangeEnd h new few = omega arith
+  alone_lasts turn.Jump h new few = omega arith
+
+  stepped_lasts : (h : HoldValue) (mark : Mark) (o : Option UtcSecond) → h.age < rules.holdover → lasted (holdover_step (outcome_of h (hold_or_stop h.last (h.age + 1) mark o))).report.lock ≤ rules.holdover
+  stepped_lasts h mark None young = alone_lasts (stop_on h.last.day) h h (λ u e. absurd (no_step h.last.day u e))
+  stepped_lasts h mark (Some u) young = omega (arith, young)
+
+  pub step_lasts : (s : State) (vote : Option Claim) → lasted (step_of rules table s vote).report.lock ≤ rules.holdover
+  unfolding step_of
+  step_lasts Idle None = omega arith
+  step_lasts (Acquiring h count) None = omega arith
+  step_lasts Idle (Some c) = first_lasts (hold_start table c)
+  step_lasts (Acquiring h count) (Some c) = later_lasts count (first_vote_step rules (hold_start table c)) (voted_by table h c).answer (voted_by table h c).new (first_lasts (hold_start table c))
+  step_lasts (Locked h) (Some c) = voted_lasts (voted_by table h c).answer (voted_by table h c).new
+  step_lasts (Locked h) None = elim (cases_Bool (nat_le rules.holdover h.age)) [
+    | inl long ↦ rw long (omega arith)
+    | inr short ↦ rw short (stepped_lasts h h.heard (next_of h.last (spoken_mark table h.heard h.last.day)) (leb-false rules.holdover h.age short))
+  ]
+
+  -- one more or several
+  abbrev IsGone : ℕ → State → Type 0
+  IsGone age s = (s ≡ Idle) ⊎ IsOlder rules.holdover age s
+
+  once : (s : State) → IsGone (age_of s + 1) (step_of rules table s None).state
+  once s = elim (alone_step s) [ inl stop ↦ inl stop.0 | inr older ↦ inr older.locked ]
+
+  idle_stays : (step_of rules table Idle None).state ≡ Idle
+  unfolding step_of
+  idle_stays = refl
+
+  then_once : (age next : ℕ) (s : State) → next ≡ age + 1 → IsGone age s → IsGone next (step_of rules table s None).state
+  then_once age next s e (inl idle) = inl (ap (λ (x : State). (step_of rules table x None).state) idle ∙ idle_stays)
+  then_once age next s e (inr older) =
+      let was : age_of s ≡ age = ap age_of older.is ∙ older.older in
+      let same : age_of s + 1 ≡ next = omega (arith, was, e) in
+      subst (λ (n : ℕ). IsGone n (step_of rules table s None).state) same (once s)
+
+  pub gone : (j : ℕ) (s : State) → IsGone (age_of s + suc j) (missed rules table (suc j) s)
+  gone zero s = let same : age_of s + 1 ≡ age_of s + suc 0 = omega arith in subst (λ (n : ℕ). IsGone n (step_of rules table s None).state) same (once s)
+  gone (suc j) s = then_once (age_of s + suc j) (age_of s + suc (suc j)) (missed rules table (suc j) s) (omega arith) (gone j s)
+
+  -- too many leave nothing to go on
+  pub gone_idle : (n : ℕ) (s : State) → 1 ≤ n → rules.holdover < age_of s + n → missed rules table n s ≡ Idle
+  gone_idle zero s some long = absurd (omega (arith, some))
+  gone_idle (suc j) s some long = by (gone j s)
+    where
+      by : IsGone (age_of s + suc j) (missed rules table (suc j) s) → missed rules table (suc j) s ≡ Idle
+      by (inl idle) = idle
+      by (inr older) = absurd (omega (arith, older.older, older.young, long))
+
+  pub missed_idle : (n : ℕ) (s : State) → s ≡ Idle → missed rules table n s ≡ Idle
+  missed_idle zero s e = e
+  missed_idle (suc n) s e = ap (λ (x : State). (step_of rules table x None).state) (missed_idle n s e) ∙ idle_stays
+
+  -- what is true stays true
+  pub missed_true : (t : TimelineValue) (w n : ℕ) (s : State) → IsTimeline t → IsTrueTable t table → StandsAtTruth t w s → StandsAtTruth t (w + n) (missed rules table n s)
+  missed_true t w zero s sound true_table at = let same : w ≡ w + 0 = omega arith in subst (λ (m : ℕ). StandsAtTruth t m s) same at
+  missed_true t w (suc n) s sound true_table at =
+      let same : w + n + 1 ≡ w + suc n = omega arith in
+      let before = missed_true t w n s sound true_table at in
+      subst (λ (m : ℕ). StandsAtTruth t m (missed rules table (suc n) s)) same (step_true t (w + n) rules table (missed rules table n s) None sound true_table before (inl refl)).state

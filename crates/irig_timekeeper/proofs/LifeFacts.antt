@@ -1,0 +1,515 @@
+-- A short life for which all premises of a device's laws hold: three lines, of which one lies, by a
+-- counter that is 100 us a second slow and wraps; four ticks.
+use Rattle.std.proofs.Common.{◌≡◌, ℕ, zero, suc, ◌+◌, ◌-◌, ◌*◌, ◌/◌, ◌%◌, ◌^◌, ◌<◌, ◌≤◌, Bool, true, false, cond, not, ◌&&◌, List, [], ◌∷◌, ◌++◌, length, Some, None, refl, sym, subst, ap, ◌∙◌, arith, inl, inr}
+use Rattle.std.specs.Prelude.{slice_get, ◌==◌, nat_lt, nat_le, count_by, get_or}
+use Rattle.std.specs.List.{range_with_len}
+use Rattle.std.proofs.lemmas.Bool.{ltb-true, leb-true, lt-ltb}
+use Rattle.std.proofs.lemmas.Option.{same_Some, slice_get-get_or}
+use Rattle.irig_frame.specs.declared.symbol.Symbol.{Symbol}
+use Rattle.irig_frame.specs.declared.symbol.Symbol.TheVariants.{Zero, One, Marker, Bad}
+use Rattle.irig_frame.specs.Symbols.{symbol_of}
+use Rattle.irig_frame.specs.Decoder.{IsRight}
+use Rattle.irig_frame.specs.Faults.{values_of, field_at}
+use Rattle.irig_control.specs.Parity.{ones}
+use Rattle.irig_control.specs.Control.{control_of, offset_in}
+use Rattle.irig_time.specs.Claims.{utc_minute}
+use Rattle.irig_time.specs.Days.{is_month_end, four_years}
+use Rattle.irig_frame.specs.FieldTable.{is_marker_place}
+use Rattle.irig_control.specs.declared.parity.Parity.TheVariants as parity
+use Rattle.irig_sync.specs.Lines.{Pulse, pulse_at, IsAfter, IsTrueLine, StandAt}
+use Rattle.irig_time.specs.declared.second.UtcSecond.{UtcSecond}
+use Rattle.irig_time.specs.declared.mark.Mark.TheVariants.{Unspoken}
+use Rattle.irig_time.specs.declared.rules.Rules.{Rules}
+use Rattle.irig_time.specs.declared.rules.Sense.TheVariants as sense
+use Rattle.irig_time.specs.declared.rules.SbsUse.TheVariants as sbs
+use Rattle.irig_time.specs.declared.claim.Claim.{Claim}
+use Rattle.irig_time.specs.Timelines.{TimelineValue, times, IsTrueClaim, true_mark}
+use Rattle.irig_time.specs.TimelineFaults.{IsTimeline}
+use Rattle.irig_time.specs.Tables.{TableValue, table}
+use Rattle.irig_hold.specs.Truth.{IsTrueTable}
+use Rattle.irig_port.specs.declared.told.Told.{Told}
+use Rattle.irig_port.specs.declared.told.Told.TheVariants as tells
+use Rattle.irig_port.specs.Told.{told_of, frame_told, coded_told}
+use Rattle.irig_port.proofs.CarriesLaws.{carries_is_told}
+use Rattle.irig_vote.specs.declared.redundancy.Redundancy.{Redundancy}
+use Rattle.irig_vote.specs.declared.redundancy.Redundancy.TheVariants as of
+use Rattle.irig_vote.specs.declared.votes.Tells.{Tells}
+use Rattle.irig_vote.specs.Vote.{ports_in}
+use Rattle.irig_reader.specs.declared.report.Lock.TheVariants as lock
+use Rattle.irig_reader.specs.declared.report.Cause.TheVariants as cause
+use Rattle.irig_reader.specs.Rule.{step_of}
+use Rattle.irig_timekeeper.specs.declared.lines.Line.{Line}
+use Rattle.irig_timekeeper.specs.declared.lines.Lines.{Lines}
+use Rattle.irig_timekeeper.specs.declared.clock.Beat.{Beat}
+use Rattle.irig_timekeeper.specs.declared.clock.ClockRules.{ClockRules}
+use Rattle.irig_timekeeper.specs.Edges.{IsSteady}
+use Rattle.irig_timekeeper.specs.Lines.{element_at, ArePulsesLately, IsLineOf, IsTrueLately}
+use Rattle.irig_timekeeper.specs.Steps.{IsNewLine, AreNewLines}
+use Rattle.irig_timekeeper.specs.Keeping.{Keeping, new_keeping, restarted, after_pulse, after_tick, answer_at, stamp_at}
+use Rattle.irig_timekeeper.specs.Truth.{IsDevice, IsToldInHoldover, IsLaterSecond}
+use Rattle.irig_timekeeper.specs.Life.{Call, pulses_on, last_call, last_tick, AreInOrder, AreTrueAtTicks, after_calls}
+use Rattle.irig_timekeeper.specs.Life.Call.{Hear, Tick}
+use Rattle.irig_timekeeper.proofs.LifeLaws.{device_true, device_in_order}
+
+-- ---- the world
+
+abbrev edges : ℕ → ℕ
+edges n = 4293500000 + 1000100 * n
+
+steady : IsSteady 100 edges
+steady = record { few = omega arith; least = λ n. omega arith; most = λ n. omega arith }
+
+abbrev at : ℕ → UtcSecond
+at sod = record { day = 6209; sod = sod }
+
+abbrev noon : TimelineValue
+noon = times (at 43200) []
+
+is_timeline : IsTimeline noon
+is_timeline = record { sound = refl }
+
+abbrev no_table : TableValue
+no_table = table 0 []
+
+true_table : IsTrueTable noon no_table
+true_table = record { leaps = λ day end from to. absurd (omega (arith, from, to)) }
+
+abbrev clock : ClockRules
+clock = record { reader_rules = record { lock_after = 2; holdover = 100 }; redundancy = of.Three; drift_us = 100 }
+
+is_device : IsDevice noon 100 edges clock.reader_rules no_table
+is_device = record { steady = steady; sound = is_timeline; true_table = true_table; short = omega arith }
+
+abbrev rules : Rules
+rules = record { parity = parity.Even; sense = sense.Add; sbs = sbs.Check }
+
+abbrev claim_of : ℕ → Claim
+claim_of sod = record { at = at sod; mark = Unspoken }
+
+abbrev new_line : Line
+new_line = record { sync = record { rise_us = 0; place = 0; was_marker = 1 }; frame = None }
+
+abbrev new_lines : Lines
+new_lines = record { a = new_line; b = new_line; c = new_line; d = new_line; e = new_line }
+
+is_new : IsNewLine new_line
+is_new = record { sync = record { place = refl; last = refl }; frame = refl }
+
+are_new : AreNewLines new_lines
+are_new = record { a = is_new; b = is_new; c = is_new; d = is_new; e = is_new }
+
+abbrev frame_0 : List Symbol
+frame_0 = Marker ∷ Zero ∷ Zero ∷ Zero ∷ Zero ∷ Zero ∷ Zero ∷ Zero ∷ Zero ∷ Marker ∷ Zero ∷ Zero ∷ Zero ∷ Zero ∷ Zero ∷ Zero ∷ Zero ∷ Zero ∷ Zero ∷ Marker ∷ Zero ∷ One ∷ Zero ∷ Zero ∷ Zero ∷ One ∷ Zero ∷ Zero ∷ Zero ∷ Marker ∷ Zero ∷ One ∷ One ∷ Zero ∷ Zero ∷ Zero ∷ One ∷ One ∷ Zero ∷ Marker ∷ One ∷ One ∷ Zero ∷ Zero ∷ Zero ∷ Zero ∷ Zero ∷ Zero ∷ Zero ∷ Marker ∷ Zero ∷ One ∷ One ∷ Zero ∷ Zero ∷ One ∷ Zero ∷ Zero ∷ Zero ∷ Marker ∷ Zero ∷ Zero ∷ Zero ∷ Zero ∷ Zero ∷ Zero ∷ Zero ∷ Zero ∷ Zero ∷ Marker ∷ Zero ∷ Zero ∷ Zero ∷ Zero ∷ Zero ∷ One ∷ Zero ∷ Zero ∷ Zero ∷ Marker ∷ Zero ∷ Zero ∷ Zero ∷ Zero ∷ Zero ∷ Zero ∷ One ∷ One ∷ Zero ∷ Marker ∷ Zero ∷ Zero ∷ One ∷ Zero ∷ One ∷ Zero ∷ One ∷ Zero ∷ Zero ∷ Marker ∷ []
+
+abbrev frame_1 : List Symbol
+frame_1 = Marker ∷ One ∷ Zero ∷ Zero ∷ Zero ∷ Zero ∷ Zero ∷ Zero ∷ Zero ∷ Marker ∷ Zero ∷ Zero ∷ Zero ∷ Zero ∷ Zero ∷ Zero ∷ Zero ∷ Zero ∷ Zero ∷ Marker ∷ Zero ∷ One ∷ Zero ∷ Zero ∷ Zero ∷ One ∷ Zero ∷ Zero ∷ Zero ∷ Marker ∷ Zero ∷ One ∷ One ∷ Zero ∷ Zero ∷ Zero ∷ One ∷ One ∷ Zero ∷ Marker ∷ One ∷ One ∷ Zero ∷ Zero ∷ Zero ∷ Zero ∷ Zero ∷ Zero ∷ Zero ∷ Marker ∷ Zero ∷ One ∷ One ∷ Zero ∷ Zero ∷ One ∷ Zero ∷ Zero ∷ Zero ∷ Marker ∷ Zero ∷ Zero ∷ Zero ∷ Zero ∷ Zero ∷ Zero ∷ Zero ∷ Zero ∷ Zero ∷ Marker ∷ Zero ∷ Zero ∷ Zero ∷ Zero ∷ Zero ∷ Zero ∷ Zero ∷ Zero ∷ Zero ∷ Marker ∷ One ∷ Zero ∷ Zero ∷ Zero ∷ Zero ∷ Zero ∷ One ∷ One ∷ Zero ∷ Marker ∷ Zero ∷ Zero ∷ One ∷ Zero ∷ One ∷ Zero ∷ One ∷ Zero ∷ Zero ∷ Marker ∷ []
+
+abbrev frame_2 : List Symbol
+frame_2 = Marker ∷ Zero ∷ One ∷ Zero ∷ Zero ∷ Zero ∷ Zero ∷ Zero ∷ Zero ∷ Marker ∷ Zero ∷ Zero ∷ Zero ∷ Zero ∷ Zero ∷ Zero ∷ Zero ∷ Zero ∷ Zero ∷ Marker ∷ Zero ∷ One ∷ Zero ∷ Zero ∷ Zero ∷ One ∷ Zero ∷ Zero ∷ Zero ∷ Marker ∷ Zero ∷ One ∷ One ∷ Zero ∷ Zero ∷ Zero ∷ One ∷ One ∷ Zero ∷ Marker ∷ One ∷ One ∷ Zero ∷ Zero ∷ Zero ∷ Zero ∷ Zero ∷ Zero ∷ Zero ∷ Marker ∷ Zero ∷ One ∷ One ∷ Zero ∷ Zero ∷ One ∷ Zero ∷ Zero ∷ Zero ∷ Marker ∷ Zero ∷ Zero ∷ Zero ∷ Zero ∷ Zero ∷ Zero ∷ Zero ∷ Zero ∷ Zero ∷ Marker ∷ Zero ∷ Zero ∷ Zero ∷ Zero ∷ Zero ∷ Zero ∷ Zero ∷ Zero ∷ Zero ∷ Marker ∷ Zero ∷ One ∷ Zero ∷ Zero ∷ Zero ∷ Zero ∷ One ∷ One ∷ Zero ∷ Marker ∷ Zero ∷ Zero ∷ One ∷ Zero ∷ One ∷ Zero ∷ One ∷ Zero ∷ Zero ∷ Marker ∷ []
+
+-- a frame that carries no claim: all its digits are 1
+abbrev nothing : List Symbol
+nothing = Marker ∷ One ∷ One ∷ One ∷ One ∷ One ∷ One ∷ One ∷ One ∷ Marker ∷ One ∷ One ∷ One ∷ One ∷ One ∷ One ∷ One ∷ One ∷ One ∷ Marker ∷ One ∷ One ∷ One ∷ One ∷ One ∷ One ∷ One ∷ One ∷ One ∷ Marker ∷ One ∷ One ∷ One ∷ One ∷ One ∷ One ∷ One ∷ One ∷ One ∷ Marker ∷ One ∷ One ∷ One ∷ One ∷ One ∷ One ∷ One ∷ One ∷ One ∷ Marker ∷ One ∷ One ∷ One ∷ One ∷ One ∷ One ∷ One ∷ One ∷ One ∷ Marker ∷ One ∷ One ∷ One ∷ One ∷ One ∷ One ∷ One ∷ One ∷ One ∷ Marker ∷ One ∷ One ∷ One ∷ One ∷ One ∷ One ∷ One ∷ One ∷ One ∷ Marker ∷ One ∷ One ∷ One ∷ One ∷ One ∷ One ∷ One ∷ One ∷ One ∷ Marker ∷ One ∷ One ∷ One ∷ One ∷ One ∷ One ∷ One ∷ One ∷ One ∷ Marker ∷ []
+
+frame : ℕ → List Symbol
+frame zero = frame_0
+frame (suc zero) = frame_1
+frame (suc (suc zero)) = frame_2
+frame (suc (suc (suc n))) = nothing
+
+line : ℕ → Symbol
+line k = get_or (frame (k / 100)) (k % 100) Zero
+
+-- ---- what is checked
+
+both : (a b : Bool) → (a && b) ≡ true → (a ≡ true) × (b ≡ true)
+both true b e = (refl, e)
+both false b e = absurd cc
+
+right : ℕ → Symbol → Bool
+right i Marker = is_marker_place i
+right i Bad = false
+right i Zero = not (is_marker_place i)
+right i One = not (is_marker_place i)
+
+not_true : (b : Bool) → not b ≡ true → b ≡ false
+not_true false e = refl
+not_true true e = absurd cc
+
+right_is : (i : ℕ) (x : Symbol) → right i x ≡ true → IsRight i (Some x)
+unfolding right
+right_is i Marker e = e
+right_is i Bad e = absurd cc
+right_is i Zero e = not_true (is_marker_place i) e
+right_is i One e = not_true (is_marker_place i) e
+
+right_from : ℕ → List Symbol → Bool
+right_from i [] = true
+right_from i (x ∷ s) = right i x && right_from (i + 1) s
+
+right_at : (i j : ℕ) (s : List Symbol) → right_from i s ≡ true → j < length s → IsRight (i + j) (Some (get_or s j Zero))
+unfolding right_from
+right_at i j [] e less = absurd (omega (arith, less))
+right_at i zero (x ∷ s) e less = let same : i + 0 ≡ i = omega arith in rw same (right_is i x (both (right i x) (right_from (i + 1) s) e).0)
+right_at i (suc j) (x ∷ s) e less =
+    let same : i + suc j ≡ i + 1 + j = omega arith in
+    rw same (right_at (i + 1) j s (both (right i x) (right_from (i + 1) s) e).1 (omega (arith, less)))
+
+frame_is : (f : ℕ) → (length (frame f) ≡ 100) × (right_from 0 (frame f) ≡ true)
+unfolding frame right_from right
+frame_is zero = (refl, refl)
+frame_is (suc zero) = (refl, refl)
+frame_is (suc (suc zero)) = (refl, refl)
+frame_is (suc (suc (suc n))) = (refl, refl)
+
+is_true_line : IsTrueLine line
+unfolding line
+is_true_line k =
+    let is = frame_is (k / 100) in
+    let none : k % 100 ≡ 0 + k % 100 = omega arith in
+    subst (λ (i : ℕ). IsRight i (Some (get_or (frame (k / 100)) (k % 100) Zero))) (sym none) (right_at 0 (k % 100) (frame (k / 100)) is.1 (omega (arith, is.0)))
+
+same_list : (xs ys : List Symbol) → length xs ≡ length ys → ((i : ℕ) → i < length ys → slice_get xs i ≡ slice_get ys i) → xs ≡ ys
+same_list [] [] l h = refl
+same_list [] (y ∷ ys) l h = absurd cc
+same_list (x ∷ xs) [] l h = absurd cc
+same_list (x ∷ xs) (y ∷ ys) l h =
+    let head : x ≡ y = same_Some x y (h 0 (omega arith)) in
+    let tail : xs ≡ ys = same_list xs ys (omega (arith, l)) (λ i less. h (suc i) (omega (arith, less))) in
+    rw (head, tail) refl
+
+stands : (f : ℕ) (s : List Symbol) → StandAt line (100 * f) s → length s ≡ 100 → s ≡ frame f
+unfolding line
+stands f s at long =
+    let is = frame_is f in
+    same_list s (frame f) (omega (arith, long, is.0)) (λ i less.
+    (let low : i < 100 = omega (arith, less, is.0) in
+    let div : (100 * f + i) / 100 ≡ f = omega (arith, low) in
+    let rest : (100 * f + i) % 100 ≡ i = omega (arith, low) in
+    let get : slice_get s i ≡ Some (get_or (frame ((100 * f + i) / 100)) ((100 * f + i) % 100) Zero) = at i low in
+    let got : slice_get s i ≡ Some (get_or (frame f) i Zero) = get ∙ rw (div, rest) refl in
+    got ∙ sym (slice_get-get_or (frame f) i Zero less)))
+
+marked : (claim_of 0).mark ≡ true_mark [] (at 0)
+unfolding is_month_end four_years
+marked = refl
+
+true_claim : (n sod : ℕ) → sod ≡ 43200 + n → sod < 86341 → IsTrueClaim noon (n + 1) (claim_of sod)
+true_claim n sod is less = record {
+  second = (n, refl, record { from = omega arith; to = omega arith; sod = omega (arith, less); sum = (let s : 0 + sod ≡ 43200 + n = omega (arith, is) in s) });
+  mark = (let low : nat_lt sod 86341 ≡ true = lt-ltb sod 86341 less in rw low marked);
+}
+
+same_claim : (c d : Claim) → tells.Claim c ≡ tells.Claim d → c ≡ d
+same_claim c d e = cc
+
+told_0 : told_of rules frame_0 ≡ tells.Claim (claim_of 43200)
+unfolding told_of frame_told coded_told ones values_of field_at control_of offset_in utc_minute is_month_end four_years
+told_0 = refl
+
+told_1 : told_of rules frame_1 ≡ tells.Claim (claim_of 43201)
+unfolding told_of frame_told coded_told ones values_of field_at control_of offset_in utc_minute is_month_end four_years
+told_1 = refl
+
+told_2 : told_of rules frame_2 ≡ tells.Claim (claim_of 43202)
+unfolding told_of frame_told coded_told ones values_of field_at control_of offset_in utc_minute is_month_end four_years
+told_2 = refl
+
+IsNoClaim : Told → Type 0
+IsNoClaim (tells.Claim c) = ⊥
+IsNoClaim tells.Silence = Unit {0}
+IsNoClaim (tells.Fault f) = Unit {0}
+IsNoClaim (tells.Poor q) = Unit {0}
+
+told_none : IsNoClaim (told_of rules nothing)
+unfolding IsNoClaim told_of frame_told coded_told ones values_of field_at control_of offset_in utc_minute is_month_end four_years
+told_none = tt
+
+carried : (f : ℕ) (c : Claim) → told_of rules (frame f) ≡ tells.Claim c → IsTrueClaim noon (f + 1) c
+unfolding frame IsNoClaim
+carried zero c e = subst (λ (d : Claim). IsTrueClaim noon 1 d) (same_claim (claim_of 43200) c (sym told_0 ∙ e)) (true_claim 0 43200 refl (omega arith))
+carried (suc zero) c e = subst (λ (d : Claim). IsTrueClaim noon 2 d) (same_claim (claim_of 43201) c (sym told_1 ∙ e)) (true_claim 1 43201 refl (omega arith))
+carried (suc (suc zero)) c e = subst (λ (d : Claim). IsTrueClaim noon 3 d) (same_claim (claim_of 43202) c (sym told_2 ∙ e)) (true_claim 2 43202 refl (omega arith))
+carried (suc (suc (suc n))) c e = absurd (subst IsNoClaim e told_none)
+
+is_line : IsLineOf rules noon line
+is_line = record {
+  right = is_true_line;
+  truth = λ f s c at carries.
+      let same : s ≡ frame f = stands f s at carries.reads.len in
+      carried f c (ap (told_of rules) (sym same) ∙ (carries_is_told rules s c).1 carries);
+}
+
+-- ---- a checker of a life
+
+same : Symbol → Symbol → Bool
+same Zero Zero = true
+same Zero One = false
+same Zero Marker = false
+same Zero Bad = false
+same One Zero = false
+same One One = true
+same One Marker = false
+same One Bad = false
+same Marker Zero = false
+same Marker One = false
+same Marker Marker = true
+same Marker Bad = false
+same Bad Zero = false
+same Bad One = false
+same Bad Marker = false
+same Bad Bad = true
+
+same_is : (x y : Symbol) → same x y ≡ true → x ≡ y
+unfolding same
+same_is Zero Zero e = refl
+same_is Zero One e = absurd cc
+same_is Zero Marker e = absurd cc
+same_is Zero Bad e = absurd cc
+same_is One Zero e = absurd cc
+same_is One One e = refl
+same_is One Marker e = absurd cc
+same_is One Bad e = absurd cc
+same_is Marker Zero e = absurd cc
+same_is Marker One e = absurd cc
+same_is Marker Marker e = refl
+same_is Marker Bad e = absurd cc
+same_is Bad Zero e = absurd cc
+same_is Bad One e = absurd cc
+same_is Bad Marker e = absurd cc
+same_is Bad Bad e = refl
+
+place_in : ℕ → ℕ
+place_in rise = 100 * ((rise + 500 - 4293500000) / 1000100) + ((rise + 500 - 4293500000) % 1000100) / 10000
+
+lately : ℕ → ℕ → List Pulse → Bool
+lately now k [] = true
+lately now k (p ∷ ps) =
+    nat_lt (place_in p.rise) k && (nat_lt p.rise (element_at edges (place_in p.rise) + 450)
+    && (nat_lt (element_at edges (place_in p.rise)) (p.rise + 450)
+    && (same (symbol_of p.width) (line (place_in p.rise)) && lately now (place_in p.rise) ps)))
+
+lately_is : (now k : ℕ) (ps : List Pulse) → lately now k ps ≡ true → ArePulsesLately line edges now k ps
+unfolding lately
+lately_is now k [] e = tt
+lately_is now k (p ∷ ps) e =
+    let j = place_in p.rise in
+    let one = both (nat_lt j k) _ e in
+    let two = both (nat_lt p.rise (element_at edges j + 450)) _ one.1 in
+    let three = both (nat_lt (element_at edges j) (p.rise + 450)) _ two.1 in
+    let four = both (same (symbol_of p.width) (line j)) _ three.1 in
+    inr (
+      j,
+      ltb-true j k one.0,
+      record {
+        late = ltb-true _ _ two.0;
+        early = ltb-true _ _ three.0;
+        symbol = same_is (symbol_of p.width) (line j) four.0;
+      },
+      lately_is now j ps four.1,
+    )
+
+is_after : List Pulse → ℕ → Bool
+is_after [] time = true
+is_after (p ∷ ps) time = nat_le p.rise time
+
+after_is : (ps : List Pulse) (time : ℕ) → is_after ps time ≡ true → IsAfter ps time
+unfolding is_after
+after_is [] time e = tt
+after_is (p ∷ ps) time e = leb-true p.rise time e
+
+in_order : ℕ → Redundancy → List Call → Bool
+in_order start r [] = true
+in_order start r (Hear port time rise width ∷ calls) =
+    nat_lt port (ports_in r) && (nat_le (last_call start calls) time
+    && (nat_lt (time + 500000) (last_tick start calls + 1800000000)
+    && (nat_le rise time && (nat_le time (rise + 500000)
+    && (is_after (pulses_on port calls) rise && in_order start r calls)))))
+in_order start r (Tick now ∷ calls) =
+    nat_le (last_call start calls) now
+    && (nat_lt (now + 500000) (last_tick start calls + 1800000000) && in_order start r calls)
+
+order_is : (start : ℕ) (r : Redundancy) (calls : List Call) → in_order start r calls ≡ true → AreInOrder start r calls
+unfolding in_order
+order_is start r [] e = tt
+order_is start r (Hear port time rise width ∷ calls) e =
+    let a = both (nat_lt port (ports_in r)) _ e in
+    let b = both (nat_le (last_call start calls) time) _ a.1 in
+    let c = both (nat_lt (time + 500000) (last_tick start calls + 1800000000)) _ b.1 in
+    let d = both (nat_le rise time) _ c.1 in
+    let f = both (nat_le time (rise + 500000)) _ d.1 in
+    let g = both (is_after (pulses_on port calls) rise) _ f.1 in (
+      ltb-true _ _ a.0,
+      leb-true _ _ b.0,
+      ltb-true _ _ c.0,
+      λ narrow. record { risen = leb-true _ _ d.0; soon = leb-true _ _ f.0; after = after_is (pulses_on port calls) rise g.0 },
+      order_is start r calls g.1,
+    )
+order_is start r (Tick now ∷ calls) e =
+    let a = both (nat_le (last_call start calls) now) _ e in
+    let b = both (nat_lt (now + 500000) (last_tick start calls + 1800000000)) _ a.1 in
+    (leb-true _ _ a.0, ltb-true _ _ b.0, order_is start r calls b.1)
+
+-- all lines but the third
+four : ℕ → List Call → Bool
+four now calls = lately now 400 (pulses_on 0 calls) && (lately now 400 (pulses_on 1 calls) && (lately now 400 (pulses_on 3 calls) && lately now 400 (pulses_on 4 calls)))
+
+truly : List Call → Bool
+truly [] = true
+truly (Hear port time rise width ∷ calls) = truly calls
+truly (Tick now ∷ calls) = four now calls && truly calls
+
+true_of : (now i : ℕ) (calls : List Call) → lately now 400 (pulses_on i calls) ≡ true → IsTrueLately rules noon edges now (pulses_on i calls)
+true_of now i calls e = record { line = line; next = 400; is_line = is_line; are = lately_is now 400 (pulses_on i calls) e }
+
+four_is : (now : ℕ) (calls : List Call) → four now calls ≡ true → (i : ℕ) → i < 5 → (i == 2) ≡ false → IsTrueLately rules noon edges now (pulses_on i calls)
+unfolding four
+four_is now calls e i less other =
+    let a = both (lately now 400 (pulses_on 0 calls)) _ e in
+    let b = both (lately now 400 (pulses_on 1 calls)) _ a.1 in
+    let c = both (lately now 400 (pulses_on 3 calls)) _ b.1 in
+    by i less other a.0 b.0 c.0 c.1
+  where
+    by : (i : ℕ) → i < 5 → (i == 2) ≡ false → lately now 400 (pulses_on 0 calls) ≡ true → lately now 400 (pulses_on 1 calls) ≡ true → lately now 400 (pulses_on 3 calls) ≡ true → lately now 400 (pulses_on 4 calls) ≡ true → IsTrueLately rules noon edges now (pulses_on i calls)
+    by zero less other a b c d = true_of now 0 calls a
+    by (suc zero) less other a b c d = true_of now 1 calls b
+    by (suc (suc zero)) less other a b c d = absurd cc
+    by (suc (suc (suc zero))) less other a b c d = true_of now 3 calls c
+    by (suc (suc (suc (suc zero)))) less other a b c d = true_of now 4 calls d
+    by (suc (suc (suc (suc (suc i))))) less other a b c d = absurd (omega (arith, less))
+
+truly_is : (calls : List Call) → truly calls ≡ true → AreTrueAtTicks rules noon edges 1 calls
+unfolding truly
+truly_is [] e = tt
+truly_is (Hear port time rise width ∷ calls) e = truly_is calls e
+truly_is (Tick now ∷ calls) e =
+    let a = both (four now calls) (truly calls) e in (
+      record {
+        untrue = λ i. i == 2;
+        few = (let one : count_by (λ (i : ℕ). i == 2) (range_with_len 0 5) ≡ 1 = refl in omega (arith, one));
+        true_lines = four_is now calls a.0;
+      },
+      truly_is calls a.1,
+    )
+
+-- ---- the calls: 300 elements of three lines, each told 9 ms behind its time, and two ticks
+
+width_of : Symbol → ℕ
+width_of Zero = 2000
+width_of One = 5000
+width_of Marker = 8000
+width_of Bad = 0
+
+-- the liar sends the frame of another of these seconds
+lie : ℕ → Symbol
+lie k = get_or (frame ((k / 100 + 1) % 3)) (k % 100) Zero
+
+with_element : ℕ → List Call → List Call
+with_element k calls =
+    let at : ℕ = element_at edges k in
+    Hear 2 (at + 9000) (at + 999) (width_of (lie k))
+    ∷ Hear 1 (at + 9000) (at - 400) (width_of (line k))
+    ∷ Hear 0 (at + 9000) (at + 400) (width_of (line k))
+    ∷ calls
+
+-- a tick 2 ms behind each edge
+with_tick : ℕ → List Call → List Call
+with_tick k calls = cond ((k % 100 == 0) && nat_le 100 k) (Tick (edges (k / 100) + 2000) ∷ calls) calls
+
+elements_before : ℕ → List Call
+elements_before zero = []
+elements_before (suc k) = with_element k (with_tick k (elements_before k))
+
+unfoldable calls_3 : List Call
+calls_3 = elements_before 300
+
+abbrev now_3 : ℕ
+now_3 = 4296502300
+
+abbrev now_4 : ℕ
+now_4 = 4297510400
+
+abbrev life_4 : List Call
+life_4 = Tick now_4 ∷ ([] ++ (Tick now_3 ∷ calls_3))
+
+order_4 : AreInOrder 4293400000 of.Three life_4
+unfolding calls_3 elements_before with_element with_tick width_of lie line frame in_order is_after
+order_4 = order_is 4293400000 of.Three life_4 refl
+
+truth_4 : AreTrueAtTicks rules noon edges 1 life_4
+unfolding calls_3 elements_before with_element with_tick width_of lie truly four lately line frame same place_in
+truth_4 = truly_is life_4 refl
+
+abbrev device : Keeping
+device = new_keeping rules clock no_table new_lines
+
+abbrev silence : Tells
+silence = record { a = tells.Silence; b = tells.Silence; c = tells.Silence; d = tells.Silence; e = tells.Silence }
+
+abbrev beat_3 : Beat
+beat_3 = record {
+  report = record { announce = Some (at 43203); lock = lock.Locked; cause = cause.Voted };
+  told = record silence { a = tells.Claim (claim_of 43202); b = tells.Claim (claim_of 43202); c = tells.Claim (claim_of 43200) };
+  edge_us = 1532504;
+  missed = 0;
+  moved = 0;
+}
+
+abbrev beat_4 : Beat
+beat_4 = record {
+  report = record { announce = Some (at 43204); lock = lock.Holdover 1; cause = cause.Held };
+  told = silence;
+  edge_us = 2532504;
+  missed = 0;
+  moved = 0;
+}
+
+answer_3 : answer_at (after_calls device calls_3) (now_3 % 2 ^ 32) ≡ Some beat_3
+unfolding calls_3 elements_before with_element with_tick width_of lie line frame step_of told_of frame_told coded_told ones values_of field_at control_of offset_in utc_minute is_month_end four_years
+answer_3 = refl
+
+answer_4 : answer_at (after_calls device (Tick now_3 ∷ calls_3)) (now_4 % 2 ^ 32) ≡ Some beat_4
+unfolding calls_3 elements_before with_element with_tick width_of lie line frame step_of told_of frame_told coded_told ones values_of field_at control_of offset_in utc_minute is_month_end four_years
+answer_4 = refl
+
+-- so the laws speak of it
+told_4 : IsToldInHoldover noon edges 100 100 now_4 beat_4 (at 43204)
+told_4 = device_true noon edges rules clock no_table new_lines 4293400000 are_new is_device (Tick now_3 ∷ calls_3) now_4 beat_4 (at 43204) order_4 truth_4 answer_4 refl
+
+later_4 : IsLaterSecond noon (at 43203) (at 43204)
+later_4 = device_in_order noon edges rules clock no_table new_lines 4293400000 are_new is_device calls_3 [] now_3 now_4 beat_3 beat_4 (at 43203) (at 43204) order_4 truth_4 answer_3 refl answer_4 refl
+
+-- an event 0.25 s behind the last edge is stamped with its second, 2 ms before it with the one before
+stamp_4 : (stamp_at (after_tick (after_calls device (Tick now_3 ∷ calls_3)) (now_4 % 2 ^ 32)) 2782504 ≡ Some (record { second = at 43204; offset_us = 250000; bound_us = 1649 }))
+    × (stamp_at (after_tick (after_calls device (Tick now_3 ∷ calls_3)) (now_4 % 2 ^ 32)) 2530504 ≡ Some (record { second = at 43203; offset_us = 998000; bound_us = 1549 }))
+unfolding calls_3 elements_before with_element with_tick width_of lie line frame step_of told_of frame_told coded_told ones values_of field_at control_of offset_in utc_minute is_month_end four_years
+stamp_4 = (refl, refl)
+
+-- ---- what the premises let through
+
+-- a line that brings nothing is true; one that brings a pulse 600 us off is not, for 1.2 s
+silent : (now : ℕ) → IsTrueLately rules noon edges now []
+silent now = record { line = line; next = 0; is_line = is_line; are = tt }
+
+stray_pulse : List Pulse
+stray_pulse = pulse_at 4293500600 8000 ∷ []
+
+stray : ¬ IsTrueLately rules noon edges 4293600000 stray_pulse
+unfolding stray_pulse
+stray is = elim is.are [
+  | inl old ↦ absurd (omega (arith, old.0))
+  | inr new ↦ (let low : new.0 % 100 < 100 = omega arith in absurd (omega (arith, low, new.2.late, new.2.early)))
+]
+
+stray_old : IsTrueLately rules noon edges 4294700601 stray_pulse
+unfolding stray_pulse
+stray_old = record { line = line; next = 0; is_line = is_line; are = inl (omega arith, tt) }
+
+-- a restart leaves what is new
+as_new : (k : Keeping) (lines : Lines) → restarted k lines ≡ new_keeping k.rules k.clock k.table lines
+as_new k lines = refl
+
+-- a line that is stuck high for half a second or longer changes nothing, and ends nothing that the
+-- laws say
+stuck : (k : Keeping) (start time rise : ℕ) → (after_pulse k 0 (rise % 2 ^ 32) 500000 ≡ k) × (start ≤ time → time < start + 1799500000 → AreInOrder start of.Three (Hear 0 time rise 500000 ∷ []))
+stuck k start time rise = (refl, λ order soon. (omega arith, order, omega (arith, soon), λ narrow. absurd cc, tt))

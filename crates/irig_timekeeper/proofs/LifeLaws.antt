@@ -1,0 +1,473 @@
+-- The life of a device.
+use Rattle.std.specs.Prelude.{◌==◌, ◌&&◌}
+use Rattle.std.proofs.Common.{◌≡◌, ◌∙◌, ◌⊎◌, ℕ, zero, suc, ◌+◌, ◌-◌, ◌%◌, ◌^◌, ◌<◌, ◌≤◌, Bool, true, false, cond, List, [], ◌∷◌, ◌++◌, Option, Some, None, refl, sym, ap, subst, arith, inl, inr, append-nil}
+use Rattle.std.proofs.lemmas.Bool.{cases_Bool, cases_lt, eqb-true, eqb-false, ne_eqb}
+use Rattle.irig_frame.specs.declared.symbol.Symbol.{Symbol}
+use Rattle.irig_sync.specs.declared.sync.Sync.{Sync}
+use Rattle.irig_sync.specs.Sync.{place_of, idle_of, is_idle, clock_gap}
+use Rattle.irig_sync.specs.Lines.{Pulse, pulse_at, IsSyncAt, IsIdle, IsOut, IsAfter, IsSoon}
+use Rattle.irig_time.specs.declared.second.UtcSecond.{UtcSecond}
+use Rattle.irig_time.specs.declared.rules.Rules.{Rules}
+use Rattle.irig_time.specs.Timelines.{TimelineValue}
+use Rattle.irig_time.specs.Tables.{TableValue}
+use Rattle.irig_port.specs.Told.{told_of}
+use Rattle.irig_port.specs.Hearing.{heard_at, IsHearing, IsRun}
+use Rattle.irig_port.proofs.RunLaws.{hears}
+use Rattle.irig_vote.specs.declared.redundancy.Redundancy.{Redundancy}
+use Rattle.irig_vote.specs.Vote.{f_of}
+use Rattle.irig_reader.specs.declared.report.Cause.TheVariants as cause
+use Rattle.irig_reader.proofs.FedLaws.{at_most_five}
+use Rattle.irig_timekeeper.specs.declared.lines.KeptFrame.{KeptFrame}
+use Rattle.irig_timekeeper.specs.declared.lines.KeptClaim.{KeptClaim}
+use Rattle.irig_timekeeper.specs.declared.lines.Line.{Line}
+use Rattle.irig_timekeeper.specs.declared.lines.Lines.{Lines}
+use Rattle.irig_timekeeper.specs.declared.clock.Beat.{Beat}
+use Rattle.irig_timekeeper.specs.declared.clock.ClockRules.{ClockRules}
+use Rattle.irig_timekeeper.specs.declared.clock.ClockState.{ClockState}
+use Rattle.irig_timekeeper.specs.Lines.{IfKept, IsInTurnOf}
+use Rattle.irig_timekeeper.specs.Counting.{is_late, edges_to_vote, edges_own}
+use Rattle.irig_timekeeper.specs.Steps.{is_pulse, line_at, with_line, line_heard, still_kept, claim_kept, line_settled, settled, line_taken, taken, IsNewLine, AreNewLines}
+use Rattle.irig_timekeeper.specs.Clock.{clock_by, settled_at}
+use Rattle.irig_timekeeper.specs.Keeping.{Heard, Keeping, heard_by, with_heard, heard_then, one_pulse_more, after_pulse, vote_at, after_tick, answer_at, new_keeping, nothing_heard}
+use Rattle.irig_timekeeper.specs.Truth.{AreHeardTruly, IsOnTrack, IsToldInHoldover, IsLaterSecond, IsDevice}
+use Rattle.irig_timekeeper.specs.Life.{Call, after_calls, pulses_on, last_call, last_tick, IsToldInTime, AreInOrder, AreTrueLately, AreTrueAtTicks}
+use Rattle.irig_timekeeper.specs.Life.Call.{Hear, Tick}
+use Rattle.irig_timekeeper.proofs.LineLaws.{kept_more}
+use Rattle.irig_timekeeper.proofs.VoteLaws.{still, not_late}
+use Rattle.irig_timekeeper.proofs.TrackLaws.{KeepsTrue, tick_true}
+
+-- ---- an idle line
+
+gap_is : (u v : ℕ) → u ≤ v → v < u + 2 ^ 32 → clock_gap (u % 2 ^ 32) (v % 2 ^ 32) ≡ v - u
+gap_is u v h k = omega arith
+
+not_idle : (g : ℕ) → g < 1000000 → is_idle g ≡ false
+not_idle g h = grind (arith, h)
+
+so_idle : (g : ℕ) → 1000000 ≤ g → g < 2 ^ 31 → is_idle g ≡ true
+so_idle g h k = grind (arith, h, k)
+
+longer_idle : (pulses : List Pulse) (now time : ℕ) → now ≤ time → IsIdle pulses now → IsIdle pulses time
+longer_idle [] now time on idle = tt
+longer_idle (p ∷ ps) now time on idle = omega (arith, idle, on)
+
+stays_out : (s : Sync) (b : Bool) → IsOut s → IsOut (cond b (record s { place = 0; was_marker = 1 }) s)
+stays_out s true out = (refl, refl)
+stays_out s false out = out
+
+idle_sync : (s : Sync) (pulses : List Pulse) (now time : ℕ) → IsSyncAt s pulses now → now ≤ time → IsSoon now time → IsSyncAt (idle_of s (time % 2 ^ 32)) pulses time
+idle_sync s [] now time (inl live) on soon = absurd live.1
+idle_sync s (p ∷ ps) now time (inl live) on soon =
+    let gap : clock_gap s.rise_us (time % 2 ^ 32) ≡ time - p.rise = ap (λ (x : ℕ). clock_gap x (time % 2 ^ 32)) (live.0).last.0 ∙ gap_is p.rise time (omega (arith, live.1.0, on)) (omega (arith, live.1.1, soon.1)) in
+    elim (cases_lt (time - p.rise) 1000000) [
+      | inl less ↦
+          let stays : is_idle (clock_gap s.rise_us (time % 2 ^ 32)) ≡ false = ap is_idle gap ∙ not_idle (time - p.rise) less in
+          rw stays (inl (live.0, (omega (arith, live.1.0, on), omega (arith, less))))
+      | inr long ↦
+          let goes : is_idle (clock_gap s.rise_us (time % 2 ^ 32)) ≡ true = ap is_idle gap ∙ so_idle (time - p.rise) long (omega (arith, live.1.1, soon.1)) in
+          rw goes (inr ((refl, refl), omega (arith, long)))
+    ]
+idle_sync s pulses now time (inr out) on soon =
+    inr (stays_out s (is_idle (clock_gap s.rise_us (time % 2 ^ 32))) out.0, longer_idle pulses now time on out.1)
+
+idle_run : (heard : List Symbol) (s : Sync) (pulses : List Pulse) (b : Bool) → IsRun heard s.place pulses → IsRun heard (cond b (record s { place = 0; was_marker = 1 }) s).place pulses
+idle_run heard s pulses false run = run
+idle_run heard s pulses true run = record { late = run.late; count = run.count; symbols = run.symbols; all = run.all; on_time = run.on_time; out = run.out; step = inl refl }
+
+-- ---- one line
+
+-- the end lies at most 10 ms behind the last call, and half a second before the last tick
+abbrev IsEndAt : ℕ → ℕ → ℕ → Type 0
+IsEndAt tick now end = (end ≤ now + 10000) × (tick ≤ end + 500000)
+
+-- a line heard these pulses, and its synchroniser was told last of a time since the last tick, but
+-- for half a second
+record IsLineAt (rules : Rules) (heard : List Symbol) (line : Line) (pulses : List Pulse) (tick now : ℕ) : Type 0 where
+  told : ℕ
+  hearing : IsHearing heard line.sync pulses told
+  kept : IfKept (IsEndAt tick now) rules (claim_kept line.frame) pulses
+  past : told ≤ now
+  near : tick ≤ told + 500000
+
+module _ (rules : Rules) where
+  line_hears : (heard : List Symbol) (line : Line) (pulses : List Pulse) (tick now time rise width : ℕ) → IsLineAt rules heard line pulses tick now → tick ≤ now
+      → rise ≤ time → time ≤ rise + 500000 → now ≤ time → time + 500000 < tick + 1800000000 → IsAfter pulses rise
+      → IsLineAt rules (heard_at (place_of line.sync (rise % 2 ^ 32) width) heard width) (line_heard line (rise % 2 ^ 32) width (told_of rules (heard_at (place_of line.sync (rise % 2 ^ 32) width) heard width))) (pulse_at rise width ∷ pulses) tick time
+  line_hears heard line pulses tick now time rise width l order risen late on half after =
+      let soon : IsSoon l.told rise = (omega (arith, l.past, on, late), omega (arith, l.near, half, risen)) in
+      let hearing = hears heard line.sync _ pulses l.told rise _ width _ refl refl l.hearing refl after soon in
+      record {
+        told = rise;
+        hearing = hearing;
+        kept = kept_more (IsEndAt tick now) (IsEndAt tick time) (λ end e. (omega (arith, e.0, on), e.1)) rules line.frame _ _ rise width pulses hearing.run l.kept (omega (arith, risen), omega (arith, order, on, late));
+        past = risen;
+        near = omega (arith, order, on, late);
+      }
+
+  line_waits : (heard : List Symbol) (line : Line) (pulses : List Pulse) (tick now time : ℕ) → IsLineAt rules heard line pulses tick now → now ≤ time → IsLineAt rules heard line pulses tick time
+  line_waits heard line pulses tick now time l on = record {
+    told = l.told;
+    hearing = l.hearing;
+    kept = eased (IsEndAt tick now) (IsEndAt tick time) (λ end e. (omega (arith, e.0, on), e.1)) (claim_kept line.frame) pulses l.kept;
+    past = omega (arith, l.past, on);
+    near = l.near;
+  }
+    where
+      eased : (EndsSo Ends : ℕ → Type 0) → ((end : ℕ) → EndsSo end → Ends end) → (kept : Option KeptClaim) (pulses : List Pulse) → IfKept EndsSo rules kept pulses → IfKept Ends rules kept pulses
+      eased EndsSo Ends more None pulses h = tt
+      eased EndsSo Ends more (Some kept) pulses h = (h.0, h.1, h.2, more h.0 h.3)
+
+  -- at a tick
+  still_in_turn : (kept : Option KeptClaim) (pulses : List Pulse) (tick now time : ℕ) → now ≤ time → time + 500000 < tick + 1800000000 → IfKept (IsEndAt tick now) rules kept pulses → IfKept (IsInTurnOf time) rules kept pulses
+  still_in_turn None pulses tick now time on half h = tt
+  still_in_turn (Some kept) pulses tick now time on half h = (h.0, h.1, h.2, (omega (arith, h.3.0, on), omega (arith, h.3.1, half)))
+
+  still_there : (frame : Option KeptFrame) (pulses : List Pulse) (time : ℕ) → IfKept (IsInTurnOf time) rules (claim_kept frame) pulses → IfKept (IsEndAt time time) rules (claim_kept (still_kept (time % 2 ^ 32) frame)) pulses
+  still_there frame pulses time h = by (claim_kept (still_kept (time % 2 ^ 32) frame)) refl
+    where
+      by : (o : Option KeptClaim) → claim_kept (still_kept (time % 2 ^ 32) frame) ≡ o → IfKept (IsEndAt time time) rules o pulses
+      by None e = tt
+      by (Some kept) e =
+          let was = still (time % 2 ^ 32) frame kept e in
+          let h' = subst (λ (o : Option KeptClaim). IfKept (IsInTurnOf time) rules o pulses) was.0 h in
+          let soon = not_late h'.0 time h'.3.0 h'.3.1 (subst (λ (e : ℕ). is_late e (time % 2 ^ 32) ≡ false) h'.1 was.1) in
+          (h'.0, h'.1, h'.2, (h'.3.0, omega (arith, soon)))
+
+  line_ticks : (heard : List Symbol) (line : Line) (pulses : List Pulse) (tick now time : ℕ) → IsLineAt rules heard line pulses tick now → now ≤ time → time + 500000 < tick + 1800000000
+      → IsLineAt rules heard (line_settled (time % 2 ^ 32) line) pulses time time
+  line_ticks heard line pulses tick now time l on half =
+      let later : l.told ≤ time = omega (arith, l.past, on) in
+      let soon : IsSoon l.told time = (omega (arith, later), omega (arith, l.near, half)) in
+      record {
+        told = time;
+        hearing = record { sync = idle_sync line.sync pulses l.told time l.hearing.sync later soon; run = idle_run heard line.sync pulses (is_idle (clock_gap line.sync.rise_us (time % 2 ^ 32))) l.hearing.run };
+        kept = still_there line.frame pulses time (still_in_turn (claim_kept line.frame) pulses tick now time on half l.kept);
+        past = omega arith;
+        near = omega arith;
+      }
+
+  line_gives : (heard : List Symbol) (line : Line) (pulses : List Pulse) (time : ℕ) → IsLineAt rules heard line pulses time time → IsLineAt rules heard (line_taken line) pulses time time
+  line_gives heard line pulses time l = record { told = l.told; hearing = l.hearing; kept = tt; past = l.past; near = l.near }
+
+-- the same line by other words
+moved : (rules rules' : Rules) (heard heard' : List Symbol) (line line' : Line) (pulses pulses' : List Pulse) (tick now : ℕ) → rules ≡ rules' → heard ≡ heard' → line ≡ line' → pulses ≡ pulses'
+    → IsLineAt rules heard line pulses tick now → IsLineAt rules' heard' line' pulses' tick now
+moved rules rules' heard heard' line line' pulses pulses' tick now r h l p is =
+    subst (λ (x : Rules). IsLineAt x heard' line' pulses' tick now) r
+    (subst (λ (x : List Symbol). IsLineAt rules x line' pulses' tick now) h
+    (subst (λ (x : Line). IsLineAt rules heard x pulses' tick now) l
+    (subst (λ (x : List Pulse). IsLineAt rules heard line x tick now) p is)))
+
+-- ---- five lines
+
+line_same : (lines : Lines) (port : ℕ) (l : Line) → port < 5 → line_at (with_line lines port l) port ≡ l
+line_same lines zero l low = refl
+line_same lines (suc zero) l low = refl
+line_same lines (suc (suc zero)) l low = refl
+line_same lines (suc (suc (suc zero))) l low = refl
+line_same lines (suc (suc (suc (suc zero)))) l low = refl
+line_same lines (suc (suc (suc (suc (suc i))))) l low = absurd (omega (arith, low))
+
+heard_same : (heard : Heard) (port : ℕ) (s : List Symbol) → port < 5 → heard_by (with_heard heard port s) port ≡ s
+heard_same heard zero s low = refl
+heard_same heard (suc zero) s low = refl
+heard_same heard (suc (suc zero)) s low = refl
+heard_same heard (suc (suc (suc zero))) s low = refl
+heard_same heard (suc (suc (suc (suc zero)))) s low = refl
+heard_same heard (suc (suc (suc (suc (suc i))))) s low = absurd (omega (arith, low))
+
+line_other : (lines : Lines) (port : ℕ) (l : Line) (i : ℕ) → port < 5 → i < 5 → ¬ (i ≡ port) → line_at (with_line lines port l) i ≡ line_at lines i
+line_other lines zero l i low small other = rw (ne_eqb i 0 other) refl
+line_other lines (suc zero) l i low small other = rw (ne_eqb i 1 other) refl
+line_other lines (suc (suc zero)) l i low small other = rw (ne_eqb i 2 other) refl
+line_other lines (suc (suc (suc zero))) l i low small other = rw (ne_eqb i 3 other) refl
+line_other lines (suc (suc (suc (suc zero)))) l zero low small other = refl
+line_other lines (suc (suc (suc (suc zero)))) l (suc zero) low small other = refl
+line_other lines (suc (suc (suc (suc zero)))) l (suc (suc zero)) low small other = refl
+line_other lines (suc (suc (suc (suc zero)))) l (suc (suc (suc zero))) low small other = refl
+line_other lines (suc (suc (suc (suc zero)))) l (suc (suc (suc (suc zero)))) low small other = absurd (other refl)
+line_other lines (suc (suc (suc (suc zero)))) l (suc (suc (suc (suc (suc i))))) low small other = absurd (omega (arith, small))
+line_other lines (suc (suc (suc (suc (suc p))))) l i low small other = absurd (omega (arith, low))
+
+heard_other : (heard : Heard) (port : ℕ) (s : List Symbol) (i : ℕ) → port < 5 → i < 5 → ¬ (i ≡ port) → heard_by (with_heard heard port s) i ≡ heard_by heard i
+heard_other heard zero s i low small other = rw (ne_eqb i 0 other) refl
+heard_other heard (suc zero) s i low small other = rw (ne_eqb i 1 other) refl
+heard_other heard (suc (suc zero)) s i low small other = rw (ne_eqb i 2 other) refl
+heard_other heard (suc (suc (suc zero))) s i low small other = rw (ne_eqb i 3 other) refl
+heard_other heard (suc (suc (suc (suc zero)))) s zero low small other = refl
+heard_other heard (suc (suc (suc (suc zero)))) s (suc zero) low small other = refl
+heard_other heard (suc (suc (suc (suc zero)))) s (suc (suc zero)) low small other = refl
+heard_other heard (suc (suc (suc (suc zero)))) s (suc (suc (suc zero))) low small other = refl
+heard_other heard (suc (suc (suc (suc zero)))) s (suc (suc (suc (suc zero)))) low small other = absurd (other refl)
+heard_other heard (suc (suc (suc (suc zero)))) s (suc (suc (suc (suc (suc i))))) low small other = absurd (omega (arith, small))
+heard_other heard (suc (suc (suc (suc (suc p))))) s i low small other = absurd (omega (arith, low))
+
+line_settles : (clock : ℕ) (lines : Lines) (i : ℕ) → i < 5 → line_settled clock (line_at lines i) ≡ line_at (settled clock lines) i
+line_settles clock lines zero low = refl
+line_settles clock lines (suc zero) low = refl
+line_settles clock lines (suc (suc zero)) low = refl
+line_settles clock lines (suc (suc (suc zero))) low = refl
+line_settles clock lines (suc (suc (suc (suc zero)))) low = refl
+line_settles clock lines (suc (suc (suc (suc (suc i))))) low = absurd (omega (arith, low))
+
+line_takes : (lines : Lines) (i : ℕ) → i < 5 → line_taken (line_at lines i) ≡ line_at (taken lines) i
+line_takes lines zero low = refl
+line_takes lines (suc zero) low = refl
+line_takes lines (suc (suc zero)) low = refl
+line_takes lines (suc (suc (suc zero))) low = refl
+line_takes lines (suc (suc (suc (suc zero)))) low = refl
+line_takes lines (suc (suc (suc (suc (suc i))))) low = absurd (omega (arith, low))
+
+-- ---- what a tick leaves as it was
+
+abbrev IsTicked : ClockState → ClockState → ℕ → Type 0
+IsTicked old new clock = (new.lines ≡ settled clock old.lines) ⊎ (new.lines ≡ taken (settled clock old.lines))
+
+either_ticked : (old : ClockState) (clock : ℕ) (b : Bool) (x y : ClockState) → IsTicked old x clock → IsTicked old y clock → IsTicked old (cond b x y) clock
+either_ticked old clock true x y p q = p
+either_ticked old clock false x y p q = q
+
+ticked : (k : Keeping) (clock : ℕ) → IsTicked k.state (after_tick k clock).state clock
+ticked k clock = of (vote_at k clock)
+  where
+    of : (v : Option KeptClaim) → IsTicked k.state (clock_by k.clock k.table (settled_at k.state clock) clock v) clock
+    of None = either_ticked k.state clock (edges_own k.state.edge_us clock == 0) _ _ (inl refl) (inl refl)
+    of (Some v) = either_ticked k.state clock (edges_to_vote k.state.edge_us v.end_us == 0) _ _ (inr refl) (inr refl)
+
+-- ---- what lines keep, after calls in order
+
+record IsSameSetup (old new : Keeping) : Type 0 where
+  rules : new.rules ≡ old.rules
+  clock : new.clock ≡ old.clock
+  table : new.table ≡ old.table
+
+-- after calls, of which the last tick and the last call were of these times
+pub record AreLinesAt (new k : Keeping) (pulses : ℕ → List Pulse) (tick now : ℕ) : Type 0 where
+  same : IsSameSetup new k
+  lines : (i : ℕ) → i < 5 → IsLineAt k.rules (heard_by k.heard i) (line_at k.state.lines i) (pulses i) tick now
+  order : tick ≤ now
+
+and_false : (a b : Bool) → b ≡ false → (a && b) ≡ false
+and_false true b e = e
+and_false false b e = refl
+
+module _ (new k : Keeping) (calls : List Call) (tick now port time rise width : ℕ) (l : AreLinesAt new k (λ i. pulses_on i calls) tick now) (on : now ≤ time) where
+  -- what is too wide is no pulse
+  stuck : is_pulse width ≡ false → AreLinesAt new (after_pulse k port (rise % 2 ^ 32) width) (λ i. pulses_on i (Hear port time rise width ∷ calls)) tick time
+  stuck wide =
+      let k_stays : k ≡ after_pulse k port (rise % 2 ^ 32) width = rw wide refl in
+      subst (λ (x : Keeping). AreLinesAt new x (λ i. pulses_on i (Hear port time rise width ∷ calls)) tick time) k_stays (record {
+        same = l.same;
+        lines = λ i low.
+            let none : pulses_on i calls ≡ pulses_on i (Hear port time rise width ∷ calls) = rw (and_false (i == port) (is_pulse width) wide) refl in
+            moved k.rules k.rules _ _ _ _ _ _ tick time refl refl refl none (line_waits k.rules (heard_by k.heard i) (line_at k.state.lines i) (pulses_on i calls) tick now time (l.lines i low) on);
+        order = omega (arith, l.order, on);
+      })
+
+  module _ (low : port < 5) (half : time + 500000 < tick + 1800000000) (narrow : is_pulse width ≡ true) (told : IsToldInTime time rise (pulses_on port calls)) where
+    abbrev there_line : Line
+    there_line = line_heard (line_at k.state.lines port) (rise % 2 ^ 32) width (told_of k.rules (heard_then k port (rise % 2 ^ 32) width))
+
+    there : IsLineAt k.rules (heard_then k port (rise % 2 ^ 32) width) there_line (pulse_at rise width ∷ pulses_on port calls) tick time
+    there = line_hears k.rules (heard_by k.heard port) (line_at k.state.lines port) (pulses_on port calls) tick now time rise width (l.lines port low) l.order told.risen told.soon on half told.after
+
+    on_it : (i : ℕ) → (i == port) ≡ true → pulse_at rise width ∷ pulses_on i calls ≡ pulses_on i (Hear port time rise width ∷ calls)
+    on_it i same = rw (same, narrow) refl
+
+    on_others : (i : ℕ) → (i == port) ≡ false → pulses_on i calls ≡ pulses_on i (Hear port time rise width ∷ calls)
+    on_others i other = rw other refl
+
+    then : (i : ℕ) → i < 5 → IsLineAt k.rules (heard_by (with_heard k.heard port (heard_then k port (rise % 2 ^ 32) width)) i) (line_at (with_line k.state.lines port there_line) i) (pulses_on i (Hear port time rise width ∷ calls)) tick time
+    then i small = elim (cases_Bool (i == port)) [
+      | inl same ↦
+          let at : i ≡ port = eqb-true i port same in
+          moved k.rules k.rules _ _ _ _ _ _ tick time refl
+          (sym (heard_same k.heard port _ low) ∙ ap (heard_by (with_heard k.heard port (heard_then k port (rise % 2 ^ 32) width))) (sym at))
+          (sym (line_same k.state.lines port _ low) ∙ ap (line_at (with_line k.state.lines port there_line)) (sym at))
+          (ap (λ (j : ℕ). pulse_at rise width ∷ pulses_on j calls) (sym at) ∙ on_it i same)
+          there
+      | inr other ↦
+          let apart = eqb-false i port other in
+          moved k.rules k.rules _ _ _ _ _ _ tick time refl
+          (sym (heard_other k.heard port _ i low small apart))
+          (sym (line_other k.state.lines port _ i low small apart))
+          (on_others i other)
+          (line_waits k.rules (heard_by k.heard i) (line_at k.state.lines i) (pulses_on i calls) tick now time (l.lines i small) on)
+    ]
+
+    one_more : AreLinesAt new (after_pulse k port (rise % 2 ^ 32) width) (λ i. pulses_on i (Hear port time rise width ∷ calls)) tick time
+    one_more =
+        let more : one_pulse_more k port (rise % 2 ^ 32) width ≡ after_pulse k port (rise % 2 ^ 32) width = rw narrow refl in
+        subst (λ (x : Keeping). AreLinesAt new x (λ i. pulses_on i (Hear port time rise width ∷ calls)) tick time) more (record {
+          same = record { rules = l.same.rules; clock = l.same.clock; table = l.same.table };
+          lines = then;
+          order = omega (arith, l.order, on);
+        })
+
+-- a tick
+lines_tick : (new k : Keeping) (calls : List Call) (tick now time : ℕ) → AreLinesAt new k (λ i. pulses_on i calls) tick now → now ≤ time → time + 500000 < tick + 1800000000
+    → AreLinesAt new (after_tick k (time % 2 ^ 32)) (λ i. pulses_on i (Tick time ∷ calls)) time time
+lines_tick new k calls tick now time l on half = record {
+  same = record { rules = l.same.rules; clock = l.same.clock; table = l.same.table };
+  lines = λ i low.
+      let settles = line_ticks k.rules (heard_by k.heard i) (line_at k.state.lines i) (pulses_on i calls) tick now time (l.lines i low) on half in
+      elim (ticked k (time % 2 ^ 32)) [
+        | inl stays ↦
+            moved k.rules k.rules _ _ _ _ _ _ time time refl refl
+            (line_settles (time % 2 ^ 32) k.state.lines i low ∙ ap (λ (x : Lines). line_at x i) (sym stays)) refl settles
+        | inr gives ↦
+            moved k.rules k.rules _ _ _ _ _ _ time time refl refl
+            (ap line_taken (line_settles (time % 2 ^ 32) k.state.lines i low) ∙ line_takes (settled (time % 2 ^ 32) k.state.lines) i low ∙ ap (λ (x : Lines). line_at x i) (sym gives)) refl
+            (line_gives k.rules _ _ _ time settles)
+      ];
+  order = omega arith;
+}
+
+pub lines_after : (new : Keeping) (start : ℕ) → AreLinesAt new new (λ i. []) start start → (calls : List Call) → AreInOrder start new.clock.redundancy calls → AreLinesAt new (after_calls new calls) (λ i. pulses_on i calls) (last_tick start calls) (last_call start calls)
+lines_after new start begins [] order = begins
+lines_after new start begins (Hear port time rise width ∷ calls) order =
+    let l = lines_after new start begins calls order.4 in
+    elim (cases_Bool (is_pulse width)) [
+      | inl narrow ↦ one_more new (after_calls new calls) calls (last_tick start calls) (last_call start calls) port time rise width l order.1 (omega (arith, order.0, at_most_five new.clock.redundancy)) order.2 narrow (order.3 narrow)
+      | inr wide ↦ stuck new (after_calls new calls) calls (last_tick start calls) (last_call start calls) port time rise width l order.1 wide
+    ]
+lines_after new start begins (Tick now ∷ calls) order =
+    lines_tick new (after_calls new calls) calls (last_tick start calls) (last_call start calls) now (lines_after new start begins calls order.2) order.0 order.1
+
+-- ---- a life
+
+-- a tick, by the setup that a device was made with
+module _ (t : TimelineValue) (edges : ℕ → ℕ) (new k : Keeping) (M tick now : ℕ) (pulses : ℕ → List Pulse) (order : tick ≤ now) (soon : now ≤ tick + 1800000000) where
+  abbrev TicksTruly : ClockRules → TableValue → Rules → Type 0
+  TicksTruly c table rules =
+      IsDevice t c.drift_us edges c.reader_rules table → IsOnTrack t edges c.drift_us M c.reader_rules tick k.state.reader k.state.edge_us → AreHeardTruly rules t edges (f_of c.redundancy) now k.state.lines pulses
+      → KeepsTrue t c.drift_us edges M c.reader_rules now (after_tick k (now % 2 ^ 32)).state (answer_at k (now % 2 ^ 32))
+
+  ticks_truly : IsSameSetup new k → TicksTruly new.clock new.table new.rules
+  ticks_truly same =
+      subst (λ (c : ClockRules). TicksTruly c new.table new.rules) same.clock
+      (subst (λ (x : TableValue). TicksTruly k.clock x new.rules) same.table
+      (subst (λ (r : Rules). TicksTruly k.clock k.table r) same.rules
+      (λ is on heard. tick_true t k.clock.drift_us edges k M tick now pulses is order soon on heard)))
+
+module _ (t : TimelineValue) (edges : ℕ → ℕ) (new : Keeping) (start : ℕ) (begins : AreLinesAt new new (λ i. []) start start) where
+  abbrev IsTrack : ℕ → ℕ → Keeping → Type 0
+  IsTrack M tick k = IsOnTrack t edges new.clock.drift_us M new.clock.reader_rules tick k.state.reader k.state.edge_us
+
+  -- what its lines brought, at a tick
+  pub heard_truly : (calls : List Call) (time : ℕ) → AreInOrder start new.clock.redundancy (Tick time ∷ calls) → AreTrueLately new.rules t edges (f_of new.clock.redundancy) time calls
+      → AreHeardTruly new.rules t edges (f_of new.clock.redundancy) time (after_calls new calls).state.lines (λ i. pulses_on i calls)
+  heard_truly calls time order lately =
+      let k : Keeping = after_calls new calls in
+      let l = lines_after new start begins calls order.2 in
+      record {
+        untrue = lately.untrue;
+        few = lately.few;
+        true_lines = lately.true_lines;
+        kept = λ i low.
+            subst (λ (x : Rules). IfKept (IsInTurnOf time) x (claim_kept (line_at k.state.lines i).frame) (pulses_on i calls)) l.same.rules
+            (still_in_turn k.rules (claim_kept (line_at k.state.lines i).frame) (pulses_on i calls) (last_tick start calls) (last_call start calls) time order.0 order.1 (l.lines i low).kept);
+      }
+
+  module _ (is : IsDevice t new.clock.drift_us edges new.clock.reader_rules new.table) where
+    -- what a tick answers in a life
+    pub tick_in : (M : ℕ) (calls : List Call) (now : ℕ) → AreInOrder start new.clock.redundancy (Tick now ∷ calls) → AreTrueLately new.rules t edges (f_of new.clock.redundancy) now calls → IsTrack M (last_tick start calls) (after_calls new calls)
+        → KeepsTrue t new.clock.drift_us edges M new.clock.reader_rules now (after_tick (after_calls new calls) (now % 2 ^ 32)).state (answer_at (after_calls new calls) (now % 2 ^ 32))
+    tick_in M calls now order lately track =
+        let l = lines_after new start begins calls order.2 in
+        ticks_truly t edges new (after_calls new calls) M (last_tick start calls) now (λ i. pulses_on i calls) (omega (arith, l.order, order.0)) (omega (arith, order.1)) l.same is track (heard_truly calls now order lately)
+
+    hears_on : (M tick port rise width : ℕ) (k : Keeping) → IsTrack M tick k → IsTrack M tick (after_pulse k port (rise % 2 ^ 32) width)
+    hears_on M tick port rise width k track = elim (cases_Bool (is_pulse width)) [ inl narrow ↦ rw narrow track | inr wide ↦ rw wide track ]
+
+    -- from where it stands behind some calls
+    pub track_on : (M : ℕ) (base : List Call) → IsTrack M (last_tick start base) (after_calls new base) → (later : List Call) → AreInOrder start new.clock.redundancy (later ++ base)
+        → AreTrueAtTicks new.rules t edges (f_of new.clock.redundancy) (later ++ base) → IsTrack M (last_tick start (later ++ base)) (after_calls new (later ++ base))
+    track_on M base track [] order truth = track
+    track_on M base track (Hear port time rise width ∷ later) order truth =
+        hears_on M (last_tick start (later ++ base)) port rise width (after_calls new (later ++ base)) (track_on M base track later order.4 truth)
+    track_on M base track (Tick now ∷ later) order truth = (tick_in M (later ++ base) now order truth.0 (track_on M base track later order.2 truth.1)).track
+
+-- ---- one announcement and a later one
+
+pub order_before : (start : ℕ) (r : Redundancy) (later base : List Call) → AreInOrder start r (later ++ base) → AreInOrder start r base
+order_before start r [] base order = order
+order_before start r (Hear port time rise width ∷ later) base order = order_before start r later base order.4
+order_before start r (Tick now ∷ later) base order = order_before start r later base order.2
+
+pub truth_before : (rules : Rules) (t : TimelineValue) (edges : ℕ → ℕ) (f : ℕ) (later base : List Call) → AreTrueAtTicks rules t edges f (later ++ base) → AreTrueAtTicks rules t edges f base
+truth_before rules t edges f [] base truth = truth
+truth_before rules t edges f (Hear port time rise width ∷ later) base truth = truth_before rules t edges f later base truth
+truth_before rules t edges f (Tick now ∷ later) base truth = truth_before rules t edges f later base truth.1
+
+-- ---- from the beginning
+
+nothing_by : (i : ℕ) → i < 5 → heard_by nothing_heard i ≡ []
+nothing_by zero low = refl
+nothing_by (suc zero) low = refl
+nothing_by (suc (suc zero)) low = refl
+nothing_by (suc (suc (suc zero))) low = refl
+nothing_by (suc (suc (suc (suc zero)))) low = refl
+nothing_by (suc (suc (suc (suc (suc i))))) low = absurd (omega (arith, low))
+
+new_line : (rules : Rules) (line : Line) (start : ℕ) → IsNewLine line → IsLineAt rules [] line [] start start
+new_line rules line start is = record {
+  told = start;
+  hearing = record {
+    sync = inr ((is.sync.place, is.sync.last), tt);
+    run = record { late = 0; count = 0; symbols = refl; all = refl; on_time = tt; out = λ i less. absurd (omega (arith, less)); step = inl is.sync.place };
+  };
+  kept = subst (λ (o : Option KeptFrame). IfKept (IsEndAt start start) rules (claim_kept o) []) (sym is.frame) tt;
+  past = omega arith;
+  near = omega arith;
+}
+
+each_new : (lines : Lines) → AreNewLines lines → (i : ℕ) → i < 5 → IsNewLine (line_at lines i)
+each_new lines fresh zero low = fresh.a
+each_new lines fresh (suc zero) low = fresh.b
+each_new lines fresh (suc (suc zero)) low = fresh.c
+each_new lines fresh (suc (suc (suc zero))) low = fresh.d
+each_new lines fresh (suc (suc (suc (suc zero)))) low = fresh.e
+each_new lines fresh (suc (suc (suc (suc (suc i))))) low = absurd (omega (arith, low))
+
+module _ (t : TimelineValue) (edges : ℕ → ℕ) (rules : Rules) (clock : ClockRules) (table : TableValue) (lines : Lines) (start : ℕ) (fresh : AreNewLines lines) where
+  abbrev new : Keeping
+  new = new_keeping rules clock table lines
+
+  pub begins : AreLinesAt new new (λ i. []) start start
+  begins = record {
+    same = record { rules = refl; clock = refl; table = refl };
+    lines = λ i low. moved rules rules _ _ _ _ _ _ start start refl (sym (nothing_by i low)) refl refl (new_line rules (line_at lines i) start (each_new lines fresh i low));
+    order = omega arith;
+  }
+
+  module _ (is : IsDevice t clock.drift_us edges clock.reader_rules table) where
+    -- where it stands, and what a tick answers
+    ticks : (calls : List Call) (now : ℕ) → AreInOrder start clock.redundancy (Tick now ∷ calls) → AreTrueAtTicks rules t edges (f_of clock.redundancy) (Tick now ∷ calls)
+        → KeepsTrue t clock.drift_us edges 0 clock.reader_rules now (after_tick (after_calls new calls) (now % 2 ^ 32)).state (answer_at (after_calls new calls) (now % 2 ^ 32))
+    ticks calls now order truth =
+        let none : calls ++ [] ≡ calls = append-nil calls in
+        let track = track_on t edges new start begins is 0 [] (refl, refl) calls (subst (AreInOrder start clock.redundancy) (sym none) order.2) (subst (AreTrueAtTicks rules t edges (f_of clock.redundancy)) (sym none) truth.1) in
+        tick_in t edges new start begins is 0 calls now order truth.0 (subst (λ (x : List Call). IsTrack t edges new start begins 0 (last_tick start x) (after_calls new x)) none track)
+
+    pub device_true : (calls : List Call) (now : ℕ) (b : Beat) (u : UtcSecond) → AreInOrder start clock.redundancy (Tick now ∷ calls) → AreTrueAtTicks rules t edges (f_of clock.redundancy) (Tick now ∷ calls)
+        → answer_at (after_calls new calls) (now % 2 ^ 32) ≡ Some b → b.report.announce ≡ Some u → IsToldInHoldover t edges clock.drift_us clock.reader_rules.holdover now b u
+    device_true calls now b u order truth answer says = ((ticks calls now order truth).told b u answer says).told
+
+    pub device_calm : (calls : List Call) (now : ℕ) (b : Beat) → AreInOrder start clock.redundancy (Tick now ∷ calls) → AreTrueAtTicks rules t edges (f_of clock.redundancy) (Tick now ∷ calls)
+        → answer_at (after_calls new calls) (now % 2 ^ 32) ≡ Some b → ¬ (b.report.cause ≡ cause.Jump)
+    device_calm calls now b order truth answer = (ticks calls now order truth).calm b answer
+
+    pub device_in_order : (earlier later : List Call) (before now : ℕ) (b b' : Beat) (u u' : UtcSecond) → AreInOrder start clock.redundancy (Tick now ∷ (later ++ (Tick before ∷ earlier)))
+        → AreTrueAtTicks rules t edges (f_of clock.redundancy) (Tick now ∷ (later ++ (Tick before ∷ earlier)))
+        → answer_at (after_calls new earlier) (before % 2 ^ 32) ≡ Some b → b.report.announce ≡ Some u
+        → answer_at (after_calls new (later ++ (Tick before ∷ earlier))) (now % 2 ^ 32) ≡ Some b' → b'.report.announce ≡ Some u' → IsLaterSecond t u u'
+    device_in_order earlier later before now b b' u u' order truth answer says answer' says' =
+        let base : List Call = Tick before ∷ earlier in
+        let ordered = order_before start clock.redundancy later base order.2 in
+        let true_so_far = truth_before rules t edges (f_of clock.redundancy) later base truth.1 in
+        let first = (ticks earlier before ordered true_so_far).told b u answer says in
+        let M : ℕ = first.told.told.m in
+        let track = track_on t edges new start begins is M base first.track later order.2 truth.1 in
+        let second = (tick_in t edges new start begins is M (later ++ base) now order truth.0 track).told b' u' answer' says' in
+        record { m = M; n = second.told.told.m; less = second.later; before = first.told.told.truth; then = second.told.told.truth }

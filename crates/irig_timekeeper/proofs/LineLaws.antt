@@ -1,0 +1,212 @@
+-- A line that was true for a frame: its claim is the frame's own.
+use Rattle.std.proofs.Common.{◌≡◌, ℕ, zero, suc, ◌+◌, ◌-◌, ◌*◌, ◌/◌, ◌%◌, ◌^◌, ◌<◌, ◌≤◌, true, List, [], ◌∷◌, ◌++◌, length, length-append, drop, Option, Some, None, refl, sym, subst, ap, ◌∙◌, arith, inl, inr}
+use Rattle.std.specs.Prelude.{slice_get, ◌==◌}
+use Rattle.std.proofs.lemmas.Bool.{cases_Bool, cases_lt, eqb-true}
+use Rattle.irig_frame.specs.declared.symbol.Symbol.{Symbol}
+use Rattle.irig_frame.specs.Symbols.{symbol_of}
+use Rattle.irig_sync.specs.Sync.{is_on_time}
+use Rattle.irig_sync.specs.Lines.{Pulse, pulse_at, AreOnTime, StandAt, symbols_of_last}
+use Rattle.irig_sync.proofs.LineLaws.{on_time_is, only_whole}
+use Rattle.irig_time.specs.declared.rules.Rules.{Rules}
+use Rattle.irig_time.specs.declared.claim.Claim.{Claim}
+use Rattle.irig_time.specs.Carries.{Carries}
+use Rattle.irig_time.specs.Timelines.{TimelineValue}
+use Rattle.irig_port.specs.declared.told.Told.{Told}
+use Rattle.irig_port.specs.declared.told.Told.TheVariants as tells
+use Rattle.irig_port.specs.Told.{told_of}
+use Rattle.irig_port.specs.Hearing.{IsRun}
+use Rattle.irig_port.proofs.CarriesLaws.{carries_is_told}
+use Rattle.irig_timekeeper.specs.Edges.{IsSteady, IsTrueNear}
+use Rattle.irig_timekeeper.specs.declared.lines.KeptFrame.{KeptFrame}
+use Rattle.irig_timekeeper.specs.declared.lines.KeptClaim.{KeptClaim}
+use Rattle.irig_timekeeper.specs.Lines.{element_at, IsPulseAt, ArePulsesLately, IsLineOf, IsTrueLately, IsLastBefore, IsFrameOf, IfKept}
+use Rattle.irig_timekeeper.specs.Steps.{claim_told, claim_kept, frame_behind}
+
+-- ---- one symbol more
+
+get_old : (s : List Symbol) (x : Symbol) (i : ℕ) (y : Symbol) → slice_get s i ≡ Some y → slice_get (s ++ x ∷ []) i ≡ Some y
+get_old [] x i y e = absurd cc
+get_old (a ∷ s) x zero y e = e
+get_old (a ∷ s) x (suc i) y e = get_old s x i y e
+
+get_new : (s : List Symbol) (x : Symbol) → slice_get (s ++ x ∷ []) (length s) ≡ Some x
+get_new [] x = refl
+get_new (a ∷ s) x = get_new s x
+
+-- so many symbols of a line in a row, and the next one
+StandFrom : (ℕ → Symbol) → ℕ → ℕ → List Symbol → Type 0
+StandFrom line first n s = (length s ≡ n) × ((i : ℕ) → i < n → slice_get s i ≡ Some (line (first + i)))
+
+stands_more : (line : ℕ → Symbol) (first n : ℕ) (s : List Symbol) (x : Symbol) → StandFrom line first n s → x ≡ line (first + n) → StandFrom line first (suc n) (s ++ x ∷ [])
+unfolding StandFrom
+stands_more line first n s x stands is = (
+  length-append s (x ∷ []) ∙ (let long : length s + 1 ≡ suc n = omega (arith, stands.0) in long),
+  λ i less. elim (cases_lt i n) [
+    | inl old ↦ get_old s x i (line (first + i)) (stands.1 i old)
+    | inr new ↦
+        let last : i ≡ n = omega (arith, new, less) in
+        let at : length s ≡ i = stands.0 ∙ sym last in
+        subst (λ (j : ℕ). slice_get (s ++ x ∷ []) j ≡ Some (line (first + i))) at
+        (get_new s x ∙ ap Some (is ∙ ap (λ (j : ℕ). line (first + j)) (sym last)))
+  ],
+)
+
+stands_one : (line : ℕ → Symbol) (first : ℕ) (x : Symbol) → x ≡ line first → StandFrom line first 1 (x ∷ [])
+unfolding StandFrom
+stands_one line first x is = (refl, λ i less. (let none : i ≡ 0 = omega (arith, less) in let here : first + 0 ≡ first = omega arith in rw (none, here) (ap Some is)))
+
+-- ---- elements, each some 10 ms behind the one before
+
+module _ (d : ℕ) (edges : ℕ → ℕ) (steady : IsSteady d edges) where
+  next_element : (k : ℕ) → element_at edges k + 9900 ≤ element_at edges (k + 1)
+  next_element k = elim (cases_lt (k % 100) 99) [
+    | inl inside ↦
+        let frame : (k + 1) / 100 ≡ k / 100 = omega (arith, inside) in
+        let place : (k + 1) % 100 ≡ k % 100 + 1 = omega (arith, inside) in
+        rw (frame, place) (omega arith)
+    | inr last ↦
+        let frame : (k + 1) / 100 ≡ k / 100 + 1 = omega (arith, last) in
+        let place : (k + 1) % 100 ≡ 0 = omega (arith, last) in
+        let end : k % 100 ≡ 99 = omega (arith, last) in
+        rw (frame, place, end) (omega (arith, steady.least (k / 100), steady.few))
+  ]
+
+  elements_on : (j n : ℕ) → element_at edges j + 9900 * n ≤ element_at edges (j + n)
+  elements_on j zero = let same : j + 0 ≡ j = omega arith in rw same (omega arith)
+  elements_on j (suc n) =
+      let more : j + suc n ≡ j + n + 1 = omega arith in
+      rw more (omega (arith, elements_on j n, next_element (j + n)))
+
+  -- no slip: a pulse on time behind another is that of the next element
+  is_next : (line : ℕ → Symbol) (j k : ℕ) (p q : Pulse) → IsPulseAt line edges j q → IsPulseAt line edges k p → j < k → is_on_time (p.rise - q.rise) ≡ true → k ≡ j + 1
+  is_next line j k p q before now less on =
+      let gap = (on_time_is (p.rise - q.rise)).0 on in
+      elim (cases_lt (j + 1) k) [
+        | inl further ↦
+            let n : ℕ = k - j in
+            let there : j + n ≡ k = omega (arith, less) in
+            let far : element_at edges j + 9900 * n ≤ element_at edges k = subst (λ (i : ℕ). element_at edges j + 9900 * n ≤ element_at edges i) there (elements_on j n) in
+            let two : 2 ≤ n = omega (arith, further) in
+            absurd (omega (arith, far, two, before.late, before.early, now.late, now.early, gap.0, gap.1))
+        | inr here ↦ omega (arith, here, less)
+      ]
+
+  -- the last pulses, each on time behind the one before, are those of elements in a row
+  record AreInARow (line : ℕ → Symbol) (k m : ℕ) (p : Pulse) (ps : List Pulse) : Type 0 where
+    first : ℕ
+    low : first + m < k
+    stand : StandFrom line first (suc m) (symbols_of_last (suc m) (p ∷ ps))
+    here : IsPulseAt line edges (first + m) p
+
+  module _ (line : ℕ → Symbol) (now : ℕ) where
+    alone : (k : ℕ) (p : Pulse) (ps : List Pulse) → ArePulsesLately line edges now k (p ∷ ps) → now ≤ p.rise + 1200000 → AreInARow line k 0 p ps
+    alone k p ps (inl old) late = absurd (omega (arith, old.0, late))
+    alone k p ps (inr is) late =
+        let j = is.0 in
+        let here : j + 0 ≡ j = omega arith in
+        record {
+          first = j;
+          low = omega (arith, is.1);
+          stand = stands_one line j (symbol_of p.width) is.2.symbol;
+          here = rw here is.2;
+        }
+
+    in_a_row : (m k : ℕ) (p : Pulse) (ps : List Pulse) → ArePulsesLately line edges now k (p ∷ ps) → AreOnTime (suc m) (p ∷ ps) → now + 11000 * m ≤ p.rise + 1200000 → AreInARow line k m p ps
+    in_a_row zero k p ps are on late = alone k p ps are (omega (arith, late))
+    in_a_row (suc m) k p [] are on late = absurd on
+    in_a_row (suc m) k p (q ∷ ps) (inl old) on late = absurd (omega (arith, old.0, late))
+    in_a_row (suc m) k p (q ∷ ps) (inr is) on late =
+        let gap = (on_time_is (p.rise - q.rise)).0 on.0 in
+        let before = in_a_row m is.0 q ps is.3 on.1 (omega (arith, late, gap.0, gap.1)) in
+        let next : is.0 ≡ before.first + m + 1 = is_next line (before.first + m) is.0 p q before.here is.2 before.low on.0 in
+        let there : is.0 ≡ before.first + suc m = omega (arith, next) in
+        record {
+          first = before.first;
+          low = omega (arith, is.1, next);
+          stand = stands_more line before.first (suc m) (symbols_of_last (suc m) (q ∷ ps)) (symbol_of p.width) before.stand (is.2.symbol ∙ ap line there);
+          here = subst (λ (j : ℕ). IsPulseAt line edges j p) there is.2;
+        }
+
+    dropped : (n k : ℕ) (pulses : List Pulse) → ArePulsesLately line edges now k pulses → (j : ℕ) × ArePulsesLately line edges now j (drop n pulses)
+    dropped zero k pulses are = (k, are)
+    dropped (suc n) k [] are = (k, tt)
+    dropped (suc n) k (p ∷ ps) (inl old) = dropped n k ps old.1
+    dropped (suc n) k (p ∷ ps) (inr is) = dropped n is.0 ps is.3
+
+-- ---- a frame that was heard whole
+
+module _ (rules : Rules) (t : TimelineValue) (d : ℕ) (edges : ℕ → ℕ) (steady : IsSteady d edges) where
+  -- by its hundred pulses
+  framed : (now end : ℕ) (line : ℕ → Symbol) (k : ℕ) (p : Pulse) (ps : List Pulse) (claim : Claim) → IsLineOf rules t line → ArePulsesLately line edges now k (p ∷ ps) → AreOnTime 100 (p ∷ ps)
+      → Carries rules (symbols_of_last 100 (p ∷ ps)) claim → end ≡ p.rise + 10000 → now ≤ end + 100000 → IsTrueNear t edges (449 + d) (449 + d) end claim
+  unfolding StandFrom
+  framed now end line k p ps claim is are on carries at soon =
+      let row = in_a_row d edges steady line now 99 k p ps are on (omega (arith, at, soon)) in
+      let whole : row.first % 100 ≡ 0 = only_whole line row.first (symbols_of_last 100 (p ∷ ps)) carries.coded is.right row.stand.1 carries.reads in
+      let f : ℕ = row.first / 100 in
+      let first : row.first ≡ 100 * f = omega (arith, whole) in
+      let frame : (row.first + 99) / 100 ≡ f = omega (arith, whole) in
+      let place : (row.first + 99) % 100 ≡ 99 = omega (arith, whole) in
+      let late : p.rise < edges f + 10000 * 99 + 450 = subst (λ (i : ℕ). p.rise < edges f + 10000 * i + 450) place (subst (λ (i : ℕ). p.rise < edges i + 10000 * ((row.first + 99) % 100) + 450) frame row.here.late) in
+      let early : edges f + 10000 * 99 < p.rise + 450 = subst (λ (i : ℕ). edges f + 10000 * i < p.rise + 450) place (subst (λ (i : ℕ). edges i + 10000 * ((row.first + 99) % 100) < p.rise + 450) frame row.here.early) in
+      record {
+        second = f;
+        near = record {
+          least = omega (arith, at, early, steady.most f);
+          most = omega (arith, at, late, steady.least f);
+        };
+        truth = is.truth f (symbols_of_last 100 (p ∷ ps)) claim (subst (λ (j : ℕ). StandAt line j (symbols_of_last 100 (p ∷ ps))) first row.stand.1) carries;
+      }
+
+  ended : (now end : ℕ) (line : ℕ → Symbol) (k : ℕ) (run : List Pulse) (claim : Claim) → IsLineOf rules t line → ArePulsesLately line edges now k run
+      → AreOnTime 100 run → IsLastBefore end run → Carries rules (symbols_of_last 100 run) claim → now ≤ end + 100000 → IsTrueNear t edges (449 + d) (449 + d) end claim
+  ended now end line k [] claim is are on at carries soon = absurd at
+  ended now end line k (p ∷ ps) claim is are on at carries soon = framed now end line k p ps claim is are on carries at soon
+
+  pub frame_is_true : (now end : ℕ) (pulses : List Pulse) (claim : Claim) → IsTrueLately rules t edges now pulses → IsFrameOf rules claim end pulses → now ≤ end + 100000 → IsTrueNear t edges (449 + d) (449 + d) end claim
+  frame_is_true now end pulses claim is frame soon =
+      let left = dropped d edges steady is.line now frame.late is.next pulses is.are in
+      ended now end is.line left.0 (drop frame.late pulses) claim is.is_line left.1 frame.on_time frame.last frame.carries soon
+
+-- ---- a pulse more
+
+one_late : (EndsSo Ends : ℕ → Type 0) → ((end : ℕ) → EndsSo end → Ends end) → (rules : Rules) (kept : Option KeptClaim) (p : Pulse) (pulses : List Pulse) → IfKept EndsSo rules kept pulses → IfKept Ends rules kept (p ∷ pulses)
+one_late EndsSo Ends more rules None p pulses before = tt
+one_late EndsSo Ends more rules (Some kept) p pulses before =
+    let frame = before.2 in
+    (before.0, before.1, record { late = suc frame.late; on_time = frame.on_time; carries = frame.carries; last = frame.last }, more before.0 before.3)
+
+-- a frame's last pulse: what the port then tells
+told_here : (Ends : ℕ → Type 0) (rules : Rules) (told : Told) (heard : List Symbol) (place time width : ℕ) (pulses : List Pulse) → told_of rules heard ≡ told → 1 ≤ place → IsRun heard place (pulse_at time width ∷ pulses) → Ends (time + 10000)
+    → IfKept Ends rules (claim_told told ((time % 2 ^ 32 + 10000) % 2 ^ 32)) (pulse_at time width ∷ pulses)
+told_here Ends rules tells.Silence heard place time width pulses e some run ends = tt
+told_here Ends rules (tells.Fault f) heard place time width pulses e some run ends = tt
+told_here Ends rules (tells.Poor q) heard place time width pulses e some run ends = tt
+told_here Ends rules (tells.Claim c) heard place time width pulses e some run ends = elim run.step [
+  | inl out ↦ absurd (omega (arith, out, some))
+  | inr inside ↦
+      let all : List Pulse = pulse_at time width ∷ pulses in
+      let none : drop run.late all ≡ all = ap (λ (n : ℕ). drop n all) inside.0 in
+      let carries = (carries_is_told rules heard c).0 e in
+      let whole : run.count ≡ 100 = sym run.all ∙ carries.reads.len in
+      let symbols : heard ≡ symbols_of_last 100 all = run.symbols ∙ ap (symbols_of_last run.count) none ∙ ap (λ (n : ℕ). symbols_of_last n all) whole in (
+        time + 10000,
+        omega arith,
+        record {
+          late = 0;
+          on_time = subst (λ (n : ℕ). AreOnTime n all) whole (subst (AreOnTime run.count) none run.on_time);
+          carries = subst (λ (s : List Symbol). Carries rules s c) symbols carries;
+          last = refl;
+        },
+        ends,
+      )
+]
+
+pub kept_more : (EndsSo Ends : ℕ → Type 0) → ((end : ℕ) → EndsSo end → Ends end) → (rules : Rules) (frame : Option KeptFrame) (heard : List Symbol) (place time width : ℕ) (pulses : List Pulse) → IsRun heard place (pulse_at time width ∷ pulses) → IfKept EndsSo rules (claim_kept frame) pulses → Ends (time + 10000)
+    → IfKept Ends rules (claim_kept (frame_behind place (time % 2 ^ 32) (told_of rules heard) frame)) (pulse_at time width ∷ pulses)
+kept_more EndsSo Ends more rules frame heard place time width pulses run before ends = elim (cases_Bool (place == 100)) [
+  | inl whole ↦
+      let at : place ≡ 100 = eqb-true place 100 whole in
+      rw whole (told_here Ends rules (told_of rules heard) heard place time width pulses refl (omega (arith, at)) run ends)
+  | inr inside ↦ rw inside (one_late EndsSo Ends more rules (claim_kept frame) (pulse_at time width) pulses before)
+]

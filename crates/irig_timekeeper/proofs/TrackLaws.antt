@@ -1,0 +1,514 @@
+-- A device at a tick keeps to the truth.
+use Rattle.std.specs.Prelude.{◌==◌, nat_lt}
+use Rattle.std.proofs.Common.{◌≡◌, ◌∙◌, ℕ, suc, ◌+◌, ◌-◌, ◌*◌, ◌/◌, ◌%◌, ◌^◌, ◌<◌, ◌≤◌, true, List, Option, Some, None, refl, sym, ap, subst, arith, inl, inr}
+use Rattle.std.proofs.Math.Nat.{mul-le-mul_left}
+use Rattle.std.proofs.lemmas.Bool.{cases_Bool, cases_lt, eqb-true, eqb-false}
+use Rattle.irig_sync.specs.Sync.{clock_gap}
+use Rattle.irig_time.specs.declared.second.UtcSecond.{UtcSecond}
+use Rattle.irig_time.specs.Timelines.{TimelineValue, IsSecond, truth_at}
+use Rattle.irig_time.specs.Tables.{TableValue}
+use Rattle.irig_time.proofs.SecondAt.{claim_is}
+use Rattle.irig_reader.specs.declared.rules.ReaderRules.{ReaderRules}
+use Rattle.irig_reader.specs.declared.report.Report.{Report}
+use Rattle.irig_reader.specs.declared.report.Cause.TheVariants as cause
+use Rattle.irig_reader.specs.declared.rule.State.{State}
+use Rattle.irig_reader.specs.declared.rule.State.TheVariants.{Idle, Locked}
+use Rattle.irig_reader.specs.declared.rule.Step.{Step}
+use Rattle.irig_reader.specs.Rule.{step_of}
+use Rattle.irig_reader.specs.Standing.{StandsAtTruth}
+use Rattle.irig_reader.proofs.TrueSteps.{IsTrueStep, step_true}
+use Rattle.irig_timekeeper.specs.declared.lines.KeptClaim.{KeptClaim}
+use Rattle.irig_timekeeper.specs.declared.clock.Beat.{Beat}
+use Rattle.irig_timekeeper.specs.Edges.{IsNear}
+use Rattle.irig_timekeeper.specs.Counting.{edges_between, edges_to, edges_to_vote, edges_own, edge_behind}
+use Rattle.irig_timekeeper.specs.Rule.{missed, step_behind}
+use Rattle.irig_timekeeper.specs.Truth.{IsTrueVote, IsEdgeAt, StandsAt, IsOnTrack, IsToldTruly, IsToldInHoldover, IsDevice, age_of}
+use Rattle.irig_sync.specs.Lines.{Pulse}
+use Rattle.irig_vote.specs.Vote.{f_of}
+use Rattle.irig_timekeeper.specs.Truth.{AreHeardTruly}
+use Rattle.irig_timekeeper.specs.declared.clock.ClockRules.{ClockRules}
+use Rattle.irig_timekeeper.specs.declared.clock.ClockState.{ClockState}
+use Rattle.irig_timekeeper.specs.Clock.{lasted, own_edge, beat_by, step_to, after_vote, answer_to_vote, after_own, answer_alone, clock_by, answer_by, settled_at}
+use Rattle.irig_timekeeper.specs.Keeping.{Keeping, vote_at, after_tick, answer_at}
+use Rattle.irig_timekeeper.proofs.VoteLaws.{vote_is_true}
+use Rattle.irig_timekeeper.proofs.CountingLaws.{apart, counts, rises, wraps}
+use Rattle.irig_timekeeper.proofs.AgeLaws.{alone_step, gone, gone_idle, missed_idle, missed_true}
+
+-- it announces a later second than the last one, and stands there
+pub record IsToldNewly (t : TimelineValue) (d : ℕ) (edges : ℕ → ℕ) (M : ℕ) (rules : ReaderRules) (now : ℕ) (b : Beat) (u : UtcSecond) (s : State) (o : Option ℕ) : Type 0 where
+  pub told : IsToldInHoldover t edges d rules.holdover now b u
+  pub later : M < told.told.m
+  pub track : IsOnTrack t edges d told.told.m rules now s o
+
+module _ (t : TimelineValue) (d : ℕ) (edges : ℕ → ℕ) (rules : ReaderRules) (table : TableValue) (is : IsDevice t d edges rules table) (M : ℕ) where
+  -- ---- with a vote
+
+  -- a true vote leads to the truth from there, or from nothing
+  module _ (now : ℕ) (v : KeptClaim) (vote : IsTrueVote t edges d now v) where
+    m : ℕ
+    m = vote.truth.second + 1
+
+    true_vote : Some v.claim ≡ truth_at t vote.truth.second
+    true_vote = sym ((claim_is t vote.truth.second v.claim).1 vote.truth.truth)
+
+    edge_now : IsEdgeAt v.end_us vote.end now
+    edge_now = record { clock = vote.clock; come = vote.come; soon = omega (arith, vote.soon) }
+
+    near_now : IsNear edges (1549 + 0 * d) (549 + 0 * d) (vote.truth.second + 1) vote.end
+    near_now = record {
+      least = omega (arith, vote.truth.near.least, is.steady.few);
+      most = omega (arith, vote.truth.near.most, is.steady.few);
+    }
+
+    votes : (s : State) → StandsAtTruth t vote.truth.second s → IsTrueStep t (vote.truth.second + 1) (step_of rules table s (Some v.claim))
+    votes s at = step_true t vote.truth.second rules table s (Some v.claim) is.sound is.true_table at (inr true_vote)
+
+    on_track : (last : ℕ) (s : State) → last ≤ vote.truth.second + 1 → StandsAtTruth t vote.truth.second s → IsOnTrack t edges d last rules now (step_of rules table s (Some v.claim)).state (Some v.end_us)
+    on_track last s low at = inr (
+      vote.truth.second + 1,
+      0,
+      record {
+        edge = vote.end;
+        at = edge_now;
+        near = near_now;
+        truth = (votes s at).state;
+        young = omega arith;
+        few = omega arith;
+        behind = low;
+      },
+    )
+
+    abbrev told : (s : State) (b : Beat) (u : UtcSecond) → StandsAtTruth t vote.truth.second s → b.edge_us ≡ v.end_us → (step_of rules table s (Some v.claim)).report.announce ≡ Some u → IsToldTruly t edges 1549 549 now b u
+    told s b u at e says = record {
+      m = vote.truth.second + 1;
+      edge = vote.end;
+      clock = e ∙ vote.clock;
+      near = record { least = omega (arith, near_now.least); most = omega (arith, near_now.most) };
+      come = vote.come;
+      soon = omega (arith, vote.soon);
+      truth = (votes s at).says u says;
+    }
+
+    -- the edges counted from the last edge, and where the rule then stands before the vote
+    record Comes (tick : ℕ) (s : State) (e n : ℕ) : Type 0 where
+      before : 1 ≤ n → StandsAtTruth t vote.truth.second (missed rules table (n - 1) s)
+      none : n ≡ 0 → IsOnTrack t edges d M rules now s (Some v.end_us)
+      later : 1 ≤ n → M < vote.truth.second + 1
+
+    idle_begins : (tick : ℕ) (s : State) → s ≡ Idle → M ≡ 0 → Comes tick s 0 1
+    idle_begins tick s idle never = record {
+      before = λ some. subst (StandsAtTruth t vote.truth.second) (sym (missed_idle rules table 0 s idle)) tt;
+      none = λ nothing. absurd (omega (arith, nothing));
+      later = λ some. omega (arith, never);
+    }
+
+    -- the edges of seconds rise
+    up : (i j : ℕ) → i ≤ j → edges i ≤ edges j
+    up i j less =
+        let there : i + (j - i) ≡ j = omega (arith, less) in
+        let rise = subst (λ (x : ℕ). edges i + (j - i) * 999900 ≤ edges x) there (rises d edges is.steady i (j - i)) in
+        omega (arith, rise)
+
+    up_one : (i j : ℕ) → i < j → edges i + 999900 ≤ edges j
+    up_one i j less =
+        let there : i + (j - i) ≡ j = omega (arith, less) in
+        let rise = subst (λ (x : ℕ). edges i + (j - i) * 999900 ≤ edges x) there (rises d edges is.steady i (j - i)) in
+        omega (arith, rise, less)
+
+    module _ (tick : ℕ) (order : tick ≤ now) (soon : now ≤ tick + 1800000000) (e edge : ℕ) (at : IsEdgeAt e edge tick) where
+      counted_at : edges_to e v.end_us ≡ edges_between edge vote.end
+      counted_at =
+          ap (λ (x : ℕ). edges_to x v.end_us) at.clock ∙ ap (edges_to (edge % 2 ^ 32)) vote.clock
+          ∙ wraps edge vote.end (omega (arith, at.come, order, vote.soon)) (omega (arith, at.soon, soon, vote.come))
+
+      idle_comes : (s : State) → s ≡ Idle → edges M + 549 < edge + 500000 → Comes tick s e (edges_to e v.end_us)
+      idle_comes s idle ahead = record {
+        before = λ some. subst (StandsAtTruth t vote.truth.second) (sym (missed_idle rules table (edges_to e v.end_us - 1) s idle)) tt;
+        none = λ nothing. inl (
+          idle,
+          (
+            vote.end,
+            edge_now,
+            elim (cases_lt (vote.truth.second + 1) M) [
+              | inl less ↦ absurd (omega (arith, up_one (vote.truth.second + 1) M less, near_now.most, vote.soon, at.come, order, ahead))
+              | inr more ↦ omega (arith, up M (vote.truth.second + 1) more, near_now.least)
+            ],
+          ),
+        );
+        later = λ some. elim (cases_lt M (vote.truth.second + 1)) [
+          | inl less ↦ less
+          | inr more ↦ absurd (omega (arith, up (vote.truth.second + 1) M more, near_now.most, ahead, counted_at, some))
+        ];
+      }
+
+    module _ (tick : ℕ) (order : tick ≤ now) (soon : now ≤ tick + 1800000000) (s : State) (e w a : ℕ) (stands : StandsAt t edges d M rules tick s e w a) where
+      drift : d * a ≤ 490000
+      drift = let most = mul-le-mul_left d (let h : a ≤ rules.holdover + 2 = omega (arith, stands.few) in h) in omega (arith, most, is.short)
+
+      edge : ℕ
+      edge = stands.edge
+
+      counted : edges_to e v.end_us ≡ edges_between stands.edge vote.end
+      counted = counted_at tick order soon e stands.edge stands.at
+
+      -- time goes on
+      not_before : w ≤ vote.truth.second + 1
+      not_before = elim (cases_lt (vote.truth.second + 1) w) [
+        | inr later ↦ later
+        | inl before ↦
+            let k : ℕ = w - (vote.truth.second + 1) in
+            let there : vote.truth.second + 1 + k ≡ w = omega (arith, before) in
+            let rise = subst (λ (i : ℕ). edges (vote.truth.second + 1) + k * 999900 ≤ edges i) there (rises d edges is.steady (vote.truth.second + 1) k) in
+            let one : 1 ≤ k = omega (arith, before) in
+            absurd (omega (arith, rise, one, drift, stands.near.least, near_now.most, vote.soon, stands.at.come, order))
+      ]
+
+      k : ℕ
+      k = vote.truth.second + 1 - w
+
+      there : w + k ≡ vote.truth.second + 1
+      unfolding k
+      there = omega (arith, not_before)
+
+      -- within the holdover it counts right
+      in_holdover : a + k ≤ rules.holdover + 2 → edges_between stands.edge vote.end ≡ k
+      unfolding k
+      in_holdover few =
+          let most = mul-le-mul_left d few in
+          let here = subst (λ (i : ℕ). IsNear edges (1549 + 0 * d) (549 + 0 * d) i vote.end) (sym there) near_now in
+          counts d (1549 + a * d) (549 + a * d) (1549 + 0 * d) (549 + 0 * d) w (vote.truth.second + 1 - w) stands.edge vote.end edges is.steady stands.near here (omega (arith, most, is.short)) (omega (arith, most, is.short))
+
+      -- beyond it enough
+      beyond : rules.holdover + 2 < a + k → k ≤ edges_between stands.edge vote.end + 1
+      unfolding k
+      beyond long =
+          let n : ℕ = vote.truth.second + 1 - w in
+          let far = apart d edges is.steady w n in
+          let upto = subst (λ (i : ℕ). edges w + n * 1000000 ≤ edges i + n * d) there far.least in
+          let slow = mul-le-mul_left n is.steady.few in
+          let few : n ≤ 1803 = omega (arith, upto, slow, drift, near_now.least, stands.near.most, vote.come, soon, stands.at.soon) in
+          let drifts = mul-le-mul_left d few in
+          omega (arith, upto, drifts, drift, is.steady.few, near_now.least, stands.near.most)
+
+      comes_in : (n : ℕ) → n ≡ k → Comes tick s e n
+      comes_in n same = record {
+        before = λ some.
+            let reached : w + (n - 1) ≡ vote.truth.second = omega (arith, same, there, some) in
+            subst (λ (i : ℕ). StandsAtTruth t i (missed rules table (n - 1) s)) reached (missed_true rules table t w (n - 1) s is.sound is.true_table stands.truth);
+        none = λ zero.
+            let at : w ≡ vote.truth.second + 1 = omega (arith, same, there, zero) in
+            inr (
+              vote.truth.second + 1,
+              0,
+              record {
+                edge = vote.end;
+                at = edge_now;
+                near = near_now;
+                truth = subst (λ (i : ℕ). StandsAtTruth t i s) at stands.truth;
+                young = omega arith;
+                few = omega arith;
+                behind = omega (arith, stands.behind, at);
+              },
+            );
+        later = λ some. omega (arith, same, there, some, stands.behind);
+      }
+
+      comes_beyond : (n : ℕ) → rules.holdover + 2 < a + k → k ≤ n + 1 → Comes tick s e n
+      comes_beyond n long enough = record {
+        before = λ some.
+            let gone : missed rules table (n - 1) s ≡ Idle = gone_idle rules table (n - 1) s (omega (arith, stands.few, long, enough)) (omega (arith, stands.young, long, enough)) in
+            subst (StandsAtTruth t vote.truth.second) (sym gone) tt;
+        none = λ zero. absurd (omega (arith, zero, long, enough, stands.few));
+        later = λ some. omega (arith, there, long, stands.few, stands.behind);
+      }
+
+      stands_comes : Comes tick s e (edges_to e v.end_us)
+      stands_comes = elim (cases_lt (rules.holdover + 2) (a + k)) [
+        | inl long ↦ comes_beyond (edges_to e v.end_us) long (omega (arith, beyond long, counted))
+        | inr few ↦ comes_in (edges_to e v.end_us) (counted ∙ in_holdover few)
+      ]
+
+  -- ---- without a vote
+
+  module _ (tick now : ℕ) (order : tick ≤ now) (soon : now ≤ tick + 1800000000) (e edge : ℕ) (at : IsEdgeAt e edge tick) where
+    abbrev come : ℕ
+    come = (now - edge - 5000) / 1000000
+
+    own_count : edges_own (Some e) (now % 2 ^ 32) ≡ come
+    own_count =
+        let gap : clock_gap e (now % 2 ^ 32) ≡ now - edge = ap (λ (x : ℕ). clock_gap x (now % 2 ^ 32)) at.clock ∙ gap_is edge now (omega (arith, at.come, order)) (omega (arith, at.soon, soon)) in
+        let low : nat_lt (now - edge) (2 ^ 31) ≡ true = low_is (now - edge) (omega (arith, at.soon, soon)) in
+        rw (gap, low) refl
+      where
+        gap_is : (u v : ℕ) → u ≤ v → v < u + 2 ^ 32 → clock_gap (u % 2 ^ 32) (v % 2 ^ 32) ≡ v - u
+        gap_is u v h k = omega arith
+
+        low_is : (g : ℕ) → g < 2 ^ 31 → nat_lt g (2 ^ 31) ≡ true
+        low_is g h = grind (arith, h)
+
+    still_edge : come ≡ 0 → IsEdgeAt e edge now
+    still_edge none = record { clock = at.clock; come = omega (arith, at.come, order); soon = omega (arith, none) }
+
+    -- the next edge by the own counter
+    own_edge_at : (n : ℕ) → n ≡ come → 1 ≤ n → IsEdgeAt (edge_behind e n) (edge + n * 1000000) now
+    own_edge_at n same some = record {
+      clock = wrapped e edge n at.clock;
+      come = omega (arith, same, some);
+      soon = omega (arith, same, some);
+    }
+      where
+        wrapped : (e edge n : ℕ) → e ≡ edge % 2 ^ 32 → (e + n * 1000000) % 2 ^ 32 ≡ (edge + n * 1000000) % 2 ^ 32
+        wrapped e edge n is = omega (arith, is)
+
+    module _ (s : State) (n : ℕ) (same : n ≡ come) (some : 1 ≤ n) where
+      abbrev last : Step
+      last = step_behind rules table (n - 1) s None
+
+      one_more : suc (n - 1) ≡ n
+      one_more = omega (arith, some)
+
+      idle_alone : s ≡ Idle → edges M + 549 < edge + 500000 → IsOnTrack t edges d M rules now last.state (Some (edge_behind e n))
+      idle_alone idle ahead = inl (missed_idle rules table (suc (n - 1)) s idle, (edge + n * 1000000, own_edge_at n same some, omega (arith, ahead)))
+
+      idle_says : s ≡ Idle → last.report.announce ≡ None
+      idle_says idle = elim (alone_step rules table (missed rules table (n - 1) s)) [
+        | inl stop ↦ stop.1
+        | inr older ↦ let both : Idle ≡ Locked older.locked.h = sym (missed_idle rules table (suc (n - 1)) s idle) ∙ older.locked.is in absurd cc
+      ]
+
+      module _ (w a : ℕ) (near : IsNear edges (1549 + a * d) (549 + a * d) w edge) (truth : StandsAtTruth t w s) (young : a ≤ age_of s) (short : a ≤ rules.holdover) where
+        further : IsNear edges (1549 + (a + n) * d) (549 + (a + n) * d) (w + n) (edge + n * 1000000)
+        further =
+            let far = apart d edges is.steady w n in
+            record { least = omega (arith, far.most, near.least); most = omega (arith, far.least, near.most) }
+
+        ahead_then : M ≤ w → edges M + 549 < edge + n * 1000000 + 500000
+        ahead_then low =
+            let rise = rises d edges is.steady M (w - M) in
+            let there : M + (w - M) ≡ w = omega (arith, low) in
+            let upto = subst (λ (x : ℕ). edges M + (w - M) * 999900 ≤ edges x) there rise in
+            let most = mul-le-mul_left d (let h : a ≤ rules.holdover + 2 = omega (arith, short) in h) in
+            omega (arith, upto, most, is.short, near.least, some)
+
+        stands_alone : M ≤ w → IsOnTrack t edges d M rules now last.state (Some (edge_behind e n))
+        stands_alone low = elim (gone rules table (n - 1) s) [
+          | inl idle ↦ inl (idle, (edge + n * 1000000, own_edge_at n same some, ahead_then low))
+          | inr older ↦
+              let reached : w + suc (n - 1) ≡ w + n = omega (arith, one_more) in
+              let age : age_of last.state ≡ older.h.age = ap age_of older.is in
+              inr (
+                w + n,
+                a + n,
+                record {
+                  edge = edge + n * 1000000;
+                  at = own_edge_at n same some;
+                  near = further;
+                  truth = subst (λ (i : ℕ). StandsAtTruth t i last.state) reached (missed_true rules table t w (suc (n - 1)) s is.sound is.true_table truth);
+                  young = omega (arith, age, older.older, young, one_more);
+                  few = omega (arith, older.older, older.young, young, one_more);
+                  behind = omega (arith, low);
+                },
+              )
+        ]
+
+        -- it has announced this second
+        stands_told : ¬ (last.state ≡ Idle) → IsOnTrack t edges d (w + n) rules now last.state (Some (edge_behind e n))
+        stands_told goes = elim (gone rules table (n - 1) s) [
+          | inl idle ↦ absurd (goes idle)
+          | inr older ↦
+              let reached : w + suc (n - 1) ≡ w + n = omega (arith, one_more) in
+              let age : age_of last.state ≡ older.h.age = ap age_of older.is in
+              inr (
+                w + n,
+                a + n,
+                record {
+                  edge = edge + n * 1000000;
+                  at = own_edge_at n same some;
+                  near = further;
+                  truth = subst (λ (i : ℕ). StandsAtTruth t i last.state) reached (missed_true rules table t w (suc (n - 1)) s is.sound is.true_table truth);
+                  young = omega (arith, age, older.older, young, one_more);
+                  few = omega (arith, older.older, older.young, young, one_more);
+                  behind = omega arith;
+                },
+              )
+        ]
+
+        says_alone : (b : Beat) (u : UtcSecond) → b.edge_us ≡ edge_behind e n → last.report ≡ b.report → b.report.announce ≡ Some u → M ≤ w → IsToldNewly t d edges M rules now b u last.state (Some (edge_behind e n))
+        says_alone b u is_edge reports says low = elim (alone_step rules table (missed rules table (n - 1) s)) [
+          | inl stop ↦ absurd (let both : None ≡ Some u = sym stop.1 ∙ ap (λ (r : Report). r.announce) reports ∙ says in cc)
+          | inr older ↦ elim (gone rules table (n - 1) s) [
+            | inl idle ↦ absurd (let both : Idle ≡ Locked older.locked.h = sym idle ∙ older.locked.is in cc)
+            | inr gone ↦
+                let before = missed_true rules table t w (n - 1) s is.sound is.true_table truth in
+                let reached : w + (n - 1) + 1 ≡ w + n = omega (arith, some) in
+                let second = (step_true t (w + (n - 1)) rules table (missed rules table (n - 1) s) None is.sound is.true_table before (inl refl)).says u (ap (λ (r : Report). r.announce) reports ∙ says) in
+                let age : older.locked.h.age ≡ gone.h.age = ap age_of (sym older.locked.is ∙ gone.is) in
+                let lasts : lasted b.report.lock ≡ age_of (missed rules table (n - 1) s) + 1 = ap (λ (r : Report). lasted r.lock) (sym reports) ∙ ap lasted older.says in
+                record {
+                  told = record {
+                    far = a + n;
+                    held = omega (arith, lasts, older.locked.older, age, gone.older, young, one_more);
+                    few = omega (arith, gone.older, gone.young, young, one_more);
+                    told = record {
+                      m = w + n;
+                      edge = edge + n * 1000000;
+                      clock = is_edge ∙ (own_edge_at n same some).clock;
+                      near = further;
+                      come = (own_edge_at n same some).come;
+                      soon = (own_edge_at n same some).soon;
+                      truth = subst (λ (i : ℕ). IsSecond t i u) reached second;
+                    };
+                  };
+                  later = omega (arith, low, some);
+                  track = stands_told (λ idle. let both : Idle ≡ Locked older.locked.h = sym idle ∙ older.locked.is in cc);
+                }
+          ]
+        ]
+
+  -- ---- a tick, by the last edge
+
+  abbrev told_once : (now : ℕ) (b : Beat) (u : UtcSecond) → IsToldTruly t edges 1549 549 now b u → IsToldInHoldover t edges d rules.holdover now b u
+  told_once now b u is_told = record {
+    far = 0;
+    held = omega arith;
+    few = omega arith;
+    told = record {
+      m = is_told.m;
+      edge = is_told.edge;
+      clock = is_told.clock;
+      near = record { least = omega (arith, is_told.near.least); most = omega (arith, is_told.near.most) };
+      come = is_told.come;
+      soon = is_told.soon;
+      truth = is_told.truth;
+    };
+  }
+
+  module _ (tick now : ℕ) (order : tick ≤ now) (soon : now ≤ tick + 1800000000) where
+    comes : (v : KeptClaim) (vote : IsTrueVote t edges d now v) (o : Option ℕ) (s : State) → IsOnTrack t edges d M rules tick s o → Comes now v vote tick s 0 (edges_to_vote o v.end_us)
+    comes v vote None s idle = idle_begins now v vote tick s idle.0 idle.1
+    comes v vote (Some e) s (inl idle) = let c = idle_comes now v vote tick order soon e idle.1.0 idle.1.1 s idle.0 idle.1.2 in record { before = c.before; none = c.none; later = c.later }
+    comes v vote (Some e) s (inr at) = let c = stands_comes now v vote tick order soon s e at.0 at.1 at.2 in record { before = c.before; none = c.none; later = c.later }
+
+    own_waits : (o : Option ℕ) (s : State) → IsOnTrack t edges d M rules tick s o → edges_own o (now % 2 ^ 32) ≡ 0 → IsOnTrack t edges d M rules now s o
+    own_waits None s idle none = idle
+    own_waits (Some e) s (inl idle) none =
+        let at = idle.1 in
+        inl (idle.0, (at.0, still_edge tick now order soon e at.0 at.1 (sym (own_count tick now order soon e at.0 at.1) ∙ none), at.2))
+    own_waits (Some e) s (inr at) none =
+        let stands = at.2 in
+        inr (
+          at.0,
+          at.1,
+          record {
+            edge = stands.edge;
+            at = still_edge tick now order soon e stands.edge stands.at (sym (own_count tick now order soon e stands.edge stands.at) ∙ none);
+            near = stands.near;
+            truth = stands.truth;
+            young = stands.young;
+            few = stands.few;
+            behind = stands.behind;
+          },
+        )
+
+    own_tracks : (o : Option ℕ) (s : State) → IsOnTrack t edges d M rules tick s o → (n : ℕ) → n ≡ edges_own o (now % 2 ^ 32) → 1 ≤ n
+        → IsOnTrack t edges d M rules now (step_behind rules table (n - 1) s None).state (Some (own_edge o n))
+    own_tracks None s idle n same some = absurd (omega (arith, same, some))
+    own_tracks (Some e) s (inl idle) n same some =
+        let at = idle.1 in
+        idle_alone tick now order soon e at.0 at.1 s n (same ∙ own_count tick now order soon e at.0 at.1) some idle.0 idle.1.2
+    own_tracks (Some e) s (inr at) n same some =
+        let stands = at.2 in
+        stands_alone tick now order soon e stands.edge stands.at s n (same ∙ own_count tick now order soon e stands.edge stands.at) some at.0 at.1 stands.near stands.truth stands.young stands.few stands.behind
+
+    own_says : (o : Option ℕ) (s : State) → IsOnTrack t edges d M rules tick s o → (n : ℕ) → n ≡ edges_own o (now % 2 ^ 32) → 1 ≤ n → (b : Beat) (u : UtcSecond) → b.edge_us ≡ own_edge o n
+        → (step_behind rules table (n - 1) s None).report ≡ b.report → b.report.announce ≡ Some u → IsToldNewly t d edges M rules now b u (step_behind rules table (n - 1) s None).state (Some (own_edge o n))
+    own_says None s idle n same some b u is_edge reports says = absurd (omega (arith, same, some))
+    own_says (Some e) s (inl idle) n same some b u is_edge reports says =
+        let at = idle.1 in
+        absurd (let both : None ≡ Some u = sym (idle_says tick now order soon e at.0 at.1 s n (same ∙ own_count tick now order soon e at.0 at.1) some idle.0) ∙ ap (λ (r : Report). r.announce) reports ∙ says in cc)
+    own_says (Some e) s (inr at) n same some b u is_edge reports says =
+        let stands = at.2 in
+        says_alone tick now order soon e stands.edge stands.at s n (same ∙ own_count tick now order soon e stands.edge stands.at) some at.0 at.1 stands.near stands.truth stands.young stands.few b u is_edge reports says stands.behind
+
+  -- by the own counter it tells no jump
+  own_calm : (o : Option ℕ) (s : State) (tick : ℕ) → IsOnTrack t edges d M rules tick s o → (n : ℕ) → ¬ ((step_behind rules table n s None).report.cause ≡ cause.Jump)
+  own_calm None s tick idle n = calm_from 0 s n (subst (StandsAtTruth t 0) (sym idle.0) tt)
+    where
+      calm_from : (w : ℕ) (s : State) (n : ℕ) → StandsAtTruth t w s → ¬ ((step_behind rules table n s None).report.cause ≡ cause.Jump)
+      calm_from w s n at = (step_true t (w + n) rules table (missed rules table n s) None is.sound is.true_table (missed_true rules table t w n s is.sound is.true_table at) (inl refl)).calm.jump
+  own_calm (Some e) s tick (inl idle) n = calm_from 0 s n (subst (StandsAtTruth t 0) (sym idle.0) tt)
+    where
+      calm_from : (w : ℕ) (s : State) (n : ℕ) → StandsAtTruth t w s → ¬ ((step_behind rules table n s None).report.cause ≡ cause.Jump)
+      calm_from w s n at = (step_true t (w + n) rules table (missed rules table n s) None is.sound is.true_table (missed_true rules table t w n s is.sound is.true_table at) (inl refl)).calm.jump
+  own_calm (Some e) s tick (inr at) n = (step_true t (at.0 + n) rules table (missed rules table n s) None is.sound is.true_table (missed_true rules table t at.0 n s is.sound is.true_table at.2.truth) (inl refl)).calm.jump
+
+-- ---- a tick
+
+-- a device that is on its track stays there, and what it answers is true
+pub record KeepsTrue (t : TimelineValue) (d : ℕ) (edges : ℕ → ℕ) (M : ℕ) (rules : ReaderRules) (now : ℕ) (new : ClockState) (answer : Option Beat) : Type 0 where
+  pub track : IsOnTrack t edges d M rules now new.reader new.edge_us
+  pub told : (b : Beat) (u : UtcSecond) → answer ≡ Some b → b.report.announce ≡ Some u → IsToldNewly t d edges M rules now b u new.reader new.edge_us
+  pub calm : (b : Beat) → answer ≡ Some b → ¬ (b.report.cause ≡ cause.Jump)
+
+module _ (t : TimelineValue) (d : ℕ) (edges : ℕ → ℕ) (c : ClockRules) (table : TableValue) (s : ClockState) (is : IsDevice t d edges c.reader_rules table) (M tick now : ℕ) (order : tick ≤ now) (soon : now ≤ tick + 1800000000)
+    (on : IsOnTrack t edges d M c.reader_rules tick s.reader s.edge_us) where
+  by_vote : (v : KeptClaim) (vote : IsTrueVote t edges d now v) (n : ℕ) → n ≡ edges_to_vote s.edge_us v.end_us → KeepsTrue t d edges M c.reader_rules now (after_vote c table s v n) (answer_to_vote c table s v n)
+  by_vote v vote n same =
+      let all = comes t d edges c.reader_rules table is M tick now order soon v vote s.edge_us s.reader on in
+      let state = missed c.reader_rules table (n - 1) s.reader in
+      elim (cases_Bool (n == 0)) [
+        | inl waits ↦
+            let none : edges_to_vote s.edge_us v.end_us ≡ 0 = sym same ∙ eqb-true n 0 waits in
+            rw waits (record { track = all.none none; told = λ b u e says. absurd cc; calm = λ b e. absurd cc })
+        | inr more ↦
+            let some : 1 ≤ n = omega (arith, eqb-false n 0 more) in
+            let reached = subst (λ (i : ℕ). StandsAtTruth t vote.truth.second (missed c.reader_rules table (i - 1) s.reader)) (sym same) (all.before (omega (arith, same, some))) in
+            rw more (record {
+              track = on_track t d edges c.reader_rules table is M now v vote M state (let less = all.later (omega (arith, same, some)) in omega (arith, less)) reached;
+              told = λ b u e says.
+                  let beat : b ≡ beat_by s (step_to c table s n (Some v.claim)) (n - 1) v.end_us = cc in
+                  record {
+                    told = told_once t d edges c.reader_rules table is M now b u
+                        (told t d edges c.reader_rules table is M now v vote state b u reached (ap (λ (x : Beat). x.edge_us) beat) (sym (ap (λ (x : Beat). x.report.announce) beat) ∙ says));
+                    later = all.later (omega (arith, same, some));
+                    track = on_track t d edges c.reader_rules table is M now v vote (vote.truth.second + 1) state (omega arith) reached;
+                  };
+              calm = λ b e jumps.
+                  let beat : b ≡ beat_by s (step_to c table s n (Some v.claim)) (n - 1) v.end_us = cc in
+                  (votes t d edges c.reader_rules table is M now v vote state reached).calm.jump (sym (ap (λ (x : Beat). x.report.cause) beat) ∙ jumps);
+            })
+      ]
+
+  alone : (n : ℕ) → n ≡ edges_own s.edge_us (now % 2 ^ 32) → KeepsTrue t d edges M c.reader_rules now (after_own c table s n) (answer_alone c table s n)
+  alone n same =
+      elim (cases_Bool (n == 0)) [
+        | inl waits ↦
+            let none : edges_own s.edge_us (now % 2 ^ 32) ≡ 0 = sym same ∙ eqb-true n 0 waits in
+            rw waits (record { track = own_waits t d edges c.reader_rules table is M tick now order soon s.edge_us s.reader on none; told = λ b u e says. absurd cc; calm = λ b e. absurd cc })
+        | inr more ↦
+            let some : 1 ≤ n = omega (arith, eqb-false n 0 more) in
+            rw more (record {
+              track = own_tracks t d edges c.reader_rules table is M tick now order soon s.edge_us s.reader on n same some;
+              told = λ b u e says.
+                  let beat : b ≡ beat_by s (step_to c table s n None) (n - 1) (own_edge s.edge_us n) = cc in
+                  own_says t d edges c.reader_rules table is M tick now order soon s.edge_us s.reader on n same some b u (ap (λ (x : Beat). x.edge_us) beat) (sym (ap (λ (x : Beat). x.report) beat)) says;
+              calm = λ b e jumps.
+                  let beat : b ≡ beat_by s (step_to c table s n None) (n - 1) (own_edge s.edge_us n) = cc in
+                  own_calm t d edges c.reader_rules table is M s.edge_us s.reader tick on (n - 1) (sym (ap (λ (x : Beat). x.report.cause) beat) ∙ jumps);
+            })
+      ]
+
+-- with what its lines brought
+pub tick_true : (t : TimelineValue) (d : ℕ) (edges : ℕ → ℕ) (k : Keeping) (M tick now : ℕ) (pulses : ℕ → List Pulse) → IsDevice t d edges k.clock.reader_rules k.table → tick ≤ now → now ≤ tick + 1800000000
+    → IsOnTrack t edges d M k.clock.reader_rules tick k.state.reader k.state.edge_us → AreHeardTruly k.rules t edges (f_of k.clock.redundancy) now k.state.lines pulses
+    → KeepsTrue t d edges M k.clock.reader_rules now (after_tick k (now % 2 ^ 32)).state (answer_at k (now % 2 ^ 32))
+tick_true t d edges k M tick now pulses is order soon on heard = of (vote_at k (now % 2 ^ 32)) refl
+  where
+    s : ClockState
+    s = settled_at k.state (now % 2 ^ 32)
+
+    of : (v : Option KeptClaim) → vote_at k (now % 2 ^ 32) ≡ v → KeepsTrue t d edges M k.clock.reader_rules now (clock_by k.clock k.table s (now % 2 ^ 32) v) (answer_by k.clock k.table s (now % 2 ^ 32) v)
+    of None e = alone t d edges k.clock k.table s is M tick now order soon on _ refl
+    of (Some v) e =
+        let vote = vote_is_true k.rules t d edges is.steady (f_of k.clock.redundancy) now k.state.lines pulses heard v e in
+        by_vote t d edges k.clock k.table s is M tick now order soon on v vote _ refl

@@ -1,0 +1,104 @@
+-- A second that a tick announces by a vote is true, from any state.
+use Rattle.std.specs.Prelude.{◌==◌}
+use Rattle.std.proofs.Common.{◌≡◌, ◌∙◌, ℕ, ◌+◌, ◌-◌, ◌%◌, ◌^◌, Bool, true, false, cond, List, Option, Some, None, refl, sym, ap, subst, arith}
+use Rattle.irig_sync.specs.Lines.{Pulse}
+use Rattle.irig_time.specs.declared.second.UtcSecond.{UtcSecond}
+use Rattle.irig_time.specs.declared.claim.Claim.{Claim}
+use Rattle.irig_time.specs.Tables.{TableValue}
+use Rattle.irig_time.specs.Timelines.{TimelineValue, IsSecond, truth_at}
+use Rattle.irig_time.specs.TimelineFaults.{IsTimeline}
+use Rattle.irig_time.proofs.SecondAt.{claim_is}
+use Rattle.irig_port.specs.declared.told.Told.TheVariants as tells
+use Rattle.irig_vote.specs.declared.redundancy.Redundancy.TheVariants.{One}
+use Rattle.irig_vote.specs.declared.votes.Tells.{Tells}
+use Rattle.irig_vote.specs.Vote.{f_of, vote_of}
+use Rattle.irig_vote.proofs.CountLaws.{same_itself, vote_counts}
+use Rattle.irig_hold.specs.declared.hold.Turn.{Turn}
+use Rattle.irig_hold.specs.declared.hold.Turn.TheVariants as turn
+use Rattle.irig_hold.specs.Steps.{HoldValue, alone_by}
+use Rattle.irig_reader.specs.declared.rules.ReaderRules.{ReaderRules}
+use Rattle.irig_reader.specs.declared.report.Report.{Report}
+use Rattle.irig_reader.specs.declared.report.Lock.TheVariants as lock
+use Rattle.irig_reader.specs.declared.report.Cause.TheVariants as cause
+use Rattle.irig_reader.specs.declared.rule.State.{State}
+use Rattle.irig_reader.specs.declared.rule.State.TheVariants.{Idle, Acquiring, Locked}
+use Rattle.irig_reader.specs.Rule.{step_of, locked_step}
+use Rattle.irig_reader.proofs.OneEdge.{voted_seconds, clean_by_few}
+use Rattle.irig_timekeeper.specs.declared.lines.KeptClaim.{KeptClaim}
+use Rattle.irig_timekeeper.specs.declared.clock.Beat.{Beat}
+use Rattle.irig_timekeeper.specs.Edges.{IsSteady}
+use Rattle.irig_timekeeper.specs.Counting.{edges_to_vote, edges_own}
+use Rattle.irig_timekeeper.specs.Rule.{missed}
+use Rattle.irig_timekeeper.specs.Clock.{beat_by, step_to, own_edge, answer_by, settled_at}
+use Rattle.irig_timekeeper.specs.declared.clock.ClockState.{ClockState}
+use Rattle.irig_timekeeper.specs.Keeping.{Keeping, answer_at, vote_at}
+use Rattle.irig_timekeeper.specs.Truth.{AreHeardTruly, IsTrueVote, IsToldTruly}
+use Rattle.irig_timekeeper.proofs.VoteLaws.{vote_is_true}
+
+-- ---- a true claim
+
+one_port : Claim → Tells
+one_port c = record { a = tells.Claim c; b = tells.Silence; c = tells.Silence; d = tells.Silence; e = tells.Silence }
+
+pub voted_second : (t : TimelineValue) (n : ℕ) (rules : ReaderRules) (table : TableValue) (state : State) (c : Claim) (u : UtcSecond) → IsTimeline t → truth_at t n ≡ Some c
+    → (step_of rules table state (Some c)).report.cause ≡ cause.Voted → (step_of rules table state (Some c)).report.announce ≡ Some u → IsSecond t (n + 1) u
+unfolding one_port
+voted_second t n rules table state c u sound truth voted says =
+    let same = same_itself c in
+    let vote : vote_of (one_port c) One ≡ Some c = (vote_counts (one_port c) One c).1 (rw same (omega arith)) in
+    let clean = clean_by_few t n (one_port c) One c truth (rw same (omega arith)) in
+    let report = ap (λ (v : Option Claim). (step_of rules table state v).report) (sym vote) in
+    voted_seconds t n rules table state (one_port c) One u sound clean
+    (subst (λ (r : Report). r.cause ≡ cause.Voted) report voted) (subst (λ (r : Report). r.announce ≡ Some u) report says)
+
+-- ---- without a vote no second is told as voted
+
+module _ (rules : ReaderRules) (table : TableValue) where
+  held : (answer : Turn) (h h' : HoldValue) → ¬ ((locked_step (lock.Holdover h'.age) cause.Held answer h).report.cause ≡ cause.Voted)
+  held (turn.Now u) h h' e = cc
+  held turn.LeapGuard h h' e = cc
+  held turn.Expired h h' e = cc
+  held turn.RangeEnd h h' e = cc
+  held turn.Jump h h' e = cc
+
+  never_voted : (s : State) → ¬ ((step_of rules table s None).report.cause ≡ cause.Voted)
+  unfolding step_of
+  never_voted Idle e = cc
+  never_voted (Acquiring h count) e = cc
+  never_voted (Locked h) e = let o = alone_by table h rules.holdover in held o.answer o.new o.new e
+
+-- ---- a tick
+
+pub tick_voted : (t : TimelineValue) (d : ℕ) (edges : ℕ → ℕ) (k : Keeping) (now : ℕ) (pulses : ℕ → List Pulse) (b : Beat) (u : UtcSecond) → IsSteady d edges → IsTimeline t
+    → AreHeardTruly k.rules t edges (f_of k.clock.redundancy) now k.state.lines pulses → answer_at k (now % 2 ^ 32) ≡ Some b → b.report.cause ≡ cause.Voted → b.report.announce ≡ Some u → IsToldTruly t edges 1549 549 now b u
+tick_voted t d edges k now pulses b u steady sound heard answer voted says = of (vote_at k (now % 2 ^ 32)) refl answer
+  where
+    s : ClockState
+    s = settled_at k.state (now % 2 ^ 32)
+
+    by_own : (n : ℕ) (test : Bool) → (n == 0) ≡ test → cond test None (Some (beat_by s (step_to k.clock k.table s n None) (n - 1) (own_edge s.edge_us n))) ≡ Some b → IsToldTruly t edges 1549 549 now b u
+    by_own n true e answer = absurd cc
+    by_own n false e answer =
+        let beat : beat_by s (step_to k.clock k.table s n None) (n - 1) (own_edge s.edge_us n) ≡ b = cc in
+        absurd (never_voted k.clock.reader_rules k.table (missed k.clock.reader_rules k.table (n - 1) k.state.reader) (ap (λ (x : Beat). x.report.cause) beat ∙ voted))
+
+    by_vote : (v : KeptClaim) → IsTrueVote t edges d now v → (n : ℕ) (test : Bool) → (n == 0) ≡ test → cond test None (Some (beat_by s (step_to k.clock k.table s n (Some v.claim)) (n - 1) v.end_us)) ≡ Some b → IsToldTruly t edges 1549 549 now b u
+    by_vote v vote n true e answer = absurd cc
+    by_vote v vote n false e answer =
+        let beat : beat_by s (step_to k.clock k.table s n (Some v.claim)) (n - 1) v.end_us ≡ b = cc in
+        let state = missed k.clock.reader_rules k.table (n - 1) k.state.reader in
+        let truth : truth_at t vote.truth.second ≡ Some v.claim = (claim_is t vote.truth.second v.claim).1 vote.truth.truth in
+        record {
+          m = vote.truth.second + 1;
+          edge = vote.end;
+          clock = ap (λ (x : Beat). x.edge_us) (sym beat) ∙ vote.clock;
+          near = record { least = omega (arith, vote.truth.near.least, steady.few); most = omega (arith, vote.truth.near.most, steady.few) };
+          come = vote.come;
+          soon = omega (arith, vote.soon);
+          truth = voted_second t vote.truth.second k.clock.reader_rules k.table state v.claim u sound truth (ap (λ (x : Beat). x.report.cause) beat ∙ voted) (ap (λ (x : Beat). x.report.announce) beat ∙ says);
+        }
+
+    of : (v : Option KeptClaim) → vote_at k (now % 2 ^ 32) ≡ v → answer_by k.clock k.table s (now % 2 ^ 32) v ≡ Some b → IsToldTruly t edges 1549 549 now b u
+    of None e answer = by_own (edges_own s.edge_us (now % 2 ^ 32)) _ refl answer
+    of (Some v) e answer =
+        by_vote v (vote_is_true k.rules t d edges steady (f_of k.clock.redundancy) now k.state.lines pulses heard v e) (edges_to_vote s.edge_us v.end_us) _ refl answer

@@ -1,0 +1,133 @@
+-- How long to wait, and that enough lines agree.
+use Rattle.std.specs.Prelude.{nat_le, nat_lt, slice_get}
+use Rattle.std.proofs.Common.{◌≡◌, ◌∙◌, ℕ, zero, suc, ◌+◌, ◌-◌, ◌/◌, ◌%◌, ◌^◌, ◌<◌, ◌≤◌, Bool, true, false, cond, List, [], ◌∷◌, Option, Some, None, refl, ap, subst, arith, inl, inr}
+use Rattle.std.proofs.lemmas.Bool.{cases_lt}
+use Rattle.irig_sync.specs.Sync.{clock_gap}
+use Rattle.irig_timekeeper.specs.declared.lines.KeptClaim.{KeptClaim}
+use Rattle.irig_timekeeper.specs.declared.lines.Lines.{Lines}
+use Rattle.irig_timekeeper.specs.Counting.{edges_own}
+use Rattle.irig_timekeeper.specs.Steps.{line_at, claim_kept, all_kept, is_candidate, later, last_candidate, agreed, wait_by}
+use Rattle.irig_timekeeper.specs.Truth.{IsEdgeAt}
+
+-- ---- waiting
+
+low_is : (g : ℕ) → g < 2 ^ 31 → nat_lt g (2 ^ 31) ≡ true
+low_is g h = grind (arith, h)
+
+high_is : (g : ℕ) → 2 ^ 31 ≤ g → nat_lt g (2 ^ 31) ≡ false
+high_is g h = grind (arith, h)
+
+module _ (e edge tick now : ℕ) (at : IsEdgeAt e edge tick) (order : tick ≤ now) (soon : now ≤ tick + 1800000000) where
+  wait_ahead : now < edge + 1005000 → wait_by (now % 2 ^ 32) (Some e) None ≡ edge + 1005000 - now
+  wait_ahead ahead =
+      let gap : clock_gap (now % 2 ^ 32) ((e + 1005000) % 2 ^ 32) ≡ edge + 1005000 - now = to_gap e edge now at.clock (omega (arith, ahead)) (omega (arith, at.come, order)) in
+      let low = low_is (edge + 1005000 - now) (omega (arith, at.come, order)) in
+      rw (gap, low) refl
+    where
+      to_gap : (e edge now : ℕ) → e ≡ edge % 2 ^ 32 → now ≤ edge + 1005000 → edge ≤ now → clock_gap (now % 2 ^ 32) ((e + 1005000) % 2 ^ 32) ≡ edge + 1005000 - now
+      to_gap e edge now is ahead come = omega (arith, is, ahead, come)
+
+  wait_behind : edge + 1005000 < now → wait_by (now % 2 ^ 32) (Some e) None ≡ 0
+  wait_behind behind =
+      let far : 2 ^ 31 ≤ clock_gap (now % 2 ^ 32) ((e + 1005000) % 2 ^ 32) = from_gap e edge now at.clock behind (omega (arith, at.soon, soon)) in
+      let high = high_is (clock_gap (now % 2 ^ 32) ((e + 1005000) % 2 ^ 32)) far in
+      rw high refl
+    where
+      from_gap : (e edge now : ℕ) → e ≡ edge % 2 ^ 32 → edge + 1005000 < now → now ≤ edge + 1801005000 → 2 ^ 31 ≤ clock_gap (now % 2 ^ 32) ((e + 1005000) % 2 ^ 32)
+      from_gap e edge now is behind near = omega (arith, is, behind, near)
+
+  wait_now : edge + 1005000 ≡ now → wait_by (now % 2 ^ 32) (Some e) None ≡ 0
+  wait_now same =
+      let gap : clock_gap (now % 2 ^ 32) ((e + 1005000) % 2 ^ 32) ≡ 0 = no_gap e edge now at.clock same in
+      rw gap refl
+    where
+      no_gap : (e edge now : ℕ) → e ≡ edge % 2 ^ 32 → edge + 1005000 ≡ now → clock_gap (now % 2 ^ 32) ((e + 1005000) % 2 ^ 32) ≡ 0
+      no_gap e edge now is same = omega (arith, is, same)
+
+  -- what is counted at a time
+  own_then : edges_own (Some e) (now % 2 ^ 32) ≡ (now - edge - 5000) / 1000000
+  own_then =
+      let gap : clock_gap e (now % 2 ^ 32) ≡ now - edge = ap (λ (x : ℕ). clock_gap x (now % 2 ^ 32)) at.clock ∙ gap_is edge now (omega (arith, at.come, order)) (omega (arith, at.soon, soon)) in
+      let low = low_is (now - edge) (omega (arith, at.soon, soon)) in
+      rw (gap, low) refl
+    where
+      gap_is : (u v : ℕ) → u ≤ v → v < u + 2 ^ 32 → clock_gap (u % 2 ^ 32) (v % 2 ^ 32) ≡ v - u
+      gap_is u v h k = omega arith
+
+  -- it is so long that the edge is counted behind it
+  pub enough : edge + 1005000 ≤ now + wait_by (now % 2 ^ 32) (Some e) None
+  enough = elim (cases_lt now (edge + 1005000)) [
+    | inl ahead ↦ omega (arith, wait_ahead ahead, ahead)
+    | inr behind ↦ omega (arith, behind)
+  ]
+
+  pub waits : edges_own (Some e) (now % 2 ^ 32) ≡ 0 → (1 ≤ wait_by (now % 2 ^ 32) (Some e) None) × (wait_by (now % 2 ^ 32) (Some e) None ≤ 1005000)
+  waits none =
+      let ahead : now < edge + 1005000 = omega (arith, own_then, none) in
+      (omega (arith, wait_ahead ahead, ahead), omega (arith, wait_ahead ahead, at.come, order))
+
+pub counts_then : (e edge tick now more : ℕ) → IsEdgeAt e edge tick → tick ≤ now → now + wait_by (now % 2 ^ 32) (Some e) None + more ≤ tick + 1800000000
+    → 1 ≤ edges_own (Some e) ((now + wait_by (now % 2 ^ 32) (Some e) None + more) % 2 ^ 32)
+counts_then e edge tick now more at order soon =
+    let then : ℕ = now + wait_by (now % 2 ^ 32) (Some e) None + more in
+    let there = enough e edge tick now at order (omega (arith, soon)) in
+    let count = own_then e edge tick then at (omega (arith, order)) soon in
+    omega (arith, count, there)
+
+-- ---- enough lines agree
+
+module _ (f : ℕ) (all : List (Option KeptClaim)) where
+  IsThere : Option KeptClaim → Type 0
+  IsThere o = (y : KeptClaim) × (o ≡ Some y)
+
+  later_there : (so_far : Option KeptClaim) (x : KeptClaim) → IsThere (later so_far x)
+  unfolding IsThere
+  later_there None x = (x, refl)
+  later_there (Some y) x = of (nat_le (clock_gap y.end_us x.end_us) 1000)
+    where
+      of : (b : Bool) → (z : KeptClaim) × (cond b (Some x) (Some y) ≡ Some z)
+      of true = (x, refl)
+      of false = (y, refl)
+
+  -- once there is one, there is one
+  stays_there : (xs : List (Option KeptClaim)) (so_far : Option KeptClaim) → IsThere so_far → IsThere (last_candidate f all xs so_far)
+  stays_there [] so_far h = h
+  stays_there (None ∷ xs) so_far h = stays_there xs so_far h
+  stays_there (Some x ∷ xs) so_far h = stays_there xs _ (of (is_candidate f x all))
+    where
+      of : (b : Bool) → IsThere (cond b (later so_far x) so_far)
+      of true = later_there so_far x
+      of false = h
+
+  comes_there : (x : KeptClaim) (xs : List (Option KeptClaim)) (so_far : Option KeptClaim) → is_candidate f x all ≡ true → IsThere (last_candidate f all (Some x ∷ xs) so_far)
+  comes_there x xs so_far is = rw is (stays_there xs (later so_far x) (later_there so_far x))
+
+  goes_on : (o : Option KeptClaim) (xs : List (Option KeptClaim)) → ((so_far : Option KeptClaim) → IsThere (last_candidate f all xs so_far)) → (so_far : Option KeptClaim) → IsThere (last_candidate f all (o ∷ xs) so_far)
+  goes_on None xs h so_far = h so_far
+  goes_on (Some y) xs h so_far = h _
+
+  starts : (o : Option KeptClaim) (x : KeptClaim) (xs : List (Option KeptClaim)) → o ≡ Some x → is_candidate f x all ≡ true → (so_far : Option KeptClaim) → IsThere (last_candidate f all (o ∷ xs) so_far)
+  starts None x xs e is so_far = absurd cc
+  starts (Some y) x xs e is so_far =
+      let same : x ≡ y = cc in
+      comes_there y xs so_far (subst (λ (v : KeptClaim). is_candidate f v all ≡ true) same is)
+
+  there_in : (x : KeptClaim) (xs : List (Option KeptClaim)) (i : ℕ) → slice_get xs i ≡ Some (Some x) → is_candidate f x all ≡ true → (so_far : Option KeptClaim) → IsThere (last_candidate f all xs so_far)
+  there_in x [] i e is so_far = absurd cc
+  there_in x (o ∷ xs) zero e is so_far = let same : o ≡ Some x = cc in starts o x xs same is so_far
+  there_in x (o ∷ xs) (suc i) e is so_far = goes_on o xs (there_in x xs i e is) so_far
+
+  pub there_of : (x : KeptClaim) (i : ℕ) → slice_get all i ≡ Some (Some x) → is_candidate f x all ≡ true → (y : KeptClaim) × (last_candidate f all all None ≡ Some y)
+  unfolding IsThere
+  there_of x i e is = there_in x all i e is None
+
+get_kept : (lines : Lines) (i : ℕ) (x : KeptClaim) → i < 5 → claim_kept (line_at lines i).frame ≡ Some x → slice_get (all_kept lines) i ≡ Some (Some x)
+get_kept lines zero x low e = cc
+get_kept lines (suc zero) x low e = cc
+get_kept lines (suc (suc zero)) x low e = cc
+get_kept lines (suc (suc (suc zero))) x low e = cc
+get_kept lines (suc (suc (suc (suc zero)))) x low e = cc
+get_kept lines (suc (suc (suc (suc (suc i))))) x low e = absurd (omega (arith, low))
+
+pub one_is_agreed : (f : ℕ) (lines : Lines) (i : ℕ) (x : KeptClaim) → i < 5 → claim_kept (line_at lines i).frame ≡ Some x → is_candidate f x (all_kept lines) ≡ true → (vote : KeptClaim) × (agreed f lines ≡ Some vote)
+one_is_agreed f lines i x low e is = there_of f (all_kept lines) x i (get_kept lines i x low e) is

@@ -1,0 +1,13 @@
+use Rattle.std.specs.Prelude.{count_by}
+use Rattle.std.proofs.lemmas.Bool.{lt-ltb}
+use Rattle.irig_timekeeper.specs.Steps.{agrees, all_kept}
+use Rattle.irig_vote.specs.Vote.{f_of}
+use Rattle.irig_timekeeper.proofs.VoteLaws.{vote_comes}
+use Rattle.irig_timekeeper.proofs.WaitLaws.{one_is_agreed}
+use Rattle.irig_timekeeper.proofs.laws.enough_lines_vote.Goals as goal
+
+pub returns-clause-agree : goal.returns-clause-agree
+returns-clause-agree _ f lines i first low keeps more = one_is_agreed f lines i first low keeps (lt-ltb f (count_by (agrees first) (all_kept lines)) more)
+
+pub returns-clause-come : goal.returns-clause-come
+returns-clause-come _ t d edges k now pulses vote steady heard ready e = vote_comes k.rules t d edges steady (f_of k.clock.redundancy) now k.state.lines pulses heard ready vote e

@@ -1,0 +1,134 @@
+-- A device's clock: what becomes of it at a tick, and what it then says. It counts the seconds from
+-- its last edge to one on which lines agree, or else by its own counter.
+-- Source: this project's profile.
+use Rattle.std.specs.Prelude.{ℕ, ◌+◌, ◌-◌, ◌*◌, ◌%◌, ◌^◌, ◌==◌, if◌then◌else◌, Option, Some, None}
+use Rattle.irig_time.specs.declared.second.UtcSecond.{UtcSecond}
+use Rattle.irig_time.specs.declared.claim.Claim.{Claim}
+use Rattle.irig_time.specs.Tables.{TableValue}
+use Rattle.irig_vote.specs.Vote.{f_of}
+use Rattle.irig_reader.specs.declared.report.Lock.{Lock}
+use Rattle.irig_reader.specs.declared.report.Lock.TheVariants as lock
+use Rattle.irig_reader.specs.declared.report.Report.{Report}
+use Rattle.irig_reader.specs.declared.rule.Step.{Step}
+use Rattle.irig_timekeeper.specs.declared.lines.KeptClaim.{KeptClaim}
+use Rattle.irig_timekeeper.specs.declared.lines.Lines.{Lines}
+use Rattle.irig_timekeeper.specs.declared.stamp.Announced.{Announced}
+use Rattle.irig_timekeeper.specs.declared.clock.Beat.{Beat}
+use Rattle.irig_timekeeper.specs.declared.clock.ClockRules.{ClockRules}
+use Rattle.irig_timekeeper.specs.declared.clock.ClockState.{ClockState}
+use Rattle.irig_timekeeper.specs.Counting.{edges_to_vote, edges_own, edge_behind}
+use Rattle.irig_timekeeper.specs.Steps.{settled, taken, tells_of, agreed, if_come, wait_by}
+use Rattle.irig_timekeeper.specs.Rule.{step_behind}
+
+-- ---- a second that is announced
+
+-- how many edges a holdover has lasted, by what the report says
+abbrev pub lasted : Lock → ℕ
+lasted lock.Unlocked = 0
+lasted (lock.Acquiring count) = 0
+lasted lock.Locked = 0
+lasted (lock.Holdover edges) = edges
+
+-- its edge lies at most 1.549 ms off, and the drift of each second since the last vote
+abbrev pub bound_of : ℕ → Lock → ℕ
+bound_of drift lock = 1549 + lasted lock * drift
+
+-- what is kept of it
+abbrev pub announced_at : ℕ → ℕ → Option UtcSecond → Option Announced
+announced_at edge bound None = None
+announced_at edge bound (Some u) = Some (record { second = u; edge_us = edge; bound_us = bound })
+
+abbrev pub announced : ℕ → Report → ℕ → Option Announced
+announced drift report edge = announced_at edge (bound_of drift report.lock) report.announce
+
+-- ---- an edge
+
+-- what is said of an edge by a step of the reader's rule, behind so many that were missed
+abbrev pub beat_by : ClockState → Step → ℕ → ℕ → Beat
+beat_by s step missed edge = record {
+  report = step.report;
+  told = tells_of s.lines;
+  edge_us = edge;
+  missed = missed;
+  moved = s.moved;
+}
+
+-- where the clock then stands, with these lines
+abbrev pub beaten : ClockRules → ClockState → Lines → Step → ℕ → ClockState
+beaten c s lines step edge = record {
+  lines = lines;
+  reader = step.state;
+  edge_us = Some edge;
+  moved = 0;
+  last = announced c.drift_us step.report edge;
+  before = s.last;
+}
+
+-- the step at an edge to which so many seconds were counted, one or more
+abbrev pub step_to : ClockRules → TableValue → ClockState → ℕ → Option Claim → Step
+step_to c table s edges vote = step_behind c.reader_rules table (edges - 1) s.reader vote
+
+-- ---- lines agree on an edge
+
+-- so many have come since the last; if none has, that one is set right
+abbrev pub after_vote : ClockRules → TableValue → ClockState → KeptClaim → ℕ → ClockState
+after_vote c table s vote edges =
+    if edges == 0
+    then record s {
+      lines = taken s.lines;
+      edge_us = Some vote.end_us;
+      moved = (s.moved + 1) % 2 ^ 32;
+    }
+    else beaten c s (taken s.lines) (step_to c table s edges (Some vote.claim)) vote.end_us
+
+abbrev pub answer_to_vote : ClockRules → TableValue → ClockState → KeptClaim → ℕ → Option Beat
+answer_to_vote c table s vote edges =
+    if edges == 0 then None
+    else Some (beat_by s (step_to c table s edges (Some vote.claim)) (edges - 1) vote.end_us)
+
+-- ---- they do not: so many have come by the own counter
+
+abbrev pub own_edge : Option ℕ → ℕ → ℕ
+own_edge None edges = 0
+own_edge (Some edge) edges = edge_behind edge edges
+
+abbrev pub after_own : ClockRules → TableValue → ClockState → ℕ → ClockState
+after_own c table s edges =
+    if edges == 0 then s
+    else beaten c s s.lines (step_to c table s edges None) (own_edge s.edge_us edges)
+
+abbrev pub answer_alone : ClockRules → TableValue → ClockState → ℕ → Option Beat
+answer_alone c table s edges =
+    if edges == 0 then None
+    else Some (beat_by s (step_to c table s edges None) (edges - 1) (own_edge s.edge_us edges))
+
+-- ---- a tick
+
+-- by the frame on which lines agree, if they do; the lines are settled
+abbrev pub clock_by : ClockRules → TableValue → ClockState → ℕ → Option KeptClaim → ClockState
+clock_by c table s now None = after_own c table s (edges_own s.edge_us now)
+clock_by c table s now (Some vote) = after_vote c table s vote (edges_to_vote s.edge_us vote.end_us)
+
+abbrev pub answer_by : ClockRules → TableValue → ClockState → ℕ → Option KeptClaim → Option Beat
+answer_by c table s now None = answer_alone c table s (edges_own s.edge_us now)
+answer_by c table s now (Some vote) =
+    answer_to_vote c table s vote (edges_to_vote s.edge_us vote.end_us)
+
+abbrev pub settled_at : ClockState → ℕ → ClockState
+settled_at s now = record s { lines = settled now s.lines }
+
+-- the frame on which lines agree, if its end has come
+abbrev pub vote_of_lines : ClockRules → ClockState → ℕ → Option KeptClaim
+vote_of_lines c s now = if_come now (agreed (f_of c.redundancy) (settled now s.lines))
+
+-- what a tick leaves
+abbrev pub clock_after : ClockRules → TableValue → ClockState → ℕ → ClockState
+clock_after c table s now = clock_by c table (settled_at s now) now (vote_of_lines c s now)
+
+-- what it answers
+abbrev pub clock_answer : ClockRules → TableValue → ClockState → ℕ → Option Beat
+clock_answer c table s now = answer_by c table (settled_at s now) now (vote_of_lines c s now)
+
+-- how long until a tick has something to do, if no call comes before it
+abbrev pub clock_wait : ClockRules → ClockState → ℕ → ℕ
+clock_wait c s now = wait_by now s.edge_us (agreed (f_of c.redundancy) (settled now s.lines))

@@ -1,0 +1,26 @@
+-- What it is for a timekeeper to be such a value.
+use Rattle.std.specs.Prelude.{◌≡◌}
+use Rattle.irig_port.specs.declared.port.Port.{Ghosts}
+use Rattle.irig_timekeeper.specs.declared.keeper.Timekeeper.{Timekeeper}
+use Rattle.irig_timekeeper.specs.Keeping.{Keeping}
+
+pub record IsKeeping {P : Type 0} {g : Ghosts P} (keeper : Timekeeper P g) (k : Keeping)
+    : Type 0 where
+  pub a : g.stands_for keeper.a k.rules k.heard.a
+  pub b : g.stands_for keeper.b k.rules k.heard.b
+  pub c : g.stands_for keeper.c k.rules k.heard.c
+  pub d : g.stands_for keeper.d k.rules k.heard.d
+  pub e : g.stands_for keeper.e k.rules k.heard.e
+  pub rules : keeper.rules ≡ k.rules
+  pub clock : keeper.clock ≡ k.clock
+  pub table : keeper.table ≡ k.table
+  pub state : keeper.state ≡ k.state
+
+-- a fact of each value that the timekeeper may be
+abbrev pub ForKeeping : {P : Type 0} {g : Ghosts P} → Timekeeper P g → (Keeping → Type 0) → Type 0
+ForKeeping keeper fact = (k : Keeping) → IsKeeping keeper k → fact k
+
+-- the timekeeper then is what this makes of it
+abbrev pub Goes : {P : Type 0} {g : Ghosts P} → Timekeeper P g → Timekeeper P g
+    → (Keeping → Keeping) → Type 0
+Goes old new next = ForKeeping old (λ k. IsKeeping new (next k))

@@ -1,0 +1,12 @@
+pub mod Edges
+pub mod Lines
+pub mod Counting
+pub mod Steps
+pub mod Rule
+pub mod Clock
+pub mod Stamps
+pub mod Keeping
+pub mod Keepers
+pub mod Refusals
+pub mod Truth
+pub mod Life

@@ -1,0 +1,84 @@
+-- The life of a device since it was made or restarted, by its calls. Times are local ones, by a
+-- clock that does not wrap; the device is given them by one of 32 bits.
+-- Source: this project's profile.
+use Rattle.std.specs.Prelude.{◌≡◌, ℕ, ◌+◌, ◌%◌, ◌^◌, ◌<◌, ◌≤◌, ◌==◌, Bool, true, false, ◌&&◌, if◌then◌else◌, List, [], ◌∷◌, count_by, ⊤}
+use Rattle.std.specs.List.{range_with_len}
+use Rattle.irig_sync.specs.Lines.{Pulse, pulse_at, IsAfter}
+use Rattle.irig_time.specs.declared.rules.Rules.{Rules}
+use Rattle.irig_time.specs.Timelines.{TimelineValue}
+use Rattle.irig_vote.specs.declared.redundancy.Redundancy.{Redundancy}
+use Rattle.irig_vote.specs.Vote.{ports_in}
+use Rattle.irig_timekeeper.specs.Lines.{IsTrueLately}
+use Rattle.irig_timekeeper.specs.Steps.{is_pulse}
+use Rattle.irig_timekeeper.specs.Keeping.{Keeping, after_pulse, after_tick}
+
+-- a pulse on the line of a port, told at this time: it rose then, and is so wide; or a tick
+pub data Call : Type 0 where
+  Hear : (port time rise width : ℕ) → Call
+  Tick : (now : ℕ) → Call
+
+abbrev pub after_call : Keeping → Call → Keeping
+after_call k (Hear port time rise width) = after_pulse k port (rise % 2 ^ 32) width
+after_call k (Tick now) = after_tick k (now % 2 ^ 32)
+
+-- after these calls, the newest first
+abbrev pub after_calls : Keeping → List Call → Keeping
+after_calls k [] = k
+after_calls k (call ∷ calls) = after_call (after_calls k calls) call
+
+-- the pulses on the line of a port, the newest first
+abbrev pub pulses_on : ℕ → List Call → List Pulse
+pulses_on line [] = []
+pulses_on line (Hear port time rise width ∷ calls) =
+    if line == port && is_pulse width then pulse_at rise width ∷ pulses_on line calls
+    else pulses_on line calls
+pulses_on line (Tick now ∷ calls) = pulses_on line calls
+
+-- the time of the last call, of a life that began at a time
+abbrev pub last_call : ℕ → List Call → ℕ
+last_call start [] = start
+last_call start (Hear port time rise width ∷ calls) = time
+last_call start (Tick now ∷ calls) = now
+
+-- the time of the last tick
+abbrev pub last_tick : ℕ → List Call → ℕ
+last_tick start [] = start
+last_tick start (Hear port time rise width ∷ calls) = last_tick start calls
+last_tick start (Tick now ∷ calls) = now
+
+-- a pulse is told at most half a second after it rose, and in order on its line
+pub record IsToldInTime (time rise : ℕ) (pulses : List Pulse) : Type 0 where
+  pub risen : rise ≤ time
+  pub soon : time ≤ rise + 500000
+  pub after : IsAfter pulses rise
+
+-- no call is of an earlier time than the one before, and a tick comes at least once in half an
+-- hour; pulses are told in time, but for what is too wide to be one
+abbrev pub AreInOrder : ℕ → Redundancy → List Call → Type 0
+AreInOrder start redundancy [] = ⊤
+AreInOrder start redundancy (Hear port time rise width ∷ calls) =
+    (port < ports_in redundancy) × (last_call start calls ≤ time)
+    × (time + 500000 < last_tick start calls + 1800000000)
+    × (is_pulse width ≡ true → IsToldInTime time rise (pulses_on port calls))
+    × AreInOrder start redundancy calls
+AreInOrder start redundancy (Tick now ∷ calls) =
+    (last_call start calls ≤ now) × (now + 500000 < last_tick start calls + 1800000000)
+    × AreInOrder start redundancy calls
+
+-- all but at most f of the five lines were true for the last 1.2 s; a line that is not there
+-- brought no pulse
+pub record AreTrueLately (rules : Rules) (t : TimelineValue) (edges : ℕ → ℕ) (f now : ℕ)
+    (calls : List Call)
+    : Type 0 where
+  pub untrue : ℕ → Bool
+  pub few : count_by untrue (range_with_len 0 5) ≤ f
+  pub true_lines : (line : ℕ) → line < 5 → untrue line ≡ false
+      → IsTrueLately rules t edges now (pulses_on line calls)
+
+-- so at each tick
+abbrev pub AreTrueAtTicks : Rules → TimelineValue → (ℕ → ℕ) → ℕ → List Call → Type 0
+AreTrueAtTicks rules t edges f [] = ⊤
+AreTrueAtTicks rules t edges f (Hear port time rise width ∷ calls) =
+    AreTrueAtTicks rules t edges f calls
+AreTrueAtTicks rules t edges f (Tick now ∷ calls) =
+    AreTrueLately rules t edges f now calls × AreTrueAtTicks rules t edges f calls

@@ -1,0 +1,77 @@
+-- What it is for a line to be true of late: each frame begins at its own edge, so that the
+-- device's counter may drift.
+-- Source: IRIG Standard 200-16, format B: an element each 10 ms; this project's profile.
+use Rattle.std.specs.Prelude.{◌≡◌, ℕ, ◌+◌, ◌*◌, ◌/◌, ◌%◌, ◌^◌, ◌<◌, ◌≤◌, ◌⊎◌, List, [], ◌∷◌, Option, Some, None, drop, ⊤}
+use Rattle.irig_frame.specs.declared.symbol.Symbol.{Symbol}
+use Rattle.irig_frame.specs.Symbols.{symbol_of}
+use Rattle.irig_sync.specs.Lines.{Pulse, AreOnTime, IsTrueLine, StandAt, symbols_of_last}
+use Rattle.irig_time.specs.declared.rules.Rules.{Rules}
+use Rattle.irig_time.specs.declared.claim.Claim.{Claim}
+use Rattle.irig_time.specs.Carries.{Carries}
+use Rattle.irig_time.specs.Timelines.{TimelineValue, IsTrueClaim}
+use Rattle.irig_timekeeper.specs.declared.lines.KeptClaim.{KeptClaim}
+
+-- when the line's k-th element rises
+abbrev pub element_at : (ℕ → ℕ) → ℕ → ℕ
+element_at edges k = edges (k / 100) + 10000 * (k % 100)
+
+-- a pulse of the line's k-th element, less than 450 us off
+pub record IsPulseAt (line : ℕ → Symbol) (edges : ℕ → ℕ) (k : ℕ) (p : Pulse) : Type 0 where
+  pub late : p.rise < element_at edges k + 450
+  pub early : element_at edges k < p.rise + 450
+  pub symbol : symbol_of p.width ≡ line k
+
+-- of these pulses, the newest first, those that rose within 1.2 s before now, or later, are those of
+-- some elements before the k-th, in order: any others were lost
+abbrev pub ArePulsesLately : (ℕ → Symbol) → (ℕ → ℕ) → ℕ → ℕ → List Pulse → Type 0
+ArePulsesLately line edges now k [] = ⊤
+ArePulsesLately line edges now k (p ∷ ps) =
+    ((p.rise + 1200000 < now) × ArePulsesLately line edges now k ps)
+    ⊎ ((j : ℕ) × (j < k) × IsPulseAt line edges j p × ArePulsesLately line edges now j ps)
+
+-- a line of frames whose f-th, if it carries a claim, carries the true one of T(f)
+pub record IsLineOf (rules : Rules) (t : TimelineValue) (line : ℕ → Symbol) : Type 0 where
+  pub right : IsTrueLine line
+  pub truth : (f : ℕ) (s : List Symbol) (c : Claim) → StandAt line (100 * f) s
+      → Carries rules s c → IsTrueClaim t (f + 1) c
+
+-- the line was true for the last 1.2 s, whatever it was before
+pub record IsTrueLately (rules : Rules) (t : TimelineValue) (edges : ℕ → ℕ) (now : ℕ)
+    (pulses : List Pulse) : Type 0 where
+  pub line : ℕ → Symbol
+  pub next : ℕ
+  pub is_line : IsLineOf rules t line
+  pub are : ArePulsesLately line edges now next pulses
+
+-- ---- a frame that was heard whole
+
+-- the newest of these pulses rose an element before that time
+abbrev pub IsLastBefore : ℕ → List Pulse → Type 0
+IsLastBefore end [] = ⊥
+IsLastBefore end (p ∷ ps) = end ≡ p.rise + 10000
+
+-- a hundred pulses in a row, each but the first on time behind the one before, carry the claim; the
+-- last of them rose an element before that time, and so many pulses came behind it
+pub record IsFrameOf (rules : Rules) (claim : Claim) (end : ℕ) (pulses : List Pulse) : Type 0 where
+  pub late : ℕ
+  pub on_time : AreOnTime 100 (drop late pulses)
+  pub carries : Carries rules (symbols_of_last 100 (drop late pulses)) claim
+  pub last : IsLastBefore end (drop late pulses)
+
+-- a line keeps a frame of these pulses, if it keeps one; it ends at such a time, which the line has
+-- by a clock of 32 bits
+abbrev pub IfKept : (ℕ → Type 0) → Rules → Option KeptClaim → List Pulse → Type 0
+IfKept EndsSo rules None pulses = ⊤
+IfKept EndsSo rules (Some kept) pulses =
+    (end : ℕ) × (kept.end_us ≡ end % 2 ^ 32) × IsFrameOf rules kept.claim end pulses × EndsSo end
+
+-- the end lies less than a turn of that clock back, and at most 10 ms ahead
+abbrev pub IsInTurnOf : ℕ → ℕ → Type 0
+IsInTurnOf now end = (end ≤ now + 10000) × (now + 10000 < end + 2 ^ 32)
+
+abbrev pub IsAnyEnd : ℕ → Type 0
+IsAnyEnd end = ⊤
+
+-- the end has come, at most 98 ms ago
+abbrev pub HasJustCome : ℕ → ℕ → Type 0
+HasJustCome now end = (end ≤ now) × (now ≤ end + 98000)

@@ -1,0 +1,13 @@
+-- What is refused of a setup.
+-- Source: this project's profile.
+use Rattle.std.specs.Prelude.{ℕ, ◌+◌, ◌*◌, nat_lt, if◌then◌else◌, Option, Some, None}
+use Rattle.irig_reader.specs.declared.rules.ReaderRules.{ReaderRules}
+use Rattle.irig_timekeeper.specs.declared.setup.ClockFault.{ClockFault}
+use Rattle.irig_timekeeper.specs.declared.setup.ClockFault.TheVariants.{Drift, Holdover}
+
+-- the counter is more than 100 us a second wrong, or so much that it could be half a second wrong
+-- when the holdover ends
+abbrev pub clock_fault : ReaderRules → ℕ → Option ClockFault
+clock_fault rules drift =
+    if nat_lt 100 drift then Some Drift
+    else (if nat_lt 490000 ((rules.holdover + 2) * drift) then Some Holdover else None)

@@ -1,0 +1,119 @@
+-- What is true of a device's lines, and of where it stands.
+-- Source: this project's profile.
+use Rattle.std.specs.Prelude.{◌≡◌, ℕ, ◌+◌, ◌*◌, ◌%◌, ◌^◌, ◌<◌, ◌≤◌, ◌⊎◌, Bool, false, List, count_by, Option, Some, None, ⊤}
+use Rattle.std.specs.List.{range_with_len}
+use Rattle.irig_sync.specs.Lines.{Pulse}
+use Rattle.irig_time.specs.declared.rules.Rules.{Rules}
+use Rattle.irig_time.specs.declared.second.UtcSecond.{UtcSecond}
+use Rattle.irig_time.specs.Timelines.{TimelineValue, IsSecond}
+use Rattle.irig_time.specs.TimelineFaults.{IsTimeline}
+use Rattle.irig_time.specs.Tables.{TableValue}
+use Rattle.irig_hold.specs.Truth.{IsTrueTable}
+use Rattle.irig_reader.specs.declared.rules.ReaderRules.{ReaderRules}
+use Rattle.irig_reader.specs.declared.rule.State.{State}
+use Rattle.irig_reader.specs.declared.rule.State.TheVariants.{Idle, Acquiring, Locked}
+use Rattle.irig_reader.specs.Standing.{StandsAtTruth}
+use Rattle.irig_timekeeper.specs.declared.clock.Beat.{Beat}
+use Rattle.irig_timekeeper.specs.declared.lines.KeptClaim.{KeptClaim}
+use Rattle.irig_timekeeper.specs.declared.lines.Lines.{Lines}
+use Rattle.irig_timekeeper.specs.Clock.{lasted}
+use Rattle.irig_timekeeper.specs.Edges.{IsSteady, IsNear, IsTrueNear}
+use Rattle.irig_timekeeper.specs.Lines.{IsTrueLately, IfKept, IsInTurnOf}
+use Rattle.irig_timekeeper.specs.Steps.{line_at, claim_kept}
+
+-- the lines keep frames of these pulses, and all but at most f of the five were true for the last
+-- 1.2 s; a line that is not there brought no pulse
+pub record AreHeardTruly (rules : Rules) (t : TimelineValue) (edges : ℕ → ℕ) (f now : ℕ)
+    (lines : Lines) (pulses : ℕ → List Pulse)
+    : Type 0 where
+  pub untrue : ℕ → Bool
+  pub few : count_by untrue (range_with_len 0 5) ≤ f
+  pub true_lines : (i : ℕ) → i < 5 → untrue i ≡ false → IsTrueLately rules t edges now (pulses i)
+  pub kept : (i : ℕ) → i < 5
+      → IfKept (IsInTurnOf now) rules (claim_kept (line_at lines i).frame) (pulses i)
+
+-- the frame claims the true second before an edge, ends near it, and at most 100 ms ago
+pub record IsTrueVote (t : TimelineValue) (edges : ℕ → ℕ) (d now : ℕ) (vote : KeptClaim) : Type 0 where
+  pub end : ℕ
+  pub clock : vote.end_us ≡ end % 2 ^ 32
+  pub truth : IsTrueNear t edges (1449 + d) (449 + d) end vote.claim
+  pub come : end ≤ now
+  pub soon : now ≤ end + 100000
+
+-- ---- where a device stands
+
+-- the edges since a locked reader's last vote
+abbrev pub age_of : State → ℕ
+age_of Idle = 0
+age_of (Acquiring h count) = 0
+age_of (Locked h) = h.age
+
+-- a device's edge, by a clock of 32 bits, is that of the last tick, at this time: it lies at most
+-- 1.005 s back, and not ahead
+pub record IsEdgeAt (e edge tick : ℕ) : Type 0 where
+  pub clock : e ≡ edge % 2 ^ 32
+  pub come : edge ≤ tick
+  pub soon : tick < edge + 1005000
+
+abbrev pub IfEdgeAt : Option ℕ → ℕ → Type 0
+IfEdgeAt None tick = ⊤
+IfEdgeAt (Some e) tick = (edge : ℕ) × IsEdgeAt e edge tick
+
+-- the reader stands at T(w), as which its edge is right but for the drift of a edges; what was
+-- announced last was T(last) at most
+pub record StandsAt (t : TimelineValue) (edges : ℕ → ℕ) (d last : ℕ) (rules : ReaderRules)
+    (tick : ℕ) (stands : State) (e w a : ℕ)
+    : Type 0 where
+  pub edge : ℕ
+  pub at : IsEdgeAt e edge tick
+  pub near : IsNear edges (1549 + a * d) (549 + a * d) w edge
+  pub truth : StandsAtTruth t w stands
+  pub young : a ≤ age_of stands
+  pub few : a ≤ rules.holdover
+  pub behind : last ≤ w
+
+-- a device has nothing to go on, or stands at the truth
+abbrev pub IsOnTrack : TimelineValue → (ℕ → ℕ) → ℕ → ℕ → ReaderRules → ℕ → State → Option ℕ → Type 0
+IsOnTrack t edges d last rules tick state None = (state ≡ Idle) × (last ≡ 0)
+IsOnTrack t edges d last rules tick state (Some e) =
+    ((state ≡ Idle)
+    × ((edge : ℕ) × IsEdgeAt e edge tick × (edges last + 549 < edge + 500000)))
+    ⊎ ((w : ℕ) × (a : ℕ) × StandsAt t edges d last rules tick state e w a)
+
+-- ---- what a device tells
+
+-- the second is T(m), for an edge m that lies so near the one that is told, which has come, less than
+-- 1.005 s ago
+pub record IsToldTruly (t : TimelineValue) (edges : ℕ → ℕ) (before behind now : ℕ)
+    (beat : Beat) (u : UtcSecond) : Type 0 where
+  pub m : ℕ
+  pub edge : ℕ
+  pub clock : beat.edge_us ≡ edge % 2 ^ 32
+  pub near : IsNear edges before behind m edge
+  pub come : edge ≤ now
+  pub soon : now < edge + 1005000
+  pub truth : IsSecond t m u
+
+-- the same, off by the drift of so many edges more as the holdover has lasted by the report
+pub record IsToldInHoldover (t : TimelineValue) (edges : ℕ → ℕ) (d holdover now : ℕ)
+    (beat : Beat) (u : UtcSecond) : Type 0 where
+  pub far : ℕ
+  pub held : far ≤ lasted beat.report.lock
+  pub few : far ≤ holdover
+  pub told : IsToldTruly t edges (1549 + far * d) (549 + far * d) now beat u
+
+-- what is true of a device: its counter, the timeline, its leap table, and its setup is not refused
+pub record IsDevice (t : TimelineValue) (d : ℕ) (edges : ℕ → ℕ) (rules : ReaderRules)
+    (table : TableValue) : Type 0 where
+  pub steady : IsSteady d edges
+  pub sound : IsTimeline t
+  pub true_table : IsTrueTable t table
+  pub short : (rules.holdover + 2) * d ≤ 490000
+
+-- the one second is T(m), and the other one T(n) for a greater n
+pub record IsLaterSecond (t : TimelineValue) (u v : UtcSecond) : Type 0 where
+  pub m : ℕ
+  pub n : ℕ
+  pub less : m < n
+  pub before : IsSecond t m u
+  pub then : IsSecond t n v

@@ -1,0 +1,276 @@
+//! A device's clock: what becomes of it at a tick.
+
+ghost use Rattle.std.specs.Prelude.{◌≡◌, ◌<◌, ◌≤◌, ◌+◌, ◌-◌, ◌*◌, IfSome};
+ghost use Rattle.irig_time.specs.Seconds.{IsValid};
+ghost use Rattle.irig_reader.specs.Rule.{count_of};
+ghost use Rattle.irig_timekeeper.specs.Counting.{edges_to_vote, edges_own};
+ghost use Rattle.irig_timekeeper.specs.Rule.{missed, step_behind};
+ghost use Rattle.irig_timekeeper.specs.Steps.{AreKeptOfUtc, AreNewLines};
+ghost use Rattle.irig_timekeeper.specs.Keeping.{new_state};
+ghost use Rattle.irig_timekeeper.specs.Clock.{lasted, bound_of, announced, beat_by, beaten, step_to, after_vote, answer_to_vote, after_own, answer_alone, clock_after, clock_answer, clock_wait};
+
+use crate::counting::{edge_behind, edges_own, edges_to_vote};
+use crate::lines::{
+    KeptClaim, Lines, agreed, if_come, lines_of_nothing, settled, taken, tells_of, wait_by,
+};
+use crate::stamp::Announced;
+use irig_reader::{Lock, ReaderRules, Report, State, Step, step_of};
+use irig_time::{Claim, Leaps};
+use irig_vote::{Redundancy, Tells};
+
+/// How far from its edge the end of a frame may lie on which lines agree.
+const VOTE_US: u32 = 1_549;
+
+/// The rules of a device's clock.
+#[derive(Clone, Copy, PartialEq, Eq)]
+pub struct ClockRules {
+    /// When it locks, and how long it holds over.
+    pub reader_rules: ReaderRules,
+    /// How many lines it has.
+    pub redundancy: Redundancy,
+    /// How many microseconds a second the device's counter may be wrong, 0 to 100.
+    pub drift_us: u32,
+}
+
+/// Where a device's clock stands between two calls.
+#[derive(Drop)]
+pub struct ClockState {
+    /// Where its lines stand.
+    pub lines: Lines,
+    /// Where its reader's rule stands.
+    pub reader: State,
+    /// The local time at which the last second began that was counted, if there was one.
+    pub edge_us: Option<u32>,
+    /// How often lines set that edge right since.
+    pub moved: u32,
+    /// The last second that was counted, if it was announced.
+    pub last: Option<Announced>,
+    /// The one counted before it, if it was announced.
+    pub before: Option<Announced>,
+}
+
+/// What a tick answers at which an edge has come.
+#[derive(Clone, Copy, PartialEq, Eq)]
+pub struct Beat {
+    /// What is said of the second that begins.
+    pub report: Report,
+    /// What the last whole frame of each line told, silence if it is late or taken.
+    pub told: Tells,
+    /// The local time at which the second begins.
+    pub edge_us: u32,
+    /// The seconds that passed untold before it.
+    pub missed: u32,
+    /// How often lines set the edge right since the one that was told before.
+    pub moved: u32,
+}
+
+/// Where a clock stands after a tick, and what it then answers.
+#[derive(Drop)]
+pub struct Ticked {
+    pub state: ClockState,
+    pub beat: Option<Beat>,
+}
+
+/// A clock that nobody has set, on lines on which nothing came.
+pub fn clock_of_nothing() -> ClockState
+    ensures new { result ≡ new_state result.lines }
+    ensures lines { AreNewLines result.lines }
+{
+    ClockState {
+        lines: lines_of_nothing(),
+        reader: State::Idle,
+        edge_us: None,
+        moved: 0,
+        last: None,
+        before: None,
+    }
+}
+
+/// A tick: where a clock then stands, and what is said of a second if an edge has come since the
+/// last one. It may come at any time.
+///
+/// The rules have no [`fault`](crate::clock_fault), each claim that a line keeps is of a
+/// [`valid`](irig_time::valid) second, and a reader that is acquiring had fewer votes than it locks
+/// after.
+pub fn tick_of<T: Leaps>(
+    rules: &ClockRules,
+    table: &T,
+    mut state: ClockState,
+    now_us: u32,
+) -> Ticked
+    requires short { (rules.now.reader_rules.holdover + 2) * rules.now.drift_us ≤ 490000 }
+    requires counting { count_of state.reader < rules.now.reader_rules.lock_after }
+    requires valid { AreKeptOfUtc state.lines }
+    ensures answer { result.beat ≡ clock_answer rules.now (T.says table.now) state now_us }
+    ensures after { result.state ≡ clock_after rules.now (T.says table.now) state now_us }
+    ensures counting { count_of result.state.reader < rules.now.reader_rules.lock_after }
+    ensures valid { AreKeptOfUtc result.state.lines }
+{
+    state.lines = settled(now_us, state.lines);
+    match if_come(now_us, agreed(rules.redundancy, state.lines)) {
+        Some(vote) => tick_by_vote(rules, table, state, vote),
+        None => tick_alone(rules, table, state, now_us),
+    }
+}
+
+// Lines agree on an edge.
+fn tick_by_vote<T: Leaps>(
+    rules: &ClockRules,
+    table: &T,
+    mut state: ClockState,
+    vote: KeptClaim,
+) -> Ticked
+    requires short { (rules.now.reader_rules.holdover + 2) * rules.now.drift_us ≤ 490000 }
+    requires counting { count_of state.reader < rules.now.reader_rules.lock_after }
+    requires valid { IsValid vote.claim.at }
+    ensures answer { result.beat ≡ answer_to_vote rules.now (T.says table.now) state vote
+        (edges_to_vote state.edge_us vote.end_us) }
+    ensures after { result.state ≡ after_vote rules.now (T.says table.now) state vote
+        (edges_to_vote state.edge_us vote.end_us) }
+    ensures counting { count_of result.state.reader < rules.now.reader_rules.lock_after }
+    ensures valid { AreKeptOfUtc result.state.lines }
+{
+    let edges = edges_to_vote(state.edge_us, vote.end_us);
+    if edges > 0 {
+        let lines = taken(state.lines);
+        return beat_at(
+            rules,
+            table,
+            state,
+            lines,
+            edges,
+            Some(vote.claim),
+            vote.end_us,
+        );
+    }
+    state.lines = taken(state.lines);
+    state.edge_us = Some(vote.end_us);
+    state.moved = state.moved.wrapping_add(1);
+    Ticked { state, beat: None }
+}
+
+// They do not.
+fn tick_alone<T: Leaps>(rules: &ClockRules, table: &T, state: ClockState, now_us: u32) -> Ticked
+    requires short { (rules.now.reader_rules.holdover + 2) * rules.now.drift_us ≤ 490000 }
+    requires counting { count_of state.reader < rules.now.reader_rules.lock_after }
+    requires valid { AreKeptOfUtc state.lines }
+    ensures answer { result.beat ≡ answer_alone rules.now (T.says table.now) state
+        (edges_own state.edge_us now_us) }
+    ensures after { result.state ≡ after_own rules.now (T.says table.now) state
+        (edges_own state.edge_us now_us) }
+    ensures counting { count_of result.state.reader < rules.now.reader_rules.lock_after }
+    ensures valid { AreKeptOfUtc result.state.lines }
+{
+    let edges = edges_own(state.edge_us, now_us);
+    let Some(edge) = state.edge_us else {
+        return Ticked { state, beat: None };
+    };
+    if edges == 0 {
+        return Ticked { state, beat: None };
+    }
+    let lines = state.lines;
+    let edge_us = edge_behind(edge, edges);
+    beat_at(rules, table, state, lines, edges, None, edge_us)
+}
+
+// An edge to which so many seconds were counted, with the vote on it, if there is one. The clock
+// then has these lines.
+fn beat_at<T: Leaps>(
+    rules: &ClockRules,
+    table: &T,
+    state: ClockState,
+    lines: Lines,
+    edges: u32,
+    vote: Option<Claim>,
+    edge_us: u32,
+) -> Ticked
+    requires short { (rules.now.reader_rules.holdover + 2) * rules.now.drift_us ≤ 490000 }
+    requires counting { count_of state.reader < rules.now.reader_rules.lock_after }
+    requires valid { IfSome vote (λ claim. IsValid claim.at) }
+    requires some { 1 ≤ edges }
+    ensures answer { result.beat ≡ Some (beat_by state
+        (step_to rules.now (T.says table.now) state edges vote) (edges - 1) edge_us) }
+    ensures after { result.state ≡ beaten rules.now state lines
+        (step_to rules.now (T.says table.now) state edges vote) edge_us }
+    ensures counting { count_of result.state.reader < rules.now.reader_rules.lock_after }
+{
+    let told = tells_of(state.lines);
+    let step = step_behind(rules.reader_rules, table, edges - 1, state.reader, vote);
+    let beat = Beat {
+        report: step.report,
+        told,
+        edge_us,
+        missed: edges - 1,
+        moved: state.moved,
+    };
+    let last = announced(rules, &step.report, edge_us);
+    Ticked {
+        state: ClockState {
+            lines,
+            reader: step.state,
+            edge_us: Some(edge_us),
+            moved: 0,
+            last,
+            before: state.last,
+        },
+        beat: Some(beat),
+    }
+}
+
+// The rule over edges that were missed, and one more.
+fn step_behind<T: Leaps>(
+    rules: ReaderRules,
+    table: &T,
+    edges: u32,
+    state: State,
+    vote: Option<Claim>,
+) -> Step
+    requires valid { IfSome vote (λ claim. IsValid claim.at) }
+    requires counting { count_of state < rules.lock_after }
+    ensures step { result ≡ step_behind rules (T.says table.now) edges state vote }
+    ensures counting { count_of result.state < rules.lock_after }
+    ensures lasted { lasted result.report.lock ≤ rules.holdover }
+{
+    let mut state = state;
+    for gone in 0..edges {
+        state = step_of(rules, table, state, None).state;
+    }
+    step_of(rules, table, state, vote)
+}
+
+// What is kept of a second that is announced.
+fn announced(rules: &ClockRules, report: &Report, edge_us: u32) -> Option<Announced>
+    requires short { (rules.now.reader_rules.holdover + 2) * rules.now.drift_us ≤ 490000 }
+    requires lasted { lasted report.now.lock ≤ rules.now.reader_rules.holdover }
+    ensures { result ≡ announced rules.now.drift_us report.now edge_us }
+{
+    let bound_us = VOTE_US + lasted(report.lock) * rules.drift_us;
+    match report.announce {
+        Some(second) => Some(Announced {
+            second,
+            edge_us,
+            bound_us,
+        }),
+        None => None,
+    }
+}
+
+/// How many edges a holdover has lasted.
+fn lasted(lock: Lock) -> u32
+    ensures { result ≡ lasted lock }
+{
+    match lock {
+        Lock::Holdover(edges) => edges,
+        Lock::Unlocked => 0,
+        Lock::Acquiring(_) => 0,
+        Lock::Locked => 0,
+    }
+}
+
+/// How long until a tick has something to do, if no call comes before it, in microseconds.
+pub fn wait_of(rules: &ClockRules, state: &ClockState, now_us: u32) -> u32
+    ensures { result ≡ clock_wait rules.now state.now now_us }
+{
+    let lines = settled(now_us, state.lines);
+    wait_by(now_us, state.edge_us, agreed(rules.redundancy, lines))
+}

@@ -1,0 +1,225 @@
+//! A timekeeper.
+
+ghost use Rattle.std.specs.Prelude.{◌≡◌, ◌<◌, ◌≤◌, ◌+◌, ◌*◌, List, MatchResult, None, Some};
+ghost use Rattle.irig_frame.specs.declared.symbol.Symbol.{Symbol};
+ghost use Rattle.irig_sync.specs.Sync.{place_of};
+ghost use Rattle.irig_time.specs.declared.rules.Rules.{Rules};
+ghost use Rattle.irig_time.specs.Seconds.{IsValid};
+ghost use Rattle.irig_port.specs.Told.{told_of, IfClaim};
+ghost use Rattle.irig_port.specs.Hearing.{heard_at};
+ghost use Rattle.irig_vote.specs.Vote.{ports_in};
+ghost use Rattle.irig_reader.specs.Rule.{count_of};
+ghost use Rattle.irig_reader.specs.Rules.{IsReaderRules};
+ghost use Rattle.irig_timekeeper.specs.Steps.{line_at, line_heard, AreKeptOfUtc, IsKeptOfUtc, AreNewLines};
+
+use crate::clock::{Beat, ClockRules, ClockState, clock_of_nothing, tick_of, wait_of};
+use crate::lines::{KeptFrame, Line, is_pulse, line_at, with_line};
+use crate::setup::{ClockFault, clock_fault};
+use crate::stamp::{Stamp, stamp_of};
+use irig_port::{Port, Told, hear};
+use irig_reader::ReaderRules;
+use irig_time::{LeapTable, Rules};
+use irig_vote::Redundancy;
+use std::mem;
+
+/// A device that keeps time by one line, three or five. It knows no timeline.
+///
+/// Times are in microseconds of the device's free-running counter, which wraps at 2^32.
+#[derive(Drop)]
+pub struct Timekeeper<P: Port> {
+    pub(crate) a: P,
+    pub(crate) b: P,
+    pub(crate) c: P,
+    pub(crate) d: P,
+    pub(crate) e: P,
+    pub(crate) rules: Rules,
+    pub(crate) clock: ClockRules,
+    pub(crate) table: LeapTable,
+    pub(crate) state: ClockState,
+    ghost short: { (clock.reader_rules.holdover + 2) * clock.drift_us ≤ 490000 },
+    ghost counting: { count_of state.reader < clock.reader_rules.lock_after },
+    ghost valid: { ∥ AreKeptOfUtc state.lines ∥₁ },
+}
+
+impl<P: Port> Timekeeper<P> {
+    ghost use Rattle.irig_timekeeper.specs.Refusals.{clock_fault};
+    ghost use Rattle.irig_timekeeper.specs.Keeping.{new_keeping, place_told, one_pulse_more, after_pulse, after_tick, answer_at, restarted, heard_by, with_heard, wait_at, stamp_at};
+    ghost use Rattle.irig_timekeeper.specs.Keepers.{IsKeeping, ForKeeping, Goes};
+
+    /// A timekeeper to which nothing has happened, with rules that are
+    /// [`in_range`](irig_reader::in_range), by a counter that is at most `drift_us` microseconds a
+    /// second wrong; or the setup's [`first fault`](clock_fault).
+    pub fn new(
+        rules: Rules,
+        reader_rules: ReaderRules,
+        table: LeapTable,
+        redundancy: Redundancy,
+        drift_us: u32,
+    ) -> Result<Self, ClockFault>
+        requires { IsReaderRules reader_rules }
+        ensures { MatchResult result
+            (λ keeper. (clock_fault reader_rules drift_us ≡ None)
+            × (IsKeeping keeper (new_keeping rules (record {
+              reader_rules = reader_rules;
+              redundancy = redundancy;
+              drift_us = drift_us;
+            }) table keeper.state.lines) × AreNewLines keeper.state.lines))
+            (λ fault. clock_fault reader_rules drift_us ≡ Some fault) }
+    {
+        if let Some(fault) = clock_fault(reader_rules, drift_us) {
+            return Err(fault);
+        }
+        Ok(Timekeeper {
+            a: P::fresh(rules),
+            b: P::fresh(rules),
+            c: P::fresh(rules),
+            d: P::fresh(rules),
+            e: P::fresh(rules),
+            rules,
+            clock: ClockRules {
+                reader_rules,
+                redundancy,
+                drift_us,
+            },
+            table,
+            state: clock_of_nothing(),
+        })
+    }
+
+    /// A pulse on a line, once it has ended, in order of time: its place in its frame, 1 to 100, or
+    /// 0 out of step. It rose at `rise_us`, and is `width_us` microseconds wide. The line is 0 of
+    /// one, 0 to 2 of three, 0 to 4 of five.
+    ///
+    /// What is half a second wide or wider is no pulse: 0 is answered, and nothing changes.
+    pub fn hear(&mut self, line: u8, rise_us: u32, width_us: u32) -> u8
+        requires { line < ports_in self.old.clock.redundancy }
+        ensures place { ForKeeping self.old (λ k. result ≡ place_told k line rise_us width_us) }
+        ensures heard { Goes self.old self.new (λ k. after_pulse k line rise_us width_us) }
+        ensures lines { self.new.clock ≡ self.old.clock }
+    {
+        if is_pulse(width_us) {
+            self.hear_pulse(line, rise_us, width_us)
+        } else {
+            0
+        }
+    }
+
+    fn hear_pulse(&mut self, port: u8, rise_us: u32, width_us: u32) -> u8
+        requires { port < ports_in self.old.clock.redundancy }
+        ensures place { result ≡ place_of (line_at self.old.state.lines port).sync rise_us width_us }
+        ensures heard { Goes self.old self.new (λ k. one_pulse_more k port rise_us width_us) }
+        ensures lines { self.new.clock ≡ self.old.clock }
+    {
+        let mut line = line_at(self.state.lines, port);
+        let place = self.hear_port(port, &mut line, rise_us, width_us);
+        self.state.lines = with_line(self.state.lines, port, line);
+        place
+    }
+
+    // A pulse at a port, and on its line.
+    fn hear_port(&mut self, port: u8, line: &mut Line, rise_us: u32, width_us: u32) -> u8
+        requires port { port < ports_in self.old.clock.redundancy }
+        requires valid { IsKeptOfUtc line.old.frame }
+        ensures place { result ≡ place_of line.old.sync rise_us width_us }
+        ensures heard { Goes self.old self.new (λ k. record k {
+          heard = with_heard k.heard port (heard_at result (heard_by k.heard port) width_us);
+        }) }
+        ensures line { ForKeeping self.old (λ k. line.new ≡ line_heard line.old rise_us width_us
+            (told_of k.rules (heard_at result (heard_by k.heard port) width_us))) }
+        ensures valid { IsKeptOfUtc line.new.frame }
+        ensures state { self.new.state ≡ self.old.state }
+        ensures lines { self.new.clock ≡ self.old.clock }
+    {
+        match port {
+            0 => hear_line(self.rules, &mut self.a, line, rise_us, width_us),
+            1 => hear_line(self.rules, &mut self.b, line, rise_us, width_us),
+            2 => hear_line(self.rules, &mut self.c, line, rise_us, width_us),
+            3 => hear_line(self.rules, &mut self.d, line, rise_us, width_us),
+            _ => hear_line(self.rules, &mut self.e, line, rise_us, width_us),
+        }
+    }
+
+    /// To be called at any time, as often as one likes, and at least once in half an hour: what
+    /// is said of a second, if an edge has come since the last one.
+    pub fn tick(&mut self, now_us: u32) -> Option<Beat>
+        ensures answer { ForKeeping self.old (λ k. result ≡ answer_at k now_us) }
+        ensures after { Goes self.old self.new (λ k. after_tick k now_us) }
+        ensures lines { self.new.clock ≡ self.old.clock }
+    {
+        let state = mem::replace(&mut self.state, clock_of_nothing());
+        let ticked = tick_of(&self.clock, &self.table, state, now_us);
+        self.state = ticked.state;
+        ticked.beat
+    }
+
+    /// How long until a tick has something to do, if no call comes before it, in microseconds, at
+    /// most 1,005,000.
+    pub fn wait(&self, now_us: u32) -> u32
+        ensures { ForKeeping self.now (λ k. result ≡ wait_at k now_us) }
+    {
+        wait_of(&self.clock, &self.state, now_us)
+    }
+
+    /// The time of an event, if it lies behind the edge of the last second that was told, or behind
+    /// that of the one before, and these were announced. None, if it lies more than a second and
+    /// the error of the edge behind it.
+    pub fn stamp(&self, time_us: u32) -> Option<Stamp>
+        ensures { ForKeeping self.now (λ k. result ≡ stamp_at k time_us) }
+    {
+        stamp_of(self.state.last, self.state.before, time_us)
+    }
+
+    /// As new.
+    pub fn restart(&mut self)
+        ensures forgotten { Goes self.old self.new (λ k. restarted k self.new.state.lines) }
+        ensures new { AreNewLines self.new.state.lines }
+        ensures lines { self.new.clock ≡ self.old.clock }
+    {
+        self.a.clear();
+        self.b.clear();
+        self.c.clear();
+        self.d.clear();
+        self.e.clear();
+        self.state = clock_of_nothing();
+    }
+}
+
+// A pulse on a line and at its port; at a frame's last one the line keeps what the port tells.
+fn hear_line<P: Port>(
+    rules: Rules,
+    port: &mut P,
+    line: &mut Line,
+    rise_us: u32,
+    width_us: u32,
+) -> u8
+    requires { IsKeptOfUtc line.old.frame }
+    ensures place { result ≡ place_of line.old.sync rise_us width_us }
+    ensures line { (r : Rules) (s : List Symbol) → P.stands_for port.old r s → rules ≡ r
+        → line.new ≡ line_heard line.old rise_us width_us (told_of r (heard_at result s width_us)) }
+    ensures heard { (r : Rules) (s : List Symbol) → P.stands_for port.old r s
+        → P.stands_for port.new r (heard_at result s width_us) }
+    ensures valid { IsKeptOfUtc line.new.frame }
+{
+    let place = hear(port, &mut line.sync, rise_us, width_us);
+    if place == 100 {
+        let told = told_by(rules, port);
+        line.frame = Some(KeptFrame {
+            told,
+            end_us: rise_us.wrapping_add(10_000),
+        });
+    }
+    place
+}
+
+// What a port would tell; it keeps what it heard.
+fn told_by<P: Port>(rules: Rules, port: &mut P) -> Told
+    ensures told { (r : Rules) (s : List Symbol) → P.stands_for port.old r s
+        → result ≡ told_of rules s }
+    ensures kept { (r : Rules) (s : List Symbol) → P.stands_for port.old r s
+        → P.stands_for port.new r s }
+    ensures valid { IfClaim result (λ claim. IsValid claim.at) }
+{
+    let mut other = P::fresh(rules);
+    other.take_over(port);
+    other.edge()
+}

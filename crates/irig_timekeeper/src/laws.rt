@@ -1,0 +1,195 @@
+//! Laws of a timekeeper over its definitions. They have no code, and speak of values: no call of a
+//! timekeeper takes a timeline.
+
+ghost use Rattle.std.specs.Prelude.{◌≡◌, ◌+◌, ◌*◌, ◌%◌, ◌^◌, ◌<◌, ◌≤◌, ℕ, List, ◌∷◌, ◌++◌, Option, Some, None, count_by, false};
+ghost use Rattle.irig_frame.specs.declared.symbol.Symbol.{Symbol};
+ghost use Rattle.irig_sync.specs.declared.sync.Sync.{Sync};
+ghost use Rattle.irig_sync.specs.Sync.{place_of};
+ghost use Rattle.irig_sync.specs.Lines.{Pulse, pulse_at, IsAfter, IsSoon};
+ghost use Rattle.irig_time.specs.Timelines.{TimelineValue, IsSecond};
+ghost use Rattle.irig_reader.specs.declared.rule.State.{State};
+ghost use Rattle.irig_reader.specs.Held.{then_none};
+ghost use Rattle.irig_reader.specs.Locking.{IsSilentAfter, then_true, voted_report};
+ghost use Rattle.irig_reader.specs.Rule.{state_of, step_of};
+ghost use Rattle.irig_timekeeper.specs.Rule.{step_behind};
+ghost use Rattle.irig_time.specs.TimelineFaults.{IsTimeline};
+ghost use Rattle.irig_time.specs.Tables.{TableValue};
+ghost use Rattle.irig_vote.specs.Vote.{f_of};
+ghost use Rattle.irig_port.specs.Told.{told_of};
+ghost use Rattle.irig_port.specs.Hearing.{heard_at, IsHearing};
+ghost use Rattle.irig_timekeeper.specs.Edges.{IsSteady, IsNear, IsTrueNear};
+ghost use Rattle.irig_timekeeper.specs.Lines.{IsTrueLately, IsFrameOf, IfKept, IsAnyEnd, HasJustCome};
+ghost use Rattle.irig_timekeeper.specs.Counting.{edges_between, edges_to, edges_own};
+ghost use Rattle.irig_timekeeper.specs.Refusals.{clock_fault};
+ghost use Rattle.irig_timekeeper.specs.Steps.{frame_behind, claim_kept, line_at, all_kept, agrees, agreed, settled, tells_of, AreNewLines, wait_by};
+ghost use Rattle.irig_timekeeper.specs.Clock.{answer_to_vote};
+ghost use Rattle.irig_timekeeper.specs.Keeping.{Keeping, new_keeping, vote_at, after_tick, answer_at};
+ghost use Rattle.irig_timekeeper.specs.Truth.{AreHeardTruly, IsTrueVote, IsOnTrack, IsToldTruly, IsToldInHoldover, IsLaterSecond, IsDevice, IsEdgeAt};
+ghost use Rattle.irig_timekeeper.specs.Life.{Call, AreInOrder, AreTrueAtTicks, after_calls};
+ghost use Rattle.irig_timekeeper.specs.Life.Call.{Tick};
+
+use crate::clock::{Beat, ClockRules};
+use crate::lines::{KeptClaim, KeptFrame, Lines};
+use irig_reader::{Cause, ReaderRules};
+use irig_time::{Claim, Rules, UtcSecond};
+
+/// Counting is right while a device's own edge is: let its last edge lie at most b1 before and b2
+/// behind T(w), and the edge that lines agree on at most c1 before and c2 behind T(w + k). If
+/// b2 + c1 and b1 + c2, with the drift of k seconds, come to less than half a second, the device
+/// counts k edges.
+pub fn counting_is_right()
+    ensures count { (d b1 b2 c1 c2 w k edge end : ℕ) (edges : ℕ → ℕ) → IsSteady d edges
+        → IsNear edges b1 b2 w edge → IsNear edges c1 c2 (w + k) end
+        → b1 + k * d + c2 < 500000 → b2 + k * d + c1 ≤ 500000 → edges_between edge end ≡ k }
+    // The clock's wrap does not show.
+    ensures wrap { (edge end : ℕ) → edge ≤ end + 500000 → end + 500000 < edge + 2 ^ 32
+        → edges_to (edge % 2 ^ 32) (end % 2 ^ 32) ≡ edges_between edge end }
+{}
+
+/// What a line keeps is a frame of its pulses: none at first, and a pulse more goes on, as a
+/// timekeeper hears it, whether its port was emptied before or not.
+pub fn lines_keep_frames()
+    ensures { (rules : Rules) (frame : Option KeptFrame) (heard : List Symbol) (s : Sync)
+        (pulses : List Pulse) (now time width : ℕ) → IsHearing heard s pulses now
+        → IfKept IsAnyEnd rules (claim_kept frame) pulses → IsAfter pulses time
+        → IsSoon now time → IfKept IsAnyEnd rules (claim_kept (frame_behind
+        (place_of s (time % 2 ^ 32) width) (time % 2 ^ 32)
+        (told_of rules (heard_at (place_of s (time % 2 ^ 32) width) heard width)) frame))
+        (pulse_at time width ∷ pulses) }
+{}
+
+/// KeptClaim frames are true: if a line was true for the last 1.2 s, whatever it was before, and a frame
+/// that it sent ended at most 100 ms ago, then what the frame claims is the true claim of the
+/// second before an edge, and the frame ends less than 450 us and the drift of a second off it.
+pub fn kept_frames_are_true()
+    ensures { (rules : Rules) (t : TimelineValue) (d now end : ℕ) (edges : ℕ → ℕ)
+        (pulses : List Pulse) (claim : Claim) → IsSteady d edges
+        → IsTrueLately rules t edges now pulses → IsFrameOf rules claim end pulses
+        → now ≤ end + 100000 → IsTrueNear t edges (449 + d) (449 + d) end claim }
+{}
+
+/// A vote is true whenever it is told: if at most f lines were untrue in the last 1.2 s, the frame
+/// on which lines agree claims the true second before an edge, and ends near that edge, at most
+/// 100 ms ago. What a tick then announces by the vote is the second that begins there: wherever the
+/// device stood, and whenever it was called before.
+pub fn votes_are_true()
+    ensures vote { (t : TimelineValue) (d : ℕ) (edges : ℕ → ℕ) (k : Keeping) (now : ℕ)
+        (pulses : ℕ → List Pulse) (vote : KeptClaim) → IsSteady d edges
+        → AreHeardTruly k.rules t edges (f_of k.clock.redundancy) now k.state.lines pulses
+        → vote_at k (now % 2 ^ 32) ≡ Some vote → IsTrueVote t edges d now vote }
+    ensures second { (t : TimelineValue) (d : ℕ) (edges : ℕ → ℕ) (k : Keeping) (now : ℕ)
+        (pulses : ℕ → List Pulse) (beat : Beat) (u : UtcSecond) → IsSteady d edges → IsTimeline t
+        → AreHeardTruly k.rules t edges (f_of k.clock.redundancy) now k.state.lines pulses
+        → answer_at k (now % 2 ^ 32) ≡ Some beat → beat.report.cause ≡ Cause.Voted
+        → beat.report.announce ≡ Some u → IsToldTruly t edges 1549 549 now beat u }
+{}
+
+/// A device tells the truth all its life: of every list of calls in order, whenever it was ticked,
+/// if at each tick at most f lines were untrue in the last 1.2 s, its counter is as steady as its
+/// setup says and its leap table is true. What a tick announces is T(m), for an edge m near which
+/// the edge that is told lies, from 1.549 ms before it to 0.549 ms behind, and off by the drift of as
+/// many edges more as a holdover may last, which is less than half a second. The edge that is told
+/// has come, less than 1.005 s before the tick.
+pub fn a_device_tells_the_truth()
+    ensures life { (t : TimelineValue) (edges : ℕ → ℕ) (rules : Rules) (clock : ClockRules)
+        (table : TableValue) (lines : Lines) (start now : ℕ) (calls : List Call) (beat : Beat)
+        (u : UtcSecond) → IsDevice t clock.drift_us edges clock.reader_rules table
+        → AreNewLines lines → AreInOrder start clock.redundancy (Tick now ∷ calls)
+        → AreTrueAtTicks rules t edges (f_of clock.redundancy) (Tick now ∷ calls)
+        → answer_at (after_calls (new_keeping rules clock table lines) calls) (now % 2 ^ 32)
+        ≡ Some beat → beat.report.announce ≡ Some u
+        → IsToldInHoldover t edges clock.drift_us clock.reader_rules.holdover now beat u }
+    // In order: what a later tick announces is a later second, so that none is announced twice.
+    ensures order { (t : TimelineValue) (edges : ℕ → ℕ) (rules : Rules) (clock : ClockRules)
+        (table : TableValue) (lines : Lines) (start before now : ℕ) (earlier later : List Call)
+        (beat then : Beat) (u v : UtcSecond)
+        → IsDevice t clock.drift_us edges clock.reader_rules table → AreNewLines lines
+        → AreInOrder start clock.redundancy (Tick now ∷ (later ++ (Tick before ∷ earlier)))
+        → AreTrueAtTicks rules t edges (f_of clock.redundancy)
+        (Tick now ∷ (later ++ (Tick before ∷ earlier)))
+        → answer_at (after_calls (new_keeping rules clock table lines) earlier)
+        (before % 2 ^ 32) ≡ Some beat → beat.report.announce ≡ Some u
+        → answer_at (after_calls (new_keeping rules clock table lines)
+        (later ++ (Tick before ∷ earlier))) (now % 2 ^ 32) ≡ Some then
+        → then.report.announce ≡ Some v → IsLaterSecond t u v }
+    // And no report has the cause `Jump`.
+    ensures calm { (t : TimelineValue) (edges : ℕ → ℕ) (rules : Rules) (clock : ClockRules)
+        (table : TableValue) (lines : Lines) (start now : ℕ) (calls : List Call) (beat : Beat)
+        → IsDevice t clock.drift_us edges clock.reader_rules table → AreNewLines lines
+        → AreInOrder start clock.redundancy (Tick now ∷ calls)
+        → AreTrueAtTicks rules t edges (f_of clock.redundancy) (Tick now ∷ calls)
+        → answer_at (after_calls (new_keeping rules clock table lines) calls) (now % 2 ^ 32)
+        ≡ Some beat → ¬ (beat.report.cause ≡ Cause.Jump) }
+    // A setup without a fault is one of these.
+    ensures setup { (rules : ReaderRules) (d : ℕ) → clock_fault rules d ≡ None
+        → (d ≤ 100) × ((rules.holdover + 2) * d ≤ 490000) }
+    // The bound is less than half a second.
+    ensures half { (t : TimelineValue) (d : ℕ) (edges : ℕ → ℕ) (rules : ReaderRules)
+        (table : TableValue) (far : ℕ) → IsDevice t d edges rules table → far ≤ rules.holdover
+        → 1549 + far * d < 500000 }
+    // One tick, of any device that stands at the truth or has nothing to go on.
+    ensures tick { (t : TimelineValue) (edges : ℕ → ℕ) (k : Keeping) (last tick now : ℕ)
+        (pulses : ℕ → List Pulse)
+        → IsDevice t k.clock.drift_us edges k.clock.reader_rules k.table → tick ≤ now
+        → now ≤ tick + 1800000000
+        → IsOnTrack t edges k.clock.drift_us last k.clock.reader_rules tick k.state.reader
+        k.state.edge_us
+        → AreHeardTruly k.rules t edges (f_of k.clock.redundancy) now k.state.lines pulses
+        → IsOnTrack t edges k.clock.drift_us last k.clock.reader_rules now
+        (after_tick k (now % 2 ^ 32)).state.reader (after_tick k (now % 2 ^ 32)).state.edge_us }
+{}
+
+/// No f lines can keep a device from a vote: if more than f lines keep frames of one claim that end
+/// within 1 ms behind the first of them, and a tick comes when the frames of the true lines have
+/// ended, at most 98 ms behind, it has a vote, whatever the others keep.
+pub fn enough_lines_vote()
+    ensures agree { (f : ℕ) (lines : Lines) (i : ℕ) (first : KeptClaim) → i < 5
+        → claim_kept (line_at lines i).frame ≡ Some first
+        → f < count_by (agrees first) (all_kept lines)
+        → (vote : KeptClaim) × (agreed f lines ≡ Some vote) }
+    ensures come { (t : TimelineValue) (d : ℕ) (edges : ℕ → ℕ) (k : Keeping) (now : ℕ)
+        (pulses : ℕ → List Pulse) (vote : KeptClaim) → IsSteady d edges
+        → (heard : AreHeardTruly k.rules t edges (f_of k.clock.redundancy) now k.state.lines pulses)
+        → ((i : ℕ) → i < 5 → heard.untrue i ≡ false
+        → IfKept (HasJustCome now) k.rules (claim_kept (line_at k.state.lines i).frame)
+        (pulses i))
+        → agreed (f_of k.clock.redundancy) (settled (now % 2 ^ 32) k.state.lines) ≡ Some vote
+        → vote_at k (now % 2 ^ 32) ≡ Some vote }
+{}
+
+/// Beats are votes, as irig_reader counts them: a beat behind some missed seconds is a vote behind as
+/// many that are none. So its laws of votes are laws of beats, as that true votes in a row lock: at
+/// the last of so many as the rules ask, none of them missed, a device announces the second that
+/// begins.
+pub fn beats_are_votes()
+    ensures step { (rules : ReaderRules) (table : TableValue) (missed : ℕ) (state : State)
+        (votes : List (Option Claim)) (vote : Option Claim) → state ≡ state_of rules table votes
+        → step_behind rules table missed state vote
+        ≡ step_of rules table (state_of rules table (then_none missed votes)) vote }
+    ensures lock { (t : TimelineValue) (n : ℕ) (k : Keeping) (vote : KeptClaim)
+        (before earlier : List (Option Claim)) (u : UtcSecond) → IsTimeline t
+        → 1 ≤ k.clock.reader_rules.lock_after
+        → IsSilentAfter k.clock.reader_rules k.table earlier
+        → IsSecond t (n + k.clock.reader_rules.lock_after) u
+        → k.state.reader ≡ state_of k.clock.reader_rules k.table before
+        → Some vote.claim ∷ before ≡ then_true t n k.clock.reader_rules.lock_after earlier
+        → answer_to_vote k.clock k.table k.state vote 1 ≡ Some (record {
+          report = voted_report u;
+          told = tells_of k.state.lines;
+          edge_us = vote.end_us;
+          missed = 0;
+          moved = k.state.moved;
+        }) }
+{}
+
+/// Waiting is right: without a frame on which lines agree, a tick after as long as a device says,
+/// or later, counts an edge by the own counter; it says 0 only if one at once does.
+pub fn waiting_is_right()
+    ensures counts { (e edge tick now more : ℕ) → IsEdgeAt e edge tick → tick ≤ now
+        → now + wait_by (now % 2 ^ 32) (Some e) None + more ≤ tick + 1800000000
+        → 1 ≤ edges_own (Some e) ((now + wait_by (now % 2 ^ 32) (Some e) None + more) % 2 ^ 32) }
+    ensures waits { (e edge tick now : ℕ) → IsEdgeAt e edge tick → tick ≤ now
+        → now ≤ tick + 1800000000 → edges_own (Some e) (now % 2 ^ 32) ≡ 0
+        → (1 ≤ wait_by (now % 2 ^ 32) (Some e) None)
+        × (wait_by (now % 2 ^ 32) (Some e) None ≤ 1005000) }
+{}

@@ -1,0 +1,25 @@
+//! A device that keeps time by lines of frames: when it ticks is up to it.
+//!
+//! A [`Timekeeper`] hears lines, through their synchronisers, by the device's own free-running
+//! counter. It counts the edges that have come since the last one, so that a tick may come at any
+//! time, early, late, often or seldom, and says in a [`Beat`] which UTC second begins and at which
+//! local time.
+#![tactic(auto)]
+
+mod clock;
+mod counting;
+mod keeper;
+mod laws;
+mod lines;
+mod setup;
+mod stamp;
+
+pub use clock::{Beat, ClockRules, ClockState, Ticked, clock_of_nothing, tick_of, wait_of};
+pub use keeper::Timekeeper;
+pub use laws::{
+    a_device_tells_the_truth, beats_are_votes, counting_is_right, enough_lines_vote,
+    kept_frames_are_true, lines_keep_frames, votes_are_true, waiting_is_right,
+};
+pub use lines::{KeptClaim, KeptFrame, Line, Lines, is_pulse};
+pub use setup::{ClockFault, clock_fault};
+pub use stamp::{Announced, Stamp, stamp_of};
