@@ -49,7 +49,8 @@ use Rattle.irig_timekeeper.specs.Keeping.{Keeping, new_keeping, restarted, after
 use Rattle.irig_timekeeper.specs.Truth.{IsDevice, IsToldInHoldover, IsLaterSecond}
 use Rattle.irig_timekeeper.specs.Life.{Call, pulses_on, last_call, last_tick, AreInOrder, AreTrueAtTicks, after_calls}
 use Rattle.irig_timekeeper.specs.Life.Call.{Hear, Tick}
-use Rattle.irig_timekeeper.proofs.LifeLaws.{device_true, device_in_order}
+use Rattle.irig_timekeeper.proofs.LineLaws.{true_lately}
+use Rattle.irig_timekeeper.proofs.LifeLaws.{TellAlwaysTruly, device_true, device_in_order}
 
 -- ---- the world
 
@@ -378,7 +379,7 @@ four_is now calls e i less other =
     by (suc (suc (suc (suc zero)))) less other a b c d = true_of now 4 calls d
     by (suc (suc (suc (suc (suc i))))) less other a b c d = absurd (omega (arith, less))
 
-truly_is : (calls : List Call) → truly calls ≡ true → AreTrueAtTicks rules noon edges 1 calls
+truly_is : (calls : List Call) → truly calls ≡ true → AreTrueAtTicks (IsTrueLately rules noon edges) 1 calls
 unfolding truly
 truly_is [] e = tt
 truly_is (Hear port time rise width ∷ calls) e = truly_is calls e
@@ -436,7 +437,7 @@ order_4 : AreInOrder 4293400000 of.Three life_4
 unfolding calls_3 elements_before with_element with_tick width_of lie line frame in_order is_after
 order_4 = order_is 4293400000 of.Three life_4 refl
 
-truth_4 : AreTrueAtTicks rules noon edges 1 life_4
+truth_4 : AreTrueAtTicks (IsTrueLately rules noon edges) 1 life_4
 unfolding calls_3 elements_before with_element with_tick width_of lie truly four lately line frame same place_in
 truth_4 = truly_is life_4 refl
 
@@ -473,11 +474,14 @@ unfolding calls_3 elements_before with_element with_tick width_of lie line frame
 answer_4 = refl
 
 -- so the laws speak of it
-told_4 : IsToldInHoldover noon edges 100 100 now_4 beat_4 (at 43204)
-told_4 = device_true noon edges rules clock no_table new_lines 4293400000 are_new is_device (Tick now_3 ∷ calls_3) now_4 beat_4 (at 43204) order_4 truth_4 answer_4 refl
+truly_told : TellAlwaysTruly (IsTrueLately rules noon edges) rules noon edges 549 549
+truly_told now end pulses claim is frame soon = true_lately rules noon 100 edges now end pulses claim steady is frame soon
+
+told_4 : IsToldInHoldover noon edges 1549 549 100 100 now_4 beat_4 (at 43204)
+told_4 = device_true rules clock no_table new_lines 4293400000 are_new (IsTrueLately rules noon edges) noon edges 549 549 is_device (omega arith) truly_told (Tick now_3 ∷ calls_3) now_4 beat_4 (at 43204) order_4 truth_4 answer_4 refl
 
 later_4 : IsLaterSecond noon (at 43203) (at 43204)
-later_4 = device_in_order noon edges rules clock no_table new_lines 4293400000 are_new is_device calls_3 [] now_3 now_4 beat_3 beat_4 (at 43203) (at 43204) order_4 truth_4 answer_3 refl answer_4 refl
+later_4 = device_in_order rules clock no_table new_lines 4293400000 are_new (IsTrueLately rules noon edges) noon edges 549 549 is_device (omega arith) truly_told calls_3 [] now_3 now_4 beat_3 beat_4 (at 43203) (at 43204) order_4 truth_4 answer_3 refl answer_4 refl
 
 -- an event 0.25 s behind the last edge is stamped with its second, 2 ms before it with the one before
 stamp_4 : (stamp_at (after_tick (after_calls device (Tick now_3 ∷ calls_3)) (now_4 % 2 ^ 32)) 2782504 ≡ Some (record { second = at 43204; offset_us = 250000; bound_us = 1649 }))

@@ -30,10 +30,10 @@ use Rattle.irig_timekeeper.specs.Steps.{is_pulse, line_at, with_line, line_heard
 use Rattle.irig_timekeeper.specs.Clock.{clock_by, settled_at}
 use Rattle.irig_timekeeper.specs.Keeping.{Heard, Keeping, heard_by, with_heard, heard_then, one_pulse_more, after_pulse, vote_at, after_tick, answer_at, new_keeping, nothing_heard}
 use Rattle.irig_timekeeper.specs.Truth.{AreHeardTruly, IsOnTrack, IsToldInHoldover, IsLaterSecond, IsDevice}
-use Rattle.irig_timekeeper.specs.Life.{Call, after_calls, pulses_on, last_call, last_tick, IsToldInTime, AreInOrder, AreTrueLately, AreTrueAtTicks}
+use Rattle.irig_timekeeper.specs.Life.{Call, after_calls, pulses_on, last_call, last_tick, IsToldInTime, AreInOrder, AreTrueLately, AreTrueAtTicks, AreTrueOver}
 use Rattle.irig_timekeeper.specs.Life.Call.{Hear, Tick}
 use Rattle.irig_timekeeper.proofs.LineLaws.{kept_more}
-use Rattle.irig_timekeeper.proofs.VoteLaws.{still, not_late}
+use Rattle.irig_timekeeper.proofs.VoteLaws.{TellsTruly, still, not_late}
 use Rattle.irig_timekeeper.proofs.TrackLaws.{KeepsTrue, tick_true}
 
 -- ---- an idle line
@@ -334,59 +334,65 @@ lines_after new start begins (Hear port time rise width ∷ calls) order =
 lines_after new start begins (Tick now ∷ calls) order =
     lines_tick new (after_calls new calls) calls (last_tick start calls) (last_call start calls) now (lines_after new start begins calls order.2) order.0 order.1
 
--- ---- a life
+-- ---- a life, of which at each tick at most f lines are not such true lines
 
--- a tick, by the setup that a device was made with
-module _ (t : TimelineValue) (edges : ℕ → ℕ) (new k : Keeping) (M tick now : ℕ) (pulses : ℕ → List Pulse) (order : tick ≤ now) (soon : now ≤ tick + 1800000000) where
-  abbrev TicksTruly : ClockRules → TableValue → Rules → Type 0
-  TicksTruly c table rules =
-      IsDevice t c.drift_us edges c.reader_rules table → IsOnTrack t edges c.drift_us M c.reader_rules tick k.state.reader k.state.edge_us → AreHeardTruly rules t edges (f_of c.redundancy) now k.state.lines pulses
-      → KeepsTrue t c.drift_us edges M c.reader_rules now (after_tick k (now % 2 ^ 32)).state (answer_at k (now % 2 ^ 32))
+-- at any time such a line's frames claim the true second before an edge, and end near it
+abbrev pub TellAlwaysTruly : (ℕ → List Pulse → Type 0) → Rules → TimelineValue → (ℕ → ℕ) → ℕ → ℕ → Type 0
+TellAlwaysTruly IsTrue rules t edges early late = (now : ℕ) → TellsTruly (IsTrue now) rules t edges early late now
 
-  ticks_truly : IsSameSetup new k → TicksTruly new.clock new.table new.rules
-  ticks_truly same =
-      subst (λ (c : ClockRules). TicksTruly c new.table new.rules) same.clock
-      (subst (λ (x : TableValue). TicksTruly k.clock x new.rules) same.table
-      (subst (λ (r : Rules). TicksTruly k.clock k.table r) same.rules
-      (λ is on heard. tick_true t k.clock.drift_us edges k M tick now pulses is order soon on heard)))
+module _ (IsTrue : ℕ → List Pulse → Type 0) (t : TimelineValue) (edges : ℕ → ℕ) (early late : ℕ) where
+  -- a tick, by the setup that a device was made with
+  module _ (new k : Keeping) (M tick now : ℕ) (pulses : ℕ → List Pulse) (order : tick ≤ now) (soon : now ≤ tick + 1800000000) (room : early + late ≤ 4098) where
+    abbrev TicksTruly : ClockRules → TableValue → Rules → Type 0
+    TicksTruly c table rules =
+        TellsTruly (IsTrue now) rules t edges early late now → IsDevice t c.drift_us edges c.reader_rules table → IsOnTrack t edges (early + 1000) late c.drift_us M c.reader_rules tick k.state.reader k.state.edge_us
+        → AreHeardTruly (IsTrue now) rules (f_of c.redundancy) now k.state.lines pulses
+        → KeepsTrue t c.drift_us edges (early + 1000) late M c.reader_rules now (after_tick k (now % 2 ^ 32)).state (answer_at k (now % 2 ^ 32))
 
-module _ (t : TimelineValue) (edges : ℕ → ℕ) (new : Keeping) (start : ℕ) (begins : AreLinesAt new new (λ i. []) start start) where
-  abbrev IsTrack : ℕ → ℕ → Keeping → Type 0
-  IsTrack M tick k = IsOnTrack t edges new.clock.drift_us M new.clock.reader_rules tick k.state.reader k.state.edge_us
+    ticks_truly : IsSameSetup new k → TicksTruly new.clock new.table new.rules
+    ticks_truly same =
+        subst (λ (c : ClockRules). TicksTruly c new.table new.rules) same.clock
+        (subst (λ (x : TableValue). TicksTruly k.clock x new.rules) same.table
+        (subst (λ (r : Rules). TicksTruly k.clock k.table r) same.rules
+        (λ truly is on heard. tick_true (IsTrue now) t k.clock.drift_us edges early late k M tick now pulses room truly is order soon on heard)))
 
-  -- what its lines brought, at a tick
-  pub heard_truly : (calls : List Call) (time : ℕ) → AreInOrder start new.clock.redundancy (Tick time ∷ calls) → AreTrueLately new.rules t edges (f_of new.clock.redundancy) time calls
-      → AreHeardTruly new.rules t edges (f_of new.clock.redundancy) time (after_calls new calls).state.lines (λ i. pulses_on i calls)
-  heard_truly calls time order lately =
-      let k : Keeping = after_calls new calls in
-      let l = lines_after new start begins calls order.2 in
-      record {
-        untrue = lately.untrue;
-        few = lately.few;
-        true_lines = lately.true_lines;
-        kept = λ i low.
-            subst (λ (x : Rules). IfKept (IsInTurnOf time) x (claim_kept (line_at k.state.lines i).frame) (pulses_on i calls)) l.same.rules
-            (still_in_turn k.rules (claim_kept (line_at k.state.lines i).frame) (pulses_on i calls) (last_tick start calls) (last_call start calls) time order.0 order.1 (l.lines i low).kept);
-      }
-
-  module _ (is : IsDevice t new.clock.drift_us edges new.clock.reader_rules new.table) where
-    -- what a tick answers in a life
-    pub tick_in : (M : ℕ) (calls : List Call) (now : ℕ) → AreInOrder start new.clock.redundancy (Tick now ∷ calls) → AreTrueLately new.rules t edges (f_of new.clock.redundancy) now calls → IsTrack M (last_tick start calls) (after_calls new calls)
-        → KeepsTrue t new.clock.drift_us edges M new.clock.reader_rules now (after_tick (after_calls new calls) (now % 2 ^ 32)).state (answer_at (after_calls new calls) (now % 2 ^ 32))
-    tick_in M calls now order lately track =
+  module _ (new : Keeping) (start : ℕ) (begins : AreLinesAt new new (λ i. []) start start) where
+    -- what its lines brought, at a tick
+    pub heard_truly : (calls : List Call) (time : ℕ) → AreInOrder start new.clock.redundancy (Tick time ∷ calls) → AreTrueLately IsTrue (f_of new.clock.redundancy) time calls
+        → AreHeardTruly (IsTrue time) new.rules (f_of new.clock.redundancy) time (after_calls new calls).state.lines (λ i. pulses_on i calls)
+    heard_truly calls time order lately =
+        let k : Keeping = after_calls new calls in
         let l = lines_after new start begins calls order.2 in
-        ticks_truly t edges new (after_calls new calls) M (last_tick start calls) now (λ i. pulses_on i calls) (omega (arith, l.order, order.0)) (omega (arith, order.1)) l.same is track (heard_truly calls now order lately)
+        record {
+          untrue = lately.untrue;
+          few = lately.few;
+          true_lines = lately.true_lines;
+          kept = λ i low.
+              subst (λ (x : Rules). IfKept (IsInTurnOf time) x (claim_kept (line_at k.state.lines i).frame) (pulses_on i calls)) l.same.rules
+              (still_in_turn k.rules (claim_kept (line_at k.state.lines i).frame) (pulses_on i calls) (last_tick start calls) (last_call start calls) time order.0 order.1 (l.lines i low).kept);
+        }
 
-    hears_on : (M tick port rise width : ℕ) (k : Keeping) → IsTrack M tick k → IsTrack M tick (after_pulse k port (rise % 2 ^ 32) width)
-    hears_on M tick port rise width k track = elim (cases_Bool (is_pulse width)) [ inl narrow ↦ rw narrow track | inr wide ↦ rw wide track ]
+    abbrev IsTrack : ℕ → ℕ → Keeping → Type 0
+    IsTrack M tick k = IsOnTrack t edges (early + 1000) late new.clock.drift_us M new.clock.reader_rules tick k.state.reader k.state.edge_us
 
-    -- from where it stands behind some calls
-    pub track_on : (M : ℕ) (base : List Call) → IsTrack M (last_tick start base) (after_calls new base) → (later : List Call) → AreInOrder start new.clock.redundancy (later ++ base)
-        → AreTrueAtTicks new.rules t edges (f_of new.clock.redundancy) (later ++ base) → IsTrack M (last_tick start (later ++ base)) (after_calls new (later ++ base))
-    track_on M base track [] order truth = track
-    track_on M base track (Hear port time rise width ∷ later) order truth =
-        hears_on M (last_tick start (later ++ base)) port rise width (after_calls new (later ++ base)) (track_on M base track later order.4 truth)
-    track_on M base track (Tick now ∷ later) order truth = (tick_in M (later ++ base) now order truth.0 (track_on M base track later order.2 truth.1)).track
+    module _ (is : IsDevice t new.clock.drift_us edges new.clock.reader_rules new.table) (room : early + late ≤ 4098) (truly : TellAlwaysTruly IsTrue new.rules t edges early late) where
+      -- what a tick answers in a life
+      pub tick_in : (M : ℕ) (calls : List Call) (now : ℕ) → AreInOrder start new.clock.redundancy (Tick now ∷ calls) → AreTrueLately IsTrue (f_of new.clock.redundancy) now calls → IsTrack M (last_tick start calls) (after_calls new calls)
+          → KeepsTrue t new.clock.drift_us edges (early + 1000) late M new.clock.reader_rules now (after_tick (after_calls new calls) (now % 2 ^ 32)).state (answer_at (after_calls new calls) (now % 2 ^ 32))
+      tick_in M calls now order lately track =
+          let l = lines_after new start begins calls order.2 in
+          ticks_truly new (after_calls new calls) M (last_tick start calls) now (λ i. pulses_on i calls) (omega (arith, l.order, order.0)) (omega (arith, order.1)) room l.same (truly now) is track (heard_truly calls now order lately)
+
+      hears_on : (M tick port rise width : ℕ) (k : Keeping) → IsTrack M tick k → IsTrack M tick (after_pulse k port (rise % 2 ^ 32) width)
+      hears_on M tick port rise width k track = elim (cases_Bool (is_pulse width)) [ inl narrow ↦ rw narrow track | inr wide ↦ rw wide track ]
+
+      -- from where it stands behind some calls
+      pub track_on : (M : ℕ) (base : List Call) → IsTrack M (last_tick start base) (after_calls new base) → (later : List Call) → AreInOrder start new.clock.redundancy (later ++ base)
+          → AreTrueOver IsTrue (f_of new.clock.redundancy) later base → IsTrack M (last_tick start (later ++ base)) (after_calls new (later ++ base))
+      track_on M base track [] order truth = track
+      track_on M base track (Hear port time rise width ∷ later) order truth =
+          hears_on M (last_tick start (later ++ base)) port rise width (after_calls new (later ++ base)) (track_on M base track later order.4 truth)
+      track_on M base track (Tick now ∷ later) order truth = (tick_in M (later ++ base) now order truth.0 (track_on M base track later order.2 truth.1)).track
 
 -- ---- one announcement and a later one
 
@@ -395,10 +401,16 @@ order_before start r [] base order = order
 order_before start r (Hear port time rise width ∷ later) base order = order_before start r later base order.4
 order_before start r (Tick now ∷ later) base order = order_before start r later base order.2
 
-pub truth_before : (rules : Rules) (t : TimelineValue) (edges : ℕ → ℕ) (f : ℕ) (later base : List Call) → AreTrueAtTicks rules t edges f (later ++ base) → AreTrueAtTicks rules t edges f base
-truth_before rules t edges f [] base truth = truth
-truth_before rules t edges f (Hear port time rise width ∷ later) base truth = truth_before rules t edges f later base truth
-truth_before rules t edges f (Tick now ∷ later) base truth = truth_before rules t edges f later base truth.1
+-- what is true at each tick, is so at those before and at those after
+pub truth_before : (IsTrue : ℕ → List Pulse → Type 0) (f : ℕ) (later base : List Call) → AreTrueAtTicks IsTrue f (later ++ base) → AreTrueAtTicks IsTrue f base
+truth_before IsTrue f [] base truth = truth
+truth_before IsTrue f (Hear port time rise width ∷ later) base truth = truth_before IsTrue f later base truth
+truth_before IsTrue f (Tick now ∷ later) base truth = truth_before IsTrue f later base truth.1
+
+pub truth_over : (IsTrue : ℕ → List Pulse → Type 0) (f : ℕ) (later base : List Call) → AreTrueAtTicks IsTrue f (later ++ base) → AreTrueOver IsTrue f later base
+truth_over IsTrue f [] base truth = tt
+truth_over IsTrue f (Hear port time rise width ∷ later) base truth = truth_over IsTrue f later base truth
+truth_over IsTrue f (Tick now ∷ later) base truth = (truth.0, truth_over IsTrue f later base truth.1)
 
 -- ---- from the beginning
 
@@ -430,7 +442,7 @@ each_new lines fresh (suc (suc (suc zero))) low = fresh.d
 each_new lines fresh (suc (suc (suc (suc zero)))) low = fresh.e
 each_new lines fresh (suc (suc (suc (suc (suc i))))) low = absurd (omega (arith, low))
 
-module _ (t : TimelineValue) (edges : ℕ → ℕ) (rules : Rules) (clock : ClockRules) (table : TableValue) (lines : Lines) (start : ℕ) (fresh : AreNewLines lines) where
+module _ (rules : Rules) (clock : ClockRules) (table : TableValue) (lines : Lines) (start : ℕ) (fresh : AreNewLines lines) where
   abbrev new : Keeping
   new = new_keeping rules clock table lines
 
@@ -441,33 +453,34 @@ module _ (t : TimelineValue) (edges : ℕ → ℕ) (rules : Rules) (clock : Cloc
     order = omega arith;
   }
 
-  module _ (is : IsDevice t clock.drift_us edges clock.reader_rules table) where
+  module _ (IsTrue : ℕ → List Pulse → Type 0) (t : TimelineValue) (edges : ℕ → ℕ) (early late : ℕ) (is : IsDevice t clock.drift_us edges clock.reader_rules table) (room : early + late ≤ 4098) (truly : TellAlwaysTruly IsTrue rules t edges early late) where
     -- where it stands, and what a tick answers
-    ticks : (calls : List Call) (now : ℕ) → AreInOrder start clock.redundancy (Tick now ∷ calls) → AreTrueAtTicks rules t edges (f_of clock.redundancy) (Tick now ∷ calls)
-        → KeepsTrue t clock.drift_us edges 0 clock.reader_rules now (after_tick (after_calls new calls) (now % 2 ^ 32)).state (answer_at (after_calls new calls) (now % 2 ^ 32))
+    pub ticks : (calls : List Call) (now : ℕ) → AreInOrder start clock.redundancy (Tick now ∷ calls) → AreTrueAtTicks IsTrue (f_of clock.redundancy) (Tick now ∷ calls)
+        → KeepsTrue t clock.drift_us edges (early + 1000) late 0 clock.reader_rules now (after_tick (after_calls new calls) (now % 2 ^ 32)).state (answer_at (after_calls new calls) (now % 2 ^ 32))
     ticks calls now order truth =
         let none : calls ++ [] ≡ calls = append-nil calls in
-        let track = track_on t edges new start begins is 0 [] (refl, refl) calls (subst (AreInOrder start clock.redundancy) (sym none) order.2) (subst (AreTrueAtTicks rules t edges (f_of clock.redundancy)) (sym none) truth.1) in
-        tick_in t edges new start begins is 0 calls now order truth.0 (subst (λ (x : List Call). IsTrack t edges new start begins 0 (last_tick start x) (after_calls new x)) none track)
+        let all = subst (AreTrueAtTicks IsTrue (f_of clock.redundancy)) (sym none) truth.1 in
+        let track = track_on IsTrue t edges early late new start begins is room truly 0 [] (refl, refl) calls (subst (AreInOrder start clock.redundancy) (sym none) order.2) (truth_over IsTrue (f_of clock.redundancy) calls [] all) in
+        tick_in IsTrue t edges early late new start begins is room truly 0 calls now order truth.0 (subst (λ (x : List Call). IsTrack IsTrue t edges early late new start begins 0 (last_tick start x) (after_calls new x)) none track)
 
-    pub device_true : (calls : List Call) (now : ℕ) (b : Beat) (u : UtcSecond) → AreInOrder start clock.redundancy (Tick now ∷ calls) → AreTrueAtTicks rules t edges (f_of clock.redundancy) (Tick now ∷ calls)
-        → answer_at (after_calls new calls) (now % 2 ^ 32) ≡ Some b → b.report.announce ≡ Some u → IsToldInHoldover t edges clock.drift_us clock.reader_rules.holdover now b u
+    pub device_true : (calls : List Call) (now : ℕ) (b : Beat) (u : UtcSecond) → AreInOrder start clock.redundancy (Tick now ∷ calls) → AreTrueAtTicks IsTrue (f_of clock.redundancy) (Tick now ∷ calls)
+        → answer_at (after_calls new calls) (now % 2 ^ 32) ≡ Some b → b.report.announce ≡ Some u → IsToldInHoldover t edges (early + 1000) late clock.drift_us clock.reader_rules.holdover now b u
     device_true calls now b u order truth answer says = ((ticks calls now order truth).told b u answer says).told
 
-    pub device_calm : (calls : List Call) (now : ℕ) (b : Beat) → AreInOrder start clock.redundancy (Tick now ∷ calls) → AreTrueAtTicks rules t edges (f_of clock.redundancy) (Tick now ∷ calls)
+    pub device_calm : (calls : List Call) (now : ℕ) (b : Beat) → AreInOrder start clock.redundancy (Tick now ∷ calls) → AreTrueAtTicks IsTrue (f_of clock.redundancy) (Tick now ∷ calls)
         → answer_at (after_calls new calls) (now % 2 ^ 32) ≡ Some b → ¬ (b.report.cause ≡ cause.Jump)
     device_calm calls now b order truth answer = (ticks calls now order truth).calm b answer
 
     pub device_in_order : (earlier later : List Call) (before now : ℕ) (b b' : Beat) (u u' : UtcSecond) → AreInOrder start clock.redundancy (Tick now ∷ (later ++ (Tick before ∷ earlier)))
-        → AreTrueAtTicks rules t edges (f_of clock.redundancy) (Tick now ∷ (later ++ (Tick before ∷ earlier)))
+        → AreTrueAtTicks IsTrue (f_of clock.redundancy) (Tick now ∷ (later ++ (Tick before ∷ earlier)))
         → answer_at (after_calls new earlier) (before % 2 ^ 32) ≡ Some b → b.report.announce ≡ Some u
         → answer_at (after_calls new (later ++ (Tick before ∷ earlier))) (now % 2 ^ 32) ≡ Some b' → b'.report.announce ≡ Some u' → IsLaterSecond t u u'
     device_in_order earlier later before now b b' u u' order truth answer says answer' says' =
         let base : List Call = Tick before ∷ earlier in
         let ordered = order_before start clock.redundancy later base order.2 in
-        let true_so_far = truth_before rules t edges (f_of clock.redundancy) later base truth.1 in
+        let true_so_far = truth_before IsTrue (f_of clock.redundancy) later base truth.1 in
         let first = (ticks earlier before ordered true_so_far).told b u answer says in
         let M : ℕ = first.told.told.m in
-        let track = track_on t edges new start begins is M base first.track later order.2 truth.1 in
-        let second = (tick_in t edges new start begins is M (later ++ base) now order truth.0 track).told b' u' answer' says' in
+        let track = track_on IsTrue t edges early late new start begins is room truly M base first.track later order.2 (truth_over IsTrue (f_of clock.redundancy) later base truth.1) in
+        let second = (tick_in IsTrue t edges early late new start begins is room truly M (later ++ base) now order truth.0 track).told b' u' answer' says' in
         record { m = M; n = second.told.told.m; less = second.later; before = first.told.told.truth; then = second.told.told.truth }

@@ -168,6 +168,17 @@ module _ (rules : Rules) (t : TimelineValue) (d : ℕ) (edges : ℕ → ℕ) (st
       let left = dropped d edges steady is.line now frame.late is.next pulses is.are in
       ended now end is.line left.0 (drop frame.late pulses) claim is.is_line left.1 frame.on_time frame.last frame.carries soon
 
+-- with any steady counter's bounds
+pub true_lately : (rules : Rules) (t : TimelineValue) (d : ℕ) (edges : ℕ → ℕ) (now end : ℕ) (pulses : List Pulse) (claim : Claim) → IsSteady d edges → IsTrueLately rules t edges now pulses → IsFrameOf rules claim end pulses → now ≤ end + 100000
+    → IsTrueNear t edges 549 549 end claim
+true_lately rules t d edges now end pulses claim steady is frame soon =
+    let near = frame_is_true rules t d edges steady now end pulses claim is frame soon in
+    record {
+      second = near.second;
+      near = record { least = omega (arith, near.near.least, steady.few); most = omega (arith, near.near.most, steady.few) };
+      truth = near.truth;
+    }
+
 -- ---- a pulse more
 
 one_late : (EndsSo Ends : ℕ → Type 0) → ((end : ℕ) → EndsSo end → Ends end) → (rules : Rules) (kept : Option KeptClaim) (p : Pulse) (pulses : List Pulse) → IfKept EndsSo rules kept pulses → IfKept Ends rules kept (p ∷ pulses)

@@ -30,21 +30,21 @@ use Rattle.irig_timekeeper.specs.declared.clock.ClockRules.{ClockRules}
 use Rattle.irig_timekeeper.specs.declared.clock.ClockState.{ClockState}
 use Rattle.irig_timekeeper.specs.Clock.{lasted, own_edge, beat_by, step_to, after_vote, answer_to_vote, after_own, answer_alone, clock_by, answer_by, settled_at}
 use Rattle.irig_timekeeper.specs.Keeping.{Keeping, vote_at, after_tick, answer_at}
-use Rattle.irig_timekeeper.proofs.VoteLaws.{vote_is_true}
+use Rattle.irig_timekeeper.proofs.VoteLaws.{TellsTruly, vote_is_true}
 use Rattle.irig_timekeeper.proofs.CountingLaws.{apart, counts, rises, wraps}
 use Rattle.irig_timekeeper.proofs.AgeLaws.{alone_step, gone, gone_idle, missed_idle, missed_true}
 
 -- it announces a later second than the last one, and stands there
-pub record IsToldNewly (t : TimelineValue) (d : ℕ) (edges : ℕ → ℕ) (M : ℕ) (rules : ReaderRules) (now : ℕ) (b : Beat) (u : UtcSecond) (s : State) (o : Option ℕ) : Type 0 where
-  pub told : IsToldInHoldover t edges d rules.holdover now b u
+pub record IsToldNewly (t : TimelineValue) (d : ℕ) (edges : ℕ → ℕ) (early late : ℕ) (M : ℕ) (rules : ReaderRules) (now : ℕ) (b : Beat) (u : UtcSecond) (s : State) (o : Option ℕ) : Type 0 where
+  pub told : IsToldInHoldover t edges early late d rules.holdover now b u
   pub later : M < told.told.m
-  pub track : IsOnTrack t edges d told.told.m rules now s o
+  pub track : IsOnTrack t edges early late d told.told.m rules now s o
 
-module _ (t : TimelineValue) (d : ℕ) (edges : ℕ → ℕ) (rules : ReaderRules) (table : TableValue) (is : IsDevice t d edges rules table) (M : ℕ) where
+module _ (t : TimelineValue) (d : ℕ) (edges : ℕ → ℕ) (early late : ℕ) (rules : ReaderRules) (table : TableValue) (is : IsDevice t d edges rules table) (room : early + late ≤ 5098) (M : ℕ) where
   -- ---- with a vote
 
   -- a true vote leads to the truth from there, or from nothing
-  module _ (now : ℕ) (v : KeptClaim) (vote : IsTrueVote t edges d now v) where
+  module _ (now : ℕ) (v : KeptClaim) (vote : IsTrueVote t edges early late now v) where
     m : ℕ
     m = vote.truth.second + 1
 
@@ -54,16 +54,16 @@ module _ (t : TimelineValue) (d : ℕ) (edges : ℕ → ℕ) (rules : ReaderRule
     edge_now : IsEdgeAt v.end_us vote.end now
     edge_now = record { clock = vote.clock; come = vote.come; soon = omega (arith, vote.soon) }
 
-    near_now : IsNear edges (1549 + 0 * d) (549 + 0 * d) (vote.truth.second + 1) vote.end
+    near_now : IsNear edges (early + 0 * d) (late + 0 * d) (vote.truth.second + 1) vote.end
     near_now = record {
-      least = omega (arith, vote.truth.near.least, is.steady.few);
-      most = omega (arith, vote.truth.near.most, is.steady.few);
+      least = omega (arith, vote.truth.near.least);
+      most = omega (arith, vote.truth.near.most);
     }
 
     votes : (s : State) → StandsAtTruth t vote.truth.second s → IsTrueStep t (vote.truth.second + 1) (step_of rules table s (Some v.claim))
     votes s at = step_true t vote.truth.second rules table s (Some v.claim) is.sound is.true_table at (inr true_vote)
 
-    on_track : (last : ℕ) (s : State) → last ≤ vote.truth.second + 1 → StandsAtTruth t vote.truth.second s → IsOnTrack t edges d last rules now (step_of rules table s (Some v.claim)).state (Some v.end_us)
+    on_track : (last : ℕ) (s : State) → last ≤ vote.truth.second + 1 → StandsAtTruth t vote.truth.second s → IsOnTrack t edges early late d last rules now (step_of rules table s (Some v.claim)).state (Some v.end_us)
     on_track last s low at = inr (
       vote.truth.second + 1,
       0,
@@ -78,12 +78,12 @@ module _ (t : TimelineValue) (d : ℕ) (edges : ℕ → ℕ) (rules : ReaderRule
       },
     )
 
-    abbrev told : (s : State) (b : Beat) (u : UtcSecond) → StandsAtTruth t vote.truth.second s → b.edge_us ≡ v.end_us → (step_of rules table s (Some v.claim)).report.announce ≡ Some u → IsToldTruly t edges 1549 549 now b u
+    abbrev told : (s : State) (b : Beat) (u : UtcSecond) → StandsAtTruth t vote.truth.second s → b.edge_us ≡ v.end_us → (step_of rules table s (Some v.claim)).report.announce ≡ Some u → IsToldTruly t edges early late now b u
     told s b u at e says = record {
       m = vote.truth.second + 1;
       edge = vote.end;
       clock = e ∙ vote.clock;
-      near = record { least = omega (arith, near_now.least); most = omega (arith, near_now.most) };
+      near = record { least = omega (arith, room, near_now.least); most = omega (arith, room, near_now.most) };
       come = vote.come;
       soon = omega (arith, vote.soon);
       truth = (votes s at).says u says;
@@ -92,7 +92,7 @@ module _ (t : TimelineValue) (d : ℕ) (edges : ℕ → ℕ) (rules : ReaderRule
     -- the edges counted from the last edge, and where the rule then stands before the vote
     record Comes (tick : ℕ) (s : State) (e n : ℕ) : Type 0 where
       before : 1 ≤ n → StandsAtTruth t vote.truth.second (missed rules table (n - 1) s)
-      none : n ≡ 0 → IsOnTrack t edges d M rules now s (Some v.end_us)
+      none : n ≡ 0 → IsOnTrack t edges early late d M rules now s (Some v.end_us)
       later : 1 ≤ n → M < vote.truth.second + 1
 
     idle_begins : (tick : ℕ) (s : State) → s ≡ Idle → M ≡ 0 → Comes tick s 0 1
@@ -121,7 +121,7 @@ module _ (t : TimelineValue) (d : ℕ) (edges : ℕ → ℕ) (rules : ReaderRule
           ap (λ (x : ℕ). edges_to x v.end_us) at.clock ∙ ap (edges_to (edge % 2 ^ 32)) vote.clock
           ∙ wraps edge vote.end (omega (arith, at.come, order, vote.soon)) (omega (arith, at.soon, soon, vote.come))
 
-      idle_comes : (s : State) → s ≡ Idle → edges M + 549 < edge + 500000 → Comes tick s e (edges_to e v.end_us)
+      idle_comes : (s : State) → s ≡ Idle → edges M + late < edge + 500000 → Comes tick s e (edges_to e v.end_us)
       idle_comes s idle ahead = record {
         before = λ some. subst (StandsAtTruth t vote.truth.second) (sym (missed_idle rules table (edges_to e v.end_us - 1) s idle)) tt;
         none = λ nothing. inl (
@@ -130,20 +130,20 @@ module _ (t : TimelineValue) (d : ℕ) (edges : ℕ → ℕ) (rules : ReaderRule
             vote.end,
             edge_now,
             elim (cases_lt (vote.truth.second + 1) M) [
-              | inl less ↦ absurd (omega (arith, up_one (vote.truth.second + 1) M less, near_now.most, vote.soon, at.come, order, ahead))
-              | inr more ↦ omega (arith, up M (vote.truth.second + 1) more, near_now.least)
+              | inl less ↦ absurd (omega (arith, room, up_one (vote.truth.second + 1) M less, near_now.most, vote.soon, at.come, order, ahead))
+              | inr more ↦ omega (arith, room, up M (vote.truth.second + 1) more, near_now.least)
             ],
           ),
         );
         later = λ some. elim (cases_lt M (vote.truth.second + 1)) [
           | inl less ↦ less
-          | inr more ↦ absurd (omega (arith, up (vote.truth.second + 1) M more, near_now.most, ahead, counted_at, some))
+          | inr more ↦ absurd (omega (arith, room, up (vote.truth.second + 1) M more, near_now.most, ahead, counted_at, some))
         ];
       }
 
-    module _ (tick : ℕ) (order : tick ≤ now) (soon : now ≤ tick + 1800000000) (s : State) (e w a : ℕ) (stands : StandsAt t edges d M rules tick s e w a) where
+    module _ (tick : ℕ) (order : tick ≤ now) (soon : now ≤ tick + 1800000000) (s : State) (e w a : ℕ) (stands : StandsAt t edges early late d M rules tick s e w a) where
       drift : d * a ≤ 490000
-      drift = let most = mul-le-mul_left d (let h : a ≤ rules.holdover + 2 = omega (arith, stands.few) in h) in omega (arith, most, is.short)
+      drift = let most = mul-le-mul_left d (let h : a ≤ rules.holdover + 2 = omega (arith, room, stands.few) in h) in omega (arith, room, most, is.short)
 
       edge : ℕ
       edge = stands.edge
@@ -160,7 +160,7 @@ module _ (t : TimelineValue) (d : ℕ) (edges : ℕ → ℕ) (rules : ReaderRule
             let there : vote.truth.second + 1 + k ≡ w = omega (arith, before) in
             let rise = subst (λ (i : ℕ). edges (vote.truth.second + 1) + k * 999900 ≤ edges i) there (rises d edges is.steady (vote.truth.second + 1) k) in
             let one : 1 ≤ k = omega (arith, before) in
-            absurd (omega (arith, rise, one, drift, stands.near.least, near_now.most, vote.soon, stands.at.come, order))
+            absurd (omega (arith, room, rise, one, drift, stands.near.least, near_now.most, vote.soon, stands.at.come, order))
       ]
 
       k : ℕ
@@ -175,8 +175,8 @@ module _ (t : TimelineValue) (d : ℕ) (edges : ℕ → ℕ) (rules : ReaderRule
       unfolding k
       in_holdover few =
           let most = mul-le-mul_left d few in
-          let here = subst (λ (i : ℕ). IsNear edges (1549 + 0 * d) (549 + 0 * d) i vote.end) (sym there) near_now in
-          counts d (1549 + a * d) (549 + a * d) (1549 + 0 * d) (549 + 0 * d) w (vote.truth.second + 1 - w) stands.edge vote.end edges is.steady stands.near here (omega (arith, most, is.short)) (omega (arith, most, is.short))
+          let here = subst (λ (i : ℕ). IsNear edges (early + 0 * d) (late + 0 * d) i vote.end) (sym there) near_now in
+          counts d (early + a * d) (late + a * d) (early + 0 * d) (late + 0 * d) w (vote.truth.second + 1 - w) stands.edge vote.end edges is.steady stands.near here (omega (arith, room, most, is.short)) (omega (arith, room, most, is.short))
 
       -- beyond it enough
       beyond : rules.holdover + 2 < a + k → k ≤ edges_between stands.edge vote.end + 1
@@ -186,9 +186,9 @@ module _ (t : TimelineValue) (d : ℕ) (edges : ℕ → ℕ) (rules : ReaderRule
           let far = apart d edges is.steady w n in
           let upto = subst (λ (i : ℕ). edges w + n * 1000000 ≤ edges i + n * d) there far.least in
           let slow = mul-le-mul_left n is.steady.few in
-          let few : n ≤ 1803 = omega (arith, upto, slow, drift, near_now.least, stands.near.most, vote.come, soon, stands.at.soon) in
+          let few : n ≤ 1803 = omega (arith, room, upto, slow, drift, near_now.least, stands.near.most, vote.come, soon, stands.at.soon) in
           let drifts = mul-le-mul_left d few in
-          omega (arith, upto, drifts, drift, is.steady.few, near_now.least, stands.near.most)
+          omega (arith, room, upto, drifts, drift, is.steady.few, near_now.least, stands.near.most)
 
       comes_in : (n : ℕ) → n ≡ k → Comes tick s e n
       comes_in n same = record {
@@ -224,7 +224,7 @@ module _ (t : TimelineValue) (d : ℕ) (edges : ℕ → ℕ) (rules : ReaderRule
 
       stands_comes : Comes tick s e (edges_to e v.end_us)
       stands_comes = elim (cases_lt (rules.holdover + 2) (a + k)) [
-        | inl long ↦ comes_beyond (edges_to e v.end_us) long (omega (arith, beyond long, counted))
+        | inl long ↦ comes_beyond (edges_to e v.end_us) long (omega (arith, room, beyond long, counted))
         | inr few ↦ comes_in (edges_to e v.end_us) (counted ∙ in_holdover few)
       ]
 
@@ -267,8 +267,8 @@ module _ (t : TimelineValue) (d : ℕ) (edges : ℕ → ℕ) (rules : ReaderRule
       one_more : suc (n - 1) ≡ n
       one_more = omega (arith, some)
 
-      idle_alone : s ≡ Idle → edges M + 549 < edge + 500000 → IsOnTrack t edges d M rules now last.state (Some (edge_behind e n))
-      idle_alone idle ahead = inl (missed_idle rules table (suc (n - 1)) s idle, (edge + n * 1000000, own_edge_at n same some, omega (arith, ahead)))
+      idle_alone : s ≡ Idle → edges M + late < edge + 500000 → IsOnTrack t edges early late d M rules now last.state (Some (edge_behind e n))
+      idle_alone idle ahead = inl (missed_idle rules table (suc (n - 1)) s idle, (edge + n * 1000000, own_edge_at n same some, omega (arith, room, ahead)))
 
       idle_says : s ≡ Idle → last.report.announce ≡ None
       idle_says idle = elim (alone_step rules table (missed rules table (n - 1) s)) [
@@ -276,21 +276,21 @@ module _ (t : TimelineValue) (d : ℕ) (edges : ℕ → ℕ) (rules : ReaderRule
         | inr older ↦ let both : Idle ≡ Locked older.locked.h = sym (missed_idle rules table (suc (n - 1)) s idle) ∙ older.locked.is in absurd cc
       ]
 
-      module _ (w a : ℕ) (near : IsNear edges (1549 + a * d) (549 + a * d) w edge) (truth : StandsAtTruth t w s) (young : a ≤ age_of s) (short : a ≤ rules.holdover) where
-        further : IsNear edges (1549 + (a + n) * d) (549 + (a + n) * d) (w + n) (edge + n * 1000000)
+      module _ (w a : ℕ) (near : IsNear edges (early + a * d) (late + a * d) w edge) (truth : StandsAtTruth t w s) (young : a ≤ age_of s) (short : a ≤ rules.holdover) where
+        further : IsNear edges (early + (a + n) * d) (late + (a + n) * d) (w + n) (edge + n * 1000000)
         further =
             let far = apart d edges is.steady w n in
-            record { least = omega (arith, far.most, near.least); most = omega (arith, far.least, near.most) }
+            record { least = omega (arith, room, far.most, near.least); most = omega (arith, room, far.least, near.most) }
 
-        ahead_then : M ≤ w → edges M + 549 < edge + n * 1000000 + 500000
+        ahead_then : M ≤ w → edges M + late < edge + n * 1000000 + 500000
         ahead_then low =
             let rise = rises d edges is.steady M (w - M) in
             let there : M + (w - M) ≡ w = omega (arith, low) in
             let upto = subst (λ (x : ℕ). edges M + (w - M) * 999900 ≤ edges x) there rise in
             let most = mul-le-mul_left d (let h : a ≤ rules.holdover + 2 = omega (arith, short) in h) in
-            omega (arith, upto, most, is.short, near.least, some)
+            omega (arith, room, upto, most, is.short, near.least, some)
 
-        stands_alone : M ≤ w → IsOnTrack t edges d M rules now last.state (Some (edge_behind e n))
+        stands_alone : M ≤ w → IsOnTrack t edges early late d M rules now last.state (Some (edge_behind e n))
         stands_alone low = elim (gone rules table (n - 1) s) [
           | inl idle ↦ inl (idle, (edge + n * 1000000, own_edge_at n same some, ahead_then low))
           | inr older ↦
@@ -312,7 +312,7 @@ module _ (t : TimelineValue) (d : ℕ) (edges : ℕ → ℕ) (rules : ReaderRule
         ]
 
         -- it has announced this second
-        stands_told : ¬ (last.state ≡ Idle) → IsOnTrack t edges d (w + n) rules now last.state (Some (edge_behind e n))
+        stands_told : ¬ (last.state ≡ Idle) → IsOnTrack t edges early late d (w + n) rules now last.state (Some (edge_behind e n))
         stands_told goes = elim (gone rules table (n - 1) s) [
           | inl idle ↦ absurd (goes idle)
           | inr older ↦
@@ -333,7 +333,7 @@ module _ (t : TimelineValue) (d : ℕ) (edges : ℕ → ℕ) (rules : ReaderRule
               )
         ]
 
-        says_alone : (b : Beat) (u : UtcSecond) → b.edge_us ≡ edge_behind e n → last.report ≡ b.report → b.report.announce ≡ Some u → M ≤ w → IsToldNewly t d edges M rules now b u last.state (Some (edge_behind e n))
+        says_alone : (b : Beat) (u : UtcSecond) → b.edge_us ≡ edge_behind e n → last.report ≡ b.report → b.report.announce ≡ Some u → M ≤ w → IsToldNewly t d edges early late M rules now b u last.state (Some (edge_behind e n))
         says_alone b u is_edge reports says low = elim (alone_step rules table (missed rules table (n - 1) s)) [
           | inl stop ↦ absurd (let both : None ≡ Some u = sym stop.1 ∙ ap (λ (r : Report). r.announce) reports ∙ says in cc)
           | inr older ↦ elim (gone rules table (n - 1) s) [
@@ -367,7 +367,7 @@ module _ (t : TimelineValue) (d : ℕ) (edges : ℕ → ℕ) (rules : ReaderRule
 
   -- ---- a tick, by the last edge
 
-  abbrev told_once : (now : ℕ) (b : Beat) (u : UtcSecond) → IsToldTruly t edges 1549 549 now b u → IsToldInHoldover t edges d rules.holdover now b u
+  abbrev told_once : (now : ℕ) (b : Beat) (u : UtcSecond) → IsToldTruly t edges early late now b u → IsToldInHoldover t edges early late d rules.holdover now b u
   told_once now b u is_told = record {
     far = 0;
     held = omega arith;
@@ -376,7 +376,7 @@ module _ (t : TimelineValue) (d : ℕ) (edges : ℕ → ℕ) (rules : ReaderRule
       m = is_told.m;
       edge = is_told.edge;
       clock = is_told.clock;
-      near = record { least = omega (arith, is_told.near.least); most = omega (arith, is_told.near.most) };
+      near = record { least = omega (arith, room, is_told.near.least); most = omega (arith, room, is_told.near.most) };
       come = is_told.come;
       soon = is_told.soon;
       truth = is_told.truth;
@@ -384,12 +384,12 @@ module _ (t : TimelineValue) (d : ℕ) (edges : ℕ → ℕ) (rules : ReaderRule
   }
 
   module _ (tick now : ℕ) (order : tick ≤ now) (soon : now ≤ tick + 1800000000) where
-    comes : (v : KeptClaim) (vote : IsTrueVote t edges d now v) (o : Option ℕ) (s : State) → IsOnTrack t edges d M rules tick s o → Comes now v vote tick s 0 (edges_to_vote o v.end_us)
+    comes : (v : KeptClaim) (vote : IsTrueVote t edges early late now v) (o : Option ℕ) (s : State) → IsOnTrack t edges early late d M rules tick s o → Comes now v vote tick s 0 (edges_to_vote o v.end_us)
     comes v vote None s idle = idle_begins now v vote tick s idle.0 idle.1
     comes v vote (Some e) s (inl idle) = let c = idle_comes now v vote tick order soon e idle.1.0 idle.1.1 s idle.0 idle.1.2 in record { before = c.before; none = c.none; later = c.later }
     comes v vote (Some e) s (inr at) = let c = stands_comes now v vote tick order soon s e at.0 at.1 at.2 in record { before = c.before; none = c.none; later = c.later }
 
-    own_waits : (o : Option ℕ) (s : State) → IsOnTrack t edges d M rules tick s o → edges_own o (now % 2 ^ 32) ≡ 0 → IsOnTrack t edges d M rules now s o
+    own_waits : (o : Option ℕ) (s : State) → IsOnTrack t edges early late d M rules tick s o → edges_own o (now % 2 ^ 32) ≡ 0 → IsOnTrack t edges early late d M rules now s o
     own_waits None s idle none = idle
     own_waits (Some e) s (inl idle) none =
         let at = idle.1 in
@@ -410,8 +410,8 @@ module _ (t : TimelineValue) (d : ℕ) (edges : ℕ → ℕ) (rules : ReaderRule
           },
         )
 
-    own_tracks : (o : Option ℕ) (s : State) → IsOnTrack t edges d M rules tick s o → (n : ℕ) → n ≡ edges_own o (now % 2 ^ 32) → 1 ≤ n
-        → IsOnTrack t edges d M rules now (step_behind rules table (n - 1) s None).state (Some (own_edge o n))
+    own_tracks : (o : Option ℕ) (s : State) → IsOnTrack t edges early late d M rules tick s o → (n : ℕ) → n ≡ edges_own o (now % 2 ^ 32) → 1 ≤ n
+        → IsOnTrack t edges early late d M rules now (step_behind rules table (n - 1) s None).state (Some (own_edge o n))
     own_tracks None s idle n same some = absurd (omega (arith, same, some))
     own_tracks (Some e) s (inl idle) n same some =
         let at = idle.1 in
@@ -420,8 +420,8 @@ module _ (t : TimelineValue) (d : ℕ) (edges : ℕ → ℕ) (rules : ReaderRule
         let stands = at.2 in
         stands_alone tick now order soon e stands.edge stands.at s n (same ∙ own_count tick now order soon e stands.edge stands.at) some at.0 at.1 stands.near stands.truth stands.young stands.few stands.behind
 
-    own_says : (o : Option ℕ) (s : State) → IsOnTrack t edges d M rules tick s o → (n : ℕ) → n ≡ edges_own o (now % 2 ^ 32) → 1 ≤ n → (b : Beat) (u : UtcSecond) → b.edge_us ≡ own_edge o n
-        → (step_behind rules table (n - 1) s None).report ≡ b.report → b.report.announce ≡ Some u → IsToldNewly t d edges M rules now b u (step_behind rules table (n - 1) s None).state (Some (own_edge o n))
+    own_says : (o : Option ℕ) (s : State) → IsOnTrack t edges early late d M rules tick s o → (n : ℕ) → n ≡ edges_own o (now % 2 ^ 32) → 1 ≤ n → (b : Beat) (u : UtcSecond) → b.edge_us ≡ own_edge o n
+        → (step_behind rules table (n - 1) s None).report ≡ b.report → b.report.announce ≡ Some u → IsToldNewly t d edges early late M rules now b u (step_behind rules table (n - 1) s None).state (Some (own_edge o n))
     own_says None s idle n same some b u is_edge reports says = absurd (omega (arith, same, some))
     own_says (Some e) s (inl idle) n same some b u is_edge reports says =
         let at = idle.1 in
@@ -431,7 +431,7 @@ module _ (t : TimelineValue) (d : ℕ) (edges : ℕ → ℕ) (rules : ReaderRule
         says_alone tick now order soon e stands.edge stands.at s n (same ∙ own_count tick now order soon e stands.edge stands.at) some at.0 at.1 stands.near stands.truth stands.young stands.few b u is_edge reports says stands.behind
 
   -- by the own counter it tells no jump
-  own_calm : (o : Option ℕ) (s : State) (tick : ℕ) → IsOnTrack t edges d M rules tick s o → (n : ℕ) → ¬ ((step_behind rules table n s None).report.cause ≡ cause.Jump)
+  own_calm : (o : Option ℕ) (s : State) (tick : ℕ) → IsOnTrack t edges early late d M rules tick s o → (n : ℕ) → ¬ ((step_behind rules table n s None).report.cause ≡ cause.Jump)
   own_calm None s tick idle n = calm_from 0 s n (subst (StandsAtTruth t 0) (sym idle.0) tt)
     where
       calm_from : (w : ℕ) (s : State) (n : ℕ) → StandsAtTruth t w s → ¬ ((step_behind rules table n s None).report.cause ≡ cause.Jump)
@@ -445,16 +445,16 @@ module _ (t : TimelineValue) (d : ℕ) (edges : ℕ → ℕ) (rules : ReaderRule
 -- ---- a tick
 
 -- a device that is on its track stays there, and what it answers is true
-pub record KeepsTrue (t : TimelineValue) (d : ℕ) (edges : ℕ → ℕ) (M : ℕ) (rules : ReaderRules) (now : ℕ) (new : ClockState) (answer : Option Beat) : Type 0 where
-  pub track : IsOnTrack t edges d M rules now new.reader new.edge_us
-  pub told : (b : Beat) (u : UtcSecond) → answer ≡ Some b → b.report.announce ≡ Some u → IsToldNewly t d edges M rules now b u new.reader new.edge_us
+pub record KeepsTrue (t : TimelineValue) (d : ℕ) (edges : ℕ → ℕ) (early late : ℕ) (M : ℕ) (rules : ReaderRules) (now : ℕ) (new : ClockState) (answer : Option Beat) : Type 0 where
+  pub track : IsOnTrack t edges early late d M rules now new.reader new.edge_us
+  pub told : (b : Beat) (u : UtcSecond) → answer ≡ Some b → b.report.announce ≡ Some u → IsToldNewly t d edges early late M rules now b u new.reader new.edge_us
   pub calm : (b : Beat) → answer ≡ Some b → ¬ (b.report.cause ≡ cause.Jump)
 
-module _ (t : TimelineValue) (d : ℕ) (edges : ℕ → ℕ) (c : ClockRules) (table : TableValue) (s : ClockState) (is : IsDevice t d edges c.reader_rules table) (M tick now : ℕ) (order : tick ≤ now) (soon : now ≤ tick + 1800000000)
-    (on : IsOnTrack t edges d M c.reader_rules tick s.reader s.edge_us) where
-  by_vote : (v : KeptClaim) (vote : IsTrueVote t edges d now v) (n : ℕ) → n ≡ edges_to_vote s.edge_us v.end_us → KeepsTrue t d edges M c.reader_rules now (after_vote c table s v n) (answer_to_vote c table s v n)
+module _ (t : TimelineValue) (d : ℕ) (edges : ℕ → ℕ) (early late : ℕ) (c : ClockRules) (table : TableValue) (s : ClockState) (is : IsDevice t d edges c.reader_rules table) (room : early + late ≤ 5098) (M tick now : ℕ) (order : tick ≤ now) (soon : now ≤ tick + 1800000000)
+    (on : IsOnTrack t edges early late d M c.reader_rules tick s.reader s.edge_us) where
+  by_vote : (v : KeptClaim) (vote : IsTrueVote t edges early late now v) (n : ℕ) → n ≡ edges_to_vote s.edge_us v.end_us → KeepsTrue t d edges early late M c.reader_rules now (after_vote c table s v n) (answer_to_vote c table s v n)
   by_vote v vote n same =
-      let all = comes t d edges c.reader_rules table is M tick now order soon v vote s.edge_us s.reader on in
+      let all = comes t d edges early late c.reader_rules table is room M tick now order soon v vote s.edge_us s.reader on in
       let state = missed c.reader_rules table (n - 1) s.reader in
       elim (cases_Bool (n == 0)) [
         | inl waits ↦
@@ -464,51 +464,55 @@ module _ (t : TimelineValue) (d : ℕ) (edges : ℕ → ℕ) (c : ClockRules) (t
             let some : 1 ≤ n = omega (arith, eqb-false n 0 more) in
             let reached = subst (λ (i : ℕ). StandsAtTruth t vote.truth.second (missed c.reader_rules table (i - 1) s.reader)) (sym same) (all.before (omega (arith, same, some))) in
             rw more (record {
-              track = on_track t d edges c.reader_rules table is M now v vote M state (let less = all.later (omega (arith, same, some)) in omega (arith, less)) reached;
+              track = on_track t d edges early late c.reader_rules table is room M now v vote M state (let less = all.later (omega (arith, same, some)) in omega (arith, less)) reached;
               told = λ b u e says.
                   let beat : b ≡ beat_by s (step_to c table s n (Some v.claim)) (n - 1) v.end_us = cc in
                   record {
-                    told = told_once t d edges c.reader_rules table is M now b u
-                        (told t d edges c.reader_rules table is M now v vote state b u reached (ap (λ (x : Beat). x.edge_us) beat) (sym (ap (λ (x : Beat). x.report.announce) beat) ∙ says));
+                    told = told_once t d edges early late c.reader_rules table is room M now b u
+                        (told t d edges early late c.reader_rules table is room M now v vote state b u reached (ap (λ (x : Beat). x.edge_us) beat) (sym (ap (λ (x : Beat). x.report.announce) beat) ∙ says));
                     later = all.later (omega (arith, same, some));
-                    track = on_track t d edges c.reader_rules table is M now v vote (vote.truth.second + 1) state (omega arith) reached;
+                    track = on_track t d edges early late c.reader_rules table is room M now v vote (vote.truth.second + 1) state (omega arith) reached;
                   };
               calm = λ b e jumps.
                   let beat : b ≡ beat_by s (step_to c table s n (Some v.claim)) (n - 1) v.end_us = cc in
-                  (votes t d edges c.reader_rules table is M now v vote state reached).calm.jump (sym (ap (λ (x : Beat). x.report.cause) beat) ∙ jumps);
+                  (votes t d edges early late c.reader_rules table is room M now v vote state reached).calm.jump (sym (ap (λ (x : Beat). x.report.cause) beat) ∙ jumps);
             })
       ]
 
-  alone : (n : ℕ) → n ≡ edges_own s.edge_us (now % 2 ^ 32) → KeepsTrue t d edges M c.reader_rules now (after_own c table s n) (answer_alone c table s n)
+  alone : (n : ℕ) → n ≡ edges_own s.edge_us (now % 2 ^ 32) → KeepsTrue t d edges early late M c.reader_rules now (after_own c table s n) (answer_alone c table s n)
   alone n same =
       elim (cases_Bool (n == 0)) [
         | inl waits ↦
             let none : edges_own s.edge_us (now % 2 ^ 32) ≡ 0 = sym same ∙ eqb-true n 0 waits in
-            rw waits (record { track = own_waits t d edges c.reader_rules table is M tick now order soon s.edge_us s.reader on none; told = λ b u e says. absurd cc; calm = λ b e. absurd cc })
+            rw waits (record { track = own_waits t d edges early late c.reader_rules table is room M tick now order soon s.edge_us s.reader on none; told = λ b u e says. absurd cc; calm = λ b e. absurd cc })
         | inr more ↦
             let some : 1 ≤ n = omega (arith, eqb-false n 0 more) in
             rw more (record {
-              track = own_tracks t d edges c.reader_rules table is M tick now order soon s.edge_us s.reader on n same some;
+              track = own_tracks t d edges early late c.reader_rules table is room M tick now order soon s.edge_us s.reader on n same some;
               told = λ b u e says.
                   let beat : b ≡ beat_by s (step_to c table s n None) (n - 1) (own_edge s.edge_us n) = cc in
-                  own_says t d edges c.reader_rules table is M tick now order soon s.edge_us s.reader on n same some b u (ap (λ (x : Beat). x.edge_us) beat) (sym (ap (λ (x : Beat). x.report) beat)) says;
+                  own_says t d edges early late c.reader_rules table is room M tick now order soon s.edge_us s.reader on n same some b u (ap (λ (x : Beat). x.edge_us) beat) (sym (ap (λ (x : Beat). x.report) beat)) says;
               calm = λ b e jumps.
                   let beat : b ≡ beat_by s (step_to c table s n None) (n - 1) (own_edge s.edge_us n) = cc in
-                  own_calm t d edges c.reader_rules table is M s.edge_us s.reader tick on (n - 1) (sym (ap (λ (x : Beat). x.report.cause) beat) ∙ jumps);
+                  own_calm t d edges early late c.reader_rules table is room M s.edge_us s.reader tick on (n - 1) (sym (ap (λ (x : Beat). x.report.cause) beat) ∙ jumps);
             })
       ]
 
 -- with what its lines brought
-pub tick_true : (t : TimelineValue) (d : ℕ) (edges : ℕ → ℕ) (k : Keeping) (M tick now : ℕ) (pulses : ℕ → List Pulse) → IsDevice t d edges k.clock.reader_rules k.table → tick ≤ now → now ≤ tick + 1800000000
-    → IsOnTrack t edges d M k.clock.reader_rules tick k.state.reader k.state.edge_us → AreHeardTruly k.rules t edges (f_of k.clock.redundancy) now k.state.lines pulses
-    → KeepsTrue t d edges M k.clock.reader_rules now (after_tick k (now % 2 ^ 32)).state (answer_at k (now % 2 ^ 32))
-tick_true t d edges k M tick now pulses is order soon on heard = of (vote_at k (now % 2 ^ 32)) refl
+pub tick_true : (IsTrue : List Pulse → Type 0) (t : TimelineValue) (d : ℕ) (edges : ℕ → ℕ) (early late : ℕ) (k : Keeping) (M tick now : ℕ) (pulses : ℕ → List Pulse) → early + late ≤ 4098 → TellsTruly IsTrue k.rules t edges early late now
+    → IsDevice t d edges k.clock.reader_rules k.table → tick ≤ now → now ≤ tick + 1800000000
+    → IsOnTrack t edges (early + 1000) late d M k.clock.reader_rules tick k.state.reader k.state.edge_us → AreHeardTruly IsTrue k.rules (f_of k.clock.redundancy) now k.state.lines pulses
+    → KeepsTrue t d edges (early + 1000) late M k.clock.reader_rules now (after_tick k (now % 2 ^ 32)).state (answer_at k (now % 2 ^ 32))
+tick_true IsTrue t d edges early late k M tick now pulses room truly is order soon on heard = of (vote_at k (now % 2 ^ 32)) refl
   where
     s : ClockState
     s = settled_at k.state (now % 2 ^ 32)
 
-    of : (v : Option KeptClaim) → vote_at k (now % 2 ^ 32) ≡ v → KeepsTrue t d edges M k.clock.reader_rules now (clock_by k.clock k.table s (now % 2 ^ 32) v) (answer_by k.clock k.table s (now % 2 ^ 32) v)
-    of None e = alone t d edges k.clock k.table s is M tick now order soon on _ refl
+    wide : early + 1000 + late ≤ 5098
+    wide = omega (arith, room)
+
+    of : (v : Option KeptClaim) → vote_at k (now % 2 ^ 32) ≡ v → KeepsTrue t d edges (early + 1000) late M k.clock.reader_rules now (clock_by k.clock k.table s (now % 2 ^ 32) v) (answer_by k.clock k.table s (now % 2 ^ 32) v)
+    of None e = alone t d edges (early + 1000) late k.clock k.table s is wide M tick now order soon on _ refl
     of (Some v) e =
-        let vote = vote_is_true k.rules t d edges is.steady (f_of k.clock.redundancy) now k.state.lines pulses heard v e in
-        by_vote t d edges k.clock k.table s is M tick now order soon on v vote _ refl
+        let vote = vote_is_true IsTrue k.rules t edges early late (f_of k.clock.redundancy) now k.state.lines pulses truly heard v e in
+        by_vote t d edges (early + 1000) late k.clock k.table s is wide M tick now order soon on v vote _ refl

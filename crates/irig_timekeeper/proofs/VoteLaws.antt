@@ -14,12 +14,11 @@ use Rattle.irig_port.specs.declared.told.Told.TheVariants as tells
 use Rattle.irig_timekeeper.specs.declared.lines.KeptFrame.{KeptFrame}
 use Rattle.irig_timekeeper.specs.declared.lines.KeptClaim.{KeptClaim}
 use Rattle.irig_timekeeper.specs.declared.lines.Lines.{Lines}
-use Rattle.irig_timekeeper.specs.Edges.{IsSteady, IsTrueNear}
-use Rattle.irig_timekeeper.specs.Lines.{IsTrueLately, IsLastBefore, IfKept, IsInTurnOf, HasJustCome}
+use Rattle.irig_timekeeper.specs.Edges.{IsTrueNear}
+use Rattle.irig_timekeeper.specs.Lines.{IsLastBefore, IsFrameOf, IfKept, IsInTurnOf, HasJustCome}
 use Rattle.irig_timekeeper.specs.Counting.{is_late, has_come}
 use Rattle.irig_timekeeper.specs.Steps.{line_at, still_kept, settled, claim_told, claim_kept, all_kept, agrees, agreed, if_come}
 use Rattle.irig_timekeeper.specs.Truth.{AreHeardTruly, IsTrueVote}
-use Rattle.irig_timekeeper.proofs.LineLaws.{frame_is_true}
 use Rattle.irig_timekeeper.proofs.AgreeLaws.{one_agrees, kept_at, EachKept, is_one}
 
 -- ---- what a tick keeps
@@ -129,14 +128,19 @@ last_late : (end : ℕ) (ps : List Pulse) → IsLastBefore end ps → 10000 ≤ 
 last_late end [] last = absurd last
 last_late end (p ∷ ps) last = omega (arith, last)
 
-pair_with : (t : TimelineValue) (edges : ℕ → ℕ) (d : ℕ) (c c' : Claim) (end exact : ℕ) → IsTrueNear t edges (449 + d) (449 + d) end c → c' ≡ c → exact ≤ end → end ≤ exact + 1000 → IsTrueNear t edges (1449 + d) (449 + d) exact c'
-pair_with t edges d c c' end exact is same before behind = record {
+pair_with : (t : TimelineValue) (edges : ℕ → ℕ) (early late : ℕ) (c c' : Claim) (end exact : ℕ) → IsTrueNear t edges early late end c → c' ≡ c → exact ≤ end → end ≤ exact + 1000 → IsTrueNear t edges (early + 1000) late exact c'
+pair_with t edges early late c c' end exact is same before behind = record {
   second = is.second;
   near = record { least = omega (arith, is.near.least, behind); most = omega (arith, is.near.most, before) };
   truth = subst (λ (x : Claim). IsTrueClaim t (is.second + 1) x) (sym same) is.truth;
 }
 
-module _ (rules : Rules) (t : TimelineValue) (d : ℕ) (edges : ℕ → ℕ) (steady : IsSteady d edges) (f now : ℕ) (lines : Lines) (pulses : ℕ → List Pulse) (h : AreHeardTruly rules t edges f now lines pulses) where
+-- a frame of such a line claims the true second before an edge, and ends near it
+abbrev pub TellsTruly : (List Pulse → Type 0) → Rules → TimelineValue → (ℕ → ℕ) → ℕ → ℕ → ℕ → Type 0
+TellsTruly IsTrue rules t edges early late now =
+    (end : ℕ) (pulses : List Pulse) (claim : Claim) → IsTrue pulses → IsFrameOf rules claim end pulses → now ≤ end + 100000 → IsTrueNear t edges early late end claim
+
+module _ (IsTrue : List Pulse → Type 0) (rules : Rules) (t : TimelineValue) (edges : ℕ → ℕ) (early late f now : ℕ) (lines : Lines) (pulses : ℕ → List Pulse) (tells_truly : TellsTruly IsTrue rules t edges early late now) (h : AreHeardTruly IsTrue rules f now lines pulses) where
   abbrev clock : ℕ
   clock = now % 2 ^ 32
 
@@ -160,25 +164,25 @@ module _ (rules : Rules) (t : TimelineValue) (d : ℕ) (edges : ℕ → ℕ) (st
       (one_more _ _ (in_range 4 (omega arith)) tt))))
 
   -- the true line that agrees
-  by_line : (x y : KeptClaim) (ps : List Pulse) → IsTrueLately rules t edges now ps → IfKept (IsInTurnOf now) rules (Some y) ps → is_late y.end_us clock ≡ false → agrees x (Some y) ≡ true → has_come x.end_us clock ≡ true → InRange x
-      → IsTrueVote t edges d now x
+  by_line : (x y : KeptClaim) (ps : List Pulse) → IsTrue ps → IfKept (IsInTurnOf now) rules (Some y) ps → is_late y.end_us clock ≡ false → agrees x (Some y) ≡ true → has_come x.end_us clock ≡ true → InRange x
+      → IsTrueVote t edges (early + 1000) late now x
   unfolding InRange
   by_line x y ps is turn in_time same there range =
       let end : ℕ = turn.0 in
       let soon = not_late end now turn.3.0 turn.3.1 (subst (λ (e : ℕ). is_late e clock ≡ false) turn.1 in_time) in
-      let true_end = frame_is_true rules t d edges steady now end ps y.claim is turn.2 soon in
+      let true_end = tells_truly end ps y.claim is turn.2 soon in
       let both = split (same_claim x.claim y.claim) (nat_le (clock_gap x.end_us y.end_us) 1000) same in
       let near : clock_gap x.end_us (end % 2 ^ 32) ≤ 1000 = subst (λ (e : ℕ). clock_gap x.end_us e ≤ 1000) turn.1 (leb-true (clock_gap x.end_us y.end_us) 1000 both.1) in
       let before = come_before x.end_us end now range (last_late end _ turn.2.last) turn.3.0 soon near (leb-true (clock_gap x.end_us clock) 100000 there) in
       record {
         end = before.exact;
         clock = before.clock;
-        truth = pair_with t edges d y.claim x.claim end before.exact true_end (same_is x.claim y.claim both.0) before.before before.behind;
+        truth = pair_with t edges early late y.claim x.claim end before.exact true_end (same_is x.claim y.claim both.0) before.before before.behind;
         come = before.come;
         soon = before.soon;
       }
 
-  pub vote_is_true : (x : KeptClaim) → if_come clock (agreed f (settled clock lines)) ≡ Some x → IsTrueVote t edges d now x
+  pub vote_is_true : (x : KeptClaim) → if_come clock (agreed f (settled clock lines)) ≡ Some x → IsTrueVote t edges (early + 1000) late now x
   vote_is_true x e =
       let all : List (Option KeptClaim) = all_kept (settled clock lines) in
       let there = come clock (agreed f (settled clock lines)) x e in

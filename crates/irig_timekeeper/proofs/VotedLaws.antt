@@ -26,14 +26,13 @@ use Rattle.irig_reader.specs.Rule.{step_of, locked_step}
 use Rattle.irig_reader.proofs.OneEdge.{voted_seconds, clean_by_few}
 use Rattle.irig_timekeeper.specs.declared.lines.KeptClaim.{KeptClaim}
 use Rattle.irig_timekeeper.specs.declared.clock.Beat.{Beat}
-use Rattle.irig_timekeeper.specs.Edges.{IsSteady}
 use Rattle.irig_timekeeper.specs.Counting.{edges_to_vote, edges_own}
 use Rattle.irig_timekeeper.specs.Rule.{missed}
 use Rattle.irig_timekeeper.specs.Clock.{beat_by, step_to, own_edge, answer_by, settled_at}
 use Rattle.irig_timekeeper.specs.declared.clock.ClockState.{ClockState}
 use Rattle.irig_timekeeper.specs.Keeping.{Keeping, answer_at, vote_at}
 use Rattle.irig_timekeeper.specs.Truth.{AreHeardTruly, IsTrueVote, IsToldTruly}
-use Rattle.irig_timekeeper.proofs.VoteLaws.{vote_is_true}
+use Rattle.irig_timekeeper.proofs.VoteLaws.{TellsTruly, vote_is_true}
 
 -- ---- a true claim
 
@@ -69,20 +68,20 @@ module _ (rules : ReaderRules) (table : TableValue) where
 
 -- ---- a tick
 
-pub tick_voted : (t : TimelineValue) (d : ℕ) (edges : ℕ → ℕ) (k : Keeping) (now : ℕ) (pulses : ℕ → List Pulse) (b : Beat) (u : UtcSecond) → IsSteady d edges → IsTimeline t
-    → AreHeardTruly k.rules t edges (f_of k.clock.redundancy) now k.state.lines pulses → answer_at k (now % 2 ^ 32) ≡ Some b → b.report.cause ≡ cause.Voted → b.report.announce ≡ Some u → IsToldTruly t edges 1549 549 now b u
-tick_voted t d edges k now pulses b u steady sound heard answer voted says = of (vote_at k (now % 2 ^ 32)) refl answer
+pub tick_voted : (IsTrue : List Pulse → Type 0) (t : TimelineValue) (edges : ℕ → ℕ) (early late : ℕ) (k : Keeping) (now : ℕ) (pulses : ℕ → List Pulse) (b : Beat) (u : UtcSecond) → TellsTruly IsTrue k.rules t edges early late now → IsTimeline t
+    → AreHeardTruly IsTrue k.rules (f_of k.clock.redundancy) now k.state.lines pulses → answer_at k (now % 2 ^ 32) ≡ Some b → b.report.cause ≡ cause.Voted → b.report.announce ≡ Some u → IsToldTruly t edges (early + 1000) late now b u
+tick_voted IsTrue t edges early late k now pulses b u truly sound heard answer voted says = of (vote_at k (now % 2 ^ 32)) refl answer
   where
     s : ClockState
     s = settled_at k.state (now % 2 ^ 32)
 
-    by_own : (n : ℕ) (test : Bool) → (n == 0) ≡ test → cond test None (Some (beat_by s (step_to k.clock k.table s n None) (n - 1) (own_edge s.edge_us n))) ≡ Some b → IsToldTruly t edges 1549 549 now b u
+    by_own : (n : ℕ) (test : Bool) → (n == 0) ≡ test → cond test None (Some (beat_by s (step_to k.clock k.table s n None) (n - 1) (own_edge s.edge_us n))) ≡ Some b → IsToldTruly t edges (early + 1000) late now b u
     by_own n true e answer = absurd cc
     by_own n false e answer =
         let beat : beat_by s (step_to k.clock k.table s n None) (n - 1) (own_edge s.edge_us n) ≡ b = cc in
         absurd (never_voted k.clock.reader_rules k.table (missed k.clock.reader_rules k.table (n - 1) k.state.reader) (ap (λ (x : Beat). x.report.cause) beat ∙ voted))
 
-    by_vote : (v : KeptClaim) → IsTrueVote t edges d now v → (n : ℕ) (test : Bool) → (n == 0) ≡ test → cond test None (Some (beat_by s (step_to k.clock k.table s n (Some v.claim)) (n - 1) v.end_us)) ≡ Some b → IsToldTruly t edges 1549 549 now b u
+    by_vote : (v : KeptClaim) → IsTrueVote t edges (early + 1000) late now v → (n : ℕ) (test : Bool) → (n == 0) ≡ test → cond test None (Some (beat_by s (step_to k.clock k.table s n (Some v.claim)) (n - 1) v.end_us)) ≡ Some b → IsToldTruly t edges (early + 1000) late now b u
     by_vote v vote n true e answer = absurd cc
     by_vote v vote n false e answer =
         let beat : beat_by s (step_to k.clock k.table s n (Some v.claim)) (n - 1) v.end_us ≡ b = cc in
@@ -92,13 +91,13 @@ tick_voted t d edges k now pulses b u steady sound heard answer voted says = of 
           m = vote.truth.second + 1;
           edge = vote.end;
           clock = ap (λ (x : Beat). x.edge_us) (sym beat) ∙ vote.clock;
-          near = record { least = omega (arith, vote.truth.near.least, steady.few); most = omega (arith, vote.truth.near.most, steady.few) };
+          near = vote.truth.near;
           come = vote.come;
           soon = omega (arith, vote.soon);
           truth = voted_second t vote.truth.second k.clock.reader_rules k.table state v.claim u sound truth (ap (λ (x : Beat). x.report.cause) beat ∙ voted) (ap (λ (x : Beat). x.report.announce) beat ∙ says);
         }
 
-    of : (v : Option KeptClaim) → vote_at k (now % 2 ^ 32) ≡ v → answer_by k.clock k.table s (now % 2 ^ 32) v ≡ Some b → IsToldTruly t edges 1549 549 now b u
+    of : (v : Option KeptClaim) → vote_at k (now % 2 ^ 32) ≡ v → answer_by k.clock k.table s (now % 2 ^ 32) v ≡ Some b → IsToldTruly t edges (early + 1000) late now b u
     of None e answer = by_own (edges_own s.edge_us (now % 2 ^ 32)) _ refl answer
     of (Some v) e answer =
-        by_vote v (vote_is_true k.rules t d edges steady (f_of k.clock.redundancy) now k.state.lines pulses heard v e) (edges_to_vote s.edge_us v.end_us) _ refl answer
+        by_vote v (vote_is_true IsTrue k.rules t edges early late (f_of k.clock.redundancy) now k.state.lines pulses truly heard v e) (edges_to_vote s.edge_us v.end_us) _ refl answer

@@ -1,14 +1,11 @@
 -- The life of a device since it was made or restarted, by its calls. Times are local ones, by a
 -- clock that does not wrap; the device is given them by one of 32 bits.
 -- Source: this project's profile.
-use Rattle.std.specs.Prelude.{◌≡◌, ℕ, ◌+◌, ◌%◌, ◌^◌, ◌<◌, ◌≤◌, ◌==◌, Bool, true, false, ◌&&◌, if◌then◌else◌, List, [], ◌∷◌, count_by, ⊤}
+use Rattle.std.specs.Prelude.{◌≡◌, ℕ, ◌+◌, ◌%◌, ◌^◌, ◌<◌, ◌≤◌, ◌==◌, Bool, true, false, ◌&&◌, if◌then◌else◌, List, [], ◌∷◌, ◌++◌, count_by, ⊤}
 use Rattle.std.specs.List.{range_with_len}
 use Rattle.irig_sync.specs.Lines.{Pulse, pulse_at, IsAfter}
-use Rattle.irig_time.specs.declared.rules.Rules.{Rules}
-use Rattle.irig_time.specs.Timelines.{TimelineValue}
 use Rattle.irig_vote.specs.declared.redundancy.Redundancy.{Redundancy}
 use Rattle.irig_vote.specs.Vote.{ports_in}
-use Rattle.irig_timekeeper.specs.Lines.{IsTrueLately}
 use Rattle.irig_timekeeper.specs.Steps.{is_pulse}
 use Rattle.irig_timekeeper.specs.Keeping.{Keeping, after_pulse, after_tick}
 
@@ -65,20 +62,25 @@ AreInOrder start redundancy (Tick now ∷ calls) =
     (last_call start calls ≤ now) × (now + 500000 < last_tick start calls + 1800000000)
     × AreInOrder start redundancy calls
 
--- all but at most f of the five lines were true for the last 1.2 s; a line that is not there
+-- all but at most f of the five lines are such true lines at this time; a line that is not there
 -- brought no pulse
-pub record AreTrueLately (rules : Rules) (t : TimelineValue) (edges : ℕ → ℕ) (f now : ℕ)
-    (calls : List Call)
+pub record AreTrueLately (IsTrue : ℕ → List Pulse → Type 0) (f now : ℕ) (calls : List Call)
     : Type 0 where
   pub untrue : ℕ → Bool
   pub few : count_by untrue (range_with_len 0 5) ≤ f
   pub true_lines : (line : ℕ) → line < 5 → untrue line ≡ false
-      → IsTrueLately rules t edges now (pulses_on line calls)
+      → IsTrue now (pulses_on line calls)
 
 -- so at each tick
-abbrev pub AreTrueAtTicks : Rules → TimelineValue → (ℕ → ℕ) → ℕ → List Call → Type 0
-AreTrueAtTicks rules t edges f [] = ⊤
-AreTrueAtTicks rules t edges f (Hear port time rise width ∷ calls) =
-    AreTrueAtTicks rules t edges f calls
-AreTrueAtTicks rules t edges f (Tick now ∷ calls) =
-    AreTrueLately rules t edges f now calls × AreTrueAtTicks rules t edges f calls
+abbrev pub AreTrueAtTicks : (ℕ → List Pulse → Type 0) → ℕ → List Call → Type 0
+AreTrueAtTicks IsTrue f [] = ⊤
+AreTrueAtTicks IsTrue f (Hear port time rise width ∷ calls) = AreTrueAtTicks IsTrue f calls
+AreTrueAtTicks IsTrue f (Tick now ∷ calls) =
+    AreTrueLately IsTrue f now calls × AreTrueAtTicks IsTrue f calls
+
+-- so at each tick of these calls, which came behind those
+abbrev pub AreTrueOver : (ℕ → List Pulse → Type 0) → ℕ → List Call → List Call → Type 0
+AreTrueOver IsTrue f [] before = ⊤
+AreTrueOver IsTrue f (Hear port time rise width ∷ calls) before = AreTrueOver IsTrue f calls before
+AreTrueOver IsTrue f (Tick now ∷ calls) before =
+    AreTrueLately IsTrue f now (calls ++ before) × AreTrueOver IsTrue f calls before

@@ -18,25 +18,27 @@ use Rattle.irig_timekeeper.specs.declared.lines.KeptClaim.{KeptClaim}
 use Rattle.irig_timekeeper.specs.declared.lines.Lines.{Lines}
 use Rattle.irig_timekeeper.specs.Clock.{lasted}
 use Rattle.irig_timekeeper.specs.Edges.{IsSteady, IsNear, IsTrueNear}
-use Rattle.irig_timekeeper.specs.Lines.{IsTrueLately, IfKept, IsInTurnOf}
+use Rattle.irig_timekeeper.specs.Lines.{IfKept, IsInTurnOf}
 use Rattle.irig_timekeeper.specs.Steps.{line_at, claim_kept}
 
--- the lines keep frames of these pulses, and all but at most f of the five were true for the last
--- 1.2 s; a line that is not there brought no pulse
-pub record AreHeardTruly (rules : Rules) (t : TimelineValue) (edges : ℕ → ℕ) (f now : ℕ)
+-- the lines keep frames of these pulses, and all but at most f of the five are such true lines; a
+-- line that is not there brought no pulse
+pub record AreHeardTruly (IsTrue : List Pulse → Type 0) (rules : Rules) (f now : ℕ)
     (lines : Lines) (pulses : ℕ → List Pulse)
     : Type 0 where
   pub untrue : ℕ → Bool
   pub few : count_by untrue (range_with_len 0 5) ≤ f
-  pub true_lines : (i : ℕ) → i < 5 → untrue i ≡ false → IsTrueLately rules t edges now (pulses i)
+  pub true_lines : (i : ℕ) → i < 5 → untrue i ≡ false → IsTrue (pulses i)
   pub kept : (i : ℕ) → i < 5
       → IfKept (IsInTurnOf now) rules (claim_kept (line_at lines i).frame) (pulses i)
 
--- the frame claims the true second before an edge, ends near it, and at most 100 ms ago
-pub record IsTrueVote (t : TimelineValue) (edges : ℕ → ℕ) (d now : ℕ) (vote : KeptClaim) : Type 0 where
+-- the frame claims the true second before an edge, ends at most so long before that edge and behind
+-- it, and at most 100 ms ago
+pub record IsTrueVote (t : TimelineValue) (edges : ℕ → ℕ) (early late now : ℕ) (vote : KeptClaim)
+    : Type 0 where
   pub end : ℕ
   pub clock : vote.end_us ≡ end % 2 ^ 32
-  pub truth : IsTrueNear t edges (1449 + d) (449 + d) end vote.claim
+  pub truth : IsTrueNear t edges early late end vote.claim
   pub come : end ≤ now
   pub soon : now ≤ end + 100000
 
@@ -61,24 +63,26 @@ IfEdgeAt (Some e) tick = (edge : ℕ) × IsEdgeAt e edge tick
 
 -- the reader stands at T(w), as which its edge is right but for the drift of a edges; what was
 -- announced last was T(last) at most
-pub record StandsAt (t : TimelineValue) (edges : ℕ → ℕ) (d last : ℕ) (rules : ReaderRules)
-    (tick : ℕ) (stands : State) (e w a : ℕ)
+pub record StandsAt (t : TimelineValue) (edges : ℕ → ℕ) (early late d last : ℕ)
+    (rules : ReaderRules) (tick : ℕ) (stands : State) (e w a : ℕ)
     : Type 0 where
   pub edge : ℕ
   pub at : IsEdgeAt e edge tick
-  pub near : IsNear edges (1549 + a * d) (549 + a * d) w edge
+  pub near : IsNear edges (early + a * d) (late + a * d) w edge
   pub truth : StandsAtTruth t w stands
   pub young : a ≤ age_of stands
   pub few : a ≤ rules.holdover
   pub behind : last ≤ w
 
--- a device has nothing to go on, or stands at the truth
-abbrev pub IsOnTrack : TimelineValue → (ℕ → ℕ) → ℕ → ℕ → ReaderRules → ℕ → State → Option ℕ → Type 0
-IsOnTrack t edges d last rules tick state None = (state ≡ Idle) × (last ≡ 0)
-IsOnTrack t edges d last rules tick state (Some e) =
+-- a device has nothing to go on, or stands at the truth; its votes lie at most so long before their
+-- edges and behind them
+abbrev pub IsOnTrack : TimelineValue → (ℕ → ℕ) → (early late d last : ℕ) → ReaderRules → ℕ → State
+    → Option ℕ → Type 0
+IsOnTrack t edges early late d last rules tick state None = (state ≡ Idle) × (last ≡ 0)
+IsOnTrack t edges early late d last rules tick state (Some e) =
     ((state ≡ Idle)
-    × ((edge : ℕ) × IsEdgeAt e edge tick × (edges last + 549 < edge + 500000)))
-    ⊎ ((w : ℕ) × (a : ℕ) × StandsAt t edges d last rules tick state e w a)
+    × ((edge : ℕ) × IsEdgeAt e edge tick × (edges last + late < edge + 500000)))
+    ⊎ ((w : ℕ) × (a : ℕ) × StandsAt t edges early late d last rules tick state e w a)
 
 -- ---- what a device tells
 
@@ -95,12 +99,12 @@ pub record IsToldTruly (t : TimelineValue) (edges : ℕ → ℕ) (before behind 
   pub truth : IsSecond t m u
 
 -- the same, off by the drift of so many edges more as the holdover has lasted by the report
-pub record IsToldInHoldover (t : TimelineValue) (edges : ℕ → ℕ) (d holdover now : ℕ)
+pub record IsToldInHoldover (t : TimelineValue) (edges : ℕ → ℕ) (early late d holdover now : ℕ)
     (beat : Beat) (u : UtcSecond) : Type 0 where
   pub far : ℕ
   pub held : far ≤ lasted beat.report.lock
   pub few : far ≤ holdover
-  pub told : IsToldTruly t edges (1549 + far * d) (549 + far * d) now beat u
+  pub told : IsToldTruly t edges (early + far * d) (late + far * d) now beat u
 
 -- what is true of a device: its counter, the timeline, its leap table, and its setup is not refused
 pub record IsDevice (t : TimelineValue) (d : ℕ) (edges : ℕ → ℕ) (rules : ReaderRules)

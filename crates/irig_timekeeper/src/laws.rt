@@ -75,11 +75,13 @@ pub fn kept_frames_are_true()
 pub fn votes_are_true()
     ensures vote { (t : TimelineValue) (d : ℕ) (edges : ℕ → ℕ) (k : Keeping) (now : ℕ)
         (pulses : ℕ → List Pulse) (vote : KeptClaim) → IsSteady d edges
-        → AreHeardTruly k.rules t edges (f_of k.clock.redundancy) now k.state.lines pulses
-        → vote_at k (now % 2 ^ 32) ≡ Some vote → IsTrueVote t edges d now vote }
+        → AreHeardTruly (IsTrueLately k.rules t edges now) k.rules (f_of k.clock.redundancy) now
+        k.state.lines pulses
+        → vote_at k (now % 2 ^ 32) ≡ Some vote → IsTrueVote t edges 1549 549 now vote }
     ensures second { (t : TimelineValue) (d : ℕ) (edges : ℕ → ℕ) (k : Keeping) (now : ℕ)
         (pulses : ℕ → List Pulse) (beat : Beat) (u : UtcSecond) → IsSteady d edges → IsTimeline t
-        → AreHeardTruly k.rules t edges (f_of k.clock.redundancy) now k.state.lines pulses
+        → AreHeardTruly (IsTrueLately k.rules t edges now) k.rules (f_of k.clock.redundancy) now
+        k.state.lines pulses
         → answer_at k (now % 2 ^ 32) ≡ Some beat → beat.report.cause ≡ Cause.Voted
         → beat.report.announce ≡ Some u → IsToldTruly t edges 1549 549 now beat u }
 {}
@@ -95,17 +97,17 @@ pub fn a_device_tells_the_truth()
         (table : TableValue) (lines : Lines) (start now : ℕ) (calls : List Call) (beat : Beat)
         (u : UtcSecond) → IsDevice t clock.drift_us edges clock.reader_rules table
         → AreNewLines lines → AreInOrder start clock.redundancy (Tick now ∷ calls)
-        → AreTrueAtTicks rules t edges (f_of clock.redundancy) (Tick now ∷ calls)
+        → AreTrueAtTicks (IsTrueLately rules t edges) (f_of clock.redundancy) (Tick now ∷ calls)
         → answer_at (after_calls (new_keeping rules clock table lines) calls) (now % 2 ^ 32)
         ≡ Some beat → beat.report.announce ≡ Some u
-        → IsToldInHoldover t edges clock.drift_us clock.reader_rules.holdover now beat u }
+        → IsToldInHoldover t edges 1549 549 clock.drift_us clock.reader_rules.holdover now beat u }
     // In order: what a later tick announces is a later second, so that none is announced twice.
     ensures order { (t : TimelineValue) (edges : ℕ → ℕ) (rules : Rules) (clock : ClockRules)
         (table : TableValue) (lines : Lines) (start before now : ℕ) (earlier later : List Call)
         (beat then : Beat) (u v : UtcSecond)
         → IsDevice t clock.drift_us edges clock.reader_rules table → AreNewLines lines
         → AreInOrder start clock.redundancy (Tick now ∷ (later ++ (Tick before ∷ earlier)))
-        → AreTrueAtTicks rules t edges (f_of clock.redundancy)
+        → AreTrueAtTicks (IsTrueLately rules t edges) (f_of clock.redundancy)
         (Tick now ∷ (later ++ (Tick before ∷ earlier)))
         → answer_at (after_calls (new_keeping rules clock table lines) earlier)
         (before % 2 ^ 32) ≡ Some beat → beat.report.announce ≡ Some u
@@ -117,7 +119,7 @@ pub fn a_device_tells_the_truth()
         (table : TableValue) (lines : Lines) (start now : ℕ) (calls : List Call) (beat : Beat)
         → IsDevice t clock.drift_us edges clock.reader_rules table → AreNewLines lines
         → AreInOrder start clock.redundancy (Tick now ∷ calls)
-        → AreTrueAtTicks rules t edges (f_of clock.redundancy) (Tick now ∷ calls)
+        → AreTrueAtTicks (IsTrueLately rules t edges) (f_of clock.redundancy) (Tick now ∷ calls)
         → answer_at (after_calls (new_keeping rules clock table lines) calls) (now % 2 ^ 32)
         ≡ Some beat → ¬ (beat.report.cause ≡ Cause.Jump) }
     // A setup without a fault is one of these.
@@ -132,10 +134,11 @@ pub fn a_device_tells_the_truth()
         (pulses : ℕ → List Pulse)
         → IsDevice t k.clock.drift_us edges k.clock.reader_rules k.table → tick ≤ now
         → now ≤ tick + 1800000000
-        → IsOnTrack t edges k.clock.drift_us last k.clock.reader_rules tick k.state.reader
+        → IsOnTrack t edges 1549 549 k.clock.drift_us last k.clock.reader_rules tick k.state.reader
         k.state.edge_us
-        → AreHeardTruly k.rules t edges (f_of k.clock.redundancy) now k.state.lines pulses
-        → IsOnTrack t edges k.clock.drift_us last k.clock.reader_rules now
+        → AreHeardTruly (IsTrueLately k.rules t edges now) k.rules (f_of k.clock.redundancy) now
+        k.state.lines pulses
+        → IsOnTrack t edges 1549 549 k.clock.drift_us last k.clock.reader_rules now
         (after_tick k (now % 2 ^ 32)).state.reader (after_tick k (now % 2 ^ 32)).state.edge_us }
 {}
 
@@ -149,7 +152,8 @@ pub fn enough_lines_vote()
         → (vote : KeptClaim) × (agreed f lines ≡ Some vote) }
     ensures come { (t : TimelineValue) (d : ℕ) (edges : ℕ → ℕ) (k : Keeping) (now : ℕ)
         (pulses : ℕ → List Pulse) (vote : KeptClaim) → IsSteady d edges
-        → (heard : AreHeardTruly k.rules t edges (f_of k.clock.redundancy) now k.state.lines pulses)
+        → (heard : AreHeardTruly (IsTrueLately k.rules t edges now) k.rules (f_of k.clock.redundancy) now
+        k.state.lines pulses)
         → ((i : ℕ) → i < 5 → heard.untrue i ≡ false
         → IfKept (HasJustCome now) k.rules (claim_kept (line_at k.state.lines i).frame)
         (pulses i))

@@ -1,23 +1,31 @@
 use Rattle.std.specs.Prelude.{nat_lt}
-use Rattle.std.proofs.Common.{◌≡◌, ◌+◌, ◌*◌, ◌≤◌, Some, None, arith, inl, inr}
+use Rattle.std.proofs.Common.{◌≡◌, ℕ, ◌+◌, ◌*◌, ◌≤◌, Some, None, arith, inl, inr}
 use Rattle.std.proofs.lemmas.Bool.{cases_Bool, ltb-false}
 use Rattle.std.proofs.Math.Nat.{mul-le-mul_left}
 use Rattle.irig_timekeeper.specs.declared.setup.ClockFault.TheVariants.{Drift, Holdover}
+use Rattle.irig_time.specs.declared.rules.Rules.{Rules}
+use Rattle.irig_time.specs.Timelines.{TimelineValue}
+use Rattle.irig_timekeeper.specs.Edges.{IsSteady}
+use Rattle.irig_timekeeper.specs.Lines.{IsTrueLately}
+use Rattle.irig_timekeeper.proofs.LineLaws.{true_lately}
 use Rattle.irig_timekeeper.proofs.TrackLaws.{tick_true}
-use Rattle.irig_timekeeper.proofs.LifeLaws.{device_true, device_calm, device_in_order}
+use Rattle.irig_timekeeper.proofs.LifeLaws.{TellAlwaysTruly, device_true, device_calm, device_in_order}
 use Rattle.irig_timekeeper.proofs.laws.a_device_tells_the_truth.Goals as goal
+
+truly : (rules : Rules) (t : TimelineValue) (d : ℕ) (edges : ℕ → ℕ) → IsSteady d edges → TellAlwaysTruly (IsTrueLately rules t edges) rules t edges 549 549
+truly rules t d edges steady now end pulses claim is frame soon = true_lately rules t d edges now end pulses claim steady is frame soon
 
 pub returns-clause-life : goal.returns-clause-life
 returns-clause-life _ t edges rules clock table lines start now calls beat u is fresh order truth answer says =
-    device_true t edges rules clock table lines start fresh is calls now beat u order truth answer says
+    device_true rules clock table lines start fresh (IsTrueLately rules t edges) t edges 549 549 is (omega arith) (truly rules t clock.drift_us edges is.steady) calls now beat u order truth answer says
 
 pub returns-clause-order : goal.returns-clause-order
 returns-clause-order _ t edges rules clock table lines start before now earlier later beat then u v is fresh order truth answer says answers again =
-    device_in_order t edges rules clock table lines start fresh is earlier later before now beat then u v order truth answer says answers again
+    device_in_order rules clock table lines start fresh (IsTrueLately rules t edges) t edges 549 549 is (omega arith) (truly rules t clock.drift_us edges is.steady) earlier later before now beat then u v order truth answer says answers again
 
 pub returns-clause-calm : goal.returns-clause-calm
 returns-clause-calm _ t edges rules clock table lines start now calls beat is fresh order truth answer =
-    device_calm t edges rules clock table lines start fresh is calls now beat order truth answer
+    device_calm rules clock table lines start fresh (IsTrueLately rules t edges) t edges 549 549 is (omega arith) (truly rules t clock.drift_us edges is.steady) calls now beat order truth answer
 
 pub returns-clause-setup : goal.returns-clause-setup
 returns-clause-setup _ rules d e = elim (cases_Bool (nat_lt 100 d)) [
@@ -34,4 +42,4 @@ returns-clause-half _ t d edges rules table far is few =
     omega (arith, most, is.short)
 
 pub returns-clause-tick : goal.returns-clause-tick
-returns-clause-tick _ t edges k last tick now pulses is order soon on heard = (tick_true t k.clock.drift_us edges k last tick now pulses is order soon on heard).track
+returns-clause-tick _ t edges k last tick now pulses is order soon on heard = (tick_true (IsTrueLately k.rules t edges now) t k.clock.drift_us edges 549 549 k last tick now pulses (omega arith) (truly k.rules t k.clock.drift_us edges is.steady now) is order soon on heard).track

@@ -1,3 +1,5 @@
+use Rattle.irig_timekeeper.specs.Lines.{IsTrueLately}
+use Rattle.irig_timekeeper.proofs.LineLaws.{true_lately}
 use Rattle.std.specs.Prelude.{count_by}
 use Rattle.std.proofs.lemmas.Bool.{lt-ltb}
 use Rattle.irig_timekeeper.specs.Steps.{agrees, all_kept}
@@ -10,4 +12,4 @@ pub returns-clause-agree : goal.returns-clause-agree
 returns-clause-agree _ f lines i first low keeps more = one_is_agreed f lines i first low keeps (lt-ltb f (count_by (agrees first) (all_kept lines)) more)
 
 pub returns-clause-come : goal.returns-clause-come
-returns-clause-come _ t d edges k now pulses vote steady heard ready e = vote_comes k.rules t d edges steady (f_of k.clock.redundancy) now k.state.lines pulses heard ready vote e
+returns-clause-come _ t d edges k now pulses vote steady heard ready e = vote_comes (IsTrueLately k.rules t edges now) k.rules t edges 549 549 (f_of k.clock.redundancy) now k.state.lines pulses (λ end ps claim is frame soon. true_lately k.rules t d edges now end ps claim steady is frame soon) heard ready vote e
