@@ -29,7 +29,7 @@ use Rattle.irig_reader.specs.Rule.{announce_step, count_step, first_vote_step, l
 use Rattle.irig_reader.specs.Held.{then_none, AreMarkedLate, IsSince}
 
 -- a fact of the hold of a state, if it has one
-abbrev IfHold : State → (HoldValue → Type 0) → Type 0
+abbrev pub IfHold : State → (HoldValue → Type 0) → Type 0
 IfHold Idle P = Unit {0}
 IfHold (Acquiring h count) P = P h
 IfHold (Locked h) P = P h
@@ -72,7 +72,7 @@ voted_has P rules table (Locked h) c first later = locked_has P _ cause.Voted (v
 
 -- ---- marks
 
-late_step : (rules : ReaderRules) (table : TableValue) (state : State) (vote : Option Claim) → IfHold state HasHeardLate → IfSome vote IsMarkedLate → IfHold (step_of rules table state vote).state HasHeardLate
+pub late_step : (rules : ReaderRules) (table : TableValue) (state : State) (vote : Option Claim) → IfHold state HasHeardLate → IfSome vote IsMarkedLate → IfHold (step_of rules table state vote).state HasHeardLate
 unfolding step_of
 late_step rules table Idle None late marked = tt
 late_step rules table (Acquiring h count) None late marked = tt
@@ -99,7 +99,7 @@ locked_of P Idle p = tt
 locked_of P (Acquiring h count) p = tt
 locked_of P (Locked h) p = p
 
-by_vote : (t : TimelineValue) (n : ℕ) (rules : ReaderRules) (table : TableValue) (state : State) (c : Claim) → IsTimeline t → IfHold state HasHeardLate → IsTrueClaim t (n + 1) c
+pub by_vote : (t : TimelineValue) (n : ℕ) (rules : ReaderRules) (table : TableValue) (state : State) (c : Claim) → IsTimeline t → IfHold state HasHeardLate → IsTrueClaim t (n + 1) c
     → IfHold (step_of rules table state (Some c)).state (IsOnTime t (n + 1))
 by_vote t n rules table state c sound late claim = voted_has (IsOnTime t (n + 1)) rules table state c (λ h e. started_true t table n c h sound claim e) (later state late)
   where

@@ -77,17 +77,17 @@ idle_run heard s pulses true run = record { late = run.late; count = run.count; 
 -- ---- one line
 
 -- the end lies at most 10 ms behind the last call, and half a second before the last tick
-abbrev IsEndAt : ℕ → ℕ → ℕ → Type 0
+abbrev pub IsEndAt : ℕ → ℕ → ℕ → Type 0
 IsEndAt tick now end = (end ≤ now + 10000) × (tick ≤ end + 500000)
 
 -- a line heard these pulses, and its synchroniser was told last of a time since the last tick, but
 -- for half a second
-record IsLineAt (rules : Rules) (heard : List Symbol) (line : Line) (pulses : List Pulse) (tick now : ℕ) : Type 0 where
-  told : ℕ
-  hearing : IsHearing heard line.sync pulses told
-  kept : IfKept (IsEndAt tick now) rules (claim_kept line.frame) pulses
-  past : told ≤ now
-  near : tick ≤ told + 500000
+pub record IsLineAt (rules : Rules) (heard : List Symbol) (line : Line) (pulses : List Pulse) (tick now : ℕ) : Type 0 where
+  pub told : ℕ
+  pub hearing : IsHearing heard line.sync pulses told
+  pub kept : IfKept (IsEndAt tick now) rules (claim_kept line.frame) pulses
+  pub past : told ≤ now
+  pub near : tick ≤ told + 500000
 
 module _ (rules : Rules) where
   line_hears : (heard : List Symbol) (line : Line) (pulses : List Pulse) (tick now time rise width : ℕ) → IsLineAt rules heard line pulses tick now → tick ≤ now
@@ -236,16 +236,16 @@ ticked k clock = of (vote_at k clock)
 
 -- ---- what lines keep, after calls in order
 
-record IsSameSetup (old new : Keeping) : Type 0 where
-  rules : new.rules ≡ old.rules
-  clock : new.clock ≡ old.clock
-  table : new.table ≡ old.table
+pub record IsSameSetup (old new : Keeping) : Type 0 where
+  pub rules : new.rules ≡ old.rules
+  pub clock : new.clock ≡ old.clock
+  pub table : new.table ≡ old.table
 
 -- after calls, of which the last tick and the last call were of these times
 pub record AreLinesAt (new k : Keeping) (pulses : ℕ → List Pulse) (tick now : ℕ) : Type 0 where
-  same : IsSameSetup new k
-  lines : (i : ℕ) → i < 5 → IsLineAt k.rules (heard_by k.heard i) (line_at k.state.lines i) (pulses i) tick now
-  order : tick ≤ now
+  pub same : IsSameSetup new k
+  pub lines : (i : ℕ) → i < 5 → IsLineAt k.rules (heard_by k.heard i) (line_at k.state.lines i) (pulses i) tick now
+  pub order : tick ≤ now
 
 and_false : (a b : Bool) → b ≡ false → (a && b) ≡ false
 and_false true b e = e
@@ -372,7 +372,7 @@ module _ (IsTrue : ℕ → List Pulse → Type 0) (t : TimelineValue) (edges : �
               (still_in_turn k.rules (claim_kept (line_at k.state.lines i).frame) (pulses_on i calls) (last_tick start calls) (last_call start calls) time order.0 order.1 (l.lines i low).kept);
         }
 
-    abbrev IsTrack : ℕ → ℕ → Keeping → Type 0
+    abbrev pub IsTrack : ℕ → ℕ → Keeping → Type 0
     IsTrack M tick k = IsOnTrack t edges (early + 1000) late new.clock.drift_us M new.clock.reader_rules tick k.state.reader k.state.edge_us
 
     module _ (is : IsDevice t new.clock.drift_us edges new.clock.reader_rules new.table) (room : early + late ≤ 4098) (truly : TellAlwaysTruly IsTrue new.rules t edges early late) where

@@ -45,7 +45,7 @@ still now (Some x) y e = by (is_late x.end_us now) refl e
     by true late e = absurd cc
     by false in_time e = (e, subst (λ (end : ℕ). is_late end now ≡ false) (end_of_claim x.told x.end_us y e) in_time)
 
-come : (now : ℕ) (o : Option KeptClaim) (y : KeptClaim) → if_come now o ≡ Some y → (o ≡ Some y) × (has_come y.end_us now ≡ true)
+pub come : (now : ℕ) (o : Option KeptClaim) (y : KeptClaim) → if_come now o ≡ Some y → (o ≡ Some y) × (has_come y.end_us now ≡ true)
 come now None y e = absurd cc
 come now (Some x) y e = by (has_come x.end_us now) refl e
   where
@@ -120,9 +120,9 @@ split false b e = absurd cc
 InRange : KeptClaim → Type 0
 InRange y = y.end_us < 2 ^ 32
 
-one_more : (o : Option KeptClaim) (xs : List (Option KeptClaim)) → ((y : KeptClaim) → o ≡ Some y → InRange y) → EachKept InRange xs → EachKept InRange (o ∷ xs)
-one_more None xs such each = each
-one_more (Some y) xs such each = (such y refl, each)
+pub one_more : (Such : KeptClaim → Type 0) (o : Option KeptClaim) (xs : List (Option KeptClaim)) → ((y : KeptClaim) → o ≡ Some y → Such y) → EachKept Such xs → EachKept Such (o ∷ xs)
+one_more Such None xs such each = each
+one_more Such (Some y) xs such each = (such y refl, each)
 
 last_late : (end : ℕ) (ps : List Pulse) → IsLastBefore end ps → 10000 ≤ end
 last_late end [] last = absurd last
@@ -157,11 +157,11 @@ module _ (IsTrue : List Pulse → Type 0) (rules : Rules) (t : TimelineValue) (e
 
   each : EachKept InRange (all_kept (settled clock lines))
   each =
-      one_more _ _ (in_range 0 (omega arith))
-      (one_more _ _ (in_range 1 (omega arith))
-      (one_more _ _ (in_range 2 (omega arith))
-      (one_more _ _ (in_range 3 (omega arith))
-      (one_more _ _ (in_range 4 (omega arith)) tt))))
+      one_more InRange _ _ (in_range 0 (omega arith))
+      (one_more InRange _ _ (in_range 1 (omega arith))
+      (one_more InRange _ _ (in_range 2 (omega arith))
+      (one_more InRange _ _ (in_range 3 (omega arith))
+      (one_more InRange _ _ (in_range 4 (omega arith)) tt))))
 
   -- the true line that agrees
   by_line : (x y : KeptClaim) (ps : List Pulse) → IsTrue ps → IfKept (IsInTurnOf now) rules (Some y) ps → is_late y.end_us clock ≡ false → agrees x (Some y) ≡ true → has_come x.end_us clock ≡ true → InRange x

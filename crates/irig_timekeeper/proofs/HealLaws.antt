@@ -1,0 +1,180 @@
+-- A true vote that counts an edge brings a device back to the truth, from wherever its lines led it.
+use Rattle.std.specs.Prelude.{◌==◌, IfSome}
+use Rattle.std.proofs.Common.{◌≡◌, ◌∙◌, ℕ, zero, suc, ◌+◌, ◌-◌, ◌*◌, ◌%◌, ◌^◌, ◌<◌, ◌≤◌, Bool, true, false, cond, List, [], ◌∷◌, ◌++◌, Option, Some, None, refl, sym, ap, subst, arith, inl, inr}
+use Rattle.std.proofs.lemmas.Bool.{cases_Bool, eqb-true, eqb-false}
+use Rattle.irig_sync.specs.Lines.{Pulse}
+use Rattle.irig_time.specs.declared.claim.Claim.{Claim}
+use Rattle.irig_time.specs.declared.second.UtcSecond.{UtcSecond}
+use Rattle.irig_time.specs.declared.rules.Rules.{Rules}
+use Rattle.irig_time.specs.Claims.{IsMarkedLate}
+use Rattle.irig_time.specs.Tables.{TableValue}
+use Rattle.irig_time.specs.Timelines.{TimelineValue}
+use Rattle.irig_time.proofs.ClaimedSeconds.{claim_marked}
+use Rattle.irig_hold.specs.Truth.{IsOnTime, HasHeardLate}
+use Rattle.irig_vote.specs.Vote.{f_of}
+use Rattle.irig_reader.specs.declared.rules.ReaderRules.{ReaderRules}
+use Rattle.irig_reader.specs.declared.rule.State.{State}
+use Rattle.irig_reader.specs.declared.rule.State.TheVariants.{Idle, Acquiring, Locked}
+use Rattle.irig_reader.specs.Rule.{step_of}
+use Rattle.irig_reader.specs.Standing.{StandsAtTruth}
+use Rattle.irig_reader.proofs.HeldEdges.{IfHold, late_step, by_vote}
+use Rattle.irig_timekeeper.specs.declared.lines.KeptFrame.{KeptFrame}
+use Rattle.irig_timekeeper.specs.declared.lines.KeptClaim.{KeptClaim}
+use Rattle.irig_timekeeper.specs.declared.lines.Lines.{Lines}
+use Rattle.irig_timekeeper.specs.declared.clock.Beat.{Beat}
+use Rattle.irig_timekeeper.specs.declared.clock.ClockRules.{ClockRules}
+use Rattle.irig_timekeeper.specs.declared.clock.ClockState.{ClockState}
+use Rattle.irig_timekeeper.specs.Lines.{IfKept, IsInTurnOf}
+use Rattle.irig_timekeeper.specs.Counting.{edges_to_vote, edges_own}
+use Rattle.irig_timekeeper.specs.Rule.{missed}
+use Rattle.irig_timekeeper.specs.Steps.{is_pulse, line_at, claim_kept, all_kept, still_kept, settled, agreed, if_come}
+use Rattle.irig_timekeeper.specs.Clock.{after_vote, answer_to_vote, after_own, clock_by, answer_by, settled_at}
+use Rattle.irig_timekeeper.specs.Keeping.{Keeping, vote_at, after_pulse, after_tick, answer_at}
+use Rattle.irig_timekeeper.specs.Truth.{AreHeardTruly, IsTrueVote, IsOnTrack, IsToldInHoldover, IsDevice}
+use Rattle.irig_timekeeper.specs.Life.{Call, after_calls, pulses_on, last_call, last_tick, AreInOrder, AreTrueLately, AreTrueOver}
+use Rattle.irig_timekeeper.specs.Life.Call.{Hear, Tick}
+use Rattle.irig_timekeeper.proofs.AgreeLaws.{EachKept, is_one}
+use Rattle.irig_timekeeper.proofs.VoteLaws.{TellsTruly, still, come, one_more, vote_is_true}
+use Rattle.irig_timekeeper.proofs.LifeLaws.{IsSameSetup, AreLinesAt, IsEndAt, lines_after, TellAlwaysTruly, heard_truly, IsTrack, tick_in, track_on, order_before}
+
+-- ---- what lines keep speaks of a leap in a month's last minute alone
+
+IsMarked : KeptClaim → Type 0
+IsMarked y = IsMarkedLate y.claim
+
+kept_marked : (EndsSo : ℕ → Type 0) (rules : Rules) (kept : Option KeptClaim) (pulses : List Pulse) (y : KeptClaim) → IfKept EndsSo rules kept pulses → kept ≡ Some y → IsMarked y
+unfolding IsMarked
+kept_marked EndsSo rules None pulses y h e = absurd cc
+kept_marked EndsSo rules (Some x) pulses y h e =
+    let same : x ≡ y = cc in
+    subst (λ (v : KeptClaim). IsMarkedLate v.claim) same (claim_marked _ _ _ x.claim h.2.carries.claims)
+
+module _ (EndsSo : ℕ → Type 0) (rules : Rules) (lines : Lines) (pulses : ℕ → List Pulse) (kept : (i : ℕ) → i < 5 → IfKept EndsSo rules (claim_kept (line_at lines i).frame) (pulses i)) where
+  marked_at : (clock i : ℕ) → i < 5 → (y : KeptClaim) → claim_kept (still_kept clock (line_at lines i).frame) ≡ Some y → IsMarked y
+  marked_at clock i low y e = kept_marked EndsSo rules (claim_kept (line_at lines i).frame) (pulses i) y (kept i low) (still clock (line_at lines i).frame y e).0
+
+  each_marked : (clock : ℕ) → EachKept IsMarked (all_kept (settled clock lines))
+  each_marked clock =
+      one_more IsMarked _ _ (marked_at clock 0 (omega arith))
+      (one_more IsMarked _ _ (marked_at clock 1 (omega arith))
+      (one_more IsMarked _ _ (marked_at clock 2 (omega arith))
+      (one_more IsMarked _ _ (marked_at clock 3 (omega arith))
+      (one_more IsMarked _ _ (marked_at clock 4 (omega arith)) tt))))
+
+  vote_marked : (f clock : ℕ) (v : KeptClaim) → if_come clock (agreed f (settled clock lines)) ≡ Some v → IsMarkedLate v.claim
+  unfolding IsMarked
+  vote_marked f clock v e =
+      let all = all_kept (settled clock lines) in
+      (is_one IsMarked f all all v (each_marked clock) (come clock (agreed f (settled clock lines)) v e).0).1
+
+-- ---- and so a reader heard of one there
+
+module _ (rules : ReaderRules) (table : TableValue) where
+  late_missed : (n : ℕ) (s : State) → IfHold s HasHeardLate → IfHold (missed rules table n s) HasHeardLate
+  late_missed zero s late = late
+  late_missed (suc n) s late = late_step rules table (missed rules table n s) None (late_missed n s late) tt
+
+either_late : (b : Bool) (x y : ClockState) → IfHold x.reader HasHeardLate → IfHold y.reader HasHeardLate → IfHold (cond b x y).reader HasHeardLate
+either_late true x y p q = p
+either_late false x y p q = q
+
+module _ (c : ClockRules) (table : TableValue) (s : ClockState) (late : IfHold s.reader HasHeardLate) where
+  late_own : (n : ℕ) → IfHold (after_own c table s n).reader HasHeardLate
+  late_own n = either_late (n == 0) s _ late (late_step c.reader_rules table (missed c.reader_rules table (n - 1) s.reader) None (late_missed c.reader_rules table (n - 1) s.reader late) tt)
+
+  late_voted : (v : KeptClaim) (n : ℕ) → IsMarkedLate v.claim → IfHold (after_vote c table s v n).reader HasHeardLate
+  late_voted v n marked = either_late (n == 0) _ _ late (late_step c.reader_rules table (missed c.reader_rules table (n - 1) s.reader) (Some v.claim) (late_missed c.reader_rules table (n - 1) s.reader late) marked)
+
+late_ticked : (k : Keeping) (clock : ℕ) → IfHold k.state.reader HasHeardLate → ((v : KeptClaim) → vote_at k clock ≡ Some v → IsMarkedLate v.claim) → IfHold (after_tick k clock).state.reader HasHeardLate
+late_ticked k clock late marked = of (vote_at k clock) refl
+  where
+    of : (v : Option KeptClaim) → vote_at k clock ≡ v → IfHold (clock_by k.clock k.table (settled_at k.state clock) clock v).reader HasHeardLate
+    of None e = late_own k.clock k.table (settled_at k.state clock) late (edges_own k.state.edge_us clock)
+    of (Some v) e = late_voted k.clock k.table (settled_at k.state clock) late v (edges_to_vote k.state.edge_us v.end_us) (marked v e)
+
+module _ (new : Keeping) (start : ℕ) (begins : AreLinesAt new new (λ i. []) start start) where
+  pub late_life : IfHold new.state.reader HasHeardLate → (calls : List Call) → AreInOrder start new.clock.redundancy calls → IfHold (after_calls new calls).state.reader HasHeardLate
+  late_life late [] order = late
+  late_life late (Hear port time rise width ∷ calls) order =
+      let before = late_life late calls order.4 in
+      elim (cases_Bool (is_pulse width)) [ inl narrow ↦ rw narrow before | inr wide ↦ rw wide before ]
+  late_life late (Tick now ∷ calls) order =
+      let l = lines_after new start begins calls order.2 in
+      let k = after_calls new calls in
+      late_ticked k (now % 2 ^ 32) (late_life late calls order.2)
+      (λ v e. vote_marked (IsEndAt (last_tick start calls) (last_call start calls)) k.rules k.state.lines (λ i. pulses_on i calls) (λ i low. (l.lines i low).kept) (f_of k.clock.redundancy) (now % 2 ^ 32) v e)
+
+-- ---- a true vote that counts an edge
+
+on_time_stands : (t : TimelineValue) (n : ℕ) (s : State) → IfHold s (IsOnTime t n) → StandsAtTruth t n s
+on_time_stands t n Idle h = tt
+on_time_stands t n (Acquiring h count) on_time = on_time
+on_time_stands t n (Locked h) on_time = on_time
+
+module _ (t : TimelineValue) (edges : ℕ → ℕ) (early late : ℕ) (c : ClockRules) (table : TableValue) (s : ClockState) (is : IsDevice t c.drift_us edges c.reader_rules table) (heard : IfHold s.reader HasHeardLate) (now : ℕ) (v : KeptClaim) (vote : IsTrueVote t edges early late now v) where
+  heals_by : (n : ℕ) (b : Beat) → answer_to_vote c table s v n ≡ Some b → IsOnTrack t edges early late c.drift_us 0 c.reader_rules now (after_vote c table s v n).reader (after_vote c table s v n).edge_us
+  heals_by n b e = elim (cases_Bool (n == 0)) [
+    | inl none ↦ let both : None ≡ Some b = rw none at e in absurd cc
+    | inr some ↦
+        let before = late_missed c.reader_rules table (n - 1) s.reader heard in
+        let then = by_vote t vote.truth.second c.reader_rules table (missed c.reader_rules table (n - 1) s.reader) v.claim is.sound before vote.truth.truth in
+        rw some (inr (
+          vote.truth.second + 1,
+          0,
+          record {
+            edge = vote.end;
+            at = record { clock = vote.clock; come = vote.come; soon = omega (arith, vote.soon) };
+            near = record { least = omega (arith, vote.truth.near.least); most = omega (arith, vote.truth.near.most) };
+            truth = on_time_stands t (vote.truth.second + 1) _ then;
+            young = omega arith;
+            few = omega arith;
+            behind = omega arith;
+          },
+        ))
+  ]
+
+-- a tick at which it comes, by the setup that the device was made with
+module _ (t : TimelineValue) (edges : ℕ → ℕ) (early late : ℕ) (k : Keeping) (now : ℕ) (v : KeptClaim) (b : Beat) where
+  abbrev Heals : ClockRules → TableValue → Type 0
+  Heals c table = IsDevice t c.drift_us edges c.reader_rules table → IsOnTrack t edges early late c.drift_us 0 c.reader_rules now (after_tick k (now % 2 ^ 32)).state.reader (after_tick k (now % 2 ^ 32)).state.edge_us
+
+  heals_here : IfHold k.state.reader HasHeardLate → IsTrueVote t edges early late now v → vote_at k (now % 2 ^ 32) ≡ Some v → answer_at k (now % 2 ^ 32) ≡ Some b → Heals k.clock k.table
+  heals_here heard vote voted answer is = of (vote_at k (now % 2 ^ 32)) voted answer
+    where
+      s : ClockState
+      s = settled_at k.state (now % 2 ^ 32)
+
+      of : (o : Option KeptClaim) → o ≡ Some v → answer_by k.clock k.table s (now % 2 ^ 32) o ≡ Some b
+          → IsOnTrack t edges early late k.clock.drift_us 0 k.clock.reader_rules now (clock_by k.clock k.table s (now % 2 ^ 32) o).reader (clock_by k.clock k.table s (now % 2 ^ 32) o).edge_us
+      of None e answer = absurd cc
+      of (Some x) e answer =
+          let same : v ≡ x = cc in
+          heals_by t edges early late k.clock k.table s is heard now x (subst (λ (y : KeptClaim). IsTrueVote t edges early late now y) same vote) (edges_to_vote s.edge_us x.end_us) b answer
+
+  heals : (new : Keeping) → IsSameSetup new k → IfHold k.state.reader HasHeardLate → IsTrueVote t edges early late now v → vote_at k (now % 2 ^ 32) ≡ Some v → answer_at k (now % 2 ^ 32) ≡ Some b → Heals new.clock new.table
+  heals new same heard vote voted answer =
+      subst (λ (c : ClockRules). Heals c new.table) same.clock
+      (subst (λ (x : TableValue). Heals k.clock x) same.table (heals_here heard vote voted answer))
+
+module _ (IsTrue : ℕ → List Pulse → Type 0) (t : TimelineValue) (edges : ℕ → ℕ) (early late : ℕ) (new : Keeping) (start : ℕ) (begins : AreLinesAt new new (λ i. []) start start) (heard : IfHold new.state.reader HasHeardLate)
+    (is : IsDevice t new.clock.drift_us edges new.clock.reader_rules new.table) (room : early + late ≤ 4098) (truly : TellAlwaysTruly IsTrue new.rules t edges early late) where
+  mended : (earlier : List Call) (mend : ℕ) (v : KeptClaim) (b : Beat) → AreInOrder start new.clock.redundancy (Tick mend ∷ earlier) → AreTrueLately IsTrue (f_of new.clock.redundancy) mend earlier
+      → vote_at (after_calls new earlier) (mend % 2 ^ 32) ≡ Some v → answer_at (after_calls new earlier) (mend % 2 ^ 32) ≡ Some b
+      → IsTrack IsTrue t edges early late new start begins 0 mend (after_calls new (Tick mend ∷ earlier))
+  mended earlier mend v b order lately voted answer =
+      let l = lines_after new start begins earlier order.2 in
+      let k : Keeping = after_calls new earlier in
+      let h = heard_truly IsTrue t edges early late new start begins earlier mend order lately in
+      let vote = vote_is_true (IsTrue mend) new.rules t edges early late (f_of new.clock.redundancy) mend k.state.lines (λ i. pulses_on i earlier) (truly mend) h v (ap (λ (c : ClockRules). if_come (mend % 2 ^ 32) (agreed (f_of c.redundancy) (settled (mend % 2 ^ 32) k.state.lines))) (sym l.same.clock) ∙ voted) in
+      heals t edges (early + 1000) late k mend v b new l.same (late_life new start begins heard earlier order.2) vote voted answer is
+
+  pub healed : (earlier later : List Call) (mend now : ℕ) (v : KeptClaim) (b then : Beat) (u : UtcSecond) → AreInOrder start new.clock.redundancy (Tick now ∷ (later ++ (Tick mend ∷ earlier)))
+      → AreTrueLately IsTrue (f_of new.clock.redundancy) mend earlier → AreTrueOver IsTrue (f_of new.clock.redundancy) (Tick now ∷ later) (Tick mend ∷ earlier)
+      → vote_at (after_calls new earlier) (mend % 2 ^ 32) ≡ Some v → answer_at (after_calls new earlier) (mend % 2 ^ 32) ≡ Some b
+      → answer_at (after_calls new (later ++ (Tick mend ∷ earlier))) (now % 2 ^ 32) ≡ Some then → then.report.announce ≡ Some u
+      → IsToldInHoldover t edges (early + 1000) late new.clock.drift_us new.clock.reader_rules.holdover now then u
+  healed earlier later mend now v b then u order lately truth voted answer answers says =
+      let ordered = order_before start new.clock.redundancy later (Tick mend ∷ earlier) order.2 in
+      let base = mended earlier mend v b ordered lately voted answer in
+      let track = track_on IsTrue t edges early late new start begins is room truly 0 (Tick mend ∷ earlier) base later order.2 truth.1 in
+      ((tick_in IsTrue t edges early late new start begins is room truly 0 (later ++ (Tick mend ∷ earlier)) now order truth.0 track).told then u answers says).told
