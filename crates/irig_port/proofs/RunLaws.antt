@@ -15,11 +15,10 @@ use Rattle.irig_port.specs.Hearing.{heard_at, heard_of_last, IsRun, IsHearing, I
 use Rattle.irig_port.proofs.CarriesLaws.{carries_is_told}
 
 -- a place is 0, or 1, or one more than the place before, of a pulse on time
-Places : Bool → ℕ → ℕ → Type 0
+abbrev pub Places : Bool → ℕ → ℕ → Type 0
 Places on place new = (new ≡ 0) ⊎ ((new ≡ 1) ⊎ ((on ≡ true) × (new ≡ suc place) × (1 ≤ place) × (place < 100)))
 
 behind : (place : ℕ) → Places true place (place_behind place)
-unfolding Places
 behind place = by_first (nat_lt place 1) refl
   where
     by_last : (b : Bool) → Places true place (cond b 0 1)
@@ -34,8 +33,7 @@ behind place = by_first (nat_lt place 1) refl
     by_first true e = inl refl
     by_first false e = by_next (let some = ltb-false place 1 e in omega (arith, some)) (nat_lt place 100) refl
 
-places : (on marker was : Bool) (place : ℕ) → Places on place (place_at on marker was place)
-unfolding Places
+pub places : (on marker was : Bool) (place : ℕ) → Places on place (place_at on marker was place)
 places on true true place = inr (inl refl)
 places true true false place = behind place
 places false true false place = inr (inl refl)
@@ -88,7 +86,6 @@ counted heard place new p q ps r on e some few = elim (r.step) [
 
 -- by what the place is: of an out-of-step line, and of one on which a pulse came before
 by_out : (heard : List Symbol) (place new : ℕ) (on : Bool) (p : Pulse) (pulses : List Pulse) → IsRun heard place pulses → new ≡ place_after (p ∷ pulses) → place ≡ 0 → Places on place new → IsRun (heard_at new heard p.width) new (p ∷ pulses)
-unfolding Places
 by_out heard place new on p pulses r is out c = elim c [
   | inl e ↦ out_of_step heard place new p pulses r is e
   | inr more ↦ elim more [
@@ -98,7 +95,6 @@ by_out heard place new on p pulses r is out c = elim c [
 ]
 
 by_place : (heard : List Symbol) (place new : ℕ) (p q : Pulse) (ps : List Pulse) → IsRun heard place (q ∷ ps) → new ≡ place_after (p ∷ (q ∷ ps)) → Places (is_on_time (p.rise - q.rise)) place new → IsRun (heard_at new heard p.width) new (p ∷ (q ∷ ps))
-unfolding Places
 by_place heard place new p q ps r is c = elim c [
   | inl e ↦ out_of_step heard place new p (q ∷ ps) r is e
   | inr more ↦ elim more [
@@ -159,7 +155,6 @@ last-most (suc n) (p ∷ ps) = let more = length-append (symbols_of_last n ps) (
 -- by what the place is
 place_held : (n new place : ℕ) (on : Bool) (p : Pulse) (ps : List Pulse) → Places on place new → 1 ≤ new → new ≤ suc n → (1 ≤ place → place ≤ n → heard_of_last n ps ≡ symbols_of_last place ps)
     → heard_at new (heard_of_last n ps) p.width ≡ symbols_of_last new (p ∷ ps)
-unfolding Places
 place_held n new place on p ps c some few before = elim c [
   | inl e ↦ absurd (omega (arith, e, some))
   | inr more ↦ elim more [

@@ -1,9 +1,8 @@
 -- A true vote that counts an edge brings a device back to the truth, from wherever its lines led it.
-use Rattle.std.specs.Prelude.{◌==◌, IfSome}
-use Rattle.std.proofs.Common.{◌≡◌, ◌∙◌, ℕ, zero, suc, ◌+◌, ◌-◌, ◌*◌, ◌%◌, ◌^◌, ◌<◌, ◌≤◌, Bool, true, false, cond, List, [], ◌∷◌, ◌++◌, Option, Some, None, refl, sym, ap, subst, arith, inl, inr}
-use Rattle.std.proofs.lemmas.Bool.{cases_Bool, eqb-true, eqb-false}
+use Rattle.std.specs.Prelude.{◌==◌}
+use Rattle.std.proofs.Common.{◌≡◌, ◌∙◌, ℕ, zero, suc, ◌+◌, ◌-◌, ◌%◌, ◌^◌, ◌<◌, ◌≤◌, Bool, true, false, cond, List, [], ◌∷◌, ◌++◌, Option, Some, None, refl, sym, ap, subst, arith, inl, inr}
+use Rattle.std.proofs.lemmas.Bool.{cases_Bool}
 use Rattle.irig_sync.specs.Lines.{Pulse}
-use Rattle.irig_time.specs.declared.claim.Claim.{Claim}
 use Rattle.irig_time.specs.declared.second.UtcSecond.{UtcSecond}
 use Rattle.irig_time.specs.declared.rules.Rules.{Rules}
 use Rattle.irig_time.specs.Claims.{IsMarkedLate}
@@ -15,26 +14,24 @@ use Rattle.irig_vote.specs.Vote.{f_of}
 use Rattle.irig_reader.specs.declared.rules.ReaderRules.{ReaderRules}
 use Rattle.irig_reader.specs.declared.rule.State.{State}
 use Rattle.irig_reader.specs.declared.rule.State.TheVariants.{Idle, Acquiring, Locked}
-use Rattle.irig_reader.specs.Rule.{step_of}
 use Rattle.irig_reader.specs.Standing.{StandsAtTruth}
 use Rattle.irig_reader.proofs.HeldEdges.{IfHold, late_step, by_vote}
-use Rattle.irig_timekeeper.specs.declared.lines.KeptFrame.{KeptFrame}
 use Rattle.irig_timekeeper.specs.declared.lines.KeptClaim.{KeptClaim}
 use Rattle.irig_timekeeper.specs.declared.lines.Lines.{Lines}
 use Rattle.irig_timekeeper.specs.declared.clock.Beat.{Beat}
 use Rattle.irig_timekeeper.specs.declared.clock.ClockRules.{ClockRules}
 use Rattle.irig_timekeeper.specs.declared.clock.ClockState.{ClockState}
-use Rattle.irig_timekeeper.specs.Lines.{IfKept, IsInTurnOf}
+use Rattle.irig_timekeeper.specs.Lines.{IfKept}
 use Rattle.irig_timekeeper.specs.Counting.{edges_to_vote, edges_own}
 use Rattle.irig_timekeeper.specs.Rule.{missed}
 use Rattle.irig_timekeeper.specs.Steps.{is_pulse, line_at, claim_kept, all_kept, still_kept, settled, agreed, if_come}
 use Rattle.irig_timekeeper.specs.Clock.{after_vote, answer_to_vote, after_own, clock_by, answer_by, settled_at}
-use Rattle.irig_timekeeper.specs.Keeping.{Keeping, vote_at, after_pulse, after_tick, answer_at}
-use Rattle.irig_timekeeper.specs.Truth.{AreHeardTruly, IsTrueVote, IsOnTrack, IsToldInHoldover, IsDevice}
+use Rattle.irig_timekeeper.specs.Keeping.{Keeping, vote_at, after_tick, answer_at}
+use Rattle.irig_timekeeper.specs.Truth.{IsTrueVote, IsOnTrack, IsToldInHoldover, IsDevice}
 use Rattle.irig_timekeeper.specs.Life.{Call, after_calls, pulses_on, last_call, last_tick, AreInOrder, AreTrueLately, AreTrueOver}
 use Rattle.irig_timekeeper.specs.Life.Call.{Hear, Tick}
 use Rattle.irig_timekeeper.proofs.AgreeLaws.{EachKept, is_one}
-use Rattle.irig_timekeeper.proofs.VoteLaws.{TellsTruly, still, come, one_more, vote_is_true}
+use Rattle.irig_timekeeper.proofs.VoteLaws.{still, come, one_more, vote_is_true}
 use Rattle.irig_timekeeper.proofs.LifeLaws.{IsSameSetup, AreLinesAt, IsEndAt, lines_after, TellAlwaysTruly, heard_truly, IsTrack, tick_in, track_on, order_before}
 
 -- ---- what lines keep speaks of a leap in a month's last minute alone
@@ -49,9 +46,9 @@ kept_marked EndsSo rules (Some x) pulses y h e =
     let same : x ≡ y = cc in
     subst (λ (v : KeptClaim). IsMarkedLate v.claim) same (claim_marked _ _ _ x.claim h.2.carries.claims)
 
-module _ (EndsSo : ℕ → Type 0) (rules : Rules) (lines : Lines) (pulses : ℕ → List Pulse) (kept : (i : ℕ) → i < 5 → IfKept EndsSo rules (claim_kept (line_at lines i).frame) (pulses i)) where
+module _ (EndsSo : List Pulse → ℕ → Type 0) (rules : Rules) (lines : Lines) (pulses : ℕ → List Pulse) (kept : (i : ℕ) → i < 5 → IfKept (EndsSo (pulses i)) rules (claim_kept (line_at lines i).frame) (pulses i)) where
   marked_at : (clock i : ℕ) → i < 5 → (y : KeptClaim) → claim_kept (still_kept clock (line_at lines i).frame) ≡ Some y → IsMarked y
-  marked_at clock i low y e = kept_marked EndsSo rules (claim_kept (line_at lines i).frame) (pulses i) y (kept i low) (still clock (line_at lines i).frame y e).0
+  marked_at clock i low y e = kept_marked (EndsSo (pulses i)) rules (claim_kept (line_at lines i).frame) (pulses i) y (kept i low) (still clock (line_at lines i).frame y e).0
 
   each_marked : (clock : ℕ) → EachKept IsMarked (all_kept (settled clock lines))
   each_marked clock =
@@ -102,7 +99,7 @@ module _ (new : Keeping) (start : ℕ) (begins : AreLinesAt new new (λ i. []) s
       let l = lines_after new start begins calls order.2 in
       let k = after_calls new calls in
       late_ticked k (now % 2 ^ 32) (late_life late calls order.2)
-      (λ v e. vote_marked (IsEndAt (last_tick start calls) (last_call start calls)) k.rules k.state.lines (λ i. pulses_on i calls) (λ i low. (l.lines i low).kept) (f_of k.clock.redundancy) (now % 2 ^ 32) v e)
+      (λ v e. vote_marked (λ ps. IsEndAt ps (last_tick start calls) (last_call start calls)) k.rules k.state.lines (λ i. pulses_on i calls) (λ i low. (l.lines i low).kept) (f_of k.clock.redundancy) (now % 2 ^ 32) v e)
 
 -- ---- a true vote that counts an edge
 

@@ -1,17 +1,18 @@
 -- The life of a device.
 use Rattle.std.specs.Prelude.{◌==◌, ◌&&◌}
-use Rattle.std.proofs.Common.{◌≡◌, ◌∙◌, ◌⊎◌, ℕ, zero, suc, ◌+◌, ◌-◌, ◌%◌, ◌^◌, ◌<◌, ◌≤◌, Bool, true, false, cond, List, [], ◌∷◌, ◌++◌, Option, Some, None, refl, sym, ap, subst, arith, inl, inr, append-nil}
+use Rattle.std.proofs.Common.{◌≡◌, ◌∙◌, ◌⊎◌, ℕ, zero, suc, ◌+◌, ◌-◌, ◌%◌, ◌^◌, ◌<◌, ◌≤◌, Bool, true, false, cond, List, [], ◌∷◌, ◌++◌, length, Option, Some, None, refl, sym, ap, subst, arith, inl, inr, append-nil}
 use Rattle.std.proofs.lemmas.Bool.{cases_Bool, cases_lt, eqb-true, eqb-false, ne_eqb}
 use Rattle.irig_frame.specs.declared.symbol.Symbol.{Symbol}
 use Rattle.irig_sync.specs.declared.sync.Sync.{Sync}
 use Rattle.irig_sync.specs.Sync.{place_of, idle_of, is_idle, clock_gap}
-use Rattle.irig_sync.specs.Lines.{Pulse, pulse_at, IsSyncAt, IsIdle, IsOut, IsAfter, IsSoon}
+use Rattle.irig_sync.specs.Lines.{Pulse, pulse_at, place_after, IsSyncAt, IsIdle, IsOut, IsAfter, IsSoon}
+use Rattle.irig_sync.proofs.LineLaws.{place_at_time}
 use Rattle.irig_time.specs.declared.second.UtcSecond.{UtcSecond}
 use Rattle.irig_time.specs.declared.rules.Rules.{Rules}
 use Rattle.irig_time.specs.Timelines.{TimelineValue}
 use Rattle.irig_time.specs.Tables.{TableValue}
 use Rattle.irig_port.specs.Told.{told_of}
-use Rattle.irig_port.specs.Hearing.{heard_at, IsHearing, IsRun}
+use Rattle.irig_port.specs.Hearing.{heard_at, heard_of_last, IsHearing, IsRun}
 use Rattle.irig_port.proofs.RunLaws.{hears}
 use Rattle.irig_vote.specs.declared.redundancy.Redundancy.{Redundancy}
 use Rattle.irig_vote.specs.Vote.{f_of}
@@ -33,6 +34,7 @@ use Rattle.irig_timekeeper.specs.Truth.{AreHeardTruly, IsOnTrack, IsToldInHoldov
 use Rattle.irig_timekeeper.specs.Life.{Call, after_calls, pulses_on, last_call, last_tick, IsToldInTime, AreInOrder, AreTrueLately, AreTrueAtTicks, AreTrueOver}
 use Rattle.irig_timekeeper.specs.Life.Call.{Hear, Tick}
 use Rattle.irig_timekeeper.proofs.LineLaws.{kept_more}
+use Rattle.irig_timekeeper.proofs.WholeLaws.{whole_of, AreSorted, whole_here, not_whole}
 use Rattle.irig_timekeeper.proofs.VoteLaws.{TellsTruly, still, not_late}
 use Rattle.irig_timekeeper.proofs.TrackLaws.{KeepsTrue, tick_true}
 
@@ -76,16 +78,19 @@ idle_run heard s pulses true run = record { late = run.late; count = run.count; 
 
 -- ---- one line
 
--- the end lies at most 10 ms behind the last call, and half a second before the last tick
-abbrev pub IsEndAt : ℕ → ℕ → ℕ → Type 0
-IsEndAt tick now end = (end ≤ now + 10000) × (tick ≤ end + 500000)
+-- the end lies at most 10 ms behind the last call, and half a second before the last tick; it is
+-- that of the last whole frame
+abbrev pub IsEndAt : List Pulse → ℕ → ℕ → ℕ → Type 0
+IsEndAt pulses tick now end = (end ≤ now + 10000) × (tick ≤ end + 500000) × (end ≡ whole_of pulses)
 
 -- a line heard these pulses, and its synchroniser was told last of a time since the last tick, but
--- for half a second
+-- for half a second; nobody emptied its port
 pub record IsLineAt (rules : Rules) (heard : List Symbol) (line : Line) (pulses : List Pulse) (tick now : ℕ) : Type 0 where
   pub told : ℕ
   pub hearing : IsHearing heard line.sync pulses told
-  pub kept : IfKept (IsEndAt tick now) rules (claim_kept line.frame) pulses
+  pub all : heard ≡ heard_of_last (length pulses) pulses
+  pub sorted : AreSorted pulses
+  pub kept : IfKept (IsEndAt pulses tick now) rules (claim_kept line.frame) pulses
   pub past : told ≤ now
   pub near : tick ≤ told + 500000
 
@@ -96,10 +101,17 @@ module _ (rules : Rules) where
   line_hears heard line pulses tick now time rise width l order risen late on half after =
       let soon : IsSoon l.told rise = (omega (arith, l.past, on, late), omega (arith, l.near, half, risen)) in
       let hearing = hears heard line.sync _ pulses l.told rise _ width _ refl refl l.hearing refl after soon in
+      let p : Pulse = pulse_at rise width in
+      let place : place_of line.sync (rise % 2 ^ 32) width ≡ place_after (p ∷ pulses) = place_at_time line.sync pulses l.told rise width l.hearing.sync after soon in
       record {
         told = rise;
         hearing = hearing;
-        kept = kept_more (IsEndAt tick now) (IsEndAt tick time) (λ end e. (omega (arith, e.0, on), e.1)) rules line.frame _ _ rise width pulses hearing.run l.kept (omega (arith, risen), omega (arith, order, on, late));
+        all = ap (λ (s : List Symbol). heard_at (place_of line.sync (rise % 2 ^ 32) width) s width) l.all ∙ ap (λ (n : ℕ). heard_at n (heard_of_last (length pulses) pulses) width) place;
+        sorted = (after, l.sorted);
+        kept = kept_more (IsEndAt pulses tick now) (IsEndAt (p ∷ pulses) tick time) _
+            (λ inside end e. (omega (arith, e.0, on), e.1, e.2 ∙ sym (not_whole p pulses (λ at. inside (place ∙ at)))))
+            rules line.frame _ rise width pulses hearing.run l.kept
+            (λ at. (omega (arith, risen), omega (arith, order, on, late), sym (whole_here p pulses (sym place ∙ at))));
         past = risen;
         near = omega (arith, order, on, late);
       }
@@ -108,7 +120,9 @@ module _ (rules : Rules) where
   line_waits heard line pulses tick now time l on = record {
     told = l.told;
     hearing = l.hearing;
-    kept = eased (IsEndAt tick now) (IsEndAt tick time) (λ end e. (omega (arith, e.0, on), e.1)) (claim_kept line.frame) pulses l.kept;
+    all = l.all;
+    sorted = l.sorted;
+    kept = eased (IsEndAt pulses tick now) (IsEndAt pulses tick time) (λ end e. (omega (arith, e.0, on), e.1, e.2)) (claim_kept line.frame) pulses l.kept;
     past = omega (arith, l.past, on);
     near = l.near;
   }
@@ -118,20 +132,21 @@ module _ (rules : Rules) where
       eased EndsSo Ends more (Some kept) pulses h = (h.0, h.1, h.2, more h.0 h.3)
 
   -- at a tick
-  still_in_turn : (kept : Option KeptClaim) (pulses : List Pulse) (tick now time : ℕ) → now ≤ time → time + 500000 < tick + 1800000000 → IfKept (IsEndAt tick now) rules kept pulses → IfKept (IsInTurnOf time) rules kept pulses
+  still_in_turn : (kept : Option KeptClaim) (pulses : List Pulse) (tick now time : ℕ) → now ≤ time → time + 500000 < tick + 1800000000 → IfKept (IsEndAt pulses tick now) rules kept pulses → IfKept (IsInTurnOf time) rules kept pulses
   still_in_turn None pulses tick now time on half h = tt
   still_in_turn (Some kept) pulses tick now time on half h = (h.0, h.1, h.2, (omega (arith, h.3.0, on), omega (arith, h.3.1, half)))
 
-  still_there : (frame : Option KeptFrame) (pulses : List Pulse) (time : ℕ) → IfKept (IsInTurnOf time) rules (claim_kept frame) pulses → IfKept (IsEndAt time time) rules (claim_kept (still_kept (time % 2 ^ 32) frame)) pulses
-  still_there frame pulses time h = by (claim_kept (still_kept (time % 2 ^ 32) frame)) refl
+  still_there : (frame : Option KeptFrame) (pulses : List Pulse) (tick now time : ℕ) → now ≤ time → time + 500000 < tick + 1800000000 → IfKept (IsEndAt pulses tick now) rules (claim_kept frame) pulses
+      → IfKept (IsEndAt pulses time time) rules (claim_kept (still_kept (time % 2 ^ 32) frame)) pulses
+  still_there frame pulses tick now time on half h = by (claim_kept (still_kept (time % 2 ^ 32) frame)) refl
     where
-      by : (o : Option KeptClaim) → claim_kept (still_kept (time % 2 ^ 32) frame) ≡ o → IfKept (IsEndAt time time) rules o pulses
+      by : (o : Option KeptClaim) → claim_kept (still_kept (time % 2 ^ 32) frame) ≡ o → IfKept (IsEndAt pulses time time) rules o pulses
       by None e = tt
       by (Some kept) e =
           let was = still (time % 2 ^ 32) frame kept e in
-          let h' = subst (λ (o : Option KeptClaim). IfKept (IsInTurnOf time) rules o pulses) was.0 h in
-          let soon = not_late h'.0 time h'.3.0 h'.3.1 (subst (λ (e : ℕ). is_late e (time % 2 ^ 32) ≡ false) h'.1 was.1) in
-          (h'.0, h'.1, h'.2, (h'.3.0, omega (arith, soon)))
+          let h' = subst (λ (o : Option KeptClaim). IfKept (IsEndAt pulses tick now) rules o pulses) was.0 h in
+          let soon = not_late h'.0 time (omega (arith, h'.3.0, on)) (omega (arith, h'.3.1, half)) (subst (λ (e : ℕ). is_late e (time % 2 ^ 32) ≡ false) h'.1 was.1) in
+          (h'.0, h'.1, h'.2, (omega (arith, h'.3.0, on), omega (arith, soon), h'.3.2))
 
   line_ticks : (heard : List Symbol) (line : Line) (pulses : List Pulse) (tick now time : ℕ) → IsLineAt rules heard line pulses tick now → now ≤ time → time + 500000 < tick + 1800000000
       → IsLineAt rules heard (line_settled (time % 2 ^ 32) line) pulses time time
@@ -141,13 +156,15 @@ module _ (rules : Rules) where
       record {
         told = time;
         hearing = record { sync = idle_sync line.sync pulses l.told time l.hearing.sync later soon; run = idle_run heard line.sync pulses (is_idle (clock_gap line.sync.rise_us (time % 2 ^ 32))) l.hearing.run };
-        kept = still_there line.frame pulses time (still_in_turn (claim_kept line.frame) pulses tick now time on half l.kept);
+        all = l.all;
+        sorted = l.sorted;
+        kept = still_there line.frame pulses tick now time on half l.kept;
         past = omega arith;
         near = omega arith;
       }
 
   line_gives : (heard : List Symbol) (line : Line) (pulses : List Pulse) (time : ℕ) → IsLineAt rules heard line pulses time time → IsLineAt rules heard (line_taken line) pulses time time
-  line_gives heard line pulses time l = record { told = l.told; hearing = l.hearing; kept = tt; past = l.past; near = l.near }
+  line_gives heard line pulses time l = record { told = l.told; hearing = l.hearing; all = l.all; sorted = l.sorted; kept = tt; past = l.past; near = l.near }
 
 -- the same line by other words
 moved : (rules rules' : Rules) (heard heard' : List Symbol) (line line' : Line) (pulses pulses' : List Pulse) (tick now : ℕ) → rules ≡ rules' → heard ≡ heard' → line ≡ line' → pulses ≡ pulses'
@@ -429,7 +446,9 @@ new_line rules line start is = record {
     sync = inr ((is.sync.place, is.sync.last), tt);
     run = record { late = 0; count = 0; symbols = refl; all = refl; on_time = tt; out = λ i less. absurd (omega (arith, less)); step = inl is.sync.place };
   };
-  kept = subst (λ (o : Option KeptFrame). IfKept (IsEndAt start start) rules (claim_kept o) []) (sym is.frame) tt;
+  all = refl;
+  sorted = tt;
+  kept = subst (λ (o : Option KeptFrame). IfKept (IsEndAt [] start start) rules (claim_kept o) []) (sym is.frame) tt;
   past = omega arith;
   near = omega arith;
 }

@@ -1,7 +1,7 @@
 -- A line that was true for a frame: its claim is the frame's own.
 use Rattle.std.proofs.Common.{◌≡◌, ℕ, zero, suc, ◌+◌, ◌-◌, ◌*◌, ◌/◌, ◌%◌, ◌^◌, ◌<◌, ◌≤◌, true, List, [], ◌∷◌, ◌++◌, length, length-append, drop, Option, Some, None, refl, sym, subst, ap, ◌∙◌, arith, inl, inr}
 use Rattle.std.specs.Prelude.{slice_get, ◌==◌}
-use Rattle.std.proofs.lemmas.Bool.{cases_Bool, cases_lt, eqb-true}
+use Rattle.std.proofs.lemmas.Bool.{cases_Bool, cases_lt, eqb-true, eqb-false}
 use Rattle.irig_frame.specs.declared.symbol.Symbol.{Symbol}
 use Rattle.irig_frame.specs.Symbols.{symbol_of}
 use Rattle.irig_sync.specs.Sync.{is_on_time}
@@ -213,11 +213,11 @@ told_here Ends rules (tells.Claim c) heard place time width pulses e some run en
       )
 ]
 
-pub kept_more : (EndsSo Ends : ℕ → Type 0) → ((end : ℕ) → EndsSo end → Ends end) → (rules : Rules) (frame : Option KeptFrame) (heard : List Symbol) (place time width : ℕ) (pulses : List Pulse) → IsRun heard place (pulse_at time width ∷ pulses) → IfKept EndsSo rules (claim_kept frame) pulses → Ends (time + 10000)
+pub kept_more : (EndsSo Ends : ℕ → Type 0) → (place : ℕ) → (¬ (place ≡ 100) → (end : ℕ) → EndsSo end → Ends end) → (rules : Rules) (frame : Option KeptFrame) (heard : List Symbol) (time width : ℕ) (pulses : List Pulse) → IsRun heard place (pulse_at time width ∷ pulses) → IfKept EndsSo rules (claim_kept frame) pulses → (place ≡ 100 → Ends (time + 10000))
     → IfKept Ends rules (claim_kept (frame_behind place (time % 2 ^ 32) (told_of rules heard) frame)) (pulse_at time width ∷ pulses)
-kept_more EndsSo Ends more rules frame heard place time width pulses run before ends = elim (cases_Bool (place == 100)) [
+kept_more EndsSo Ends place more rules frame heard time width pulses run before ends = elim (cases_Bool (place == 100)) [
   | inl whole ↦
       let at : place ≡ 100 = eqb-true place 100 whole in
-      rw whole (told_here Ends rules (told_of rules heard) heard place time width pulses refl (omega (arith, at)) run ends)
-  | inr inside ↦ rw inside (one_late EndsSo Ends more rules (claim_kept frame) (pulse_at time width) pulses before)
+      rw whole (told_here Ends rules (told_of rules heard) heard place time width pulses refl (omega (arith, at)) run (ends at))
+  | inr inside ↦ rw inside (one_late EndsSo Ends (more (eqb-false place 100 inside)) rules (claim_kept frame) (pulse_at time width) pulses before)
 ]
