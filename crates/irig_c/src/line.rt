@@ -77,9 +77,8 @@ pub extern "C" fn irig_c_reader_hear(
         (now time : ℕ) → IsHearing heard sync.old pulses now → rise_us ≡ time % 2 ^ 32
         → IsAfter pulses time → IsSoon now time → IsHearing (heard_at result heard width_us)
         sync.new (pulse_at time width_us ∷ pulses) time }
-    // That is what the port stands for, by what was fed to it. So what it claims at a tick is
-    // carried by the last hundred pulses that were in step (irig_reader, the law
-    // `a_claim_is_of_a_run`).
+    // That is what the port stands for, by what was fed to it: so what it claims at a tick is of a
+    // run of pulses (irig_reader, the law `a_claim_is_of_a_run`).
     ensures stands { (result ≡ 255 → ⊥) → (h : ReaderHistory)
         → symbols_heard (fed_to (after_hearing h port result width_us).fed port)
         ≡ heard_at result (symbols_heard (fed_to h.fed port)) width_us }

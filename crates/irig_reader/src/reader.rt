@@ -129,6 +129,7 @@ impl<P: Port> Reader<P> {
           was_marker = flag (is_marker width_us);
         } }
         ensures fed { Advances self.old self.new (λ h. after_hearing h port result width_us) }
+        ensures ports { self.new.redundancy ≡ self.old.redundancy }
         ensures run { (heard : List Symbol) (pulses : List Pulse) (now time : ℕ)
             → IsHearing heard sync.old pulses now → rise_us ≡ time % 2 ^ 32
             → IsAfter pulses time → IsSoon now time
@@ -138,7 +139,6 @@ impl<P: Port> Reader<P> {
         ensures stands { (h : ReaderHistory)
             → symbols_heard (fed_to (after_hearing h port result width_us).fed port)
             ≡ heard_at result (symbols_heard (fed_to h.fed port)) width_us }
-        ensures ports { self.new.redundancy ≡ self.old.redundancy }
     {
         match port {
             0 => hear(&mut self.a, sync, rise_us, width_us),
