@@ -381,8 +381,8 @@ void irig_sync_idle(irig_sync *sync, uint32_t now_us);
 
 /* A pulse of the line at a port, 0 to 2 of three, 0 to 4 of five, 0 of one: its place, as
  * irig_sync_pulse answers it. The port is emptied where a frame begins, and fed what has a place;
- * so what it claims at a tick is carried by the last hundred pulses before it, each on time behind
- * the one before. IRIG_NO_PORT. Calls for several lines of one reader, and its tick, must not
+ * so what it claims at a tick is carried by the last hundred pulses in step before it, each on time
+ * behind the one before. IRIG_NO_PORT. Calls for several lines of one reader, and its tick, must not
  * interrupt one another. docs/WIRES.md says when to tick, and what a fault on the line does. */
 uint8_t irig_reader_hear(irig_reader *reader, irig_sync *sync, uint8_t port, uint32_t rise_us,
                          uint32_t width_us);

@@ -6,15 +6,13 @@ use Rattle.irig_port.specs.declared.tally.Tally.{Tally}
 use Rattle.irig_port.specs.Heard.{symbols_heard}
 use Rattle.irig_port.specs.Tallies.{IsTallyOf}
 use Rattle.irig_reader.specs.History.{Fed, fed_to, with_widths, with_port}
+use Rattle.irig_reader.proofs.FedLaws.{port-here}
 use Rattle.irig_c.specs.Readers.{HaveHeard}
 use Rattle.irig_numbers.specs.Tallies.{no_tally}
 
 -- more pulses at a port are its pulses with more behind them
 pub more-port : (fed : Fed) (port : ℕ) (ws : List ℕ) → with_port fed port (fed_to fed port ++ ws) ≡ with_widths fed port ws
 more-port fed port ws = grind arith
-
-port-here : (fed : Fed) (port : ℕ) (ws : List ℕ) → fed_to (with_port fed port ws) port ≡ ws
-port-here fed port ws = grind arith
 
 port-other : (fed : Fed) (port other : ℕ) (ws : List ℕ) → port < 5 → other < 5 → (other ≡ port → ⊥) → fed_to (with_port fed port ws) other ≡ fed_to fed other
 port-other fed port other ws here there apart = grind arith

@@ -1,10 +1,12 @@
 //! A line that C holds: where it stands in its frame, and a reader that hears through it.
 
-ghost use Rattle.std.specs.Prelude.{◌≡◌, ◌↔◌, ◌≤◌, ℕ, List, []};
+ghost use Rattle.std.specs.Prelude.{◌≡◌, ◌↔◌, ◌≤◌, ◌%◌, ◌^◌, ℕ, List, [], ◌∷◌};
+ghost use Rattle.irig_frame.specs.declared.symbol.Symbol.{Symbol};
 ghost use Rattle.irig_port.specs.Heard.{symbols_heard};
+ghost use Rattle.irig_port.specs.Hearing.{heard_at, IsHearing};
 ghost use Rattle.irig_port.specs.Tallies.{IsTallyOf};
-ghost use Rattle.irig_reader.specs.History.{ReaderHistory, after_hearing, widths_at};
-ghost use Rattle.irig_sync.specs.Lines.{IsSyncOf};
+ghost use Rattle.irig_reader.specs.History.{ReaderHistory, after_hearing, fed_to, widths_at};
+ghost use Rattle.irig_sync.specs.Lines.{Pulse, pulse_at, IsAfter, IsSoon, IsSyncOf};
 ghost use Rattle.irig_sync.specs.Sync.{flag, idle_of, is_marker, place_of};
 ghost use Rattle.irig_numbers.specs.CheckWord.{IsSealed};
 ghost use Rattle.irig_c.specs.Readers.{IsReaderOf};
@@ -71,6 +73,15 @@ pub extern "C" fn irig_c_reader_hear(
     } }
     ensures fed { (result ≡ 255 → ⊥) → (h : ReaderHistory) → IsReaderOf reader.old h
         → IsReaderOf reader.new (after_hearing h port result width_us) }
+    ensures run { (result ≡ 255 → ⊥) → (heard : List Symbol) (pulses : List Pulse)
+        (now time : ℕ) → IsHearing heard sync.old pulses now → rise_us ≡ time % 2 ^ 32
+        → IsAfter pulses time → IsSoon now time → IsHearing (heard_at result heard width_us)
+        sync.new (pulse_at time width_us ∷ pulses) time }
+    // That is what the port stands for, by what was fed to it: so what it claims at a tick is of a
+    // run of pulses (irig_reader, the law `a_claim_is_of_a_run`).
+    ensures stands { (result ≡ 255 → ⊥) → (h : ReaderHistory)
+        → symbols_heard (fed_to (after_hearing h port result width_us).fed port)
+        ≡ heard_at result (symbols_heard (fed_to h.fed port)) width_us }
     // the check word is right exactly if it was
     ensures sealed { IsSealed reader.new ↔ IsSealed reader.old }
 {

@@ -11,6 +11,7 @@ use Rattle.irig_frame.specs.FieldTable.{is_marker_place}
 use Rattle.irig_frame.specs.Decoder.{IsRight}
 use Rattle.irig_frame.specs.Faults.{element_fault, first_wrong}
 use Rattle.irig_sync.specs.declared.sync.Sync.{Sync}
+use Rattle.irig_sync.specs.Edges.{IsClock}
 use Rattle.irig_sync.specs.Lines.{Pulse, place_after, AreOnTime, IsTrueLine, symbols_of_last}
 use Rattle.irig_sync.specs.FaultyLines.{ArePulsesBefore, ArePulsesLeft, HasOneFault, HasOneFaultInAHundred, LeavesTheNext}
 use Rattle.irig_sync.proofs.FaultLaws.{row, row-get, put_one, last-first, of_row, Holds, one_less, holds, last-take, on-take, left_in_row, left_less}
@@ -223,60 +224,60 @@ unless_whole rules line claims heard whole =
       ]
     ]
 
-pub one_fault : (rules : Rules) (line : ℕ → Symbol) (claims : ℕ → Claim) (start : ℕ) (heard : List Symbol) (s : Sync) (pulses : List Pulse) (now : ℕ) → TellsClaims rules line claims → HasOneFault line start pulses → IsHearing heard s pulses now
+pub one_fault : (rules : Rules) (line : ℕ → Symbol) (claims : ℕ → Claim) (edges : ℕ → ℕ) (off d : ℕ) (heard : List Symbol) (s : Sync) (pulses : List Pulse) (now : ℕ) → TellsClaims rules line claims → IsClock d off edges → HasOneFault line edges off pulses → IsHearing heard s pulses now
     → IsFaultOrOwn line claims heard (told_of rules heard)
-one_fault rules line claims start heard s pulses now tell h hears = unless_whole rules line claims heard (λ all.
+one_fault rules line claims edges off d heard s pulses now tell clock h hears = unless_whole rules line claims heard (λ all.
     let count : hears.run.count ≡ 100 = sym (hears.run.all) ∙ all in
     let late : ℕ = hears.run.late in
-    holds_told rules line claims tell heard all (holds line start (drop late pulses) heard (one_less line start pulses h late) all
+    holds_told rules line claims tell heard all (holds line edges off d clock (drop late pulses) heard (one_less line edges off pulses h late) all
     (hears.run.symbols ∙ ap (λ (n : ℕ). symbols_of_last n (drop late pulses)) count) (subst (λ (n : ℕ). AreOnTime n (drop late pulses)) count (hears.run.on_time))))
 
-pub seldom : (rules : Rules) (line : ℕ → Symbol) (claims : ℕ → Claim) (start : ℕ) (heard : List Symbol) (s : Sync) (pulses : List Pulse) (now : ℕ) → TellsClaims rules line claims → HasOneFaultInAHundred line start pulses → IsHearing heard s pulses now
+pub seldom : (rules : Rules) (line : ℕ → Symbol) (claims : ℕ → Claim) (edges : ℕ → ℕ) (off d : ℕ) (heard : List Symbol) (s : Sync) (pulses : List Pulse) (now : ℕ) → TellsClaims rules line claims → IsClock d off edges → HasOneFaultInAHundred line edges off pulses → IsHearing heard s pulses now
     → IsFaultOrOwn line claims heard (told_of rules heard)
-seldom rules line claims start heard s pulses now tell h hears = unless_whole rules line claims heard (λ all.
+seldom rules line claims edges off d heard s pulses now tell clock h hears = unless_whole rules line claims heard (λ all.
     let count : hears.run.count ≡ 100 = sym (hears.run.all) ∙ all in
     let late : ℕ = hears.run.late in
-    holds_told rules line claims tell heard all (holds line start (take 100 (drop late pulses)) heard (h late) all
+    holds_told rules line claims tell heard all (holds line edges off d clock (take 100 (drop late pulses)) heard (h late) all
     (hears.run.symbols ∙ ap (λ (n : ℕ). symbols_of_last n (drop late pulses)) count ∙ sym (last-take 100 (drop late pulses)))
     (on-take 100 (drop late pulses) (subst (λ (n : ℕ). AreOnTime n (drop late pulses)) count (hears.run.on_time)))))
 
-pub losses : (rules : Rules) (line : ℕ → Symbol) (claims : ℕ → Claim) (start k : ℕ) (heard : List Symbol) (s : Sync) (pulses : List Pulse) (now : ℕ) → TellsClaims rules line claims → ArePulsesLeft line start k pulses → IsHearing heard s pulses now
+pub losses : (rules : Rules) (line : ℕ → Symbol) (claims : ℕ → Claim) (edges : ℕ → ℕ) (off d k : ℕ) (heard : List Symbol) (s : Sync) (pulses : List Pulse) (now : ℕ) → TellsClaims rules line claims → IsClock d off edges → ArePulsesLeft line edges off k pulses → IsHearing heard s pulses now
     → IsFaultOrOwn line claims heard (told_of rules heard)
-losses rules line claims start k heard s pulses now tell h hears = unless_whole rules line claims heard (λ all.
+losses rules line claims edges off d k heard s pulses now tell clock h hears = unless_whole rules line claims heard (λ all.
     let count : hears.run.count ≡ 100 = sym (hears.run.all) ∙ all in
     let late : ℕ = hears.run.late in
-    let left = left_less line start k pulses h late in
+    let left = left_less line edges off k pulses h late in
     in_row (drop late pulses) (left.0) (left.1) all (hears.run.symbols ∙ ap (λ (n : ℕ). symbols_of_last n (drop late pulses)) count) (subst (λ (n : ℕ). AreOnTime n (drop late pulses)) count (hears.run.on_time)))
   where
-    in_row : (ps : List Pulse) (j : ℕ) → ArePulsesLeft line start j ps → length heard ≡ 100 → heard ≡ symbols_of_last 100 ps → AreOnTime 100 ps → IsFaultOrOwn line claims heard (told_of rules heard)
+    in_row : (ps : List Pulse) (j : ℕ) → ArePulsesLeft line edges off j ps → length heard ≡ 100 → heard ≡ symbols_of_last 100 ps → AreOnTime 100 ps → IsFaultOrOwn line claims heard (told_of rules heard)
     in_row [] j left all is on = absurd on
-    in_row (p ∷ ps) j left all is on = let it = left_in_row line start 99 j p ps left on in near_told rules line claims tell heard all (it.0) 0 (line (it.0)) (is ∙ it.2)
+    in_row (p ∷ ps) j left all is on = let it = left_in_row line edges off d clock 99 j p ps left on in near_told rules line claims tell heard all (it.0) 0 (line (it.0)) (is ∙ it.2)
 
 -- ---- the other frames
 
 -- the port that held so many elements of the line tells their frame's claim
-frame_told_whole : (rules : Rules) (line : ℕ → Symbol) (claims : ℕ → Claim) (start n k : ℕ) (pulses : List Pulse) → TellsClaims rules line claims → place_after pulses ≡ k % 100 + 1 → k % 100 ≡ 99 → 100 ≤ n
+frame_told_whole : (rules : Rules) (line : ℕ → Symbol) (claims : ℕ → Claim) (n k : ℕ) (pulses : List Pulse) → TellsClaims rules line claims → place_after pulses ≡ k % 100 + 1 → k % 100 ≡ 99 → 100 ≤ n
     → symbols_of_last 100 pulses ≡ row line (suc k - 100) 100 → told_of rules (heard_of_last n pulses) ≡ tells.Claim (claims (k / 100))
-frame_told_whole rules line claims start n k pulses tell place last many is =
+frame_told_whole rules line claims n k pulses tell place last many is =
     let hundred : place_after pulses ≡ 100 = place ∙ ap (λ (i : ℕ). i + 1) last in
     let held : heard_of_last n pulses ≡ symbols_of_last 100 pulses =
     holds_place n pulses (omega (arith, hundred)) (omega (arith, hundred, many)) ∙ ap (λ (i : ℕ). symbols_of_last i pulses) hundred in
     let first : suc k - 100 ≡ 100 * (k / 100) = omega (arith, last) in
     ap (told_of rules) (held ∙ is ∙ ap (λ (b : ℕ). row line b 100) first) ∙ tell (k / 100)
 
-pub before_told : (rules : Rules) (line : ℕ → Symbol) (claims : ℕ → Claim) (start n k : ℕ) (pulses : List Pulse) → TellsClaims rules line claims → ArePulsesBefore line start (suc k) pulses → 100 < length pulses → k % 100 ≡ 99 → 100 ≤ n
+pub before_told : (rules : Rules) (line : ℕ → Symbol) (claims : ℕ → Claim) (edges : ℕ → ℕ) (off d n k : ℕ) (pulses : List Pulse) → TellsClaims rules line claims → IsClock d off edges → ArePulsesBefore line edges off (suc k) pulses → 100 < length pulses → k % 100 ≡ 99 → 100 ≤ n
     → told_of rules (heard_of_last n pulses) ≡ tells.Claim (claims (k / 100))
-before_told rules line claims start n k [] tell h many last enough = absurd (omega (arith, many))
-before_told rules line claims start n k (p ∷ ps) tell h many last enough =
-    frame_told_whole rules line claims start n k (p ∷ ps) tell (in_step line start (true_line rules line claims tell) k p ps h (omega (arith, many))) last enough
-    ((of_row line start (suc k) 100 (p ∷ ps) h (omega (arith, many))).1)
+before_told rules line claims edges off d n k [] tell clock h many last enough = absurd (omega (arith, many))
+before_told rules line claims edges off d n k (p ∷ ps) tell clock h many last enough =
+    frame_told_whole rules line claims n k (p ∷ ps) tell (in_step line edges off d clock (true_line rules line claims tell) k p ps h (omega (arith, many))) last enough
+    ((of_row line edges off (suc k) 100 (p ∷ ps) h (omega (arith, many))).1)
 
-pub behind_told : (rules : Rules) (line : ℕ → Symbol) (claims : ℕ → Claim) (start n : ℕ) (pulses : List Pulse) → TellsClaims rules line claims → (h : HasOneFault line start pulses)
-    → (h.element % 100 < 99) ⊎ LeavesTheNext start h.element h.fault h.before → 100 * (h.element / 100 + 1) ≤ h.element + length h.after → (h.element + length h.after) % 100 ≡ 99 → 100 ≤ n
+pub behind_told : (rules : Rules) (line : ℕ → Symbol) (claims : ℕ → Claim) (edges : ℕ → ℕ) (off d n : ℕ) (pulses : List Pulse) → TellsClaims rules line claims → IsClock d off edges → (h : HasOneFault line edges off pulses)
+    → (h.element % 100 < 99) ⊎ LeavesTheNext edges off d h.element h.fault h.before → 100 * (h.element / 100 + 1) ≤ h.element + length h.after → (h.element + length h.after) % 100 ≡ 99 → 100 ≤ n
     → told_of rules (heard_of_last n pulses) ≡ tells.Claim (claims ((h.element + length h.after) / 100))
-behind_told rules line claims start n pulses tell h mild past last enough =
+behind_told rules line claims edges off d n pulses tell clock h mild past last enough =
     let many : 100 ≤ length h.after = omega (arith, past, last) in
     let newest : length h.after + suc h.element ≡ suc (h.element + length h.after) = omega arith in
-    frame_told_whole rules line claims start n (h.element + length h.after) pulses tell (own_frame line start (true_line rules line claims tell) pulses h mild past) last enough
-    (ap (symbols_of_last 100) (h.parts) ∙ last-first 100 (h.after) (h.fault ++ h.before) many ∙ (of_row line start (length h.after + suc h.element) 100 (h.after) (h.later) many).1
+    frame_told_whole rules line claims n (h.element + length h.after) pulses tell (own_frame line edges off d clock (true_line rules line claims tell) pulses h mild past) last enough
+    (ap (symbols_of_last 100) (h.parts) ∙ last-first 100 (h.after) (h.fault ++ h.before) many ∙ (of_row line edges off (length h.after + suc h.element) 100 (h.after) (h.later) many).1
     ∙ ap (λ (i : ℕ). row line (i - 100) 100) newest)

@@ -4,9 +4,9 @@ use Rattle.std.proofs.lemmas.Bool.{ltb-true, ltb-false}
 use Rattle.irig_frame.specs.declared.symbol.Symbol.{Symbol}
 use Rattle.irig_frame.specs.Symbols.{symbol_of}
 use Rattle.irig_sync.specs.declared.sync.Sync.{Sync}
-use Rattle.irig_sync.specs.Sync.{is_marker, is_on_time, place_at, place_behind, place_of, pulse_of, flag}
-use Rattle.irig_sync.specs.Lines.{Pulse, pulse_at, place_after, AreOnTime, IsAfter, IsSyncAt, IsSoon, symbols_of_last}
-use Rattle.irig_sync.proofs.LineLaws.{place_at_time, pulse_at_time}
+use Rattle.irig_sync.specs.Sync.{is_marker, is_on_time, clock_gap, place_at, place_behind, place_of, pulse_of, is_idle, idle_of, flag}
+use Rattle.irig_sync.specs.Lines.{Pulse, pulse_at, place_after, AreOnTime, IsSyncOf, IsAfter, IsSyncAt, IsSoon, symbols_of_last}
+use Rattle.irig_sync.proofs.LineLaws.{first_at_time, place_at_time, pulse_at_time, idle_at_time}
 use Rattle.irig_time.specs.declared.rules.Rules.{Rules}
 use Rattle.irig_time.specs.declared.claim.Claim.{Claim}
 use Rattle.irig_port.specs.declared.told.Told.TheVariants as tells
@@ -130,6 +130,27 @@ hears heard s t pulses now time rise width place at left h e after soon =
     left ∙ ap (λ (r : ℕ). pulse_of s r width) e in
     subst (λ (n : ℕ). IsHearing (heard_at n heard width) t (pulse_at time width ∷ pulses) time) (sym there)
     (subst (λ (u : Sync). IsHearing (heard_at (place_of s (time % 2 ^ 32) width) heard width) u (pulse_at time width ∷ pulses) time) (sym after_it) (hears_more heard s pulses now time width h after soon))
+
+-- ---- nothing heard, and an idle line
+
+none_run : (place : ℕ) (pulses : List Pulse) → IsRun [] place pulses
+none_run place pulses = record { late = 0; count = 0; symbols = refl; all = refl; on_time = tt; out = λ i h. absurd (omega (arith, h)); step = inr (refl, omega arith) }
+
+pub first_hears : (s : Sync) (now : ℕ) → IsSyncOf s [] → IsHearing [] s [] now
+first_hears s now h = record { sync = first_at_time s now h; run = none_run s.place [] }
+
+pub emptied_hears : (heard : List Symbol) (s : Sync) (pulses : List Pulse) (now : ℕ) → IsHearing heard s pulses now → IsHearing [] s pulses now
+emptied_hears heard s pulses now h = record { sync = h.sync; run = none_run s.place pulses }
+
+pub idle_run : (heard : List Symbol) (s : Sync) (pulses : List Pulse) (idle : Bool) → IsRun heard s.place pulses → IsRun heard (cond idle (record s { place = 0; was_marker = 1 }) s).place pulses
+idle_run heard s pulses false run = run
+idle_run heard s pulses true run = record { late = run.late; count = run.count; symbols = run.symbols; all = run.all; on_time = run.on_time; out = run.out; step = inl refl }
+
+pub idle_hears : (heard : List Symbol) (s : Sync) (pulses : List Pulse) (now time : ℕ) → IsHearing heard s pulses now → now ≤ time → IsSoon now time → IsHearing heard (idle_of s (time % 2 ^ 32)) pulses time
+idle_hears heard s pulses now time h on soon = record {
+  sync = idle_at_time s pulses now time h.sync on soon;
+  run = idle_run heard s pulses (is_idle (clock_gap s.rise_us (time % 2 ^ 32))) h.run;
+}
 
 pub claim_of_run : (rules : Rules) (claim : Claim) (heard : List Symbol) (s : Sync) (pulses : List Pulse) (now : ℕ) → IsHearing heard s pulses now → told_of rules heard ≡ tells.Claim claim → IsOfRun rules claim heard s.place pulses
 claim_of_run rules claim heard s pulses now h e =

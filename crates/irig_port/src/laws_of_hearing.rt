@@ -3,6 +3,7 @@
 ghost use Rattle.std.specs.Prelude.{◌≡◌, ◌⊎◌, ◌<◌, ◌≤◌, ◌+◌, ◌*◌, ◌/◌, ◌%◌, ◌^◌, ℕ, suc, List, [], length};
 ghost use Rattle.irig_frame.specs.declared.symbol.Symbol.{Symbol};
 ghost use Rattle.irig_sync.specs.declared.sync.Sync.{Sync};
+ghost use Rattle.irig_sync.specs.Edges.{IsClock};
 ghost use Rattle.irig_sync.specs.Sync.{idle_of};
 ghost use Rattle.irig_sync.specs.Lines.{Pulse, IsSyncOf, IsSoon, place_after, symbols_of_last};
 ghost use Rattle.irig_sync.specs.FaultyLines.{ArePulsesBefore, ArePulsesLeft, HasOneFault, HasOneFaultInAHundred, LeavesTheNext};
@@ -36,27 +37,29 @@ pub fn claims_are_of_a_run()
 /// One fault is never untrue: of a line of frames of which one pulse was lost, late, early,
 /// doubled, cut in two or of another width, or to which one was added, a port tells at any time a
 /// fault, silence, or the claim of the frame that it heard.
+///
+/// The clock may drift, as in [`irig_sync::no_slip`], here and in the laws below.
 pub fn one_fault_is_never_untrue()
-    ensures once { (rules : Rules) (line : ℕ → Symbol) (claims : ℕ → Claim) (start : ℕ)
-        (heard : List Symbol) (s : Sync) (pulses : List Pulse) (now : ℕ)
-        → TellsClaims rules line claims → HasOneFault line start pulses
-        → IsHearing heard s pulses now
+    ensures once { (rules : Rules) (line : ℕ → Symbol) (claims : ℕ → Claim)
+        (edges : ℕ → ℕ) (off d : ℕ) (heard : List Symbol) (s : Sync) (pulses : List Pulse)
+        (now : ℕ) → TellsClaims rules line claims → IsClock d off edges
+        → HasOneFault line edges off pulses → IsHearing heard s pulses now
         → IsFaultOrOwn line claims heard (told_of rules heard) }
     // Or one of each hundred pulses in a row.
-    ensures again { (rules : Rules) (line : ℕ → Symbol) (claims : ℕ → Claim) (start : ℕ)
-        (heard : List Symbol) (s : Sync) (pulses : List Pulse) (now : ℕ)
-        → TellsClaims rules line claims → HasOneFaultInAHundred line start pulses
-        → IsHearing heard s pulses now
+    ensures again { (rules : Rules) (line : ℕ → Symbol) (claims : ℕ → Claim)
+        (edges : ℕ → ℕ) (off d : ℕ) (heard : List Symbol) (s : Sync) (pulses : List Pulse)
+        (now : ℕ) → TellsClaims rules line claims → IsClock d off edges
+        → HasOneFaultInAHundred line edges off pulses → IsHearing heard s pulses now
         → IsFaultOrOwn line claims heard (told_of rules heard) }
 {}
 
 /// Lost pulses are never untrue, however many are lost: a port tells a fault, silence, or the claim
 /// of the frame that it heard.
 pub fn lost_pulses_are_never_untrue()
-    ensures { (rules : Rules) (line : ℕ → Symbol) (claims : ℕ → Claim) (start k : ℕ)
-        (heard : List Symbol) (s : Sync) (pulses : List Pulse) (now : ℕ)
-        → TellsClaims rules line claims → ArePulsesLeft line start k pulses
-        → IsHearing heard s pulses now
+    ensures { (rules : Rules) (line : ℕ → Symbol) (claims : ℕ → Claim) (edges : ℕ → ℕ)
+        (off d k : ℕ) (heard : List Symbol) (s : Sync) (pulses : List Pulse) (now : ℕ)
+        → TellsClaims rules line claims → IsClock d off edges
+        → ArePulsesLeft line edges off k pulses → IsHearing heard s pulses now
         → IsFaultOrOwn line claims heard (told_of rules heard) }
 {}
 
@@ -73,14 +76,15 @@ pub fn a_port_holds_its_place()
 ///
 /// At a frame's last element the first of the next frame has to be left: see `LeavesTheNext`.
 pub fn other_frames_are_told()
-    ensures before { (rules : Rules) (line : ℕ → Symbol) (claims : ℕ → Claim) (start n k : ℕ)
-        (pulses : List Pulse) → TellsClaims rules line claims
-        → ArePulsesBefore line start (suc k) pulses → 100 < length pulses → k % 100 ≡ 99
+    ensures before { (rules : Rules) (line : ℕ → Symbol) (claims : ℕ → Claim)
+        (edges : ℕ → ℕ) (off d n k : ℕ) (pulses : List Pulse) → TellsClaims rules line claims
+        → IsClock d off edges → ArePulsesBefore line edges off (suc k) pulses
+        → 100 < length pulses → k % 100 ≡ 99
         → 100 ≤ n → told_of rules (heard_of_last n pulses) ≡ Told.Claim (claims (k / 100)) }
-    ensures behind { (rules : Rules) (line : ℕ → Symbol) (claims : ℕ → Claim) (start n : ℕ)
-        (pulses : List Pulse) → TellsClaims rules line claims
-        → (h : HasOneFault line start pulses)
-        → (h.element % 100 < 99) ⊎ LeavesTheNext start h.element h.fault h.before
+    ensures behind { (rules : Rules) (line : ℕ → Symbol) (claims : ℕ → Claim)
+        (edges : ℕ → ℕ) (off d n : ℕ) (pulses : List Pulse) → TellsClaims rules line claims
+        → IsClock d off edges → (h : HasOneFault line edges off pulses)
+        → (h.element % 100 < 99) ⊎ LeavesTheNext edges off d h.element h.fault h.before
         → 100 * (h.element / 100 + 1) ≤ h.element + length h.after
         → (h.element + length h.after) % 100 ≡ 99 → 100 ≤ n
         → told_of rules (heard_of_last n pulses)

@@ -3,9 +3,14 @@
 //! a timeline.
 
 ghost use Rattle.std.specs.Prelude.{◌≡◌, ◌⊎◌, ◌↔◌, ◌+◌, ◌<◌, ◌≤◌, ℕ, List, [], ◌∷◌, Option, Some, None};
+ghost use Rattle.irig_sync.specs.declared.sync.Sync.{Sync};
+ghost use Rattle.irig_sync.specs.Lines.{Pulse};
 ghost use Rattle.irig_time.specs.Tables.{TableValue};
 ghost use Rattle.irig_time.specs.Timelines.{TimelineValue, EndsAt, IsSecond, IsTrueClaim, truth_at};
 ghost use Rattle.irig_time.specs.TimelineFaults.{IsTimeline};
+ghost use Rattle.irig_port.specs.Heard.{symbols_heard};
+ghost use Rattle.irig_port.specs.Hearing.{IsHearing, IsOfRun};
+ghost use Rattle.irig_port.specs.Told.{told_of_widths};
 ghost use Rattle.irig_vote.specs.Vote.{carriers, f_of, others, ports_of, vote_of};
 ghost use Rattle.irig_hold.specs.Steps.{HoldValue};
 ghost use Rattle.irig_hold.specs.Truth.{IsTrueTable};
@@ -19,6 +24,7 @@ ghost use Rattle.irig_reader.specs.Standing.{StandsAtTruth};
 
 use crate::report::{Cause, Lock};
 use crate::rules::ReaderRules;
+use irig_port::Told;
 use irig_time::{Claim, UtcSecond};
 use irig_vote::{Redundancy, Tells};
 
@@ -146,4 +152,15 @@ pub fn true_votes_in_a_row_lock()
         → 1 ≤ rules.lock_after → IsSecond t (n + 1 + rules.lock_after) u
         → vote ∷ votes ≡ then_true t n (rules.lock_after + 1) earlier
         → report_of rules table vote votes ≡ voted_report u }
+{}
+
+/// What a port claims at a tick is carried by the last hundred pulses of its line that were in
+/// step, each but the first on time behind the one before, and by nothing else, if it hears them
+/// through the line's synchroniser: [`Reader::hear`](crate::Reader::hear), clauses `run` and
+/// `stands`, with [`hearing_goes_on`](irig_port::hearing_goes_on).
+pub fn a_claim_is_of_a_run()
+    ensures { (h : ReaderHistory) (port : ℕ) (s : Sync) (pulses : List Pulse) (now : ℕ)
+        (claim : Claim) → IsHearing (symbols_heard (fed_to h.fed port)) s pulses now
+        → told_of_widths h.rules (fed_to h.fed port) ≡ Told.Claim claim
+        → IsOfRun h.rules claim (symbols_heard (fed_to h.fed port)) s.place pulses }
 {}

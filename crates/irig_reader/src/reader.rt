@@ -1,9 +1,11 @@
 //! A reader with its ports.
 
-ghost use Rattle.std.specs.Prelude.{◌≡◌, ◌+◌, ◌<◌, ◌≤◌, ◌==◌, ◌∷◌, IfSome, Some, ℕ, List, [], length, true, false};
+ghost use Rattle.std.specs.Prelude.{◌≡◌, ◌+◌, ◌%◌, ◌^◌, ◌<◌, ◌≤◌, ◌==◌, ◌∷◌, IfSome, Some, ℕ, List, [], length, true, false};
 ghost use Rattle.irig_frame.specs.declared.symbol.Symbol.{Symbol};
 ghost use Rattle.irig_sync.specs.Sync.{flag, is_marker, place_of};
+ghost use Rattle.irig_sync.specs.Lines.{Pulse, pulse_at, IsAfter, IsSoon};
 ghost use Rattle.irig_port.specs.Heard.{symbols_heard};
+ghost use Rattle.irig_port.specs.Hearing.{heard_at, IsHearing};
 ghost use Rattle.irig_time.specs.declared.second.UtcSecond.{UtcSecond};
 ghost use Rattle.irig_time.specs.Seconds.{IsValid};
 ghost use Rattle.irig_time.specs.Timelines.{TimelineValue, IsSecond};
@@ -50,7 +52,7 @@ pub struct Reader<P: Port> {
 }
 
 impl<P: Port> Reader<P> {
-    ghost use Rattle.irig_reader.specs.History.{new_history, no_pulses, after_pulse, after_pulses, after_hearing, told_at_tick, report_at_tick, after_tick, after_restart, fed_to};
+    ghost use Rattle.irig_reader.specs.History.{ReaderHistory, new_history, no_pulses, after_pulse, after_pulses, after_hearing, told_at_tick, report_at_tick, after_tick, after_restart, fed_to};
     ghost use Rattle.irig_reader.specs.Readers.{Advances, ForReaderHistory, HasReaderHistory};
 
     /// A reader to which nothing has happened, with rules that are [`in_range`](crate::in_range).
@@ -112,7 +114,9 @@ impl<P: Port> Reader<P> {
     /// frame, 1 to 100, or 0 out of step. It rose at `rise_us`, in microseconds of a clock that
     /// wraps at 2^32, and is `width_us` microseconds wide.
     ///
-    /// The port is emptied where a frame begins, and is fed what has a place. To be ticked as a
+    /// The port is emptied where a frame begins, and is fed what has a place: so what it claims at
+    /// a tick is carried by the last hundred pulses that were in step
+    /// ([`a_claim_is_of_a_run`](crate::a_claim_is_of_a_run)). To be ticked as a
     /// second begins, behind the hundredth pulse of a frame and before the first of the next has
     /// ended; [`Sync::idle`] keeps the clock's wrap from showing.
     pub fn hear(&mut self, port: u8, sync: &mut Sync, rise_us: u32, width_us: u32) -> u8
@@ -126,6 +130,15 @@ impl<P: Port> Reader<P> {
         } }
         ensures fed { Advances self.old self.new (λ h. after_hearing h port result width_us) }
         ensures ports { self.new.redundancy ≡ self.old.redundancy }
+        ensures run { (heard : List Symbol) (pulses : List Pulse) (now time : ℕ)
+            → IsHearing heard sync.old pulses now → rise_us ≡ time % 2 ^ 32
+            → IsAfter pulses time → IsSoon now time
+            → IsHearing (heard_at result heard width_us) sync.new
+            (pulse_at time width_us ∷ pulses) time }
+        // That is what the port stands for, by what was fed to it.
+        ensures stands { (h : ReaderHistory)
+            → symbols_heard (fed_to (after_hearing h port result width_us).fed port)
+            ≡ heard_at result (symbols_heard (fed_to h.fed port)) width_us }
     {
         match port {
             0 => hear(&mut self.a, sync, rise_us, width_us),

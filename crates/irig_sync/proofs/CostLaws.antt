@@ -4,10 +4,12 @@ use Rattle.std.proofs.lemmas.Bool.{cases_Bool, cases_eq}
 use Rattle.std.proofs.lemmas.List.{append-nil}
 use Rattle.irig_frame.specs.declared.symbol.Symbol.{Symbol}
 use Rattle.irig_frame.specs.FieldTable.{is_marker_place}
+use Rattle.irig_sync.specs.Edges.{IsClock}
 use Rattle.irig_sync.specs.Sync.{is_marker_symbol, is_marker, is_on_time, place_at}
 use Rattle.irig_sync.specs.Lines.{Pulse, place_after, IsTrueLine, IsTimeOf}
 use Rattle.irig_sync.specs.FaultyLines.{IsPulseOf, ArePulsesBefore, HasOneFault, LeavesTheNext}
 use Rattle.irig_sync.proofs.LineLaws.{marks, step_at, on_time_is}
+use Rattle.irig_sync.proofs.EdgeLaws.{element_most, next_apart, far_apart}
 use Rattle.irig_sync.proofs.FaultLaws.{of_row}
 
 on_time_if : (g : ℕ) → 9000 ≤ g → g < 11000 → is_on_time g ≡ true
@@ -31,29 +33,34 @@ first_place false false place (inr (inr e)) = refl
 begins : (p q : Pulse) (ps : List Pulse) → is_marker p.width ≡ true → (is_marker q.width ≡ true) ⊎ ((is_on_time (p.rise - q.rise) ≡ false) ⊎ (place_after (q ∷ ps) ≡ 100)) → place_after (p ∷ (q ∷ ps)) ≡ 1
 begins p q ps marker c = rw marker (first_place (is_on_time (p.rise - q.rise)) (is_marker q.width) (place_after (q ∷ ps)) c)
 
-module _ (line : ℕ → Symbol) (start : ℕ) (true_line : IsTrueLine line) where
-  marks_of : (k : ℕ) (p : Pulse) → IsPulseOf line start k p → is_marker p.width ≡ is_marker_place (k % 100)
+module _ (line : ℕ → Symbol) (edges : ℕ → ℕ) (off d : ℕ) (clock : IsClock d off edges) (true_line : IsTrueLine line) where
+  marks_of : (k : ℕ) (p : Pulse) → IsPulseOf line edges off k p → is_marker p.width ≡ is_marker_place (k % 100)
   marks_of k p h = ap is_marker_symbol (h.1) ∙ marks line true_line k
 
   -- of neighbours the later one is on time
-  neighbours : (k : ℕ) (p q : Pulse) → IsPulseOf line start (suc k) p → IsPulseOf line start k q → is_on_time (p.rise - q.rise) ≡ true
-  neighbours k p q h g = let t = h.0 in let u = g.0 in on_time_if (p.rise - q.rise) (omega (arith, t.0, t.1, u.0, u.1)) (omega (arith, t.0, t.1, u.0, u.1))
+  on_time_behind : (k time before : ℕ) → IsTimeOf edges off (suc k) time → IsTimeOf edges off k before → is_on_time (time - before) ≡ true
+  on_time_behind k time before h g =
+      let gap = next_apart d off edges clock k before time g h in
+      on_time_if (time - before) (omega (arith, gap.0)) (omega (arith, gap.0, gap.1))
 
-  next_place : (k : ℕ) (p q : Pulse) (ps : List Pulse) → IsPulseOf line start (suc k) p → IsPulseOf line start k q
+  neighbours : (k : ℕ) (p q : Pulse) → IsPulseOf line edges off (suc k) p → IsPulseOf line edges off k q → is_on_time (p.rise - q.rise) ≡ true
+  neighbours k p q h g = on_time_behind k p.rise q.rise h.0 g.0
+
+  next_place : (k : ℕ) (p q : Pulse) (ps : List Pulse) → IsPulseOf line edges off (suc k) p → IsPulseOf line edges off k q
       → place_after (p ∷ (q ∷ ps)) ≡ place_at true (is_marker_place (suc k % 100)) (is_marker_place (k % 100)) (place_after (q ∷ ps))
   next_place k p q ps h g = rw (neighbours k p q h g, marks_of (suc k) p h, marks_of k q g) refl
 
   -- from the first of a frame on, whose last neighbour came or which is counted as it is, all are
-  from_first : (first oldest : ℕ) (rest : List Pulse) → first % 100 ≡ 0 → oldest ≤ first → (oldest ≡ first → (p : Pulse) → IsPulseOf line start first p → place_after (p ∷ rest) ≡ 1)
-      → (a : List Pulse) (p : Pulse) → ArePulsesBefore line start (suc (length a + oldest)) (p ∷ a) → first ≤ length a + oldest → place_after (p ∷ (a ++ rest)) ≡ (length a + oldest) % 100 + 1
+  from_first : (first oldest : ℕ) (rest : List Pulse) → first % 100 ≡ 0 → oldest ≤ first → (oldest ≡ first → (p : Pulse) → IsPulseOf line edges off first p → place_after (p ∷ rest) ≡ 1)
+      → (a : List Pulse) (p : Pulse) → ArePulsesBefore line edges off (suc (length a + oldest)) (p ∷ a) → first ≤ length a + oldest → place_after (p ∷ (a ++ rest)) ≡ (length a + oldest) % 100 + 1
   from_first first oldest rest whole low base [] p h past =
       let same : oldest ≡ first = omega (arith, low, past) in
       let here : 0 + oldest ≡ first = omega (arith, same) in
-      base same p (subst (λ (i : ℕ). IsPulseOf line start i p) here (h.0)) ∙ (let one : 1 ≡ (0 + oldest) % 100 + 1 = omega (arith, whole, same) in one)
+      base same p (subst (λ (i : ℕ). IsPulseOf line edges off i p) here (h.0)) ∙ (let one : 1 ≡ (0 + oldest) % 100 + 1 = omega (arith, whole, same) in one)
   from_first first oldest rest whole low base (q ∷ a) p h past =
       let k : ℕ = length a + oldest in
       let one : length (q ∷ a) + oldest ≡ suc k = omega arith in
-      let at : ArePulsesBefore line start (suc (suc k)) (p ∷ (q ∷ a)) = subst (λ (i : ℕ). ArePulsesBefore line start (suc i) (p ∷ (q ∷ a))) one h in
+      let at : ArePulsesBefore line edges off (suc (suc k)) (p ∷ (q ∷ a)) = subst (λ (i : ℕ). ArePulsesBefore line edges off (suc i) (p ∷ (q ∷ a))) one h in
       let step = next_place k p q (a ++ rest) (at.0) ((at.1).0) in
       step ∙ elim (cases_eq (suc k % 100) 0) [
         | inl e ↦ (let last : k % 100 ≡ 99 = omega (arith, e) in rw (e, last) (let same : 1 ≡ (length (q ∷ a) + oldest) % 100 + 1 = omega (arith, e, one) in same))
@@ -66,39 +73,38 @@ module _ (line : ℕ → Symbol) (start : ℕ) (true_line : IsTrueLine line) whe
             ∙ step_at (k % 100) (omega arith) ∙ ap (λ (i : ℕ). i + 1) (sym there) ∙ end
       ]
 
-  pub in_step : (k : ℕ) (p : Pulse) (ps : List Pulse) → ArePulsesBefore line start (suc k) (p ∷ ps) → 100 ≤ length ps → place_after (p ∷ ps) ≡ k % 100 + 1
+  pub in_step : (k : ℕ) (p : Pulse) (ps : List Pulse) → ArePulsesBefore line edges off (suc k) (p ∷ ps) → 100 ≤ length ps → place_after (p ∷ ps) ≡ k % 100 + 1
   in_step k p ps h many =
-      let low : length ps ≤ k = (of_row line start k (length ps) ps (h.1) (omega arith)).0 in
+      let low : length ps ≤ k = (of_row line edges off k (length ps) ps (h.1) (omega arith)).0 in
       let same : k ≡ length ps + (k - length ps) = omega (arith, low) in
       let first : ℕ = k - k % 100 in
       let it = from_first first (k - length ps) [] (omega arith) (omega (arith, low, many)) (λ e. absurd (omega (arith, e, low, many))) ps p
-      (subst (λ (i : ℕ). ArePulsesBefore line start (suc i) (p ∷ ps)) same h) (omega (arith, low)) in
+      (subst (λ (i : ℕ). ArePulsesBefore line edges off (suc i) (p ∷ ps)) same h) (omega (arith, low)) in
       ap (λ (l : List Pulse). place_after (p ∷ l)) (sym (append-nil ps)) ∙ it ∙ ap (λ (i : ℕ). i % 100 + 1) (sym same)
 
   -- the first of the next frame, behind a fault at the last of one
-  next_first : (k : ℕ) (fault before : List Pulse) → ArePulsesBefore line start k before → length fault ≤ 2 → k % 100 ≡ 99 → LeavesTheNext start k fault before
-      → (p : Pulse) → IsPulseOf line start (suc k) p → place_after (p ∷ (fault ++ before)) ≡ 1
+  next_first : (k : ℕ) (fault before : List Pulse) → ArePulsesBefore line edges off k before → length fault ≤ 2 → k % 100 ≡ 99 → LeavesTheNext edges off d k fault before
+      → (p : Pulse) → IsPulseOf line edges off (suc k) p → place_after (p ∷ (fault ++ before)) ≡ 1
   next_first k fault before earlier few last leaves p h = of k fault before earlier few last leaves h
     where
-      here : (k : ℕ) → k % 100 ≡ 99 → IsPulseOf line start (suc k) p → is_marker p.width ≡ true
+      here : (k : ℕ) → k % 100 ≡ 99 → IsPulseOf line edges off (suc k) p → is_marker p.width ≡ true
       here k last h = marks_of (suc k) p h ∙ ap is_marker_place (let first : suc k % 100 ≡ 0 = omega (arith, last) in first)
 
       -- a pulse at the time of the k-th element, in step
-      counted : (k : ℕ) (x : Pulse) (before : List Pulse) → ArePulsesBefore line start k before → IsTimeOf start k x.rise → place_after before ≡ 99 → is_marker x.width ≡ false → place_after (x ∷ before) ≡ 100
+      counted : (k : ℕ) (x : Pulse) (before : List Pulse) → ArePulsesBefore line edges off k before → IsTimeOf edges off k x.rise → place_after before ≡ 99 → is_marker x.width ≡ false → place_after (x ∷ before) ≡ 100
       counted k x [] earlier time step bit = absurd (omega (arith, step))
       counted zero x (q ∷ qs) earlier time step bit = absurd earlier
       counted (suc k) x (q ∷ qs) earlier time step bit =
-          let u = (earlier.0).0 in
-          let on : is_on_time (x.rise - q.rise) ≡ true = on_time_if (x.rise - q.rise) (omega (arith, time.0, time.1, u.0, u.1)) (omega (arith, time.0, time.1, u.0, u.1)) in
+          let on : is_on_time (x.rise - q.rise) ≡ true = on_time_behind k x.rise q.rise time (earlier.0).0 in
           rw (on, bit, step) refl
 
-      of : (k : ℕ) (fault before : List Pulse) → ArePulsesBefore line start k before → length fault ≤ 2 → k % 100 ≡ 99 → LeavesTheNext start k fault before → IsPulseOf line start (suc k) p → place_after (p ∷ (fault ++ before)) ≡ 1
+      of : (k : ℕ) (fault before : List Pulse) → ArePulsesBefore line edges off k before → length fault ≤ 2 → k % 100 ≡ 99 → LeavesTheNext edges off d k fault before → IsPulseOf line edges off (suc k) p → place_after (p ∷ (fault ++ before)) ≡ 1
       of k [] [] earlier few last leaves h = rw (here k last h) refl
       of zero [] (q ∷ qs) earlier few last leaves h = absurd earlier
       of (suc k) [] (q ∷ qs) earlier few last leaves h =
-          let t = h.0 in let u = (earlier.0).0 in
-          let off : is_on_time (p.rise - q.rise) ≡ false = late_if (p.rise - q.rise) (inr (omega (arith, t.0, t.1, u.0, u.1))) in
-          begins p q qs (here (suc k) last h) (inr (inl off))
+          let far = far_apart d off edges clock k (suc (suc k)) q.rise p.rise (earlier.0).0 h.0 (omega arith) in
+          let late : is_on_time (p.rise - q.rise) ≡ false = late_if (p.rise - q.rise) (inr (omega (arith, far))) in
+          begins p q qs (here (suc k) last h) (inr (inl late))
       of k (x ∷ []) before earlier few last (inl marker) h = begins p x before (here k last h) (inl marker)
       of k (x ∷ []) before earlier few last (inr plain) h = elim (cases_Bool (is_marker x.width)) [
         | inl marker ↦ begins p x before (here k last h) (inl marker)
@@ -106,12 +112,12 @@ module _ (line : ℕ → Symbol) (start : ℕ) (true_line : IsTrueLine line) whe
       ]
       of k (y ∷ (x ∷ [])) before earlier few last (inl marker) h = begins p y (x ∷ before) (here k last h) (inl marker)
       of k (y ∷ (x ∷ [])) before earlier few last (inr late) h =
-          let t = h.0 in
-          let off : is_on_time (p.rise - y.rise) ≡ false = late_if (p.rise - y.rise) (inl (omega (arith, t.0, t.1, late))) in
-          begins p y (x ∷ before) (here k last h) (inr (inl off))
+          let next = element_most d edges clock.steady k in
+          let early : is_on_time (p.rise - y.rise) ≡ false = late_if (p.rise - y.rise) (inl (omega (arith, h.0.1, next, late))) in
+          begins p y (x ∷ before) (here k last h) (inr (inl early))
       of k (y ∷ (x ∷ (w ∷ more))) before earlier few last leaves h = absurd (omega (arith, few))
 
-  pub own_frame : (pulses : List Pulse) (h : HasOneFault line start pulses) → (h.element % 100 < 99) ⊎ LeavesTheNext start h.element h.fault h.before → 100 * (h.element / 100 + 1) ≤ h.element + length h.after
+  pub own_frame : (pulses : List Pulse) (h : HasOneFault line edges off pulses) → (h.element % 100 < 99) ⊎ LeavesTheNext edges off d h.element h.fault h.before → 100 * (h.element / 100 + 1) ≤ h.element + length h.after
       → place_after pulses ≡ (h.element + length h.after) % 100 + 1
   own_frame pulses h mild past = ap place_after (h.parts) ∙ of (h.after) (h.later) past
     where
@@ -121,17 +127,17 @@ module _ (line : ℕ → Symbol) (start : ℕ) (true_line : IsTrueLine line) whe
       first : ℕ
       first = 100 * (h.element / 100 + 1)
 
-      base : suc h.element ≡ 100 * (h.element / 100 + 1) → (p : Pulse) → IsPulseOf line start (100 * (h.element / 100 + 1)) p → place_after (p ∷ (h.fault ++ h.before)) ≡ 1
+      base : suc h.element ≡ 100 * (h.element / 100 + 1) → (p : Pulse) → IsPulseOf line edges off (100 * (h.element / 100 + 1)) p → place_after (p ∷ (h.fault ++ h.before)) ≡ 1
       base e p is = elim mild [
         | inl less ↦ absurd (omega (arith, less, e))
-        | inr leaves ↦ next_first (h.element) (h.fault) (h.before) (h.earlier) (h.few) (omega (arith, e)) leaves p (subst (λ (i : ℕ). IsPulseOf line start i p) (sym e) is)
+        | inr leaves ↦ next_first (h.element) (h.fault) (h.before) (h.earlier) (h.few) (omega (arith, e)) leaves p (subst (λ (i : ℕ). IsPulseOf line edges off i p) (sym e) is)
       ]
 
-      of : (after : List Pulse) → ArePulsesBefore line start (length after + suc h.element) after → 100 * (h.element / 100 + 1) ≤ h.element + length after → place_after (after ++ (h.fault ++ h.before)) ≡ (h.element + length after) % 100 + 1
+      of : (after : List Pulse) → ArePulsesBefore line edges off (length after + suc h.element) after → 100 * (h.element / 100 + 1) ≤ h.element + length after → place_after (after ++ (h.fault ++ h.before)) ≡ (h.element + length after) % 100 + 1
       of [] later past = absurd (omega (arith, past))
       of (p ∷ a) later past =
           let one : length (p ∷ a) + suc h.element ≡ suc (length a + suc h.element) = omega arith in
           let same : length a + suc h.element ≡ h.element + length (p ∷ a) = omega arith in
           from_first (100 * (h.element / 100 + 1)) (suc h.element) (h.fault ++ h.before) (omega arith) (omega arith) base a p
-          (subst (λ (i : ℕ). ArePulsesBefore line start i (p ∷ a)) one later) (omega (arith, past, same))
+          (subst (λ (i : ℕ). ArePulsesBefore line edges off i (p ∷ a)) one later) (omega (arith, past, same))
           ∙ ap (λ (i : ℕ). i % 100 + 1) same

@@ -1,4 +1,5 @@
 pub mod LineLaws
+pub mod EdgeLaws
 pub mod FaultLaws
 pub mod CostLaws
 pub mod StandardFacts

@@ -1,14 +1,14 @@
 -- What is counted came on time, and no rotation of true frames reads as one.
 use Rattle.std.proofs.Common.{◌↔◌, ◌^◌, rules, ◌≡◌, ℕ, zero, suc, ◌+◌, ◌-◌, ◌%◌, ◌<◌, ◌≤◌, Bool, true, false, cond, eqb, nat_lt, not, List, [], ◌∷◌, Option, Some, refl, sym, subst, ap, ◌∙◌, arith, inl, inr}
-use Rattle.std.proofs.lemmas.Bool.{cases_Bool, agree_below_at, eqb-true}
+use Rattle.std.proofs.lemmas.Bool.{cases_Bool, cases_lt, agree_below_at, eqb-true}
 use Rattle.irig_frame.specs.declared.symbol.Symbol.{Symbol}
 use Rattle.irig_frame.specs.declared.symbol.Symbol.TheVariants.{Zero, One, Marker, Bad}
 use Rattle.irig_frame.specs.declared.coded.Coded.{Coded}
 use Rattle.irig_frame.specs.FieldTable.{is_marker_place}
 use Rattle.irig_frame.specs.Decoder.{IsRight, Reads}
 use Rattle.irig_sync.specs.declared.sync.Sync.{Sync}
-use Rattle.irig_sync.specs.Sync.{is_marker_symbol, is_marker, is_on_time, clock_gap, place_at, place_behind, place_of, pulse_of, flag}
-use Rattle.irig_sync.specs.Lines.{Pulse, pulse_at, IsSyncOf, IsInTurn, place_after, AreOnTime, ArePlacesFrom, IsTrueLine, IsTimeOf, StandAt, IsAfter, IsLive, IsIdle, IsOut, IsSyncAt, IsSoon}
+use Rattle.irig_sync.specs.Sync.{is_marker_symbol, is_marker, is_on_time, clock_gap, place_at, place_behind, place_of, pulse_of, is_idle, idle_of, flag}
+use Rattle.irig_sync.specs.Lines.{Pulse, pulse_at, IsSyncOf, IsInTurn, place_after, AreOnTime, ArePlacesFrom, IsTrueLine, StandAt, IsAfter, IsLive, IsIdle, IsOut, IsSyncAt, IsSoon}
 
 -- ---- no rotation
 
@@ -122,7 +122,7 @@ counted (p ∷ (q ∷ ps)) = step (counted (q ∷ ps)) (is_on_time (p.rise - q.r
 
 -- ---- a pulse more
 
-gap_is : (u v : ℕ) → u ≤ v → v < u + 2 ^ 32 → clock_gap (u % 2 ^ 32) (v % 2 ^ 32) ≡ v - u
+pub gap_is : (u v : ℕ) → u ≤ v → v < u + 2 ^ 32 → clock_gap (u % 2 ^ 32) (v % 2 ^ 32) ≡ v - u
 gap_is u v h k = omega arith
 
 -- a byte that says it is read so
@@ -155,18 +155,8 @@ pub one_more : (s : Sync) (pulses : List Pulse) (time width : ℕ) → IsSyncOf 
     → IsSyncOf (pulse_of s (time % 2 ^ 32) width) (pulse_at time width ∷ pulses)
 one_more s pulses time width h near = record { place = next_place s pulses time width h near; last = (refl, refl) }
 
--- ---- no slip
-
 pub on_time_is : (g : ℕ) → (is_on_time g ≡ true) ↔ ((9000 ≤ g) × (g < 11000))
 on_time_is g = search rules
-
-pub slips_not : (start j k before time : ℕ) → IsTimeOf start j before → IsTimeOf start k time → j < k → time - before < 2 ^ 32
-    → (is_on_time (clock_gap (before % 2 ^ 32) (time % 2 ^ 32)) ≡ true) ↔ (k ≡ j + 1)
-slips_not start j k before time a b lt short =
-    let order : before ≤ time = omega (arith, a.0, a.1, b.0, b.1) in
-    let same : clock_gap (before % 2 ^ 32) (time % 2 ^ 32) ≡ time - before = gap_is before time order (omega (arith, order, short)) in
-    let test : (is_on_time (clock_gap (before % 2 ^ 32) (time % 2 ^ 32)) ≡ true) ↔ ((9000 ≤ clock_gap (before % 2 ^ 32) (time % 2 ^ 32)) × (clock_gap (before % 2 ^ 32) (time % 2 ^ 32) < 11000)) = on_time_is (clock_gap (before % 2 ^ 32) (time % 2 ^ 32)) in
-    (λ on. let it = test.0 on in omega (arith, a.0, a.1, b.0, b.1, same, it.0, it.1), λ e. test.1 (omega (arith, a.0, a.1, b.0, b.1, same, e), omega (arith, a.0, a.1, b.0, b.1, same, e)))
 
 -- ---- an idle line
 
@@ -196,3 +186,36 @@ pub pulse_at_time : (s : Sync) (pulses : List Pulse) (now time width : ℕ) → 
     → IsSyncAt (pulse_of s (time % 2 ^ 32) width) (pulse_at time width ∷ pulses) time
 pulse_at_time s pulses now time width h after soon =
     inl (record { place = place_at_time s pulses now time width h after soon; last = (refl, refl) }, (omega arith, omega arith))
+
+pub first_at_time : (s : Sync) (now : ℕ) → IsSyncOf s [] → IsSyncAt s [] now
+first_at_time s now h = inr ((h.place, h.last), tt)
+
+not_idle : (g : ℕ) → g < 1000000 → is_idle g ≡ false
+not_idle g h = grind (arith, h)
+
+so_idle : (g : ℕ) → 1000000 ≤ g → g < 2 ^ 31 → is_idle g ≡ true
+so_idle g h k = grind (arith, h, k)
+
+longer_idle : (pulses : List Pulse) (now time : ℕ) → now ≤ time → IsIdle pulses now → IsIdle pulses time
+longer_idle [] now time on idle = tt
+longer_idle (p ∷ ps) now time on idle = omega (arith, idle, on)
+
+stays_out : (s : Sync) (b : Bool) → IsOut s → IsOut (cond b (record s { place = 0; was_marker = 1 }) s)
+stays_out s true out = (refl, refl)
+stays_out s false out = out
+
+pub idle_at_time : (s : Sync) (pulses : List Pulse) (now time : ℕ) → IsSyncAt s pulses now → now ≤ time → IsSoon now time → IsSyncAt (idle_of s (time % 2 ^ 32)) pulses time
+idle_at_time s [] now time (inl live) on soon = absurd live.1
+idle_at_time s (p ∷ ps) now time (inl live) on soon =
+    let gap : clock_gap s.rise_us (time % 2 ^ 32) ≡ time - p.rise =
+    ap (λ (x : ℕ). clock_gap x (time % 2 ^ 32)) (live.0).last.0 ∙ gap_is p.rise time (omega (arith, live.1.0, on)) (omega (arith, live.1.1, soon.1)) in
+    elim (cases_lt (time - p.rise) 1000000) [
+      | inl less ↦
+          let stays : is_idle (clock_gap s.rise_us (time % 2 ^ 32)) ≡ false = ap is_idle gap ∙ not_idle (time - p.rise) less in
+          rw stays (inl (live.0, (omega (arith, live.1.0, on), omega (arith, less))))
+      | inr long ↦
+          let goes : is_idle (clock_gap s.rise_us (time % 2 ^ 32)) ≡ true = ap is_idle gap ∙ so_idle (time - p.rise) long (omega (arith, live.1.1, soon.1)) in
+          rw goes (inr ((refl, refl), omega (arith, long)))
+    ]
+idle_at_time s pulses now time (inr out) on soon =
+    inr (stays_out s (is_idle (clock_gap s.rise_us (time % 2 ^ 32))) out.0, longer_idle pulses now time on out.1)

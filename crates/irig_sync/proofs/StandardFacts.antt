@@ -1,5 +1,5 @@
 -- Known values of the synchroniser, so that a wrong definition does not check.
-use Rattle.std.proofs.Common.{◌≡◌, ℕ, ◌+◌, ◌%◌, ◌^◌, ◌<◌, not, Bool, true, false, eqb, List, [], ◌∷◌, map, get_or, Option, Some, None, suc, ◌∙◌, ap, length, refl, arith, inl, inr}
+use Rattle.std.proofs.Common.{◌≡◌, ◌↔◌, ℕ, ◌+◌, ◌-◌, ◌*◌, ◌%◌, ◌^◌, ◌<◌, not, Bool, true, false, eqb, List, [], ◌∷◌, map, get_or, Option, Some, None, suc, ◌∙◌, ap, length, refl, arith, inl, inr}
 use Rattle.std.specs.Prelude.{codes, slice_get}
 use Rattle.std.proofs.lemmas.Bool.{agree_below_at, eqb-true}
 use Rattle.std.proofs.lemmas.List.FromFn.{get_or-map-range_with_len, length-map-range_with_len}
@@ -13,6 +13,7 @@ use Rattle.irig_frame.specs.Decoder.{IsRight}
 use Rattle.irig_frame.specs.declared.fault.FrameFault.TheVariants as fault
 use Rattle.irig_frame.specs.Faults.{first_wrong}
 use Rattle.irig_sync.specs.declared.sync.Sync.{Sync}
+use Rattle.irig_sync.specs.Edges.{IsSteady, element_at, IsClock}
 use Rattle.irig_sync.specs.Sync.{is_marker_symbol, is_marker, is_on_time, clock_gap, place_at, place_behind, place_of, is_idle, idle_of}
 use Rattle.irig_sync.specs.Lines.{Pulse, pulse_at, place_after, AreOnTime, symbols_of_last, IsTrueLine, ArePlacesFrom, StandAt, IsTimeOf, IsInTurn, IsLive, IsIdle, IsSyncAt, IsSoon}
 
@@ -74,9 +75,35 @@ known_symbols = (refl, refl, refl)
 pub known_on_time : AreOnTime 2 begun × AreOnTime 3 begun × ¬ AreOnTime 4 begun × ¬ AreOnTime 2 (pulse_at 40000 2000 ∷ begun)
 known_on_time = ((refl, tt), (refl, (refl, tt)), λ h. h.1.1, λ h. absurd (let it = h.0 in cc))
 
--- the times of a line's third element, if it began at 1000
-pub known_times : IsTimeOf 1000 3 31000 × IsTimeOf 1000 3 30501 × IsTimeOf 1000 3 31499 × ¬ IsTimeOf 1000 3 30500 × ¬ IsTimeOf 1000 3 31500
+-- ---- a counter that drifts
+
+-- it runs 100 us a second fast
+abbrev pub fast : ℕ → ℕ
+fast n = 1000 + 1000100 * n
+
+-- and no less
+pub known_steady : IsSteady 100 fast × ¬ IsSteady 99 fast × ¬ IsSteady 99 (λ n. 2000000 - 999900 * n)
+known_steady = (record { least = λ n. omega arith; most = λ n. omega arith }, λ h. absurd (let it = h.most 0 in omega (arith, it)), λ h. absurd (let it = h.least 0 in omega (arith, it)))
+
+-- within a frame its elements lie 10 ms apart, and at a frame's end 10.1
+pub known_elements : map (element_at fast) (0 ∷ 1 ∷ 99 ∷ 100 ∷ 101 ∷ []) ≡ 1000 ∷ 11000 ∷ 991000 ∷ 1001100 ∷ 1011100 ∷ []
+known_elements = refl
+
+-- pulses less than 450 us off are told apart by it; 451 us are too many
+pub known_told_apart : IsClock 100 450 fast × ¬ IsClock 100 451 fast × ¬ IsClock 99 450 fast
+known_told_apart = (record { steady = known_steady.0; near = omega arith }, λ h. absurd (omega (arith, h.near)), λ h. absurd (let it = h.steady.most 0 in omega (arith, it)))
+
+-- the times of the third element of its second frame
+pub known_times : IsTimeOf fast 450 103 1031100 × IsTimeOf fast 450 103 1030651 × IsTimeOf fast 450 103 1031549 × ¬ IsTimeOf fast 450 103 1030650 × ¬ IsTimeOf fast 450 103 1031550
 known_times = ((omega arith, omega arith), (omega arith, omega arith), (omega arith, omega arith), λ h. absurd (omega (arith, h.0)), λ h. absurd (omega (arith, h.1)))
+
+-- a counter that does not drift is one of these, with pulses less than 500 us off the grid of 10 ms
+-- that begins with the line
+pub one_clock : (start : ℕ) → IsClock 0 500 (λ n. start + 1000000 * n)
+one_clock start = record { steady = record { least = λ n. omega arith; most = λ n. omega arith }; near = omega arith }
+
+pub one_start : (start k time : ℕ) → ((start + 10000 * k < time + 500) × (time < start + 10000 * k + 500)) ↔ IsTimeOf (λ n. start + 1000000 * n) 500 k time
+one_start start k time = (λ h. (omega (arith, h.0), omega (arith, h.1)), λ h. (omega (arith, h.0), omega (arith, h.1)))
 
 -- ---- an idle line
 

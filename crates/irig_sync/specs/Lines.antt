@@ -1,11 +1,12 @@
 -- Lines: the pulses that came, and a line of true frames. Times here are those of a clock that does
 -- not wrap.
 -- Source: docs/FRAME.md; IRIG Standard 200-16, format B.
-use Rattle.std.specs.Prelude.{◌≡◌, ℕ, suc, ◌+◌, ◌-◌, ◌*◌, ◌%◌, ◌^◌, ◌<◌, ◌≤◌, ◌⊎◌, true, List, [], ◌∷◌, ◌++◌, Some, slice_get, ⊤}
+use Rattle.std.specs.Prelude.{◌≡◌, ℕ, suc, ◌+◌, ◌-◌, ◌%◌, ◌^◌, ◌<◌, ◌≤◌, ◌⊎◌, true, List, [], ◌∷◌, ◌++◌, Some, slice_get, ⊤}
 use Rattle.irig_frame.specs.declared.symbol.Symbol.{Symbol}
 use Rattle.irig_frame.specs.Symbols.{symbol_of}
 use Rattle.irig_frame.specs.Decoder.{IsRight}
 use Rattle.irig_sync.specs.declared.sync.Sync.{Sync}
+use Rattle.irig_sync.specs.Edges.{element_at}
 use Rattle.irig_sync.specs.Sync.{is_marker_symbol, is_marker, is_on_time, place_at, flag}
 
 -- a pulse, by its leading edge and its width in microseconds
@@ -63,9 +64,10 @@ ArePlacesFrom line a places =
     → places (suc k)
     ≡ place_at true (is_marker_symbol (line (suc k))) (is_marker_symbol (line k)) (places k)
 
--- the time of a line's k-th element, less than half a millisecond off; the line began at `start`
-abbrev pub IsTimeOf : ℕ → ℕ → ℕ → Type 0
-IsTimeOf start k time = (start + 10000 * k < time + 500) × (time < start + 10000 * k + 500)
+-- the time is that of a line's k-th element, less than `off` us off; its frames begin at `edges`
+abbrev pub IsTimeOf : (ℕ → ℕ) → ℕ → ℕ → ℕ → Type 0
+IsTimeOf edges off k time =
+    (element_at edges k < time + off) × (time < element_at edges k + off)
 
 -- these hundred symbols stand on the line from its k-th on
 abbrev pub StandAt : (ℕ → Symbol) → ℕ → List Symbol → Type 0

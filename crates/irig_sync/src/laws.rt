@@ -4,6 +4,7 @@ ghost use Rattle.std.specs.Prelude.{◌≡◌, ◌↔◌, ◌⊎◌, ◌<◌, �
 ghost use Rattle.irig_frame.specs.declared.symbol.Symbol.{Symbol};
 ghost use Rattle.irig_frame.specs.Decoder.{Reads};
 ghost use Rattle.irig_sync.specs.declared.sync.Sync.{Sync};
+ghost use Rattle.irig_sync.specs.Edges.{IsClock};
 ghost use Rattle.irig_sync.specs.Sync.{is_on_time, clock_gap, place_of, pulse_of, idle_of};
 ghost use Rattle.irig_sync.specs.Lines.{Pulse, pulse_at, IsSyncOf, IsInTurn, place_after, AreOnTime, ArePlacesFrom, IsTrueLine, IsTimeOf, StandAt, IsAfter, IsSyncAt, IsSoon};
 ghost use Rattle.irig_sync.specs.FaultyLines.{ArePulsesBefore, HasOneFault, LeavesTheNext};
@@ -40,9 +41,13 @@ pub fn found_after_101_pulses()
 /// A pulse of a line that comes behind another one, whatever was lost between, is on time exactly
 /// if it is that of the next element: so no loss moves a symbol. (Less than a turn of the clock
 /// lies between: see [`no_wrap`].)
+///
+/// The clock may drift: by d us a second, if pulses rise less than `off` us from their elements'
+/// times and 2 off + d is 1,000 at most; so by 100 us if they lie less than 450 us off. By one that
+/// does not drift they may lie 500 us off: d = 0, off = 500 and edges 1,000,000 us apart.
 pub fn no_slip()
-    ensures { (start j k before time : ℕ) → IsTimeOf start j before → IsTimeOf start k time
-        → j < k → time - before < 2 ^ 32
+    ensures { (edges : ℕ → ℕ) (off d j k before time : ℕ) → IsClock d off edges
+        → IsTimeOf edges off j before → IsTimeOf edges off k time → j < k → time - before < 2 ^ 32
         → (is_on_time (clock_gap (before % 2 ^ 32) (time % 2 ^ 32)) ≡ true) ↔ (k ≡ j + 1) }
 {}
 
@@ -65,14 +70,16 @@ pub fn no_wrap()
 /// pulses, each pulse has the place of its element, and it has so again from the next frame's first
 /// pulse on if one pulse was lost, or other ones came in its place.
 ///
-/// At a frame's last element the first of the next frame has to be left: see `LeavesTheNext`.
+/// At a frame's last element the first of the next frame has to be left: see `LeavesTheNext`. The
+/// clock may drift, as in [`no_slip`].
 pub fn a_fault_costs_its_own_frame()
-    ensures in_step { (line : ℕ → Symbol) (start k : ℕ) (p : Pulse) (ps : List Pulse)
-        → IsTrueLine line → ArePulsesBefore line start (suc k) (p ∷ ps) → 100 ≤ length ps
+    ensures in_step { (line : ℕ → Symbol) (edges : ℕ → ℕ) (off d k : ℕ) (p : Pulse)
+        (ps : List Pulse) → IsTrueLine line → IsClock d off edges
+        → ArePulsesBefore line edges off (suc k) (p ∷ ps) → 100 ≤ length ps
         → place_after (p ∷ ps) ≡ k % 100 + 1 }
-    ensures behind { (line : ℕ → Symbol) (start : ℕ) (pulses : List Pulse) → IsTrueLine line
-        → (h : HasOneFault line start pulses)
-        → (h.element % 100 < 99) ⊎ LeavesTheNext start h.element h.fault h.before
+    ensures behind { (line : ℕ → Symbol) (edges : ℕ → ℕ) (off d : ℕ) (pulses : List Pulse)
+        → IsTrueLine line → IsClock d off edges → (h : HasOneFault line edges off pulses)
+        → (h.element % 100 < 99) ⊎ LeavesTheNext edges off d h.element h.fault h.before
         → 100 * (h.element / 100 + 1) ≤ h.element + length h.after
         → place_after pulses ≡ (h.element + length h.after) % 100 + 1 }
 {}
