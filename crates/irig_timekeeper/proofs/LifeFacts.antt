@@ -16,6 +16,7 @@ use Rattle.irig_time.specs.Claims.{utc_minute}
 use Rattle.irig_time.specs.Days.{is_month_end, four_years}
 use Rattle.irig_frame.specs.FieldTable.{is_marker_place}
 use Rattle.irig_control.specs.declared.parity.Parity.TheVariants as parity
+use Rattle.irig_sync.specs.Edges.{element_at}
 use Rattle.irig_sync.specs.Lines.{Pulse, pulse_at, IsAfter, IsTrueLine, StandAt}
 use Rattle.irig_time.specs.declared.second.UtcSecond.{UtcSecond}
 use Rattle.irig_time.specs.declared.mark.Mark.TheVariants.{Unspoken}
@@ -42,8 +43,8 @@ use Rattle.irig_timekeeper.specs.declared.lines.Line.{Line}
 use Rattle.irig_timekeeper.specs.declared.lines.Lines.{Lines}
 use Rattle.irig_timekeeper.specs.declared.clock.Beat.{Beat}
 use Rattle.irig_timekeeper.specs.declared.clock.ClockRules.{ClockRules}
-use Rattle.irig_timekeeper.specs.Edges.{IsSteady}
-use Rattle.irig_timekeeper.specs.Lines.{element_at, ArePulsesLately, IsLineOf, IsTrueLately}
+use Rattle.irig_timekeeper.specs.Edges.{IsQuartz}
+use Rattle.irig_timekeeper.specs.Lines.{ArePulsesLately, IsLineOf, IsTrueLately}
 use Rattle.irig_timekeeper.specs.Steps.{IsNewLine, AreNewLines}
 use Rattle.irig_timekeeper.specs.Keeping.{Keeping, new_keeping, restarted, after_pulse, after_tick, answer_at, stamp_at}
 use Rattle.irig_timekeeper.specs.Truth.{IsDevice, IsToldInHoldover, IsLaterSecond}
@@ -57,8 +58,8 @@ use Rattle.irig_timekeeper.proofs.LifeLaws.{TellAlwaysTruly, device_true, device
 abbrev edges : ℕ → ℕ
 edges n = 4293500000 + 1000100 * n
 
-steady : IsSteady 100 edges
-steady = record { few = omega arith; least = λ n. omega arith; most = λ n. omega arith }
+steady : IsQuartz 100 edges
+steady = record { few = omega arith; steady = record { least = λ n. omega arith; most = λ n. omega arith } }
 
 abbrev at : ℕ → UtcSecond
 at sod = record { day = 6209; sod = sod }
@@ -302,11 +303,7 @@ lately_is now k (p ∷ ps) e =
     inr (
       j,
       ltb-true j k one.0,
-      record {
-        late = ltb-true _ _ two.0;
-        early = ltb-true _ _ three.0;
-        symbol = same_is (symbol_of p.width) (line j) four.0;
-      },
+      ((ltb-true _ _ three.0, ltb-true _ _ two.0), same_is (symbol_of p.width) (line j) four.0),
       lately_is now j ps four.1,
     )
 
@@ -502,7 +499,7 @@ stray : ¬ IsTrueLately rules noon edges 4293600000 stray_pulse
 unfolding stray_pulse
 stray is = elim is.are [
   | inl old ↦ absurd (omega (arith, old.0))
-  | inr new ↦ (let low : new.0 % 100 < 100 = omega arith in absurd (omega (arith, low, new.2.late, new.2.early)))
+  | inr new ↦ (let low : new.0 % 100 < 100 = omega arith in absurd (omega (arith, low, new.2.0.0, new.2.0.1)))
 ]
 
 stray_old : IsTrueLately rules noon edges 4294700601 stray_pulse

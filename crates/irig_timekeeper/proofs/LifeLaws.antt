@@ -1,19 +1,18 @@
 -- The life of a device.
 use Rattle.std.specs.Prelude.{◌==◌, ◌&&◌}
-use Rattle.std.proofs.Common.{◌≡◌, ◌∙◌, ◌⊎◌, ℕ, zero, suc, ◌+◌, ◌-◌, ◌%◌, ◌^◌, ◌<◌, ◌≤◌, Bool, true, false, cond, List, [], ◌∷◌, ◌++◌, length, Option, Some, None, refl, sym, ap, subst, arith, inl, inr, append-nil}
-use Rattle.std.proofs.lemmas.Bool.{cases_Bool, cases_lt, eqb-true, eqb-false, ne_eqb}
+use Rattle.std.proofs.Common.{◌≡◌, ◌∙◌, ◌⊎◌, ℕ, zero, suc, ◌+◌, ◌%◌, ◌^◌, ◌<◌, ◌≤◌, Bool, true, false, cond, List, [], ◌∷◌, ◌++◌, length, Option, Some, None, refl, sym, ap, subst, arith, inl, inr, append-nil}
+use Rattle.std.proofs.lemmas.Bool.{cases_Bool, eqb-true, eqb-false, ne_eqb}
 use Rattle.irig_frame.specs.declared.symbol.Symbol.{Symbol}
-use Rattle.irig_sync.specs.declared.sync.Sync.{Sync}
-use Rattle.irig_sync.specs.Sync.{place_of, idle_of, is_idle, clock_gap}
-use Rattle.irig_sync.specs.Lines.{Pulse, pulse_at, place_after, IsSyncAt, IsIdle, IsOut, IsAfter, IsSoon}
+use Rattle.irig_sync.specs.Sync.{place_of}
+use Rattle.irig_sync.specs.Lines.{Pulse, pulse_at, place_after, IsAfter, IsSoon}
 use Rattle.irig_sync.proofs.LineLaws.{place_at_time}
 use Rattle.irig_time.specs.declared.second.UtcSecond.{UtcSecond}
 use Rattle.irig_time.specs.declared.rules.Rules.{Rules}
 use Rattle.irig_time.specs.Timelines.{TimelineValue}
 use Rattle.irig_time.specs.Tables.{TableValue}
 use Rattle.irig_port.specs.Told.{told_of}
-use Rattle.irig_port.specs.Hearing.{heard_at, heard_of_last, IsHearing, IsRun}
-use Rattle.irig_port.proofs.RunLaws.{hears}
+use Rattle.irig_port.specs.Hearing.{heard_at, heard_of_last, IsHearing}
+use Rattle.irig_port.proofs.RunLaws.{hears, first_hears, idle_hears}
 use Rattle.irig_vote.specs.declared.redundancy.Redundancy.{Redundancy}
 use Rattle.irig_vote.specs.Vote.{f_of}
 use Rattle.irig_reader.specs.declared.report.Cause.TheVariants as cause
@@ -37,44 +36,6 @@ use Rattle.irig_timekeeper.proofs.LineLaws.{kept_more}
 use Rattle.irig_timekeeper.proofs.WholeLaws.{whole_of, AreSorted, whole_here, not_whole}
 use Rattle.irig_timekeeper.proofs.VoteLaws.{TellsTruly, still, not_late}
 use Rattle.irig_timekeeper.proofs.TrackLaws.{KeepsTrue, tick_true}
-
--- ---- an idle line
-
-gap_is : (u v : ℕ) → u ≤ v → v < u + 2 ^ 32 → clock_gap (u % 2 ^ 32) (v % 2 ^ 32) ≡ v - u
-gap_is u v h k = omega arith
-
-not_idle : (g : ℕ) → g < 1000000 → is_idle g ≡ false
-not_idle g h = grind (arith, h)
-
-so_idle : (g : ℕ) → 1000000 ≤ g → g < 2 ^ 31 → is_idle g ≡ true
-so_idle g h k = grind (arith, h, k)
-
-longer_idle : (pulses : List Pulse) (now time : ℕ) → now ≤ time → IsIdle pulses now → IsIdle pulses time
-longer_idle [] now time on idle = tt
-longer_idle (p ∷ ps) now time on idle = omega (arith, idle, on)
-
-stays_out : (s : Sync) (b : Bool) → IsOut s → IsOut (cond b (record s { place = 0; was_marker = 1 }) s)
-stays_out s true out = (refl, refl)
-stays_out s false out = out
-
-idle_sync : (s : Sync) (pulses : List Pulse) (now time : ℕ) → IsSyncAt s pulses now → now ≤ time → IsSoon now time → IsSyncAt (idle_of s (time % 2 ^ 32)) pulses time
-idle_sync s [] now time (inl live) on soon = absurd live.1
-idle_sync s (p ∷ ps) now time (inl live) on soon =
-    let gap : clock_gap s.rise_us (time % 2 ^ 32) ≡ time - p.rise = ap (λ (x : ℕ). clock_gap x (time % 2 ^ 32)) (live.0).last.0 ∙ gap_is p.rise time (omega (arith, live.1.0, on)) (omega (arith, live.1.1, soon.1)) in
-    elim (cases_lt (time - p.rise) 1000000) [
-      | inl less ↦
-          let stays : is_idle (clock_gap s.rise_us (time % 2 ^ 32)) ≡ false = ap is_idle gap ∙ not_idle (time - p.rise) less in
-          rw stays (inl (live.0, (omega (arith, live.1.0, on), omega (arith, less))))
-      | inr long ↦
-          let goes : is_idle (clock_gap s.rise_us (time % 2 ^ 32)) ≡ true = ap is_idle gap ∙ so_idle (time - p.rise) long (omega (arith, live.1.1, soon.1)) in
-          rw goes (inr ((refl, refl), omega (arith, long)))
-    ]
-idle_sync s pulses now time (inr out) on soon =
-    inr (stays_out s (is_idle (clock_gap s.rise_us (time % 2 ^ 32))) out.0, longer_idle pulses now time on out.1)
-
-idle_run : (heard : List Symbol) (s : Sync) (pulses : List Pulse) (b : Bool) → IsRun heard s.place pulses → IsRun heard (cond b (record s { place = 0; was_marker = 1 }) s).place pulses
-idle_run heard s pulses false run = run
-idle_run heard s pulses true run = record { late = run.late; count = run.count; symbols = run.symbols; all = run.all; on_time = run.on_time; out = run.out; step = inl refl }
 
 -- ---- one line
 
@@ -155,7 +116,7 @@ module _ (rules : Rules) where
       let soon : IsSoon l.told time = (omega (arith, later), omega (arith, l.near, half)) in
       record {
         told = time;
-        hearing = record { sync = idle_sync line.sync pulses l.told time l.hearing.sync later soon; run = idle_run heard line.sync pulses (is_idle (clock_gap line.sync.rise_us (time % 2 ^ 32))) l.hearing.run };
+        hearing = idle_hears heard line.sync pulses l.told time l.hearing later soon;
         all = l.all;
         sorted = l.sorted;
         kept = still_there line.frame pulses tick now time on half l.kept;
@@ -442,10 +403,7 @@ nothing_by (suc (suc (suc (suc (suc i))))) low = absurd (omega (arith, low))
 new_line : (rules : Rules) (line : Line) (start : ℕ) → IsNewLine line → IsLineAt rules [] line [] start start
 new_line rules line start is = record {
   told = start;
-  hearing = record {
-    sync = inr ((is.sync.place, is.sync.last), tt);
-    run = record { late = 0; count = 0; symbols = refl; all = refl; on_time = tt; out = λ i less. absurd (omega (arith, less)); step = inl is.sync.place };
-  };
+  hearing = first_hears line.sync start is.sync;
   all = refl;
   sorted = tt;
   kept = subst (λ (o : Option KeptFrame). IfKept (IsEndAt [] start start) rules (claim_kept o) []) (sym is.frame) tt;

@@ -1,12 +1,14 @@
 -- A line that was true for a frame: its claim is the frame's own.
-use Rattle.std.proofs.Common.{◌≡◌, ℕ, zero, suc, ◌+◌, ◌-◌, ◌*◌, ◌/◌, ◌%◌, ◌^◌, ◌<◌, ◌≤◌, true, List, [], ◌∷◌, ◌++◌, length, length-append, drop, Option, Some, None, refl, sym, subst, ap, ◌∙◌, arith, inl, inr}
+use Rattle.std.proofs.Common.{◌≡◌, ℕ, zero, suc, ◌+◌, ◌-◌, ◌*◌, ◌/◌, ◌%◌, ◌^◌, ◌<◌, ◌≤◌, List, [], ◌∷◌, ◌++◌, length, length-append, drop, Option, Some, None, refl, sym, subst, ap, ◌∙◌, arith, inl, inr}
 use Rattle.std.specs.Prelude.{slice_get, ◌==◌}
 use Rattle.std.proofs.lemmas.Bool.{cases_Bool, cases_lt, eqb-true, eqb-false}
 use Rattle.irig_frame.specs.declared.symbol.Symbol.{Symbol}
 use Rattle.irig_frame.specs.Symbols.{symbol_of}
-use Rattle.irig_sync.specs.Sync.{is_on_time}
 use Rattle.irig_sync.specs.Lines.{Pulse, pulse_at, AreOnTime, StandAt, symbols_of_last}
+use Rattle.irig_sync.specs.Edges.{element_at, IsClock}
+use Rattle.irig_sync.specs.FaultyLines.{IsPulseOf}
 use Rattle.irig_sync.proofs.LineLaws.{on_time_is, only_whole}
+use Rattle.irig_sync.proofs.EdgeLaws.{is_next}
 use Rattle.irig_time.specs.declared.rules.Rules.{Rules}
 use Rattle.irig_time.specs.declared.claim.Claim.{Claim}
 use Rattle.irig_time.specs.Carries.{Carries}
@@ -16,10 +18,10 @@ use Rattle.irig_port.specs.declared.told.Told.TheVariants as tells
 use Rattle.irig_port.specs.Told.{told_of}
 use Rattle.irig_port.specs.Hearing.{IsRun}
 use Rattle.irig_port.proofs.CarriesLaws.{carries_is_told}
-use Rattle.irig_timekeeper.specs.Edges.{IsSteady, IsTrueNear}
+use Rattle.irig_timekeeper.specs.Edges.{IsQuartz, IsTrueNear}
 use Rattle.irig_timekeeper.specs.declared.lines.KeptFrame.{KeptFrame}
 use Rattle.irig_timekeeper.specs.declared.lines.KeptClaim.{KeptClaim}
-use Rattle.irig_timekeeper.specs.Lines.{element_at, IsPulseAt, ArePulsesLately, IsLineOf, IsTrueLately, IsLastBefore, IsFrameOf, IfKept}
+use Rattle.irig_timekeeper.specs.Lines.{ArePulsesLately, IsLineOf, IsTrueLately, IsLastBefore, IsFrameOf, IfKept}
 use Rattle.irig_timekeeper.specs.Steps.{claim_told, claim_kept, frame_behind}
 
 -- ---- one symbol more
@@ -55,48 +57,18 @@ stands_one : (line : ℕ → Symbol) (first : ℕ) (x : Symbol) → x ≡ line f
 unfolding StandFrom
 stands_one line first x is = (refl, λ i less. (let none : i ≡ 0 = omega (arith, less) in let here : first + 0 ≡ first = omega arith in rw (none, here) (ap Some is)))
 
--- ---- elements, each some 10 ms behind the one before
+-- ---- pulses in a row
 
-module _ (d : ℕ) (edges : ℕ → ℕ) (steady : IsSteady d edges) where
-  next_element : (k : ℕ) → element_at edges k + 9900 ≤ element_at edges (k + 1)
-  next_element k = elim (cases_lt (k % 100) 99) [
-    | inl inside ↦
-        let frame : (k + 1) / 100 ≡ k / 100 = omega (arith, inside) in
-        let place : (k + 1) % 100 ≡ k % 100 + 1 = omega (arith, inside) in
-        rw (frame, place) (omega arith)
-    | inr last ↦
-        let frame : (k + 1) / 100 ≡ k / 100 + 1 = omega (arith, last) in
-        let place : (k + 1) % 100 ≡ 0 = omega (arith, last) in
-        let end : k % 100 ≡ 99 = omega (arith, last) in
-        rw (frame, place, end) (omega (arith, steady.least (k / 100), steady.few))
-  ]
+clock_of : (d : ℕ) (edges : ℕ → ℕ) → IsQuartz d edges → IsClock d 450 edges
+clock_of d edges steady = record { steady = steady.steady; near = omega (arith, steady.few) }
 
-  elements_on : (j n : ℕ) → element_at edges j + 9900 * n ≤ element_at edges (j + n)
-  elements_on j zero = let same : j + 0 ≡ j = omega arith in rw same (omega arith)
-  elements_on j (suc n) =
-      let more : j + suc n ≡ j + n + 1 = omega arith in
-      rw more (omega (arith, elements_on j n, next_element (j + n)))
-
-  -- no slip: a pulse on time behind another is that of the next element
-  is_next : (line : ℕ → Symbol) (j k : ℕ) (p q : Pulse) → IsPulseAt line edges j q → IsPulseAt line edges k p → j < k → is_on_time (p.rise - q.rise) ≡ true → k ≡ j + 1
-  is_next line j k p q before now less on =
-      let gap = (on_time_is (p.rise - q.rise)).0 on in
-      elim (cases_lt (j + 1) k) [
-        | inl further ↦
-            let n : ℕ = k - j in
-            let there : j + n ≡ k = omega (arith, less) in
-            let far : element_at edges j + 9900 * n ≤ element_at edges k = subst (λ (i : ℕ). element_at edges j + 9900 * n ≤ element_at edges i) there (elements_on j n) in
-            let two : 2 ≤ n = omega (arith, further) in
-            absurd (omega (arith, far, two, before.late, before.early, now.late, now.early, gap.0, gap.1))
-        | inr here ↦ omega (arith, here, less)
-      ]
-
+module _ (d : ℕ) (edges : ℕ → ℕ) (steady : IsQuartz d edges) where
   -- the last pulses, each on time behind the one before, are those of elements in a row
   record AreInARow (line : ℕ → Symbol) (k m : ℕ) (p : Pulse) (ps : List Pulse) : Type 0 where
     first : ℕ
     low : first + m < k
     stand : StandFrom line first (suc m) (symbols_of_last (suc m) (p ∷ ps))
-    here : IsPulseAt line edges (first + m) p
+    here : IsPulseOf line edges 450 (first + m) p
 
   module _ (line : ℕ → Symbol) (now : ℕ) where
     alone : (k : ℕ) (p : Pulse) (ps : List Pulse) → ArePulsesLately line edges now k (p ∷ ps) → now ≤ p.rise + 1200000 → AreInARow line k 0 p ps
@@ -107,7 +79,7 @@ module _ (d : ℕ) (edges : ℕ → ℕ) (steady : IsSteady d edges) where
         record {
           first = j;
           low = omega (arith, is.1);
-          stand = stands_one line j (symbol_of p.width) is.2.symbol;
+          stand = stands_one line j (symbol_of p.width) is.2.1;
           here = rw here is.2;
         }
 
@@ -118,13 +90,13 @@ module _ (d : ℕ) (edges : ℕ → ℕ) (steady : IsSteady d edges) where
     in_a_row (suc m) k p (q ∷ ps) (inr is) on late =
         let gap = (on_time_is (p.rise - q.rise)).0 on.0 in
         let before = in_a_row m is.0 q ps is.3 on.1 (omega (arith, late, gap.0, gap.1)) in
-        let next : is.0 ≡ before.first + m + 1 = is_next line (before.first + m) is.0 p q before.here is.2 before.low on.0 in
+        let next : is.0 ≡ suc (before.first + m) = is_next d 450 edges (clock_of d edges steady) (before.first + m) is.0 q.rise p.rise before.here.0 is.2.0 before.low on.0 in
         let there : is.0 ≡ before.first + suc m = omega (arith, next) in
         record {
           first = before.first;
           low = omega (arith, is.1, next);
-          stand = stands_more line before.first (suc m) (symbols_of_last (suc m) (q ∷ ps)) (symbol_of p.width) before.stand (is.2.symbol ∙ ap line there);
-          here = subst (λ (j : ℕ). IsPulseAt line edges j p) there is.2;
+          stand = stands_more line before.first (suc m) (symbols_of_last (suc m) (q ∷ ps)) (symbol_of p.width) before.stand (is.2.1 ∙ ap line there);
+          here = subst (λ (j : ℕ). IsPulseOf line edges 450 j p) there is.2;
         }
 
     dropped : (n k : ℕ) (pulses : List Pulse) → ArePulsesLately line edges now k pulses → (j : ℕ) × ArePulsesLately line edges now j (drop n pulses)
@@ -135,7 +107,7 @@ module _ (d : ℕ) (edges : ℕ → ℕ) (steady : IsSteady d edges) where
 
 -- ---- a frame that was heard whole
 
-module _ (rules : Rules) (t : TimelineValue) (d : ℕ) (edges : ℕ → ℕ) (steady : IsSteady d edges) where
+module _ (rules : Rules) (t : TimelineValue) (d : ℕ) (edges : ℕ → ℕ) (steady : IsQuartz d edges) where
   -- by its hundred pulses
   framed : (now end : ℕ) (line : ℕ → Symbol) (k : ℕ) (p : Pulse) (ps : List Pulse) (claim : Claim) → IsLineOf rules t line → ArePulsesLately line edges now k (p ∷ ps) → AreOnTime 100 (p ∷ ps)
       → Carries rules (symbols_of_last 100 (p ∷ ps)) claim → end ≡ p.rise + 10000 → now ≤ end + 100000 → IsTrueNear t edges (449 + d) (449 + d) end claim
@@ -147,13 +119,12 @@ module _ (rules : Rules) (t : TimelineValue) (d : ℕ) (edges : ℕ → ℕ) (st
       let first : row.first ≡ 100 * f = omega (arith, whole) in
       let frame : (row.first + 99) / 100 ≡ f = omega (arith, whole) in
       let place : (row.first + 99) % 100 ≡ 99 = omega (arith, whole) in
-      let late : p.rise < edges f + 10000 * 99 + 450 = subst (λ (i : ℕ). p.rise < edges f + 10000 * i + 450) place (subst (λ (i : ℕ). p.rise < edges i + 10000 * ((row.first + 99) % 100) + 450) frame row.here.late) in
-      let early : edges f + 10000 * 99 < p.rise + 450 = subst (λ (i : ℕ). edges f + 10000 * i < p.rise + 450) place (subst (λ (i : ℕ). edges i + 10000 * ((row.first + 99) % 100) < p.rise + 450) frame row.here.early) in
+      let last : element_at edges (row.first + 99) ≡ edges f + 10000 * 99 = ap (λ (i : ℕ). edges i + 10000 * ((row.first + 99) % 100)) frame ∙ ap (λ (i : ℕ). edges f + 10000 * i) place in
       record {
         second = f;
         near = record {
-          least = omega (arith, at, early, steady.most f);
-          most = omega (arith, at, late, steady.least f);
+          least = omega (arith, at, last, row.here.0.0, steady.steady.most f);
+          most = omega (arith, at, last, row.here.0.1, steady.steady.least f);
         };
         truth = is.truth f (symbols_of_last 100 (p ∷ ps)) claim (subst (λ (j : ℕ). StandAt line j (symbols_of_last 100 (p ∷ ps))) first row.stand.1) carries;
       }
@@ -169,7 +140,7 @@ module _ (rules : Rules) (t : TimelineValue) (d : ℕ) (edges : ℕ → ℕ) (st
       ended now end is.line left.0 (drop frame.late pulses) claim is.is_line left.1 frame.on_time frame.last frame.carries soon
 
 -- with any steady counter's bounds
-pub true_lately : (rules : Rules) (t : TimelineValue) (d : ℕ) (edges : ℕ → ℕ) (now end : ℕ) (pulses : List Pulse) (claim : Claim) → IsSteady d edges → IsTrueLately rules t edges now pulses → IsFrameOf rules claim end pulses → now ≤ end + 100000
+pub true_lately : (rules : Rules) (t : TimelineValue) (d : ℕ) (edges : ℕ → ℕ) (now end : ℕ) (pulses : List Pulse) (claim : Claim) → IsQuartz d edges → IsTrueLately rules t edges now pulses → IsFrameOf rules claim end pulses → now ≤ end + 100000
     → IsTrueNear t edges 549 549 end claim
 true_lately rules t d edges now end pulses claim steady is frame soon =
     let near = frame_is_true rules t d edges steady now end pulses claim is frame soon in

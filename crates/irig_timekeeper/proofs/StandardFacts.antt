@@ -1,11 +1,10 @@
 -- The definitions at known values.
-use Rattle.std.proofs.Common.{◌≡◌, ℕ, ◌+◌, true, false, List, [], ◌∷◌, Option, Some, None, refl}
+use Rattle.std.proofs.Common.{◌≡◌, ℕ, true, false, List, [], ◌∷◌, Option, Some, None, refl}
 use Rattle.irig_time.specs.declared.mark.Mark.TheVariants.{Unspoken}
 use Rattle.irig_time.specs.declared.claim.Claim.{Claim}
 use Rattle.irig_reader.specs.declared.rules.ReaderRules.{ReaderRules}
 use Rattle.irig_timekeeper.specs.declared.lines.KeptClaim.{KeptClaim}
 use Rattle.irig_timekeeper.specs.Counting.{edges_to, edges_to_vote, edges_own, edge_behind, is_late, has_come}
-use Rattle.irig_timekeeper.specs.Lines.{element_at}
 use Rattle.irig_timekeeper.specs.Refusals.{clock_fault}
 use Rattle.irig_timekeeper.specs.declared.setup.ClockFault.TheVariants.{Drift, Holdover}
 use Rattle.irig_timekeeper.specs.Steps.{last_candidate, until, wait_by}
@@ -32,10 +31,6 @@ rules_of holdover = record { lock_after = 3; holdover = holdover }
 
 pub known_refused : (clock_fault (rules_of 4898) 100 ≡ None) × (clock_fault (rules_of 4899) 100 ≡ Some Holdover) × (clock_fault (rules_of 1000000) 101 ≡ Some Drift) × (clock_fault (rules_of 1000000) 0 ≡ None)
 known_refused = (refl, refl, refl, refl)
-
--- the first element of the second frame, and the last one
-pub known_elements : (edges : ℕ → ℕ) → (element_at edges 100 ≡ edges 1 + 0) × (element_at edges 199 ≡ edges 1 + 990000)
-known_elements edges = (refl, refl)
 
 -- of three frames of one claim the second ends 1 ms behind the first, and the third 1 us later: the
 -- second is the last with which another one agrees; of another claim, or by three, none is

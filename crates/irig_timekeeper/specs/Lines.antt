@@ -1,9 +1,9 @@
 -- What it is for a line to be true of late: each frame begins at its own edge, so that the
 -- device's counter may drift.
 -- Source: IRIG Standard 200-16, format B: an element each 10 ms; this project's profile.
-use Rattle.std.specs.Prelude.{◌≡◌, ℕ, ◌+◌, ◌*◌, ◌/◌, ◌%◌, ◌^◌, ◌<◌, ◌≤◌, ◌⊎◌, List, [], ◌∷◌, Option, Some, None, drop, ⊤}
+use Rattle.std.specs.Prelude.{◌≡◌, ℕ, ◌+◌, ◌*◌, ◌%◌, ◌^◌, ◌<◌, ◌≤◌, ◌⊎◌, List, [], ◌∷◌, Option, Some, None, drop, ⊤}
 use Rattle.irig_frame.specs.declared.symbol.Symbol.{Symbol}
-use Rattle.irig_frame.specs.Symbols.{symbol_of}
+use Rattle.irig_sync.specs.FaultyLines.{IsPulseOf}
 use Rattle.irig_sync.specs.Lines.{Pulse, AreOnTime, IsTrueLine, StandAt, symbols_of_last}
 use Rattle.irig_time.specs.declared.rules.Rules.{Rules}
 use Rattle.irig_time.specs.declared.claim.Claim.{Claim}
@@ -11,23 +11,13 @@ use Rattle.irig_time.specs.Carries.{Carries}
 use Rattle.irig_time.specs.Timelines.{TimelineValue, IsTrueClaim}
 use Rattle.irig_timekeeper.specs.declared.lines.KeptClaim.{KeptClaim}
 
--- when the line's k-th element rises
-abbrev pub element_at : (ℕ → ℕ) → ℕ → ℕ
-element_at edges k = edges (k / 100) + 10000 * (k % 100)
-
--- a pulse of the line's k-th element, less than 450 us off
-pub record IsPulseAt (line : ℕ → Symbol) (edges : ℕ → ℕ) (k : ℕ) (p : Pulse) : Type 0 where
-  pub late : p.rise < element_at edges k + 450
-  pub early : element_at edges k < p.rise + 450
-  pub symbol : symbol_of p.width ≡ line k
-
 -- of these pulses, the newest first, those that rose within 1.2 s before now, or later, are those of
--- some elements before the k-th, in order: any others were lost
+-- some elements before the k-th, each less than 450 us off, in order: any others were lost
 abbrev pub ArePulsesLately : (ℕ → Symbol) → (ℕ → ℕ) → ℕ → ℕ → List Pulse → Type 0
 ArePulsesLately line edges now k [] = ⊤
 ArePulsesLately line edges now k (p ∷ ps) =
     ((p.rise + 1200000 < now) × ArePulsesLately line edges now k ps)
-    ⊎ ((j : ℕ) × (j < k) × IsPulseAt line edges j p × ArePulsesLately line edges now j ps)
+    ⊎ ((j : ℕ) × (j < k) × IsPulseOf line edges 450 j p × ArePulsesLately line edges now j ps)
 
 -- a line of frames whose f-th, if it carries a claim, carries the true one of T(f)
 pub record IsLineOf (rules : Rules) (t : TimelineValue) (line : ℕ → Symbol) : Type 0 where

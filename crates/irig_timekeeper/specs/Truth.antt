@@ -17,7 +17,7 @@ use Rattle.irig_timekeeper.specs.declared.clock.Beat.{Beat}
 use Rattle.irig_timekeeper.specs.declared.lines.KeptClaim.{KeptClaim}
 use Rattle.irig_timekeeper.specs.declared.lines.Lines.{Lines}
 use Rattle.irig_timekeeper.specs.Clock.{lasted}
-use Rattle.irig_timekeeper.specs.Edges.{IsSteady, IsNear, IsTrueNear}
+use Rattle.irig_timekeeper.specs.Edges.{IsQuartz, IsNear, IsTrueNear}
 use Rattle.irig_timekeeper.specs.Lines.{IfKept, IsInTurnOf}
 use Rattle.irig_timekeeper.specs.Steps.{line_at, claim_kept}
 
@@ -109,7 +109,7 @@ pub record IsToldInHoldover (t : TimelineValue) (edges : ℕ → ℕ) (early lat
 -- what is true of a device: its counter, the timeline, its leap table, and its setup is not refused
 pub record IsDevice (t : TimelineValue) (d : ℕ) (edges : ℕ → ℕ) (rules : ReaderRules)
     (table : TableValue) : Type 0 where
-  pub steady : IsSteady d edges
+  pub steady : IsQuartz d edges
   pub sound : IsTimeline t
   pub true_table : IsTrueTable t table
   pub short : (rules.holdover + 2) * d ≤ 490000

@@ -17,7 +17,7 @@ ghost use Rattle.irig_time.specs.Tables.{TableValue};
 ghost use Rattle.irig_vote.specs.Vote.{f_of};
 ghost use Rattle.irig_port.specs.Told.{told_of};
 ghost use Rattle.irig_port.specs.Hearing.{heard_at, IsHearing};
-ghost use Rattle.irig_timekeeper.specs.Edges.{IsSteady, IsNear, IsTrueNear};
+ghost use Rattle.irig_timekeeper.specs.Edges.{IsQuartz, IsNear, IsTrueNear};
 ghost use Rattle.irig_timekeeper.specs.Lines.{IsTrueLately, IsFrameOf, IfKept, IsAnyEnd, HasJustCome};
 ghost use Rattle.irig_timekeeper.specs.Counting.{edges_between, edges_to, edges_own};
 ghost use Rattle.irig_timekeeper.specs.Refusals.{clock_fault};
@@ -38,7 +38,7 @@ use irig_time::{Claim, Rules, UtcSecond};
 /// b2 + c1 and b1 + c2, with the drift of k seconds, come to less than half a second, the device
 /// counts k edges.
 pub fn counting_is_right()
-    ensures count { (d b1 b2 c1 c2 w k edge end : ℕ) (edges : ℕ → ℕ) → IsSteady d edges
+    ensures count { (d b1 b2 c1 c2 w k edge end : ℕ) (edges : ℕ → ℕ) → IsQuartz d edges
         → IsNear edges b1 b2 w edge → IsNear edges c1 c2 (w + k) end
         → b1 + k * d + c2 < 500000 → b2 + k * d + c1 ≤ 500000 → edges_between edge end ≡ k }
     // The clock's wrap does not show.
@@ -63,7 +63,7 @@ pub fn lines_keep_frames()
 /// second before an edge, and the frame ends less than 450 us and the drift of a second off it.
 pub fn kept_frames_are_true()
     ensures { (rules : Rules) (t : TimelineValue) (d now end : ℕ) (edges : ℕ → ℕ)
-        (pulses : List Pulse) (claim : Claim) → IsSteady d edges
+        (pulses : List Pulse) (claim : Claim) → IsQuartz d edges
         → IsTrueLately rules t edges now pulses → IsFrameOf rules claim end pulses
         → now ≤ end + 100000 → IsTrueNear t edges (449 + d) (449 + d) end claim }
 {}
@@ -74,12 +74,12 @@ pub fn kept_frames_are_true()
 /// device stood, and whenever it was called before.
 pub fn votes_are_true()
     ensures vote { (t : TimelineValue) (d : ℕ) (edges : ℕ → ℕ) (k : Keeping) (now : ℕ)
-        (pulses : ℕ → List Pulse) (vote : KeptClaim) → IsSteady d edges
+        (pulses : ℕ → List Pulse) (vote : KeptClaim) → IsQuartz d edges
         → AreHeardTruly (IsTrueLately k.rules t edges now) k.rules (f_of k.clock.redundancy) now
         k.state.lines pulses
         → vote_at k (now % 2 ^ 32) ≡ Some vote → IsTrueVote t edges 1549 549 now vote }
     ensures second { (t : TimelineValue) (d : ℕ) (edges : ℕ → ℕ) (k : Keeping) (now : ℕ)
-        (pulses : ℕ → List Pulse) (beat : Beat) (u : UtcSecond) → IsSteady d edges → IsTimeline t
+        (pulses : ℕ → List Pulse) (beat : Beat) (u : UtcSecond) → IsQuartz d edges → IsTimeline t
         → AreHeardTruly (IsTrueLately k.rules t edges now) k.rules (f_of k.clock.redundancy) now
         k.state.lines pulses
         → answer_at k (now % 2 ^ 32) ≡ Some beat → beat.report.cause ≡ Cause.Voted
@@ -151,7 +151,7 @@ pub fn enough_lines_vote()
         → f < count_by (agrees first) (all_kept lines)
         → (vote : KeptClaim) × (agreed f lines ≡ Some vote) }
     ensures come { (t : TimelineValue) (d : ℕ) (edges : ℕ → ℕ) (k : Keeping) (now : ℕ)
-        (pulses : ℕ → List Pulse) (vote : KeptClaim) → IsSteady d edges
+        (pulses : ℕ → List Pulse) (vote : KeptClaim) → IsQuartz d edges
         → (heard : AreHeardTruly (IsTrueLately k.rules t edges now) k.rules (f_of k.clock.redundancy) now
         k.state.lines pulses)
         → ((i : ℕ) → i < 5 → heard.untrue i ≡ false

@@ -5,14 +5,14 @@ use Rattle.std.proofs.Math.Nat.{mul-le-mul_left}
 use Rattle.irig_timekeeper.specs.declared.setup.ClockFault.TheVariants.{Drift, Holdover}
 use Rattle.irig_time.specs.declared.rules.Rules.{Rules}
 use Rattle.irig_time.specs.Timelines.{TimelineValue}
-use Rattle.irig_timekeeper.specs.Edges.{IsSteady}
+use Rattle.irig_timekeeper.specs.Edges.{IsQuartz}
 use Rattle.irig_timekeeper.specs.Lines.{IsTrueLately}
 use Rattle.irig_timekeeper.proofs.LineLaws.{true_lately}
 use Rattle.irig_timekeeper.proofs.TrackLaws.{tick_true}
 use Rattle.irig_timekeeper.proofs.LifeLaws.{TellAlwaysTruly, device_true, device_calm, device_in_order}
 use Rattle.irig_timekeeper.proofs.laws.a_device_tells_the_truth.Goals as goal
 
-truly : (rules : Rules) (t : TimelineValue) (d : ℕ) (edges : ℕ → ℕ) → IsSteady d edges → TellAlwaysTruly (IsTrueLately rules t edges) rules t edges 549 549
+truly : (rules : Rules) (t : TimelineValue) (d : ℕ) (edges : ℕ → ℕ) → IsQuartz d edges → TellAlwaysTruly (IsTrueLately rules t edges) rules t edges 549 549
 truly rules t d edges steady now end pulses claim is frame soon = true_lately rules t d edges now end pulses claim steady is frame soon
 
 pub returns-clause-life : goal.returns-clause-life
