@@ -25,7 +25,7 @@ ghost use Rattle.irig_timekeeper.specs.Steps.{frame_behind, claim_kept, line_at,
 ghost use Rattle.irig_timekeeper.specs.Clock.{answer_to_vote};
 ghost use Rattle.irig_timekeeper.specs.Keeping.{Keeping, new_keeping, vote_at, after_tick, answer_at};
 ghost use Rattle.irig_timekeeper.specs.Truth.{AreHeardTruly, IsTrueVote, IsOnTrack, IsToldTruly, IsToldInHoldover, IsLaterSecond, IsDevice, IsEdgeAt};
-ghost use Rattle.irig_timekeeper.specs.Life.{Call, AreInOrder, AreTrueAtTicks, after_calls};
+ghost use Rattle.irig_timekeeper.specs.Life.{Call, AreInOrder, AreTrueLately, AreTrueAtTicks, AreTrueOver, after_calls};
 ghost use Rattle.irig_timekeeper.specs.Life.Call.{Tick};
 
 use crate::clock::{Beat, ClockRules};
@@ -140,6 +140,29 @@ pub fn a_device_tells_the_truth()
         k.state.lines pulses
         → IsOnTrack t edges 1549 549 k.clock.drift_us last k.clock.reader_rules now
         (after_tick k (now % 2 ^ 32)).state.reader (after_tick k (now % 2 ^ 32)).state.edge_us }
+{}
+
+/// A device heals: whatever its lines carried, however long, the first vote that counts an edge at a
+/// tick at which at most f lines were untrue in the last 1.2 s brings the truth back, if at each
+/// tick from there on at most f are. (Until then it may hold over what is untrue, for as many
+/// edges as its rules allow.)
+pub fn a_device_heals()
+    ensures { (t : TimelineValue) (edges : ℕ → ℕ) (rules : Rules) (clock : ClockRules)
+        (table : TableValue) (lines : Lines) (start mend now : ℕ) (earlier later : List Call)
+        (vote : KeptClaim) (beat then : Beat) (u : UtcSecond)
+        → IsDevice t clock.drift_us edges clock.reader_rules table → AreNewLines lines
+        → AreInOrder start clock.redundancy (Tick now ∷ (later ++ (Tick mend ∷ earlier)))
+        → AreTrueLately (IsTrueLately rules t edges) (f_of clock.redundancy) mend earlier
+        → AreTrueOver (IsTrueLately rules t edges) (f_of clock.redundancy) (Tick now ∷ later)
+        (Tick mend ∷ earlier)
+        → vote_at (after_calls (new_keeping rules clock table lines) earlier) (mend % 2 ^ 32)
+        ≡ Some vote
+        → answer_at (after_calls (new_keeping rules clock table lines) earlier) (mend % 2 ^ 32)
+        ≡ Some beat
+        → answer_at (after_calls (new_keeping rules clock table lines)
+        (later ++ (Tick mend ∷ earlier))) (now % 2 ^ 32) ≡ Some then
+        → then.report.announce ≡ Some u
+        → IsToldInHoldover t edges 1549 549 clock.drift_us clock.reader_rules.holdover now then u }
 {}
 
 /// No f lines can keep a device from a vote: if more than f lines keep frames of one claim that end
