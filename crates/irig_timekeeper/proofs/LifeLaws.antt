@@ -138,7 +138,7 @@ moved rules rules' heard heard' line line' pulses pulses' tick now r h l p is =
 
 -- ---- five lines
 
-line_same : (lines : Lines) (port : ℕ) (l : Line) → port < 5 → line_at (with_line lines port l) port ≡ l
+pub line_same : (lines : Lines) (port : ℕ) (l : Line) → port < 5 → line_at (with_line lines port l) port ≡ l
 line_same lines zero l low = refl
 line_same lines (suc zero) l low = refl
 line_same lines (suc (suc zero)) l low = refl
@@ -154,7 +154,7 @@ heard_same heard (suc (suc (suc zero))) s low = refl
 heard_same heard (suc (suc (suc (suc zero)))) s low = refl
 heard_same heard (suc (suc (suc (suc (suc i))))) s low = absurd (omega (arith, low))
 
-line_other : (lines : Lines) (port : ℕ) (l : Line) (i : ℕ) → port < 5 → i < 5 → ¬ (i ≡ port) → line_at (with_line lines port l) i ≡ line_at lines i
+pub line_other : (lines : Lines) (port : ℕ) (l : Line) (i : ℕ) → port < 5 → i < 5 → ¬ (i ≡ port) → line_at (with_line lines port l) i ≡ line_at lines i
 line_other lines zero l i low small other = rw (ne_eqb i 0 other) refl
 line_other lines (suc zero) l i low small other = rw (ne_eqb i 1 other) refl
 line_other lines (suc (suc zero)) l i low small other = rw (ne_eqb i 2 other) refl
@@ -180,7 +180,7 @@ heard_other heard (suc (suc (suc (suc zero)))) s (suc (suc (suc (suc zero)))) lo
 heard_other heard (suc (suc (suc (suc zero)))) s (suc (suc (suc (suc (suc i))))) low small other = absurd (omega (arith, small))
 heard_other heard (suc (suc (suc (suc (suc p))))) s i low small other = absurd (omega (arith, low))
 
-line_settles : (clock : ℕ) (lines : Lines) (i : ℕ) → i < 5 → line_settled clock (line_at lines i) ≡ line_at (settled clock lines) i
+pub line_settles : (clock : ℕ) (lines : Lines) (i : ℕ) → i < 5 → line_settled clock (line_at lines i) ≡ line_at (settled clock lines) i
 line_settles clock lines zero low = refl
 line_settles clock lines (suc zero) low = refl
 line_settles clock lines (suc (suc zero)) low = refl
@@ -188,7 +188,7 @@ line_settles clock lines (suc (suc (suc zero))) low = refl
 line_settles clock lines (suc (suc (suc (suc zero)))) low = refl
 line_settles clock lines (suc (suc (suc (suc (suc i))))) low = absurd (omega (arith, low))
 
-line_takes : (lines : Lines) (i : ℕ) → i < 5 → line_taken (line_at lines i) ≡ line_at (taken lines) i
+pub line_takes : (lines : Lines) (i : ℕ) → i < 5 → line_taken (line_at lines i) ≡ line_at (taken lines) i
 line_takes lines zero low = refl
 line_takes lines (suc zero) low = refl
 line_takes lines (suc (suc zero)) low = refl
@@ -198,14 +198,14 @@ line_takes lines (suc (suc (suc (suc (suc i))))) low = absurd (omega (arith, low
 
 -- ---- what a tick leaves as it was
 
-abbrev IsTicked : ClockState → ClockState → ℕ → Type 0
+abbrev pub IsTicked : ClockState → ClockState → ℕ → Type 0
 IsTicked old new clock = (new.lines ≡ settled clock old.lines) ⊎ (new.lines ≡ taken (settled clock old.lines))
 
 either_ticked : (old : ClockState) (clock : ℕ) (b : Bool) (x y : ClockState) → IsTicked old x clock → IsTicked old y clock → IsTicked old (cond b x y) clock
 either_ticked old clock true x y p q = p
 either_ticked old clock false x y p q = q
 
-ticked : (k : Keeping) (clock : ℕ) → IsTicked k.state (after_tick k clock).state clock
+pub ticked : (k : Keeping) (clock : ℕ) → IsTicked k.state (after_tick k clock).state clock
 ticked k clock = of (vote_at k clock)
   where
     of : (v : Option KeptClaim) → IsTicked k.state (clock_by k.clock k.table (settled_at k.state clock) clock v) clock
@@ -225,7 +225,7 @@ pub record AreLinesAt (new k : Keeping) (pulses : ℕ → List Pulse) (tick now 
   pub lines : (i : ℕ) → i < 5 → IsLineAt k.rules (heard_by k.heard i) (line_at k.state.lines i) (pulses i) tick now
   pub order : tick ≤ now
 
-and_false : (a b : Bool) → b ≡ false → (a && b) ≡ false
+pub and_false : (a b : Bool) → b ≡ false → (a && b) ≡ false
 and_false true b e = e
 and_false false b e = refl
 

@@ -1,9 +1,8 @@
 -- A device at a tick keeps to the truth.
-use Rattle.std.specs.Prelude.{◌==◌, nat_lt}
-use Rattle.std.proofs.Common.{◌≡◌, ◌∙◌, ℕ, suc, ◌+◌, ◌-◌, ◌*◌, ◌/◌, ◌%◌, ◌^◌, ◌<◌, ◌≤◌, true, List, Option, Some, None, refl, sym, ap, subst, arith, inl, inr}
+use Rattle.std.specs.Prelude.{◌==◌}
+use Rattle.std.proofs.Common.{◌≡◌, ◌∙◌, ℕ, suc, ◌+◌, ◌-◌, ◌*◌, ◌%◌, ◌^◌, ◌<◌, ◌≤◌, List, Option, Some, None, refl, sym, ap, subst, arith, inl, inr}
 use Rattle.std.proofs.Math.Nat.{mul-le-mul_left}
 use Rattle.std.proofs.lemmas.Bool.{cases_Bool, cases_lt, eqb-true, eqb-false}
-use Rattle.irig_sync.specs.Sync.{clock_gap}
 use Rattle.irig_time.specs.declared.second.UtcSecond.{UtcSecond}
 use Rattle.irig_time.specs.Timelines.{TimelineValue, IsSecond, truth_at}
 use Rattle.irig_time.specs.Tables.{TableValue}
@@ -31,7 +30,8 @@ use Rattle.irig_timekeeper.specs.declared.clock.ClockState.{ClockState}
 use Rattle.irig_timekeeper.specs.Clock.{lasted, own_edge, beat_by, step_to, after_vote, answer_to_vote, after_own, answer_alone, clock_by, answer_by, settled_at}
 use Rattle.irig_timekeeper.specs.Keeping.{Keeping, vote_at, after_tick, answer_at}
 use Rattle.irig_timekeeper.proofs.VoteLaws.{TellsTruly, vote_is_true}
-use Rattle.irig_timekeeper.proofs.CountingLaws.{apart, counts, rises, wraps}
+use Rattle.irig_timekeeper.proofs.CountingLaws.{apart, counts, rises}
+use Rattle.irig_timekeeper.proofs.TimeLaws.{own_come, own_count, still_edge, own_edge_at, voted_count}
 use Rattle.irig_timekeeper.proofs.AgeLaws.{alone_step, gone, gone_idle, missed_idle, missed_true}
 
 -- it announces a later second than the last one, and stands there
@@ -117,9 +117,7 @@ module _ (t : TimelineValue) (d : ℕ) (edges : ℕ → ℕ) (early late : ℕ) 
 
     module _ (tick : ℕ) (order : tick ≤ now) (soon : now ≤ tick + 1800000000) (e edge : ℕ) (at : IsEdgeAt e edge tick) where
       counted_at : edges_to e v.end_us ≡ edges_between edge vote.end
-      counted_at =
-          ap (λ (x : ℕ). edges_to x v.end_us) at.clock ∙ ap (edges_to (edge % 2 ^ 32)) vote.clock
-          ∙ wraps edge vote.end (omega (arith, at.come, order, vote.soon)) (omega (arith, at.soon, soon, vote.come))
+      counted_at = voted_count tick now order soon e edge at v.end_us vote.end edge_now vote.soon
 
       idle_comes : (s : State) → s ≡ Idle → edges M + late < edge + 500000 → Comes tick s e (edges_to e v.end_us)
       idle_comes s idle ahead = record {
@@ -231,36 +229,7 @@ module _ (t : TimelineValue) (d : ℕ) (edges : ℕ → ℕ) (early late : ℕ) 
   -- ---- without a vote
 
   module _ (tick now : ℕ) (order : tick ≤ now) (soon : now ≤ tick + 1800000000) (e edge : ℕ) (at : IsEdgeAt e edge tick) where
-    abbrev come : ℕ
-    come = (now - edge - 5000) / 1000000
-
-    own_count : edges_own (Some e) (now % 2 ^ 32) ≡ come
-    own_count =
-        let gap : clock_gap e (now % 2 ^ 32) ≡ now - edge = ap (λ (x : ℕ). clock_gap x (now % 2 ^ 32)) at.clock ∙ gap_is edge now (omega (arith, at.come, order)) (omega (arith, at.soon, soon)) in
-        let low : nat_lt (now - edge) (2 ^ 31) ≡ true = low_is (now - edge) (omega (arith, at.soon, soon)) in
-        rw (gap, low) refl
-      where
-        gap_is : (u v : ℕ) → u ≤ v → v < u + 2 ^ 32 → clock_gap (u % 2 ^ 32) (v % 2 ^ 32) ≡ v - u
-        gap_is u v h k = omega arith
-
-        low_is : (g : ℕ) → g < 2 ^ 31 → nat_lt g (2 ^ 31) ≡ true
-        low_is g h = grind (arith, h)
-
-    still_edge : come ≡ 0 → IsEdgeAt e edge now
-    still_edge none = record { clock = at.clock; come = omega (arith, at.come, order); soon = omega (arith, none) }
-
-    -- the next edge by the own counter
-    own_edge_at : (n : ℕ) → n ≡ come → 1 ≤ n → IsEdgeAt (edge_behind e n) (edge + n * 1000000) now
-    own_edge_at n same some = record {
-      clock = wrapped e edge n at.clock;
-      come = omega (arith, same, some);
-      soon = omega (arith, same, some);
-    }
-      where
-        wrapped : (e edge n : ℕ) → e ≡ edge % 2 ^ 32 → (e + n * 1000000) % 2 ^ 32 ≡ (edge + n * 1000000) % 2 ^ 32
-        wrapped e edge n is = omega (arith, is)
-
-    module _ (s : State) (n : ℕ) (same : n ≡ come) (some : 1 ≤ n) where
+    module _ (s : State) (n : ℕ) (same : n ≡ own_come edge now) (some : 1 ≤ n) where
       abbrev last : Step
       last = step_behind rules table (n - 1) s None
 
@@ -268,7 +237,7 @@ module _ (t : TimelineValue) (d : ℕ) (edges : ℕ → ℕ) (early late : ℕ) 
       one_more = omega (arith, some)
 
       idle_alone : s ≡ Idle → edges M + late < edge + 500000 → IsOnTrack t edges early late d M rules now last.state (Some (edge_behind e n))
-      idle_alone idle ahead = inl (missed_idle rules table (suc (n - 1)) s idle, (edge + n * 1000000, own_edge_at n same some, omega (arith, room, ahead)))
+      idle_alone idle ahead = inl (missed_idle rules table (suc (n - 1)) s idle, (edge + n * 1000000, own_edge_at tick now order soon e edge at n same some, omega (arith, room, ahead)))
 
       idle_says : s ≡ Idle → last.report.announce ≡ None
       idle_says idle = elim (alone_step rules table (missed rules table (n - 1) s)) [
@@ -292,7 +261,7 @@ module _ (t : TimelineValue) (d : ℕ) (edges : ℕ → ℕ) (early late : ℕ) 
 
         stands_alone : M ≤ w → IsOnTrack t edges early late d M rules now last.state (Some (edge_behind e n))
         stands_alone low = elim (gone rules table (n - 1) s) [
-          | inl idle ↦ inl (idle, (edge + n * 1000000, own_edge_at n same some, ahead_then low))
+          | inl idle ↦ inl (idle, (edge + n * 1000000, own_edge_at tick now order soon e edge at n same some, ahead_then low))
           | inr older ↦
               let reached : w + suc (n - 1) ≡ w + n = omega (arith, one_more) in
               let age : age_of last.state ≡ older.h.age = ap age_of older.is in
@@ -301,7 +270,7 @@ module _ (t : TimelineValue) (d : ℕ) (edges : ℕ → ℕ) (early late : ℕ) 
                 a + n,
                 record {
                   edge = edge + n * 1000000;
-                  at = own_edge_at n same some;
+                  at = own_edge_at tick now order soon e edge at n same some;
                   near = further;
                   truth = subst (λ (i : ℕ). StandsAtTruth t i last.state) reached (missed_true rules table t w (suc (n - 1)) s is.sound is.true_table truth);
                   young = omega (arith, age, older.older, young, one_more);
@@ -323,7 +292,7 @@ module _ (t : TimelineValue) (d : ℕ) (edges : ℕ → ℕ) (early late : ℕ) 
                 a + n,
                 record {
                   edge = edge + n * 1000000;
-                  at = own_edge_at n same some;
+                  at = own_edge_at tick now order soon e edge at n same some;
                   near = further;
                   truth = subst (λ (i : ℕ). StandsAtTruth t i last.state) reached (missed_true rules table t w (suc (n - 1)) s is.sound is.true_table truth);
                   young = omega (arith, age, older.older, young, one_more);
@@ -352,10 +321,10 @@ module _ (t : TimelineValue) (d : ℕ) (edges : ℕ → ℕ) (early late : ℕ) 
                     told = record {
                       m = w + n;
                       edge = edge + n * 1000000;
-                      clock = is_edge ∙ (own_edge_at n same some).clock;
+                      clock = is_edge ∙ (own_edge_at tick now order soon e edge at n same some).clock;
                       near = further;
-                      come = (own_edge_at n same some).come;
-                      soon = (own_edge_at n same some).soon;
+                      come = (own_edge_at tick now order soon e edge at n same some).come;
+                      soon = (own_edge_at tick now order soon e edge at n same some).soon;
                       truth = subst (λ (i : ℕ). IsSecond t i u) reached second;
                     };
                   };

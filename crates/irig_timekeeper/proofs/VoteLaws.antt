@@ -62,15 +62,15 @@ not_late end now order turn e =
     omega (arith, gap, most, order)
 
 -- an end that lies up to 1 ms before another, and has come
-record IsComeBefore (e end now : ℕ) : Type 0 where
-  exact : ℕ
-  clock : e ≡ exact % 2 ^ 32
-  before : exact ≤ end
-  behind : end ≤ exact + 1000
-  come : exact ≤ now
-  soon : now ≤ exact + 100000
+pub record IsComeBefore (e end now : ℕ) : Type 0 where
+  pub exact : ℕ
+  pub clock : e ≡ exact % 2 ^ 32
+  pub before : exact ≤ end
+  pub behind : end ≤ exact + 1000
+  pub come : exact ≤ now
+  pub soon : now ≤ exact + 100000
 
-come_before : (e end now : ℕ) → e < 2 ^ 32 → 10000 ≤ end → end ≤ now + 10000 → now ≤ end + 100000 → clock_gap e (end % 2 ^ 32) ≤ 1000 → clock_gap e (now % 2 ^ 32) ≤ 100000 → IsComeBefore e end now
+pub come_before : (e end now : ℕ) → e < 2 ^ 32 → 10000 ≤ end → end ≤ now + 10000 → now ≤ end + 100000 → clock_gap e (end % 2 ^ 32) ≤ 1000 → clock_gap e (now % 2 ^ 32) ≤ 100000 → IsComeBefore e end now
 come_before e end now range late order soon near come =
     let gap : ℕ = clock_gap e (end % 2 ^ 32) in
     let exact : ℕ = end - gap in
@@ -113,7 +113,7 @@ just_come e end now range late order soon near = few_is (clock_gap e (now % 2 ^ 
 
 -- ---- the vote
 
-split : (a b : Bool) → (a && b) ≡ true → (a ≡ true) × (b ≡ true)
+pub split : (a b : Bool) → (a && b) ≡ true → (a ≡ true) × (b ≡ true)
 split true b e = (refl, e)
 split false b e = absurd cc
 
@@ -124,7 +124,7 @@ pub one_more : (Such : KeptClaim → Type 0) (o : Option KeptClaim) (xs : List (
 one_more Such None xs such each = each
 one_more Such (Some y) xs such each = (such y refl, each)
 
-last_late : (end : ℕ) (ps : List Pulse) → IsLastBefore end ps → 10000 ≤ end
+pub last_late : (end : ℕ) (ps : List Pulse) → IsLastBefore end ps → 10000 ≤ end
 last_late end [] last = absurd last
 last_late end (p ∷ ps) last = omega (arith, last)
 

@@ -121,3 +121,12 @@ pub record IsLaterSecond (t : TimelineValue) (u v : UtcSecond) : Type 0 where
   pub less : m < n
   pub before : IsSecond t m u
   pub then : IsSecond t n v
+
+-- each of two edges that are told has come, less than 1.005 s before its tick, and the later one lies
+-- half a second behind the other at least
+pub record AreApartBeats (before now : ℕ) (beat then : Beat) : Type 0 where
+  pub edge : ℕ
+  pub later : ℕ
+  pub told : IsEdgeAt beat.edge_us edge before
+  pub told_later : IsEdgeAt then.edge_us later now
+  pub apart : edge + 500000 ≤ later

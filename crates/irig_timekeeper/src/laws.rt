@@ -24,7 +24,7 @@ ghost use Rattle.irig_timekeeper.specs.Refusals.{clock_fault};
 ghost use Rattle.irig_timekeeper.specs.Steps.{frame_behind, claim_kept, line_at, all_kept, agrees, agreed, settled, tells_of, AreNewLines, wait_by};
 ghost use Rattle.irig_timekeeper.specs.Clock.{answer_to_vote};
 ghost use Rattle.irig_timekeeper.specs.Keeping.{Keeping, new_keeping, vote_at, after_tick, answer_at};
-ghost use Rattle.irig_timekeeper.specs.Truth.{AreHeardTruly, IsTrueVote, IsOnTrack, IsToldTruly, IsToldInHoldover, IsLaterSecond, IsDevice, IsEdgeAt};
+ghost use Rattle.irig_timekeeper.specs.Truth.{AreHeardTruly, IsTrueVote, IsOnTrack, IsToldTruly, IsToldInHoldover, IsLaterSecond, IsDevice, IsEdgeAt, AreApartBeats};
 ghost use Rattle.irig_timekeeper.specs.Life.{Call, AreInOrder, AreTrueLately, AreTrueAtTicks, AreTrueOver, after_calls};
 ghost use Rattle.irig_timekeeper.specs.Life.Call.{Tick};
 
@@ -140,6 +140,19 @@ pub fn a_device_tells_the_truth()
         k.state.lines pulses
         → IsOnTrack t edges 1549 549 k.clock.drift_us last k.clock.reader_rules now
         (after_tick k (now % 2 ^ 32)).state.reader (after_tick k (now % 2 ^ 32)).state.edge_us }
+{}
+
+/// In order, whatever lines carry and however the counter drifts: the edges that are told lie half a
+/// second apart at least, and none lies ahead of its tick, nor 1.005 s behind it.
+pub fn edges_lie_apart()
+    ensures { (rules : Rules) (clock : ClockRules) (table : TableValue) (lines : Lines)
+        (start before now : ℕ) (earlier later : List Call) (beat then : Beat) → AreNewLines lines
+        → AreInOrder start clock.redundancy (Tick now ∷ (later ++ (Tick before ∷ earlier)))
+        → answer_at (after_calls (new_keeping rules clock table lines) earlier)
+        (before % 2 ^ 32) ≡ Some beat
+        → answer_at (after_calls (new_keeping rules clock table lines)
+        (later ++ (Tick before ∷ earlier))) (now % 2 ^ 32) ≡ Some then
+        → AreApartBeats before now beat then }
 {}
 
 /// A device heals: whatever its lines carried, however long, the first vote that counts an edge at a

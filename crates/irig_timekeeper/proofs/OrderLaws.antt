@@ -1,0 +1,545 @@
+-- Edges that are answered lie half a second apart, whatever lines carry: two votes share a line, whose
+-- frames lie apart.
+use Rattle.std.specs.Prelude.{◌==◌, count_by, nat_le}
+use Rattle.std.specs.List.{range_with_len}
+use Rattle.std.proofs.Common.{◌≡◌, ◌∙◌, ◌⊎◌, ℕ, zero, suc, ◌+◌, ◌-◌, ◌*◌, ◌%◌, ◌^◌, ◌<◌, ◌≤◌, Bool, true, false, cond, List, [], ◌∷◌, ◌++◌, drop, Option, Some, None, refl, sym, ap, subst, arith, inl, inr, append-nil}
+use Rattle.std.proofs.lemmas.Bool.{cases_Bool, eqb-true, eqb-false, ne_eqb, ltb-true, leb-true}
+use Rattle.std.proofs.lemmas.List.Sums.{sum_by-cons}
+use Rattle.irig_sync.specs.Sync.{clock_gap, place_of}
+use Rattle.irig_sync.specs.Lines.{Pulse, pulse_at, place_after, AreOnTime, IsAfter, IsSoon}
+use Rattle.irig_sync.proofs.LineLaws.{place_at_time}
+use Rattle.irig_time.specs.declared.rules.Rules.{Rules}
+use Rattle.irig_time.specs.Claims.{same_claim}
+use Rattle.irig_vote.specs.declared.redundancy.Redundancy.{Redundancy}
+use Rattle.irig_vote.specs.declared.redundancy.Redundancy.TheVariants.{One, Three, Five}
+use Rattle.irig_vote.specs.Vote.{f_of, ports_in}
+use Rattle.irig_timekeeper.specs.declared.lines.KeptClaim.{KeptClaim}
+use Rattle.irig_timekeeper.specs.declared.lines.Line.{Line}
+use Rattle.irig_timekeeper.specs.declared.lines.Lines.{Lines}
+use Rattle.irig_timekeeper.specs.declared.clock.Beat.{Beat}
+use Rattle.irig_timekeeper.specs.declared.clock.ClockRules.{ClockRules}
+use Rattle.irig_timekeeper.specs.declared.clock.ClockState.{ClockState}
+use Rattle.irig_timekeeper.specs.Lines.{IfKept}
+use Rattle.irig_timekeeper.specs.Counting.{edges_between, edge_behind, is_late, has_come, edges_to_vote, edges_own}
+use Rattle.irig_timekeeper.specs.Steps.{is_pulse, line_at, claim_kept, still_kept, line_taken, settled, taken, all_kept, agrees, is_candidate, agreed}
+use Rattle.irig_timekeeper.specs.Clock.{step_to, beat_by, after_vote, answer_to_vote, after_own, answer_alone, own_edge, clock_by, answer_by, settled_at}
+use Rattle.irig_timekeeper.specs.Keeping.{Keeping, vote_at, after_pulse, after_tick, answer_at}
+use Rattle.irig_timekeeper.specs.Truth.{IsEdgeAt, AreApartBeats}
+use Rattle.irig_timekeeper.specs.Life.{Call, after_calls, pulses_on, last_call, last_tick, AreInOrder}
+use Rattle.irig_timekeeper.specs.Life.Call.{Hear, Tick}
+use Rattle.irig_timekeeper.proofs.AgreeLaws.{is_one}
+use Rattle.irig_timekeeper.proofs.VoteLaws.{still, come, frame_settled, one_more, not_late, come_before, split, last_late}
+use Rattle.irig_timekeeper.proofs.WholeLaws.{whole_of, AreSorted, whole_here, not_whole, whole_apart}
+use Rattle.irig_timekeeper.proofs.TimeLaws.{own_count, still_edge, own_edge_at, voted_count, same_edge}
+use Rattle.irig_timekeeper.proofs.LifeLaws.{AreLinesAt, IsEndAt, lines_after, order_before, ticked, line_takes, line_same, line_other, and_false}
+
+-- ---- two of more than half of the lines
+
+-- one of so many is of both kinds
+record AreBoth (a b : ℕ → Bool) (from n : ℕ) : Type 0 where
+  i : ℕ
+  low : i < n
+  one : a (from + i) ≡ true
+  other : b (from + i) ≡ true
+
+at_most_one : (b : Bool) → cond b 1 0 ≤ 1
+at_most_one true = omega arith
+at_most_one false = omega arith
+
+none_of : (b : Bool) → b ≡ false → ◌≡◌ {A = ℕ} (cond b 1 0) 0
+none_of b e = rw e refl
+
+module _ (a b : ℕ → Bool) where
+  both_on : (from n : ℕ) → AreBoth a b (from + 1) n → AreBoth a b from (suc n)
+  both_on from n found =
+      let at : from + 1 + found.i ≡ from + suc found.i = omega arith in
+      record {
+        i = suc found.i;
+        low = omega (arith, found.low);
+        one = subst (λ (j : ℕ). a j ≡ true) at found.one;
+        other = subst (λ (j : ℕ). b j ≡ true) at found.other;
+      }
+
+  both_here : (from n : ℕ) → a from ≡ true → b from ≡ true → AreBoth a b from (suc n)
+  both_here from n p q =
+      let at : from ≡ from + 0 = omega arith in
+      record { i = 0; low = omega arith; one = subst (λ (j : ℕ). a j ≡ true) at p; other = subst (λ (j : ℕ). b j ≡ true) at q }
+
+  are_both : (from n : ℕ) → n < count_by a (range_with_len from n) + count_by b (range_with_len from n) → AreBoth a b from n
+  are_both from zero many = absurd (omega (arith, many))
+  are_both from (suc n) many =
+      let x = sum_by-cons (λ k. cond (a k) 1 0) from (range_with_len (from + 1) n) in
+      let y = sum_by-cons (λ k. cond (b k) 1 0) from (range_with_len (from + 1) n) in
+      elim (cases_Bool (a from)) [
+        | inl p ↦ elim (cases_Bool (b from)) [
+          | inl q ↦ both_here from n p q
+          | inr not_b ↦ both_on from n (are_both (from + 1) n (omega (arith, many, x, y, at_most_one (a from), none_of (b from) not_b)))
+        ]
+        | inr not_a ↦ both_on from n (are_both (from + 1) n (omega (arith, many, x, y, none_of (a from) not_a, at_most_one (b from))))
+      ]
+
+-- those beyond the ports count for nothing
+few_ports : (r : Redundancy) (a : ℕ → Bool) → ((i : ℕ) → i < 5 → ports_in r ≤ i → a i ≡ false) → count_by a (range_with_len 0 5) ≤ count_by a (range_with_len 0 (ports_in r))
+few_ports One a none = omega (arith, none_of (a 1) (none 1 (omega arith) (omega arith)), none_of (a 2) (none 2 (omega arith) (omega arith)), none_of (a 3) (none 3 (omega arith) (omega arith)), none_of (a 4) (none 4 (omega arith) (omega arith)))
+few_ports Three a none = omega (arith, none_of (a 3) (none 3 (omega arith) (omega arith)), none_of (a 4) (none 4 (omega arith) (omega arith)))
+few_ports Five a none = omega arith
+
+twice : (r : Redundancy) → ports_in r ≡ f_of r + f_of r + 1
+twice One = refl
+twice Three = refl
+twice Five = refl
+
+five : (r : Redundancy) → ports_in r ≤ 5
+five One = omega arith
+five Three = omega arith
+five Five = omega arith
+
+shared : (r : Redundancy) (a b : ℕ → Bool) → ((i : ℕ) → i < 5 → ports_in r ≤ i → a i ≡ false) → ((i : ℕ) → i < 5 → ports_in r ≤ i → b i ≡ false)
+    → f_of r < count_by a (range_with_len 0 5) → f_of r < count_by b (range_with_len 0 5) → (i : ℕ) × (i < 5) × (a i ≡ true) × (b i ≡ true)
+shared r a b no_a no_b many_a many_b =
+    let found = are_both a b 0 (ports_in r) (omega (arith, few_ports r a no_a, few_ports r b no_b, many_a, many_b, twice r)) in
+    let at : 0 + found.i ≡ found.i = omega arith in (
+      found.i,
+      omega (arith, found.low, five r),
+      subst (λ (j : ℕ). a j ≡ true) at found.one,
+      subst (λ (j : ℕ). b j ≡ true) at found.other,
+    )
+
+-- ---- a line that is not there brings nothing
+
+no_pulses : List Pulse
+no_pulses = []
+
+drop_nothing : (n : ℕ) → drop n no_pulses ≡ []
+unfolding no_pulses
+drop_nothing zero = refl
+drop_nothing (suc n) = refl
+
+kept_of_nothing : (EndsSo : ℕ → Type 0) (rules : Rules) (o : Option KeptClaim) (pulses : List Pulse) → pulses ≡ [] → IfKept EndsSo rules o pulses → o ≡ None
+unfolding no_pulses
+kept_of_nothing EndsSo rules None pulses e h = refl
+kept_of_nothing EndsSo rules (Some y) pulses e h =
+    let none : drop h.2.late pulses ≡ [] = ap (drop h.2.late) e ∙ drop_nothing h.2.late in
+    absurd (subst (AreOnTime 100) none h.2.on_time)
+
+silent_line : (start : ℕ) (r : Redundancy) (i : ℕ) → ports_in r ≤ i → (calls : List Call) → AreInOrder start r calls → pulses_on i calls ≡ []
+silent_line start r i far [] order = refl
+silent_line start r i far (Tick now ∷ calls) order = silent_line start r i far calls order.2
+silent_line start r i far (Hear port time rise width ∷ calls) order =
+    let before = silent_line start r i far calls order.4 in
+    elim (cases_Bool (i == port)) [
+      | inl same ↦ absurd (let at = eqb-true i port same in omega (arith, at, order.0, far))
+      | inr other ↦ rw other before
+    ]
+
+-- ---- a line behind a pulse
+
+-- of its own
+own_pulse : (k : Keeping) (port i rise width : ℕ) → i < 5 → is_pulse width ≡ true → i ≡ port → ¬ (place_of (line_at k.state.lines i).sync rise width ≡ 100) → (line_at (after_pulse k port rise width).state.lines i).frame ≡ (line_at k.state.lines i).frame
+own_pulse k port i rise width small narrow same inside =
+    subst (λ (j : ℕ). (line_at (after_pulse k j rise width).state.lines i).frame ≡ (line_at k.state.lines i).frame) same
+    (rw narrow (ap (λ (l : Line). l.frame) (line_same k.state.lines i _ small) ∙ rw (ne_eqb (place_of (line_at k.state.lines i).sync rise width) 100 inside) refl))
+
+-- of another one
+others_pulse : (k : Keeping) (port i rise width : ℕ) → port < 5 → i < 5 → ¬ (i ≡ port) → line_at (after_pulse k port rise width).state.lines i ≡ line_at k.state.lines i
+others_pulse k port i rise width low small other = elim (cases_Bool (is_pulse width)) [
+  | inl narrow ↦ rw narrow (line_other k.state.lines port _ i low small other)
+  | inr wide ↦ rw wide refl
+]
+
+own_pulses : (i port time rise width : ℕ) (calls : List Call) → is_pulse width ≡ true → (i == port) ≡ true → pulses_on i (Hear port time rise width ∷ calls) ≡ pulse_at rise width ∷ pulses_on i calls
+own_pulses i port time rise width calls narrow same = rw (same, narrow) refl
+
+others_pulses : (i port time rise width : ℕ) (calls : List Call) → (i == port) ≡ false → pulses_on i (Hear port time rise width ∷ calls) ≡ pulses_on i calls
+others_pulses i port time rise width calls other = rw other refl
+
+no_pulse : (i port time rise width : ℕ) (calls : List Call) → is_pulse width ≡ false → pulses_on i (Hear port time rise width ∷ calls) ≡ pulses_on i calls
+no_pulse i port time rise width calls wide = rw (and_false (i == port) (is_pulse width) wide) refl
+
+-- ---- what a line keeps behind a tick that took its frame ended a frame later
+
+module _ (new : Keeping) (start : ℕ) (begins : AreLinesAt new new (λ i. []) start start) (i : ℕ) (small : i < 5) where
+  abbrev claim_at : List Call → Option KeptClaim
+  claim_at calls = claim_kept (line_at (after_calls new calls).state.lines i).frame
+
+  abbrev whole_at : List Call → ℕ
+  whole_at calls = whole_of (pulses_on i calls)
+
+  -- a pulse on this line
+  record IsSince (before : ℕ) (calls : List Call) : Type 0 where
+    grown : before ≤ whole_at calls
+    later : (y : KeptClaim) → claim_at calls ≡ Some y → before + 891000 ≤ whole_at calls
+
+  since : (base : List Call) → claim_at base ≡ None → (later : List Call) → AreInOrder start new.clock.redundancy (later ++ base) → IsSince (whole_at base) (later ++ base)
+  since base none [] order = record { grown = omega arith; later = λ y e. absurd (let both : None ≡ Some y = sym none ∙ e in cc) }
+  since base none (Tick now ∷ later) order =
+      let before = since base none later order.2 in
+      record { grown = before.grown; later = λ y e. before.later y (kept_before (after_calls new (later ++ base)) (now % 2 ^ 32) y e) }
+    where
+      kept_before : (k : Keeping) (clock : ℕ) (y : KeptClaim) → claim_kept (line_at (after_tick k clock).state.lines i).frame ≡ Some y → claim_kept (line_at k.state.lines i).frame ≡ Some y
+      kept_before k clock y e = elim (ticked k clock) [
+        | inl stays ↦
+            let same : (line_at (after_tick k clock).state.lines i).frame ≡ still_kept clock (line_at k.state.lines i).frame = ap (λ (l : Lines). (line_at l i).frame) stays ∙ frame_settled clock k.state.lines i small in
+            (still clock (line_at k.state.lines i).frame y (ap claim_kept (sym same) ∙ e)).0
+        | inr gives ↦
+            let gone : line_taken (line_at (settled clock k.state.lines) i) ≡ line_at (after_tick k clock).state.lines i = line_takes (settled clock k.state.lines) i small ∙ ap (λ (l : Lines). line_at l i) (sym gives) in
+            absurd (let both : None ≡ Some y = ap (λ (l : Line). claim_kept l.frame) gone ∙ e in cc)
+      ]
+  since base none (Hear port time rise width ∷ later) order =
+      let before = since base none later order.4 in
+      let calls : List Call = later ++ base in
+      let k : Keeping = after_calls new calls in
+      let l = (lines_after new start begins calls order.4).lines i small in
+      elim (cases_Bool (i == port)) [
+        | inr other ↦
+            let apart = eqb-false i port other in
+            let same = others_pulse k port i (rise % 2 ^ 32) width (omega (arith, order.0, five new.clock.redundancy)) small apart in
+            stays before (ap (λ (x : Line). claim_kept x.frame) same) (ap whole_of (others_pulses i port time rise width calls other))
+        | inl same ↦ elim (cases_Bool (is_pulse width)) [
+          | inr wide ↦ stays before (rw wide refl) (ap whole_of (no_pulse i port time rise width calls wide))
+          | inl narrow ↦
+              let at : i ≡ port = eqb-true i port same in
+              let told = order.3 narrow in
+              let pulses : List Pulse = pulses_on i calls in
+              let p : Pulse = pulse_at rise width in
+              let after : IsAfter pulses rise = subst (λ (j : ℕ). IsAfter (pulses_on j calls) rise) (sym at) told.after in
+              let soon : IsSoon l.told rise = (omega (arith, l.past, order.1, told.soon), omega (arith, l.near, order.2, told.risen)) in
+              let place : place_of (line_at k.state.lines i).sync (rise % 2 ^ 32) width ≡ place_after (p ∷ pulses) = place_at_time (line_at k.state.lines i).sync pulses l.told rise width l.hearing.sync after soon in
+              let sorted : AreSorted (p ∷ pulses) = (after, l.sorted) in
+              let on : pulses_on i (Hear port time rise width ∷ calls) ≡ p ∷ pulses = own_pulses i port time rise width calls narrow same in
+              elim (cases_Bool (place_after (p ∷ pulses) == 100)) [
+                | inl ends ↦
+                    let hundred : place_after (p ∷ pulses) ≡ 100 = eqb-true (place_after (p ∷ pulses)) 100 ends in
+                    let here : whole_at (Hear port time rise width ∷ calls) ≡ rise + 10000 = ap whole_of on ∙ whole_here p pulses hundred in
+                    let far = whole_apart p pulses sorted hundred in
+                    record { grown = omega (arith, here, far, before.grown); later = λ y e. omega (arith, here, far, before.grown) }
+                | inr inside ↦
+                    let not_there : ¬ (place_after (p ∷ pulses) ≡ 100) = eqb-false (place_after (p ∷ pulses)) 100 inside in
+                    let frame = own_pulse k port i (rise % 2 ^ 32) width small narrow at (λ ends. not_there (sym place ∙ ends)) in
+                    stays before (ap claim_kept frame) (ap whole_of on ∙ not_whole p pulses not_there)
+              ]
+        ]
+      ]
+    where
+      stays : {now then : List Call} → IsSince (whole_at base) now → claim_at then ≡ claim_at now → whole_at then ≡ whole_at now → IsSince (whole_at base) then
+      stays {now} {then} before claim whole = record {
+        grown = omega (arith, before.grown, whole);
+        later = λ y e. (let far = before.later y (sym claim ∙ e) in omega (arith, far, whole));
+      }
+
+-- ---- the lines that agree on an edge
+
+IsRanged : KeptClaim → Type 0
+IsRanged y = y.end_us < 2 ^ 32
+
+ranged : (EndsSo : ℕ → Type 0) (rules : Rules) (o : Option KeptClaim) (pulses : List Pulse) (y : KeptClaim) → IfKept EndsSo rules o pulses → o ≡ Some y → IsRanged y
+unfolding IsRanged
+ranged EndsSo rules None pulses y h e = absurd cc
+ranged EndsSo rules (Some x) pulses y h e =
+    let same : x ≡ y = cc in
+    let low : x.end_us < 2 ^ 32 = omega (arith, h.1) in
+    subst (λ (v : KeptClaim). v.end_us < 2 ^ 32) same low
+
+-- a tick that has a vote takes the frames
+takes : (k : Keeping) (clock : ℕ) (v : KeptClaim) → vote_at k clock ≡ Some v → (after_tick k clock).state.lines ≡ taken (settled clock k.state.lines)
+takes k clock v e = of (vote_at k clock) e
+  where
+    either : (b : Bool) (x y : ClockState) (lines : Lines) → x.lines ≡ lines → y.lines ≡ lines → (cond b x y).lines ≡ lines
+    either true x y lines p q = p
+    either false x y lines p q = q
+
+    of : (o : Option KeptClaim) → o ≡ Some v → (clock_by k.clock k.table (settled_at k.state clock) clock o).lines ≡ taken (settled clock k.state.lines)
+    of None e = absurd cc
+    of (Some x) e = either (edges_to_vote k.state.edge_us x.end_us == 0) _ _ _ refl refl
+
+module _ (new : Keeping) (start : ℕ) (begins : AreLinesAt new new (λ i. []) start start) where
+  module _ (calls : List Call) (now : ℕ) (order : AreInOrder start new.clock.redundancy (Tick now ∷ calls)) (v : KeptClaim) (voted : vote_at (after_calls new calls) (now % 2 ^ 32) ≡ Some v) where
+    abbrev clock : ℕ
+    clock = now % 2 ^ 32
+
+    abbrev lines : Lines
+    lines = (after_calls new calls).state.lines
+
+    abbrev agreeing : ℕ → Bool
+    agreeing i = agrees v (claim_kept (line_at (settled clock lines) i).frame)
+
+    there : (agreed (f_of (after_calls new calls).clock.redundancy) (settled clock lines) ≡ Some v) × (has_come v.end_us clock ≡ true)
+    there = come clock (agreed (f_of (after_calls new calls).clock.redundancy) (settled clock lines)) v voted
+
+    -- what an agreeing line keeps
+    kept_by : (i : ℕ) → i < 5 → (y : KeptClaim) → claim_kept (line_at (settled clock lines) i).frame ≡ Some y → (claim_kept (line_at lines i).frame ≡ Some y) × (is_late y.end_us clock ≡ false)
+    kept_by i small y e = still clock (line_at lines i).frame y (ap claim_kept (sym (frame_settled clock lines i small)) ∙ e)
+
+    range_at : (i : ℕ) → i < 5 → (y : KeptClaim) → claim_kept (line_at (settled clock lines) i).frame ≡ Some y → IsRanged y
+    range_at i small y e =
+        ranged (IsEndAt (pulses_on i calls) (last_tick start calls) (last_call start calls)) (after_calls new calls).rules (claim_kept (line_at lines i).frame) (pulses_on i calls) y ((lines_after new start begins calls order.2).lines i small).kept (kept_by i small y e).0
+
+    candidate : (is_candidate (f_of (after_calls new calls).clock.redundancy) v (all_kept (settled clock lines)) ≡ true) × IsRanged v
+    candidate =
+        let all = all_kept (settled clock lines) in
+        is_one IsRanged (f_of (after_calls new calls).clock.redundancy) all all v
+        (one_more IsRanged _ _ (range_at 0 (omega arith))
+        (one_more IsRanged _ _ (range_at 1 (omega arith))
+        (one_more IsRanged _ _ (range_at 2 (omega arith))
+        (one_more IsRanged _ _ (range_at 3 (omega arith))
+        (one_more IsRanged _ _ (range_at 4 (omega arith)) tt)))))
+        there.0
+
+    many : f_of new.clock.redundancy < count_by agreeing (range_with_len 0 5)
+    many =
+        let all = all_kept (settled clock lines) in
+        let f = f_of (after_calls new calls).clock.redundancy in
+        let same : f ≡ f_of new.clock.redundancy = ap (λ (c : ClockRules). f_of c.redundancy) (lines_after new start begins calls order.2).same.clock in
+        let counted = ltb-true f (count_by (agrees v) all) candidate.0 in
+        omega (arith, counted, same)
+
+    absent : (i : ℕ) → i < 5 → ports_in new.clock.redundancy ≤ i → agreeing i ≡ false
+    absent i small far = of (claim_kept (line_at (settled clock lines) i).frame) refl
+      where
+        of : (o : Option KeptClaim) → claim_kept (line_at (settled clock lines) i).frame ≡ o → agrees v o ≡ false
+        of None e = refl
+        of (Some y) e =
+            let l = (lines_after new start begins calls order.2).lines i small in
+            let none = kept_of_nothing (IsEndAt (pulses_on i calls) (last_tick start calls) (last_call start calls)) (after_calls new calls).rules (claim_kept (line_at lines i).frame) (pulses_on i calls) (silent_line start new.clock.redundancy i far calls order.2) l.kept in
+            absurd (let both : None ≡ Some y = sym none ∙ (kept_by i small y e).0 in cc)
+
+    -- its frame ended at an edge that it votes for, or up to 1 ms behind
+    record IsVoter (i : ℕ) : Type 0 where
+      y : KeptClaim
+      keeps : claim_kept (line_at lines i).frame ≡ Some y
+      edge : ℕ
+      at : IsEdgeAt v.end_us edge now
+      least : edge ≤ whole_of (pulses_on i calls)
+      most : whole_of (pulses_on i calls) ≤ edge + 1000
+      soon : now ≤ edge + 100000
+      low : 9000 ≤ edge
+
+    voter : (i : ℕ) → i < 5 → agreeing i ≡ true → IsVoter i
+    unfolding IsRanged
+    voter i small same = of (claim_kept (line_at (settled clock lines) i).frame) refl same
+      where
+        of : (o : Option KeptClaim) → claim_kept (line_at (settled clock lines) i).frame ≡ o → agrees v o ≡ true → IsVoter i
+        of None e same = absurd cc
+        of (Some y) e same =
+            let l = (lines_after new start begins calls order.2).lines i small in
+            let keeps = kept_by i small y e in
+            let h = subst (λ (o : Option KeptClaim). IfKept (IsEndAt (pulses_on i calls) (last_tick start calls) (last_call start calls)) (after_calls new calls).rules o (pulses_on i calls)) keeps.0 l.kept in
+            let end : ℕ = h.0 in
+            let ahead : end ≤ now + 10000 = omega (arith, h.3.0, order.0) in
+            let turn : now + 10000 < end + 2 ^ 32 = omega (arith, h.3.1, order.1) in
+            let soon = not_late end now ahead turn (subst (λ (e : ℕ). is_late e clock ≡ false) h.1 keeps.1) in
+            let both = split (same_claim v.claim y.claim) (nat_le (clock_gap v.end_us y.end_us) 1000) same in
+            let near : clock_gap v.end_us (end % 2 ^ 32) ≤ 1000 = subst (λ (e : ℕ). clock_gap v.end_us e ≤ 1000) h.1 (leb-true (clock_gap v.end_us y.end_us) 1000 both.1) in
+            let exact = come_before v.end_us end now candidate.1 (last_late end (drop h.2.late (pulses_on i calls)) h.2.last) ahead soon near (leb-true (clock_gap v.end_us clock) 100000 there.1) in
+            record {
+              y = y;
+              keeps = keeps.0;
+              edge = exact.exact;
+              at = record { clock = exact.clock; come = exact.come; soon = omega (arith, exact.soon) };
+              least = omega (arith, h.3.2, exact.before);
+              most = omega (arith, h.3.2, exact.behind);
+              soon = exact.soon;
+              low = omega (arith, exact.behind, last_late end (drop h.2.late (pulses_on i calls)) h.2.last);
+            }
+
+    -- so there is that edge
+    pub edge_of : (edge : ℕ) × IsEdgeAt v.end_us edge now × (now ≤ edge + 100000) × (9000 ≤ edge)
+    edge_of =
+        let one = shared new.clock.redundancy agreeing agreeing absent absent many many in
+        let is = voter one.0 one.1 one.2 in
+        (is.edge, is.at, is.soon, is.low)
+
+  -- two votes share a line, whose frames lie a frame apart
+  pub votes_apart : (earlier later : List Call) (before now : ℕ) (v v' : KeptClaim) (V V' : ℕ) → AreInOrder start new.clock.redundancy (Tick now ∷ (later ++ (Tick before ∷ earlier)))
+      → vote_at (after_calls new earlier) (before % 2 ^ 32) ≡ Some v → IsEdgeAt v.end_us V before
+      → vote_at (after_calls new (later ++ (Tick before ∷ earlier))) (now % 2 ^ 32) ≡ Some v' → IsEdgeAt v'.end_us V' now → V + 890000 ≤ V'
+  votes_apart earlier later before now v v' V V' order voted at voted' at' =
+      let base : List Call = Tick before ∷ earlier in
+      let calls : List Call = later ++ base in
+      let ordered = order_before start new.clock.redundancy later base order.2 in
+      let one = shared new.clock.redundancy (agreeing earlier before ordered v voted) (agreeing calls now order v' voted') (absent earlier before ordered v voted) (absent calls now order v' voted') (many earlier before ordered v voted) (many calls now order v' voted') in
+      let i : ℕ = one.0 in
+      let first = voter earlier before ordered v voted i one.1 one.2 in
+      let second = voter calls now order v' voted' i one.1 one.3 in
+      let gone : claim_kept (line_at (after_calls new base).state.lines i).frame ≡ None =
+      ap (λ (l : Lines). claim_kept (line_at l i).frame) (takes (after_calls new earlier) (before % 2 ^ 32) v voted)
+      ∙ ap (λ (l : Line). claim_kept l.frame) (sym (line_takes (settled (before % 2 ^ 32) (after_calls new earlier).state.lines) i one.1)) in
+      let far = (since new start begins i one.1 base gone later order.2).later second.y second.keeps in
+      let here : first.edge ≡ V = same_edge v.end_us first.edge V before first.at at in
+      let there : second.edge ≡ V' = same_edge v'.end_us second.edge V' now second.at at' in
+      omega (arith, first.least, second.most, far, here, there)
+
+  -- ---- one edge and a later one
+
+  -- it was set by a vote
+  pub record IsSetByVote (edge : ℕ) (calls : List Call) : Type 0 where
+    pub earlier : List Call
+    pub later : List Call
+    pub before : ℕ
+    pub v : KeptClaim
+    pub are : calls ≡ later ++ (Tick before ∷ earlier)
+    pub voted : vote_at (after_calls new earlier) (before % 2 ^ 32) ≡ Some v
+    pub at : IsEdgeAt v.end_us edge before
+
+  set_before : (edge : ℕ) (call : Call) (calls : List Call) → IsSetByVote edge calls → IsSetByVote edge (call ∷ calls)
+  set_before edge call calls set = record { earlier = set.earlier; later = call ∷ set.later; before = set.before; v = set.v; are = ap (λ (x : List Call). call ∷ x) set.are; voted = set.voted; at = set.at }
+
+  -- the last edge that was told lies at A or behind; lines may have set the edge back since
+  abbrev pub IsPaced : ℕ → List Call → Option ℕ → Type 0
+  IsPaced A calls None = A ≡ 0
+  IsPaced A calls (Some e) = (edge : ℕ) × IsEdgeAt e edge (last_tick start calls) × ((A ≤ edge) ⊎ ((A ≤ edge + 100000) × IsSetByVote edge calls))
+
+  -- a tick tells an edge that lies half a second behind A, and goes on from there
+  pub record TellsLater (A now : ℕ) (calls : List Call) (o : Option ℕ) (b : Beat) : Type 0 where
+    pub edge : ℕ
+    pub at : IsEdgeAt b.edge_us edge now
+    pub some : 1 ≤ edge
+    pub later : (A ≡ 0) ⊎ (A + 500000 ≤ edge)
+    pub on : IsPaced edge (Tick now ∷ calls) o
+
+  pub record IsPacedTick (A now : ℕ) (calls : List Call) (o : Option ℕ) (answer : Option Beat) : Type 0 where
+    pub next : IsPaced A (Tick now ∷ calls) o
+    pub told : (b : Beat) → answer ≡ Some b → TellsLater A now calls o b
+
+  module _ (A : ℕ) (calls : List Call) (now : ℕ) (order : AreInOrder start new.clock.redundancy (Tick now ∷ calls)) where
+    abbrev k : Keeping
+    k = after_calls new calls
+
+    abbrev s : ClockState
+    s = settled_at k.state (now % 2 ^ 32)
+
+    abbrev tick : ℕ
+    tick = last_tick start calls
+
+    ordered : tick ≤ now
+    ordered = let l = lines_after new start begins calls order.2 in omega (arith, l.order, order.0)
+
+    soon : now ≤ tick + 1800000000
+    soon = omega (arith, order.1)
+
+    -- an edge that is told
+    tells : (e edge : ℕ) (b : Beat) → IsEdgeAt e edge now → 1 ≤ edge → (A ≡ 0) ⊎ (A + 500000 ≤ edge) → b.edge_us ≡ e → TellsLater A now calls (Some e) b
+    tells e edge b at some later same = record {
+      edge = edge;
+      at = subst (λ (x : ℕ). IsEdgeAt x edge now) (sym same) at;
+      some = some;
+      later = later;
+      on = (edge, at, inl (omega arith));
+    }
+
+    -- by the own counter
+    own : (o : Option ℕ) → IsPaced A calls o → (n : ℕ) → n ≡ edges_own o (now % 2 ^ 32) → IsPacedTick A now calls (after_own k.clock k.table (record s { edge_us = o }) n).edge_us (answer_alone k.clock k.table (record s { edge_us = o }) n)
+    own None paced n same =
+        let none : (n == 0) ≡ true = ap (λ (x : ℕ). x == 0) same in
+        rw none (record { next = paced; told = λ b e. absurd cc })
+    own (Some e) paced n same =
+        let edge : ℕ = paced.0 in
+        let at = paced.1 in
+        let count = same ∙ own_count tick now ordered soon e edge at in
+        elim (cases_Bool (n == 0)) [
+          | inl waits ↦
+              let none : n ≡ 0 = eqb-true n 0 waits in
+              let stays : (A ≤ edge) ⊎ ((A ≤ edge + 100000) × IsSetByVote edge (Tick now ∷ calls)) = elim paced.2 [ inl low ↦ inl low | inr set ↦ inr (set.0, set_before edge (Tick now) calls set.1) ] in
+              rw waits (record { next = (edge, still_edge tick now ordered soon e edge at (sym count ∙ none), stays); told = λ b e. absurd cc })
+          | inr more ↦
+              let some : 1 ≤ n = omega (arith, eqb-false n 0 more) in
+              let near : A ≤ edge + 100000 = elim paced.2 [ inl low ↦ omega (arith, low) | inr set ↦ set.0 ] in
+              let then = own_edge_at tick now ordered soon e edge at n count some in
+              rw more (record {
+                next = (edge + n * 1000000, then, inl (omega (arith, near, some)));
+                told = λ b answer.
+                    let beat : b ≡ beat_by (record s { edge_us = Some e }) (step_to k.clock k.table (record s { edge_us = Some e }) n None) (n - 1) (own_edge (Some e) n) = cc in
+                    tells (edge_behind e n) (edge + n * 1000000) b then (omega (arith, some)) (inr (omega (arith, near, some))) (ap (λ (x : Beat). x.edge_us) beat);
+              })
+        ]
+
+    -- by a vote
+    by_vote : (v : KeptClaim) → vote_at k (now % 2 ^ 32) ≡ Some v → (o : Option ℕ) → IsPaced A calls o → (n : ℕ) → n ≡ edges_to_vote o v.end_us
+        → IsPacedTick A now calls (after_vote k.clock k.table (record s { edge_us = o }) v n).edge_us (answer_to_vote k.clock k.table (record s { edge_us = o }) v n)
+    by_vote v voted None paced n same =
+        let V = edge_of calls now order v voted in
+        let some : (n == 0) ≡ false = ap (λ (x : ℕ). x == 0) same in
+        rw some (record {
+          next = (V.0, V.1, inl (omega (arith, paced)));
+          told = λ b answer.
+              let beat : b ≡ beat_by (record s { edge_us = None }) (step_to k.clock k.table (record s { edge_us = None }) n (Some v.claim)) (n - 1) v.end_us = cc in
+              tells v.end_us V.0 b V.1 (omega (arith, V.3)) (inl paced) (ap (λ (x : Beat). x.edge_us) beat);
+        })
+    by_vote v voted (Some e) paced n same =
+        let edge : ℕ = paced.0 in
+        let at = paced.1 in
+        let V = edge_of calls now order v voted in
+        let count : n ≡ edges_between edge V.0 = same ∙ voted_count tick now ordered soon e edge at v.end_us V.0 V.1 V.2 in
+        let behind : (A ≤ edge) ⊎ ((A ≤ edge + 100000) × (edge + 890000 ≤ V.0)) = elim paced.2 [
+          | inl low ↦ inl low
+          | inr set ↦ inr (set.0, votes_behind now v V.0 edge set.1 order voted V.1)
+        ] in
+        elim (cases_Bool (n == 0)) [
+          | inl waits ↦
+              let none : n ≡ 0 = eqb-true n 0 waits in
+              let back : A ≤ V.0 + 100000 = elim behind [ inl low ↦ omega (arith, low, at.come, ordered, V.2) | inr set ↦ absurd (omega (arith, set.1, count, none)) ] in
+              let set : IsSetByVote V.0 (Tick now ∷ calls) = record { earlier = calls; later = []; before = now; v = v; are = refl; voted = voted; at = V.1 } in
+              rw waits (record { next = (V.0, V.1, inr (back, set)); told = λ b e. absurd cc })
+          | inr more ↦
+              let some : 1 ≤ n = omega (arith, eqb-false n 0 more) in
+              let far : A + 500000 ≤ V.0 = elim behind [ inl low ↦ omega (arith, low, count, some) | inr set ↦ omega (arith, set.0, set.1) ] in
+              rw more (record {
+                next = (V.0, V.1, inl (omega (arith, far)));
+                told = λ b answer.
+                    let beat : b ≡ beat_by (record s { edge_us = Some e }) (step_to k.clock k.table (record s { edge_us = Some e }) n (Some v.claim)) (n - 1) v.end_us = cc in
+                    tells v.end_us V.0 b V.1 (omega (arith, V.3)) (inr far) (ap (λ (x : Beat). x.edge_us) beat);
+              })
+        ]
+      where
+        votes_behind : (now : ℕ) (v : KeptClaim) (V edge : ℕ) → (set : IsSetByVote edge calls) → AreInOrder start new.clock.redundancy (Tick now ∷ calls) → vote_at (after_calls new calls) (now % 2 ^ 32) ≡ Some v → IsEdgeAt v.end_us V now → edge + 890000 ≤ V
+        votes_behind now v V edge set order voted at =
+            votes_apart set.earlier set.later set.before now set.v v edge V
+            (subst (λ (x : List Call). AreInOrder start new.clock.redundancy (Tick now ∷ x)) set.are order) set.voted set.at
+            (subst (λ (x : List Call). vote_at (after_calls new x) (now % 2 ^ 32) ≡ Some v) set.are voted) at
+
+    paced_tick : IsPaced A calls k.state.edge_us → IsPacedTick A now calls (after_tick k (now % 2 ^ 32)).state.edge_us (answer_at k (now % 2 ^ 32))
+    paced_tick paced = of (vote_at k (now % 2 ^ 32)) refl
+      where
+        of : (o : Option KeptClaim) → vote_at k (now % 2 ^ 32) ≡ o → IsPacedTick A now calls (clock_by k.clock k.table s (now % 2 ^ 32) o).edge_us (answer_by k.clock k.table s (now % 2 ^ 32) o)
+        of None e = own k.state.edge_us paced _ refl
+        of (Some v) e = by_vote v e k.state.edge_us paced _ refl
+
+  -- over calls
+  paced_on : (A : ℕ) (base : List Call) → IsPaced A base (after_calls new base).state.edge_us → (later : List Call) → AreInOrder start new.clock.redundancy (later ++ base) → IsPaced A (later ++ base) (after_calls new (later ++ base)).state.edge_us
+  paced_on A base paced [] order = paced
+  paced_on A base paced (Tick now ∷ later) order = (paced_tick A (later ++ base) now order (paced_on A base paced later order.2)).next
+  paced_on A base paced (Hear port time rise width ∷ later) order =
+      hears_on (Hear port time rise width) (after_calls new (later ++ base)).state.edge_us (after_calls new (Hear port time rise width ∷ (later ++ base))).state.edge_us (stays (after_calls new (later ++ base)) port (rise % 2 ^ 32) width) refl (paced_on A base paced later order.4)
+    where
+      stays : (k : Keeping) (port rise width : ℕ) → (after_pulse k port rise width).state.edge_us ≡ k.state.edge_us
+      stays k port rise width = elim (cases_Bool (is_pulse width)) [ inl narrow ↦ rw narrow refl | inr wide ↦ rw wide refl ]
+
+      hears_on : (call : Call) (o o' : Option ℕ) → o' ≡ o → last_tick start (call ∷ (later ++ base)) ≡ last_tick start (later ++ base) → IsPaced A (later ++ base) o → IsPaced A (call ∷ (later ++ base)) o'
+      hears_on call None o' same tick paced = subst (IsPaced A (call ∷ (later ++ base))) (sym same) paced
+      hears_on call (Some e) o' same tick paced =
+          subst (IsPaced A (call ∷ (later ++ base))) (sym same) (
+            paced.0,
+            subst (IsEdgeAt e paced.0) (sym tick) paced.1,
+            elim paced.2 [ inl low ↦ inl low | inr set ↦ inr (set.0, set_before paced.0 call (later ++ base) set.1) ],
+          )
+
+  -- one edge and a later one
+  pub edges_apart : new.state.edge_us ≡ None → (earlier later : List Call) (before now : ℕ) (b b' : Beat) → AreInOrder start new.clock.redundancy (Tick now ∷ (later ++ (Tick before ∷ earlier)))
+      → answer_at (after_calls new earlier) (before % 2 ^ 32) ≡ Some b → answer_at (after_calls new (later ++ (Tick before ∷ earlier))) (now % 2 ^ 32) ≡ Some b' → AreApartBeats before now b b'
+  edges_apart fresh earlier later before now b b' order answer answer' =
+      let base : List Call = Tick before ∷ earlier in
+      let ordered = order_before start new.clock.redundancy later base order.2 in
+      let none : earlier ++ [] ≡ earlier = append-nil earlier in
+      let from_new : IsPaced 0 [] new.state.edge_us = subst (IsPaced 0 []) (sym fresh) refl in
+      let first = paced_on 0 [] from_new earlier (subst (AreInOrder start new.clock.redundancy) (sym none) ordered.2) in
+      let paced = subst (λ (x : List Call). IsPaced 0 x (after_calls new x).state.edge_us) none first in
+      let one = (paced_tick 0 earlier before ordered paced).told b answer in
+      let then = paced_on one.edge base one.on later order.2 in
+      let two = (paced_tick one.edge (later ++ base) now order then).told b' answer' in
+      record {
+        edge = one.edge;
+        later = two.edge;
+        told = one.at;
+        told_later = two.at;
+        apart = elim two.later [ inl none ↦ absurd (omega (arith, none, one.some)) | inr far ↦ far ];
+      }
