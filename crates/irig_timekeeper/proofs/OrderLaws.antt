@@ -381,7 +381,7 @@ module _ (new : Keeping) (start : ℕ) (begins : AreLinesAt new new (λ i. []) s
     pub voted : vote_at (after_calls new earlier) (before % 2 ^ 32) ≡ Some v
     pub at : IsEdgeAt v.end_us edge before
 
-  set_before : (edge : ℕ) (call : Call) (calls : List Call) → IsSetByVote edge calls → IsSetByVote edge (call ∷ calls)
+  pub set_before : (edge : ℕ) (call : Call) (calls : List Call) → IsSetByVote edge calls → IsSetByVote edge (call ∷ calls)
   set_before edge call calls set = record { earlier = set.earlier; later = call ∷ set.later; before = set.before; v = set.v; are = ap (λ (x : List Call). call ∷ x) set.are; voted = set.voted; at = set.at }
 
   -- the last edge that was told lies at A or behind; lines may have set the edge back since
@@ -497,7 +497,7 @@ module _ (new : Keeping) (start : ℕ) (begins : AreLinesAt new new (λ i. []) s
             (subst (λ (x : List Call). AreInOrder start new.clock.redundancy (Tick now ∷ x)) set.are order) set.voted set.at
             (subst (λ (x : List Call). vote_at (after_calls new x) (now % 2 ^ 32) ≡ Some v) set.are voted) at
 
-    paced_tick : IsPaced A calls k.state.edge_us → IsPacedTick A now calls (after_tick k (now % 2 ^ 32)).state.edge_us (answer_at k (now % 2 ^ 32))
+    pub paced_tick : IsPaced A calls k.state.edge_us → IsPacedTick A now calls (after_tick k (now % 2 ^ 32)).state.edge_us (answer_at k (now % 2 ^ 32))
     paced_tick paced = of (vote_at k (now % 2 ^ 32)) refl
       where
         of : (o : Option KeptClaim) → vote_at k (now % 2 ^ 32) ≡ o → IsPacedTick A now calls (clock_by k.clock k.table s (now % 2 ^ 32) o).edge_us (answer_by k.clock k.table s (now % 2 ^ 32) o)
@@ -505,7 +505,7 @@ module _ (new : Keeping) (start : ℕ) (begins : AreLinesAt new new (λ i. []) s
         of (Some v) e = by_vote v e k.state.edge_us paced _ refl
 
   -- over calls
-  paced_on : (A : ℕ) (base : List Call) → IsPaced A base (after_calls new base).state.edge_us → (later : List Call) → AreInOrder start new.clock.redundancy (later ++ base) → IsPaced A (later ++ base) (after_calls new (later ++ base)).state.edge_us
+  pub paced_on : (A : ℕ) (base : List Call) → IsPaced A base (after_calls new base).state.edge_us → (later : List Call) → AreInOrder start new.clock.redundancy (later ++ base) → IsPaced A (later ++ base) (after_calls new (later ++ base)).state.edge_us
   paced_on A base paced [] order = paced
   paced_on A base paced (Tick now ∷ later) order = (paced_tick A (later ++ base) now order (paced_on A base paced later order.2)).next
   paced_on A base paced (Hear port time rise width ∷ later) order =

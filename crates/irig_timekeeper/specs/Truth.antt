@@ -16,6 +16,7 @@ use Rattle.irig_reader.specs.Standing.{StandsAtTruth}
 use Rattle.irig_timekeeper.specs.declared.clock.Beat.{Beat}
 use Rattle.irig_timekeeper.specs.declared.lines.KeptClaim.{KeptClaim}
 use Rattle.irig_timekeeper.specs.declared.lines.Lines.{Lines}
+use Rattle.irig_timekeeper.specs.declared.stamp.Stamp.{Stamp}
 use Rattle.irig_timekeeper.specs.Clock.{lasted}
 use Rattle.irig_timekeeper.specs.Edges.{IsQuartz, IsNear, IsTrueNear}
 use Rattle.irig_timekeeper.specs.Lines.{IfKept, IsInTurnOf}
@@ -130,3 +131,21 @@ pub record AreApartBeats (before now : ℕ) (beat then : Beat) : Type 0 where
   pub told : IsEdgeAt beat.edge_us edge before
   pub told_later : IsEdgeAt then.edge_us later now
   pub apart : edge + 500000 ≤ later
+
+-- the second and the offset of a stamp name the event's instant, but for its bound and so much more
+pub record IsStampedTruly (t : TimelineValue) (edges : ℕ → ℕ) (more time : ℕ) (stamp : Stamp)
+    : Type 0 where
+  pub m : ℕ
+  pub truth : IsSecond t m stamp.second
+  pub early : edges m + stamp.offset_us ≤ time + stamp.bound_us + more
+  pub late : time ≤ edges m + stamp.offset_us + stamp.bound_us + more
+  pub small : stamp.bound_us ≤ 491549
+  pub behind : stamp.offset_us ≤ 1000000 + stamp.bound_us
+
+-- by a counter that is at most d us a second wrong the time is that of the instant tau us behind
+-- T(n), before the next second begins
+pub record IsInstant (d : ℕ) (edges : ℕ → ℕ) (n tau time : ℕ) : Type 0 where
+  pub least : edges n + tau ≤ time + d
+  pub most : time ≤ edges n + tau + d
+  pub begun : edges n ≤ time
+  pub before_next : time < edges (n + 1)

@@ -23,13 +23,14 @@ ghost use Rattle.irig_timekeeper.specs.Counting.{edges_between, edges_to, edges_
 ghost use Rattle.irig_timekeeper.specs.Refusals.{clock_fault};
 ghost use Rattle.irig_timekeeper.specs.Steps.{frame_behind, claim_kept, line_at, all_kept, agrees, agreed, settled, tells_of, AreNewLines, wait_by};
 ghost use Rattle.irig_timekeeper.specs.Clock.{answer_to_vote};
-ghost use Rattle.irig_timekeeper.specs.Keeping.{Keeping, new_keeping, vote_at, after_tick, answer_at};
-ghost use Rattle.irig_timekeeper.specs.Truth.{AreHeardTruly, IsTrueVote, IsOnTrack, IsToldTruly, IsToldInHoldover, IsLaterSecond, IsDevice, IsEdgeAt, AreApartBeats};
+ghost use Rattle.irig_timekeeper.specs.Keeping.{Keeping, new_keeping, vote_at, after_tick, answer_at, stamp_at};
+ghost use Rattle.irig_timekeeper.specs.Truth.{AreHeardTruly, IsTrueVote, IsOnTrack, IsToldTruly, IsToldInHoldover, IsLaterSecond, IsDevice, IsEdgeAt, AreApartBeats, IsStampedTruly, IsInstant};
 ghost use Rattle.irig_timekeeper.specs.Life.{Call, AreInOrder, AreTrueLately, AreTrueAtTicks, AreTrueOver, after_calls};
 ghost use Rattle.irig_timekeeper.specs.Life.Call.{Tick};
 
 use crate::clock::{Beat, ClockRules};
 use crate::lines::{KeptClaim, KeptFrame, Lines};
+use crate::stamp::Stamp;
 use irig_reader::{Cause, ReaderRules};
 use irig_time::{Claim, Rules, UtcSecond};
 
@@ -232,4 +233,26 @@ pub fn waiting_is_right()
         → now ≤ tick + 1800000000 → edges_own (Some e) (now % 2 ^ 32) ≡ 0
         → (1 ≤ wait_by (now % 2 ^ 32) (Some e) None)
         × (wait_by (now % 2 ^ 32) (Some e) None ≤ 1005000) }
+{}
+
+/// A stamp names the instant of its event: of every life, as of `a_device_tells_the_truth`, a stamp
+/// of an event of the last half hour has a second T(m) and an offset that lie no further from the
+/// event than the stamp's bound, by the device's counter.
+pub fn stamps_are_true()
+    ensures stamp { (t : TimelineValue) (edges : ℕ → ℕ) (rules : Rules) (clock : ClockRules)
+        (table : TableValue) (lines : Lines) (start time now : ℕ) (calls : List Call)
+        (stamp : Stamp) → IsDevice t clock.drift_us edges clock.reader_rules table
+        → AreNewLines lines → AreInOrder start clock.redundancy (Tick now ∷ calls)
+        → AreTrueAtTicks (IsTrueLately rules t edges) (f_of clock.redundancy) calls
+        → time ≤ now → now ≤ time + 1800000000
+        → stamp_at (after_calls (new_keeping rules clock table lines) calls) (time % 2 ^ 32)
+        ≡ Some stamp → IsStampedTruly t edges 0 time stamp }
+    // So two devices stamp one instant alike, whatever their counters show: what their stamps name
+    // lies no further apart than the sum of their bounds and the drift of two seconds of each.
+    ensures together { (t : TimelineValue) (d e n tau time other : ℕ) (edges others : ℕ → ℕ)
+        (x y : Stamp) → IsQuartz d edges → IsQuartz e others → IsInstant d edges n tau time
+        → IsInstant e others n tau other → (one : IsStampedTruly t edges 0 time x)
+        → (two : IsStampedTruly t others 0 other y)
+        → one.m * 1000000 + x.offset_us
+        ≤ two.m * 1000000 + y.offset_us + x.bound_us + y.bound_us + 2 * d + 2 * e }
 {}

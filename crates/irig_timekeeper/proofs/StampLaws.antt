@@ -1,0 +1,459 @@
+-- Stamps name an instant within their bound of the true one.
+use Rattle.std.specs.Prelude.{◌==◌, nat_le}
+use Rattle.std.proofs.Common.{◌≡◌, ◌∙◌, ◌⊎◌, ℕ, ◌+◌, ◌-◌, ◌*◌, ◌%◌, ◌^◌, ◌<◌, ◌≤◌, Bool, true, false, cond, List, [], ◌∷◌, ◌++◌, append-nil, Option, Some, None, refl, sym, ap, subst, arith, inl, inr}
+use Rattle.std.proofs.lemmas.Bool.{cases_Bool, cases_lt, eqb-true, leb-true}
+use Rattle.std.proofs.Math.Nat.{mul-le-mul_left}
+use Rattle.irig_sync.specs.Lines.{Pulse}
+use Rattle.irig_sync.specs.Sync.{clock_gap}
+use Rattle.irig_time.specs.declared.second.UtcSecond.{UtcSecond}
+use Rattle.irig_time.specs.declared.rules.Rules.{Rules}
+use Rattle.irig_time.specs.Timelines.{TimelineValue, IsSecond}
+use Rattle.irig_time.specs.Tables.{TableValue}
+use Rattle.irig_vote.specs.Vote.{f_of}
+use Rattle.irig_reader.specs.declared.rule.Step.{Step}
+use Rattle.irig_timekeeper.specs.declared.lines.KeptClaim.{KeptClaim}
+use Rattle.irig_timekeeper.specs.declared.lines.Lines.{Lines}
+use Rattle.irig_timekeeper.specs.declared.stamp.Announced.{Announced}
+use Rattle.irig_timekeeper.specs.declared.stamp.Stamp.{Stamp}
+use Rattle.irig_timekeeper.specs.declared.clock.Beat.{Beat}
+use Rattle.irig_timekeeper.specs.declared.clock.ClockRules.{ClockRules}
+use Rattle.irig_timekeeper.specs.declared.clock.ClockState.{ClockState}
+use Rattle.irig_timekeeper.specs.Edges.{IsQuartz, IsNear}
+use Rattle.irig_timekeeper.specs.Counting.{edges_between, edges_to_vote, edges_own}
+use Rattle.irig_timekeeper.specs.Rule.{missed}
+use Rattle.irig_timekeeper.specs.Steps.{is_pulse}
+use Rattle.irig_timekeeper.specs.Clock.{lasted, bound_of, announced, announced_at, step_to, beat_by, after_vote, answer_to_vote, after_own, answer_alone, own_edge, clock_by, answer_by, settled_at}
+use Rattle.irig_timekeeper.specs.Stamps.{stamp_by, first_stamp, stamp_of}
+use Rattle.irig_timekeeper.specs.Keeping.{Keeping, vote_at, after_pulse, after_tick, answer_at, stamp_at}
+use Rattle.irig_timekeeper.specs.Truth.{IsEdgeAt, IsToldInHoldover, IsDevice, IsStampedTruly, IsInstant}
+use Rattle.irig_timekeeper.specs.Life.{Call, after_calls, last_tick, AreInOrder, AreTrueAtTicks}
+use Rattle.irig_timekeeper.specs.Life.Call.{Hear, Tick}
+use Rattle.irig_timekeeper.proofs.AgeLaws.{step_lasts}
+use Rattle.irig_timekeeper.proofs.CountingLaws.{rises}
+use Rattle.irig_timekeeper.proofs.TimeLaws.{own_count, still_edge, voted_count, same_edge}
+use Rattle.irig_timekeeper.specs.Steps.{AreNewLines}
+use Rattle.irig_timekeeper.specs.Keeping.{new_keeping}
+use Rattle.irig_timekeeper.proofs.LifeLaws.{AreLinesAt, lines_after, TellAlwaysTruly, begins, ticks}
+use Rattle.irig_timekeeper.proofs.OrderLaws.{IsSetByVote, set_before, edge_of, votes_apart, IsPaced, paced_tick, paced_on}
+
+-- ---- what a tick keeps of the seconds that it told
+
+-- a tick that answers keeps what it told, and the one before; any other keeps both
+record LeavesTold (drift : ℕ) (old new : ClockState) (answer : Option Beat) : Type 0 where
+  same : answer ≡ None → (new.last ≡ old.last) × (new.before ≡ old.before)
+  told : (b : Beat) → answer ≡ Some b → (new.last ≡ announced drift b.report b.edge_us) × (new.before ≡ old.last) × (new.edge_us ≡ Some b.edge_us)
+
+leaves_own : (c : ClockRules) (table : TableValue) (s : ClockState) (n : ℕ) → LeavesTold c.drift_us s (after_own c table s n) (answer_alone c table s n)
+leaves_own c table s n = elim (cases_Bool (n == 0)) [
+  | inl waits ↦ rw waits (record { same = λ e. (refl, refl); told = λ b e. absurd cc })
+  | inr more ↦ rw more (record { same = λ e. absurd cc; told = λ b e. (let beat : beat_by s (step_to c table s n None) (n - 1) (own_edge s.edge_us n) ≡ b = cc in (ap (λ (x : Beat). announced c.drift_us x.report x.edge_us) beat, refl, ap (λ (x : Beat). Some x.edge_us) beat)) })
+]
+
+leaves_voted : (c : ClockRules) (table : TableValue) (s : ClockState) (v : KeptClaim) (n : ℕ) → LeavesTold c.drift_us s (after_vote c table s v n) (answer_to_vote c table s v n)
+leaves_voted c table s v n = elim (cases_Bool (n == 0)) [
+  | inl waits ↦ rw waits (record { same = λ e. (refl, refl); told = λ b e. absurd cc })
+  | inr more ↦ rw more (record { same = λ e. absurd cc; told = λ b e. (let beat : beat_by s (step_to c table s n (Some v.claim)) (n - 1) v.end_us ≡ b = cc in (ap (λ (x : Beat). announced c.drift_us x.report x.edge_us) beat, refl, ap (λ (x : Beat). Some x.edge_us) beat)) })
+]
+
+leaves_told : (k : Keeping) (clock : ℕ) → LeavesTold k.clock.drift_us k.state (after_tick k clock).state (answer_at k clock)
+leaves_told k clock = of (vote_at k clock)
+  where
+    s : ClockState
+    s = settled_at k.state clock
+
+    of : (o : Option KeptClaim) → LeavesTold k.clock.drift_us k.state (clock_by k.clock k.table s clock o) (answer_by k.clock k.table s clock o)
+    of None = let l = leaves_own k.clock k.table s (edges_own k.state.edge_us clock) in record { same = l.same; told = l.told }
+    of (Some v) = let l = leaves_voted k.clock k.table s v (edges_to_vote k.state.edge_us v.end_us) in record { same = l.same; told = l.told }
+
+-- the report of a beat says of a holdover that it has lasted as long as it may, at most
+beat_lasts : (k : Keeping) (clock : ℕ) (b : Beat) → answer_at k clock ≡ Some b → lasted b.report.lock ≤ k.clock.reader_rules.holdover
+beat_lasts k clock b e = of (vote_at k clock) e
+  where
+    s : ClockState
+    s = settled_at k.state clock
+
+    by : (step : Step) (n edge : ℕ) (test : Bool) → lasted step.report.lock ≤ k.clock.reader_rules.holdover → cond test None (Some (beat_by s step n edge)) ≡ Some b → lasted b.report.lock ≤ k.clock.reader_rules.holdover
+    by step n edge true few e = absurd cc
+    by step n edge false few e = let beat : beat_by s step n edge ≡ b = cc in subst (λ (x : Beat). lasted x.report.lock ≤ k.clock.reader_rules.holdover) beat few
+
+    of : (o : Option KeptClaim) → answer_by k.clock k.table s clock o ≡ Some b → lasted b.report.lock ≤ k.clock.reader_rules.holdover
+    of None e =
+        let n = edges_own k.state.edge_us clock in
+        by (step_to k.clock k.table s n None) (n - 1) (own_edge k.state.edge_us n) (n == 0) (step_lasts k.clock.reader_rules k.table (missed k.clock.reader_rules k.table (n - 1) k.state.reader) None) e
+    of (Some v) e =
+        let n = edges_to_vote k.state.edge_us v.end_us in
+        by (step_to k.clock k.table s n (Some v.claim)) (n - 1) v.end_us (n == 0) (step_lasts k.clock.reader_rules k.table (missed k.clock.reader_rules k.table (n - 1) k.state.reader) (Some v.claim)) e
+
+-- ---- one that was told truly
+
+record IsToldSo (t : TimelineValue) (edges : ℕ → ℕ) (more edge : ℕ) (a : Announced) : Type 0 where
+  pub m : ℕ
+  pub clock : a.edge_us ≡ edge % 2 ^ 32
+  pub near : IsNear edges (a.bound_us + more) (a.bound_us + more) m edge
+  pub truth : IsSecond t m a.second
+  pub small : a.bound_us ≤ 491549
+
+kept_second : (edge bound : ℕ) (o : Option UtcSecond) (a : Announced) → announced_at edge bound o ≡ Some a → (u : UtcSecond) × (o ≡ Some u) × (a.second ≡ u) × (a.edge_us ≡ edge) × (a.bound_us ≡ bound)
+kept_second edge bound None a e = absurd cc
+kept_second edge bound (Some u) a e =
+    let same : record { second = u; edge_us = edge; bound_us = bound } ≡ a = cc in
+    (u, refl, ap (λ (x : Announced). x.second) (sym same), ap (λ (x : Announced). x.edge_us) (sym same), ap (λ (x : Announced). x.bound_us) (sym same))
+
+told_so : (t : TimelineValue) (edges : ℕ → ℕ) (early late d holdover more now : ℕ) (b : Beat) (edge : ℕ) → early ≤ 1549 + more → late ≤ 1549 + more → (holdover + 2) * d ≤ 490000 → lasted b.report.lock ≤ holdover
+    → ((u : UtcSecond) → b.report.announce ≡ Some u → IsToldInHoldover t edges early late d holdover now b u) → IsEdgeAt b.edge_us edge now → (a : Announced) → announced d b.report b.edge_us ≡ Some a → IsToldSo t edges more edge a
+told_so t edges early late d holdover more now b edge low high short lasts told at a e =
+    let kept = kept_second b.edge_us (bound_of d b.report.lock) b.report.announce a e in
+    let is = told kept.0 kept.1 in
+    let same : is.told.edge ≡ edge = same_edge b.edge_us is.told.edge edge now (record { clock = is.told.clock; come = is.told.come; soon = is.told.soon }) at in
+    let far = mul-le-mul_left d is.held in
+    let most = mul-le-mul_left d (let h : lasted b.report.lock ≤ holdover + 2 = omega (arith, lasts) in h) in
+    record {
+      m = is.told.m;
+      clock = kept.3 ∙ at.clock;
+      near = record { least = omega (arith, is.told.near.least, same, low, far, kept.4); most = omega (arith, is.told.near.most, same, high, far, kept.4) };
+      truth = subst (IsSecond t is.told.m) (sym kept.2) is.told.truth;
+      small = omega (arith, kept.4, most, short);
+    }
+
+-- ---- the last edge is the one that was told last, or lines have set it right since, once
+
+module _ (new : Keeping) (start : ℕ) (begun : AreLinesAt new new (λ i. []) start start) where
+  abbrev FreshBy : ℕ → List Call → ℕ → Type 0
+  FreshBy A calls x = (x ≡ A) ⊎ ((A ≤ x + 100000) × (x < A + 500000) × IsSetByVote new start begun x calls)
+
+  record IsFresh (A : ℕ) (calls : List Call) (e : ℕ) : Type 0 where
+    x : ℕ
+    at : IsEdgeAt e x (last_tick start calls)
+    is : FreshBy A calls x
+
+  fresh_on : (A : ℕ) (call : Call) (calls : List Call) (x : ℕ) → FreshBy A calls x → FreshBy A (call ∷ calls) x
+  fresh_on A call calls x (inl same) = inl same
+  fresh_on A call calls x (inr set) = inr (set.0, set.1, set_before new start begun x call calls set.2)
+
+  paced_of : (A : ℕ) (calls : List Call) (e : ℕ) → IsFresh A calls e → IsPaced new start begun A calls (Some e)
+  paced_of A calls e fresh = (fresh.x, fresh.at, elim fresh.is [ inl same ↦ inl (omega (arith, same)) | inr set ↦ inr (set.0, set.2) ])
+
+  -- a tick that tells nothing
+  record StaysFresh (A : ℕ) (calls : List Call) (o : Option ℕ) : Type 0 where
+    e : ℕ
+    edge : o ≡ Some e
+    fresh : IsFresh A calls e
+
+  module _ (A : ℕ) (calls : List Call) (now : ℕ) (order : AreInOrder start new.clock.redundancy (Tick now ∷ calls)) (e : ℕ) (f : IsFresh A calls e) where
+    abbrev k : Keeping
+    k = after_calls new calls
+
+    abbrev s : ClockState
+    s = record (settled_at k.state (now % 2 ^ 32)) { edge_us = Some e }
+
+    ordered : last_tick start calls ≤ now
+    ordered = let l = lines_after new start begun calls order.2 in omega (arith, l.order, order.0)
+
+    soon : now ≤ last_tick start calls + 1800000000
+    soon = omega (arith, order.1)
+
+    fresh_own : (n : ℕ) → n ≡ edges_own (Some e) (now % 2 ^ 32) → answer_alone k.clock k.table s n ≡ None → StaysFresh A (Tick now ∷ calls) (after_own k.clock k.table s n).edge_us
+    fresh_own n same none = elim (cases_Bool (n == 0)) [
+      | inl waits ↦
+          let zero : n ≡ 0 = eqb-true n 0 waits in
+          let count = same ∙ own_count (last_tick start calls) now ordered soon e f.x f.at in
+          rw waits (record { e = e; edge = refl; fresh = record { x = f.x; at = still_edge (last_tick start calls) now ordered soon e f.x f.at (sym count ∙ zero); is = fresh_on A (Tick now) calls f.x f.is } })
+      | inr more ↦ let both : Some (beat_by s (step_to k.clock k.table s n None) (n - 1) (own_edge (Some e) n)) ≡ None = rw more at none in absurd cc
+    ]
+
+    fresh_voted : (v : KeptClaim) → vote_at k (now % 2 ^ 32) ≡ Some v → (n : ℕ) → n ≡ edges_to_vote (Some e) v.end_us → answer_to_vote k.clock k.table s v n ≡ None → StaysFresh A (Tick now ∷ calls) (after_vote k.clock k.table s v n).edge_us
+    fresh_voted v voted n same none = elim (cases_Bool (n == 0)) [
+      | inl waits ↦
+          let zero : n ≡ 0 = eqb-true n 0 waits in
+          let V = edge_of new start begun calls now order v voted in
+          let count : n ≡ edges_between f.x V.0 = same ∙ voted_count (last_tick start calls) now ordered soon e f.x f.at v.end_us V.0 V.1 V.2 in
+          let set : IsSetByVote new start begun V.0 (Tick now ∷ calls) = record { earlier = calls; later = []; before = now; v = v; are = refl; voted = voted; at = V.1 } in
+          let is : FreshBy A (Tick now ∷ calls) V.0 = elim f.is [
+            | inl here ↦ inr (omega (arith, here, f.at.come, ordered, V.2), omega (arith, here, count, zero), set)
+            | inr old ↦ absurd (omega (arith, count, zero, behind v voted V.0 V.1 old.2))
+          ] in
+          rw waits (record { e = v.end_us; edge = refl; fresh = record { x = V.0; at = V.1; is = is } })
+      | inr more ↦ let both : Some (beat_by s (step_to k.clock k.table s n (Some v.claim)) (n - 1) v.end_us) ≡ None = rw more at none in absurd cc
+    ]
+      where
+        behind : (v : KeptClaim) → vote_at k (now % 2 ^ 32) ≡ Some v → (V : ℕ) → IsEdgeAt v.end_us V now → (set : IsSetByVote new start begun f.x calls) → f.x + 890000 ≤ V
+        behind v voted V at set =
+            votes_apart new start begun set.earlier set.later set.before now set.v v f.x V
+            (subst (λ (c : List Call). AreInOrder start new.clock.redundancy (Tick now ∷ c)) set.are order) set.voted set.at
+            (subst (λ (c : List Call). vote_at (after_calls new c) (now % 2 ^ 32) ≡ Some v) set.are voted) at
+
+    fresh_tick : k.state.edge_us ≡ Some e → answer_at k (now % 2 ^ 32) ≡ None → StaysFresh A (Tick now ∷ calls) (after_tick k (now % 2 ^ 32)).state.edge_us
+    fresh_tick edge none = of (vote_at k (now % 2 ^ 32)) refl (settled_at k.state (now % 2 ^ 32)) same none
+      where
+        same : settled_at k.state (now % 2 ^ 32) ≡ s
+        same = ap (λ (o : Option ℕ). record (settled_at k.state (now % 2 ^ 32)) { edge_us = o }) edge
+
+        of : (o : Option KeptClaim) → vote_at k (now % 2 ^ 32) ≡ o → (x : ClockState) → x ≡ s → answer_by k.clock k.table x (now % 2 ^ 32) o ≡ None → StaysFresh A (Tick now ∷ calls) (clock_by k.clock k.table x (now % 2 ^ 32) o).edge_us
+        of None e x is none = subst (λ (y : ClockState). answer_by k.clock k.table y (now % 2 ^ 32) None ≡ None → StaysFresh A (Tick now ∷ calls) (clock_by k.clock k.table y (now % 2 ^ 32) None).edge_us) (sym is) (fresh_own _ refl) none
+        of (Some v) e x is none = subst (λ (y : ClockState). answer_by k.clock k.table y (now % 2 ^ 32) (Some v) ≡ None → StaysFresh A (Tick now ∷ calls) (clock_by k.clock k.table y (now % 2 ^ 32) (Some v)).edge_us) (sym is) (fresh_voted v e _ refl) none
+
+-- a pulse changes none of this
+stays_behind : (k : Keeping) (port rise width : ℕ) → ((after_pulse k port rise width).state.last ≡ k.state.last) × ((after_pulse k port rise width).state.before ≡ k.state.before) × ((after_pulse k port rise width).state.edge_us ≡ k.state.edge_us)
+stays_behind k port rise width = elim (cases_Bool (is_pulse width)) [ inl narrow ↦ rw narrow (refl, refl, refl) | inr wide ↦ rw wide (refl, refl, refl) ]
+
+-- without a vote no first edge comes
+none_stays : (k : Keeping) (clock : ℕ) → k.state.edge_us ≡ None → answer_at k clock ≡ None → (after_tick k clock).state.edge_us ≡ None
+none_stays k clock edge none = of (vote_at k clock) (settled_at k.state clock) edge none
+  where
+    of : (o : Option KeptClaim) (s : ClockState) → s.edge_us ≡ None → answer_by k.clock k.table s clock o ≡ None → (clock_by k.clock k.table s clock o).edge_us ≡ None
+    of None s edge none = own (s.edge_us) edge
+      where
+        own : (o : Option ℕ) → o ≡ None → (after_own k.clock k.table s (edges_own o clock)).edge_us ≡ None
+        own None e = edge
+        own (Some x) e = absurd cc
+    of (Some v) s edge none = first s.edge_us edge none
+      where
+        first : (o : Option ℕ) → o ≡ None → answer_to_vote k.clock k.table s v (edges_to_vote o v.end_us) ≡ None → (after_vote k.clock k.table s v (edges_to_vote o v.end_us)).edge_us ≡ None
+        first None e none = absurd cc
+        first (Some x) e none = absurd cc
+
+-- ---- a life
+
+module _ (rules : Rules) (clock : ClockRules) (table : TableValue) (lines : Lines) (start : ℕ) (new_lines : AreNewLines lines) (IsTrue : ℕ → List Pulse → Type 0) (t : TimelineValue) (edges : ℕ → ℕ) (early late more : ℕ)
+    (is : IsDevice t clock.drift_us edges clock.reader_rules table) (room : early + late ≤ 4098) (low : early + 1000 ≤ 1549 + more) (high : late ≤ 1549 + more) (truly : TellAlwaysTruly IsTrue rules t edges early late) where
+  abbrev new : Keeping
+  new = new_keeping rules clock table lines
+
+  begun : AreLinesAt new new (λ i. []) start start
+  begun = begins rules clock table lines start new_lines
+
+  abbrev state : List Call → ClockState
+  state calls = (after_calls new calls).state
+
+  abbrev Told : ℕ → Announced → Type 0
+  Told edge a = IsToldSo t edges more edge a
+
+  -- what was told before the last edge, and not half an hour before it
+  record IsToldBefore (A : ℕ) (a : Announced) : Type 0 where
+    edge : ℕ
+    told : Told edge a
+    order : edge ≤ A
+    soon : A < edge + 1802000000
+
+  record AreStamps (calls : List Call) (e : ℕ) : Type 0 where
+    A : ℕ
+    fresh : IsFresh new start begun A calls e
+    some : 1 ≤ A
+    last : (a : Announced) → (state calls).last ≡ Some a → Told A a
+    before : (a : Announced) → (state calls).before ≡ Some a → IsToldBefore A a
+
+  IfStamps : List Call → Option ℕ → Type 0
+  IfStamps calls None = ((state calls).last ≡ None) × ((state calls).before ≡ None)
+  IfStamps calls (Some e) = AreStamps calls e
+
+  -- a pulse
+  abbrev ClockStays : ℕ → ℕ → ℕ → ℕ → List Call → Type 0
+  ClockStays port time rise width calls =
+      ((state (Hear port time rise width ∷ calls)).last ≡ (state calls).last) × ((state (Hear port time rise width ∷ calls)).before ≡ (state calls).before) × ((state (Hear port time rise width ∷ calls)).edge_us ≡ (state calls).edge_us)
+
+  clock_stays : (port time rise width : ℕ) (calls : List Call) → ClockStays port time rise width calls
+  clock_stays port time rise width calls = stays_behind (after_calls new calls) port (rise % 2 ^ 32) width
+
+  hears_stamps : (port time rise width : ℕ) (calls : List Call) → ClockStays port time rise width calls → (o : Option ℕ) → IfStamps calls o → IfStamps (Hear port time rise width ∷ calls) o
+  unfolding IfStamps
+  hears_stamps port time rise width calls stays None h = (stays.0 ∙ h.0, stays.1 ∙ h.1)
+  hears_stamps port time rise width calls stays (Some e) h = record {
+    A = h.A;
+    fresh = record { x = h.fresh.x; at = h.fresh.at; is = fresh_on new start begun h.A (Hear port time rise width) calls h.fresh.x h.fresh.is };
+    some = h.some;
+    last = λ a e. h.last a (sym stays.0 ∙ e);
+    before = λ a e. h.before a (sym stays.1 ∙ e);
+  }
+
+  -- a tick that tells an edge
+  told_stamps : (calls : List Call) (now : ℕ) (b : Beat) (edge : ℕ) → IsEdgeAt b.edge_us edge now → 1 ≤ edge → LeavesTold clock.drift_us (state calls) (state (Tick now ∷ calls)) (Some b) → ((a : Announced) → announced clock.drift_us b.report b.edge_us ≡ Some a → Told edge a)
+      → ((a : Announced) → (state calls).last ≡ Some a → IsToldBefore edge a) → AreStamps (Tick now ∷ calls) b.edge_us
+  told_stamps calls now b edge at some leaves tells before =
+      let left = leaves.told b refl in
+      record {
+        A = edge;
+        fresh = record { x = edge; at = at; is = inl refl };
+        some = some;
+        last = λ a e. tells a (sym left.0 ∙ e);
+        before = λ a e. before a (sym left.1 ∙ e);
+      }
+
+  module _ (calls : List Call) (now : ℕ) (order : AreInOrder start clock.redundancy (Tick now ∷ calls)) (truth : AreTrueAtTicks IsTrue (f_of clock.redundancy) (Tick now ∷ calls)) where
+    abbrev keeper : Keeping
+    keeper = after_calls new calls
+
+    abbrev answer : Option Beat
+    answer = answer_at keeper (now % 2 ^ 32)
+
+    same_clock : keeper.clock ≡ clock
+    same_clock = (lines_after new start begun calls order.2).same.clock
+
+    leaves : LeavesTold clock.drift_us keeper.state (state (Tick now ∷ calls)) answer
+    leaves = subst (λ (c : ClockRules). LeavesTold c.drift_us keeper.state (state (Tick now ∷ calls)) answer) same_clock (leaves_told keeper (now % 2 ^ 32))
+
+    tells : (b : Beat) → answer ≡ Some b → (edge : ℕ) → IsEdgeAt b.edge_us edge now → (a : Announced) → announced clock.drift_us b.report b.edge_us ≡ Some a → Told edge a
+    tells b e edge at =
+        let lasts : lasted b.report.lock ≤ clock.reader_rules.holdover = subst (λ (c : ClockRules). lasted b.report.lock ≤ c.reader_rules.holdover) same_clock (beat_lasts keeper (now % 2 ^ 32) b e) in
+        let true_ticks = ticks rules clock table lines start new_lines IsTrue t edges early late is room truly calls now order truth in
+        told_so t edges (early + 1000) late clock.drift_us clock.reader_rules.holdover more now b edge low high is.short lasts (λ u says. (true_ticks.told b u e says).told) at
+
+    first_stamps : (o : Option ℕ) → keeper.state.edge_us ≡ o → IfStamps calls o → (paced : IsPaced new start begun 0 calls keeper.state.edge_us) → (b : Beat) → answer ≡ Some b → AreStamps (Tick now ∷ calls) b.edge_us
+    unfolding IfStamps
+    first_stamps None edge h paced b e =
+        let told = (paced_tick new start begun 0 calls now order paced).told b e in
+        told_stamps calls now b told.edge told.at told.some (subst (LeavesTold clock.drift_us keeper.state (state (Tick now ∷ calls))) e leaves) (tells b e told.edge told.at) (λ a says. absurd (let both : None ≡ Some a = sym h.0 ∙ says in cc))
+    first_stamps (Some x) edge h paced b e =
+        let known : IsPaced new start begun h.A calls keeper.state.edge_us = subst (IsPaced new start begun h.A calls) (sym edge) (paced_of new start begun h.A calls x h.fresh) in
+        let told = (paced_tick new start begun h.A calls now order known).told b e in
+        let reach : h.fresh.x < h.A + 500000 = elim h.fresh.is [ inl same ↦ omega (arith, same) | inr set ↦ set.1 ] in
+        let later : h.A + 500000 ≤ told.edge = elim told.later [ inl none ↦ absurd (omega (arith, none, h.some)) | inr far ↦ far ] in
+        told_stamps calls now b told.edge told.at told.some (subst (LeavesTold clock.drift_us keeper.state (state (Tick now ∷ calls))) e leaves) (tells b e told.edge told.at)
+        (λ a says. record { edge = h.A; told = h.last a says; order = omega (arith, later); soon = omega (arith, told.at.come, order.1, h.fresh.at.soon, reach) })
+
+    quiet_stamps : (o : Option ℕ) → keeper.state.edge_us ≡ o → IfStamps calls o → answer ≡ None → IfStamps (Tick now ∷ calls) (state (Tick now ∷ calls)).edge_us
+    unfolding IfStamps
+    quiet_stamps None edge h none =
+        let same = leaves.same none in
+        subst (IfStamps (Tick now ∷ calls)) (sym (none_stays keeper (now % 2 ^ 32) edge none)) (same.0 ∙ h.0, same.1 ∙ h.1)
+    quiet_stamps (Some x) edge h none =
+        let stays = fresh_tick new start begun h.A calls now order x h.fresh edge none in
+        let same = leaves.same none in
+        subst (IfStamps (Tick now ∷ calls)) (sym stays.edge) (record {
+          A = h.A;
+          fresh = stays.fresh;
+          some = h.some;
+          last = λ a e. h.last a (sym same.0 ∙ e);
+          before = λ a e. h.before a (sym same.1 ∙ e);
+        })
+
+  ticked_stamps : (calls : List Call) (now : ℕ) → AreInOrder start clock.redundancy (Tick now ∷ calls) → AreTrueAtTicks IsTrue (f_of clock.redundancy) (Tick now ∷ calls) → IfStamps calls (state calls).edge_us → IfStamps (Tick now ∷ calls) (state (Tick now ∷ calls)).edge_us
+  unfolding IfStamps
+  ticked_stamps calls now order truth before = of (answer_at (after_calls new calls) (now % 2 ^ 32)) refl
+    where
+      of : (o : Option Beat) → answer_at (after_calls new calls) (now % 2 ^ 32) ≡ o → IfStamps (Tick now ∷ calls) (state (Tick now ∷ calls)).edge_us
+      of None none = quiet_stamps calls now order truth (state calls).edge_us refl before none
+      of (Some b) e =
+          let left = (leaves calls now order truth).told b e in
+          let none : calls ++ [] ≡ calls = append-nil calls in
+          let from_new = paced_on new start begun 0 [] refl calls (subst (AreInOrder start clock.redundancy) (sym none) order.2) in
+          let paced = subst (λ (x : List Call). IsPaced new start begun 0 x (after_calls new x).state.edge_us) none from_new in
+          subst (IfStamps (Tick now ∷ calls)) (sym left.2) (first_stamps calls now order truth (state calls).edge_us refl before paced b e)
+
+  -- so it stands
+  stamps : (calls : List Call) → AreInOrder start clock.redundancy calls → AreTrueAtTicks IsTrue (f_of clock.redundancy) calls → IfStamps calls (state calls).edge_us
+  unfolding IfStamps
+  stamps [] order truth = (refl, refl)
+  stamps (Hear port time rise width ∷ calls) order truth =
+      let stays = clock_stays port time rise width calls in
+      subst (IfStamps (Hear port time rise width ∷ calls)) (sym stays.2) (hears_stamps port time rise width calls stays (state calls).edge_us (stamps calls order.4 truth))
+  stamps (Tick now ∷ calls) order truth = ticked_stamps calls now order truth (stamps calls order.2 truth.1)
+
+  -- ---- a stamp
+
+  module _ (calls : List Call) (time now : ℕ) (ahead : last_tick start calls ≤ now) (soon : now < last_tick start calls + 1800000000) (past : time ≤ now) (young : now ≤ time + 1800000000) where
+    by_told : (A edge : ℕ) → (a : Announced) → Told edge a → edge ≤ last_tick start calls + 100000 → last_tick start calls < edge + 1804000000 → (stamp : Stamp) → stamp_by (Some a) (time % 2 ^ 32) ≡ Some stamp → IsStampedTruly t edges more time stamp
+    by_told A edge a told come near stamp e = of (nat_le (clock_gap a.edge_us (time % 2 ^ 32)) (1000000 + a.bound_us)) refl e
+      where
+        gap_is : (x edge time bound : ℕ) → x ≡ edge % 2 ^ 32 → bound ≤ 491549 → edge ≤ time + 1800100000 → time < edge + 3604000000 → clock_gap x (time % 2 ^ 32) ≤ 1000000 + bound → edge + clock_gap x (time % 2 ^ 32) ≡ time
+        gap_is x edge time bound is small come near few = omega (arith, is, small, come, near, few)
+
+        of : (test : Bool) → nat_le (clock_gap a.edge_us (time % 2 ^ 32)) (1000000 + a.bound_us) ≡ test
+            → cond test (Some (record { second = a.second; offset_us = clock_gap a.edge_us (time % 2 ^ 32); bound_us = a.bound_us })) None ≡ Some stamp → IsStampedTruly t edges more time stamp
+        of false far e = absurd cc
+        of true near_edge e =
+            let few = leb-true (clock_gap a.edge_us (time % 2 ^ 32)) (1000000 + a.bound_us) near_edge in
+            let there = gap_is a.edge_us edge time a.bound_us told.clock told.small (omega (arith, come, ahead, young)) (omega (arith, past, soon, near)) few in
+            let same : record { second = a.second; offset_us = clock_gap a.edge_us (time % 2 ^ 32); bound_us = a.bound_us } ≡ stamp = cc in
+            subst (IsStampedTruly t edges more time) same (record { m = told.m; truth = told.truth; early = omega (arith, there, told.near.least); late = omega (arith, there, told.near.most); small = told.small; behind = few })
+
+    nothing_told : (o : Option Announced) → o ≡ None → (stamp : Stamp) → ¬ (stamp_by o (time % 2 ^ 32) ≡ Some stamp)
+    nothing_told None e stamp says = cc
+    nothing_told (Some a) e stamp says = absurd cc
+
+    first_of : (x y : Option Stamp) (stamp : Stamp) → first_stamp x y ≡ Some stamp → (x ≡ Some stamp) ⊎ (y ≡ Some stamp)
+    first_of (Some x) y stamp e = inl e
+    first_of None y stamp e = inr e
+
+    told_by : (o : Option Announced) (stamp : Stamp) → stamp_by o (time % 2 ^ 32) ≡ Some stamp → (a : Announced) × (o ≡ Some a)
+    told_by None stamp e = absurd cc
+    told_by (Some a) stamp e = (a, refl)
+
+    stamped_by : (o : Option ℕ) → IfStamps calls o → (stamp : Stamp) → stamp_of (state calls).last (state calls).before (time % 2 ^ 32) ≡ Some stamp → IsStampedTruly t edges more time stamp
+    unfolding IfStamps
+    stamped_by None h stamp e = elim (first_of (stamp_by (state calls).last (time % 2 ^ 32)) (stamp_by (state calls).before (time % 2 ^ 32)) stamp e) [
+      | inl says ↦ absurd (nothing_told (state calls).last h.0 stamp says)
+      | inr says ↦ absurd (nothing_told (state calls).before h.1 stamp says)
+    ]
+    stamped_by (Some x) h stamp e =
+        let reach : h.fresh.x < h.A + 500000 = elim h.fresh.is [ inl same ↦ omega (arith, same) | inr set ↦ set.1 ] in
+        let back : h.A ≤ h.fresh.x + 100000 = elim h.fresh.is [ inl same ↦ omega (arith, same) | inr set ↦ set.0 ] in
+        elim (first_of (stamp_by (state calls).last (time % 2 ^ 32)) (stamp_by (state calls).before (time % 2 ^ 32)) stamp e) [
+          | inl says ↦
+              let one = told_by (state calls).last stamp says in
+              by_told h.A h.A one.0 (h.last one.0 one.1) (omega (arith, back, h.fresh.at.come)) (omega (arith, h.fresh.at.soon, reach)) stamp (ap (λ (o : Option Announced). stamp_by o (time % 2 ^ 32)) (sym one.1) ∙ says)
+          | inr says ↦
+              let one = told_by (state calls).before stamp says in
+              let was = h.before one.0 one.1 in
+              by_told h.A was.edge one.0 was.told (omega (arith, was.order, back, h.fresh.at.come)) (omega (arith, h.fresh.at.soon, reach, was.soon)) stamp (ap (λ (o : Option Announced). stamp_by o (time % 2 ^ 32)) (sym one.1) ∙ says)
+        ]
+
+  pub stamped : (calls : List Call) (time now : ℕ) → AreInOrder start clock.redundancy (Tick now ∷ calls) → AreTrueAtTicks IsTrue (f_of clock.redundancy) calls → time ≤ now → now ≤ time + 1800000000 → (stamp : Stamp) → stamp_at (after_calls new calls) (time % 2 ^ 32) ≡ Some stamp
+      → IsStampedTruly t edges more time stamp
+  stamped calls time now order truth past young stamp e =
+      let l = lines_after new start begun calls order.2 in
+      stamped_by calls time now (omega (arith, l.order, order.0)) (omega (arith, order.1)) past young (state calls).edge_us (stamps calls order.2 truth) stamp e
+
+-- ---- two devices
+
+-- one instant between two edges: so long behind the first by true time, and by a counter that is at
+-- most d us a second wrong
+module _ (t : TimelineValue) (d : ℕ) (edges : ℕ → ℕ) (quartz : IsQuartz d edges) (n tau time : ℕ) (at : IsInstant d edges n tau time) (stamp : Stamp) (is : IsStampedTruly t edges 0 time stamp) where
+  apart_by : (i j k : ℕ) → j ≡ i + k → edges i + k * 999900 ≤ edges j
+  apart_by i j k e = subst (λ (x : ℕ). edges i + k * 999900 ≤ edges x) (sym e) (rises d edges quartz i k)
+
+  -- a second before, the same, or one behind
+  one_before : is.m < n → n ≡ is.m + 1
+  one_before before =
+      let far = apart_by is.m n (n - is.m) (omega (arith, before)) in
+      omega (arith, far, before, at.begun, is.late, is.behind, is.small)
+
+  one_behind : n + 1 ≤ is.m → is.m ≡ n + 1
+  one_behind behind =
+      let far = apart_by (n + 1) is.m (is.m - (n + 1)) (omega (arith, behind)) in
+      omega (arith, far, behind, at.before_next, is.early, is.small)
+
+  IsNearInstant : Type 0
+  IsNearInstant = (n * 1000000 + tau ≤ is.m * 1000000 + stamp.offset_us + stamp.bound_us + 2 * d) × (is.m * 1000000 + stamp.offset_us ≤ n * 1000000 + tau + stamp.bound_us + 2 * d)
+
+  by_before : n ≡ is.m + 1 → IsNearInstant
+  unfolding IsNearInstant
+  by_before same =
+      let here : edges n ≡ edges (is.m + 1) = ap edges same in (
+        omega (arith, here, same, at.least, is.late, quartz.steady.least is.m),
+        omega (arith, here, same, at.most, is.early, quartz.steady.most is.m),
+      )
+
+  by_behind : is.m ≡ n + 1 → IsNearInstant
+  unfolding IsNearInstant
+  by_behind same =
+      let here : edges is.m ≡ edges (n + 1) = ap edges same in (
+        omega (arith, here, same, at.least, is.late, quartz.steady.most n),
+        omega (arith, here, same, at.most, is.early, quartz.steady.least n),
+      )
+
+  by_same : is.m ≡ n → IsNearInstant
+  unfolding IsNearInstant
+  by_same same =
+      let here : edges is.m ≡ edges n = ap edges same in
+      (omega (arith, here, same, at.least, is.late), omega (arith, here, same, at.most, is.early))
+
+  -- what the stamp names lies no further from it than its bound and the drift of two seconds
+  pub near_instant : (n * 1000000 + tau ≤ is.m * 1000000 + stamp.offset_us + stamp.bound_us + 2 * d) × (is.m * 1000000 + stamp.offset_us ≤ n * 1000000 + tau + stamp.bound_us + 2 * d)
+  unfolding IsNearInstant
+  near_instant = elim (cases_lt is.m n) [
+    | inl before ↦ by_before (one_before before)
+    | inr from ↦ elim (cases_lt n is.m) [
+      | inl behind ↦ by_behind (one_behind (omega (arith, behind)))
+      | inr upto ↦ by_same (omega (arith, from, upto))
+    ]
+  ]
