@@ -59,7 +59,7 @@ stands_one line first x is = (refl, λ i less. (let none : i ≡ 0 = omega (arit
 
 -- ---- pulses in a row
 
-clock_of : (d : ℕ) (edges : ℕ → ℕ) → IsQuartz d edges → IsClock d 450 edges
+pub clock_of : (d : ℕ) (edges : ℕ → ℕ) → IsQuartz d edges → IsClock d 450 edges
 clock_of d edges steady = record { steady = steady.steady; near = omega (arith, steady.few) }
 
 module _ (d : ℕ) (edges : ℕ → ℕ) (steady : IsQuartz d edges) where

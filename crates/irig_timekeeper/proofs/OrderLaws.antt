@@ -89,7 +89,7 @@ twice One = refl
 twice Three = refl
 twice Five = refl
 
-five : (r : Redundancy) → ports_in r ≤ 5
+pub five : (r : Redundancy) → ports_in r ≤ 5
 five One = omega arith
 five Three = omega arith
 five Five = omega arith
@@ -141,19 +141,19 @@ own_pulse k port i rise width small narrow same inside =
     (rw narrow (ap (λ (l : Line). l.frame) (line_same k.state.lines i _ small) ∙ rw (ne_eqb (place_of (line_at k.state.lines i).sync rise width) 100 inside) refl))
 
 -- of another one
-others_pulse : (k : Keeping) (port i rise width : ℕ) → port < 5 → i < 5 → ¬ (i ≡ port) → line_at (after_pulse k port rise width).state.lines i ≡ line_at k.state.lines i
+pub others_pulse : (k : Keeping) (port i rise width : ℕ) → port < 5 → i < 5 → ¬ (i ≡ port) → line_at (after_pulse k port rise width).state.lines i ≡ line_at k.state.lines i
 others_pulse k port i rise width low small other = elim (cases_Bool (is_pulse width)) [
   | inl narrow ↦ rw narrow (line_other k.state.lines port _ i low small other)
   | inr wide ↦ rw wide refl
 ]
 
-own_pulses : (i port time rise width : ℕ) (calls : List Call) → is_pulse width ≡ true → (i == port) ≡ true → pulses_on i (Hear port time rise width ∷ calls) ≡ pulse_at rise width ∷ pulses_on i calls
+pub own_pulses : (i port time rise width : ℕ) (calls : List Call) → is_pulse width ≡ true → (i == port) ≡ true → pulses_on i (Hear port time rise width ∷ calls) ≡ pulse_at rise width ∷ pulses_on i calls
 own_pulses i port time rise width calls narrow same = rw (same, narrow) refl
 
-others_pulses : (i port time rise width : ℕ) (calls : List Call) → (i == port) ≡ false → pulses_on i (Hear port time rise width ∷ calls) ≡ pulses_on i calls
+pub others_pulses : (i port time rise width : ℕ) (calls : List Call) → (i == port) ≡ false → pulses_on i (Hear port time rise width ∷ calls) ≡ pulses_on i calls
 others_pulses i port time rise width calls other = rw other refl
 
-no_pulse : (i port time rise width : ℕ) (calls : List Call) → is_pulse width ≡ false → pulses_on i (Hear port time rise width ∷ calls) ≡ pulses_on i calls
+pub no_pulse : (i port time rise width : ℕ) (calls : List Call) → is_pulse width ≡ false → pulses_on i (Hear port time rise width ∷ calls) ≡ pulses_on i calls
 no_pulse i port time rise width calls wide = rw (and_false (i == port) (is_pulse width) wide) refl
 
 -- ---- what a line keeps behind a tick that took its frame ended a frame later

@@ -10,3 +10,4 @@ pub mod Keepers
 pub mod Refusals
 pub mod Truth
 pub mod Life
+pub mod Announcing

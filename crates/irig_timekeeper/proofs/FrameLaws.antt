@@ -1,0 +1,359 @@
+-- A frame that a line has sent whole is kept until a tick takes it.
+use Rattle.std.specs.Prelude.{◌==◌, nat_lt}
+use Rattle.std.proofs.Common.{◌≡◌, ◌∙◌, ◌⊎◌, ℕ, zero, suc, ◌+◌, ◌-◌, ◌*◌, ◌/◌, ◌%◌, ◌^◌, ◌<◌, ◌≤◌, Bool, true, false, cond, List, [], ◌∷◌, ◌++◌, length, length-append, Option, Some, None, refl, sym, ap, subst, arith, inl, inr}
+use Rattle.std.proofs.lemmas.Bool.{cases_Bool, cases_lt, eqb-true, eqb-false}
+use Rattle.irig_frame.specs.declared.symbol.Symbol.{Symbol}
+use Rattle.irig_frame.specs.Symbols.{symbol_of}
+use Rattle.irig_frame.specs.FieldTable.{is_marker_place}
+use Rattle.irig_sync.specs.Edges.{element_at, IsClock}
+use Rattle.irig_sync.specs.Sync.{is_marker, is_marker_symbol, is_on_time, place_at, place_of, flag}
+use Rattle.irig_sync.specs.Lines.{Pulse, IsTrueLine, IsTimeOf, place_after}
+use Rattle.irig_sync.specs.FaultyLines.{IsPulseOf, ArePulsesBefore}
+use Rattle.irig_sync.proofs.LineLaws.{marks, step_at, on_time_is, place_at_time}
+use Rattle.irig_sync.proofs.EdgeLaws.{next_apart}
+use Rattle.irig_sync.specs.Sync.{clock_gap}
+use Rattle.irig_sync.specs.Lines.{pulse_at, IsSyncAt, IsAfter, IsSoon, symbols_of_last}
+use Rattle.irig_time.specs.declared.rules.Rules.{Rules}
+use Rattle.irig_time.specs.declared.claim.Claim.{Claim}
+use Rattle.irig_time.specs.Timelines.{TimelineValue, IsTrueClaim}
+use Rattle.irig_port.specs.declared.told.Told.{Told}
+use Rattle.irig_port.specs.declared.told.Told.TheVariants as tells
+use Rattle.irig_port.specs.Told.{told_of}
+use Rattle.irig_port.specs.Hearing.{heard_at, heard_of_last}
+use Rattle.irig_port.proofs.RunLaws.{holds_place}
+use Rattle.irig_timekeeper.specs.declared.lines.KeptFrame.{KeptFrame}
+use Rattle.irig_timekeeper.specs.declared.lines.KeptClaim.{KeptClaim}
+use Rattle.irig_timekeeper.specs.declared.lines.Line.{Line}
+use Rattle.irig_timekeeper.specs.declared.lines.Lines.{Lines}
+use Rattle.irig_timekeeper.specs.declared.clock.ClockState.{ClockState}
+use Rattle.irig_timekeeper.specs.Counting.{is_late, edges_own}
+use Rattle.irig_timekeeper.specs.Steps.{is_pulse, line_at, line_heard, frame_behind, still_kept, settled, claim_told, claim_kept}
+use Rattle.irig_timekeeper.specs.Clock.{clock_by, settled_at}
+use Rattle.irig_timekeeper.specs.Keeping.{Keeping, heard_by, heard_then, vote_at, after_pulse, after_tick}
+use Rattle.irig_timekeeper.specs.Life.{Call, after_calls, pulses_on, last_call, last_tick, AreInOrder}
+use Rattle.irig_timekeeper.specs.Life.Call.{Hear, Tick}
+use Rattle.irig_timekeeper.proofs.VoteLaws.{frame_settled}
+use Rattle.irig_timekeeper.proofs.LifeLaws.{AreLinesAt, IsLineAt, lines_after, line_same}
+use Rattle.irig_timekeeper.proofs.WholeLaws.{whole_of, whole_here}
+use Rattle.irig_timekeeper.proofs.OrderLaws.{five, others_pulse, own_pulses, others_pulses, no_pulse}
+use Rattle.irig_timekeeper.specs.Edges.{IsQuartz}
+use Rattle.irig_timekeeper.specs.Announcing.{LeavesTheFirst, IsWhole}
+use Rattle.irig_timekeeper.proofs.LineLaws.{clock_of}
+
+-- ---- the places of a whole frame
+
+module _ (d : ℕ) (edges : ℕ → ℕ) (quartz : IsQuartz d edges) (line : ℕ → Symbol) (right : IsTrueLine line) (f : ℕ) (rest : List Pulse) (leaves : LeavesTheFirst (edges f) rest) where
+  marker_of : (k : ℕ) (p : Pulse) → IsPulseOf line edges 450 k p → is_marker p.width ≡ is_marker_place (k % 100)
+  marker_of k p is = ap is_marker_symbol is.1 ∙ marks line right k
+
+  first_marker : is_marker_place 0 ≡ true
+  first_marker = refl
+
+  -- its first pulse begins it
+  first_place : (p : Pulse) → IsPulseOf line edges 450 (100 * f) p → place_after (p ∷ rest) ≡ 1
+  first_place p is = of rest leaves
+    where
+      zero_place : 100 * f % 100 ≡ 0
+      zero_place = omega arith
+
+      frame_is : 100 * f / 100 ≡ f
+      frame_is = omega arith
+
+      marker : is_marker p.width ≡ true
+      marker = marker_of (100 * f) p is ∙ ap is_marker_place zero_place
+
+      begins : element_at edges (100 * f) ≡ edges f
+      begins = ap (λ (i : ℕ). edges i + 10000 * (100 * f % 100)) frame_is ∙ ap (λ (i : ℕ). edges f + 10000 * i) zero_place ∙ (let none : edges f + 10000 * 0 ≡ edges f = omega arith in none)
+
+      by : (on was : Bool) (place : ℕ) → (was ≡ true) ⊎ (on ≡ false) → place_at on true was place ≡ 1
+      by on true place e = refl
+      by true false place (inl e) = absurd cc
+      by true false place (inr e) = absurd cc
+      by false false place e = refl
+
+      late : (g : ℕ) → 11000 ≤ g → is_on_time g ≡ false
+      late g h = grind (arith, h)
+
+      of : (rest : List Pulse) → LeavesTheFirst (edges f) rest → place_after (p ∷ rest) ≡ 1
+      of [] leaves = ap flag marker
+      of (q ∷ qs) leaves =
+          ap (λ (b : Bool). place_at (is_on_time (p.rise - q.rise)) b (is_marker q.width) (place_after (q ∷ qs))) marker
+          ∙ by (is_on_time (p.rise - q.rise)) (is_marker q.width) (place_after (q ∷ qs)) (elim leaves [
+            | inl was ↦ inl was
+            | inr far ↦ inr (late (p.rise - q.rise) (omega (arith, far, is.0.0, begins)))
+          ])
+
+  -- and each goes on
+  next_place : (n : ℕ) → n < 99 → (p q : Pulse) (ps : List Pulse) → IsPulseOf line edges 450 (100 * f + suc n) p → IsPulseOf line edges 450 (100 * f + n) q → place_after (q ∷ ps) ≡ n + 1 → place_after (p ∷ (q ∷ ps)) ≡ suc n + 1
+  next_place n low p q ps here before at =
+      let next : 100 * f + suc n ≡ suc (100 * f + n) = omega arith in
+      let gap = next_apart d 450 edges (clock_of d edges quartz) (100 * f + n) q.rise p.rise before.0 (subst (λ (k : ℕ). IsTimeOf edges 450 k p.rise) next here.0) in
+      let on : is_on_time (p.rise - q.rise) ≡ true = (on_time_is (p.rise - q.rise)).1 (omega (arith, gap.0), omega (arith, gap.0, gap.1)) in
+      let place : (100 * f + n) % 100 ≡ n = omega (arith, low) in
+      let place' : (100 * f + suc n) % 100 ≡ (n + 1) % 100 = omega (arith, low) in
+      let is : is_marker p.width ≡ is_marker_place ((n + 1) % 100) = marker_of (100 * f + suc n) p here ∙ ap is_marker_place place' in
+      let was : is_marker q.width ≡ is_marker_place n = marker_of (100 * f + n) q before ∙ ap is_marker_place place in
+      let inside : (n + 1) % 100 + 1 ≡ suc n + 1 = omega (arith, low) in
+      ap (λ (b : Bool). place_at b (is_marker p.width) (is_marker q.width) (place_after (q ∷ ps))) on
+      ∙ ap (λ (b : Bool). place_at true b (is_marker q.width) (place_after (q ∷ ps))) is
+      ∙ ap (λ (b : Bool). place_at true (is_marker_place ((n + 1) % 100)) b (place_after (q ∷ ps))) was
+      ∙ ap (place_at true (is_marker_place ((n + 1) % 100)) (is_marker_place n)) at
+      ∙ step_at n (omega (arith, low)) ∙ inside
+
+  frame_place : (n : ℕ) → n < 100 → (p : Pulse) (ps : List Pulse) → length ps ≡ n → ArePulsesBefore line edges 450 (suc (100 * f + n)) (p ∷ ps) → place_after (p ∷ (ps ++ rest)) ≡ n + 1
+  frame_place zero low p [] long are =
+      let same : 100 * f + 0 ≡ 100 * f = omega arith in
+      first_place p (subst (λ (k : ℕ). IsPulseOf line edges 450 k p) same are.0)
+  frame_place zero low p (q ∷ ps) long are = absurd cc
+  frame_place (suc n) low p [] long are = absurd cc
+  frame_place (suc n) low p (q ∷ ps) long are =
+      let next : 100 * f + suc n ≡ suc (100 * f + n) = omega arith in
+      let tail = subst (λ (k : ℕ). ArePulsesBefore line edges 450 k (q ∷ ps)) next are.1 in
+      next_place n (omega (arith, low)) p q (ps ++ rest) are.0 tail.0 (frame_place n (omega (arith, low)) q ps (omega (arith, long)) tail)
+
+-- so the hundredth of a whole frame has that place, and rose an element before the edge
+pub record EndsWhole (edges : ℕ → ℕ) (m : ℕ) (pulses : List Pulse) : Type 0 where
+  pub p : Pulse
+  pub ps : List Pulse
+  pub are : pulses ≡ p ∷ ps
+  pub place : place_after (p ∷ ps) ≡ 100
+  pub least : edges m ≤ p.rise + 10000 + 549
+  pub most : p.rise + 10000 ≤ edges m + 549
+  pub close_least : edges (m - 1) + 1000000 ≤ p.rise + 10000 + 449
+  pub close_most : p.rise + 10000 ≤ edges (m - 1) + 1000000 + 449
+
+ends_whole : (rules : Rules) (t : TimelineValue) (d : ℕ) (edges : ℕ → ℕ) (m : ℕ) (pulses : List Pulse) → IsQuartz d edges → (w : IsWhole rules t edges m pulses) → EndsWhole edges m pulses
+ends_whole rules t d edges m pulses quartz w = of w.frame w.parts w.hundred w.are
+  where
+    of : (frame : List Pulse) → pulses ≡ frame ++ w.earlier → length frame ≡ 100 → ArePulsesBefore w.line edges 450 (100 * w.f + 100) frame → EndsWhole edges m pulses
+    of [] parts hundred are = absurd cc
+    of (p ∷ ps) parts hundred are =
+        let next : 100 * w.f + 100 ≡ suc (100 * w.f + 99) = omega arith in
+        let are' = subst (λ (k : ℕ). ArePulsesBefore w.line edges 450 k (p ∷ ps)) next are in
+        let long : length ps ≡ 99 = omega (arith, hundred) in
+        let frame : (100 * w.f + 99) / 100 ≡ w.f = omega arith in
+        let place : (100 * w.f + 99) % 100 ≡ 99 = omega arith in
+        let last : element_at edges (100 * w.f + 99) ≡ edges w.f + 990000 = ap (λ (i : ℕ). edges i + 10000 * ((100 * w.f + 99) % 100)) frame ∙ ap (λ (i : ℕ). edges w.f + 10000 * i) place in
+        let edge : edges m ≡ edges (w.f + 1) = ap edges w.here in
+        let before : edges (m - 1) ≡ edges w.f = ap edges (let same : m - 1 ≡ w.f = omega (arith, w.here) in same) in
+        record {
+          p = p;
+          ps = ps ++ w.earlier;
+          are = parts;
+          place = frame_place d edges quartz w.line w.right w.f w.earlier w.first 99 (omega arith) p ps long are';
+          least = omega (arith, edge, last, are'.0.0.0, quartz.steady.most w.f, quartz.few);
+          most = omega (arith, edge, last, are'.0.0.1, quartz.steady.least w.f, quartz.few);
+          close_least = omega (arith, before, last, are'.0.0.0);
+          close_most = omega (arith, before, last, are'.0.0.1);
+        }
+
+-- ---- it is kept
+
+in_time : (end now : ℕ) → end ≤ now + 10000 → now ≤ end + 100000 → is_late (end % 2 ^ 32) (now % 2 ^ 32) ≡ false
+in_time end now ahead soon =
+    let gap : (clock_gap (end % 2 ^ 32) (now % 2 ^ 32) + 10000) % 2 ^ 32 ≡ now + 10000 - end = omega (arith, ahead, soon) in
+    rw gap (few (now + 10000 - end) (omega (arith, ahead, soon)))
+  where
+    few : (g : ℕ) → g ≤ 110000 → nat_lt 110000 g ≡ false
+    few g h = grind (arith, h)
+
+end_told : (told : Told) (end : ℕ) (y : KeptClaim) → claim_told told end ≡ Some y → end ≡ y.end_us
+end_told (tells.Claim c) end y e = cc
+end_told tells.Silence end y e = absurd cc
+end_told (tells.Fault f) end y e = absurd cc
+end_told (tells.Poor q) end y e = absurd cc
+
+stays_kept : (clock : ℕ) (frame : Option KeptFrame) (y : KeptClaim) → claim_kept frame ≡ Some y → is_late y.end_us clock ≡ false → claim_kept (still_kept clock frame) ≡ Some y
+stays_kept clock None y e late = absurd cc
+stays_kept clock (Some x) y e late =
+    let same : is_late x.end_us clock ≡ false = ap (λ (end : ℕ). is_late end clock) (end_told x.told x.end_us y e) ∙ late in
+    rw same e
+
+-- no tick of these calls, which came behind those, has a vote from this time on
+abbrev pub HaveNoVotes : Keeping → ℕ → List Call → List Call → Type 0
+HaveNoVotes new from [] older = Unit {0}
+HaveNoVotes new from (Hear port time rise width ∷ later) older = HaveNoVotes new from later older
+HaveNoVotes new from (Tick now ∷ later) older = (from ≤ now → vote_at (after_calls new (later ++ older)) (now % 2 ^ 32) ≡ None) × HaveNoVotes new from later older
+
+-- a tick without a vote settles the lines
+settles : (k : Keeping) (clock : ℕ) → vote_at k clock ≡ None → (after_tick k clock).state.lines ≡ settled clock k.state.lines
+settles k clock e = of (vote_at k clock) e
+  where
+    either : (b : Bool) (x y : ClockState) (lines : Lines) → x.lines ≡ lines → y.lines ≡ lines → (cond b x y).lines ≡ lines
+    either true x y lines p q = p
+    either false x y lines p q = q
+
+    of : (o : Option KeptClaim) → o ≡ None → (clock_by k.clock k.table (settled_at k.state clock) clock o).lines ≡ settled clock k.state.lines
+    of (Some x) e = absurd cc
+    of None e = either (edges_own k.state.edge_us clock == 0) _ _ _ refl refl
+
+module _ (t : TimelineValue) (d : ℕ) (edges : ℕ → ℕ) (quartz : IsQuartz d edges) (new : Keeping) (start : ℕ) (begun : AreLinesAt new new (λ i. []) start start) (i : ℕ) (small : i < 5) (m : ℕ) (older : List Call) (past : last_call start older + 11000 < edges m) where
+  abbrev kept_claim : List Call → Option KeptClaim
+  kept_claim calls = claim_kept (line_at (after_calls new calls).state.lines i).frame
+
+  -- the line keeps the whole frame
+  pub record Keeps (calls : List Call) : Type 0 where
+    pub claim : Claim
+    pub truth : IsTrueClaim t m claim
+    pub end : ℕ
+    pub keeps : kept_claim calls ≡ Some (record { claim = claim; end_us = end % 2 ^ 32 })
+    pub least : edges m ≤ end + 549
+    pub most : end ≤ edges m + 549
+    pub told : end ≤ last_call start calls + 10000
+    pub close_least : edges (m - 1) + 1000000 ≤ end + 449
+    pub close_most : end ≤ edges (m - 1) + 1000000 + 449
+    pub is : end ≡ whole_of (pulses_on i calls)
+
+  -- the newest pulse rose before the last call
+  risen : (calls : List Call) → AreInOrder start new.clock.redundancy calls → (p : Pulse) (ps : List Pulse) → pulses_on i calls ≡ p ∷ ps → p.rise ≤ last_call start calls
+  risen calls order p ps is =
+      let l = (lines_after new start begun calls order).lines i small in
+      by l.told l.past (subst (λ (x : List Pulse). IsSyncAt (line_at (after_calls new calls).state.lines i).sync x l.told) is l.hearing.sync)
+    where
+      by : (told : ℕ) → told ≤ last_call start calls → IsSyncAt (line_at (after_calls new calls).state.lines i).sync (p ∷ ps) told → p.rise ≤ last_call start calls
+      by told upto (inl live) = omega (arith, upto, live.1.0)
+      by told upto (inr out) = omega (arith, upto, out.1)
+
+  -- a pulse of another line, or none
+  passes : (call : Call) (calls : List Call) → kept_claim (call ∷ calls) ≡ kept_claim calls → pulses_on i (call ∷ calls) ≡ pulses_on i calls → last_call start calls ≤ last_call start (call ∷ calls) → Keeps calls → Keeps (call ∷ calls)
+  passes call calls same pulses on k = record {
+    claim = k.claim;
+    truth = k.truth;
+    end = k.end;
+    keeps = same ∙ k.keeps;
+    least = k.least;
+    most = k.most;
+    told = omega (arith, k.told, on);
+    close_least = k.close_least;
+    close_most = k.close_most;
+    is = k.is ∙ ap whole_of (sym pulses);
+  }
+
+  -- the hundredth
+  module _ (port time rise width : ℕ) (calls : List Call) (order : AreInOrder start new.clock.redundancy (Hear port time rise width ∷ calls)) (narrow : is_pulse width ≡ true) (same : (i == port) ≡ true)
+      (w : IsWhole new.rules t edges m (pulses_on i (Hear port time rise width ∷ calls))) (ends : EndsWhole edges m (pulses_on i (Hear port time rise width ∷ calls))) where
+    abbrev k : Keeping
+    k = after_calls new calls
+
+    abbrev line : Line
+    line = line_at k.state.lines i
+
+    abbrev pulses : List Pulse
+    pulses = pulses_on i calls
+
+    abbrev p : Pulse
+    p = pulse_at rise width
+
+    at : i ≡ port
+    at = eqb-true i port same
+
+    on : pulses_on i (Hear port time rise width ∷ calls) ≡ p ∷ pulses
+    on = own_pulses i port time rise width calls narrow same
+
+    both : p ∷ pulses ≡ ends.p ∷ ends.ps
+    both = sym on ∙ ends.are
+
+    head : p ≡ ends.p
+    head = let e = both in cc
+
+    hundred : place_after (p ∷ pulses) ≡ 100
+    hundred = ap place_after both ∙ ends.place
+
+    l : IsLineAt k.rules (heard_by k.heard i) line pulses (last_tick start calls) (last_call start calls)
+    l = (lines_after new start begun calls order.4).lines i small
+
+    after : IsAfter pulses rise
+    after = subst (λ (j : ℕ). IsAfter (pulses_on j calls) rise) (sym at) (order.3 narrow).after
+
+    soon : IsSoon l.told rise
+    soon = (omega (arith, l.past, order.1, (order.3 narrow).soon), omega (arith, l.near, order.2, (order.3 narrow).risen))
+
+    place : place_of line.sync (rise % 2 ^ 32) width ≡ place_after (p ∷ pulses)
+    place = place_at_time line.sync pulses l.told rise width l.hearing.sync after soon
+
+    long : 100 ≤ length (p ∷ pulses)
+    long =
+        let parts : length (p ∷ pulses) ≡ length w.frame + length w.earlier = ap length (sym on ∙ w.parts) ∙ length-append w.frame w.earlier in
+        omega (arith, parts, w.hundred)
+
+    heard : heard_then k i (rise % 2 ^ 32) width ≡ symbols_of_last 100 (p ∷ pulses)
+    heard =
+        ap (λ (s : List Symbol). heard_at (place_of line.sync (rise % 2 ^ 32) width) s width) l.all
+        ∙ ap (λ (n : ℕ). heard_at n (heard_of_last (length pulses) pulses) width) place
+        ∙ holds_place (suc (length pulses)) (p ∷ pulses) (omega (arith, hundred)) (omega (arith, hundred, long))
+        ∙ ap (λ (n : ℕ). symbols_of_last n (p ∷ pulses)) hundred
+
+    tells_it : told_of k.rules (heard_then k i (rise % 2 ^ 32) width) ≡ tells.Claim w.claim
+    tells_it =
+        ap (λ (r : Rules). told_of r (heard_then k i (rise % 2 ^ 32) width)) (lines_after new start begun calls order.4).same.rules
+        ∙ ap (told_of new.rules) (heard ∙ ap (symbols_of_last 100) (sym on)) ∙ w.tells
+
+    own_line : line_at (after_pulse k port (rise % 2 ^ 32) width).state.lines i ≡ line_heard line (rise % 2 ^ 32) width (told_of k.rules (heard_then k i (rise % 2 ^ 32) width))
+    own_line =
+        subst (λ (j : ℕ). line_at (after_pulse k j (rise % 2 ^ 32) width).state.lines i ≡ line_heard line (rise % 2 ^ 32) width (told_of k.rules (heard_then k i (rise % 2 ^ 32) width))) at
+        (rw narrow (line_same k.state.lines i _ small))
+
+    kept_then : (place rise : ℕ) (told : Told) (frame : Option KeptFrame) (claim : Claim) → place ≡ 100 → told ≡ tells.Claim claim → claim_kept (frame_behind place (rise % 2 ^ 32) told frame) ≡ Some (record { claim = claim; end_us = (rise + 10000) % 2 ^ 32 })
+    kept_then place rise told frame claim whole says =
+        let wrap : (rise % 2 ^ 32 + 10000) % 2 ^ 32 ≡ (rise + 10000) % 2 ^ 32 = omega arith in
+        rw (whole, says) (ap (λ (end : ℕ). Some (record { claim = claim; end_us = end })) wrap)
+
+    keeps_whole : Keeps (Hear port time rise width ∷ calls)
+    keeps_whole =
+        let rises : rise ≡ ends.p.rise = ap (λ (q : Pulse). q.rise) head in
+        record {
+          claim = w.claim;
+          truth = w.truth;
+          end = rise + 10000;
+          keeps = ap (λ (x : Line). claim_kept x.frame) own_line ∙ kept_then (place_of line.sync (rise % 2 ^ 32) width) rise (told_of k.rules (heard_then k i (rise % 2 ^ 32) width)) line.frame w.claim (place ∙ hundred) tells_it;
+          least = omega (arith, rises, ends.least);
+          most = omega (arith, rises, ends.most);
+          told = omega (arith, (order.3 narrow).risen);
+          close_least = omega (arith, rises, ends.close_least);
+          close_most = omega (arith, rises, ends.close_most);
+          is = sym (ap whole_of on ∙ whole_here p pulses hundred);
+        }
+
+  -- what is too wide is no pulse
+  passes_wide : (port rise width : ℕ) (calls : List Call) → is_pulse width ≡ false → claim_kept (line_at (after_pulse (after_calls new calls) port rise width).state.lines i).frame ≡ kept_claim calls
+  passes_wide port rise width calls wide = rw wide refl
+
+  -- a tick without a vote
+  ticks_on : (calls : List Call) (now : ℕ) → last_call start calls ≤ now → now ≤ edges m + 98000 → vote_at (after_calls new calls) (now % 2 ^ 32) ≡ None → Keeps calls → Keeps (Tick now ∷ calls)
+  ticks_on calls now on upto none k =
+      let clock : ℕ = now % 2 ^ 32 in
+      let late = in_time k.end now (omega (arith, k.told, on)) (omega (arith, k.least, upto)) in
+      let lines = ap (λ (x : Lines). (line_at x i).frame) (settles (after_calls new calls) clock none) ∙ frame_settled clock (after_calls new calls).state.lines i small in
+      record {
+        claim = k.claim;
+        truth = k.truth;
+        end = k.end;
+        keeps = ap claim_kept lines ∙ stays_kept clock (line_at (after_calls new calls).state.lines i).frame (record { claim = k.claim; end_us = k.end % 2 ^ 32 }) k.keeps late;
+        least = k.least;
+        most = k.most;
+        told = omega (arith, k.told, on);
+        close_least = k.close_least;
+        close_most = k.close_most;
+        is = k.is;
+      }
+
+  pub whole_kept : (later : List Call) → AreInOrder start new.clock.redundancy (later ++ older) → HaveNoVotes new (edges m - 11000) later older → last_call start (later ++ older) ≤ edges m + 98000 → IsWhole new.rules t edges m (pulses_on i (later ++ older)) → Keeps (later ++ older)
+  whole_kept [] order none upto w =
+      let ends = ends_whole new.rules t d edges m (pulses_on i older) quartz w in
+      absurd (omega (arith, risen older order ends.p ends.ps ends.are, ends.least, past))
+  whole_kept (Tick now ∷ later) order none upto w =
+      let before = whole_kept later order.2 none.1 (omega (arith, order.0, upto)) w in
+      ticks_on (later ++ older) now order.0 upto (none.0 (omega (arith, before.told, before.least, order.0))) before
+  whole_kept (Hear port time rise width ∷ later) order none upto w = elim (cases_Bool (i == port)) [
+    | inr other ↦
+        let same = others_pulses i port time rise width (later ++ older) other in
+        let before = whole_kept later order.4 none (omega (arith, order.1, upto)) (subst (IsWhole new.rules t edges m) same w) in
+        let line = others_pulse (after_calls new (later ++ older)) port i (rise % 2 ^ 32) width (omega (arith, order.0, five new.clock.redundancy)) small (eqb-false i port other) in
+        passes (Hear port time rise width) (later ++ older) (ap (λ (x : Line). claim_kept x.frame) line) same order.1 before
+    | inl same ↦ elim (cases_Bool (is_pulse width)) [
+      | inr wide ↦
+          let before = whole_kept later order.4 none (omega (arith, order.1, upto)) (subst (IsWhole new.rules t edges m) (no_pulse i port time rise width (later ++ older) wide) w) in
+          passes (Hear port time rise width) (later ++ older) (passes_wide port (rise % 2 ^ 32) width (later ++ older) wide) (no_pulse i port time rise width (later ++ older) wide) order.1 before
+      | inl narrow ↦ keeps_whole port time rise width (later ++ older) order narrow same w (ends_whole new.rules t d edges m _ quartz w)
+    ]
+  ]

@@ -1,0 +1,88 @@
+-- What has to come for a device to announce: more than f lines send a frame whole, and a tick comes
+-- soon behind its end.
+-- Source: IRIG Standard 200-16, format B; this project's profile.
+use Rattle.std.specs.Prelude.{◌≡◌, ℕ, zero, suc, ◌+◌, ◌*◌, ◌<◌, ◌≤◌, ◌⊎◌, Bool, true, List, [], ◌∷◌, ◌++◌, length, count_by, Option, Some, ⊤}
+use Rattle.std.specs.List.{range_with_len}
+use Rattle.irig_frame.specs.declared.symbol.Symbol.{Symbol}
+use Rattle.irig_sync.specs.Sync.{is_marker}
+use Rattle.irig_sync.specs.Lines.{Pulse, IsTrueLine, symbols_of_last}
+use Rattle.irig_sync.specs.FaultyLines.{ArePulsesBefore}
+use Rattle.irig_time.specs.declared.rules.Rules.{Rules}
+use Rattle.irig_time.specs.declared.second.UtcSecond.{UtcSecond}
+use Rattle.irig_time.specs.declared.claim.Claim.{Claim}
+use Rattle.irig_time.specs.Timelines.{TimelineValue, IsTrueClaim, IsSecond}
+use Rattle.irig_port.specs.Told.{told_of}
+use Rattle.irig_port.specs.declared.told.Told.TheVariants as tells
+use Rattle.irig_vote.specs.Vote.{f_of}
+use Rattle.irig_reader.specs.Locking.{voted_report}
+use Rattle.irig_timekeeper.specs.declared.clock.Beat.{Beat}
+use Rattle.irig_timekeeper.specs.Keeping.{Keeping, answer_at}
+use Rattle.irig_timekeeper.specs.Truth.{IsEdgeAt}
+use Rattle.irig_timekeeper.specs.Edges.{IsNear}
+use Rattle.irig_timekeeper.specs.Life.{Call, after_calls, pulses_on, last_tick, AreTrueOver}
+use Rattle.irig_timekeeper.specs.Life.Call.{Tick}
+
+-- what came before the frame that begins then does not hide its first pulse: nothing, a marker, or
+-- what rose 11.45 ms before it or longer
+abbrev pub LeavesTheFirst : ℕ → List Pulse → Type 0
+LeavesTheFirst begin [] = ⊤
+LeavesTheFirst begin (q ∷ qs) = (is_marker q.width ≡ true) ⊎ (q.rise + 11450 ≤ begin)
+
+-- the newest hundred of these pulses are the whole frame that ends at the m-th edge, each less than
+-- 450 us off, and tell the true claim of the second before it
+pub record IsWhole (rules : Rules) (t : TimelineValue) (edges : ℕ → ℕ) (m : ℕ)
+    (pulses : List Pulse) : Type 0 where
+  pub line : ℕ → Symbol
+  pub right : IsTrueLine line
+  pub f : ℕ
+  pub here : m ≡ f + 1
+  pub frame : List Pulse
+  pub earlier : List Pulse
+  pub parts : pulses ≡ frame ++ earlier
+  pub hundred : length frame ≡ 100
+  pub are : ArePulsesBefore line edges 450 (100 * f + 100) frame
+  pub first : LeavesTheFirst (edges f) earlier
+  pub claim : Claim
+  pub tells : told_of rules (symbols_of_last 100 pulses) ≡ tells.Claim claim
+  pub truth : IsTrueClaim t m claim
+
+-- the calls of the m-th second, behind others: the last of them is the first tick that comes 549 us
+-- behind the edge or later; it comes 98 ms behind the edge at most, and by then more than f lines
+-- have told the frame whole that ends there. At each tick at most f lines are not such true lines
+pub record IsWellHeard (IsTrue : ℕ → List Pulse → Type 0) (t : TimelineValue) (edges : ℕ → ℕ)
+    (new : Keeping) (start m : ℕ) (calls before : List Call)
+    : Type 0 where
+  pub now : ℕ
+  pub others : List Call
+  pub are : calls ≡ Tick now ∷ others
+  pub early : last_tick start (others ++ before) < edges m + 549
+  pub come : edges m + 549 ≤ now
+  pub soon : now ≤ edges m + 98000
+  pub whole : ℕ → Bool
+  pub many : f_of new.clock.redundancy < count_by whole (range_with_len 0 5)
+  pub frames : (i : ℕ) → i < 5 → whole i ≡ true
+      → IsWhole new.rules t edges m (pulses_on i (others ++ before))
+  pub truth : AreTrueOver IsTrue (f_of new.clock.redundancy) calls before
+
+-- so many seconds in a row, from the m-th on
+abbrev pub AreWellHeard : (ℕ → List Pulse → Type 0) → TimelineValue → (ℕ → ℕ) → Keeping → ℕ → ℕ → ℕ
+    → List Call → List Call → Type 0
+AreWellHeard IsTrue t edges new start m zero calls before = calls ≡ before
+AreWellHeard IsTrue t edges new start m (suc n) calls before =
+    (last : List Call) × (older : List Call) × (calls ≡ last ++ older)
+    × IsWellHeard IsTrue t edges new start (m + n) last older
+    × AreWellHeard IsTrue t edges new start m n older before
+
+-- among the calls of a second, behind others, is a tick that announces T(m) by a vote, and tells its
+-- edge
+pub record Announces (t : TimelineValue) (edges : ℕ → ℕ) (new : Keeping) (m : ℕ)
+    (calls before : List Call) : Type 0 where
+  pub now : ℕ
+  pub later : List Call
+  pub earlier : List Call
+  pub are : calls ≡ later ++ (Tick now ∷ earlier)
+  pub beat : Beat
+  pub answer : answer_at (after_calls new (earlier ++ before)) now ≡ Some beat
+  pub u : UtcSecond
+  pub second : IsSecond t m u
+  pub says : beat.report ≡ voted_report u
