@@ -149,7 +149,7 @@ ends_whole rules t d edges m pulses quartz w = of w.frame w.parts w.hundred w.ar
 
 -- ---- it is kept
 
-in_time : (end now : ℕ) → end ≤ now + 10000 → now ≤ end + 100000 → is_late (end % 2 ^ 32) (now % 2 ^ 32) ≡ false
+pub in_time : (end now : ℕ) → end ≤ now + 10000 → now ≤ end + 100000 → is_late (end % 2 ^ 32) (now % 2 ^ 32) ≡ false
 in_time end now ahead soon =
     let gap : (clock_gap (end % 2 ^ 32) (now % 2 ^ 32) + 10000) % 2 ^ 32 ≡ now + 10000 - end = omega (arith, ahead, soon) in
     rw gap (few (now + 10000 - end) (omega (arith, ahead, soon)))
@@ -163,7 +163,7 @@ end_told tells.Silence end y e = absurd cc
 end_told (tells.Fault f) end y e = absurd cc
 end_told (tells.Poor q) end y e = absurd cc
 
-stays_kept : (clock : ℕ) (frame : Option KeptFrame) (y : KeptClaim) → claim_kept frame ≡ Some y → is_late y.end_us clock ≡ false → claim_kept (still_kept clock frame) ≡ Some y
+pub stays_kept : (clock : ℕ) (frame : Option KeptFrame) (y : KeptClaim) → claim_kept frame ≡ Some y → is_late y.end_us clock ≡ false → claim_kept (still_kept clock frame) ≡ Some y
 stays_kept clock None y e late = absurd cc
 stays_kept clock (Some x) y e late =
     let same : is_late x.end_us clock ≡ false = ap (λ (end : ℕ). is_late end clock) (end_told x.told x.end_us y e) ∙ late in

@@ -1,5 +1,6 @@
 -- A frame on which lines agree is a true vote, if at most f of them were untrue of late.
 use Rattle.std.specs.Prelude.{count_by, nat_le, ◌&&◌}
+use Rattle.std.proofs.Common.{drop}
 use Rattle.std.proofs.Common.{◌≡◌, ◌∙◌, ℕ, zero, suc, ◌+◌, ◌-◌, ◌%◌, ◌^◌, ◌<◌, ◌≤◌, Bool, true, false, cond, List, [], ◌∷◌, Option, Some, None, refl, sym, ap, subst, arith}
 use Rattle.std.proofs.lemmas.Bool.{ltb-true, ltb-false, leb-true}
 use Rattle.irig_sync.specs.Lines.{Pulse}
@@ -96,19 +97,19 @@ come_before e end now range late order soon near come =
 few_is : (g : ℕ) → g ≤ 100000 → nat_le g 100000 ≡ true
 few_is g h = grind (arith, h)
 
-gap_in_turn : (u v : ℕ) → u ≤ v → v ≤ u + 99000 → clock_gap (u % 2 ^ 32) (v % 2 ^ 32) ≤ 100000
+gap_in_turn : (u v : ℕ) → u ≤ v → v ≤ u + 100000 → clock_gap (u % 2 ^ 32) (v % 2 ^ 32) ≤ 100000
 gap_in_turn u v h k = omega arith
 
-gap_of : (e end now : ℕ) → e < 2 ^ 32 → 10000 ≤ end → end ≤ now → now ≤ end + 98000 → clock_gap e (end % 2 ^ 32) ≤ 1000 → clock_gap e (now % 2 ^ 32) ≤ 100000
+gap_of : (e end now : ℕ) → e < 2 ^ 32 → 10000 ≤ end → end ≤ now → now ≤ end + 99000 → clock_gap e (end % 2 ^ 32) ≤ 1000 → clock_gap e (now % 2 ^ 32) ≤ 100000
 gap_of e end now range late order soon near =
     let gap : ℕ = clock_gap e (end % 2 ^ 32) in
     let exact : ℕ = end - gap in
     let clock : e ≡ exact % 2 ^ 32 = omega (arith, range, late, near) in
     let before : exact ≤ now = omega (arith, order) in
-    let behind : now ≤ exact + 99000 = omega (arith, near, late, soon) in
+    let behind : now ≤ exact + 100000 = omega (arith, near, late, soon) in
     subst (λ (x : ℕ). clock_gap x (now % 2 ^ 32) ≤ 100000) (sym clock) (gap_in_turn exact now before behind)
 
-just_come : (e end now : ℕ) → e < 2 ^ 32 → 10000 ≤ end → end ≤ now → now ≤ end + 98000 → clock_gap e (end % 2 ^ 32) ≤ 1000 → has_come e (now % 2 ^ 32) ≡ true
+just_come : (e end now : ℕ) → e < 2 ^ 32 → 10000 ≤ end → end ≤ now → now ≤ end + 99000 → clock_gap e (end % 2 ^ 32) ≤ 1000 → has_come e (now % 2 ^ 32) ≡ true
 just_come e end now range late order soon near = few_is (clock_gap e (now % 2 ^ 32)) (gap_of e end now range late order soon near)
 
 -- ---- the vote
@@ -203,14 +204,20 @@ module _ (IsTrue : List Pulse → Type 0) (rules : Rules) (t : TimelineValue) (e
       let same : y ≡ x = cc in
       subst (λ (v : KeptClaim). if_come time (Some v) ≡ Some x) (sym same) (rw there refl)
 
-  there_by : (x y : KeptClaim) (ps : List Pulse) → IfKept (HasJustCome now) rules (Some y) ps → agrees x (Some y) ≡ true → InRange x → has_come x.end_us clock ≡ true
+  there_by : (x y : KeptClaim) (ps : List Pulse) (end : ℕ) → y.end_us ≡ end % 2 ^ 32 → IsFrameOf rules y.claim end ps → HasJustCome now end → agrees x (Some y) ≡ true → InRange x → has_come x.end_us clock ≡ true
   unfolding InRange
-  there_by x y ps ready same range =
+  there_by x y ps end is frame ready same range =
       let both = split (same_claim x.claim y.claim) (nat_le (clock_gap x.end_us y.end_us) 1000) same in
-      let near : clock_gap x.end_us (ready.0 % 2 ^ 32) ≤ 1000 = subst (λ (e : ℕ). clock_gap x.end_us e ≤ 1000) ready.1 (leb-true (clock_gap x.end_us y.end_us) 1000 both.1) in
-      just_come x.end_us ready.0 now range (last_late ready.0 _ ready.2.last) ready.3.0 ready.3.1 near
+      let near : clock_gap x.end_us (end % 2 ^ 32) ≤ 1000 = subst (λ (e : ℕ). clock_gap x.end_us e ≤ 1000) is (leb-true (clock_gap x.end_us y.end_us) 1000 both.1) in
+      just_come x.end_us end now range (last_late end (drop frame.late ps) frame.last) ready.0 ready.1 near
 
-  pub vote_comes : ((i : ℕ) → i < 5 → h.untrue i ≡ false → IfKept (HasJustCome now) rules (claim_kept (line_at lines i).frame) (pulses i)) → (x : KeptClaim) → agreed f (settled clock lines) ≡ Some x → if_come clock (agreed f (settled clock lines)) ≡ Some x
+  -- what a true line keeps has just come, if it is not late
+  abbrev pub AreReady : Type 0
+  AreReady =
+      (i : ℕ) → i < 5 → h.untrue i ≡ false → (y : KeptClaim) (end : ℕ) → y.end_us ≡ end % 2 ^ 32 → IsFrameOf rules y.claim end (pulses i) → end ≤ now + 10000 → now ≤ end + 100000
+      → claim_kept (line_at lines i).frame ≡ Some y → HasJustCome now end
+
+  pub vote_comes : AreReady → (x : KeptClaim) → agreed f (settled clock lines) ≡ Some x → if_come clock (agreed f (settled clock lines)) ≡ Some x
   vote_comes ready x e =
       let all : List (Option KeptClaim) = all_kept (settled clock lines) in
       let one = is_one InRange f all all x each e in
@@ -219,5 +226,18 @@ module _ (IsTrue : List Pulse → Type 0) (rules : Rules) (t : TimelineValue) (e
       let low : found.i < 5 = found.low in
       let keeps = still clock (line_at lines found.i).frame found.y (ap claim_kept (sym (frame_settled clock lines found.i low)) ∙ kept_at (settled clock lines) found.i found.y found.keeps) in
       let at : 0 + found.i ≡ found.i = omega arith in
-      let is_ready = subst (λ (o : Option KeptClaim). IfKept (HasJustCome now) rules o (pulses found.i)) keeps.0 (ready found.i low (subst (λ (j : ℕ). h.untrue j ≡ false) at found.true_line)) in
-      come_is x clock (there_by x found.y (pulses found.i) is_ready found.same one.1) (agreed f (settled clock lines)) e
+      let turn = subst (λ (o : Option KeptClaim). IfKept (IsInTurnOf now) rules o (pulses found.i)) keeps.0 (h.kept found.i low) in
+      let soon = not_late turn.0 now turn.3.0 turn.3.1 (subst (λ (e : ℕ). is_late e clock ≡ false) turn.1 keeps.1) in
+      let is_ready = ready found.i low (subst (λ (j : ℕ). h.untrue j ≡ false) at found.true_line) found.y turn.0 turn.1 turn.2 turn.3.0 soon keeps.0 in
+      come_is x clock (there_by x found.y (pulses found.i) turn.0 turn.1 turn.2 is_ready found.same one.1) (agreed f (settled clock lines)) e
+
+-- an end that is known otherwise
+pub ready_by : (rules : Rules) (now : ℕ) (o : Option KeptClaim) (ps : List Pulse) (y : KeptClaim) (end : ℕ) → IfKept (HasJustCome now) rules o ps → o ≡ Some y → y.end_us ≡ end % 2 ^ 32 → end ≤ now + 10000 → now ≤ end + 100000 → HasJustCome now end
+ready_by rules now None ps y end h e is ahead soon = absurd cc
+ready_by rules now (Some x) ps y end h e is ahead soon =
+    let same : x ≡ y = cc in
+    let clock : h.0 % 2 ^ 32 ≡ end % 2 ^ 32 = sym h.1 ∙ ap (λ (z : KeptClaim). z.end_us) same ∙ is in
+    by_clock h.0 end clock h.3.0 h.3.1 ahead soon
+  where
+    by_clock : (x end : ℕ) → x % 2 ^ 32 ≡ end % 2 ^ 32 → x ≤ now → now ≤ x + 99000 → end ≤ now + 10000 → now ≤ end + 100000 → HasJustCome now end
+    by_clock x end clock come near ahead soon = (omega (arith, clock, come, near, ahead, soon), omega (arith, clock, come, near, ahead, soon))

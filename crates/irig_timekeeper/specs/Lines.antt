@@ -62,6 +62,6 @@ IsInTurnOf now end = (end ≤ now + 10000) × (now + 10000 < end + 2 ^ 32)
 abbrev pub IsAnyEnd : ℕ → Type 0
 IsAnyEnd end = ⊤
 
--- the end has come, at most 98 ms ago
+-- the end has come, at most 99 ms ago
 abbrev pub HasJustCome : ℕ → ℕ → Type 0
-HasJustCome now end = (end ≤ now) × (now ≤ end + 98000)
+HasJustCome now end = (end ≤ now) × (now ≤ end + 99000)

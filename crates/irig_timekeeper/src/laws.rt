@@ -181,7 +181,7 @@ pub fn a_device_heals()
 
 /// No f lines can keep a device from a vote: if more than f lines keep frames of one claim that end
 /// within 1 ms behind the first of them, and a tick comes when the frames of the true lines have
-/// ended, at most 98 ms behind, it has a vote, whatever the others keep.
+/// ended, at most 99 ms behind, it has a vote, whatever the others keep.
 pub fn enough_lines_vote()
     ensures agree { (f : ℕ) (lines : Lines) (i : ℕ) (first : KeptClaim) → i < 5
         → claim_kept (line_at lines i).frame ≡ Some first

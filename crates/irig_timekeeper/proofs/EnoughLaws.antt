@@ -1,0 +1,243 @@
+-- A tick has a vote if more than f lines keep the frame that ends at an edge, whatever the others keep.
+use Rattle.std.specs.Prelude.{◌&&◌, count_by, nat_le}
+use Rattle.std.specs.List.{range_with_len}
+use Rattle.std.proofs.Common.{◌≡◌, ◌∙◌, ℕ, zero, suc, ◌+◌, ◌-◌, ◌*◌, ◌%◌, ◌^◌, ◌<◌, ◌≤◌, Bool, true, false, cond, List, [], ◌∷◌, Option, Some, None, refl, sym, ap, subst, arith, inl, inr}
+use Rattle.std.proofs.lemmas.Bool.{cases_Bool, cases_lt, lt-ltb}
+use Rattle.std.proofs.lemmas.List.Sums.{sum_by-cons}
+use Rattle.irig_sync.specs.Sync.{clock_gap}
+use Rattle.irig_sync.specs.Lines.{Pulse}
+use Rattle.irig_time.specs.declared.claim.Claim.{Claim}
+use Rattle.irig_time.specs.declared.rules.Rules.{Rules}
+use Rattle.irig_time.specs.Claims.{same_claim}
+use Rattle.irig_time.specs.Timelines.{TimelineValue, IsTrueClaim, truth_at}
+use Rattle.irig_time.proofs.SecondAt.{claim_is}
+use Rattle.irig_vote.specs.Vote.{f_of}
+use Rattle.irig_vote.proofs.CountLaws.{same_itself}
+use Rattle.irig_timekeeper.specs.declared.lines.KeptClaim.{KeptClaim}
+use Rattle.irig_timekeeper.specs.declared.lines.Lines.{Lines}
+use Rattle.irig_timekeeper.specs.declared.clock.ClockRules.{ClockRules}
+use Rattle.irig_timekeeper.specs.Edges.{IsQuartz, IsNear, IsTrueNear}
+use Rattle.irig_timekeeper.specs.Lines.{HasJustCome}
+use Rattle.irig_timekeeper.specs.Counting.{is_late}
+use Rattle.irig_timekeeper.specs.Steps.{line_at, settled, still_kept, claim_kept, all_kept, agrees, agreed, if_come}
+use Rattle.irig_timekeeper.specs.Keeping.{Keeping, vote_at}
+use Rattle.irig_timekeeper.specs.Truth.{AreHeardTruly}
+use Rattle.irig_timekeeper.specs.Life.{Call, after_calls, pulses_on, last_call, AreInOrder, AreTrueLately}
+use Rattle.irig_timekeeper.specs.Life.Call.{Tick}
+use Rattle.irig_timekeeper.proofs.CountingLaws.{rises}
+use Rattle.irig_timekeeper.proofs.VoteLaws.{frame_settled, AreReady, vote_comes}
+use Rattle.irig_timekeeper.proofs.WaitLaws.{one_is_agreed}
+use Rattle.irig_timekeeper.proofs.WholeLaws.{whole_of}
+use Rattle.irig_timekeeper.proofs.LifeLaws.{AreLinesAt, lines_after, TellAlwaysTruly, heard_truly}
+use Rattle.irig_timekeeper.proofs.FrameLaws.{Keeps, in_time, stays_kept}
+
+-- ---- the least of some numbers, and counts
+
+none_of : (b : Bool) → b ≡ false → ◌≡◌ {A = ℕ} (cond b 1 0) 0
+none_of b e = rw e refl
+
+one_of : (b : Bool) → b ≡ true → ◌≡◌ {A = ℕ} (cond b 1 0) 1
+one_of b e = rw e refl
+
+at_most_one : (b : Bool) → cond b 1 0 ≤ 1
+at_most_one true = omega arith
+at_most_one false = omega arith
+
+record IsLeast (a : ℕ → Bool) (g : ℕ → ℕ) (from n : ℕ) : Type 0 where
+  i : ℕ
+  low : i < n
+  at : a (from + i) ≡ true
+  least : (j : ℕ) → j < n → a (from + j) ≡ true → g (from + i) ≤ g (from + j)
+
+module _ (a : ℕ → Bool) (g : ℕ → ℕ) where
+  -- none of them is any
+  never : (from n : ℕ) → count_by a (range_with_len from n) ≡ 0 → (j : ℕ) → j < n → ¬ (a (from + j) ≡ true)
+  never from zero none j low e = omega (arith, low)
+  never from (suc n) none zero low e =
+      let here : from + 0 ≡ from = omega arith in
+      let is : a from ≡ true = subst (λ (x : ℕ). a x ≡ true) here e in
+      omega (arith, none, sum_by-cons (λ k. cond (a k) 1 0) from (range_with_len (from + 1) n), one_of (a from) is)
+  never from (suc n) none (suc j) low e =
+      let there : from + suc j ≡ from + 1 + j = omega arith in
+      never (from + 1) n (omega (arith, none, sum_by-cons (λ k. cond (a k) 1 0) from (range_with_len (from + 1) n))) j (omega (arith, low)) (subst (λ (x : ℕ). a x ≡ true) there e)
+
+  least_of : (from n : ℕ) → 0 < count_by a (range_with_len from n) → IsLeast a g from n
+  least_of from zero some = absurd (omega (arith, some))
+  least_of from (suc n) some = elim (cases_lt 0 (count_by a (range_with_len (from + 1) n))) [
+    | inr none ↦
+        let head : a from ≡ true = elim (cases_Bool (a from)) [ inl is ↦ is | inr not ↦ absurd (omega (arith, some, none, none_of (a from) not, sum_by-cons (λ k. cond (a k) 1 0) from (range_with_len (from + 1) n))) ] in
+        let here : from ≡ from + 0 = omega arith in
+        record {
+          i = 0;
+          low = omega arith;
+          at = subst (λ (x : ℕ). a x ≡ true) here head;
+          least = only (omega (arith, none));
+        }
+    | inl more ↦
+        let tail = least_of (from + 1) n more in
+        elim (cases_Bool (a from)) [
+          | inr not ↦ later tail (λ is. let both : true ≡ false = sym is ∙ not in absurd cc)
+          | inl is ↦ elim (cases_lt (g from) (g (from + 1 + tail.i))) [
+            | inl less ↦ first tail is less
+            | inr enough ↦ later tail (λ _. omega (arith, enough))
+          ]
+        ]
+  ]
+    where
+      only : count_by a (range_with_len (from + 1) n) ≡ 0 → (j : ℕ) → j < suc n → a (from + j) ≡ true → g (from + 0) ≤ g (from + j)
+      only none zero low e = omega arith
+      only none (suc j) low e =
+          let there : from + suc j ≡ from + 1 + j = omega arith in
+          absurd (never (from + 1) n none j (omega (arith, low)) (subst (λ (x : ℕ). a x ≡ true) there e))
+
+      first : (tail : IsLeast a g (from + 1) n) → a from ≡ true → g from < g (from + 1 + tail.i) → IsLeast a g from (suc n)
+      first tail is less =
+          let here : from ≡ from + 0 = omega arith in
+          record { i = 0; low = omega arith; at = subst (λ (x : ℕ). a x ≡ true) here is; least = all }
+        where
+          all : (j : ℕ) → j < suc n → a (from + j) ≡ true → g (from + 0) ≤ g (from + j)
+          all zero low e = omega arith
+          all (suc j) low e =
+              let there : from + suc j ≡ from + 1 + j = omega arith in
+              let same : from + 0 ≡ from = omega arith in
+              let most = tail.least j (omega (arith, low)) (subst (λ (x : ℕ). a x ≡ true) there e) in
+              let at : g (from + suc j) ≡ g (from + 1 + j) = ap g there in
+              let from_here : g (from + 0) ≡ g from = ap g same in
+              omega (arith, most, less, at, from_here)
+
+      later : (tail : IsLeast a g (from + 1) n) → (a from ≡ true → g (from + 1 + tail.i) ≤ g from) → IsLeast a g from (suc n)
+      later tail head =
+          let there : from + 1 + tail.i ≡ from + suc tail.i = omega arith in
+          record { i = suc tail.i; low = omega (arith, tail.low); at = subst (λ (x : ℕ). a x ≡ true) there tail.at; least = all }
+        where
+          all : (j : ℕ) → j < suc n → a (from + j) ≡ true → g (from + suc tail.i) ≤ g (from + j)
+          all zero low e =
+              let same : from + 0 ≡ from = omega arith in
+              let here : g (from + 0) ≡ g from = ap g same in
+              let at : g (from + suc tail.i) ≡ g (from + 1 + tail.i) = ap g (let t : from + suc tail.i ≡ from + 1 + tail.i = omega arith in t) in
+              omega (arith, head (subst (λ (x : ℕ). a x ≡ true) same e), here, at)
+          all (suc j) low e =
+              let there : from + suc j ≡ from + 1 + j = omega arith in
+              let most = tail.least j (omega (arith, low)) (subst (λ (x : ℕ). a x ≡ true) there e) in
+              let at : g (from + suc j) ≡ g (from + 1 + j) = ap g there in
+              let at' : g (from + suc tail.i) ≡ g (from + 1 + tail.i) = ap g (let t : from + suc tail.i ≡ from + 1 + tail.i = omega arith in t) in
+              omega (arith, most, at, at')
+
+more_of : (a b : ℕ → Bool) (from n : ℕ) → ((j : ℕ) → j < n → a (from + j) ≡ true → b (from + j) ≡ true) → count_by a (range_with_len from n) ≤ count_by b (range_with_len from n)
+more_of a b from zero both = omega arith
+more_of a b from (suc n) both =
+    let x = sum_by-cons (λ k. cond (a k) 1 0) from (range_with_len (from + 1) n) in
+    let y = sum_by-cons (λ k. cond (b k) 1 0) from (range_with_len (from + 1) n) in
+    let rest = more_of a b (from + 1) n (λ j low is. (let there : from + 1 + j ≡ from + suc j = omega arith in subst (λ (i : ℕ). b i ≡ true) (sym there) (both (suc j) (omega (arith, low)) (subst (λ (i : ℕ). a i ≡ true) there is)))) in
+    elim (cases_Bool (a from)) [
+      | inl is ↦
+          let here : from ≡ from + 0 = omega arith in
+          let so : b from ≡ true = subst (λ (i : ℕ). b i ≡ true) (sym here) (both 0 (omega arith) (subst (λ (i : ℕ). a i ≡ true) here is)) in
+          omega (arith, x, y, rest, one_of (a from) is, one_of (b from) so)
+      | inr not ↦ omega (arith, x, y, rest, none_of (a from) not)
+    ]
+
+-- ---- a tick
+
+same_truth : (t : TimelineValue) (n : ℕ) (c c' : Claim) → IsTrueClaim t (n + 1) c → IsTrueClaim t (n + 1) c' → same_claim c c' ≡ true
+same_truth t n c c' p q =
+    let e : Some c ≡ Some c' = sym ((claim_is t n c).1 p) ∙ (claim_is t n c').1 q in
+    let same : c ≡ c' = cc in
+    subst (λ (x : Claim). same_claim c x ≡ true) same (same_itself c)
+
+both_true : (a b : Bool) → a ≡ true → b ≡ true → (a && b) ≡ true
+both_true true b p q = q
+both_true false b p q = absurd cc
+
+near_gap : (x y : ℕ) → x ≤ y → y ≤ x + 1000 → nat_le (clock_gap (x % 2 ^ 32) (y % 2 ^ 32)) 1000 ≡ true
+near_gap x y order near =
+    let gap : clock_gap (x % 2 ^ 32) (y % 2 ^ 32) ≡ y - x = omega (arith, order, near) in
+    rw gap (few (y - x) (omega (arith, near)))
+  where
+    few : (g : ℕ) → g ≤ 1000 → nat_le g 1000 ≡ true
+    few g h = grind (arith, h)
+
+-- edges that lie less than a second apart are one
+pub one_edge : (d : ℕ) (edges : ℕ → ℕ) → IsQuartz d edges → (i j : ℕ) → edges i < edges j + 999900 → edges j < edges i + 999900 → i ≡ j
+one_edge d edges quartz i j less more = elim (cases_lt i j) [
+  | inl before ↦ absurd (omega (arith, far i j before, more))
+  | inr from ↦ elim (cases_lt j i) [
+    | inl behind ↦ absurd (omega (arith, far j i behind, less))
+    | inr upto ↦ omega (arith, from, upto)
+  ]
+]
+  where
+    far : (i j : ℕ) → i < j → edges i + 999900 ≤ edges j
+    far i j less =
+        let there : i + (j - i) ≡ j = omega (arith, less) in
+        let rise = subst (λ (x : ℕ). edges i + (j - i) * 999900 ≤ edges x) there (rises d edges quartz i (j - i)) in
+        omega (arith, rise, less)
+
+module _ (IsTrue : ℕ → List Pulse → Type 0) (t : TimelineValue) (d : ℕ) (edges : ℕ → ℕ) (quartz : IsQuartz d edges) (new : Keeping) (start : ℕ) (begun : AreLinesAt new new (λ i. []) start start) (truly : TellAlwaysTruly IsTrue new.rules t edges 549 549)
+    (m : ℕ) (some : 1 ≤ m) (older : List Call) (past : last_call start older + 11000 < edges m) (calls : List Call) (now : ℕ) (order : AreInOrder start new.clock.redundancy (Tick now ∷ calls)) (from : edges m + 549 ≤ now) (upto : now ≤ edges m + 98000)
+    (whole : ℕ → Bool) (many : f_of new.clock.redundancy < count_by whole (range_with_len 0 5)) (keeps : (i : ℕ) (small : i < 5) → whole i ≡ true → Keeps t d edges quartz new start begun i small m older past calls) where
+  abbrev clock : ℕ
+  clock = now % 2 ^ 32
+
+  abbrev lines : Lines
+  lines = (after_calls new calls).state.lines
+
+  abbrev ends : ℕ → ℕ
+  ends i = whole_of (pulses_on i calls)
+
+  first : IsLeast whole ends 0 5
+  first = least_of whole ends 0 5 (omega (arith, many))
+
+  kept : (i : ℕ) (small : i < 5) (is : whole i ≡ true) → claim_kept (line_at (settled clock lines) i).frame ≡ Some (record { claim = (keeps i small is).claim; end_us = (keeps i small is).end % 2 ^ 32 })
+  kept i small is =
+      let k = keeps i small is in
+      ap claim_kept (frame_settled clock lines i small)
+      ∙ stays_kept clock (line_at lines i).frame (record { claim = k.claim; end_us = k.end % 2 ^ 32 }) k.keeps (in_time k.end now (omega (arith, k.told, order.0)) (omega (arith, k.least, upto)))
+
+  -- all of them agree with the one that ends first
+  agree : (i j : ℕ) (small : i < 5) (low : j < 5) (is : whole i ≡ true) (so : whole j ≡ true) → ends i ≤ ends j → agrees (record { claim = (keeps i small is).claim; end_us = (keeps i small is).end % 2 ^ 32 }) (claim_kept (line_at (settled clock lines) j).frame) ≡ true
+  agree i j small low is so order =
+      let k = keeps i small is in
+      let l = keeps j low so in
+      let same : m ≡ m - 1 + 1 = omega (arith, some) in
+      let one = subst (λ (x : ℕ). IsTrueClaim t x k.claim) same k.truth in
+      let other = subst (λ (x : ℕ). IsTrueClaim t x l.claim) same l.truth in
+      subst (λ (o : Option KeptClaim). agrees (record { claim = k.claim; end_us = k.end % 2 ^ 32 }) o ≡ true) (sym (kept j low so))
+      (both_true _ _ (same_truth t (m - 1) k.claim l.claim one other) (near_gap k.end l.end (omega (arith, order, k.is, l.is)) (omega (arith, k.close_least, l.close_most))))
+
+  f : ℕ
+  f = f_of new.clock.redundancy
+
+  some_agree : (x : KeptClaim) × (agreed (f_of new.clock.redundancy) (settled clock lines) ≡ Some x)
+  some_agree =
+      let here : 0 + first.i ≡ first.i = omega arith in
+      let is : whole first.i ≡ true = subst (λ (j : ℕ). whole j ≡ true) here first.at in
+      let x : KeptClaim = record { claim = (keeps first.i first.low is).claim; end_us = (keeps first.i first.low is).end % 2 ^ 32 } in
+      let all = more_of whole (λ j. agrees x (claim_kept (line_at (settled clock lines) j).frame)) 0 5 (λ j low so. agree_at x first.i first.low is refl j low so) in
+      one_is_agreed (f_of new.clock.redundancy) (settled clock lines) first.i x first.low (kept first.i first.low is) (lt-ltb (f_of new.clock.redundancy) (count_by (agrees x) (all_kept (settled clock lines))) (omega (arith, many, all)))
+    where
+      agree_at : (x : KeptClaim) (i : ℕ) (small : i < 5) (is : whole i ≡ true) → i ≡ first.i → (j : ℕ) → j < 5 → whole (0 + j) ≡ true → agrees (record { claim = (keeps i small is).claim; end_us = (keeps i small is).end % 2 ^ 32 }) (claim_kept (line_at (settled clock lines) (0 + j)).frame) ≡ true
+      agree_at x i small is same j low so =
+          let there : 0 + j ≡ j = omega arith in
+          let here : 0 + first.i ≡ i = omega (arith, same) in
+          let so' : whole j ≡ true = subst (λ (k : ℕ). whole k ≡ true) there so in
+          let least = first.least j low so in
+          let e1 : ends (0 + first.i) ≡ ends i = ap ends here in
+          let e2 : ends (0 + j) ≡ ends j = ap ends there in
+          subst (λ (k : ℕ). agrees (record { claim = (keeps i small is).claim; end_us = (keeps i small is).end % 2 ^ 32 }) (claim_kept (line_at (settled clock lines) k).frame) ≡ true) (sym there)
+          (agree i j small low is so' (omega (arith, least, e1, e2)))
+
+  -- what a true line keeps then ends at this edge
+  ready : (h : AreHeardTruly (IsTrue now) new.rules (f_of new.clock.redundancy) now lines (λ i. pulses_on i calls)) → AreReady (IsTrue now) new.rules t edges 549 549 (f_of new.clock.redundancy) now lines (λ i. pulses_on i calls) (truly now) h
+  ready h i low right y end is frame ahead soon keeps =
+      let near = truly now end (pulses_on i calls) y.claim (h.true_lines i low right) frame soon in
+      let same : near.second + 1 ≡ m = one_edge d edges quartz (near.second + 1) m (omega (arith, near.near.least, ahead, upto)) (omega (arith, near.near.most, soon, from)) in
+      let here : edges (near.second + 1) ≡ edges m = ap edges same in
+      (omega (arith, near.near.most, here, from), omega (arith, near.near.least, here, upto))
+
+  pub has_vote : AreTrueLately IsTrue (f_of new.clock.redundancy) now calls → (v : KeptClaim) × (vote_at (after_calls new calls) (now % 2 ^ 32) ≡ Some v)
+  has_vote lately =
+      let h = heard_truly IsTrue t edges 549 549 new start begun calls now order lately in
+      let x = some_agree in
+      let same = ap (λ (c : ClockRules). if_come clock (agreed (f_of c.redundancy) (settled clock lines))) (lines_after new start begun calls order.2).same.clock in
+      (x.0, same ∙ vote_comes (IsTrue now) new.rules t edges 549 549 (f_of new.clock.redundancy) now lines (λ i. pulses_on i calls) (truly now) h (ready h) x.0 x.1)
