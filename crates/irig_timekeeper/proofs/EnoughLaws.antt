@@ -1,25 +1,22 @@
 -- A tick has a vote if more than f lines keep the frame that ends at an edge, whatever the others keep.
 use Rattle.std.specs.Prelude.{◌&&◌, count_by, nat_le}
 use Rattle.std.specs.List.{range_with_len}
-use Rattle.std.proofs.Common.{◌≡◌, ◌∙◌, ℕ, zero, suc, ◌+◌, ◌-◌, ◌*◌, ◌%◌, ◌^◌, ◌<◌, ◌≤◌, Bool, true, false, cond, List, [], ◌∷◌, Option, Some, None, refl, sym, ap, subst, arith, inl, inr}
+use Rattle.std.proofs.Common.{◌≡◌, ◌∙◌, ℕ, zero, suc, ◌+◌, ◌-◌, ◌*◌, ◌%◌, ◌^◌, ◌<◌, ◌≤◌, Bool, true, false, cond, List, [], ◌∷◌, Option, Some, refl, sym, ap, subst, arith, inl, inr}
 use Rattle.std.proofs.lemmas.Bool.{cases_Bool, cases_lt, lt-ltb}
 use Rattle.std.proofs.lemmas.List.Sums.{sum_by-cons}
 use Rattle.irig_sync.specs.Sync.{clock_gap}
 use Rattle.irig_sync.specs.Lines.{Pulse}
 use Rattle.irig_time.specs.declared.claim.Claim.{Claim}
-use Rattle.irig_time.specs.declared.rules.Rules.{Rules}
 use Rattle.irig_time.specs.Claims.{same_claim}
-use Rattle.irig_time.specs.Timelines.{TimelineValue, IsTrueClaim, truth_at}
+use Rattle.irig_time.specs.Timelines.{TimelineValue, IsTrueClaim}
 use Rattle.irig_time.proofs.SecondAt.{claim_is}
 use Rattle.irig_vote.specs.Vote.{f_of}
 use Rattle.irig_vote.proofs.CountLaws.{same_itself}
 use Rattle.irig_timekeeper.specs.declared.lines.KeptClaim.{KeptClaim}
 use Rattle.irig_timekeeper.specs.declared.lines.Lines.{Lines}
 use Rattle.irig_timekeeper.specs.declared.clock.ClockRules.{ClockRules}
-use Rattle.irig_timekeeper.specs.Edges.{IsQuartz, IsNear, IsTrueNear}
-use Rattle.irig_timekeeper.specs.Lines.{HasJustCome}
-use Rattle.irig_timekeeper.specs.Counting.{is_late}
-use Rattle.irig_timekeeper.specs.Steps.{line_at, settled, still_kept, claim_kept, all_kept, agrees, agreed, if_come}
+use Rattle.irig_timekeeper.specs.Edges.{IsQuartz}
+use Rattle.irig_timekeeper.specs.Steps.{line_at, settled, claim_kept, all_kept, agrees, agreed, if_come}
 use Rattle.irig_timekeeper.specs.Keeping.{Keeping, vote_at}
 use Rattle.irig_timekeeper.specs.Truth.{AreHeardTruly}
 use Rattle.irig_timekeeper.specs.Life.{Call, after_calls, pulses_on, last_call, AreInOrder, AreTrueLately}

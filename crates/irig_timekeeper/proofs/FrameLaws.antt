@@ -1,11 +1,10 @@
 -- A frame that a line has sent whole is kept until a tick takes it.
 use Rattle.std.specs.Prelude.{◌==◌, nat_lt}
 use Rattle.std.proofs.Common.{◌≡◌, ◌∙◌, ◌⊎◌, ℕ, zero, suc, ◌+◌, ◌-◌, ◌*◌, ◌/◌, ◌%◌, ◌^◌, ◌<◌, ◌≤◌, Bool, true, false, cond, List, [], ◌∷◌, ◌++◌, length, length-append, Option, Some, None, refl, sym, ap, subst, arith, inl, inr}
-use Rattle.std.proofs.lemmas.Bool.{cases_Bool, cases_lt, eqb-true, eqb-false}
+use Rattle.std.proofs.lemmas.Bool.{cases_Bool, eqb-true, eqb-false}
 use Rattle.irig_frame.specs.declared.symbol.Symbol.{Symbol}
-use Rattle.irig_frame.specs.Symbols.{symbol_of}
 use Rattle.irig_frame.specs.FieldTable.{is_marker_place}
-use Rattle.irig_sync.specs.Edges.{element_at, IsClock}
+use Rattle.irig_sync.specs.Edges.{element_at}
 use Rattle.irig_sync.specs.Sync.{is_marker, is_marker_symbol, is_on_time, place_at, place_of, flag}
 use Rattle.irig_sync.specs.Lines.{Pulse, IsTrueLine, IsTimeOf, place_after}
 use Rattle.irig_sync.specs.FaultyLines.{IsPulseOf, ArePulsesBefore}

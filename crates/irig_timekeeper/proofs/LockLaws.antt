@@ -19,7 +19,7 @@ use Rattle.irig_timekeeper.specs.Steps.{tells_of}
 use Rattle.irig_timekeeper.specs.Keeping.{Keeping}
 
 module _ (rules : ReaderRules) (table : TableValue) where
-  missed_are_none : (n : ℕ) (s : State) (votes : List (Option Claim)) → s ≡ state_of rules table votes → missed rules table n s ≡ state_of rules table (then_none n votes)
+  pub missed_are_none : (n : ℕ) (s : State) (votes : List (Option Claim)) → s ≡ state_of rules table votes → missed rules table n s ≡ state_of rules table (then_none n votes)
   missed_are_none zero s votes e = e
   missed_are_none (suc n) s votes e = ap (λ (x : State). (step_of rules table x None).state) (missed_are_none n s votes e)
 

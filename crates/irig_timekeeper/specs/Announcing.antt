@@ -1,7 +1,7 @@
 -- What has to come for a device to announce: more than f lines send a frame whole, and a tick comes
 -- soon behind its end.
 -- Source: IRIG Standard 200-16, format B; this project's profile.
-use Rattle.std.specs.Prelude.{◌≡◌, ℕ, zero, suc, ◌+◌, ◌*◌, ◌<◌, ◌≤◌, ◌⊎◌, Bool, true, List, [], ◌∷◌, ◌++◌, length, count_by, Option, Some, ⊤}
+use Rattle.std.specs.Prelude.{◌≡◌, ℕ, zero, suc, ◌+◌, ◌*◌, ◌%◌, ◌^◌, ◌<◌, ◌≤◌, ◌⊎◌, Bool, true, List, [], ◌∷◌, ◌++◌, length, count_by, Some, ⊤}
 use Rattle.std.specs.List.{range_with_len}
 use Rattle.irig_frame.specs.declared.symbol.Symbol.{Symbol}
 use Rattle.irig_sync.specs.Sync.{is_marker}
@@ -10,15 +10,13 @@ use Rattle.irig_sync.specs.FaultyLines.{ArePulsesBefore}
 use Rattle.irig_time.specs.declared.rules.Rules.{Rules}
 use Rattle.irig_time.specs.declared.second.UtcSecond.{UtcSecond}
 use Rattle.irig_time.specs.declared.claim.Claim.{Claim}
-use Rattle.irig_time.specs.Timelines.{TimelineValue, IsTrueClaim, IsSecond}
+use Rattle.irig_time.specs.Timelines.{TimelineValue, IsTrueClaim}
 use Rattle.irig_port.specs.Told.{told_of}
 use Rattle.irig_port.specs.declared.told.Told.TheVariants as tells
 use Rattle.irig_vote.specs.Vote.{f_of}
 use Rattle.irig_reader.specs.Locking.{voted_report}
 use Rattle.irig_timekeeper.specs.declared.clock.Beat.{Beat}
 use Rattle.irig_timekeeper.specs.Keeping.{Keeping, answer_at}
-use Rattle.irig_timekeeper.specs.Truth.{IsEdgeAt}
-use Rattle.irig_timekeeper.specs.Edges.{IsNear}
 use Rattle.irig_timekeeper.specs.Life.{Call, after_calls, pulses_on, last_tick, AreTrueOver}
 use Rattle.irig_timekeeper.specs.Life.Call.{Tick}
 
@@ -73,16 +71,15 @@ AreWellHeard IsTrue t edges new start m (suc n) calls before =
     × IsWellHeard IsTrue t edges new start (m + n) last older
     × AreWellHeard IsTrue t edges new start m n older before
 
--- among the calls of a second, behind others, is a tick that announces T(m) by a vote, and tells its
--- edge
-pub record Announces (t : TimelineValue) (edges : ℕ → ℕ) (new : Keeping) (m : ℕ)
-    (calls before : List Call) : Type 0 where
+-- one of these calls is a tick that announces T(m), which is u, by a vote, 98 ms behind its edge at
+-- most
+pub record Announces (edges : ℕ → ℕ) (new : Keeping) (m : ℕ) (u : UtcSecond) (calls : List Call)
+    : Type 0 where
   pub now : ℕ
   pub later : List Call
   pub earlier : List Call
   pub are : calls ≡ later ++ (Tick now ∷ earlier)
+  pub soon : now ≤ edges m + 98000
   pub beat : Beat
-  pub answer : answer_at (after_calls new (earlier ++ before)) now ≡ Some beat
-  pub u : UtcSecond
-  pub second : IsSecond t m u
+  pub answer : answer_at (after_calls new earlier) (now % 2 ^ 32) ≡ Some beat
   pub says : beat.report ≡ voted_report u

@@ -1,7 +1,7 @@
 //! Laws of a timekeeper over its definitions. They have no code, and speak of values: no call of a
 //! timekeeper takes a timeline.
 
-ghost use Rattle.std.specs.Prelude.{◌≡◌, ◌+◌, ◌*◌, ◌%◌, ◌^◌, ◌<◌, ◌≤◌, ℕ, List, ◌∷◌, ◌++◌, Option, Some, None, count_by, false};
+ghost use Rattle.std.specs.Prelude.{◌≡◌, ◌+◌, ◌*◌, ◌%◌, ◌^◌, ◌<◌, ◌≤◌, ℕ, suc, List, ◌∷◌, ◌++◌, Option, Some, None, count_by, false};
 ghost use Rattle.irig_frame.specs.declared.symbol.Symbol.{Symbol};
 ghost use Rattle.irig_sync.specs.declared.sync.Sync.{Sync};
 ghost use Rattle.irig_sync.specs.Sync.{place_of};
@@ -25,7 +25,8 @@ ghost use Rattle.irig_timekeeper.specs.Steps.{frame_behind, claim_kept, line_at,
 ghost use Rattle.irig_timekeeper.specs.Clock.{answer_to_vote};
 ghost use Rattle.irig_timekeeper.specs.Keeping.{Keeping, new_keeping, vote_at, after_tick, answer_at, stamp_at};
 ghost use Rattle.irig_timekeeper.specs.Truth.{AreHeardTruly, IsTrueVote, IsOnTrack, IsToldTruly, IsToldInHoldover, IsLaterSecond, IsDevice, IsEdgeAt, AreApartBeats, IsStampedTruly, IsInstant};
-ghost use Rattle.irig_timekeeper.specs.Life.{Call, AreInOrder, AreTrueLately, AreTrueAtTicks, AreTrueOver, after_calls};
+ghost use Rattle.irig_timekeeper.specs.Announcing.{AreWellHeard, Announces};
+ghost use Rattle.irig_timekeeper.specs.Life.{Call, AreInOrder, AreTrueLately, AreTrueAtTicks, AreTrueOver, after_calls, last_call};
 ghost use Rattle.irig_timekeeper.specs.Life.Call.{Tick};
 
 use crate::clock::{Beat, ClockRules};
@@ -255,4 +256,22 @@ pub fn stamps_are_true()
         → (two : IsStampedTruly t others 0 other y)
         → one.m * 1000000 + x.offset_us
         ≤ two.m * 1000000 + y.offset_us + x.bound_us + y.bound_us + 2 * d + 2 * e }
+{}
+
+/// A device announces, and f lines cannot stop it: wherever it stands, let there be seconds in a row,
+/// two more than it locks after, of each of which more than f lines send the frame whole, and let the
+/// first tick that comes 549 us behind its edge or later come at most 98 ms behind, when those lines
+/// have told it. Then a tick of the last of these seconds announces it by a vote, whatever the other
+/// lines send.
+pub fn a_device_announces()
+    ensures { (t : TimelineValue) (edges : ℕ → ℕ) (rules : Rules) (clock : ClockRules)
+        (table : TableValue) (lines : Lines) (start m : ℕ) (calls before : List Call)
+        (u : UtcSecond) → IsDevice t clock.drift_us edges clock.reader_rules table
+        → AreNewLines lines → AreInOrder start clock.redundancy calls → 1 ≤ m
+        → 1 ≤ clock.reader_rules.lock_after → last_call start before + 11000 < edges m
+        → AreWellHeard (IsTrueLately rules t edges) t edges (new_keeping rules clock table lines)
+        start m (suc (suc clock.reader_rules.lock_after)) calls before
+        → IsSecond t (m + 1 + clock.reader_rules.lock_after) u
+        → Announces edges (new_keeping rules clock table lines)
+        (m + 1 + clock.reader_rules.lock_after) u calls }
 {}

@@ -1,0 +1,496 @@
+-- A device whose lines are heard well announces, whatever f of them send.
+use Rattle.std.specs.Prelude.{◌==◌}
+use Rattle.std.proofs.Common.{◌≡◌, ◌∙◌, ◌⊎◌, ℕ, zero, suc, ◌+◌, ◌-◌, ◌%◌, ◌^◌, ◌<◌, ◌≤◌, Bool, true, false, List, [], ◌∷◌, ◌++◌, Option, Some, None, refl, sym, ap, subst, arith, inl, inr}
+use Rattle.std.proofs.lemmas.Bool.{cases_Bool, cases_lt, eqb-true, eqb-false}
+use Rattle.std.proofs.lemmas.List.{append_assoc}
+use Rattle.irig_sync.specs.Lines.{Pulse}
+use Rattle.irig_time.specs.declared.claim.Claim.{Claim}
+use Rattle.irig_time.specs.declared.second.UtcSecond.{UtcSecond}
+use Rattle.irig_time.specs.Tables.{TableValue}
+use Rattle.irig_time.specs.Timelines.{TimelineValue, IsSecond, truth_at}
+use Rattle.irig_time.proofs.SecondAt.{claim_is}
+use Rattle.irig_vote.specs.Vote.{f_of}
+use Rattle.irig_reader.specs.declared.rule.State.{State}
+use Rattle.irig_reader.specs.Held.{then_none}
+use Rattle.irig_reader.specs.Locking.{then_true}
+use Rattle.irig_reader.specs.Rule.{step_of, state_of, report_of}
+use Rattle.irig_reader.proofs.TrueVotesInARow.{locked_from_anywhere}
+use Rattle.irig_timekeeper.specs.declared.lines.KeptClaim.{KeptClaim}
+use Rattle.irig_timekeeper.specs.declared.clock.Beat.{Beat}
+use Rattle.irig_timekeeper.specs.declared.clock.ClockRules.{ClockRules}
+use Rattle.irig_timekeeper.specs.declared.clock.ClockState.{ClockState}
+use Rattle.irig_timekeeper.specs.Edges.{IsNear}
+use Rattle.irig_timekeeper.specs.Counting.{edges_to_vote, edges_own}
+use Rattle.irig_timekeeper.specs.Rule.{missed}
+use Rattle.irig_timekeeper.specs.Steps.{is_pulse, settled, agreed, if_come}
+use Rattle.irig_timekeeper.specs.Clock.{step_to, beat_by, after_vote, answer_to_vote, after_own, clock_by, answer_by, settled_at}
+use Rattle.irig_timekeeper.specs.Keeping.{Keeping, vote_at, after_pulse, after_tick, answer_at}
+use Rattle.irig_timekeeper.specs.Truth.{IsEdgeAt, IsDevice}
+use Rattle.irig_timekeeper.specs.Life.{Call, after_calls, pulses_on, last_call, last_tick, AreInOrder, AreTrueLately, AreTrueOver}
+use Rattle.irig_timekeeper.specs.Life.Call.{Hear, Tick}
+use Rattle.irig_timekeeper.specs.Announcing.{IsWellHeard, AreWellHeard, Announces}
+use Rattle.irig_timekeeper.proofs.CountingLaws.{counts}
+use Rattle.irig_timekeeper.proofs.TimeLaws.{own_come, own_count, still_edge, voted_count}
+use Rattle.irig_timekeeper.proofs.VoteLaws.{vote_is_true}
+use Rattle.irig_timekeeper.proofs.LockLaws.{missed_are_none}
+use Rattle.irig_timekeeper.proofs.LifeLaws.{AreLinesAt, lines_after, TellAlwaysTruly, heard_truly, order_before}
+use Rattle.irig_timekeeper.proofs.OrderLaws.{IsSetByVote, set_before, votes_apart, edge_of}
+use Rattle.irig_timekeeper.proofs.FrameLaws.{HaveNoVotes, whole_kept}
+use Rattle.irig_timekeeper.proofs.EnoughLaws.{one_edge, has_vote}
+
+-- ---- what a tick leaves
+
+-- without a vote, and before the own counter counts
+record IsQuiet (old new : ClockState) : Type 0 where
+  edge : new.edge_us ≡ old.edge_us
+  reader : new.reader ≡ old.reader
+
+quiet : (k : Keeping) (clock : ℕ) → vote_at k clock ≡ None → edges_own k.state.edge_us clock ≡ 0 → IsQuiet k.state (after_tick k clock).state
+quiet k clock none nothing = of (vote_at k clock) none
+  where
+    s : ClockState
+    s = settled_at k.state clock
+
+    by : (n : ℕ) → n ≡ 0 → IsQuiet k.state (after_own k.clock k.table s n)
+    by n e = rw e (record { edge = refl; reader = refl })
+
+    of : (o : Option KeptClaim) → o ≡ None → IsQuiet k.state (clock_by k.clock k.table s clock o)
+    of (Some v) e = absurd cc
+    of None e = by (edges_own k.state.edge_us clock) nothing
+
+-- with one, by the edges that it counts
+record IsVoted (c : ClockRules) (table : TableValue) (s : ClockState) (v : KeptClaim) (n : ℕ) (new : ClockState) (answer : Option Beat) : Type 0 where
+  edge : new.edge_us ≡ Some v.end_us
+  none : n ≡ 0 → new.reader ≡ s.reader
+  some : 1 ≤ n → new.reader ≡ (step_to c table s n (Some v.claim)).state
+  tells : 1 ≤ n → (b : Beat) × (answer ≡ Some b) × (b.report ≡ (step_to c table s n (Some v.claim)).report)
+
+voted_by : (c : ClockRules) (table : TableValue) (s : ClockState) (v : KeptClaim) (n : ℕ) → IsVoted c table s v n (after_vote c table s v n) (answer_to_vote c table s v n)
+voted_by c table s v n = elim (cases_Bool (n == 0)) [
+  | inl waits ↦
+      let nothing : n ≡ 0 = eqb-true n 0 waits in
+      rw waits (record { edge = refl; none = λ e. refl; some = λ e. absurd (omega (arith, e, nothing)); tells = λ e. absurd (omega (arith, e, nothing)) })
+  | inr more ↦
+      let apart = eqb-false n 0 more in
+      rw more (record { edge = refl; none = λ e. absurd (apart e); some = λ e. refl; tells = λ e. (beat_by s (step_to c table s n (Some v.claim)) (n - 1) v.end_us, refl, refl) })
+]
+
+voted : (k : Keeping) (clock : ℕ) (v : KeptClaim) → vote_at k clock ≡ Some v → IsVoted k.clock k.table (settled_at k.state clock) v (edges_to_vote k.state.edge_us v.end_us) (after_tick k clock).state (answer_at k clock)
+voted k clock v e = of (vote_at k clock) e
+  where
+    s : ClockState
+    s = settled_at k.state clock
+
+    of : (o : Option KeptClaim) → o ≡ Some v → IsVoted k.clock k.table s v (edges_to_vote k.state.edge_us v.end_us) (clock_by k.clock k.table s clock o) (answer_by k.clock k.table s clock o)
+    of None e = absurd cc
+    of (Some x) e =
+        let same : v ≡ x = cc in
+        subst (λ (y : KeptClaim). IsVoted k.clock k.table s y (edges_to_vote k.state.edge_us y.end_us) (after_vote k.clock k.table s x (edges_to_vote k.state.edge_us x.end_us)) (answer_to_vote k.clock k.table s x (edges_to_vote k.state.edge_us x.end_us))) (sym same)
+        (voted_by k.clock k.table s x (edges_to_vote k.state.edge_us x.end_us))
+
+-- a tick leaves the reader, or steps on by some edges and a vote, or none
+abbrev Stepped : ClockRules → TableValue → State → State → Type 0
+Stepped c table old new = (new ≡ old) ⊎ ((n : ℕ) × (vote : Option Claim) × (new ≡ (step_of c.reader_rules table (missed c.reader_rules table n old) vote).state))
+
+stepped : (k : Keeping) (clock : ℕ) → Stepped k.clock k.table k.state.reader (after_tick k clock).state.reader
+stepped k clock = of (vote_at k clock)
+  where
+    s : ClockState
+    s = settled_at k.state clock
+
+    own : (n : ℕ) (test : Bool) → (n == 0) ≡ test → Stepped k.clock k.table k.state.reader (after_own k.clock k.table s n).reader
+    own n true e = rw e (inl refl)
+    own n false e = rw e (inr (n - 1, None, refl))
+
+    by_vote : (v : KeptClaim) (n : ℕ) (test : Bool) → (n == 0) ≡ test → Stepped k.clock k.table k.state.reader (after_vote k.clock k.table s v n).reader
+    by_vote v n true e = rw e (inl refl)
+    by_vote v n false e = rw e (inr (n - 1, Some v.claim, refl))
+
+    of : (o : Option KeptClaim) → Stepped k.clock k.table k.state.reader (clock_by k.clock k.table s clock o).reader
+    of None = own (edges_own k.state.edge_us clock) _ refl
+    of (Some v) = by_vote v (edges_to_vote k.state.edge_us v.end_us) _ refl
+
+-- a pulse changes neither the edge nor the reader
+passes_by : (k : Keeping) (port rise width : ℕ) → IsQuiet k.state (after_pulse k port rise width).state
+passes_by k port rise width = elim (cases_Bool (is_pulse width)) [ inl narrow ↦ rw narrow (record { edge = refl; reader = refl }) | inr wide ↦ rw wide (record { edge = refl; reader = refl }) ]
+
+-- ---- the seconds
+
+module _ (IsTrue : ℕ → List Pulse → Type 0) (t : TimelineValue) (edges : ℕ → ℕ) (new : Keeping) (start : ℕ) (begun : AreLinesAt new new (λ i. []) start start) (is : IsDevice t new.clock.drift_us edges new.clock.reader_rules new.table) (truly : TellAlwaysTruly IsTrue new.rules t edges 549 549) where
+  abbrev state : List Call → ClockState
+  state calls = (after_calls new calls).state
+
+  abbrev f : ℕ
+  f = f_of new.clock.redundancy
+
+  abbrev Reads : List (Option Claim) → State → Type 0
+  Reads votes reader = reader ≡ state_of new.clock.reader_rules new.table votes
+
+  -- the last edge was voted near the m-th, and the reader has had these votes
+  record IsVotedAt (m : ℕ) (votes : List (Option Claim)) (calls : List Call) : Type 0 where
+    e : ℕ
+    edge : (state calls).edge_us ≡ Some e
+    V : ℕ
+    at : IsEdgeAt e V (last_tick start calls)
+    near : IsNear edges 1549 549 m V
+    set : IsSetByVote new start begun V calls
+    reads : Reads votes (state calls).reader
+
+  -- one of these calls, behind those, is a tick that reports this vote behind those
+  record IsReported (m : ℕ) (vote : Option Claim) (votes : List (Option Claim)) (later older : List Call) : Type 0 where
+    now : ℕ
+    x : List Call
+    y : List Call
+    are : later ≡ x ++ (Tick now ∷ y)
+    soon : now ≤ edges m + 98000
+    beat : Beat
+    answer : answer_at (after_calls new (y ++ older)) (now % 2 ^ 32) ≡ Some beat
+    report : beat.report ≡ report_of new.clock.reader_rules new.table vote votes
+
+  reported_on : (m : ℕ) (vote : Option Claim) (votes : List (Option Claim)) (call : Call) (later older : List Call) → IsReported m vote votes later older → IsReported m vote votes (call ∷ later) older
+  reported_on m vote votes call later older r = record { now = r.now; x = call ∷ r.x; y = r.y; are = ap (λ (l : List Call). call ∷ l) r.are; soon = r.soon; beat = r.beat; answer = r.answer; report = r.report }
+
+  same_clock : (calls : List Call) → AreInOrder start new.clock.redundancy calls → (after_calls new calls).clock ≡ new.clock
+  same_clock calls order = (lines_after new start begun calls order).same.clock
+
+  same_table : (calls : List Call) → AreInOrder start new.clock.redundancy calls → (after_calls new calls).table ≡ new.table
+  same_table calls order = (lines_after new start begun calls order).same.table
+
+  -- ---- what keeps it so
+
+  voted_hears : (m : ℕ) (votes : List (Option Claim)) (port time rise width : ℕ) (calls : List Call) → IsVotedAt m votes calls → IsVotedAt m votes (Hear port time rise width ∷ calls)
+  voted_hears m votes port time rise width calls v =
+      let same = passes_by (after_calls new calls) port (rise % 2 ^ 32) width in
+      record {
+        e = v.e;
+        edge = same.edge ∙ v.edge;
+        V = v.V;
+        at = v.at;
+        near = v.near;
+        set = set_before new start begun v.V (Hear port time rise width) calls v.set;
+        reads = same.reader ∙ v.reads;
+      }
+
+  ordered : (calls : List Call) (now : ℕ) → AreInOrder start new.clock.redundancy (Tick now ∷ calls) → last_tick start calls ≤ now
+  ordered calls now order = let l = lines_after new start begun calls order.2 in omega (arith, l.order, order.0)
+
+  voted_waits : (m : ℕ) (votes : List (Option Claim)) (now : ℕ) (calls : List Call) → AreInOrder start new.clock.redundancy (Tick now ∷ calls) → vote_at (after_calls new calls) (now % 2 ^ 32) ≡ None → (v : IsVotedAt m votes calls) → now < v.V + 1005000 → IsVotedAt m votes (Tick now ∷ calls)
+  voted_waits m votes now calls order none v soon =
+      let count = own_count (last_tick start calls) now (ordered calls now order) (omega (arith, order.1)) v.e v.V v.at in
+      let waits : own_come v.V now ≡ 0 = omega (arith, soon) in
+      let nothing : edges_own (state calls).edge_us (now % 2 ^ 32) ≡ 0 = ap (λ (o : Option ℕ). edges_own o (now % 2 ^ 32)) v.edge ∙ count ∙ waits in
+      let same = quiet (after_calls new calls) (now % 2 ^ 32) none nothing in
+      record {
+        e = v.e;
+        edge = same.edge ∙ v.edge;
+        V = v.V;
+        at = still_edge (last_tick start calls) now (ordered calls now order) (omega (arith, order.1)) v.e v.V v.at waits;
+        near = v.near;
+        set = set_before new start begun v.V (Tick now) calls v.set;
+        reads = same.reader ∙ v.reads;
+      }
+
+  -- two votes do not come in one second
+  far_apart : (V now : ℕ) (calls : List Call) → AreInOrder start new.clock.redundancy (Tick now ∷ calls) → IsSetByVote new start begun V calls → (v : KeptClaim) → vote_at (after_calls new calls) (now % 2 ^ 32) ≡ Some v → (V' : ℕ) → IsEdgeAt v.end_us V' now → V + 890000 ≤ V'
+  far_apart V now calls order set v voted V' at =
+      votes_apart new start begun set.earlier set.later set.before now set.v v V V'
+      (subst (λ (c : List Call). AreInOrder start new.clock.redundancy (Tick now ∷ c)) set.are order) set.voted set.at
+      (subst (λ (c : List Call). vote_at (after_calls new c) (now % 2 ^ 32) ≡ Some v) set.are voted) at
+
+  no_second : (m : ℕ) (votes : List (Option Claim)) (now : ℕ) (calls : List Call) → AreInOrder start new.clock.redundancy (Tick now ∷ calls) → now ≤ edges m + 98000 → IsVotedAt m votes calls → vote_at (after_calls new calls) (now % 2 ^ 32) ≡ None
+  no_second m votes now calls order upto v = of (vote_at (after_calls new calls) (now % 2 ^ 32)) refl
+    where
+      of : (o : Option KeptClaim) → vote_at (after_calls new calls) (now % 2 ^ 32) ≡ o → o ≡ None
+      of None e = refl
+      of (Some x) e =
+          let V' = edge_of new start begun calls now order x e in
+          let far = far_apart v.V now calls order v.set x e V'.0 V'.1 in
+          absurd (omega (arith, far, V'.1.come, v.near.least, upto))
+
+  -- ---- a vote of the m-th second
+
+  record IsVoteOf (m now : ℕ) (v : KeptClaim) : Type 0 where
+    V : ℕ
+    at : IsEdgeAt v.end_us V now
+    close : now ≤ V + 100000
+    near : IsNear edges 1549 549 m V
+    claim : truth_at t (m - 1) ≡ Some v.claim
+
+  vote_of : (m now : ℕ) (calls : List Call) → AreInOrder start new.clock.redundancy (Tick now ∷ calls) → AreTrueLately IsTrue f now calls → edges m ≤ now + 890000 → now ≤ edges m + 98000 → (v : KeptClaim) → vote_at (after_calls new calls) (now % 2 ^ 32) ≡ Some v → IsVoteOf m now v
+  vote_of m now calls order lately from upto v voted =
+      let h = heard_truly IsTrue t edges 549 549 new start begun calls now order lately in
+      let same = ap (λ (c : ClockRules). if_come (now % 2 ^ 32) (agreed (f_of c.redundancy) (settled (now % 2 ^ 32) (state calls).lines))) (sym (same_clock calls order.2)) in
+      let vote = vote_is_true (IsTrue now) new.rules t edges 549 549 f now (state calls).lines (λ i. pulses_on i calls) (truly now) h v (same ∙ voted) in
+      let here : vote.truth.second + 1 ≡ m = one_edge new.clock.drift_us edges is.steady (vote.truth.second + 1) m (omega (arith, vote.truth.near.least, vote.come, upto)) (omega (arith, vote.truth.near.most, vote.soon, from)) in
+      let before : vote.truth.second ≡ m - 1 = omega (arith, here) in
+      record {
+        V = vote.end;
+        at = record { clock = vote.clock; come = vote.come; soon = omega (arith, vote.soon) };
+        close = vote.soon;
+        near = subst (λ (i : ℕ). IsNear edges 1549 549 i vote.end) here (record { least = omega (arith, vote.truth.near.least); most = omega (arith, vote.truth.near.most) });
+        claim = ap (truth_at t) (sym before) ∙ (claim_is t vote.truth.second v.claim).1 vote.truth.truth;
+      }
+
+  -- wherever the device stood, it then stands there
+  record IsReached (calls : List Call) : Type 0 where
+    votes : List (Option Claim)
+    reads : Reads votes (state calls).reader
+
+  set_here : (V now : ℕ) (calls : List Call) (v : KeptClaim) → vote_at (after_calls new calls) (now % 2 ^ 32) ≡ Some v → IsEdgeAt v.end_us V now → IsSetByVote new start begun V (Tick now ∷ calls)
+  set_here V now calls v voted at = record { earlier = calls; later = []; before = now; v = v; are = refl; voted = voted; at = at }
+
+  record IsFirstVoted (m : ℕ) (calls : List Call) : Type 0 where
+    votes : List (Option Claim)
+    voted_at : IsVotedAt m votes calls
+
+  step_reads : (k : Keeping) (n : ℕ) (votes : List (Option Claim)) (v : KeptClaim) → k.clock ≡ new.clock → k.table ≡ new.table → Reads votes k.state.reader → (step_to k.clock k.table (settled_at k.state 0) n (Some v.claim)).state ≡ state_of new.clock.reader_rules new.table (Some v.claim ∷ then_none (n - 1) votes)
+  step_reads k n votes v clock table reads =
+      ap (λ (c : ClockRules). (step_of c.reader_rules k.table (missed c.reader_rules k.table (n - 1) k.state.reader) (Some v.claim)).state) clock
+      ∙ ap (λ (x : TableValue). (step_of new.clock.reader_rules x (missed new.clock.reader_rules x (n - 1) k.state.reader) (Some v.claim)).state) table
+      ∙ ap (λ (s : State). (step_of new.clock.reader_rules new.table s (Some v.claim)).state) (missed_are_none new.clock.reader_rules new.table (n - 1) k.state.reader votes reads)
+
+  first_voted : (m now : ℕ) (calls : List Call) → AreInOrder start new.clock.redundancy (Tick now ∷ calls) → (v : KeptClaim) → vote_at (after_calls new calls) (now % 2 ^ 32) ≡ Some v → IsVoteOf m now v → IsReached calls → IsFirstVoted m (Tick now ∷ calls)
+  first_voted m now calls order v is_voted vote reached =
+      let k : Keeping = after_calls new calls in
+      let n : ℕ = edges_to_vote k.state.edge_us v.end_us in
+      let left = voted k (now % 2 ^ 32) v is_voted in
+      elim (cases_Bool (n == 0)) [
+        | inl waits ↦ by reached.votes (left.none (eqb-true n 0 waits) ∙ reached.reads) left.edge
+        | inr more ↦
+            let some : 1 ≤ n = (let apart = eqb-false n 0 more in omega (arith, apart)) in
+            by (Some v.claim ∷ then_none (n - 1) reached.votes) (left.some some ∙ step_reads k n reached.votes v (same_clock calls order.2) (same_table calls order.2) reached.reads) left.edge
+      ]
+    where
+      by : (votes : List (Option Claim)) → Reads votes (state (Tick now ∷ calls)).reader → (state (Tick now ∷ calls)).edge_us ≡ Some v.end_us → IsFirstVoted m (Tick now ∷ calls)
+      by votes reads edge = record {
+        votes = votes;
+        voted_at = record { e = v.end_us; edge = edge; V = vote.V; at = vote.at; near = vote.near; set = set_here vote.V now calls v is_voted vote.at; reads = reads };
+      }
+
+  -- behind a second that was voted it counts one
+  counts_one : (m now : ℕ) (votes : List (Option Claim)) (calls : List Call) → AreInOrder start new.clock.redundancy (Tick now ∷ calls) → (v : KeptClaim) (vote : IsVoteOf (m + 1) now v) → (at : IsVotedAt m votes calls) → edges_to_vote (state calls).edge_us v.end_us ≡ 1
+  counts_one m now votes calls order v vote at =
+      ap (λ (o : Option ℕ). edges_to_vote o v.end_us) at.edge
+      ∙ voted_count (last_tick start calls) now (ordered calls now order) (omega (arith, order.1)) at.e at.V at.at v.end_us vote.V vote.at vote.close
+      ∙ counts new.clock.drift_us 1549 549 1549 549 m 1 at.V vote.V edges is.steady at.near vote.near (omega (arith, is.steady.few)) (omega (arith, is.steady.few))
+
+  record IsVotedNext (m : ℕ) (votes : List (Option Claim)) (now : ℕ) (calls : List Call) : Type 0 where
+    voted_at : IsVotedAt (m + 1) (truth_at t m ∷ votes) (Tick now ∷ calls)
+    beat : Beat
+    answer : answer_at (after_calls new calls) (now % 2 ^ 32) ≡ Some beat
+    report : beat.report ≡ report_of new.clock.reader_rules new.table (truth_at t m) votes
+
+  next_voted : (m now : ℕ) (votes : List (Option Claim)) (calls : List Call) → AreInOrder start new.clock.redundancy (Tick now ∷ calls) → (v : KeptClaim) → vote_at (after_calls new calls) (now % 2 ^ 32) ≡ Some v → IsVoteOf (m + 1) now v → IsVotedAt m votes calls → IsVotedNext m votes now calls
+  next_voted m now votes calls order v is_voted vote at =
+      let k : Keeping = after_calls new calls in
+      let n : ℕ = edges_to_vote k.state.edge_us v.end_us in
+      let one : n ≡ 1 = counts_one m now votes calls order v vote at in
+      let some : 1 ≤ n = omega (arith, one) in
+      let left = voted k (now % 2 ^ 32) v is_voted in
+      let told = left.tells some in
+      let same : m + 1 - 1 ≡ m = omega arith in
+      let claim : Some v.claim ≡ truth_at t m = sym vote.claim ∙ ap (truth_at t) same in
+      record {
+        voted_at = record {
+          e = v.end_us;
+          edge = left.edge;
+          V = vote.V;
+          at = vote.at;
+          near = vote.near;
+          set = set_here vote.V now calls v is_voted vote.at;
+          reads = left.some some ∙ ap (λ (x : ℕ). (step_to k.clock k.table (settled_at k.state 0) x (Some v.claim)).state) one ∙ step_reads k 1 votes v (same_clock calls order.2) (same_table calls order.2) at.reads ∙ ap (λ (o : Option Claim). state_of new.clock.reader_rules new.table (o ∷ votes)) claim;
+        };
+        beat = told.0;
+        answer = told.1;
+        report =
+            told.2
+            ∙ ap (λ (x : ℕ). (step_to k.clock k.table (settled_at k.state 0) x (Some v.claim)).report) one
+            ∙ ap (λ (c : ClockRules). (step_of c.reader_rules k.table k.state.reader (Some v.claim)).report) (same_clock calls order.2)
+            ∙ ap (λ (x : TableValue). (step_of new.clock.reader_rules x k.state.reader (Some v.claim)).report) (same_table calls order.2)
+            ∙ ap (λ (s : State). (step_of new.clock.reader_rules new.table s (Some v.claim)).report) at.reads
+            ∙ ap (λ (o : Option Claim). report_of new.clock.reader_rules new.table o votes) claim;
+      }
+
+  -- ---- over the calls of a second
+
+  Waits : ℕ → List (Option Claim) → List Call → List Call → Type 0
+  Waits m votes later older = IsVotedAt m votes (later ++ older) × HaveNoVotes new (edges (m + 1) - 11000) later older
+
+  Goes : ℕ → List (Option Claim) → List Call → List Call → Type 0
+  Goes m votes later older = IsVotedAt (m + 1) (truth_at t m ∷ votes) (later ++ older) × IsReported (m + 1) (truth_at t m) votes later older
+
+  -- one that comes before has none
+  walk : (m : ℕ) (votes : List (Option Claim)) (older : List Call) → IsVotedAt m votes older → (later : List Call) → AreInOrder start new.clock.redundancy (later ++ older) → AreTrueOver IsTrue f later older → last_tick start (later ++ older) < edges (m + 1) + 549 → Waits m votes later older ⊎ Goes m votes later older
+  unfolding Waits Goes
+  walk m votes older at [] order truth early = inl (at, tt)
+  walk m votes older at (Hear port time rise width ∷ later) order truth early = elim (walk m votes older at later order.4 truth early) [
+    | inl waits ↦ inl (voted_hears m votes port time rise width (later ++ older) waits.0, waits.1)
+    | inr goes ↦ inr (voted_hears (m + 1) (truth_at t m ∷ votes) port time rise width (later ++ older) goes.0, reported_on (m + 1) (truth_at t m) votes (Hear port time rise width) later older goes.1)
+  ]
+  walk m votes older at (Tick now ∷ later) order truth early = elim (walk m votes older at later order.2 truth.1 (omega (arith, ordered (later ++ older) now order, early))) [
+    | inl waits ↦ by waits (vote_at (after_calls new (later ++ older)) (now % 2 ^ 32)) refl
+    | inr goes ↦
+        let none = no_second (m + 1) (truth_at t m ∷ votes) now (later ++ older) order (omega (arith, early)) goes.0 in
+        inr (
+          voted_waits (m + 1) (truth_at t m ∷ votes) now (later ++ older) order none goes.0 (omega (arith, goes.0.near.least, early)),
+          reported_on (m + 1) (truth_at t m) votes (Tick now) later older goes.1,
+        )
+  ]
+    where
+      by : Waits m votes later older → (o : Option KeptClaim) → vote_at (after_calls new (later ++ older)) (now % 2 ^ 32) ≡ o → Waits m votes (Tick now ∷ later) older ⊎ Goes m votes (Tick now ∷ later) older
+      by waits None e = inl (voted_waits m votes now (later ++ older) order e waits.0 (omega (arith, waits.0.near.least, early, is.steady.steady.most m, is.steady.few)), (λ _. e, waits.1))
+      by waits (Some v) e =
+          let V' = edge_of new start begun (later ++ older) now order v e in
+          let far = far_apart waits.0.V now (later ++ older) order waits.0.set v e V'.0 V'.1 in
+          let vote = vote_of (m + 1) now (later ++ older) order truth.0 (omega (arith, far, V'.1.come, waits.0.near.least, is.steady.steady.most m, is.steady.few)) (omega (arith, early)) v e in
+          let next = next_voted m now votes (later ++ older) order v e vote waits.0 in
+          inr (next.voted_at, record { now = now; x = []; y = later; are = refl; soon = omega (arith, early); beat = next.beat; answer = next.answer; report = next.report })
+
+  -- the last of them has one, if none has
+  finish : (m : ℕ) (votes : List (Option Claim)) (older last : List Call) → IsVotedAt m votes older → last_call start older + 11000 < edges (m + 1) → (w : IsWellHeard IsTrue t edges new start (m + 1) last older) → AreInOrder start new.clock.redundancy (last ++ older) → Goes m votes last older
+  unfolding Goes Waits
+  finish m votes older last at past w order =
+      subst (λ (x : List Call). Goes m votes x older) (sym w.are)
+      (by (subst (λ (x : List Call). AreInOrder start new.clock.redundancy (x ++ older)) w.are order) (subst (λ (x : List Call). AreTrueOver IsTrue f x older) w.are w.truth))
+    where
+      by : AreInOrder start new.clock.redundancy (Tick w.now ∷ (w.others ++ older)) → AreTrueOver IsTrue f (Tick w.now ∷ w.others) older → Goes m votes (Tick w.now ∷ w.others) older
+      by order truth = elim (walk m votes older at w.others order.2 truth.1 w.early) [
+        | inr goes ↦
+            let none = no_second (m + 1) (truth_at t m ∷ votes) w.now (w.others ++ older) order w.soon goes.0 in (
+              voted_waits (m + 1) (truth_at t m ∷ votes) w.now (w.others ++ older) order none goes.0 (omega (arith, goes.0.near.least, w.soon)),
+              reported_on (m + 1) (truth_at t m) votes (Tick w.now) w.others older goes.1,
+            )
+        | inl waits ↦
+            let has = has_vote IsTrue t new.clock.drift_us edges is.steady new start begun truly (m + 1) (omega arith) older past (w.others ++ older) w.now order w.come w.soon w.whole w.many
+            (λ i small is_whole. whole_kept t new.clock.drift_us edges is.steady new start begun i small (m + 1) older past w.others order.2 waits.1 (omega (arith, order.0, w.soon)) (w.frames i small is_whole)) truth.0 in
+            let vote = vote_of (m + 1) w.now (w.others ++ older) order truth.0 (omega (arith, w.come)) w.soon has.0 has.1 in
+            let next = next_voted m w.now votes (w.others ++ older) order has.0 has.1 vote waits.0 in
+            (next.voted_at, record { now = w.now; x = []; y = w.others; are = refl; soon = w.soon; beat = next.beat; answer = next.answer; report = next.report })
+      ]
+
+  -- ---- the first second, from wherever the device stands
+
+  module _ (fresh : new.state.reader ≡ state_of new.clock.reader_rules new.table []) where
+    reached : (calls : List Call) → AreInOrder start new.clock.redundancy calls → IsReached calls
+    reached [] order = record { votes = []; reads = fresh }
+    reached (Hear port time rise width ∷ calls) order =
+        let before = reached calls order.4 in
+        record { votes = before.votes; reads = (passes_by (after_calls new calls) port (rise % 2 ^ 32) width).reader ∙ before.reads }
+    reached (Tick now ∷ calls) order = by (reached calls order.2) (stepped (after_calls new calls) (now % 2 ^ 32))
+      where
+        by : IsReached calls → Stepped (after_calls new calls).clock (after_calls new calls).table (state calls).reader (state (Tick now ∷ calls)).reader → IsReached (Tick now ∷ calls)
+        by before (inl same) = record { votes = before.votes; reads = same ∙ before.reads }
+        by before (inr step) = record {
+          votes = step.1 ∷ then_none step.0 before.votes;
+          reads =
+              step.2
+              ∙ ap (λ (c : ClockRules). (step_of c.reader_rules (after_calls new calls).table (missed c.reader_rules (after_calls new calls).table step.0 (state calls).reader) step.1).state) (same_clock calls order.2)
+              ∙ ap (λ (x : TableValue). (step_of new.clock.reader_rules x (missed new.clock.reader_rules x step.0 (state calls).reader) step.1).state) (same_table calls order.2)
+              ∙ ap (λ (s : State). (step_of new.clock.reader_rules new.table s step.1).state) (missed_are_none new.clock.reader_rules new.table step.0 (state calls).reader before.votes before.reads);
+        }
+
+    walk_first : (m : ℕ) (older later : List Call) → AreInOrder start new.clock.redundancy (later ++ older) → AreTrueOver IsTrue f later older → last_tick start (later ++ older) < edges m + 549 → HaveNoVotes new (edges m - 11000) later older ⊎ IsFirstVoted m (later ++ older)
+    walk_first m older [] order truth early = inl tt
+    walk_first m older (Hear port time rise width ∷ later) order truth early = elim (walk_first m older later order.4 truth early) [
+      | inl none ↦ inl none
+      | inr v ↦ inr (record { votes = v.votes; voted_at = voted_hears m v.votes port time rise width (later ++ older) v.voted_at })
+    ]
+    walk_first m older (Tick now ∷ later) order truth early = elim (walk_first m older later order.2 truth.1 (omega (arith, ordered (later ++ older) now order, early))) [
+      | inr v ↦
+          let none = no_second m v.votes now (later ++ older) order (omega (arith, early)) v.voted_at in
+          inr (record { votes = v.votes; voted_at = voted_waits m v.votes now (later ++ older) order none v.voted_at (omega (arith, v.voted_at.near.least, early)) })
+      | inl none ↦ by none (vote_at (after_calls new (later ++ older)) (now % 2 ^ 32)) refl
+    ]
+      where
+        by : HaveNoVotes new (edges m - 11000) later older → (o : Option KeptClaim) → vote_at (after_calls new (later ++ older)) (now % 2 ^ 32) ≡ o → HaveNoVotes new (edges m - 11000) (Tick now ∷ later) older ⊎ IsFirstVoted m (Tick now ∷ (later ++ older))
+        by none None e = inl (λ _. e, none)
+        by none (Some v) e = elim (cases_lt (now + 11000) (edges m)) [
+          | inl before ↦ inl (λ from. absurd (omega (arith, from, before)), none)
+          | inr behind ↦
+              let vote = vote_of m now (later ++ older) order truth.0 (omega (arith, behind)) (omega (arith, early)) v e in
+              inr (first_voted m now (later ++ older) order v e vote (reached (later ++ older) order.2))
+        ]
+
+    finish_first : (m : ℕ) → 1 ≤ m → (older last : List Call) → last_call start older + 11000 < edges m → (w : IsWellHeard IsTrue t edges new start m last older) → AreInOrder start new.clock.redundancy (last ++ older) → IsFirstVoted m (last ++ older)
+    finish_first m some older last past w order =
+        subst (λ (x : List Call). IsFirstVoted m (x ++ older)) (sym w.are)
+        (by (subst (λ (x : List Call). AreInOrder start new.clock.redundancy (x ++ older)) w.are order) (subst (λ (x : List Call). AreTrueOver IsTrue f x older) w.are w.truth))
+      where
+        by : AreInOrder start new.clock.redundancy (Tick w.now ∷ (w.others ++ older)) → AreTrueOver IsTrue f (Tick w.now ∷ w.others) older → IsFirstVoted m (Tick w.now ∷ (w.others ++ older))
+        by order truth = elim (walk_first m older w.others order.2 truth.1 w.early) [
+          | inr v ↦
+              let none = no_second m v.votes w.now (w.others ++ older) order w.soon v.voted_at in
+              record { votes = v.votes; voted_at = voted_waits m v.votes w.now (w.others ++ older) order none v.voted_at (omega (arith, v.voted_at.near.least, w.soon)) }
+          | inl none ↦
+              let has = has_vote IsTrue t new.clock.drift_us edges is.steady new start begun truly m some older past (w.others ++ older) w.now order w.come w.soon w.whole w.many
+              (λ i small is_whole. whole_kept t new.clock.drift_us edges is.steady new start begun i small m older past w.others order.2 none (omega (arith, order.0, w.soon)) (w.frames i small is_whole)) truth.0 in
+              let vote = vote_of m w.now (w.others ++ older) order truth.0 (omega (arith, w.come)) w.soon has.0 has.1 in
+              first_voted m w.now (w.others ++ older) order has.0 has.1 vote (reached (w.others ++ older) order.2)
+        ]
+
+    -- ---- seconds in a row
+
+    record IsRow (a n : ℕ) (votes : List (Option Claim)) (calls : List Call) : Type 0 where
+      voted_at : IsVotedAt (a + n) (then_true t a n votes) calls
+      upto : last_call start calls ≤ edges (a + n) + 98000
+
+    last_is : (m : ℕ) (last older : List Call) → IsWellHeard IsTrue t edges new start m last older → last_call start (last ++ older) ≤ edges m + 98000
+    last_is m last older w = subst (λ (x : List Call). last_call start (x ++ older) ≤ edges m + 98000) (sym w.are) w.soon
+
+    row : (a : ℕ) → 1 ≤ a → (before : List Call) → last_call start before + 11000 < edges a → (n : ℕ) (calls : List Call) → AreWellHeard IsTrue t edges new start a (suc n) calls before → AreInOrder start new.clock.redundancy calls → (votes : List (Option Claim)) × IsRow a n votes calls
+    unfolding Goes
+    row a some before past zero calls heard order =
+        let last : List Call = heard.0 in
+        let here : heard.1 ≡ before = heard.4 in
+        let are : calls ≡ last ++ before = heard.2 ∙ ap (λ (x : List Call). last ++ x) here in
+        let same : a + 0 ≡ a = omega arith in
+        let w = subst (λ (m : ℕ). IsWellHeard IsTrue t edges new start m last before) same (subst (λ (x : List Call). IsWellHeard IsTrue t edges new start (a + 0) last x) here heard.3) in
+        let first = finish_first a some before last past w (subst (AreInOrder start new.clock.redundancy) are order) in (
+          first.votes,
+          record {
+            voted_at = subst (λ (m : ℕ). IsVotedAt m first.votes calls) (sym same) (subst (IsVotedAt a first.votes) (sym are) first.voted_at);
+            upto = subst (λ (m : ℕ). last_call start calls ≤ edges m + 98000) (sym same) (subst (λ (x : List Call). last_call start x ≤ edges a + 98000) (sym are) (last_is a last before w));
+          },
+        )
+    row a some before past (suc n) calls heard order =
+        let last : List Call = heard.0 in
+        let older : List Call = heard.1 in
+        let ordered = subst (AreInOrder start new.clock.redundancy) heard.2 order in
+        let rec = row a some before past n older heard.4 (order_before start new.clock.redundancy last older ordered) in
+        let same : a + suc n ≡ a + n + 1 = omega arith in
+        let w = subst (λ (m : ℕ). IsWellHeard IsTrue t edges new start m last older) same heard.3 in
+        let goes = next_of a n rec.0 last older rec.1 w ordered in (
+          rec.0,
+          record {
+            voted_at = subst (λ (m : ℕ). IsVotedAt m (then_true t a (suc n) rec.0) calls) (sym same) (subst (IsVotedAt (a + n + 1) (then_true t a (suc n) rec.0)) (sym heard.2) goes.0);
+            upto = subst (λ (x : List Call). last_call start x ≤ edges (a + suc n) + 98000) (sym heard.2) (last_is (a + suc n) last older heard.3);
+          },
+        )
+      where
+        next_of : (a n : ℕ) (votes : List (Option Claim)) (last older : List Call) → IsRow a n votes older → IsWellHeard IsTrue t edges new start (a + n + 1) last older → AreInOrder start new.clock.redundancy (last ++ older) → Goes (a + n) (then_true t a n votes) last older
+        next_of a n votes last older is_row w order = finish (a + n) (then_true t a n votes) older last is_row.voted_at (omega (arith, is_row.upto, is.steady.steady.least (a + n), is.steady.few)) w order
+
+    -- as many as the reader asks for, and two more
+    pub announces : (a : ℕ) → 1 ≤ a → 1 ≤ new.clock.reader_rules.lock_after → (before : List Call) → last_call start before + 11000 < edges a → (calls : List Call) → AreWellHeard IsTrue t edges new start a (suc (suc new.clock.reader_rules.lock_after)) calls before → AreInOrder start new.clock.redundancy calls
+        → (u : UtcSecond) → IsSecond t (a + 1 + new.clock.reader_rules.lock_after) u → Announces edges new (a + 1 + new.clock.reader_rules.lock_after) u calls
+    unfolding Goes
+    announces a some enough before past calls heard order u second =
+        let L : ℕ = new.clock.reader_rules.lock_after in
+        let last : List Call = heard.0 in
+        let older : List Call = heard.1 in
+        let ordered = subst (AreInOrder start new.clock.redundancy) heard.2 order in
+        let rec = row a some before past L older heard.4 (order_before start new.clock.redundancy last older ordered) in
+        let same : a + suc L ≡ a + L + 1 = omega arith in
+        let w = subst (λ (m : ℕ). IsWellHeard IsTrue t edges new start m last older) same heard.3 in
+        let told = (finish (a + L) (then_true t a L rec.0) older last rec.1.voted_at (omega (arith, rec.1.upto, is.steady.steady.least (a + L), is.steady.few)) w ordered).1 in
+        let here : a + L + 1 ≡ a + 1 + L = omega arith in
+        record {
+          now = told.now;
+          later = told.x;
+          earlier = told.y ++ older;
+          are = heard.2 ∙ ap (λ (x : List Call). x ++ older) told.are ∙ append_assoc told.x (Tick told.now ∷ told.y) older;
+          soon = subst (λ (m : ℕ). told.now ≤ edges m + 98000) here told.soon;
+          beat = told.beat;
+          answer = told.answer;
+          says = told.report ∙ locked_from_anywhere t new.clock.reader_rules new.table is.sound enough a (truth_at t (a + L)) rec.0 (then_true t a L rec.0) u second (ap (λ (n : ℕ). then_true t a n rec.0) (let count : suc L ≡ L + 1 = omega arith in count));
+        }
