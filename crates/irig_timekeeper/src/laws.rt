@@ -60,7 +60,7 @@ pub fn lines_keep_frames()
         (pulse_at time width ∷ pulses) }
 {}
 
-/// KeptClaim frames are true: if a line was true for the last 1.2 s, whatever it was before, and a frame
+/// Kept frames are true: if a line was true for the last 1.2 s, whatever it was before, and a frame
 /// that it sent ended at most 100 ms ago, then what the frame claims is the true claim of the
 /// second before an edge, and the frame ends less than 450 us and the drift of a second off it.
 pub fn kept_frames_are_true()
