@@ -1,6 +1,6 @@
 /* A reader behind three lines of IRIG-B, or five, or one, as the interrupts of a microcontroller:
  * pulses are measured, frames are found, and the reader is ticked at each edge. docs/WIRES.md says
- * why, and what this makes true.
+ * where a tick belongs.
  *
  * A tick belongs at the edge itself, when each line has ended a frame and none has a pulse of the
  * next. If more than half of the lines end a frame within a millisecond, it is the earliest of their
