@@ -271,13 +271,13 @@ module _ (new : Keeping) (start : ℕ) (begins : AreLinesAt new new (λ i. []) s
       pub small : i < 5
       pub keeps : claim_kept (line_at (settled clock lines) i).frame ≡ Some v
 
-    record IsKeptThere (v : KeptClaim) : Type 0 where
-      range : v.end_us < 2 ^ 32
-      i : ℕ
-      small : i < 5
-      keeps : claim_kept (line_at (settled clock lines) i).frame ≡ Some v
+    pub record IsKeptThere (v : KeptClaim) : Type 0 where
+      pub range : v.end_us < 2 ^ 32
+      pub i : ℕ
+      pub small : i < 5
+      pub keeps : claim_kept (line_at (settled clock lines) i).frame ≡ Some v
 
-    there_at : (i : ℕ) → i < 5 → (y : KeptClaim) → claim_kept (line_at (settled clock lines) i).frame ≡ Some y → IsKeptThere y
+    pub there_at : (i : ℕ) → i < 5 → (y : KeptClaim) → claim_kept (line_at (settled clock lines) i).frame ≡ Some y → IsKeptThere y
     there_at i small y e = record {
       range = ranged (IsEndAt (pulses_on i calls) (last_tick start calls) (last_call start calls)) (after_calls new calls).rules (claim_kept (line_at lines i).frame) (pulses_on i calls) y ((lines_after new start begins calls order.2).lines i small).kept (kept_by i small y e).0;
       i = i;
