@@ -38,7 +38,7 @@ first_of : (a b : Option FrameFault) → option_or a b ≡ None → (a ≡ None)
 first_of None b e = (refl, e)
 first_of (Some f) b e = absurd cc
 
-all_right : (i : ℕ) (s : List Symbol) → first_wrong i s ≡ None → (p : ℕ) → p < length s → IsRight (i + p) (slice_get s p)
+pub all_right : (i : ℕ) (s : List Symbol) → first_wrong i s ≡ None → (p : ℕ) → p < length s → IsRight (i + p) (slice_get s p)
 all_right i [] e p h = absurd (omega arith)
 all_right i (x ∷ s) e zero h = elim (right_or_not i x) [
   | inl right ↦ subst (λ (j : ℕ). IsRight j (Some x)) (let same : i ≡ i + 0 = omega arith in same) right

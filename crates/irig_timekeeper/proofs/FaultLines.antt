@@ -40,6 +40,7 @@ use Rattle.irig_timekeeper.proofs.LifeLaws.{TellAlwaysTruly}
 abbrev nth : List Pulse → ℕ → Pulse
 nth ps j = get_or ps j (pulse_at 0 0)
 
+-- so many on time are so many
 many_on : (n : ℕ) (ps : List Pulse) → AreOnTime (suc (suc n)) ps → suc (suc n) ≤ length ps
 many_on n [] on = absurd on
 many_on n (p ∷ []) on = absurd on
@@ -277,7 +278,7 @@ module _ (line : ℕ → Symbol) (edges : ℕ → ℕ) where
       | inl inner ↦ absurd (both d steady k (p ∷ a) (y ∷ (x ∷ [])) before later earlier on many (length a) (omega arith) refl (omega (arith, inner)))
       | inr outer ↦ elim (cases_eq (length (p ∷ a)) 98) [
         | inl at ↦ begins d steady k (p ∷ a) (y ∷ (x ∷ [])) before later earlier on many at
-        | inr not ↦ alone d steady k (p ∷ a) (y ∷ (x ∷ [])) before later earlier on many (elim (cases_lt (length (p ∷ a)) 99) [ inl less ↦ absurd (not (omega (arith, less, outer))) | inr more ↦ omega (arith, more, low) ])
+        | inr away ↦ alone d steady k (p ∷ a) (y ∷ (x ∷ [])) before later earlier on many (elim (cases_lt (length (p ∷ a)) 99) [ inl less ↦ absurd (away (omega (arith, less, outer))) | inr more ↦ omega (arith, more, low) ])
       ]
     ]
     in_place after (y ∷ (x ∷ (w ∷ more))) few rose later on many low = absurd (omega (arith, few))
@@ -327,9 +328,9 @@ module _ (line : ℕ → Symbol) (edges : ℕ → ℕ) (right : IsTrueLine line)
         let two = odd_at turn (omega arith) some in
         let other = wrong (second_odd turn) two.3 in
         elim (cases_eq (99 - first_odd turn) is.odd) [
-          | inl e ↦ other (λ f. absurd (omega (arith, e, f, two.2, two.3))) (λ f. absurd (omega (arith, e, f, two.2, two.3, close.0))) two.1
+          | inl e ↦ other (λ f. omega (arith, e, f, two.2, two.3)) (λ f. omega (arith, e, f, two.2, two.3, close.0)) two.1
           | inr n ↦ elim (cases_eq (99 - first_odd turn) is.other) [
-            | inl e ↦ other (λ f. absurd (omega (arith, e, f, two.2, two.3, close.1))) (λ f. absurd (omega (arith, e, f, two.2, two.3))) two.1
+            | inl e ↦ other (λ f. omega (arith, e, f, two.2, two.3, close.1)) (λ f. omega (arith, e, f, two.2, two.3)) two.1
             | inr m ↦ wrong (first_odd turn) (omega (arith, two.2, two.3)) n m two.0
           ]
         ]
@@ -350,12 +351,14 @@ module _ (line : ℕ → Symbol) (edges : ℕ → ℕ) (right : IsTrueLine line)
       let of_line : line (100 * second + i) ≡ Marker = marker_at i (line (100 * second + i)) place (subst (λ (n : ℕ). IsRight n (Some (line (100 * second + i)))) at (right (100 * second + i))) in
       there ∙ ap Some (here ∙ sym of_line)
 
+  of_frame : (i : ℕ) → (e : ℕ) × (e + (99 - i) ≡ is.last) × (slice_get heard i ≡ Some (line e)) → i < 100 → slice_get heard i ≡ Some (line (100 * second + i))
+  of_frame i it low =
+      let here : it.0 ≡ 100 * second + i = omega (arith, it.1, low, whole) in
+      subst (λ (e : ℕ). slice_get heard i ≡ Some (line e)) here it.2
+
   stand : StandButForOne line (100 * second) (99 - is.odd) heard
   stand i low n = elim (cases_eq (99 - i) is.other) [
-    | inr m ↦
-        let it = own i (99 - i) (omega (arith, low)) (λ e. n (omega (arith, e, low))) m in
-        let here : it.0 ≡ 100 * second + i = omega (arith, it.1, low, whole) in
-        it.2 ∙ ap (λ (e : ℕ). Some (line e)) here
+    | inr m ↦ of_frame i (own i (99 - i) (omega (arith, low)) (λ e. n (omega (arith, e, low))) m) low
     | inl e ↦ elim is.beside [
       | inl same ↦ absurd (n (omega (arith, e, same, low)))
       | inr more ↦ elim more [
@@ -375,9 +378,9 @@ lately now (suc n) p (q ∷ ps) on soon =
     (omega (arith, soon), lately now n q ps on.1 (omega (arith, soon, gap.0, gap.1)))
 
 module _ (rules : Rules) (t : TimelineValue) (d : ℕ) (edges : ℕ → ℕ) (steady : IsQuartz d edges) where
-  framed : (line : ℕ → Symbol) (now end : ℕ) (p : Pulse) (ps : List Pulse) (claim : Claim) → IsCheckedLineOf rules t line → HasOneFaultInPlace line edges (take 100 (p ∷ ps)) → AreOnTime 100 (p ∷ ps)
+  framed : (line : ℕ → Symbol) (end : ℕ) (p : Pulse) (ps : List Pulse) (claim : Claim) → IsCheckedLineOf rules t line → HasOneFaultInPlace line edges (take 100 (p ∷ ps)) → AreOnTime 100 (p ∷ ps)
       → Carries rules (symbols_of_last 100 (p ∷ ps)) claim → end ≡ p.rise + 10000 → IsTrueNear t edges (2449 + d) (1448 + d) end claim
-  framed line now end p ps claim checked one on carries at =
+  framed line end p ps claim checked one on carries at =
       let hundred : List Pulse = take 100 (p ∷ ps) in
       let on_time = on-take 100 (p ∷ ps) on in
       let is = fits line edges d steady hundred one on_time in
@@ -400,7 +403,7 @@ module _ (rules : Rules) (t : TimelineValue) (d : ℕ) (edges : ℕ → ℕ) (st
   ended : (line : ℕ → Symbol) (now end : ℕ) (run : List Pulse) (claim : Claim) → IsCheckedLineOf rules t line → (RoseLately now (take 100 run) → HasOneFaultInPlace line edges (take 100 run)) → AreOnTime 100 run
       → IsLastBefore end run → Carries rules (symbols_of_last 100 run) claim → now ≤ end + 100000 → IsTrueNear t edges (2449 + d) (1448 + d) end claim
   ended line now end [] claim checked few on at carries soon = absurd at
-  ended line now end (p ∷ ps) claim checked few on at carries soon = framed line now end p ps claim checked (few (lately now 99 p ps on (omega (arith, at, soon)))) on carries at
+  ended line now end (p ∷ ps) claim checked few on at carries soon = framed line end p ps claim checked (few (lately now 99 p ps on (omega (arith, at, soon)))) on carries at
 
   pub faults_are_true : (now end : ℕ) (pulses : List Pulse) (claim : Claim) → IsTrueButForFaults rules t edges now pulses → IsFrameOf rules claim end pulses → now ≤ end + 100000 → IsTrueNear t edges (2449 + d) (1448 + d) end claim
   faults_are_true now end pulses claim is frame soon = ended is.line now end (drop frame.late pulses) claim is.is_line (is.few frame.late) frame.on_time frame.last frame.carries soon
@@ -417,19 +420,19 @@ faults_tell_truly rules t d edges steady now end pulses claim is frame soon =
 
 -- ---- lines of such kinds
 
--- of hundred symbols that are a frame's, but for one
-but_for_one : (line : ℕ → Symbol) (f q : ℕ) (s : List Symbol) → StandButForOne line (100 * f) q s → length s ≡ 100 → s ≡ slice_set (frame_at line f) q (get_or s q Bad)
-but_for_one line f q s stands long =
+-- a hundred symbols that are others, but for one
+pub same_but : (own : List Symbol) (q : ℕ) (s : List Symbol) → length own ≡ 100 → length s ≡ 100 → ((i : ℕ) → i < 100 → ¬ (i ≡ q) → slice_get s i ≡ slice_get own i) → s ≡ slice_set own q (get_or s q Bad)
+same_but own q s whole long is =
     let x : Symbol = get_or s q Bad in
-    let whole : length (frame_at line f) ≡ 100 = length-map-range_with_len line (100 * f) 100 in
-    let same : length (slice_set (frame_at line f) q x) ≡ length (frame_at line f) = length-set (frame_at line f) q x in
-    ext_get_or Bad s (slice_set (frame_at line f) q x) (omega (arith, long, whole, same)) (λ i less.
+    let same : length (slice_set own q x) ≡ length own = length-set own q x in
+    ext_get_or Bad s (slice_set own q x) (omega (arith, long, whole, same)) (λ i less.
     (let low : i < 100 = omega (arith, less, long) in
     elim (cases_eq i q) [
-      | inl here ↦ ap (λ (j : ℕ). get_or s j Bad) here ∙ sym (get_or-set_at (frame_at line f) q i x Bad here (omega (arith, here, low, whole)))
+      | inl here ↦ ap (λ (j : ℕ). get_or s j Bad) here ∙ sym (get_or-set_at own q i x Bad here (omega (arith, here, low, whole)))
       | inr away ↦
-          let there = get-set_other (frame_at line f) q i x (λ e. away (sym e)) ∙ row-get line (100 * f) 100 i low in
-          get_or_from_slice_get s i (line (100 * f + i)) Bad (stands i low away) ∙ sym (get_or_from_slice_get (slice_set (frame_at line f) q x) i (line (100 * f + i)) Bad there)
+          let own_at = slice_get-get_or own i Bad (omega (arith, low, whole)) in
+          let there = get-set_other own q i x (λ e. away (sym e)) ∙ own_at in
+          get_or_from_slice_get s i (get_or own i Bad) Bad (is i low away ∙ own_at) ∙ sym (get_or_from_slice_get (slice_set own q x) i (get_or own i Bad) Bad there)
     ]))
 
 pub tells_is_checked : (rules : Rules) (t : TimelineValue) (line : ℕ → Symbol) (claims : ℕ → Claim) → TellsClaims rules line claims → ((f : ℕ) → IsTrueClaim t (f + 1) (claims f)) → IsCheckedLineOf rules t line
@@ -437,27 +440,27 @@ tells_is_checked rules t line claims tell truth = record {
   right = true_line rules line claims tell;
   truth = λ f q s c stands carries.
       let x : Symbol = get_or s q Bad in
-      let is = but_for_one line f q s stands carries.reads.len in
+      let is = same_but (frame_at line f) q s (length-map-range_with_len line (100 * f) 100) carries.reads.len (λ i low away. stands i low away ∙ sym (row-get line (100 * f) 100 i low)) in
       let told : told_of rules (slice_set (frame_at line f) q x) ≡ tells.Claim c = ap (told_of rules) (sym is) ∙ (carries_is_told rules s c).1 carries in
       let same : c ≡ claims f = subst (IsFaultOr (claims f)) told (damage_told rules (frame_at line f) (claims f) q x (tell f)) in
       subst (λ (a : Claim). IsTrueClaim t (f + 1) a) (sym same) (truth f);
 }
 
 module _ (line : ℕ → Symbol) (edges : ℕ → ℕ) where
-  dropped : (n k : ℕ) (ps : List Pulse) → ArePulsesBefore line edges 450 k ps → (j : ℕ) × ArePulsesBefore line edges 450 j (drop n ps)
+  pub dropped : (n k : ℕ) (ps : List Pulse) → ArePulsesBefore line edges 450 k ps → (j : ℕ) × ArePulsesBefore line edges 450 j (drop n ps)
   dropped zero k ps are = (k, are)
   dropped (suc n) k [] are = (k, tt)
   dropped (suc n) zero (p ∷ ps) are = absurd are
   dropped (suc n) (suc k) (p ∷ ps) are = dropped n k ps are.1
 
-  taken : (n k : ℕ) (ps : List Pulse) → ArePulsesBefore line edges 450 k ps → ArePulsesBefore line edges 450 k (take n ps)
+  pub taken : (n k : ℕ) (ps : List Pulse) → ArePulsesBefore line edges 450 k ps → ArePulsesBefore line edges 450 k (take n ps)
   taken zero k ps are = tt
   taken (suc n) k [] are = tt
   taken (suc n) zero (p ∷ ps) are = are
   taken (suc n) (suc k) (p ∷ ps) are = (are.0, taken n k ps are.1)
 
   -- nothing is at fault
-  faultless : (k : ℕ) (ps : List Pulse) → ArePulsesBefore line edges 450 k ps → HasOneFaultInPlace line edges ps
+  pub faultless : (k : ℕ) (ps : List Pulse) → ArePulsesBefore line edges 450 k ps → HasOneFaultInPlace line edges ps
   faultless k ps are = record {
     one = record { element = k; after = []; fault = []; before = ps; parts = refl; few = omega arith; later = tt; earlier = are };
     in_place = tt;

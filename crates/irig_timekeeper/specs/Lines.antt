@@ -87,9 +87,9 @@ abbrev pub RoseBefore : ℕ → List Pulse → Type 0
 RoseBefore time [] = ⊤
 RoseBefore time (p ∷ ps) = p.rise < time
 
--- one at most of these pulses, the newest first, is at fault. What came in place of its element rose
--- before the next element's pulse had to come: what comes later stands behind that pulse, or in its
--- place too
+-- of these pulses, the newest first, one at most is at fault, and what came in its place rose before
+-- the next element's time was past: what rises later stands behind the next pulse, or that one is
+-- lost too
 pub record HasOneFaultInPlace (line : ℕ → Symbol) (edges : ℕ → ℕ) (pulses : List Pulse)
     : Type 0 where
   pub one : HasOneFault line edges 450 pulses
