@@ -75,8 +75,8 @@ StandButForOne line k q s =
     (i : ℕ) → i < 100 → ¬ (i ≡ q) → slice_get s i ≡ Some (line (k + i))
 
 -- a line of frames whose f-th carries the true claim of T(f), if it carries one, whichever one of
--- its symbols is another. Lines whose frames all tell their claims are such lines, since the parity
--- shows a change
+-- its symbols is another. So is a line whose frames each tell that claim: with another symbol they
+-- are at fault, or claim the same
 pub record IsCheckedLineOf (rules : Rules) (t : TimelineValue) (line : ℕ → Symbol) : Type 0 where
   pub right : IsTrueLine line
   pub truth : (f q : ℕ) (s : List Symbol) (c : Claim) → StandButForOne line (100 * f) q s
@@ -87,9 +87,9 @@ abbrev pub RoseBefore : ℕ → List Pulse → Type 0
 RoseBefore time [] = ⊤
 RoseBefore time (p ∷ ps) = p.rise < time
 
--- of these pulses, the newest first, one at most is at fault, and what came in its place rose before
--- the next element's time was past: what rises later stands behind the next pulse, or that one is
--- lost too
+-- of these pulses, the newest first, at most one is at fault, and what came in its place rose
+-- before the next element's time was past: what rises later stands behind the next pulse, or that
+-- one is lost too
 pub record HasOneFaultInPlace (line : ℕ → Symbol) (edges : ℕ → ℕ) (pulses : List Pulse)
     : Type 0 where
   pub one : HasOneFault line edges 450 pulses

@@ -22,17 +22,18 @@ use irig_reader::{Cause, ReaderRules};
 use irig_time::{Claim, Rules, UtcSecond};
 
 /// Lines with faults tell truly: what [`a_device_tells_the_truth`](crate::a_device_tells_the_truth)
-/// says holds too if the lines had one fault of any kind in each hundred pulses of the last 1.2 s: a
-/// pulse was lost, late, early, doubled, cut in two or of another width, or one was added. But a
-/// frame may end up to 2 ms earlier then, and up to 1 ms later.
+/// says holds too if a line counts as true that had one fault of any kind in each hundred pulses of
+/// the last 1.2 s: a pulse was lost, late, early, doubled, cut in two or of another width, or one
+/// was added. But a frame may then end up to 2 ms earlier, and up to 1 ms later.
 pub fn lines_with_faults_tell_truly()
-    // What a frame that ended at most 100 ms ago claims is the true claim of the second before an
-    // edge, and it ends near that edge.
+    // A frame that ended at most 100 ms ago claims the true second before an edge, and ends near
+    // that edge.
     ensures kept { (rules : Rules) (t : TimelineValue) (d now end : ℕ) (edges : ℕ → ℕ)
         (pulses : List Pulse) (claim : Claim) → IsQuartz d edges
         → IsTrueButForFaults rules t edges now pulses → IsFrameOf rules claim end pulses
         → now ≤ end + 100000 → IsTrueNear t edges (2449 + d) (1448 + d) end claim }
-    // So a device tells the truth all its life, from 3.549 ms before an edge to 1.549 ms behind it.
+    // So a device tells the truth all its life: the edge that it tells lies from 3.549 ms before
+    // the true one to 1.549 ms behind, and as much further off as a holdover drifts.
     ensures life { (t : TimelineValue) (edges : ℕ → ℕ) (rules : Rules) (clock : ClockRules)
         (table : TableValue) (lines : Lines) (start now : ℕ) (calls : List Call) (beat : Beat)
         (u : UtcSecond) → IsDevice t clock.drift_us edges clock.reader_rules table
@@ -68,11 +69,11 @@ pub fn lines_with_faults_tell_truly()
     ensures half { (t : TimelineValue) (d : ℕ) (edges : ℕ → ℕ) (rules : ReaderRules)
         (table : TableValue) (far : ℕ) → IsDevice t d edges rules table → far ≤ rules.holdover
         → 3549 + far * d < 500000 }
-    // Lines whose frames each tell the true claim are such lines.
+    // A line whose frames each tell the true claim may have faults.
     ensures lines { (rules : Rules) (t : TimelineValue) (line : ℕ → Symbol) (claims : ℕ → Claim)
         → TellsClaims rules line claims → ((f : ℕ) → IsTrueClaim t (f + 1) (claims f))
         → IsCheckedLineOf rules t line }
-    // And one of which nothing is lost has no fault.
+    // And it has none while each pulse comes.
     ensures whole { (rules : Rules) (t : TimelineValue) (line : ℕ → Symbol) (edges : ℕ → ℕ)
         (now k : ℕ) (pulses : List Pulse) → IsCheckedLineOf rules t line
         → ArePulsesBefore line edges 450 k pulses → IsTrueButForFaults rules t edges now pulses }
