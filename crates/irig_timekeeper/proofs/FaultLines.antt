@@ -89,6 +89,7 @@ module _ (line : ℕ → Symbol) (edges : ℕ → ℕ) where
   abbrev IsBack : ℕ → ℕ → Pulse → Type 0
   IsBack last j p = (e : ℕ) × (e + j ≡ last) × IsPulseOf line edges 450 e p
 
+  -- the newest pulse is so near the last element's time
   abbrev IsNewest : ℕ → Pulse → Type 0
   IsNewest last p = (element_at edges last ≤ p.rise + 2449) × (p.rise ≤ element_at edges last + 1448)
 
@@ -113,7 +114,7 @@ module _ (line : ℕ → Symbol) (edges : ℕ → ℕ) where
       let place : suc k % 100 ≡ k % 100 + 1 = omega (arith, low) in
       rw (frame, place) (omega arith)
 
-  -- in place of the last, or of the last two, of a frame
+  -- what stands in place of the last of a frame, or of the last two
   one_new : (e last : ℕ) (p q : Pulse) → e + 1 ≡ last → IsTimeOf edges 450 e q.rise → (q.rise + 9000 ≤ p.rise) × (p.rise < q.rise + 11000) → last % 100 ≡ 99 → IsNewest last p
   one_new e last p q at time gap end =
       let same : suc e ≡ last = omega (arith, at) in
@@ -152,7 +153,7 @@ module _ (line : ℕ → Symbol) (edges : ℕ → ℕ) where
         ap (nth all) at ∙ get_or-append-add after (fault ++ before) (length fault + m) (pulse_at 0 0) ∙ get_or-append-add fault before m (pulse_at 0 0) in
         (it.0, it.1, subst (IsPulseOf line edges 450 it.0) (sym same) it.2)
 
-    -- from one of them on all stand behind the fault
+    -- all hundred came behind the fault
     past : 100 ≤ length after → AreButForOne all
     past long = record {
       last = k + length after;
@@ -163,6 +164,7 @@ module _ (line : ℕ → Symbol) (edges : ℕ → ℕ) where
       newest = λ end. exact (k + length after) (nth all 0) (newer 0 (omega (arith, long)));
     }
 
+    -- nothing has come since a pulse was lost
     none : length fault ≡ 0 → length after ≡ 0 → AreButForOne all
     none lost new = record {
       last = k - 1;
@@ -185,6 +187,7 @@ module _ (line : ℕ → Symbol) (edges : ℕ → ℕ) where
         let far = far_apart d 450 edges clock old.0 new.0 (nth all (suc a)).rise (nth all a).rise old.2.0 new.2.0 (omega (arith, old.1, new.1, at)) in
         omega (arith, far, gap.1)
 
+    -- one pulse stands in the element's place
     changed : length fault ≡ 1 → length after < 100 → AreButForOne all
     changed one few = record {
       last = k + length after;
@@ -212,7 +215,8 @@ module _ (line : ℕ → Symbol) (edges : ℕ → ℕ) where
           ]
         ]
 
-    -- of two pulses the newer one stands alone, both stand at an end, or they leave no hundred on time
+    -- of two pulses the newer one is the oldest of the hundred, or both are the oldest or the newest;
+    -- else they leave no hundred on time
     alone : length after ≡ 99 → AreButForOne all
     alone at = record {
       last = k + length after;
@@ -268,20 +272,20 @@ module _ (line : ℕ → Symbol) (edges : ℕ → ℕ) where
   -- ---- by what is at fault
 
   module _ (d : ℕ) (steady : IsQuartz d edges) (k : ℕ) (before : List Pulse) (earlier : ArePulsesBefore line edges 450 k before) where
-    in_place : (after fault : List Pulse) → length fault ≤ 2 → RoseBefore (element_at edges (k + 1) + 450) fault → ArePulsesBefore line edges 450 (length after + suc k) after
+    by_fault : (after fault : List Pulse) → length fault ≤ 2 → RoseBefore (element_at edges (k + 1) + 450) fault → ArePulsesBefore line edges 450 (length after + suc k) after
         → AreOnTime 100 (after ++ (fault ++ before)) → 100 ≤ length (after ++ (fault ++ before)) → length after < 100 → AreButForOne (after ++ (fault ++ before))
-    in_place [] [] few rose later on many low = none d steady k [] [] before later earlier on many refl refl
-    in_place (p ∷ a) [] few rose later on many low = absurd (lost d steady k (p ∷ a) [] before later earlier on many (length a) (omega arith) refl (omega (arith, low)))
-    in_place after (x ∷ []) few rose later on many low = changed d steady k after (x ∷ []) before later earlier on many refl low
-    in_place [] (y ∷ (x ∷ [])) few rose later on many low = ends d steady k [] (y ∷ (x ∷ [])) before later earlier on many refl refl rose
-    in_place (p ∷ a) (y ∷ (x ∷ [])) few rose later on many low = elim (cases_lt (length (p ∷ a)) 98) [
+    by_fault [] [] few rose later on many low = none d steady k [] [] before later earlier on many refl refl
+    by_fault (p ∷ a) [] few rose later on many low = absurd (lost d steady k (p ∷ a) [] before later earlier on many (length a) (omega arith) refl (omega (arith, low)))
+    by_fault after (x ∷ []) few rose later on many low = changed d steady k after (x ∷ []) before later earlier on many refl low
+    by_fault [] (y ∷ (x ∷ [])) few rose later on many low = ends d steady k [] (y ∷ (x ∷ [])) before later earlier on many refl refl rose
+    by_fault (p ∷ a) (y ∷ (x ∷ [])) few rose later on many low = elim (cases_lt (length (p ∷ a)) 98) [
       | inl inner ↦ absurd (both d steady k (p ∷ a) (y ∷ (x ∷ [])) before later earlier on many (length a) (omega arith) refl (omega (arith, inner)))
       | inr outer ↦ elim (cases_eq (length (p ∷ a)) 98) [
         | inl at ↦ begins d steady k (p ∷ a) (y ∷ (x ∷ [])) before later earlier on many at
         | inr away ↦ alone d steady k (p ∷ a) (y ∷ (x ∷ [])) before later earlier on many (elim (cases_lt (length (p ∷ a)) 99) [ inl less ↦ absurd (away (omega (arith, less, outer))) | inr more ↦ omega (arith, more, low) ])
       ]
     ]
-    in_place after (y ∷ (x ∷ (w ∷ more))) few rose later on many low = absurd (omega (arith, few))
+    by_fault after (y ∷ (x ∷ (w ∷ more))) few rose later on many low = absurd (omega (arith, few))
 
   fits : (d : ℕ) → IsQuartz d edges → (ps : List Pulse) → HasOneFaultInPlace line edges ps → AreOnTime 100 ps → AreButForOne ps
   fits d steady ps is on =
@@ -291,7 +295,7 @@ module _ (line : ℕ → Symbol) (edges : ℕ → ℕ) where
       let many = subst (λ (l : List Pulse). 100 ≤ length l) parts (many_on 98 ps on) in
       subst AreButForOne (sym parts)
       (elim (cases_lt (length h.after) 100) [
-        | inl low ↦ in_place d steady h.element h.before h.earlier h.after h.fault h.few is.in_place h.later on_parts many low
+        | inl low ↦ by_fault d steady h.element h.before h.earlier h.after h.fault h.few is.in_place h.later on_parts many low
         | inr long ↦ past d steady h.element h.after h.fault h.before h.later h.earlier on_parts many long
       ])
 
