@@ -31,7 +31,8 @@ use Rattle.irig_port.proofs.CarriesLaws.{carries_is_told}
 use Rattle.irig_port.proofs.DamageLaws.{damage_told}
 use Rattle.irig_port.proofs.FaultLaws.{odd_place, first_odd, second_odd, odd_at, misplaced, marker_at, true_line}
 use Rattle.irig_timekeeper.specs.Edges.{IsQuartz, IsTrueNear}
-use Rattle.irig_timekeeper.specs.Lines.{IsLastBefore, IsFrameOf, StandButForOne, IsCheckedLineOf, RoseBefore, HasOneFaultInPlace, RoseLately, IsTrueButForFaults}
+use Rattle.irig_timekeeper.specs.Lines.{IsLastBefore, IsFrameOf, StandButForOne, IsCheckedLineOf, RoseBefore, HasOneFaultInPlace, RoseLately, IsTrueButForFaults, IsTrueOrFaulty}
+use Rattle.irig_timekeeper.proofs.LineLaws.{true_lately}
 use Rattle.irig_timekeeper.proofs.LifeLaws.{TellAlwaysTruly}
 
 -- ---- one of some pulses
@@ -419,6 +420,17 @@ faults_tell_truly rules t d edges steady now end pulses claim is frame soon =
     record {
       second = near.second;
       near = record { least = omega (arith, near.near.least, steady.few); most = omega (arith, near.near.most, steady.few) };
+      truth = near.truth;
+    }
+
+-- the same of lines of which any pulses may be lost, or which may have faults
+pub either_tells_truly : (rules : Rules) (t : TimelineValue) (d : ℕ) (edges : ℕ → ℕ) → IsQuartz d edges → TellAlwaysTruly (IsTrueOrFaulty rules t edges) rules t edges 2549 1549
+either_tells_truly rules t d edges steady now end pulses claim (inr is) frame soon = faults_tell_truly rules t d edges steady now end pulses claim is frame soon
+either_tells_truly rules t d edges steady now end pulses claim (inl is) frame soon =
+    let near = true_lately rules t d edges now end pulses claim steady is frame soon in
+    record {
+      second = near.second;
+      near = record { least = omega (arith, near.near.least); most = omega (arith, near.near.most) };
       truth = near.truth;
     }
 

@@ -108,3 +108,8 @@ pub record IsTrueButForFaults (rules : Rules) (t : TimelineValue) (edges : ℕ �
   pub is_line : IsCheckedLineOf rules t line
   pub few : (n : ℕ) → RoseLately now (take 100 (drop n pulses))
       → HasOneFaultInPlace line edges (take 100 (drop n pulses))
+
+-- the line was true for the last 1.2 s but for any lost pulses, or but for faults
+abbrev pub IsTrueOrFaulty : Rules → TimelineValue → (ℕ → ℕ) → ℕ → List Pulse → Type 0
+IsTrueOrFaulty rules t edges now pulses =
+    IsTrueLately rules t edges now pulses ⊎ IsTrueButForFaults rules t edges now pulses

@@ -9,7 +9,7 @@ ghost use Rattle.irig_time.specs.Tables.{TableValue};
 ghost use Rattle.irig_vote.specs.Vote.{f_of};
 ghost use Rattle.irig_port.specs.OwnClaims.{TellsClaims};
 ghost use Rattle.irig_timekeeper.specs.Edges.{IsQuartz, IsTrueNear};
-ghost use Rattle.irig_timekeeper.specs.Lines.{IsFrameOf, IsCheckedLineOf, IsTrueButForFaults};
+ghost use Rattle.irig_timekeeper.specs.Lines.{IsFrameOf, IsCheckedLineOf, IsTrueButForFaults, IsTrueOrFaulty};
 ghost use Rattle.irig_timekeeper.specs.Steps.{AreNewLines};
 ghost use Rattle.irig_timekeeper.specs.Keeping.{new_keeping, answer_at};
 ghost use Rattle.irig_timekeeper.specs.Truth.{IsToldInHoldover, IsLaterSecond, IsDevice};
@@ -40,6 +40,15 @@ pub fn lines_with_faults_tell_truly()
         → AreNewLines lines → AreInOrder start clock.redundancy (Tick now ∷ calls)
         → AreTrueAtTicks (IsTrueButForFaults rules t edges) (f_of clock.redundancy)
         (Tick now ∷ calls)
+        → answer_at (after_calls (new_keeping rules clock table lines) calls) (now % 2 ^ 32)
+        ≡ Some beat → beat.report.announce ≡ Some u
+        → IsToldInHoldover t edges 3549 1549 clock.drift_us clock.reader_rules.holdover now beat u }
+    // Some of its lines may have faults while others lose any pulses.
+    ensures either { (t : TimelineValue) (edges : ℕ → ℕ) (rules : Rules) (clock : ClockRules)
+        (table : TableValue) (lines : Lines) (start now : ℕ) (calls : List Call) (beat : Beat)
+        (u : UtcSecond) → IsDevice t clock.drift_us edges clock.reader_rules table
+        → AreNewLines lines → AreInOrder start clock.redundancy (Tick now ∷ calls)
+        → AreTrueAtTicks (IsTrueOrFaulty rules t edges) (f_of clock.redundancy) (Tick now ∷ calls)
         → answer_at (after_calls (new_keeping rules clock table lines) calls) (now % 2 ^ 32)
         ≡ Some beat → beat.report.announce ≡ Some u
         → IsToldInHoldover t edges 3549 1549 clock.drift_us clock.reader_rules.holdover now beat u }

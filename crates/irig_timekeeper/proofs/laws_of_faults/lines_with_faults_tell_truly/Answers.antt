@@ -1,8 +1,8 @@
 use Rattle.std.proofs.Common.{◌+◌, ◌≤◌, arith}
 use Rattle.std.proofs.Math.Nat.{mul-le-mul_left}
-use Rattle.irig_timekeeper.specs.Lines.{IsTrueButForFaults}
+use Rattle.irig_timekeeper.specs.Lines.{IsTrueButForFaults, IsTrueOrFaulty}
 use Rattle.irig_timekeeper.proofs.LifeLaws.{device_true, device_calm, device_in_order}
-use Rattle.irig_timekeeper.proofs.FaultLines.{faults_are_true, faults_tell_truly, tells_is_checked, whole_is_true}
+use Rattle.irig_timekeeper.proofs.FaultLines.{faults_are_true, faults_tell_truly, either_tells_truly, tells_is_checked, whole_is_true}
 use Rattle.irig_timekeeper.proofs.laws_of_faults.lines_with_faults_tell_truly.Goals as goal
 
 pub returns-clause-kept : goal.returns-clause-kept
@@ -11,6 +11,10 @@ returns-clause-kept _ rules t d now end edges pulses claim steady is frame soon 
 pub returns-clause-life : goal.returns-clause-life
 returns-clause-life _ t edges rules clock table lines start now calls beat u is fresh order truth answer says =
     device_true rules clock table lines start fresh (IsTrueButForFaults rules t edges) t edges 2549 1549 is (omega arith) (faults_tell_truly rules t clock.drift_us edges is.steady) calls now beat u order truth answer says
+
+pub returns-clause-either : goal.returns-clause-either
+returns-clause-either _ t edges rules clock table lines start now calls beat u is fresh order truth answer says =
+    device_true rules clock table lines start fresh (IsTrueOrFaulty rules t edges) t edges 2549 1549 is (omega arith) (either_tells_truly rules t clock.drift_us edges is.steady) calls now beat u order truth answer says
 
 pub returns-clause-order : goal.returns-clause-order
 returns-clause-order _ t edges rules clock table lines start before now earlier later beat then u v is fresh order truth answer says answers again =
