@@ -10,6 +10,7 @@ mod clock;
 mod counting;
 mod keeper;
 mod laws;
+mod laws_of_faults;
 mod lines;
 mod setup;
 mod stamp;
@@ -21,6 +22,7 @@ pub use laws::{
     counting_is_right, enough_lines_vote, kept_frames_are_true, lines_keep_frames, stamps_are_true,
     votes_are_true, waiting_is_right,
 };
+pub use laws_of_faults::lines_with_faults_tell_truly;
 pub use lines::{KeptClaim, KeptFrame, Line, Lines, is_pulse};
 pub use setup::{ClockFault, clock_fault};
 pub use stamp::{Announced, Stamp, stamp_of};
