@@ -28,7 +28,7 @@ use Rattle.irig_timekeeper.specs.Truth.{IsEdgeAt, AreApartBeats}
 use Rattle.irig_timekeeper.specs.Life.{Call, after_calls, pulses_on, last_call, last_tick, AreInOrder}
 use Rattle.irig_timekeeper.specs.Life.Call.{Hear, Tick}
 use Rattle.irig_timekeeper.proofs.AgreeLaws.{is_one}
-use Rattle.irig_timekeeper.proofs.VoteLaws.{still, come, frame_settled, one_more, not_late, come_before, split, last_late}
+use Rattle.irig_timekeeper.proofs.VoteLaws.{still, come, frame_settled, one_more, not_late, split, last_late}
 use Rattle.irig_timekeeper.proofs.WholeLaws.{whole_of, AreSorted, whole_here, not_whole, whole_apart}
 use Rattle.irig_timekeeper.proofs.TimeLaws.{own_count, still_edge, own_edge_at, voted_count, same_edge}
 use Rattle.irig_timekeeper.proofs.LifeLaws.{AreLinesAt, IsEndAt, lines_after, order_before, ticked, line_takes, line_same, line_other, and_false}
