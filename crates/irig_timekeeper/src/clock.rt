@@ -1,13 +1,13 @@
 //! A device's clock: what becomes of it at a tick.
 
-ghost use Rattle.std.specs.Prelude.{◌≡◌, ◌<◌, ◌≤◌, ◌+◌, ◌-◌, ◌*◌, IfSome};
+ghost use Rattle.std.specs.Prelude.{◌≡◌, ◌<◌, ◌≤◌, ◌+◌, ◌-◌, ◌*◌, IfSome, Some, None};
 ghost use Rattle.irig_time.specs.Seconds.{IsValid};
 ghost use Rattle.irig_reader.specs.Rule.{count_of};
 ghost use Rattle.irig_timekeeper.specs.Counting.{edges_to_vote, edges_own};
 ghost use Rattle.irig_timekeeper.specs.Rule.{missed, step_behind};
 ghost use Rattle.irig_timekeeper.specs.Steps.{AreKeptOfUtc, AreNewLines};
 ghost use Rattle.irig_timekeeper.specs.Keeping.{new_state};
-ghost use Rattle.irig_timekeeper.specs.Clock.{lasted, bound_of, announced, beat_by, beaten, step_to, after_vote, answer_to_vote, after_own, answer_alone, clock_after, clock_answer, clock_wait};
+ghost use Rattle.irig_timekeeper.specs.Clock.{lasted, bound_of, announced, beat_by, beaten, step_to, after_vote, answer_to_vote, after_own, answer_alone, clock_after, clock_answer, clock_vote, clock_wait, SaysOfUtc};
 
 use crate::counting::{edge_behind, edges_own, edges_to_vote};
 use crate::lines::{
@@ -64,11 +64,12 @@ pub struct Beat {
     pub moved: u32,
 }
 
-/// Where a clock stands after a tick, and what it then answers.
+/// Where a clock stands after a tick, what it then answers, and what lines agreed on, if they did.
 #[derive(Drop)]
 pub struct Ticked {
     pub state: ClockState,
     pub beat: Option<Beat>,
+    pub vote: Option<Claim>,
 }
 
 /// A clock that nobody has set, on lines on which nothing came.
@@ -103,8 +104,10 @@ pub fn tick_of<T: Leaps>(
     requires valid { AreKeptOfUtc state.lines }
     ensures answer { result.beat ≡ clock_answer rules.now (T.says table.now) state now_us }
     ensures after { result.state ≡ clock_after rules.now (T.says table.now) state now_us }
+    ensures vote { result.vote ≡ clock_vote rules.now state now_us }
     ensures counting { count_of result.state.reader < rules.now.reader_rules.lock_after }
     ensures valid { AreKeptOfUtc result.state.lines }
+    ensures said { SaysOfUtc result.beat }
 {
     state.lines = settled(now_us, state.lines);
     match if_come(now_us, agreed(rules.redundancy, state.lines)) {
@@ -127,8 +130,10 @@ fn tick_by_vote<T: Leaps>(
         (edges_to_vote state.edge_us vote.end_us) }
     ensures after { result.state ≡ after_vote rules.now (T.says table.now) state vote
         (edges_to_vote state.edge_us vote.end_us) }
+    ensures vote { result.vote ≡ Some vote.claim }
     ensures counting { count_of result.state.reader < rules.now.reader_rules.lock_after }
     ensures valid { AreKeptOfUtc result.state.lines }
+    ensures said { SaysOfUtc result.beat }
 {
     let edges = edges_to_vote(state.edge_us, vote.end_us);
     if edges > 0 {
@@ -146,7 +151,11 @@ fn tick_by_vote<T: Leaps>(
     state.lines = taken(state.lines);
     state.edge_us = Some(vote.end_us);
     state.moved = state.moved.wrapping_add(1);
-    Ticked { state, beat: None }
+    Ticked {
+        state,
+        beat: None,
+        vote: Some(vote.claim),
+    }
 }
 
 // They do not.
@@ -158,15 +167,25 @@ fn tick_alone<T: Leaps>(rules: &ClockRules, table: &T, state: ClockState, now_us
         (edges_own state.edge_us now_us) }
     ensures after { result.state ≡ after_own rules.now (T.says table.now) state
         (edges_own state.edge_us now_us) }
+    ensures vote { result.vote ≡ None }
     ensures counting { count_of result.state.reader < rules.now.reader_rules.lock_after }
     ensures valid { AreKeptOfUtc result.state.lines }
+    ensures said { SaysOfUtc result.beat }
 {
     let edges = edges_own(state.edge_us, now_us);
     let Some(edge) = state.edge_us else {
-        return Ticked { state, beat: None };
+        return Ticked {
+            state,
+            beat: None,
+            vote: None,
+        };
     };
     if edges == 0 {
-        return Ticked { state, beat: None };
+        return Ticked {
+            state,
+            beat: None,
+            vote: None,
+        };
     }
     let lines = state.lines;
     let edge_us = edge_behind(edge, edges);
@@ -192,7 +211,9 @@ fn beat_at<T: Leaps>(
         (step_to rules.now (T.says table.now) state edges vote) (edges - 1) edge_us) }
     ensures after { result.state ≡ beaten rules.now state lines
         (step_to rules.now (T.says table.now) state edges vote) edge_us }
+    ensures vote { result.vote ≡ vote }
     ensures counting { count_of result.state.reader < rules.now.reader_rules.lock_after }
+    ensures said { SaysOfUtc result.beat }
 {
     let told = tells_of(state.lines);
     let step = step_behind(rules.reader_rules, table, edges - 1, state.reader, vote);
@@ -214,6 +235,7 @@ fn beat_at<T: Leaps>(
             before: state.last,
         },
         beat: Some(beat),
+        vote,
     }
 }
 
@@ -230,6 +252,7 @@ fn step_behind<T: Leaps>(
     ensures step { result ≡ step_behind rules (T.says table.now) edges state vote }
     ensures counting { count_of result.state < rules.lock_after }
     ensures lasted { lasted result.report.lock ≤ rules.holdover }
+    ensures valid { IfSome result.report.announce IsValid }
 {
     let mut state = state;
     for gone in 0..edges {
