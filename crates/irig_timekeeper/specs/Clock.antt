@@ -142,6 +142,11 @@ clock_vote c s now = claim_voted (vote_of_lines c s now)
 abbrev pub SaysOfUtc : Option Beat → Type 0
 SaysOfUtc beat = IfSome beat (λ b. IfSome b.report.announce IsValid)
 
+-- so are those that are kept
+pub record AnnouncedOfUtc (s : ClockState) : Type 0 where
+  pub last : IfSome s.last (λ announced. IsValid announced.second)
+  pub before : IfSome s.before (λ announced. IsValid announced.second)
+
 -- how long until a tick has something to do, if no call comes before it
 abbrev pub clock_wait : ClockRules → ClockState → ℕ → ℕ
 clock_wait c s now = wait_by now s.edge_us (agreed (f_of c.redundancy) (settled now s.lines))

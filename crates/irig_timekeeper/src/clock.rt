@@ -7,7 +7,7 @@ ghost use Rattle.irig_timekeeper.specs.Counting.{edges_to_vote, edges_own};
 ghost use Rattle.irig_timekeeper.specs.Rule.{missed, step_behind};
 ghost use Rattle.irig_timekeeper.specs.Steps.{AreKeptOfUtc, AreNewLines};
 ghost use Rattle.irig_timekeeper.specs.Keeping.{new_state};
-ghost use Rattle.irig_timekeeper.specs.Clock.{lasted, bound_of, announced, beat_by, beaten, step_to, after_vote, answer_to_vote, after_own, answer_alone, clock_after, clock_answer, clock_vote, clock_wait, SaysOfUtc};
+ghost use Rattle.irig_timekeeper.specs.Clock.{lasted, bound_of, announced, beat_by, beaten, step_to, after_vote, answer_to_vote, after_own, answer_alone, clock_after, clock_answer, clock_vote, clock_wait, SaysOfUtc, AnnouncedOfUtc};
 
 use crate::counting::{edge_behind, edges_own, edges_to_vote};
 use crate::lines::{
@@ -108,6 +108,7 @@ pub fn tick_of<T: Leaps>(
     ensures counting { count_of result.state.reader < rules.now.reader_rules.lock_after }
     ensures valid { AreKeptOfUtc result.state.lines }
     ensures said { SaysOfUtc result.beat }
+    ensures announced { AnnouncedOfUtc state → AnnouncedOfUtc result.state }
 {
     state.lines = settled(now_us, state.lines);
     match if_come(now_us, agreed(rules.redundancy, state.lines)) {
@@ -134,6 +135,7 @@ fn tick_by_vote<T: Leaps>(
     ensures counting { count_of result.state.reader < rules.now.reader_rules.lock_after }
     ensures valid { AreKeptOfUtc result.state.lines }
     ensures said { SaysOfUtc result.beat }
+    ensures announced { AnnouncedOfUtc state → AnnouncedOfUtc result.state }
 {
     let edges = edges_to_vote(state.edge_us, vote.end_us);
     if edges > 0 {
@@ -171,6 +173,7 @@ fn tick_alone<T: Leaps>(rules: &ClockRules, table: &T, state: ClockState, now_us
     ensures counting { count_of result.state.reader < rules.now.reader_rules.lock_after }
     ensures valid { AreKeptOfUtc result.state.lines }
     ensures said { SaysOfUtc result.beat }
+    ensures announced { AnnouncedOfUtc state → AnnouncedOfUtc result.state }
 {
     let edges = edges_own(state.edge_us, now_us);
     let Some(edge) = state.edge_us else {
@@ -214,6 +217,7 @@ fn beat_at<T: Leaps>(
     ensures vote { result.vote ≡ vote }
     ensures counting { count_of result.state.reader < rules.now.reader_rules.lock_after }
     ensures said { SaysOfUtc result.beat }
+    ensures announced { AnnouncedOfUtc state → AnnouncedOfUtc result.state }
 {
     let told = tells_of(state.lines);
     let step = step_behind(rules.reader_rules, table, edges - 1, state.reader, vote);
@@ -265,7 +269,9 @@ fn step_behind<T: Leaps>(
 fn announced(rules: &ClockRules, report: &Report, edge_us: u32) -> Option<Announced>
     requires short { (rules.now.reader_rules.holdover + 2) * rules.now.drift_us ≤ 490000 }
     requires lasted { lasted report.now.lock ≤ rules.now.reader_rules.holdover }
-    ensures { result ≡ announced rules.now.drift_us report.now edge_us }
+    ensures value { result ≡ announced rules.now.drift_us report.now edge_us }
+    ensures valid { IfSome report.now.announce IsValid
+        → IfSome result (λ announced. IsValid announced.second) }
 {
     let bound_us = VOTE_US + lasted(report.lock) * rules.drift_us;
     match report.announce {
