@@ -1,0 +1,5 @@
+pub mod SumLaws
+pub mod LineSums
+pub mod ApartLaws
+pub mod KeptLaws
+pub mod StandardFacts
