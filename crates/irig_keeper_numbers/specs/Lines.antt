@@ -1,6 +1,7 @@
 -- Where the lines of a timekeeper stand, by their numbers.
-use Rattle.std.specs.Prelude.{◌≡◌, ℕ, ◌⊎◌, ◌==◌, if◌then◌else◌, Option, Some, None}
+use Rattle.std.specs.Prelude.{◌≡◌, ℕ, ◌⊎◌, ◌==◌, if◌then◌else◌, List, [], ◌∷◌, Option, Some, None}
 use Rattle.irig_time.specs.declared.rules.Rules.{Rules}
+use Rattle.irig_port.specs.declared.tally.Tally.{Tally}
 use Rattle.irig_port.specs.Tallies.{IsTallyOf, tally_told}
 use Rattle.irig_timekeeper.specs.declared.lines.KeptFrame.{KeptFrame}
 use Rattle.irig_timekeeper.specs.declared.lines.Line.{Line}
@@ -26,6 +27,10 @@ lines_in rules ls = record {
   d = line_in rules ls.d;
   e = line_in rules ls.e;
 }
+
+-- the frames that they keep, and of others what they kept last
+abbrev pub frames_in : IrigLines → List Tally
+frames_in ls = ls.a.frame ∷ ls.b.frame ∷ ls.c.frame ∷ ls.d.frame ∷ ls.e.frame ∷ []
 
 -- the numbers of the line of a port
 abbrev pub numbers_at : IrigLines → ℕ → IrigLine

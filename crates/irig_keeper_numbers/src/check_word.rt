@@ -88,10 +88,10 @@ fn line_sum(port: u8, line: &IrigLine) -> u64
         .wrapping_add(slope(line))
 }
 
-/// By how much a line adds more to the check word, if it stands at `after` and no longer at `before`.
-/// One product of 64 bits, since small processors have none, for each pulse.
+// By how much a line adds more to the check word, if it stands at `after` and no longer at `before`.
+// One product of 64 bits, since small processors have none, for each pulse.
 #[inline]
-pub fn line_change(port: u8, before: &IrigLine, after: &IrigLine) -> u64
+fn line_change(port: u8, before: &IrigLine, after: &IrigLine) -> u64
     requires { port < 5 }
     ensures { (weighted (315 + 30 * port) (line_numbers before.now) + result) % 2 ^ 64
         ≡ weighted (315 + 30 * port) (line_numbers after.now) % 2 ^ 64 }
@@ -113,7 +113,7 @@ fn lines_sum(lines: &IrigLines) -> u64
 }
 
 /// What state, clock and lines add to the check word, beside setup and table.
-pub fn changing_sum(timekeeper: &IrigTimekeeper) -> u64
+pub(crate) fn changing_sum(timekeeper: &IrigTimekeeper) -> u64
     ensures { check_of timekeeper.now ≡ (weighted 3 (setup_numbers timekeeper.now.setup)
         + weighted 15 (table_numbers timekeeper.now.table) + result) % 2 ^ 64 }
 {

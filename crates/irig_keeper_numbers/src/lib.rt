@@ -14,9 +14,11 @@ mod stamp;
 mod timekeeper;
 
 pub use announced::IrigAnnounced;
-pub use check_word::{changing_sum, check_of, line_change, set_line};
+pub use check_word::{check_of, set_line};
 pub use laws::another_number_is_told;
 pub use line::{IrigLine, IrigLines, hear, line_at};
-pub use second::{IrigSecond, second_for_c};
+pub use second::{IrigSecond, second_of};
 pub use stamp::{IrigStamp, stamp_for_c};
-pub use timekeeper::{IrigTimekeeper, clock_rules_of, clock_state_of, forget, keep};
+pub use timekeeper::{
+    IrigTimekeeper, clock_rules_of, clock_state_of, forget, is_accepted, keep, restart, stamp_at,
+};

@@ -11,7 +11,7 @@ ghost use Rattle.irig_port.specs.Tallies.{IsTallyOf};
 ghost use Rattle.irig_frame.specs.Symbols.{symbol_of};
 ghost use Rattle.irig_timekeeper.specs.Keeping.{Heard, nothing_heard};
 ghost use Rattle.irig_timekeeper.specs.Steps.{line_heard, IsKeptOfUtc, IsNewLine, AreKeptOfUtc, AreNewLines};
-ghost use Rattle.irig_keeper_numbers.specs.Lines.{frame_in, line_in, lines_in, numbers_at, with_numbers, HaveHeard, IsKeptFrom, AreKeptFrom};
+ghost use Rattle.irig_keeper_numbers.specs.Lines.{frame_in, frames_in, line_in, lines_in, numbers_at, with_numbers, HaveHeard, IsKeptFrom, AreKeptFrom};
 
 use irig_port::Tally;
 use irig_sync::Sync;
@@ -170,6 +170,19 @@ pub(crate) fn lines_of(rules: &Rules, lines: &IrigLines) -> Lines
         d: line_of(rules, &lines.d),
         e: line_of(rules, &lines.e),
     }
+}
+
+/// The frames that lines keep, and of others what they kept last.
+pub(crate) fn frames_of(lines: &IrigLines) -> [Tally; 5]
+    ensures { result ≡ frames_in lines.now }
+{
+    [
+        lines.a.frame,
+        lines.b.frame,
+        lines.c.frame,
+        lines.d.frame,
+        lines.e.frame,
+    ]
 }
 
 // A line as a tick leaves it, which drops a frame or keeps it.

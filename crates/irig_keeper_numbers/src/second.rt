@@ -1,12 +1,17 @@
 //! What a timekeeper says at a tick, in numbers.
 
-ghost use Rattle.std.specs.Prelude.{◌≡◌, IfSome, Some};
-ghost use Rattle.irig_time.specs.Seconds.{IsValid};
+ghost use Rattle.std.specs.Prelude.{◌≡◌, Some};
+ghost use Rattle.irig_numbers.specs.Numbers.{sense_in};
 ghost use Rattle.irig_numbers.specs.Reports.{report_in, voices_in};
+ghost use Rattle.irig_numbers.specs.Setups.{redundancy_in};
+ghost use Rattle.irig_numbers.specs.Voices.{voices_to};
+ghost use Rattle.irig_keeper_numbers.specs.Lines.{frames_in};
 ghost use Rattle.irig_keeper_numbers.specs.Seconds.{IsSecondOf, IsToldOf};
 
-use irig_numbers::{IrigReport, Voices, report_for_c};
-use irig_timekeeper::Beat;
+use crate::line::frames_of;
+use crate::timekeeper::IrigTimekeeper;
+use irig_numbers::{IrigReport, Voices, redundancy_of, report_for_c, sense_of, voices_of};
+use irig_timekeeper::{Beat, Ticked};
 
 /// What a timekeeper says at a tick.
 #[repr(C)]
@@ -42,7 +47,7 @@ const NOTHING_REPORTED: IrigReport = IrigReport {
     dst: 0,
 };
 
-pub(crate) const NOTHING_TOLD: IrigSecond = IrigSecond {
+const NOTHING_TOLD: IrigSecond = IrigSecond {
     is_told: 0,
     edge_us: 0,
     missed: 0,
@@ -50,8 +55,27 @@ pub(crate) const NOTHING_TOLD: IrigSecond = IrigSecond {
     report: NOTHING_REPORTED,
 };
 
-/// A beat as C is given it, and what the lines told.
-pub fn second_for_c(beat: &Beat, voices: &Voices) -> IrigSecond
+/// What a tick answers, as C is given it, with what lines told by the frames that they kept.
+pub fn second_of(timekeeper: &IrigTimekeeper, ticked: &Ticked) -> IrigSecond
+    ensures told { IsSecondOf result ticked.now.beat }
+    ensures voices { (beat : Beat) → ticked.now.beat ≡ Some beat → voices_in result.report
+        ≡ voices_to ticked.now.vote beat.told (redundancy_in timekeeper.now.setup)
+        (sense_in timekeeper.now.setup.sense) (frames_in timekeeper.now.lines) }
+{
+    let Some(beat) = ticked.beat else {
+        return NOTHING_TOLD;
+    };
+    let voices = voices_of(
+        &beat.told,
+        redundancy_of(&timekeeper.setup),
+        ticked.vote,
+        sense_of(timekeeper.setup.sense),
+        &frames_of(&timekeeper.lines),
+    );
+    second_for_c(&beat, &voices)
+}
+
+fn second_for_c(beat: &Beat, voices: &Voices) -> IrigSecond
     ensures told { IsToldOf result beat.now }
     ensures voices { voices_in result.report ≡ voices.now }
 {

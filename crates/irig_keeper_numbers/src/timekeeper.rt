@@ -2,9 +2,11 @@
 
 ghost use Rattle.std.specs.Prelude.{◌≡◌, ◌↔◌, ◌+◌, ◌*◌, ◌%◌, ◌^◌, ◌<◌, ◌≤◌, IfSome, IsTrue, None, is_some};
 ghost use Rattle.irig_time.specs.declared.rules.Rules.{Rules};
+ghost use Rattle.irig_time.specs.Seconds.{IsValid};
 ghost use Rattle.irig_reader.specs.Rule.{count_of};
 ghost use Rattle.irig_timekeeper.specs.Clock.{AnnouncedOfUtc};
 ghost use Rattle.irig_timekeeper.specs.Keeping.{Heard, new_state, nothing_heard};
+ghost use Rattle.irig_timekeeper.specs.Stamps.{stamp_of};
 ghost use Rattle.irig_timekeeper.specs.Steps.{AreKeptOfUtc, AreNewLines};
 ghost use Rattle.irig_numbers.specs.CheckWord.{setup_numbers, table_numbers, weighted};
 ghost use Rattle.irig_numbers.specs.Setups.{rules_in, reader_rules_in, IsSetup};
@@ -13,19 +15,19 @@ ghost use Rattle.irig_keeper_numbers.specs.Lines.{lines_in, AreKeptFrom, HaveHea
 ghost use Rattle.irig_numbers.specs.declared.state.TheConstants.{IDLE};
 ghost use Rattle.irig_keeper_numbers.specs.CheckWord.{IsSealed};
 ghost use Rattle.irig_timekeeper.specs.Refusals.{clock_fault};
-ghost use Rattle.irig_keeper_numbers.specs.Timekeepers.{clock_in, clock_state_in, edge_in, IsAccepted, IsAnnounced};
+ghost use Rattle.irig_keeper_numbers.specs.Timekeepers.{announced_in, clock_in, clock_state_in, edge_in, IsAccepted, IsAnnounced};
 
 use crate::announced::{
     IrigAnnounced, NOTHING_ANNOUNCED, announced_for_c, announced_of, is_announced,
 };
-use crate::check_word::check_of;
+use crate::check_word::{changing_sum, check_of};
 use crate::line::{IrigLines, keep_lines, lines_of, lines_of_nothing};
 use irig_numbers::{
     IDLE, IrigSetup, IrigState, IrigTable, is_setup, reader_rules_of, redundancy_of, rules_of,
     state_for_c, state_of,
 };
 use irig_reader::State;
-use irig_timekeeper::{ClockRules, ClockState, clock_fault};
+use irig_timekeeper::{ClockRules, ClockState, Stamp, clock_fault, stamp_of};
 
 /// A timekeeper, all of it plain numbers. It may be copied, kept and taken up again.
 #[repr(C)]
@@ -82,6 +84,16 @@ fn is_sound(fixed: u64, timekeeper: &IrigTimekeeper) -> bool
         && is_announced(&timekeeper.last)
         && is_announced(&timekeeper.before)
         && timekeeper.check == check_of(fixed, timekeeper)
+}
+
+/// Whether its calls accept the numbers, if `fixed` is what setup and table add to the check word.
+pub fn is_accepted(fixed: u64, timekeeper: &IrigTimekeeper) -> bool
+    requires { fixed ≡ (weighted 3 (setup_numbers timekeeper.now.setup)
+        + weighted 15 (table_numbers timekeeper.now.table)) % 2 ^ 64 }
+    ensures { IsTrue result ↔ IsAccepted timekeeper.now }
+{
+    is_sound(fixed, timekeeper)
+        && state_of(&timekeeper.state, timekeeper.setup.lock_after).is_some()
 }
 
 /// Where the clock of a timekeeper stands whose calls accept its numbers, if `fixed` is what setup
@@ -148,6 +160,20 @@ fn set_edge(timekeeper: &mut IrigTimekeeper, edge_us: Option<u32>)
     }
 }
 
+/// The stamp of an event, by the seconds that were announced last.
+pub fn stamp_at(timekeeper: &IrigTimekeeper, time_us: u32) -> Option<Stamp>
+    ensures value { result ≡ stamp_of (announced_in timekeeper.now.last)
+        (announced_in timekeeper.now.before) time_us }
+    ensures valid { IsAnnounced timekeeper.now.last → IsAnnounced timekeeper.now.before
+        → IfSome result (λ stamp. IsValid stamp.second) }
+{
+    stamp_of(
+        announced_of(&timekeeper.last),
+        announced_of(&timekeeper.before),
+        time_us,
+    )
+}
+
 /// Takes up where a tick leaves its clock. The check word stays.
 pub fn keep(timekeeper: &mut IrigTimekeeper, state: &ClockState)
     requires kept { AreKeptFrom (lines_in (rules_in timekeeper.old.setup) timekeeper.old.lines)
@@ -190,4 +216,24 @@ pub fn forget(timekeeper: &mut IrigTimekeeper)
     timekeeper.moved = 0;
     timekeeper.last = NOTHING_ANNOUNCED;
     timekeeper.before = NOTHING_ANNOUNCED;
+}
+
+/// Forgets all that happened to it. A check word that is wrong stays so.
+pub fn restart(timekeeper: &mut IrigTimekeeper)
+    ensures state { clock_state_in timekeeper.new
+        ≡ new_state (lines_in (rules_in timekeeper.new.setup) timekeeper.new.lines) }
+    ensures lines { (rules : Rules) → AreNewLines (lines_in rules timekeeper.new.lines) }
+    ensures heard { HaveHeard timekeeper.new.lines nothing_heard }
+    ensures is_state { timekeeper.new.state ≡ IDLE }
+    ensures last { timekeeper.new.last.is_told ≡ 0 }
+    ensures before { timekeeper.new.before.is_told ≡ 0 }
+    ensures setup { timekeeper.new.setup ≡ timekeeper.old.setup }
+    ensures table { timekeeper.new.table ≡ timekeeper.old.table }
+    ensures drift { timekeeper.new.drift_us ≡ timekeeper.old.drift_us }
+    ensures sealed { IsSealed timekeeper.new ↔ IsSealed timekeeper.old }
+{
+    let before = changing_sum(timekeeper);
+    forget(timekeeper);
+    let after = changing_sum(timekeeper);
+    timekeeper.check = timekeeper.check.wrapping_sub(before).wrapping_add(after);
 }
