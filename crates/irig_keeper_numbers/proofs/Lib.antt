@@ -3,3 +3,5 @@ pub mod LineSums
 pub mod ApartLaws
 pub mod KeptLaws
 pub mod StandardFacts
+pub mod HeardLaws
+pub mod ValueLaws

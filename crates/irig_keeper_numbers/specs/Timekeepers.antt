@@ -1,11 +1,16 @@
 -- What it is for the numbers that C holds to be those of a timekeeper.
 use Rattle.std.specs.Prelude.{◌≡◌, ℕ, ◌==◌, if◌then◌else◌, Option, Some, None, IfSome}
+use Rattle.irig_time.specs.declared.claim.Claim.{Claim}
 use Rattle.irig_time.specs.Seconds.{IsValid}
+use Rattle.irig_timekeeper.specs.declared.clock.Beat.{Beat}
 use Rattle.irig_timekeeper.specs.declared.clock.ClockRules.{ClockRules}
 use Rattle.irig_timekeeper.specs.declared.clock.ClockState.{ClockState}
 use Rattle.irig_timekeeper.specs.declared.stamp.Announced.{Announced}
+use Rattle.irig_timekeeper.specs.declared.stamp.Stamp.{Stamp}
+use Rattle.irig_timekeeper.specs.Clock.{clock_after, clock_answer, clock_vote, clock_wait}
 use Rattle.irig_timekeeper.specs.Keeping.{Keeping}
 use Rattle.irig_timekeeper.specs.Refusals.{clock_fault}
+use Rattle.irig_timekeeper.specs.Stamps.{stamp_of}
 use Rattle.irig_numbers.specs.Setups.{rules_in, reader_rules_in, redundancy_in, IsSetup}
 use Rattle.irig_numbers.specs.LeapTables.{table_in}
 use Rattle.irig_numbers.specs.States.{state_in, IsState}
@@ -59,6 +64,30 @@ pub record IsAccepted (t : IrigTimekeeper) : Type 0 where
   pub last : IsAnnounced t.last
   pub before : IsAnnounced t.before
   pub sealed : IsSealed t
+
+-- ---- what the calls make of numbers that they accept
+
+-- what a tick says
+abbrev pub answer_in : IrigTimekeeper → ℕ → Option Beat
+answer_in t now = clock_answer (clock_in t) (table_in t.table) (clock_state_in t) now
+
+-- the claim on which the lines then agree, if they do
+abbrev pub vote_in : IrigTimekeeper → ℕ → Option Claim
+vote_in t now = clock_vote (clock_in t) (clock_state_in t) now
+
+-- where its clock then stands
+abbrev pub state_behind : IrigTimekeeper → ℕ → ClockState
+state_behind t now = clock_after (clock_in t) (table_in t.table) (clock_state_in t) now
+
+-- how long until a tick has something to do
+abbrev pub wait_in : IrigTimekeeper → ℕ → ℕ
+wait_in t now = clock_wait (clock_in t) (clock_state_in t) now
+
+-- the stamp of an event
+abbrev pub stamp_for : IrigTimekeeper → ℕ → Option Stamp
+stamp_for t time = stamp_of (announced_in t.last) (announced_in t.before) time
+
+-- ---- which value they are
 
 -- the numbers are those of a timekeeper that is this value
 pub record IsTimekeeperOf (t : IrigTimekeeper) (k : Keeping) : Type 0 where
