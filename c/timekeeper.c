@@ -23,7 +23,7 @@ typedef struct expected {
     uint8_t lock, cause;
     uint32_t lock_count;
     uint32_t moved;
-    uint32_t early_us; /* how much earlier than the second line's frames say */
+    uint32_t early_us; /* how much earlier than frames say */
 } expected;
 
 static irig_timekeeper timekeeper;
@@ -41,8 +41,8 @@ static void check(bool is_right, const char *what) {
 
 /* ---- worked out by hand */
 
-static expected voted(uint32_t moved) {
-    return (expected){true, IRIG_LOCK_LOCKED, IRIG_CAUSE_VOTED, 0, moved, 0};
+static expected voted(void) {
+    return (expected){true, IRIG_LOCK_LOCKED, IRIG_CAUSE_VOTED, 0, 0, 0};
 }
 
 static expected acquiring(uint32_t count, uint32_t moved) {
@@ -57,18 +57,19 @@ static expected silent(uint8_t cause, uint32_t edges) {
     return (expected){false, IRIG_LOCK_UNLOCKED, cause, 0, 0, edges * 100};
 }
 
-/* The last vote before the first darkness is at edge 90, the first one behind it at edge 152: that of
- * edge 151 comes 6.1 ms behind the own edge, which was told, and moves it. So at edge 311. */
+/* Votes end at edges 90 and 200. Behind the first darkness a frame ends 6.1 ms behind the own edge, and
+ * is known 4.4 ms behind it: it is voted. Behind the second it ends 11.1 ms behind, and is known 9.4 ms
+ * behind: edge 311 was told 5 ms behind it, and is moved. */
 static expected expect(int edge) {
     if (edge < LOCK_AFTER) return acquiring((uint32_t)edge, 0);
-    if (edge <= 90) return voted(0);
-    if (edge <= 151) return held((uint32_t)(edge - 90));
-    if (edge <= 200) return voted(edge == 152);
+    if (edge <= 90) return voted();
+    if (edge <= 150) return held((uint32_t)(edge - 90));
+    if (edge <= 200) return voted();
     if (edge <= 300) return held((uint32_t)(edge - 200));
     if (edge == 301) return silent(IRIG_CAUSE_EXPIRED, 101);
     if (edge <= 311) return silent(IRIG_CAUSE_NO_VOTE, (uint32_t)(edge - 200));
     if (edge < 314) return acquiring((uint32_t)(edge - 311), edge == 312);
-    return voted(0);
+    return voted();
 }
 
 /* From 23:58:50 of 2016-12-31 over 23:59:60. */
@@ -77,9 +78,10 @@ static irig_utc utc_of(int edge) {
                       : (irig_utc){6210, (uint32_t)(edge - 71)};
 }
 
-/* A frame ends 10,000 us by the counter behind its last pulse: 1 us early. */
+/* The first line says where a second begins, as its frames end first. One ends 10,000 us by the counter
+ * behind its last pulse: 1 us early. */
 static uint32_t edge_of(int edge) {
-    return first_edge_us + (uint32_t)edge * SECOND_US + LATE_US - 1;
+    return first_edge_us + (uint32_t)edge * SECOND_US - 1;
 }
 
 /* ---- what the timekeeper says */
@@ -116,7 +118,6 @@ static void on_second(const irig_second *second) {
     check(report->lock == is.lock && report->lock_count == is.lock_count, "lock");
     check(report->cause == is.cause, "cause");
     check(second->missed == 0 && second->moved == is.moved, "missed or moved");
-    if (second->edge_us != edge_of(told) - is.early_us) printf("%u %u\n", second->edge_us, edge_of(told) - is.early_us);
     check(second->edge_us == edge_of(told) - is.early_us, "the edge");
     if (is.is_announced) check(report->day == utc.day && report->sod == utc.sod, "the second");
     /* By a vote the first two lines agree, and the last is silent. */

@@ -10,13 +10,11 @@ ghost use Rattle.irig_time.specs.Timelines.{TimelineValue};
 ghost use Rattle.irig_time.specs.TimelineFaults.{IsTimeline};
 ghost use Rattle.irig_vote.specs.Vote.{f_of};
 ghost use Rattle.irig_reader.specs.declared.report.Cause.TheVariants as Cause;
-ghost use Rattle.irig_reader.specs.Rule.{count_of};
 ghost use Rattle.irig_timekeeper.specs.declared.clock.Beat.{Beat};
-ghost use Rattle.irig_timekeeper.specs.Clock.{AnnouncedOfUtc};
 ghost use Rattle.irig_timekeeper.specs.Edges.{IsSteady};
 ghost use Rattle.irig_timekeeper.specs.Keeping.{Heard, Keeping, new_keeping, place_told, one_pulse_more, after_pulse, after_tick, answer_at, wait_at, stamp_at, restarted};
 ghost use Rattle.irig_timekeeper.specs.Refusals.{clock_fault};
-ghost use Rattle.irig_timekeeper.specs.Steps.{is_pulse, AreKeptOfUtc, AreNewLines};
+ghost use Rattle.irig_timekeeper.specs.Steps.{is_pulse, AreNewLines};
 ghost use Rattle.irig_timekeeper.specs.Truth.{AreHeardTruly, IsToldTruly};
 ghost use Rattle.irig_numbers.specs.LeapTables.{table_in, HasKinds, IsTable, code_of_table};
 ghost use Rattle.irig_numbers.specs.Numbers.{sense_in};
@@ -38,7 +36,7 @@ use irig_numbers::{
     IrigSetup, IrigTable, OUT_OF_RANGE, fixed_sum, has_kinds, is_port, is_setup, reader_rules_of,
     table_fault,
 };
-use irig_timekeeper::{ClockState, clock_fault, is_pulse, tick_of, wait_of};
+use irig_timekeeper::{clock_fault, is_pulse, tick, wait_of};
 
 /// The holdover is longer than the device's counter can count.
 const DRIFT: u32 = 35;
@@ -178,22 +176,17 @@ pub extern "C" fn irig_c_timekeeper_tick(
         → (beat : Beat) × IsToldOf second.new beat × IsToldTruly t edges 1549 549 now beat u }
 {
     let fixed = fixed_sum(&timekeeper.setup, &timekeeper.table);
-    let Some(state) = clock_state_of(fixed, timekeeper) else {
+    if !is_accepted(fixed, timekeeper) {
         return OUT_OF_RANGE;
-    };
-    *second = tick(timekeeper, state, now_us);
+    }
+    *second = tick_accepted(timekeeper, now_us);
     timekeeper.check = check_of(fixed, timekeeper);
     0
 }
 
 // A tick of numbers that are accepted. The check word stays.
-fn tick(timekeeper: &mut IrigTimekeeper, state: ClockState, now_us: u32) -> IrigSecond
-    requires steady { clock_fault (reader_rules_in timekeeper.old.setup) timekeeper.old.drift_us
-        ≡ None }
-    requires is { state ≡ clock_state_in timekeeper.old }
-    requires counting { count_of state.reader < timekeeper.old.setup.lock_after }
-    requires valid { AreKeptOfUtc state.lines }
-    requires announced { AnnouncedOfUtc state }
+fn tick_accepted(timekeeper: &mut IrigTimekeeper, now_us: u32) -> IrigSecond
+    requires { IsAccepted timekeeper.old }
     ensures said { IsSecondOf result (answer_in timekeeper.old now_us) }
     ensures valid { IfSome (report_in result.report).announce IsValid }
     ensures voices { (beat : Beat) → answer_in timekeeper.old now_us ≡ Some beat
@@ -211,9 +204,10 @@ fn tick(timekeeper: &mut IrigTimekeeper, state: ClockState, now_us: u32) -> Irig
     ensures drift { timekeeper.new.drift_us ≡ timekeeper.old.drift_us }
 {
     let rules = clock_rules_of(timekeeper);
-    let ticked = tick_of(&rules, &timekeeper.table, state, now_us);
+    let mut state = clock_state_of(timekeeper);
+    let ticked = tick(&rules, &timekeeper.table, &mut state, now_us);
     let second = second_of(timekeeper, &ticked);
-    keep(timekeeper, &ticked.state);
+    keep(timekeeper, &state);
     second
 }
 
@@ -226,10 +220,11 @@ pub extern "C" fn irig_c_timekeeper_wait(timekeeper: &IrigTimekeeper, now_us: u3
     ensures refused { (IsAccepted timekeeper.now → ⊥) → result ≡ 0 }
 {
     let fixed = fixed_sum(&timekeeper.setup, &timekeeper.table);
-    match clock_state_of(fixed, timekeeper) {
-        Some(state) => wait_of(&clock_rules_of(timekeeper), &state, now_us),
-        None => 0,
+    if !is_accepted(fixed, timekeeper) {
+        return 0;
     }
+    let state = clock_state_of(timekeeper);
+    wait_of(&clock_rules_of(timekeeper), &state, now_us)
 }
 
 /// The time of an event, by the seconds that were announced last. 26 if there is none, or a tick would

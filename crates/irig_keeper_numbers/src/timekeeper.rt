@@ -96,38 +96,33 @@ pub fn is_accepted(fixed: u64, timekeeper: &IrigTimekeeper) -> bool
         && state_of(&timekeeper.state, timekeeper.setup.lock_after).is_some()
 }
 
-/// Where the clock of a timekeeper stands whose calls accept its numbers, if `fixed` is what setup
-/// and table add to its check word.
-pub fn clock_state_of(fixed: u64, timekeeper: &IrigTimekeeper) -> Option<ClockState>
-    requires { fixed ≡ (weighted 3 (setup_numbers timekeeper.now.setup)
-        + weighted 15 (table_numbers timekeeper.now.table)) % 2 ^ 64 }
-    ensures accepted { IsTrue (is_some result) ↔ IsAccepted timekeeper.now }
-    ensures is { IfSome result (λ s. s ≡ clock_state_in timekeeper.now) }
-    ensures counting { IfSome result (λ s. count_of s.reader < timekeeper.now.setup.lock_after) }
-    ensures valid { IfSome result (λ s. AreKeptOfUtc s.lines) }
-    ensures announced { IfSome result (λ s. AnnouncedOfUtc s) }
-{
-    if !is_sound(fixed, timekeeper) {
-        return None;
-    }
-    match state_of(&timekeeper.state, timekeeper.setup.lock_after) {
-        Some(reader) => Some(with_reader(timekeeper, reader)),
-        None => None,
-    }
-}
-
-fn with_reader(timekeeper: &IrigTimekeeper, reader: State) -> ClockState
-    requires { reader ≡ state_in timekeeper.now.state }
+/// Where the clock of a timekeeper stands whose calls accept its numbers.
+pub fn clock_state_of(timekeeper: &IrigTimekeeper) -> ClockState
+    requires { IsAccepted timekeeper.now }
     ensures is { result ≡ clock_state_in timekeeper.now }
+    ensures counting { count_of result.reader < timekeeper.now.setup.lock_after }
     ensures valid { AreKeptOfUtc result.lines }
+    ensures announced { AnnouncedOfUtc result }
 {
     ClockState {
         lines: lines_of(&rules_of(&timekeeper.setup), &timekeeper.lines),
-        reader,
+        reader: reader_of(timekeeper),
         edge_us: edge_of(timekeeper),
         moved: timekeeper.moved,
         last: announced_of(&timekeeper.last),
         before: announced_of(&timekeeper.before),
+    }
+}
+
+fn reader_of(timekeeper: &IrigTimekeeper) -> State
+    requires { IsAccepted timekeeper.now }
+    ensures is { result ≡ state_in timekeeper.now.state }
+    ensures counting { count_of result < timekeeper.now.setup.lock_after }
+{
+    match state_of(&timekeeper.state, timekeeper.setup.lock_after) {
+        Some(state) => state,
+        // Numbers that are accepted have one.
+        None => State::Idle,
     }
 }
 

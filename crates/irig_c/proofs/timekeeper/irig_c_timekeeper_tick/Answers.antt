@@ -16,28 +16,28 @@ use Rattle.irig_c.proofs.timekeeper.irig_c_timekeeper_tick.Goals as goal
 never : ◌≡◌ {A = Bool} false true → ⊥
 never h = absurd cc
 
-pub returns-in_default-clause-answered : goal.returns-in_default-clause-answered
-returns-in_default-clause-answered c k h = absurd (never (c.in_default.ensures.accepted.1 h.accepted))
+pub returns-then-not-is_accepted-clause-answered : goal.returns-then-not-is_accepted-clause-answered
+returns-then-not-is_accepted-clause-answered c k h = absurd (never (sym c.if-not-is_accepted.true ∙ c.is_accepted.ensures.1 h.accepted))
 
-pub returns-in_default-clause-second : goal.returns-in_default-clause-second
-returns-in_default-clause-second c k h = absurd (never (c.in_default.ensures.accepted.1 h.accepted))
+pub returns-then-not-is_accepted-clause-second : goal.returns-then-not-is_accepted-clause-second
+returns-then-not-is_accepted-clause-second c k h = absurd (never (sym c.if-not-is_accepted.true ∙ c.is_accepted.ensures.1 h.accepted))
 
-pub returns-in_default-clause-after : goal.returns-in_default-clause-after
-returns-in_default-clause-after c k h = absurd (never (c.in_default.ensures.accepted.1 h.accepted))
+pub returns-then-not-is_accepted-clause-after : goal.returns-then-not-is_accepted-clause-after
+returns-then-not-is_accepted-clause-after c k h = absurd (never (sym c.if-not-is_accepted.true ∙ c.is_accepted.ensures.1 h.accepted))
 
 pub returns-clause-answer : goal.returns-clause-answer
-returns-clause-answer c = (λ done. c.in-Some.ensures.accepted.0 refl, λ is. refl)
+returns-clause-answer c = (λ done. c.is_accepted.ensures.0 c.if-not-is_accepted.false, λ is. refl)
 
 pub returns-clause-second : goal.returns-clause-second
 returns-clause-second c k h =
-    subst (λ (a : Option Beat). IsSecondOf c.tick.result a) (answers_as c.args.timekeeper.now k c.args.now_us h) c.tick.ensures.said
+    subst (λ (a : Option Beat). IsSecondOf c.tick_accepted.result a) (answers_as c.args.timekeeper.now k c.args.now_us h) c.tick_accepted.ensures.said
 
 pub returns-clause-after : goal.returns-clause-after
 unfolding check_of
 returns-clause-after c k h =
     let t = c.args.timekeeper.now in
-    let q = c.tick.new.timekeeper in
-    let new = c.tick.ensures in
+    let q = c.tick_accepted.new.timekeeper in
+    let new = c.tick_accepted.ensures in
     record {
       rules = ap (λ (s : IrigSetup). rules_in s) new.setup ∙ h.rules;
       clock = clock_as t q new.setup new.drift ∙ h.clock;
@@ -58,7 +58,7 @@ pub returns-clause-truth : goal.returns-clause-truth
 returns-clause-truth c t d edges now pulses u done clock steady sound heard told voted says =
     let numbers = c.args.timekeeper.now in
     let k : Keeping = record { rules = rules_in numbers.setup; clock = clock_in numbers; table = table_in numbers.table; heard = nothing_heard; state = clock_state_in numbers } in
-    let found = beat_of c.tick.result (answer_in numbers c.args.now_us) c.tick.ensures.said told in
+    let found = beat_of c.tick_accepted.result (answer_in numbers c.args.now_us) c.tick_accepted.ensures.said told in
     let beat = found.0 in (
       beat,
       found.1.told,
