@@ -1,4 +1,4 @@
-use Rattle.std.proofs.Common.{◌≡◌, ◌∙◌, Option, sym, ap, subst}
+use Rattle.std.proofs.Common.{◌∙◌, Option, sym, ap, subst}
 use Rattle.irig_time.specs.declared.claim.Claim.{Claim}
 use Rattle.irig_timekeeper.specs.declared.clock.ClockRules.{ClockRules}
 use Rattle.irig_timekeeper.specs.declared.clock.ClockState.{ClockState}
