@@ -15,7 +15,7 @@ mod lines;
 mod setup;
 mod stamp;
 
-pub use clock::{Beat, ClockRules, ClockState, Ticked, clock_of_nothing, tick_of, wait_of};
+pub use clock::{Beat, ClockRules, ClockState, Ticked, clock_of_nothing, tick, wait_of};
 pub use keeper::Timekeeper;
 pub use laws::{
     a_device_announces, a_device_heals, a_device_tells_the_truth, beats_are_votes,
