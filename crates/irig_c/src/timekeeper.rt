@@ -11,7 +11,8 @@ ghost use Rattle.irig_time.specs.TimelineFaults.{IsTimeline};
 ghost use Rattle.irig_vote.specs.Vote.{f_of};
 ghost use Rattle.irig_reader.specs.declared.report.Cause.TheVariants as Cause;
 ghost use Rattle.irig_timekeeper.specs.declared.clock.Beat.{Beat};
-ghost use Rattle.irig_timekeeper.specs.Edges.{IsSteady};
+ghost use Rattle.irig_timekeeper.specs.Edges.{IsQuartz};
+ghost use Rattle.irig_timekeeper.specs.Lines.{IsTrueLately};
 ghost use Rattle.irig_timekeeper.specs.Keeping.{Heard, Keeping, new_keeping, place_told, one_pulse_more, after_pulse, after_tick, answer_at, wait_at, stamp_at, restarted};
 ghost use Rattle.irig_timekeeper.specs.Refusals.{clock_fault};
 ghost use Rattle.irig_timekeeper.specs.Steps.{is_pulse, AreNewLines};
@@ -167,9 +168,9 @@ pub extern "C" fn irig_c_timekeeper_tick(
     // `votes_are_true`).
     ensures truth { (t : TimelineValue) (d : ℕ) (edges : ℕ → ℕ) (now : ℕ)
         (pulses : ℕ → List Pulse) (u : UtcSecond) → result ≡ 0 → now_us ≡ now % 2 ^ 32
-        → IsSteady d edges → IsTimeline t
-        → AreHeardTruly (rules_in timekeeper.old.setup) t edges
-        (f_of (redundancy_in timekeeper.old.setup)) now
+        → IsQuartz d edges → IsTimeline t
+        → AreHeardTruly (IsTrueLately (rules_in timekeeper.old.setup) t edges now)
+        (rules_in timekeeper.old.setup) (f_of (redundancy_in timekeeper.old.setup)) now
         (lines_in (rules_in timekeeper.old.setup) timekeeper.old.lines) pulses
         → second.new.is_told ≡ 1 → (report_in second.new.report).cause ≡ Cause.Voted
         → (report_in second.new.report).announce ≡ Some u

@@ -2,6 +2,8 @@ use Rattle.std.proofs.Common.{◌≡◌, ◌∙◌, ℕ, Bool, true, false, Opti
 use Rattle.irig_reader.specs.declared.report.Report.{Report}
 use Rattle.irig_timekeeper.specs.declared.clock.Beat.{Beat}
 use Rattle.irig_timekeeper.specs.Keeping.{Keeping, nothing_heard}
+use Rattle.irig_timekeeper.specs.Lines.{IsTrueLately}
+use Rattle.irig_timekeeper.proofs.LineLaws.{true_lately}
 use Rattle.irig_timekeeper.proofs.VotedLaws.{tick_voted}
 use Rattle.irig_numbers.specs.declared.setup.IrigSetup.{IrigSetup}
 use Rattle.irig_numbers.specs.declared.table.IrigTable.{IrigTable}
@@ -62,7 +64,7 @@ returns-clause-truth c t d edges now pulses u done clock steady sound heard told
     let beat = found.0 in (
       beat,
       found.1.told,
-      tick_voted t d edges k now pulses beat u steady sound heard
+      tick_voted (IsTrueLately k.rules t edges now) t edges 549 549 k now pulses beat u (λ end ps claim is frame soon. true_lately k.rules t d edges now end ps claim steady is frame soon) sound heard
           (ap (λ (x : ℕ). answer_in numbers x) (sym clock) ∙ found.1.is)
           (ap (λ (r : Report). r.cause) (sym found.1.told.report) ∙ voted)
           (ap (λ (r : Report). r.announce) (sym found.1.told.report) ∙ says),
