@@ -57,6 +57,7 @@ frame encode(const content *what, bool is_odd, bool is_subtracted) {
     put(&f, 80, binary & 511);
     put(&f, 90, binary >> 9);
     uint64_t upper = f.ones[1] & ((UINT64_C(1) << 26) - 1);
-    if ((__builtin_popcountll(f.ones[0]) + __builtin_popcountll(upper)) % 2 != is_odd) put(&f, 75, 1);
+    if ((__builtin_popcountll(f.ones[0]) + __builtin_popcountll(upper)) % 2 != is_odd)
+        put(&f, 75, 1);
     return f;
 }

@@ -5,7 +5,7 @@
 #include <stdbool.h>
 #include <stdint.h>
 
-enum { DAY_S = 86400, LAST_DAY = 36523, ELEMENTS = 100, HALF = 50, CONTROL_BITS = 18 };
+enum { DAY_S = 86400, LAST_DAY = 36523, ELEMENTS = 100, HALF = 50 };
 
 /* A second of UTC: the day from 2000-01-01, and the second of the day. */
 typedef struct utc {

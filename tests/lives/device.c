@@ -26,11 +26,17 @@ static void arm(life *l, bool is_behind_tick) {
     d->is_asked = (l->judge.has_told || wait_us != SECOND_US) && !l->judge.subject->is_by_wait;
 }
 
-/* Around edge after edge, the next one that lies ahead. */
+/* Around edge after edge, the next one that lies ahead; or where something is just in time, or just
+ * too late, if nothing drifts. */
 static uint64_t around_edge(life *l) {
+    static const uint32_t JUST_US[] = {99999,   100000,  100001,  1004999, 1005000, 1005001,
+                                       1099999, 1100000, 1100001, 2004999, 2005000};
     device *d = &l->device;
+    uint64_t just_us = l->sky.told_edge_us + JUST_US[below(&d->luck, 11)];
+    if (is_once_in(&d->luck, 2) && just_us > d->now_us) return just_us;
     while (d->edge <= l->world.seconds) {
-        uint64_t at_us = l->world.edge_us[d->edge++] + (uint64_t)(int64_t)between(&d->luck, -400000, 400000);
+        uint64_t at_us =
+            l->world.edge_us[d->edge++] + (uint64_t)(int64_t)between(&d->luck, -400000, 400000);
         if (at_us > d->now_us) return at_us;
     }
     return d->now_us + SECOND_US;
@@ -60,10 +66,12 @@ static void set_next_tick(life *l) {
 
 static void say(const life *l, const told_second *s) {
     const irig_report *r = &s->report;
-    printf("  %10.6f s: edge %+lld us, day %u second %u, lock %u:%u cause %u agreed %u missed %u moved %u\n",
-           (double)(l->device.now_us - l->world.edge_us[0]) / 1e6,
-           (long long)(l->judge.edge_us - l->world.edge_us[l->judge.come]), r->announces ? r->day : 0,
-           r->announces ? r->sod : 0, r->lock, r->lock_count, r->cause, r->agreed, s->missed, s->moved);
+    uint32_t edge = edge_before(&l->world, l->judge.edge_us + SECOND_US / 2);
+    printf("  %10.6f s: edge %u %+lld us, day %u second %u, lock %u:%u, cause %u, ports %u, ",
+           (double)(l->device.now_us - l->world.edge_us[0]) / 1e6, edge,
+           (long long)(l->judge.edge_us - l->world.edge_us[edge]), r->day, r->sod, r->lock,
+           r->lock_count, r->cause, r->agreed);
+    printf("%u missed, moved %u times\n", s->missed, s->moved);
 }
 
 static void keep(life *l, const told_second *s) {
@@ -150,7 +158,8 @@ void play(life *l, const subject *s) {
         uint64_t now_us = pulse_us < tick_us ? pulse_us : tick_us;
         if (now_us > end_us) break;
         if (l->device.pace == BY_WAIT && !l->device.is_asleep) judge_time(&l->judge, now_us);
-        if (pulse_us < tick_us || (pulse_us == tick_us && is_once_in(&l->device.luck, 2))) tell(l, next);
+        if (pulse_us < tick_us || (pulse_us == tick_us && is_once_in(&l->device.luck, 2)))
+            tell(l, next);
         else tick_and_go_on(l);
     }
 }

@@ -6,7 +6,7 @@
 
 /* When ticks come. */
 typedef enum pace {
-    BY_WAIT,       /* when `wait` says */
+    BY_WAIT, /* when `wait` says */
     BY_POLLS,
     AT_RANDOM,
     BEFORE_PULSES, /* before each pulse is told */
@@ -17,18 +17,18 @@ typedef enum pace {
 
 typedef struct device {
     pace pace;
-    uint32_t poll_us;      /* the longest time between polls */
-    uint32_t late_us;      /* how late a tick is at most that `wait` asked for, */
-    uint32_t always_us;    /* and at least */
-    uint32_t gap_one_in;   /* ticks of WITH_GAPS */
+    uint32_t poll_us;        /* the longest time between polls */
+    uint32_t late_us;        /* how late a tick is at most that `wait` asked for, */
+    uint32_t always_us;      /* and at least */
+    uint32_t gap_one_in;     /* ticks of WITH_GAPS */
     uint32_t restart_one_in; /* ticks; 0 none */
     chance luck;
     /* where it stands */
     uint64_t now_us, tick_us, due_us;
-    bool is_asked;         /* `wait` asked for the next tick, and no frame has ended since */
+    bool is_asked; /* `wait` asked for the next tick, and no frame has ended since */
     bool is_asleep;
     uint64_t sleep_us, wake_us; /* between these there is no tick */
-    uint32_t edge;         /* of AROUND_EDGES */
+    uint32_t edge;              /* of AROUND_EDGES */
 } device;
 
 /* What was told, and when. */
@@ -46,7 +46,7 @@ typedef struct life {
     irig_table table;
     device device;
     judge judge;
-    bool is_told_aloud;    /* each second is printed */
+    bool is_told_aloud;       /* each second is printed */
     entry told[MOST_ENTRIES]; /* the first of them */
     int tolds;
 } life;

@@ -30,23 +30,27 @@ void print_frames(uint32_t count) {
         content what = any_content(&luck);
         bool is_odd = is_once_in(&luck, 2), is_subtracted = is_once_in(&luck, 2);
         frame f = encode(&what, is_odd, is_subtracted);
-        printf("%d %d %d %d %d %d %d %d %d ", (int)what.at.day, (int)what.at.second, what.zone, what.pending,
-               what.is_delete, what.dst_pending, what.dst, is_subtracted ? what.zone : -what.zone,
-               (int)what.quality);
+        printf("%d %d %d %d %d %d %d %d %d ", (int)what.at.day, (int)what.at.second, what.zone,
+               what.pending, what.is_delete, what.dst_pending, what.dst,
+               is_subtracted ? what.zone : -what.zone, (int)what.quality);
         printf("%s ", is_odd ? "odd" : "even");
         for (unsigned element = 0; element < ELEMENTS; element++) putchar(letter_of(&f, element));
         putchar('\n');
     }
 }
 
-#ifdef HAS_LIBRARY
 static bool is_of_library(const content *what, bool is_odd, bool is_subtracted) {
     uint8_t symbols[100];
     frame f = encode(what, is_odd, is_subtracted);
     irig_utc at = {(uint32_t)what->at.day, (uint32_t)what->at.second};
-    irig_control control = {what->pending, what->is_delete, what->dst_pending, what->dst,
-                            (int8_t)(is_subtracted ? what->zone : -what->zone), (uint8_t)what->quality};
-    if (irig_frame_of(&at, (int8_t)what->zone, &control, is_odd, symbols) != IRIG_DONE) return false;
+    irig_control control = {what->pending,
+                            what->is_delete,
+                            what->dst_pending,
+                            what->dst,
+                            (int8_t)(is_subtracted ? what->zone : -what->zone),
+                            (uint8_t)what->quality};
+    if (irig_frame_of(&at, (int8_t)what->zone, &control, is_odd, symbols) != IRIG_DONE)
+        return false;
     for (unsigned element = 0; element < ELEMENTS; element++) {
         uint8_t wanted = is_marker(element) ? IRIG_SYMBOL_MARKER : is_one(&f, element);
         if (symbols[element] != wanted) return false;
@@ -63,10 +67,3 @@ void compare_frames(uint32_t count, uint64_t *passed, uint64_t *failed) {
         else (*failed)++;
     }
 }
-#else
-void compare_frames(uint32_t count, uint64_t *passed, uint64_t *failed) {
-    (void)count;
-    (void)passed;
-    (*failed)++;
-}
-#endif

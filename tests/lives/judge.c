@@ -4,7 +4,14 @@
 #include <stdio.h>
 #include <string.h>
 
-enum { WAIT_MOST_US = 1005000, EARLY_US = 1549, LATE_US = 549, LINE_US = 450, IN_TIME_US = 98000 };
+enum {
+    WAIT_MOST_US = 1005000,
+    EARLY_US = 1549,
+    LATE_US = 549,
+    LINE_US = 450,
+    IN_TIME_US = 98000,
+    OWN_EARLY_US = 4000
+};
 
 void fail(judge *j, const char *form, ...) {
     va_list values;
@@ -27,7 +34,7 @@ static void forget(judge *j) {
     }
     j->has_told = false;
     j->announced = j->voted = j->asked = j->moved = -1;
-    j->row = 0;
+    j->row = j->moves = 0;
 }
 
 void judge_begins(judge *j, uint64_t now_us) {
@@ -143,16 +150,22 @@ static void judge_announced(judge *j, const told_second *s, uint64_t edge_us) {
         fail(j, "it announces T(%lld) %lld us off its edge, %lld s behind a vote", (long long)m,
              (long long)off_us, (long long)age);
     if (age > j->setup.holdover) fail(j, "it holds for %lld s", (long long)age);
+    if (r->cause != (age > 0 ? IRIG_CAUSE_HELD : IRIG_CAUSE_VOTED) ||
+        (age > 0) != (r->agreed == 0) || age != m - j->voted)
+        fail(j, "it announces T(%lld) by cause %u, %lld s behind the vote at edge %lld",
+             (long long)m, r->cause, (long long)age, (long long)j->voted);
     if (m <= j->announced) fail(j, "it announces T(%lld) again", (long long)m);
     if (j->has_told && j->report.announces && m != j->announced + 1 + (int64_t)s->missed)
         fail(j, "T(%lld) behind T(%lld), and %u missed", (long long)m, (long long)j->announced,
              s->missed);
     j->announced = m;
+    j->counts.leaps += r->sod == DAY_S;
     if (r->cause == IRIG_CAUSE_VOTED) j->counts.voted++;
     else j->counts.held++;
 }
 
-/* It goes silent behind an announcement only if its holdover is over, or what follows is not known. */
+/* It goes silent behind an announcement only if its holdover is over, or what follows is not
+ * known. */
 static void judge_silence(judge *j, const told_second *s) {
     const irig_report *last = &j->report;
     uint64_t age = last->lock == IRIG_LOCK_HOLDOVER ? last->lock_count : 0;
@@ -165,6 +178,20 @@ static void judge_silence(judge *j, const told_second *s) {
         fail(j, "it is silent, cause %u, %u s behind a vote", s->report.cause, (unsigned)alone);
 }
 
+static void judge_report(judge *j, const told_second *s, uint64_t edge_us) {
+    const irig_report *r = &s->report;
+    judge_world(j);
+    if (r->cause == IRIG_CAUSE_JUMP) fail(j, "a jump");
+    if (r->cause <= IRIG_CAUSE_RANGE_END) j->counts.causes[r->cause]++;
+    if (!j->has_told && r->agreed == 0) fail(j, "it begins with no vote");
+    if (s->moved < j->moves && !j->subject->is_by_wait)
+        fail(j, "its edge was moved, and it tells of none");
+    if (r->agreed != 0) judge_vote(j, s, edge_us);
+    else j->row = 0;
+    if (r->announces) judge_announced(j, s, edge_us);
+    else if (j->has_told && j->report.announces) judge_silence(j, s);
+}
+
 static void judge_told(judge *j, const told_second *s) {
     uint32_t gone_us = (uint32_t)j->now_us - s->edge_us;
     uint64_t edge_us = j->now_us - gone_us;
@@ -175,16 +202,9 @@ static void judge_told(judge *j, const told_second *s) {
     }
     if (j->has_told && edge_us < j->edge_us + SECOND_US / 2)
         fail(j, "an edge %lld us behind the last", (long long)(edge_us - j->edge_us));
-    if (!j->is_beyond) {
-        judge_world(j);
-        if (s->report.cause == IRIG_CAUSE_JUMP) fail(j, "a jump");
-        if (!j->has_told && s->report.agreed == 0) fail(j, "it begins with no vote");
-        if (s->report.agreed != 0) judge_vote(j, s, edge_us);
-        else j->row = 0;
-        if (s->report.announces) judge_announced(j, s, edge_us);
-        else if (j->has_told && j->report.announces) judge_silence(j, s);
-    }
+    if (!j->is_beyond) judge_report(j, s, edge_us);
     j->has_told = true;
+    j->moves = 0;
     j->edge_us = edge_us;
     j->report = s->report;
 }
@@ -197,16 +217,19 @@ static int whole_lines(const judge *j, int64_t frame) {
     return count;
 }
 
-/* The last edge had no vote, so the device's own edge was moved to it. */
+/* The last edge had no vote: the second was told before the lines ended their frame, by an own edge
+ * that was some milliseconds early. It has been moved to the lines' since. */
 static void judge_moved(judge *j, uint32_t m) {
     uint32_t wait_us = j->subject->wait((uint32_t)j->now_us);
     int64_t off_us = off(j, j->now_us + wait_us - WAIT_MOST_US, m);
-    if (off_us < -EARLY_US || off_us > LATE_US)
+    bool was_early = j->has_told && off(j, j->edge_us, m) < -OWN_EARLY_US;
+    if (!was_early || off_us < -EARLY_US || off_us > LATE_US)
         fail(j, "%d lines sent frame %u whole, and edge %u has no vote", whole_lines(j, m - 1),
              m - 1, m);
     else if (j->moved >= 0 && j->moved + 1 == (int64_t)m)
         fail(j, "its edge is moved twice in a row, to %u", m);
     j->moved = m;
+    j->moves++;
     j->counts.moved++;
 }
 
@@ -220,7 +243,7 @@ static void judge_come(judge *j) {
     if (j->voted != (int64_t)m) judge_moved(j, m);
 }
 
-/* It is so behind the first tick that comes in time behind the edge, */
+/* It has behind the first tick that comes in time behind the edge, */
 static void judge_come_by_tick(judge *j) {
     int64_t since_us = off(j, j->now_us, j->come);
     if (since_us >= LATE_US && since_us <= IN_TIME_US) judge_come(j);

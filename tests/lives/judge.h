@@ -1,5 +1,5 @@
-/* Judges what a timekeeper answers, by the world and by what the lines sent: no code of the library,
- * and nothing that the timekeeper says of itself, but its reports. */
+/* Judges what a timekeeper answers, by the world and by what the lines sent: without code of the
+ * library, and without anything that the timekeeper says of itself but its reports. */
 #ifndef JUDGE_H
 #define JUDGE_H
 
@@ -9,15 +9,17 @@
 /* What a line has sent. */
 typedef struct sent {
     pulse last;
-    bool is_any;           /* since the device began, or was restarted */
-    uint64_t false_us;     /* when its last false pulse rose */
-    uint32_t run_frame;    /* the frame whose pulses came from the first one on, with nothing between, */
-    unsigned run;          /* and how many; 0 none */
-    int64_t whole;         /* the last frame that it sent whole, and that tells a claim */
+    bool is_any;        /* since the device began, or was restarted */
+    uint64_t false_us;  /* when its last false pulse rose */
+    uint32_t run_frame; /* the frame of the pulses that came last, from its first one on, */
+    unsigned run;       /* and how many with nothing between; 0 none */
+    int64_t whole;      /* the last frame that it sent whole, and that tells a claim */
 } sent;
 
 typedef struct counts {
     uint64_t pulses, ticks, told, voted, held, whole, moved, lit;
+    uint64_t causes[IRIG_CAUSE_RANGE_END + 1];
+    uint64_t leaps;           /* inserted seconds that were announced */
     int64_t earliest, latest; /* edges of votes against the true ones, in us */
 } counts;
 
@@ -27,21 +29,22 @@ typedef struct judge {
     irig_setup setup;
     irig_table table;
     uint8_t lines;
-    bool is_beyond;        /* more lines lie than may: order alone is judged, */
-    bool is_overrun;       /* or all, so that something is found */
+    bool is_beyond;  /* more lines lie than may: order alone is judged, */
+    bool is_overrun; /* or all, so that something is found */
     sent sent[MOST_LINES];
     uint64_t now_us, lit_us;
-    uint32_t come;         /* the last edge that has come */
-    bool has_told;         /* a second, since it began or was restarted: of the last one */
-    uint64_t edge_us;      /* its edge, */
+    uint32_t come;    /* the last edge that has come */
+    bool has_told;    /* a second, since it began or was restarted: of the last one */
+    uint64_t edge_us; /* its edge, */
     irig_report report;
-    int64_t announced;     /* the last second announced, or -1 */
-    int64_t voted;         /* the edge of the last second with a vote, or -1 */
-    uint32_t row;          /* seconds with a vote that followed one another */
-    int64_t asked;         /* the last edge whose vote was asked for */
-    int64_t moved;         /* the last such edge to which its own was moved instead */
+    int64_t announced; /* the last second announced, or -1 */
+    int64_t voted;     /* the edge of the last second with a vote, or -1 */
+    uint32_t row;      /* seconds with a vote that followed one another */
+    int64_t asked;     /* the last edge whose vote was asked for */
+    int64_t moved;     /* the last such edge to which its own was moved instead, */
+    uint32_t moves;    /* and how many there were since a second was told */
     bool is_failed;
-    char text[240];        /* why */
+    char text[240]; /* why */
     counts counts;
 } judge;
 

@@ -16,8 +16,7 @@ static content saying_of(line *l, const sky *s, const lie *told) {
         what.pending = !what.pending || what.is_delete;
     }
     if (told->saying == SAYS_POOR) what.quality = 10 + below(luck, 6);
-    if (told->saying == SAYS_ANY)
-        what.at = (utc){1 + below(luck, LAST_DAY), below(luck, DAY_S)};
+    if (told->saying == SAYS_ANY) what.at = (utc){1 + below(luck, LAST_DAY), below(luck, DAY_S)};
     return what;
 }
 
@@ -29,8 +28,9 @@ static uint64_t end_of(const line *l, const sky *s) {
     int64_t gone = l->lie_count;
     switch (told->aim) {
     case AT_PLACE: break;
-    case AT_BOUND:
-        end_us += last_offset(&s->line[told->target], frame);
+    case AT_BOUND: /* where that line ends, by its last pulse */
+        end_us = (int64_t)s->world->edge_us[frame] + SECOND_US +
+                 last_offset(&s->line[told->target], frame);
         break;
     case SHIFTED: break;
     case WALKING: end_us += told->rate_us * gone; break;
@@ -49,6 +49,9 @@ static bool make_false_frame(line *l, const sky *s) {
     if (l->lie_frame < 0 || l->lie_frame >= s->world->seconds) return false;
     content what = saying_of(l, s, told);
     l->symbols = encode(&what, s->world->is_odd, s->world->is_subtracted);
+    for (uint32_t flips = told->saying == SAYS_WRONGLY ? 1 + below(&l->lie_luck, 4) : 0; flips > 0;
+         flips--)
+        l->symbols.ones[below(&l->lie_luck, 2)] ^= UINT64_C(1) << below(&l->lie_luck, HALF);
     l->lie_base_us = end_of(l, s) - ELEMENT_US - 99 * (uint64_t)told->spacing_us;
     l->lie_element = 0;
     l->lie_moved_us = told->harm == LAST_MOVED ? between(&l->lie_luck, -1000, 1000) : 0;

@@ -1,7 +1,7 @@
 /* The library's timekeeper as a subject; and beside it the model, which has to answer alike. */
 #include "subject.h"
 
-#include <stdio.h>
+#ifdef HAS_TIMEKEEPER
 #include <string.h>
 
 static irig_timekeeper keeper;
@@ -33,12 +33,14 @@ const subject library_subject = {"library", begin, hear, tick, wait, restart, fa
 enum { DIFFERS = 200 };
 
 static uint32_t begin_both(const irig_setup *setup, const irig_table *table, uint32_t drift_us) {
-    uint32_t wanted = model_subject.begin(setup, table, drift_us), answer = begin(setup, table, drift_us);
+    uint32_t wanted = model_subject.begin(setup, table, drift_us),
+             answer = begin(setup, table, drift_us);
     return wanted == answer ? answer : DIFFERS;
 }
 
 static uint8_t hear_both(uint8_t line, uint32_t rise_us, uint32_t width_us) {
-    uint8_t wanted = model_subject.hear(line, rise_us, width_us), place = hear(line, rise_us, width_us);
+    uint8_t wanted = model_subject.hear(line, rise_us, width_us),
+            place = hear(line, rise_us, width_us);
     return wanted == place ? place : DIFFERS;
 }
 
@@ -47,7 +49,8 @@ static bool are_alike(const told_second *a, const told_second *b) {
     if (a->is_told != b->is_told || !a->is_told) return a->is_told == b->is_told;
     return a->edge_us == b->edge_us && a->missed == b->missed && a->moved == b->moved &&
            p->announces == q->announces && p->lock == q->lock && p->cause == q->cause &&
-           p->agreed == q->agreed && p->lock_count == q->lock_count && p->day == q->day && p->sod == q->sod;
+           p->agreed == q->agreed && p->lock_count == q->lock_count && p->day == q->day &&
+           p->sod == q->sod;
 }
 
 static uint32_t tick_both(uint32_t now_us, told_second *s) {
@@ -66,4 +69,6 @@ static void restart_both(void) {
     restart();
 }
 
-const subject both_subject = {"both", begin_both, hear_both, tick_both, wait_both, restart_both, false};
+const subject both_subject = {"both",    begin_both,   hear_both, tick_both,
+                              wait_both, restart_both, false};
+#endif

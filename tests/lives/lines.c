@@ -30,7 +30,8 @@ int32_t last_offset(const line *l, uint32_t frame) {
 
 static bool is_dark(const line *l, const sky *s) {
     for (int i = 0; i < s->darks; i++)
-        if (l->frame >= s->dark[i].from && l->frame < s->dark[i].to && s->dark[i].lines >> l->number & 1)
+        if (l->frame >= s->dark[i].from && l->frame < s->dark[i].to &&
+            s->dark[i].lines >> l->number & 1)
             return true;
     return false;
 }
@@ -85,8 +86,11 @@ static bool next_true(line *l, const sky *s) {
         if (rise_us <= l->end_us && l->end_us < at_us + JITTER_US) rise_us = l->end_us + 1;
         if (rise_us <= l->end_us || is_lost(l)) continue;
         uint32_t wide_us = width_of(l->width, &l->symbols, l->element, &l->luck);
-        l->next = (pulse){.rise_us = rise_us, .end_us = rise_us + wide_us,
-                          .frame = l->frame, .element = (uint8_t)l->element, .is_true = true,
+        l->next = (pulse){.rise_us = rise_us,
+                          .end_us = rise_us + wide_us,
+                          .frame = l->frame,
+                          .element = (uint8_t)l->element,
+                          .is_true = true,
                           .is_claim = l->is_claim};
         l->element++;
         return true;

@@ -15,23 +15,37 @@ typedef struct pulse {
 /* ---- lies */
 
 /* What the frames of a liar say. */
-typedef enum saying { SAYS_TRUTH, SAYS_OTHER, SAYS_LEAP, SAYS_POOR, SAYS_ANY, SAYINGS } saying;
+typedef enum saying {
+    SAYS_TRUTH,
+    SAYS_OTHER,  /* another second */
+    SAYS_LEAP,   /* something else of the leap */
+    SAYS_POOR,   /* a poor quality */
+    SAYS_ANY,    /* any second */
+    SAYS_WRONGLY /* the truth, but for some bits */
+} saying;
 
 /* When they end: an element behind their last pulse. */
 typedef enum aim {
-    AT_PLACE,     /* at the edge, as true lines do */
-    AT_BOUND,     /* some 1,000 us before or behind another line */
-    SHIFTED,      /* by as much in each second */
-    WALKING,      /* by more in each second */
-    AT_OWN_EDGE,  /* by the edges that the device tells */
+    AT_PLACE,    /* at the edge, as true lines do */
+    AT_BOUND,    /* some 1,000 us before or behind another line */
+    SHIFTED,     /* by as much in each second */
+    WALKING,     /* by more in each second */
+    AT_OWN_EDGE, /* by the edges that the device tells */
     AIMS
 } aim;
 
 /* What else is wrong with them. */
-typedef enum harm { UNHARMED, CUT, TRAILED, LAST_MOVED, GLITCHES, HOLES, HARMS } harm;
+typedef enum harm {
+    UNHARMED,
+    CUT,        /* they end too soon */
+    TRAILED,    /* some more pulses follow */
+    LAST_MOVED, /* the last pulse comes early or late */
+    GLITCHES,
+    HOLES /* pulses are lost */
+} harm;
 
 /* Or no frames at all. */
-typedef enum manner { FRAMES, NOISE, STUCK, MANNERS } manner;
+typedef enum manner { FRAMES, NOISE, STUCK } manner;
 
 typedef struct lie {
     uint64_t from_us, to_us; /* each false pulse rises between */
@@ -40,12 +54,12 @@ typedef struct lie {
     saying saying;
     aim aim;
     harm harm;
-    int32_t by;         /* seconds off of SAYS_OTHER */
-    int32_t shift_us;   /* of the first frame's end */
-    int32_t rate_us;    /* of WALKING, a second */
+    int32_t by;       /* seconds off of SAYS_OTHER */
+    int32_t shift_us; /* of the first frame's end */
+    int32_t rate_us;  /* of WALKING, a second */
     uint32_t spacing_us;
-    uint8_t target;     /* the line of AT_BOUND */
-    uint64_t seed;      /* those who collude have one */
+    uint8_t target; /* the line of AT_BOUND */
+    uint64_t seed;  /* those who collude have one */
 } lie;
 
 enum { MOST_LIES = 600, MOST_DARK = 8 };
@@ -57,7 +71,7 @@ typedef enum spread { EQUAL, BY_CHANCE, IN_TURN, SPREADS } spread;
 typedef enum width { NOMINAL, NARROW, WIDE, ANY_WIDTH, WIDTHS } width;
 
 typedef struct line {
-    pulse next;   /* the one that ends next */
+    pulse next; /* the one that ends next */
     bool is_over;
     uint8_t number;
     chance luck;

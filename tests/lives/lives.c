@@ -10,6 +10,7 @@
  *     --overrun        one liar more than may be, so that lives have to fail
  *     --aloud          prints each second that is told
  *     --rows           plays small worlds with what has to come of each, and no lives
+ *     --row NAME       that one alone
  *     --wrongs         all that can be wrong with the model has to be found
  *     --frames         prints frames, for compare_frames
  *     --compare        compares frames with those of the library
@@ -33,16 +34,16 @@ typedef struct options {
     uint64_t seed, seconds, life;
     bool has_life, is_aloud, is_overrun;
     const char *other; /* in place of lives */
+    const char *row;
 } options;
 
 static const subject *const SUBJECTS[] = {
 #ifdef HAS_TIMEKEEPER
-    &library_subject, &both_subject,
+    &library_subject,
+    &both_subject,
 #endif
     &model_subject,
-#ifdef HAS_LIBRARY
     &old_capture_subject,
-#endif
 };
 
 /* ---- lives */
@@ -56,6 +57,9 @@ static void add(counts *all, const counts *more) {
     all->whole += more->whole;
     all->moved += more->moved;
     all->lit += more->lit;
+    all->leaps += more->leaps;
+    for (int cause = 0; cause <= IRIG_CAUSE_RANGE_END; cause++)
+        all->causes[cause] += more->causes[cause];
     if (more->earliest < all->earliest) all->earliest = more->earliest;
     if (more->latest > all->latest) all->latest = more->latest;
 }
@@ -101,13 +105,16 @@ static void play_lives(const options *o, counts *all, uint64_t *passed, uint64_t
 }
 
 static void say_counts(const options *o, const counts *all) {
-    printf("%s, seed %" PRIu64 ": %" PRIu64 " s, %" PRIu64 " pulses, %" PRIu64 " ticks\n", o->subject->name,
-           o->seed, all->lit, all->pulses, all->ticks);
-    printf("  %" PRIu64 " seconds told, %" PRIu64 " voted, %" PRIu64 " held; edges of votes %" PRId64
-           " to %" PRId64 " us off\n",
+    printf("%s, seed %" PRIu64 ": %" PRIu64 " s, %" PRIu64 " pulses, %" PRIu64 " ticks\n",
+           o->subject->name, o->seed, all->lit, all->pulses, all->ticks);
+    printf("  %" PRIu64 " seconds told, %" PRIu64 " voted, %" PRIu64
+           " held; edges of votes %" PRId64 " to %" PRId64 " us off\n",
            all->told, all->voted, all->held, all->earliest, all->latest);
-    printf("  %" PRIu64 " seconds had to have a vote, %" PRIu64 " of them moved the edge\n", all->whole,
-           all->moved);
+    printf("  %" PRIu64 " seconds had to have a vote, %" PRIu64 " of them moved the edge; %" PRIu64
+           " leap seconds, %" PRIu64 " guards, %" PRIu64 " ends of holdover, %" PRIu64
+           " of the range\n",
+           all->whole, all->moved, all->leaps, all->causes[IRIG_CAUSE_LEAP_GUARD],
+           all->causes[IRIG_CAUSE_EXPIRED], all->causes[IRIG_CAUSE_RANGE_END]);
 }
 
 /* ---- what is wrong with a model */
@@ -126,7 +133,7 @@ static void find_wrongs(options *o, uint64_t *passed, uint64_t *failed) {
     o->subject = &model_subject;
     for (model_wrong = NOTHING_WRONG + 1; model_wrong < WRONGS; model_wrong++) {
         uint64_t right = 0, rows = 0, number;
-        play_rows(&one, o->subject, false, &right, &rows);
+        play_rows(&one, o->subject, NULL, false, &right, &rows);
         bool is_found = is_found_by_lives(o, &number);
         printf("%s: %" PRIu64 " rows", WRONG_NAMES[model_wrong], rows);
         if (is_found) printf(", life %" PRIu64 ": %s", number, one.judge.text);
@@ -162,11 +169,14 @@ static wrong wrong_of(const char *name) {
 static bool take_word(options *o, const char *word) {
     static const char *const OTHERS[] = {"--rows", "--wrongs", "--frames", "--compare"};
     for (size_t i = 0; i < sizeof OTHERS / sizeof *OTHERS; i++)
-        if (strcmp(word, OTHERS[i]) == 0) o->other = OTHERS[i];
-    if (strcmp(word, "--aloud") == 0) o->is_aloud = true;
-    else if (strcmp(word, "--overrun") == 0) o->is_overrun = true;
-    else return o->other != NULL;
-    return true;
+        if (strcmp(word, OTHERS[i]) == 0) {
+            o->other = OTHERS[i];
+            return true;
+        }
+    bool is_aloud = strcmp(word, "--aloud") == 0, is_overrun = strcmp(word, "--overrun") == 0;
+    o->is_aloud |= is_aloud;
+    o->is_overrun |= is_overrun;
+    return is_aloud || is_overrun;
 }
 
 static void take_value(options *o, const char *word, const char *value) {
@@ -175,7 +185,9 @@ static void take_value(options *o, const char *word, const char *value) {
     else if (strcmp(word, "--seed") == 0) o->seed = strtoull(value, NULL, 10);
     else if (strcmp(word, "--seconds") == 0) o->seconds = strtoull(value, NULL, 10);
     else if (strcmp(word, "--life") == 0) o->life = strtoull(value, NULL, 10);
+    else if (strcmp(word, "--row") == 0) o->row = value;
     else refuse("option", word);
+    if (o->row) o->other = "--rows";
     o->has_life |= strcmp(word, "--life") == 0;
 }
 
@@ -194,7 +206,7 @@ int main(int count, char **words) {
         play_lives(&o, &all, &passed, &failed);
         say_counts(&o, &all);
     } else if (strcmp(o.other, "--rows") == 0) {
-        play_rows(&one, o.subject, true, &passed, &failed);
+        play_rows(&one, o.subject, o.row, true, &passed, &failed);
     } else if (strcmp(o.other, "--wrongs") == 0) {
         find_wrongs(&o, &passed, &failed);
     } else if (strcmp(o.other, "--frames") == 0) {

@@ -6,11 +6,11 @@
 #include <string.h>
 
 const char *const WRONG_NAMES[WRONGS] = {
-    "nothing_wrong", "counts_early",    "call_is_edge",    "counts_to_call", "any_claim",
-    "empties_ports", "takes_stale",     "one_is_enough",   "agrees_widely",  "agrees_shortly",
-    "has_no_patience", "moves_never",   "misses_none",     "forgets_fast",   "rounds_low",
-    "keeps_its_edge", "forgets_caught", "holds_long",      "waits_long",
-    "takes_ahead",   "takes_earliest",  "guards_not",
+    "nothing_wrong",  "counts_early",    "call_is_edge",   "counts_to_call", "any_claim",
+    "ignores_marks",  "empties_ports",   "takes_stale",    "one_is_enough",  "agrees_widely",
+    "agrees_shortly", "has_no_patience", "moves_never",    "misses_none",    "forgets_fast",
+    "forgets_caught", "keeps_ends",      "rounds_low",     "keeps_its_edge", "holds_long",
+    "waits_long",     "takes_ahead",     "takes_earliest", "idles_not",      "guards_not",
 };
 wrong model_wrong;
 
@@ -97,7 +97,8 @@ static uint8_t read_frame(const frame *f, claim *c) {
     if (!has_parity(f) || second > 60 || minute > 59 || hour > 23 || tens > 9 || year_tens > 9 ||
         year > 99 || day < 1 || day > 366)
         return IRIG_TOLD_FAULT;
-    if (k.setup.sbs == IRIG_SBS_CHECK && second < 60 && binary != 3600 * hour + 60 * minute + second)
+    if (k.setup.sbs == IRIG_SBS_CHECK && second < 60 &&
+        binary != 3600 * hour + 60 * minute + second)
         return IRIG_TOLD_FAULT;
     if (day == 366 && year % 4 != 0) return IRIG_TOLD_FAULT;
     int64_t days = 365 * (int64_t)year + (year + 3) / 4 + day - 1;
@@ -237,7 +238,7 @@ static bool is_kept(const heard_line *l, uint32_t now_us) {
 
 static bool is_same(const heard_line *a, const heard_line *b) {
     return b->kind == IRIG_TOLD_CLAIM && a->claim.day == b->claim.day &&
-           a->claim.sod == b->claim.sod && a->claim.mark == b->claim.mark;
+           a->claim.sod == b->claim.sod && (a->claim.mark == b->claim.mark || is(IGNORES_MARKS));
 }
 
 /* How many it takes. */
@@ -282,7 +283,8 @@ static uint32_t earliest_near(uint32_t end_us, uint32_t now_us) {
     uint32_t most_us = 0;
     for (int i = 0; i < k.lines; i++) {
         uint32_t before_us = end_us - k.line[i].end_us;
-        if (is_kept(&k.line[i], now_us) && before_us < 11000 && before_us > most_us) most_us = before_us;
+        if (is_kept(&k.line[i], now_us) && before_us < 11000 && before_us > most_us)
+            most_us = before_us;
     }
     return end_us - most_us;
 }
@@ -294,7 +296,8 @@ static void forget_ends(void) {
 }
 
 /* A second that begins at an edge, behind so many that were missed. */
-static void tell(told_second *s, uint32_t edge_us, uint32_t missed, const claim *vote, uint8_t mask) {
+static void tell(told_second *s, uint32_t edge_us, uint32_t missed, const claim *vote,
+                 uint8_t mask) {
     irig_report lost;
     for (uint32_t i = 0; i < missed && !is(MISSES_NONE); i++) step_alone(&lost);
     if (vote) step_with(&s->report, vote);
@@ -323,7 +326,7 @@ static void tell_by_lines(told_second *s, uint32_t now_us, uint32_t end_us) {
     } else {
         tell(s, edge_us, count - 1, vote, mask);
     }
-    forget_ends();
+    if (!is(KEEPS_ENDS)) forget_ends();
 }
 
 static void tell_alone(told_second *s, uint32_t now_us) {
@@ -338,7 +341,7 @@ static void tell_alone(told_second *s, uint32_t now_us) {
 
 static void idle(heard_line *l, uint32_t now_us) {
     uint32_t gap_us = now_us - l->rise_us;
-    if (gap_us < SECOND_US || gap_us >= HALF_TURN) return;
+    if (gap_us < SECOND_US || gap_us >= HALF_TURN || is(IDLES_NOT)) return;
     l->place = 0;
     l->was_marker = true;
 }
@@ -360,7 +363,7 @@ static uint32_t tick(uint32_t now_us, told_second *s) {
 
 /* How long until a time, 0 if it has come. */
 static uint32_t until(uint32_t time_us, uint32_t now_us) {
-    return now_us - time_us < HALF_TURN ? 0 : time_us - now_us;
+    return time_us - now_us < HALF_TURN ? time_us - now_us : 0;
 }
 
 static uint32_t wait(uint32_t now_us) {
@@ -385,7 +388,9 @@ static uint32_t begin(const irig_setup *setup, const irig_table *table, uint32_t
     if ((uint64_t)(setup->holdover + 2) * drift_us + 10000 > 500000) return 35;
     k.setup = *setup;
     k.table = *table;
-    k.lines = setup->redundancy == IRIG_PORTS_ONE ? 1 : setup->redundancy == IRIG_PORTS_FIVE ? 5 : 3;
+    k.lines = setup->redundancy == IRIG_PORTS_ONE    ? 1
+              : setup->redundancy == IRIG_PORTS_FIVE ? 5
+                                                     : 3;
     k.has_edge = false;
     restart();
     return IRIG_DONE;

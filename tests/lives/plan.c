@@ -5,7 +5,7 @@
 enum { TURN_S = 4295 };
 
 /* One of some numbers. */
-#define ONE_OF(luck, ...)                                                                           \
+#define ONE_OF(luck, ...)                                                                          \
     ((const int32_t[]){__VA_ARGS__})[below(luck, sizeof((const int32_t[]){__VA_ARGS__}) / 4)]
 
 /* A number up to a bound, each size as often. */
@@ -53,7 +53,8 @@ static void plan_time(life *l, chance *luck) {
     w->leap = 0;
     w->first.day = 1 + below(luck, LAST_DAY - days);
     w->first.second = below(luck, DAY_S);
-    if (is_once_in(luck, 100)) w->first.day = LAST_DAY; /* over the end of what is served */
+    bool is_last = is_once_in(luck, 100) && w->seconds < DAY_S;
+    if (is_last) w->first.day = LAST_DAY; /* over the end of what is served */
     else if (is_once_in(luck, 4)) return;
     else w->first.day = month_end_before(w->first.day);
     uint32_t before = w->seconds < DAY_S ? w->seconds : DAY_S;
@@ -71,8 +72,8 @@ static void plan_table(life *l, chance *luck) {
     int64_t until = w->first.day + ONE_OF(luck, -40, -1, 0, 1, 30, 400);
     l->table.until = (uint32_t)(until < LAST_DAY ? until > 0 ? until : 0 : LAST_DAY);
     if (w->leap != 0 && l->table.until >= w->leap_day)
-        l->table.leaps[l->table.len++] = (irig_leap){
-            (uint32_t)w->leap_day, w->leap > 0 ? IRIG_LEAP_INSERT : IRIG_LEAP_DELETE};
+        l->table.leaps[l->table.len++] =
+            (irig_leap){(uint32_t)w->leap_day, w->leap > 0 ? IRIG_LEAP_INSERT : IRIG_LEAP_DELETE};
     int64_t day = month_end_before(w->first.day - 1);
     for (uint32_t more = below(luck, 6); more > 0 && day > 200; more--) {
         day = month_end_before(day - 1 - below(luck, 90));
@@ -108,7 +109,8 @@ static void plan_line(line *l, chance *luck) {
 
 static void plan_darkness(life *l, chance *luck) {
     for (uint32_t count = below(luck, 4); count > 0; count--) {
-        uint32_t from = below(luck, l->world.seconds), length = of_any_size(luck, l->world.seconds / 2);
+        uint32_t from = below(luck, l->world.seconds),
+                 length = of_any_size(luck, l->world.seconds / 2);
         unsigned lines = is_once_in(luck, 2) ? 31 : below(luck, 31) + 1;
         l->sky.dark[l->sky.darks++] = (dark){from, from + length, lines};
     }
@@ -121,24 +123,28 @@ static int32_t plan_shift(aim aim, chance *luck) {
     case AT_PLACE: return between(luck, -449, 449);
     case AT_BOUND: return ONE_OF(luck, -1001, -1000, -999, 999, 1000, 1001, 0, -10100, -9000, 500);
     case SHIFTED:
-        return is_once_in(luck, 2) ? between(luck, -500000, 500000)
-                                   : ONE_OF(luck, -500000, 500000, -2000, 2000, -20000, 20000, 8000, -999);
+        return is_once_in(luck, 2)
+                   ? between(luck, -500000, 500000)
+                   : ONE_OF(luck, -500000, 500000, -2000, 2000, -20000, 20000, 8000, -999);
     case WALKING: return between(luck, -2000, 2000);
     default:
-        return ONE_OF(luck, -500000, 500000, 499999, -499999, -4000, 4000, 4999, 5000, 99999, -99999,
-                      100001, -6000);
+        return ONE_OF(luck, -500000, 500000, 499999, -499999, -4000, 4000, 4999, 5000, 99999,
+                      -99999, 100001, -6000);
     }
 }
 
 static lie plan_lie(chance *luck, uint8_t lines) {
     lie told = {.seed = draw(luck)};
     told.manner = (manner)ONE_OF(luck, 0, 0, 0, 0, 0, 0, 0, 0, NOISE, STUCK);
-    told.saying = (saying)ONE_OF(luck, SAYS_TRUTH, SAYS_OTHER, SAYS_OTHER, SAYS_LEAP, SAYS_POOR, SAYS_ANY);
+    told.saying = (saying)ONE_OF(luck, SAYS_TRUTH, SAYS_OTHER, SAYS_OTHER, SAYS_LEAP, SAYS_POOR,
+                                 SAYS_ANY, SAYS_WRONGLY);
     told.aim = (aim)below(luck, AIMS);
     told.harm = (harm)ONE_OF(luck, 0, 0, 0, 0, CUT, TRAILED, LAST_MOVED, GLITCHES, HOLES);
-    told.by = is_once_in(luck, 2) ? ONE_OF(luck, -1, 1) : ONE_OF(luck, -2, 2, 60, -60, 3600, -TURN_S, 86400, 7);
+    told.by = is_once_in(luck, 2) ? ONE_OF(luck, -1, 1)
+                                  : ONE_OF(luck, -2, 2, 60, -60, 3600, -TURN_S, 86400, 7);
     told.shift_us = plan_shift(told.aim, luck);
-    told.rate_us = is_once_in(luck, 2) ? between(luck, -1000, 1000) : ONE_OF(luck, -1, 1, -100, 100, 1000);
+    told.rate_us =
+        is_once_in(luck, 2) ? between(luck, -1000, 1000) : ONE_OF(luck, -1, 1, -100, 100, 1000);
     told.spacing_us = is_once_in(luck, 3) ? (uint32_t)between(luck, 9000, 10999) : ELEMENT_US;
     if (is_once_in(luck, 20)) told.spacing_us = (uint32_t)ONE_OF(luck, 9000, 10999, 5000);
     if (told.aim == AT_BOUND && is_once_in(luck, 2)) told.saying = SAYS_TRUTH;
@@ -158,7 +164,8 @@ static void plan_liar(life *l, const uint8_t *lines, uint32_t count, uint32_t fr
         lie told = plan_lie(luck, s->lines);
         told.line = lines[below(luck, count)];
         told.from_us = time_us;
-        told.to_us = time_us + 100000 * (uint64_t)of_any_size(luck, 10 * most) + below(luck, 100000);
+        told.to_us =
+            time_us + 100000 * (uint64_t)of_any_size(luck, 10 * most) + below(luck, 100000);
         s->lie[s->lies++] = told;
         time_us = told.to_us + HANDED_ON_US + (is_patient ? below(luck, 20000000) : below(luck, 2));
     }
@@ -199,8 +206,8 @@ static void plan_device(life *l, chance *luck, bool is_long) {
     device *d = &l->device;
     memset(d, 0, sizeof *d);
     d->luck.state = draw(luck);
-    d->pace = (pace)ONE_OF(luck, BY_WAIT, BY_WAIT, BY_WAIT, BY_POLLS, BY_POLLS, AT_RANDOM, BEFORE_PULSES,
-                           WITH_GAPS, WITH_GAPS, AROUND_EDGES);
+    d->pace = (pace)ONE_OF(luck, BY_WAIT, BY_WAIT, BY_WAIT, BY_POLLS, BY_POLLS, AT_RANDOM,
+                           BEFORE_PULSES, WITH_GAPS, WITH_GAPS, AROUND_EDGES);
     if (is_long && (d->pace == BY_POLLS || d->pace == BEFORE_PULSES)) d->pace = BY_WAIT;
     d->poll_us = 500 * of_any_size(luck, 190);
     d->late_us = (uint32_t)ONE_OF(luck, 0, 100, 5000, 90000);
@@ -235,10 +242,16 @@ static void plan_turn(life *l, chance *luck) {
     uint64_t end_us = l->world.edge_us[last + 1] + (UINT64_C(1) << 32);
     uint32_t frame = last + TURN_S - 2;
     while (l->world.edge_us[frame + 1] + SECOND_US / 2 < end_us) frame++;
-    lie told = {.from_us = end_us - 1300000, .to_us = end_us + 100000, .line = (uint8_t)few,
-                .saying = SAYS_OTHER, .by = (int32_t)last - (int32_t)frame, .aim = SHIFTED,
-                .shift_us = (int32_t)(int64_t)(end_us - l->world.edge_us[frame + 1]) + s->line[0].offset_us,
-                .spacing_us = ELEMENT_US, .seed = draw(luck)};
+    lie told = {.from_us = end_us - 1300000,
+                .to_us = end_us + 100000,
+                .line = (uint8_t)few,
+                .saying = SAYS_OTHER,
+                .by = (int32_t)last - (int32_t)frame,
+                .aim = SHIFTED,
+                .shift_us =
+                    (int32_t)(int64_t)(end_us - l->world.edge_us[frame + 1]) + s->line[0].offset_us,
+                .spacing_us = ELEMENT_US,
+                .seed = draw(luck)};
     s->line[0].spread = EQUAL;
     s->lie[s->lies++] = told;
 }

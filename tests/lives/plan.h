@@ -7,8 +7,8 @@
 /* Makes the life of this number; the seed is that of a whole run. */
 void plan(life *l, uint64_t seed, uint64_t number, bool is_of_three);
 
-/* Fills what is left when the settings, the world's first second, its leap and its length are there:
- * edges, and lines that send nominal frames at their time. */
+/* Makes edges, and lines that send nominal frames at their time, of a life that has its settings,
+ * first second, leap and length. */
 void begin_lines(life *l, uint64_t start_us, walk kind, chance *luck);
 
 #endif

@@ -50,7 +50,9 @@ static void darken(life *l, uint32_t from, uint32_t to, unsigned lines) {
 static lie *add_lie(life *l, uint8_t line, uint32_t from, uint32_t to) {
     lie *told = &l->sky.lie[l->sky.lies++];
     uint64_t begins_us = from > 0 ? l->world.edge_us[from] - 20000 : 0;
-    *told = (lie){.from_us = begins_us, .to_us = l->world.edge_us[to] - 20000, .line = line,
+    *told = (lie){.from_us = begins_us,
+                  .to_us = l->world.edge_us[to] - 20000,
+                  .line = line,
                   .spacing_us = ELEMENT_US};
     return told;
 }
@@ -63,7 +65,8 @@ static void begin_all(life *l) {
 static void write_down(life *l, uint8_t number) {
     line *from = &l->sky.line[number];
     scripted = 0;
-    for (; !from->is_over && scripted < MOST_PULSES; go_on(from, &l->sky)) script[scripted++] = from->next;
+    for (; !from->is_over && scripted < MOST_PULSES; go_on(from, &l->sky))
+        script[scripted++] = from->next;
 }
 
 static int by_rise(const void *a, const void *b) {
@@ -73,11 +76,7 @@ static int by_rise(const void *a, const void *b) {
 
 static void send_script(life *l, uint8_t number) {
     line *to = &l->sky.line[number];
-    for (uint32_t i = 0; i + 1 < scripted; i++)
-        if (script[i].rise_us > script[i + 1].rise_us) {
-            qsort(script, scripted, sizeof *script, by_rise);
-            break;
-        }
+    qsort(script, scripted, sizeof *script, by_rise);
     to->script = script;
     to->script_left = scripted;
     go_on(to, &l->sky);
@@ -191,18 +190,20 @@ static bool holdover_is_bounded(life *l, const subject *s) {
     static const struct {
         uint32_t holdover, drift_us;
         bool is_taken;
-    } TRIED[] = {{4898, 100, true}, {4899, 100, false},   {48998, 10, true}, {48999, 10, false},
-                 {489998, 1, true}, {489999, 1, false},   {1000000, 0, true}, {1000000, 1, false},
-                 {0, 101, false},   {0, UINT32_MAX, false}, {1000000, 100, false}};
+    } TRIED[] = {{4898, 100, true},      {4899, 100, false},   {48998, 10, true},
+                 {48999, 10, false},     {489998, 1, true},    {489999, 1, false},
+                 {1000000, 0, true},     {1000000, 1, false},  {0, 101, false},
+                 {0, UINT32_MAX, false}, {1000000, 100, false}};
     begin_row(l, 1);
     for (size_t i = 0; i < sizeof TRIED / sizeof *TRIED; i++) {
         l->setup.holdover = TRIED[i].holdover;
-        if ((s->begin(&l->setup, &l->table, TRIED[i].drift_us) == IRIG_DONE) != TRIED[i].is_taken) return false;
+        if ((s->begin(&l->setup, &l->table, TRIED[i].drift_us) == IRIG_DONE) != TRIED[i].is_taken)
+            return false;
     }
     return true;
 }
 
-/* A call some microseconds behind one of a later time answers nothing, and what follows is right. */
+/* A call some microseconds behind one of a later time answers nothing; what follows is right. */
 static bool call_out_of_order(life *l, const subject *s) {
     begin_row(l, 8);
     begin_all(l);
@@ -265,7 +266,8 @@ static bool slow_drag(life *l, const subject *s) {
     begin_all(l);
     play(l, s);
     for (uint32_t edge = 6; edge < 60; edge++)
-        if (!announces(l, edge, IRIG_CAUSE_HELD) || entry_at(l, edge)->edge_us != l->world.edge_us[edge])
+        if (!announces(l, edge, IRIG_CAUSE_HELD) ||
+            entry_at(l, edge)->edge_us != l->world.edge_us[edge])
             return false;
     return is_right(l);
 }
@@ -290,8 +292,8 @@ static bool sleep(life *l, const subject *s) {
     begin_all(l);
     play(l, s);
     const entry *woken = entry_at(l, 110);
-    return is_right(l) && woken && woken->second.missed == 99 && announces(l, 110, IRIG_CAUSE_HELD) &&
-           have_votes(l, 113, 120);
+    return is_right(l) && woken && woken->second.missed == 99 &&
+           announces(l, 110, IRIG_CAUSE_HELD) && have_votes(l, 113, 120);
 }
 
 /* A joined frame: a line lies with the first forty elements of 09:57:23 on day 1 of 2000; its next
@@ -314,7 +316,8 @@ static void join_frames(life *l, uint8_t number, uint32_t frame) {
     scripted = kept;
     chance luck = {1};
     for (unsigned element = 0; element < 40; element++)
-        add_pulse(edge_us - 400000 + ELEMENT_US * element, width_of(NOMINAL, &head, element, &luck));
+        add_pulse(edge_us - 400000 + ELEMENT_US * element,
+                  width_of(NOMINAL, &head, element, &luck));
 }
 
 static bool joined_frame(life *l, const subject *s) {
@@ -343,6 +346,159 @@ static bool joined_frame_alone(life *l, const subject *s) {
            first->edge_us - l->world.edge_us[6] - 599000 < 2000;
 }
 
+/* Honest lines as far apart as they may lie, with the widest markers: each second has its vote. */
+static bool lines_apart(life *l, const subject *s) {
+    begin_row(l, 20);
+    send(l, 0, -449, WIDE);
+    send(l, 1, 449, WIDE);
+    send(l, 2, 449, WIDE);
+    begin_all(l);
+    play(l, s);
+    return is_right(l) && have_votes(l, 1, 20) && l->tolds == 20;
+}
+
+/* Dark from edge 6 to 139, in seconds of so much more or less than a million, and then two lines as
+ * far apart as they may lie, with seconds of a million. */
+static void drift_in_the_dark(life *l, int32_t rate_us) {
+    begin_row(l, 180);
+    l->world.drift_us = 100;
+    for (uint32_t n = 0; n <= l->world.seconds + 1; n++)
+        l->world.edge_us[n + 1] =
+            l->world.edge_us[n] + (uint64_t)(SECOND_US + (n >= 6 && n < 139 ? rate_us : 0));
+    send(l, 0, -449, NOMINAL);
+    send(l, 1, 449, NOMINAL);
+    darken(l, 6, 139, ALL);
+    darken(l, 0, 180, 4);
+}
+
+/* The own tick falls between the ends of the two: they do agree. */
+static bool tick_between_two_ends(life *l, const subject *s) {
+    drift_in_the_dark(l, 42);
+    begin_all(l);
+    play(l, s);
+    return is_right(l) && have_votes(l, 141, 180);
+}
+
+/* Behind long darkness the lines' edge lies so far behind the own one. */
+static void play_half_a_second_off(life *l, const subject *s, uint64_t behind_us) {
+    begin_row(l, 5020);
+    l->world.drift_us = 100;
+    for (uint32_t n = 6; n <= l->world.seconds + 2; n++) {
+        uint64_t late_us = 100 * (uint64_t)(n - 6);
+        l->world.edge_us[n] = l->world.edge_us[0] + n * (uint64_t)SECOND_US +
+                              (late_us < behind_us ? late_us : behind_us);
+    }
+    darken(l, 6, 5010, ALL);
+    begin_all(l);
+    play(l, s);
+}
+
+/* From half a second on it is the next second's; else this one's again, and the clock is set. */
+static bool half_a_second_off(life *l, const subject *s) {
+    for (uint64_t behind_us = 499999; behind_us <= 500001; behind_us++) {
+        play_half_a_second_off(l, s, behind_us);
+        bool is_next = behind_us >= 500000;
+        if (!is_right(l) || has_vote(l, 5011) != is_next || !have_votes(l, 5012, 5020))
+            return false;
+        if (entry_at(l, is_next ? 5011 : 5012)->second.moved != !is_next) return false;
+    }
+    return true;
+}
+
+/* The third ends a millisecond before the first, and tells something else: the clock is set all the
+ * same. */
+static bool liar_beside_a_late_clock(life *l, const subject *s) {
+    drift_in_the_dark(l, -50);
+    lie *told = add_lie(l, 2, 139, 180);
+    told->aim = AT_BOUND;
+    told->shift_us = -1000;
+    told->saying = SAYS_OTHER;
+    told->by = 1;
+    begin_all(l);
+    play(l, s);
+    return is_right(l) && have_votes(l, 141, 180);
+}
+
+/* A device of one line is switched on in the middle of a frame, and the first pulses that it hears
+ * are false. A hundred places later no frame has ended. */
+static bool switched_on_in_a_frame(life *l, const subject *s) {
+    begin_row(l, 6);
+    l->judge.is_beyond = true;
+    l->sky.lines = 1;
+    l->setup.redundancy = IRIG_PORTS_ONE;
+    begin_all(l);
+    write_down(l, 0);
+    memmove(script, script + 9, (scripted - 9) * sizeof *script);
+    scripted -= 9;
+    script[0].is_true = false;
+    script[1].is_true = false;
+    script[1].end_us = script[1].rise_us + 300;
+    send_script(l, 0);
+    play(l, s);
+    return is_right(l) && l->tolds > 0 && l->told[0].edge_us == l->world.edge_us[2] &&
+           have_votes(l, 2, 6);
+}
+
+/* ---- a turn of the counter */
+
+/* Edge `frame` + 4,295 lies a turn of the counter behind edge `frame`. */
+static uint32_t turn(life *l, uint32_t frame) {
+    begin_row(l, 4310);
+    l->world.drift_us = 10;
+    uint64_t less_us = 4295 * (uint64_t)SECOND_US - (UINT64_C(1) << 32);
+    for (uint32_t n = 0; n <= l->world.seconds + 2; n++)
+        l->world.edge_us[n] = l->world.edge_us[0] + n * (uint64_t)SECOND_US - n * less_us / 4295;
+    l->setup.holdover = 10;
+    return frame + 4295;
+}
+
+/* The last frame before darkness is heard of one line alone. A turn later a liar sends it again. */
+static bool frame_of_a_turn_ago(life *l, const subject *s) {
+    uint32_t again = turn(l, 5);
+    l->setup.lock_after = 1;
+    darken(l, 6, again + 1, ALL);
+    darken(l, 5, 6, 6);
+    lie *told = add_lie(l, 1, again, again + 1);
+    told->saying = SAYS_OTHER;
+    told->by = -4295;
+    told->to_us += 20000;
+    begin_all(l);
+    play(l, s);
+    return is_right(l) && have_votes(l, 1, 5) && !has_vote(l, again + 1) &&
+           have_votes(l, again + 3, l->world.seconds);
+}
+
+/* The only line stops in the middle of a frame, and a turn later it goes on in the middle of
+ * another: the two halves are no frame, and the line is true. */
+static bool are_no_frame(life *l, const subject *s, uint32_t later_s) {
+    uint32_t again = turn(l, 5), kept = 0;
+    l->world.first.second += later_s;
+    l->sky.lines = 1;
+    l->setup.redundancy = IRIG_PORTS_ONE;
+    l->setup.sbs = IRIG_SBS_IGNORE;
+    l->setup.lock_after = 1;
+    darken(l, 6, again, ALL);
+    begin_all(l);
+    write_down(l, 0);
+    for (uint32_t i = 0; i < scripted; i++) {
+        const pulse *p = &script[i];
+        bool is_lost =
+            (p->frame == 5 && p->element > 50) || (p->frame == again && p->element <= 50);
+        if (!is_lost) script[kept++] = *p;
+    }
+    scripted = kept;
+    send_script(l, 0);
+    play(l, s);
+    return is_right(l) && !has_vote(l, again + 1) && has_vote(l, again + 2);
+}
+
+/* Of some seconds, so that their parity is right now and then. */
+static bool halves_a_turn_apart(life *l, const subject *s) {
+    for (uint32_t later_s = 0; later_s < 8; later_s++)
+        if (!are_no_frame(l, s, later_s)) return false;
+    return true;
+}
+
 /* A line that is stuck high for half a second or longer has no pulse: nothing changes. */
 static bool stuck_high(life *l, const subject *s) {
     begin_row(l, 4);
@@ -350,8 +506,9 @@ static bool stuck_high(life *l, const subject *s) {
     begin_all(l);
     play(l, s);
     uint32_t now_us = (uint32_t)l->judge.now_us, wait_us = s->wait(now_us);
-    return is_right(l) && s->hear(0, now_us - 500000, 500000) == 0 && s->hear(0, now_us - 1, UINT32_MAX) == 0 &&
-           s->hear(3, now_us, 8000) == IRIG_NO_PORT && s->wait(now_us) == wait_us;
+    return is_right(l) && s->hear(0, now_us - 500000, 500000) == 0 &&
+           s->hear(0, now_us - 1, UINT32_MAX) == 0 && s->hear(3, now_us, 8000) == IRIG_NO_PORT &&
+           s->wait(now_us) == wait_us;
 }
 
 static const struct {
@@ -377,18 +534,28 @@ static const struct {
     {"sleep", sleep},
     {"a joined frame", joined_frame},
     {"a joined frame alone", joined_frame_alone},
+    {"lines apart", lines_apart},
+    {"a tick between two ends", tick_between_two_ends},
+    {"half a second off", half_a_second_off},
+    {"a liar beside a late clock", liar_beside_a_late_clock},
+    {"switched on in a frame", switched_on_in_a_frame},
+    {"a frame of a turn ago", frame_of_a_turn_ago},
+    {"halves a turn apart", halves_a_turn_apart},
     {"stuck high", stuck_high},
 };
 
-void play_rows(life *l, const subject *s, bool is_loud, uint64_t *passed, uint64_t *failed) {
+void play_rows(life *l, const subject *s, const char *name, bool is_loud, uint64_t *passed,
+               uint64_t *failed) {
     for (size_t i = 0; i < sizeof ROWS / sizeof *ROWS; i++) {
+        if (name && strcmp(name, ROWS[i].name) != 0) continue;
         memset(&l->judge.counts, 0, sizeof l->judge.counts);
         l->judge.is_failed = false;
         bool is_passed = ROWS[i].play(l, s);
         *passed += is_passed;
         *failed += !is_passed;
         if (!is_passed && is_loud)
-            printf("row failed: %s: %s\n", ROWS[i].name, is_right(l) ? "it came otherwise" : l->judge.text);
+            printf("row failed: %s: %s\n", ROWS[i].name,
+                   is_right(l) ? "it came otherwise" : l->judge.text);
         memset(l->sky.line, 0, sizeof l->sky.line);
         l->judge.is_beyond = false;
     }

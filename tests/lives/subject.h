@@ -23,27 +23,30 @@ typedef struct subject {
 /* What the design says, and what it is with one thing wrong. */
 typedef enum wrong {
     NOTHING_WRONG,
-    COUNTS_EARLY,   /* half a second behind its edge it counts the next one, with no vote */
-    CALL_IS_EDGE,   /* the edge is when the tick came */
-    COUNTS_TO_CALL, /* it counts seconds up to the tick, and not to the lines' edge */
-    ANY_CLAIM,      /* lines agree that end together, whatever they tell */
-    EMPTIES_PORTS,  /* a tick empties a port in which a frame is being heard */
-    TAKES_STALE,    /* a frame is kept until the next one, over a turn of the counter too */
-    ONE_IS_ENOUGH,  /* one line sets the edge, and has a vote */
-    AGREES_WIDELY,  /* ends 2 ms apart agree */
-    AGREES_SHORTLY, /* ends 1 ms apart do not */
+    COUNTS_EARLY,    /* half a second behind its edge it counts the next one, with no vote */
+    CALL_IS_EDGE,    /* the edge is when the tick came */
+    COUNTS_TO_CALL,  /* it counts seconds up to the tick, and not to the lines' edge */
+    ANY_CLAIM,       /* lines agree that end together, whatever they tell */
+    IGNORES_MARKS,   /* they agree whatever they tell of a leap */
+    EMPTIES_PORTS,   /* a tick empties a port in which a frame is being heard */
+    TAKES_STALE,     /* a frame is kept until the next one, over a turn of the counter too */
+    ONE_IS_ENOUGH,   /* one line sets the edge, and has a vote */
+    AGREES_WIDELY,   /* ends 2 ms apart agree */
+    AGREES_SHORTLY,  /* ends 1 ms apart do not */
     HAS_NO_PATIENCE, /* its own edge is counted before the lines' */
-    MOVES_NEVER,    /* an edge of the lines behind its own tick is another second */
-    MISSES_NONE,    /* seconds that no tick came for are one */
-    FORGETS_FAST,   /* a frame is kept for 8 ms */
-    ROUNDS_LOW,     /* an edge 400 ms early is the next one */
-    KEEPS_ITS_EDGE, /* a restart does not forget the edge */
-    FORGETS_CAUGHT, /* the frame that is kept goes when the next one begins */
-    HOLDS_LONG,     /* its holdover is longer than it is told */
-    WAITS_LONG,     /* it waits a millisecond too long */
-    TAKES_AHEAD,    /* a tick need not wait for the edge on which lines agree */
-    TAKES_EARLIEST, /* the edge is the earliest end of all lines that lie within 11 ms */
-    GUARDS_NOT,     /* a call whose time lies before the edge is one of a turn later */
+    MOVES_NEVER,     /* an edge of the lines behind its own tick is another second */
+    MISSES_NONE,     /* seconds that no tick came for are one */
+    FORGETS_FAST,    /* a frame is kept for 8 ms */
+    FORGETS_CAUGHT,  /* the frame that is kept goes when the next one begins */
+    KEEPS_ENDS,      /* frames that had their vote have another one */
+    ROUNDS_LOW,      /* an edge 400 ms early is the next one */
+    KEEPS_ITS_EDGE,  /* a restart does not forget the edge */
+    HOLDS_LONG,      /* its holdover is longer than it is told */
+    WAITS_LONG,      /* it waits a millisecond too long */
+    TAKES_AHEAD,     /* a tick need not wait for the edge on which lines agree */
+    TAKES_EARLIEST,  /* the edge is the earliest end of all lines that lie within 11 ms */
+    IDLES_NOT,       /* a line is never put out of step, however long it sends nothing */
+    GUARDS_NOT,      /* a call whose time lies before the edge is one of a turn later */
     WRONGS
 } wrong;
 

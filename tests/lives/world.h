@@ -42,13 +42,14 @@ static inline bool is_once_in(chance *luck, uint32_t times) { return below(luck,
 typedef enum walk { WALK, FAST, SLOW, STEPS, ALTERNATING, TURNING, WALKS } walk;
 
 typedef struct world {
-    uint64_t edge_us[MOST_SECONDS + 3]; /* edge n, where T(n) begins, by a counter that does not wrap */
-    uint32_t seconds;                   /* the edges 0 to `seconds` + 2 are there */
+    uint64_t
+        edge_us[MOST_SECONDS + 3]; /* edge n, where T(n) begins, by a counter that does not wrap */
+    uint32_t seconds;              /* the edges 0 to `seconds` + 2 are there */
     uint32_t drift_us;
-    utc first;                          /* T(0) */
-    int64_t leap_day;                   /* at whose end a leap comes, or none */
-    int leap;                           /* 1 inserted, -1 deleted, 0 none */
-    bool is_odd, is_subtracted;         /* parity and sense */
+    utc first;                  /* T(0) */
+    int64_t leap_day;           /* at whose end a leap comes, or none */
+    int leap;                   /* 1 inserted, -1 deleted, 0 none */
+    bool is_odd, is_subtracted; /* parity and sense */
 } world;
 
 void make_edges(world *w, uint64_t start_us, walk kind, chance *luck);
