@@ -81,6 +81,14 @@ static void keep(life *l, const told_second *s) {
         l->told[l->tolds++] = (entry){l->device.now_us, l->judge.edge_us, *s};
 }
 
+/* When something came that is stamped: in the last seconds, or just at a bound of what can be. */
+static uint64_t stamped_time(life *l) {
+    static const int32_t JUST_US[] = {-1, 0, 1001549, 1001550};
+    chance *luck = &l->device.luck;
+    if (!is_once_in(luck, 4) || !l->judge.has_told) return l->device.now_us - below(luck, 2500000);
+    return l->judge.edge_us + (uint64_t)(int64_t)JUST_US[below(luck, 4)];
+}
+
 void tick(life *l, uint64_t now_us) {
     device *d = &l->device;
     told_second s = {0};
@@ -88,6 +96,8 @@ void tick(life *l, uint64_t now_us) {
     d->now_us = now_us;
     uint32_t answer = l->judge.subject->tick((uint32_t)now_us, &s);
     judge_tick(&l->judge, now_us, answer, &s, is_due);
+    if (l->judge.subject->stamp && !l->judge.is_beyond && is_once_in(&d->luck, 8))
+        judge_stamp(&l->judge, stamped_time(l));
     if (s.is_told) keep(l, &s);
 }
 

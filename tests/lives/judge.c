@@ -274,3 +274,27 @@ void judge_wait(judge *j, uint32_t wait_us, bool is_behind_tick) {
     if (wait_us > most_us) fail(j, "it waits %u us", wait_us);
     if (is_behind_tick && wait_us == 0) fail(j, "it waits for nothing");
 }
+
+/* A stamp is right if its second's edge lies as near as it says. */
+void judge_stamp(judge *j, uint64_t time_us) {
+    told_stamp s = {0};
+    int64_t m, most_us = EARLY_US + (int64_t)j->setup.holdover * j->world->drift_us;
+    uint32_t answer = j->subject->stamp((uint32_t)time_us, &s);
+    bool is_behind = j->has_told && j->report.announces && time_us >= j->edge_us;
+    if (answer != IRIG_DONE) {
+        if (answer != IRIG_FAULT_VALUE) fail(j, "a stamp answers %u", answer);
+        if (is_behind && time_us <= j->edge_us + SECOND_US) fail(j, "no stamp of the last second");
+        return;
+    }
+    if (!find_second(j->world, (utc){s.day, s.sod}, &m) || m > (int64_t)j->come + 1 ||
+        !j->has_told) {
+        fail(j, "a stamp of day %u, second %u", s.day, s.sod);
+        return;
+    }
+    int64_t off_us = off(j, time_us - s.offset_us, (uint32_t)m);
+    if (off_us > s.bound_us || off_us < -(int64_t)s.bound_us || s.bound_us > most_us ||
+        s.offset_us > SECOND_US + s.bound_us)
+        fail(j, "a stamp %u us behind T(%lld), within %u us, and %lld us off", s.offset_us,
+             (long long)m, s.bound_us, (long long)off_us);
+    j->counts.stamps++;
+}

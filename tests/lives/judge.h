@@ -17,7 +17,7 @@ typedef struct sent {
 } sent;
 
 typedef struct counts {
-    uint64_t pulses, ticks, told, voted, held, whole, moved, lit;
+    uint64_t pulses, ticks, told, voted, held, whole, moved, stamps, lit;
     uint64_t causes[IRIG_CAUSE_RANGE_END + 1];
     uint64_t leaps;           /* inserted seconds that were announced */
     int64_t earliest, latest; /* edges of votes against the true ones, in us */
@@ -62,6 +62,9 @@ void judge_time(judge *j, uint64_t now_us);
 
 /* What `wait` answered. */
 void judge_wait(judge *j, uint32_t wait_us, bool is_behind_tick);
+
+/* What a stamp of this time says, which lies some seconds off now at most. */
+void judge_stamp(judge *j, uint64_t time_us);
 
 void fail(judge *j, const char *form, ...);
 

@@ -11,6 +11,7 @@ static content saying_of(line *l, const sky *s, const lie *told) {
     if (at.day < 1 || at.day > LAST_DAY) at.day = 1;
     content what = true_content(w, at, l->zone);
     what.quality = l->quality;
+    what.dst = l->dst;
     if (told->saying == SAYS_LEAP) {
         what.is_delete = what.pending ? !what.is_delete && told->by % 2 : told->by % 2;
         what.pending = !what.pending || what.is_delete;

@@ -26,7 +26,19 @@ static uint32_t wait(uint32_t now_us) { return irig_timekeeper_wait(&keeper, now
 
 static void restart(void) { irig_timekeeper_restart(&keeper); }
 
-const subject library_subject = {"library", begin, hear, tick, wait, restart, false};
+#ifdef HAS_STAMP
+static uint32_t stamp(uint32_t time_us, told_stamp *s) {
+    irig_stamp told = {0};
+    uint32_t answer = irig_timekeeper_stamp(&keeper, time_us, &told);
+    *s = (told_stamp){told.day, told.sod, told.offset_us, told.bound_us};
+    return answer;
+}
+#else
+#define stamp NULL
+#define stamp_both NULL
+#endif
+
+const subject library_subject = {"library", begin, hear, tick, wait, restart, stamp, false};
 
 /* ---- with the model */
 
@@ -49,8 +61,10 @@ static bool are_alike(const told_second *a, const told_second *b) {
     if (a->is_told != b->is_told || !a->is_told) return a->is_told == b->is_told;
     return a->edge_us == b->edge_us && a->missed == b->missed && a->moved == b->moved &&
            p->announces == q->announces && p->lock == q->lock && p->cause == q->cause &&
-           p->agreed == q->agreed && p->lock_count == q->lock_count && p->day == q->day &&
-           p->sod == q->sod;
+           p->lock_count == q->lock_count && p->day == q->day && p->sod == q->sod &&
+           p->agreed == q->agreed && p->differed == q->differed && p->faulty == q->faulty &&
+           p->poor == q->poor && p->quality == q->quality && p->has_local == q->has_local &&
+           p->local_half_hours == q->local_half_hours && p->dst == q->dst;
 }
 
 static uint32_t tick_both(uint32_t now_us, told_second *s) {
@@ -64,11 +78,21 @@ static uint32_t wait_both(uint32_t now_us) {
     return wanted == answer ? answer : UINT32_MAX;
 }
 
+#ifdef HAS_STAMP
+static uint32_t stamp_both(uint32_t time_us, told_stamp *s) {
+    told_stamp wanted = {0};
+    uint32_t first = model_subject.stamp(time_us, &wanted), answer = stamp(time_us, s);
+    bool is_alike = wanted.day == s->day && wanted.sod == s->sod &&
+                    wanted.offset_us == s->offset_us && wanted.bound_us == s->bound_us;
+    return first == answer && (answer != IRIG_DONE || is_alike) ? answer : DIFFERS;
+}
+#endif
+
 static void restart_both(void) {
     model_subject.restart();
     restart();
 }
 
-const subject both_subject = {"both",    begin_both,   hear_both, tick_both,
-                              wait_both, restart_both, false};
+const subject both_subject = {"both",    begin_both,   hear_both,  tick_both,
+                              wait_both, restart_both, stamp_both, false};
 #endif

@@ -62,6 +62,7 @@ static void make_frame(line *l, const sky *s) {
     l->is_claim = at.day <= LAST_DAY;
     lose_pulses(l);
     content what = true_content(s->world, at, l->zone);
+    what.dst = l->dst;
     what.quality = l->is_claim || at.day > LAST_DAY ? l->quality : 10 + below(&l->luck, 6);
     l->symbols = encode(&what, s->world->is_odd, s->world->is_subtracted);
 }

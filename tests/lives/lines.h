@@ -80,6 +80,7 @@ typedef struct line {
     int32_t offset_us;
     width width;
     int32_t zone;
+    bool dst;
     uint32_t quality;
     uint32_t harm_one_in; /* frames that lose pulses, or are of poor quality; 0 none */
     uint64_t seed;

@@ -56,6 +56,7 @@ static void add(counts *all, const counts *more) {
     all->held += more->held;
     all->whole += more->whole;
     all->moved += more->moved;
+    all->stamps += more->stamps;
     all->lit += more->lit;
     all->leaps += more->leaps;
     for (int cause = 0; cause <= IRIG_CAUSE_RANGE_END; cause++)
@@ -104,17 +105,27 @@ static void play_lives(const options *o, counts *all, uint64_t *passed, uint64_t
     }
 }
 
+static void say(const char *what, uint64_t number) {
+    printf("  %-34s %" PRIu64 "\n", what, number);
+}
+
 static void say_counts(const options *o, const counts *all) {
-    printf("%s, seed %" PRIu64 ": %" PRIu64 " s, %" PRIu64 " pulses, %" PRIu64 " ticks\n",
-           o->subject->name, o->seed, all->lit, all->pulses, all->ticks);
-    printf("  %" PRIu64 " seconds told, %" PRIu64 " voted, %" PRIu64
-           " held; edges of votes %" PRId64 " to %" PRId64 " us off\n",
-           all->told, all->voted, all->held, all->earliest, all->latest);
-    printf("  %" PRIu64 " seconds had to have a vote, %" PRIu64 " of them moved the edge; %" PRIu64
-           " leap seconds, %" PRIu64 " guards, %" PRIu64 " ends of holdover, %" PRIu64
-           " of the range\n",
-           all->whole, all->moved, all->leaps, all->causes[IRIG_CAUSE_LEAP_GUARD],
-           all->causes[IRIG_CAUSE_EXPIRED], all->causes[IRIG_CAUSE_RANGE_END]);
+    printf("%s, seed %" PRIu64 "\n", o->subject->name, o->seed);
+    say("seconds in which a line sends", all->lit);
+    say("pulses", all->pulses);
+    say("ticks", all->ticks);
+    say("seconds told", all->told);
+    say("announced by a vote", all->voted);
+    say("announced in holdover", all->held);
+    say("inserted ones announced", all->leaps);
+    say("seconds that had to have a vote", all->whole);
+    say("of them, moved the edge", all->moved);
+    say("stamps", all->stamps);
+    say("ends of a holdover", all->causes[IRIG_CAUSE_EXPIRED]);
+    say("leap guards", all->causes[IRIG_CAUSE_LEAP_GUARD]);
+    say("ends of the range", all->causes[IRIG_CAUSE_RANGE_END]);
+    printf("  edges of votes, off by             %" PRId64 " to %" PRId64 " us\n", all->earliest,
+           all->latest);
 }
 
 /* ---- what is wrong with a model */

@@ -58,4 +58,4 @@ static uint32_t wait(uint32_t time_us) {
 
 static void restart(void) {}
 
-const subject old_capture_subject = {"old_capture", begin, hear, tick, wait, restart, true};
+const subject old_capture_subject = {"old_capture", begin, hear, tick, wait, restart, NULL, true};

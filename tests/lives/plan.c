@@ -98,11 +98,13 @@ void begin_lines(life *l, uint64_t start_us, walk kind, chance *luck) {
     memset(l->sky.line, 0, sizeof l->sky.line);
 }
 
-static void plan_line(line *l, chance *luck) {
+/* Half of them are of one zone. */
+static void plan_line(line *l, int32_t zone, chance *luck) {
     l->spread = (spread)below(luck, SPREADS);
     l->offset_us = is_once_in(luck, 2) ? ONE_OF(luck, -449, 449) : between(luck, -449, 449);
     l->width = (width)below(luck, WIDTHS);
-    l->zone = is_once_in(luck, 3) ? 0 : between(luck, -31, 31);
+    l->zone = is_once_in(luck, 2) ? zone : between(luck, -31, 31);
+    l->dst = is_once_in(luck, 4);
     l->quality = below(luck, 10);
     l->harm_one_in = (uint32_t)ONE_OF(luck, 0, 0, 4, 15, 60);
 }
@@ -284,7 +286,8 @@ void plan(life *l, uint64_t seed, uint64_t number, bool is_of_three) {
     walk kind_of_walk = (walk)(is_long ? ONE_OF(&luck, FAST, SLOW, FAST, SLOW, WALK, STEPS)
                                        : (int32_t)below(&luck, WALKS));
     begin_lines(l, plan_start(l, &luck), kind_of_walk, &luck);
-    for (int i = 0; i < l->sky.lines; i++) plan_line(&l->sky.line[i], &luck);
+    int32_t zone = between(&luck, -31, 31);
+    for (int i = 0; i < l->sky.lines; i++) plan_line(&l->sky.line[i], zone, &luck);
     if (is_turn) plan_turn(l, &luck);
     else if (is_long) plan_long(l, &luck);
     else plan_short(l, &luck);

@@ -1,4 +1,4 @@
-/* What is tried: a timekeeper by its five calls, as irig.h has them. */
+/* What is tried: a timekeeper by its calls, as irig.h has them. */
 #ifndef SUBJECT_H
 #define SUBJECT_H
 
@@ -10,6 +10,11 @@ typedef struct told_second {
     irig_report report;
 } told_second;
 
+/* The second and the time behind its edge at which something came. */
+typedef struct told_stamp {
+    uint32_t day, sod, offset_us, bound_us;
+} told_stamp;
+
 typedef struct subject {
     const char *name;
     uint32_t (*begin)(const irig_setup *, const irig_table *, uint32_t drift_us);
@@ -17,6 +22,7 @@ typedef struct subject {
     uint32_t (*tick)(uint32_t now_us, told_second *);
     uint32_t (*wait)(uint32_t now_us);
     void (*restart)(void);
+    uint32_t (*stamp)(uint32_t time_us, told_stamp *); /* or null */
     bool is_by_wait; /* it has no other ticks, no restart, and three lines */
 } subject;
 
