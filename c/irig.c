@@ -30,12 +30,22 @@ uint8_t irig_c_reader_hear(irig_reader *reader, irig_sync *sync, uint8_t port, u
 uint32_t irig_c_reader_tick(irig_reader *reader, irig_report *report);
 void irig_c_reader_restart(irig_reader *reader);
 uint32_t irig_c_reader_port(const irig_reader *reader, uint8_t port, irig_told *told);
+uint32_t irig_c_timekeeper_init(irig_timekeeper *timekeeper, const irig_setup *setup,
+                                const irig_table *table, uint32_t drift_us);
+uint8_t irig_c_timekeeper_hear(irig_timekeeper *timekeeper, uint8_t line, uint32_t rise_us,
+                               uint32_t width_us);
+uint32_t irig_c_timekeeper_tick(irig_timekeeper *timekeeper, uint32_t now_us, irig_second *second);
+uint32_t irig_c_timekeeper_wait(const irig_timekeeper *timekeeper, uint32_t now_us);
+uint32_t irig_c_timekeeper_stamp(const irig_timekeeper *timekeeper, uint32_t time_us,
+                                 irig_stamp *stamp);
+void irig_c_timekeeper_restart(irig_timekeeper *timekeeper);
 void irig_c_sync_init(irig_sync *sync);
 uint8_t irig_c_sync_pulse(irig_sync *sync, uint32_t rise_us, uint32_t width_us);
 void irig_c_sync_idle(irig_sync *sync, uint32_t now_us);
 
 /* What is answered of a null pointer. */
 static const uint32_t REFUSED = IRIG_FAULT_VALUE;
+static const uint8_t NO_PORT = IRIG_NO_PORT;
 
 const char *irig_version(void) { return IRIG_VERSION; }
 
@@ -132,9 +142,8 @@ uint32_t irig_reader_pulses(irig_reader *reader, uint8_t port, const uint32_t *w
 
 uint8_t irig_reader_hear(irig_reader *reader, irig_sync *sync, uint8_t port, uint32_t rise_us,
                          uint32_t width_us) {
-    static const uint8_t no_port = IRIG_NO_PORT;
     bool is_there = (reader != NULL) && (sync != NULL);
-    return is_there ? irig_c_reader_hear(reader, sync, port, rise_us, width_us) : no_port;
+    return is_there ? irig_c_reader_hear(reader, sync, port, rise_us, width_us) : NO_PORT;
 }
 
 uint32_t irig_reader_tick(irig_reader *reader, irig_report *report) {
@@ -151,6 +160,41 @@ void irig_reader_restart(irig_reader *reader) {
 uint32_t irig_reader_port(const irig_reader *reader, uint8_t port, irig_told *told) {
     bool is_there = (reader != NULL) && (told != NULL);
     return is_there ? irig_c_reader_port(reader, port, told) : REFUSED;
+}
+
+/* ---- timekeepers */
+
+uint32_t irig_timekeeper_init(irig_timekeeper *timekeeper, const irig_setup *setup,
+                              const irig_table *table, uint32_t drift_us) {
+    bool is_there = (timekeeper != NULL) && (setup != NULL) && (table != NULL);
+    return is_there ? irig_c_timekeeper_init(timekeeper, setup, table, drift_us) : REFUSED;
+}
+
+uint8_t irig_timekeeper_hear(irig_timekeeper *timekeeper, uint8_t line, uint32_t rise_us,
+                             uint32_t width_us) {
+    return (timekeeper != NULL) ? irig_c_timekeeper_hear(timekeeper, line, rise_us, width_us)
+                                : NO_PORT;
+}
+
+uint32_t irig_timekeeper_tick(irig_timekeeper *timekeeper, uint32_t now_us, irig_second *second) {
+    bool is_there = (timekeeper != NULL) && (second != NULL);
+    return is_there ? irig_c_timekeeper_tick(timekeeper, now_us, second) : REFUSED;
+}
+
+uint32_t irig_timekeeper_wait(const irig_timekeeper *timekeeper, uint32_t now_us) {
+    return (timekeeper != NULL) ? irig_c_timekeeper_wait(timekeeper, now_us) : 0U;
+}
+
+uint32_t irig_timekeeper_stamp(const irig_timekeeper *timekeeper, uint32_t time_us,
+                               irig_stamp *stamp) {
+    bool is_there = (timekeeper != NULL) && (stamp != NULL);
+    return is_there ? irig_c_timekeeper_stamp(timekeeper, time_us, stamp) : REFUSED;
+}
+
+void irig_timekeeper_restart(irig_timekeeper *timekeeper) {
+    if (timekeeper != NULL) {
+        irig_c_timekeeper_restart(timekeeper);
+    }
 }
 
 /* ---- lines */

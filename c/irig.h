@@ -1,4 +1,4 @@
-/* irig.h: the proved IRIG-B codec and reader, for C11 and C++.
+/* irig.h: the proved IRIG-B codec, reader and timekeeper, for C11 and C++.
  *
  * IRIG Standard 200-16, format B, code B004, with the control bits of IEEE 1344-1995. Link with
  * libirig (`make -C c`; docs/C.md). It asks for no memory, keeps nothing between calls, and needs
@@ -7,10 +7,11 @@
  *
  * Pointers. A pointer must lead to one whole, aligned object that no other call reads or writes
  * meanwhile. A null pointer is answered with IRIG_FAULT_VALUE; by `irig_has_parity` with no, by
- * `irig_sync_pulse` with 0, by `irig_reader_hear` with IRIG_NO_PORT; and a call without an answer
- * then does nothing. What a structure holds is no duty of the caller: any numbers may lie in it,
- * each call returns, and what is announced is a valid second. A reader whose numbers were changed
- * by anything but these calls is refused (`irig_reader`).
+ * `irig_sync_pulse` and `irig_timekeeper_wait` with 0, by `irig_reader_hear` and
+ * `irig_timekeeper_hear` with IRIG_NO_PORT; and a call without an answer then does nothing. What a
+ * structure holds is no duty of the caller: any numbers may lie in it, each call returns, and what is
+ * announced is a valid second. A reader or a timekeeper whose numbers were changed by anything but
+ * these calls is refused (`irig_reader`).
  *
  * Answers. 0 is done. Any other answer is the number of a fault, and nothing was changed; those of
  * a frame have more beside it: `IRIG_FAULT(answer)` is the number, `IRIG_DETAIL(answer)` what it
@@ -19,11 +20,11 @@
  * IRIG_FAULT_VALUE; but a symbol may be any byte.
  *
  * Threads and interrupts. Calls on different objects may run at the same time, and may interrupt
- * one another. Calls on one object must not: give the interrupts that call for one reader (its
- * lines and its tick) one priority, or keep the others away meanwhile. No call waits, locks, or
- * turns interrupts off. Those of a single pulse are short (irig_reader_hear, irig_reader_pulse,
- * irig_sync_pulse, irig_sync_idle); those of a frame or an edge take many times as long. docs/C.md
- * has the most that was seen of each.
+ * one another. Calls on one object must not: give the interrupts that call for one reader or one
+ * timekeeper (its lines and its tick) one priority, or keep the others away meanwhile. No call
+ * waits, locks, or turns interrupts off. Those of a single pulse are short (irig_reader_hear,
+ * irig_timekeeper_hear, irig_reader_pulse, irig_sync_pulse, irig_sync_idle); those of a frame or an
+ * edge take many times as long. docs/C.md has the most that was seen of each.
  *
  * Days are counted from 2000-01-01 as day 0; `sod` is the second of the day, and 86400 is 23:59:60.
  */
@@ -75,7 +76,8 @@ enum {
     IRIG_FAULT_TABLE_END = 31,      /* a table goes beyond 2099-12-30 */
     IRIG_FAULT_TABLE_LONG = 32,     /* a table with more than 64 leaps */
     IRIG_FAULT_TABLE_DAY = 33,      /* a leap on a day that is no month's last, or after `until` */
-    IRIG_FAULT_TABLE_TWICE = 34     /* a day is listed twice */
+    IRIG_FAULT_TABLE_TWICE = 34,    /* a day is listed twice */
+    IRIG_FAULT_DRIFT = 35           /* a holdover longer than a timekeeper's counter can count */
 };
 
 /* The field of IRIG_FAULT_DIGIT and IRIG_FAULT_RANGE. */
@@ -275,6 +277,84 @@ typedef struct irig_told {
 IRIG_ASSERT((sizeof(irig_told) == 20u) && (offsetof(irig_told, fault) == 4u) &&
             (offsetof(irig_told, claim) == 8u));
 
+/* ---- timekeepers */
+
+/* A timekeeper is a device that hears lines by its own free-running counter of microseconds, which
+ * wraps at 2^32, and says which UTC second begins at which count. A tick may come at any time, early,
+ * late, often or seldom, but at least once in half an hour.
+ *
+ * What one gets wrong unnoticed: a tick has to be told the time up to which pulses were told, and
+ * not a later one. A device with a queue of pulses ticks at the end of each pulse before it tells
+ * that pulse, and last at the time at which it looked into the queue. If ticks run ahead of pulses
+ * by more than 4 ms, seconds are counted by the counter alone, and `moved` says so; if by 100 ms,
+ * nothing is ever voted. After sleep, or if the counter stood still or was set:
+ * irig_timekeeper_restart. */
+
+/* A line of a timekeeper. */
+typedef struct irig_line {
+    irig_sync sync;    /* where it stands in its frame */
+    irig_tally port;   /* what it heard of its frame */
+    irig_tally frame;  /* its last whole frame */
+    uint32_t end_us;   /* where that ends */
+    uint8_t has_frame; /* 0 if that was taken, or is late */
+} irig_line;
+IRIG_ASSERT((sizeof(irig_line) == 64u) && (offsetof(irig_line, port) == 8u) &&
+            (offsetof(irig_line, frame) == 32u) && (offsetof(irig_line, end_us) == 56u) &&
+            (offsetof(irig_line, has_frame) == 60u));
+
+/* A second that was announced. */
+typedef struct irig_announced {
+    uint32_t day;
+    uint32_t sod;
+    uint32_t edge_us;  /* where it begins */
+    uint32_t bound_us; /* how far from its true edge that may lie */
+    uint8_t is_told;   /* 0 if there is none */
+} irig_announced;
+IRIG_ASSERT((sizeof(irig_announced) == 20u) && (offsetof(irig_announced, is_told) == 16u));
+
+/* A timekeeper. All that is said of an irig_reader is true of it: its fields are there to be looked
+ * at, it may be copied and kept, and `check` is made of all numbers before it. */
+typedef struct irig_timekeeper {
+    irig_setup setup;
+    irig_table table;
+    irig_state state;
+    irig_line lines[5];    /* those that it does not have hear nothing */
+    uint32_t drift_us;     /* the most by which its counter is wrong in a second */
+    uint32_t edge_us;      /* where the last second begins that was counted */
+    uint32_t moved;        /* how often lines moved that edge since */
+    uint8_t has_edge;      /* 0 if none was counted */
+    irig_announced last;   /* that second, if it was announced */
+    irig_announced before; /* the one counted before it, if it was */
+    uint64_t check;
+} irig_timekeeper;
+IRIG_ASSERT((sizeof(irig_timekeeper) == 936u) && (offsetof(irig_timekeeper, state) == 532u) &&
+            (offsetof(irig_timekeeper, lines) == 552u) &&
+            (offsetof(irig_timekeeper, drift_us) == 872u) &&
+            (offsetof(irig_timekeeper, has_edge) == 884u) &&
+            (offsetof(irig_timekeeper, last) == 888u) &&
+            (offsetof(irig_timekeeper, before) == 908u) &&
+            (offsetof(irig_timekeeper, check) == 928u));
+
+/* What a tick of a timekeeper says. */
+typedef struct irig_second {
+    uint8_t is_told;    /* 1 if a second was counted; 0 if there is nothing to tell, then all zeros */
+    uint32_t edge_us;   /* where it begins; never ahead of the tick */
+    uint32_t missed;    /* seconds that passed untold before it, as no tick came */
+    uint32_t moved;     /* how often lines moved the edge since the second that was told before */
+    irig_report report; /* masks, quality and zone by the last whole frame of each line */
+} irig_second;
+IRIG_ASSERT((sizeof(irig_second) == 40u) && (offsetof(irig_second, edge_us) == 4u) &&
+            (offsetof(irig_second, report) == 16u));
+
+/* The time of an event: the second that had begun, and how long before. */
+typedef struct irig_stamp {
+    uint32_t day;
+    uint32_t sod;
+    uint32_t offset_us; /* from where the second begins to the event, by the counter */
+    uint32_t bound_us;  /* how far from the true instant the two may lie, at most 491,549 */
+} irig_stamp;
+IRIG_ASSERT((sizeof(irig_stamp) == 16u) && (offsetof(irig_stamp, bound_us) == 12u));
+
 /* ---- calls */
 
 /* The version of the library, as IRIG_VERSION. */
@@ -407,6 +487,49 @@ void irig_reader_restart(irig_reader *reader);
 /* Says what a port would tell if the edge came now. IRIG_FAULT_VALUE, also if a number of the setup
  * is none. It does not test the check word. */
 uint32_t irig_reader_port(const irig_reader *reader, uint8_t port, irig_told *told);
+
+/* Makes a timekeeper to which nothing has happened, by a counter that is at most `drift_us`
+ * microseconds wrong in a second, 0 to 100. IRIG_FAULT_VALUE, IRIG_FAULT_TABLE_END to
+ * IRIG_FAULT_TABLE_TWICE; IRIG_FAULT_DRIFT if (holdover + 2) * drift_us is above 490,000, as the
+ * counter could be half a second wrong by then. At 100 us a holdover may be 4,898 seconds, at 10 us
+ * 48,998, at 1 us 489,998. */
+uint32_t irig_timekeeper_init(irig_timekeeper *timekeeper, const irig_setup *setup,
+                              const irig_table *table, uint32_t drift_us);
+
+/* A pulse on a line, 0 to 2 of three, 0 to 4 of five, 0 of one, once it has ended and at most half a
+ * second after it rose, in order of time: its place, as irig_sync_pulse answers it. A width of
+ * 500,000 us or more is no pulse, the line is stuck: 0, and nothing changes. IRIG_NO_PORT. Behind a
+ * place of 100 there may be less to wait. */
+uint8_t irig_timekeeper_hear(irig_timekeeper *timekeeper, uint8_t line, uint32_t rise_us,
+                             uint32_t width_us);
+
+/* Says which second begins, if one has begun since the last call, by frames of which enough claim one
+ * second and end within a millisecond, or else by the counter alone, 5 ms later. `now_us` is the time
+ * up to which pulses were told (above). IRIG_FAULT_VALUE as irig_reader_tick answers it; then nothing
+ * is written, nothing is announced, and irig_timekeeper_init begins afresh.
+ *
+ * If it answers 0, a second that is announced with the cause IRIG_CAUSE_VOTED is the true one, and
+ * its true edge lies at most 1,549 us behind `edge_us` or 549 before it, provided that no two of
+ * three lines (three of five; not the one line) were untrue in the last 1.2 s, whenever the call
+ * comes, whatever came before, and whatever numbers lie in the timekeeper. In one that
+ * irig_timekeeper_init made, a second with the cause IRIG_CAUSE_HELD is true too, if that was so at
+ * each tick, the counter is as steady as `drift_us` says, the table is right and calls were in
+ * order; its edge lies off by `drift_us` more for each of `lock_count` seconds. */
+uint32_t irig_timekeeper_tick(irig_timekeeper *timekeeper, uint32_t now_us, irig_second *second);
+
+/* How long until a tick has something to do, in microseconds, if no call comes before it: 0 if one at
+ * once has, at most 1,005,000 unless `now_us` lies before the last edge. 0 where a tick would be
+ * refused. */
+uint32_t irig_timekeeper_wait(const irig_timekeeper *timekeeper, uint32_t now_us);
+
+/* The time of an event, by the second that was told last if it lies behind that one's edge, else by
+ * the one before; these have to be announced, and the event at most a second and the error of the
+ * edge behind them. IRIG_FAULT_VALUE, also where a tick would be refused. */
+uint32_t irig_timekeeper_stamp(const irig_timekeeper *timekeeper, uint32_t time_us,
+                               irig_stamp *stamp);
+
+/* Forgets all that was heard and counted. A timekeeper that a tick refuses stays so. */
+void irig_timekeeper_restart(irig_timekeeper *timekeeper);
 
 #ifdef IRIG_OLD_NAMES
 

@@ -41,7 +41,7 @@ static const words faults[] = {
      "a key is missing or unknown, or a value has another type; a do or kind that is not there"},
     {"Value",
      "a value out of its range or none of those that it may have, a null pointer, no such "
-     "port, or a reader whose numbers something else has changed"},
+     "port, or a reader or timekeeper whose numbers something else has changed"},
     {"Version", "a version that this program does not know"},
     {"Names", "no reader or more than 16, a name of another form, or a name twice"},
     {"NoPlant", "the input ended before a plant line"},
@@ -50,6 +50,7 @@ static const words faults[] = {
     {"TableLong", "a table with more than 64 leaps"},
     {"TableDay", "a table's leap on a day that is not a month's last, or after until"},
     {"TableTwice", "a day is listed twice in a table"},
+    {"Drift", "a holdover longer than a timekeeper's counter can count"},
 };
 static const words locks[] = {
     {"unlocked", "nothing is known"},

@@ -15,6 +15,9 @@ static irig_reader reader;
 static irig_sync sync;
 static irig_report report;
 static irig_told told;
+static irig_timekeeper timekeeper;
+static irig_second second_told;
+static irig_stamp stamp;
 static uint8_t symbols[100];
 static uint32_t word, widths_us[100];
 static char text[20] = "2016-12-31T00:00:00Z";
@@ -80,6 +83,19 @@ static void try_lines(void) {
     if (irig_reader_hear(&reader, NULL, 0, 0, 8000) != IRIG_NO_PORT) exit(1);
 }
 
+static void try_timekeeper(void) {
+    REFUSED(irig_timekeeper_init(NULL, &setup, &table, 0));
+    REFUSED(irig_timekeeper_init(&timekeeper, NULL, &table, 0));
+    REFUSED(irig_timekeeper_init(&timekeeper, &setup, NULL, 0));
+    REFUSED(irig_timekeeper_tick(NULL, 0, &second_told));
+    REFUSED(irig_timekeeper_tick(&timekeeper, 0, NULL));
+    REFUSED(irig_timekeeper_stamp(NULL, 0, &stamp));
+    REFUSED(irig_timekeeper_stamp(&timekeeper, 0, NULL));
+    if (irig_timekeeper_hear(NULL, 0, 0, 8000) != IRIG_NO_PORT) exit(1);
+    if (irig_timekeeper_wait(NULL, 0) != 0) exit(1);
+    irig_timekeeper_restart(NULL);
+}
+
 int main(void) {
     /* Without a null pointer the same calls are done. */
     if (irig_coded_of(&second, 0, &coded) || irig_reader_init(&reader, &setup, &table)) return 1;
@@ -88,6 +104,10 @@ int main(void) {
     try_seconds();
     try_reader();
     try_lines();
+    if (irig_timekeeper_init(&timekeeper, &setup, &table, 0)) return 1;
+    try_timekeeper();
+    if (irig_timekeeper_hear(&timekeeper, 0, 0, 8000) != 1) return 1;
+    if (irig_timekeeper_tick(&timekeeper, 0, &second_told) || second_told.is_told) return 1;
     irig_sync_init(&sync);
     return irig_reader_hear(&reader, &sync, 0, 0, 8000) == 1 ? 0 : 1;
 }

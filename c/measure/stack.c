@@ -16,6 +16,10 @@ static irig_reader reader;
 static irig_sync sync;
 static irig_report report;
 static irig_told told;
+static irig_timekeeper timekeeper, other;
+static irig_second second_told;
+static irig_stamp stamp;
+static uint32_t edge_us;
 static uint8_t symbols[100];
 static uint32_t word, widths_us[100];
 static char text[20];
@@ -64,6 +68,19 @@ static void tick(void) { irig_reader_tick(&reader, &report); }
 static void restart(void) { irig_reader_restart(&reader); }
 static void port(void) { irig_reader_port(&reader, 0, &told); }
 
+/* A frame on each of five lines, then its end, and an event. */
+static void keeper_init(void) { irig_timekeeper_init(&other, &setup, &table, 100); }
+static void keeper_hear(void) {
+    for (uint32_t element = 0; element < 100; element++)
+        for (uint8_t line = 0; line < 5; line++)
+            irig_timekeeper_hear(&timekeeper, line, edge_us + element * 10000, widths_us[element]);
+    edge_us += 1000000;
+}
+static void keeper_wait(void) { word = irig_timekeeper_wait(&timekeeper, edge_us - 1000); }
+static void keeper_tick(void) { irig_timekeeper_tick(&timekeeper, edge_us, &second_told); }
+static void keeper_stamp(void) { irig_timekeeper_stamp(&timekeeper, edge_us + 7, &stamp); }
+static void keeper_restart(void) { irig_timekeeper_restart(&other); }
+
 typedef struct call {
     const char *name;
     void (*run)(void);
@@ -98,6 +115,12 @@ static call calls[] = {
     {"irig_sync_idle", idle, 0},
     {"irig_reader_hear", hear, 0},
     {"irig_reader_init", init, 0},
+    {"irig_timekeeper_init", keeper_init, 0},
+    {"irig_timekeeper_hear", keeper_hear, 0},
+    {"irig_timekeeper_wait", keeper_wait, 0},
+    {"irig_timekeeper_tick", keeper_tick, 0},
+    {"irig_timekeeper_stamp", keeper_stamp, 0},
+    {"irig_timekeeper_restart", keeper_restart, 0},
 };
 enum { CALLS = sizeof calls / sizeof *calls };
 
@@ -118,6 +141,7 @@ int main(void) {
         day += (year + 1) % 4 == 0 ? 366 : 365;
     }
     if (irig_reader_init(&reader, &setup, &table)) return 1;
+    if (irig_timekeeper_init(&timekeeper, &setup, &table, 100)) return 1;
     for (uint32_t edge = 0; edge < 12; edge++) {
         second.sod = 86394 + (edge < 6 ? edge : 6);
         run_all();

@@ -14,7 +14,11 @@ mod line;
 mod reader;
 mod second;
 mod symbols;
+mod timekeeper;
 
+pub use irig_keeper_numbers::{
+    IrigAnnounced, IrigLine, IrigLines, IrigSecond, IrigStamp, IrigTimekeeper,
+};
 pub use irig_numbers::{
     IrigClaim, IrigControl, IrigLeap, IrigReader, IrigReport, IrigSetup, IrigState, IrigTable,
     IrigTold, another_number_is_told,

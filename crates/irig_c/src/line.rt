@@ -18,7 +18,7 @@ use irig_port::Tally;
 use irig_sync::Sync;
 
 /// What is answered of a port that is not there; every place is below.
-const NO_PORT: u8 = 255;
+pub(crate) const NO_PORT: u8 = 255;
 
 /// Begins with a line on which nothing came.
 #[unsafe(no_mangle)]

@@ -59,7 +59,7 @@ odd_apart i m n rest m_fits n_fits differ same =
 tail_same : (w m a b : ℕ) → (w * m + a) % 18446744073709551616 ≡ (w * m + b) % 18446744073709551616 → a % 18446744073709551616 ≡ b % 18446744073709551616
 tail_same w m a b e = omega (arith, e)
 
-apart_lists : (i : ℕ) (xs ys : List ℕ) → AreOneApart xs ys → weighted (2 * i + 1) xs % 18446744073709551616 ≡ weighted (2 * i + 1) ys % 18446744073709551616 → ⊥
+pub apart_lists : (i : ℕ) (xs ys : List ℕ) → AreOneApart xs ys → weighted (2 * i + 1) xs % 18446744073709551616 ≡ weighted (2 * i + 1) ys % 18446744073709551616 → ⊥
 apart_lists i [] ys h e = absurd h
 apart_lists i (m ∷ ms) [] h e = absurd h
 apart_lists i (m ∷ ms) (n ∷ ns) (inl h) e =

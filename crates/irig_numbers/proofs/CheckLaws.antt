@@ -20,7 +20,7 @@ pub by_one_product : (w : ℕ) (t : Tally)
 by_one_product w t = of_rest w (plain_of t) (slope_of t) ∙ ap (λ (n : ℕ). n % 18446744073709551616) (spread w t)
 
 -- what is added to the one sum to give the other
-change_adds : (w p s p2 s2 y z : ℕ) → (p + y) % 18446744073709551616 ≡ p2 % 18446744073709551616 → (s + z) % 18446744073709551616 ≡ s2 % 18446744073709551616
+pub change_adds : (w p s p2 s2 y z : ℕ) → (p + y) % 18446744073709551616 ≡ p2 % 18446744073709551616 → (s + z) % 18446744073709551616 ≡ s2 % 18446744073709551616
     → (w * p + s + ((w * y) % 18446744073709551616 + z) % 18446744073709551616) % 18446744073709551616 ≡ (w * p2 + s2) % 18446744073709551616
 change_adds w p s p2 s2 y z plain more =
     let product : (w * p + w * y) % 18446744073709551616 ≡ (w * p2) % 18446744073709551616 =
@@ -32,7 +32,7 @@ change_adds w p s p2 s2 y z plain more =
     mul-distrib w p y = grind arith
 
 -- 64 bits of what is above another number
-difference : (a b : ℕ) → (a + (b % 18446744073709551616 + (18446744073709551616 - a % 18446744073709551616)) % 18446744073709551616) % 18446744073709551616 ≡ b % 18446744073709551616
+pub difference : (a b : ℕ) → (a + (b % 18446744073709551616 + (18446744073709551616 - a % 18446744073709551616)) % 18446744073709551616) % 18446744073709551616 ≡ b % 18446744073709551616
 difference a b = omega arith
 
 pub change_is : (w : ℕ) (t u : Tally)
@@ -62,10 +62,10 @@ weighted-append w (n ∷ ns) b =
     three a c d = omega arith
 
 -- the same, if the second weight is known
-append_at : (w v : ℕ) (a b : List ℕ) → w + 2 * length a ≡ v → weighted w (a ++ b) ≡ weighted w a + weighted v b
+pub append_at : (w v : ℕ) (a b : List ℕ) → w + 2 * length a ≡ v → weighted w (a ++ b) ≡ weighted w a + weighted v b
 append_at w v a b same = weighted-append w a b ∙ ap (λ (x : ℕ). weighted w a + weighted x b) same
 
-length-leaps : (ls : List IrigLeap) → length (leap_numbers ls) ≡ 2 * length ls
+pub length-leaps : (ls : List IrigLeap) → length (leap_numbers ls) ≡ 2 * length ls
 length-leaps [] = refl
 length-leaps (l ∷ ls) = omega (arith, length-leaps ls)
 

@@ -1,4 +1,4 @@
--- How ports stand to the vote of an edge, and what the frames of those that agree say beside the time.
+-- How ports stand to a vote, and what the frames of those that agree say beside the time.
 -- Source: this library's own; docs/FRAME.md for the control bits.
 use Rattle.std.specs.Prelude.{ℕ, ◌+◌, ◌*◌, ◌&&◌, Bool, true, false, not, nat_lt, if◌then◌else◌, max, List, [], ◌∷◌, count_by, Option, Some, None, neg_ℤ}
 use Rattle.std.specs.Ordering.{int_eq}
@@ -38,15 +38,19 @@ standing_of vote (tells.Claim c) = if is_voted vote c then Agreed else Differed
 abbrev pub standing_if : Bool → Option Claim → Told → Standing
 standing_if is_there vote told = if is_there then standing_of vote told else Silent
 
--- how five ports stand to the vote of all that are there
-abbrev pub standings_of : Tells → Redundancy → Standings
-standings_of t r = record {
-  a = standing_if (nat_lt 0 (ports_in r)) (vote_of t r) t.a;
-  b = standing_if (nat_lt 1 (ports_in r)) (vote_of t r) t.b;
-  c = standing_if (nat_lt 2 (ports_in r)) (vote_of t r) t.c;
-  d = standing_if (nat_lt 3 (ports_in r)) (vote_of t r) t.d;
-  e = standing_if (nat_lt 4 (ports_in r)) (vote_of t r) t.e;
+-- how five ports stand to a vote
+abbrev pub standings_to : Option Claim → Tells → Redundancy → Standings
+standings_to vote t r = record {
+  a = standing_if (nat_lt 0 (ports_in r)) vote t.a;
+  b = standing_if (nat_lt 1 (ports_in r)) vote t.b;
+  c = standing_if (nat_lt 2 (ports_in r)) vote t.c;
+  d = standing_if (nat_lt 3 (ports_in r)) vote t.d;
+  e = standing_if (nat_lt 4 (ports_in r)) vote t.e;
 }
+
+-- to the vote of all that are there
+abbrev pub standings_of : Tells → Redundancy → Standings
+standings_of t r = standings_to (vote_of t r) t r
 
 -- whether they are the same
 abbrev pub same_standing : Standing → Standing → Bool

@@ -57,7 +57,8 @@ fn leap_sum(weight: u64, leap: &IrigLeap) -> u64
     weight * u64::from(leap.day) + (weight + 2) * u64::from(leap.kind)
 }
 
-fn state_sum(state: &IrigState) -> u64
+/// What a state adds.
+pub fn state_sum(state: &IrigState) -> u64
     ensures value { result ≡ weighted 275 (state_numbers state.now) }
     ensures few { result < 2 ^ 60 }
 {

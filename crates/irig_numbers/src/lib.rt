@@ -21,7 +21,7 @@ mod table;
 mod voices;
 mod zone;
 
-pub use check_word::{changing_sum, check_of, fixed_sum, tally_change};
+pub use check_word::{changing_sum, check_of, fixed_sum, state_sum, tally_change};
 pub use claim::{IrigClaim, claim_for_c};
 pub use control::{IrigControl, control_for_c, control_of_c};
 pub use fault::{OUT_OF_RANGE, fault_code};

@@ -1,8 +1,7 @@
-//! How ports stand to the vote of an edge.
+//! How ports stand to a vote.
 
 ghost use Rattle.std.specs.Prelude.{◌≡◌, ◌≤◌};
-ghost use Rattle.irig_vote.specs.Vote.{vote_of};
-ghost use Rattle.irig_numbers.specs.Standings.{bit_of, is_voted, mask_of, standing_if, standings_of};
+ghost use Rattle.irig_numbers.specs.Standings.{bit_of, is_voted, mask_of, standing_if, standings_to};
 
 use irig_port::Told;
 use irig_time::Claim;
@@ -23,7 +22,7 @@ pub(crate) enum Standing {
     Poor,
 }
 
-/// How five ports stand to their vote.
+/// How five ports stand to a vote.
 #[derive(Clone, Copy)]
 pub(crate) struct Standings {
     pub(crate) a: Standing,
@@ -34,10 +33,9 @@ pub(crate) struct Standings {
 }
 
 impl Standings {
-    /// Of ports that tell this, and have this vote.
+    /// Of ports that tell this, to this vote.
     pub(crate) fn of(tells: &Tells, redundancy: Redundancy, vote: Option<Claim>) -> Standings
-        requires { vote ≡ vote_of tells.now redundancy }
-        ensures { result ≡ standings_of tells.now redundancy }
+        ensures { result ≡ standings_to vote tells.now redundancy }
     {
         let ports = redundancy.ports();
         Standings {

@@ -1,8 +1,7 @@
-//! What the ports of a reader told at an edge, beside the vote.
+//! What ports told at an edge, beside the vote.
 
 ghost use Rattle.std.specs.Prelude.{◌≡◌};
-ghost use Rattle.irig_vote.specs.Vote.{vote_of};
-ghost use Rattle.irig_numbers.specs.Voices.{voices_of};
+ghost use Rattle.irig_numbers.specs.Voices.{voices_to};
 
 use crate::standing::{Standing, Standings};
 use crate::zone::{Zone, sent_by, worst_of, zone_sent_by};
@@ -28,7 +27,7 @@ pub struct Voices {
     pub zone: Option<Zone>,
 }
 
-/// The voices of ports that tell this, have this vote, and heard frames by these numbers.
+/// The voices of ports that tell this, beside this vote, and heard frames by these numbers.
 #[inline(never)]
 pub fn voices_of(
     tells: &Tells,
@@ -37,8 +36,7 @@ pub fn voices_of(
     sense: Sense,
     ports: &[Tally; 5],
 ) -> Voices
-    requires { vote ≡ vote_of tells.now redundancy }
-    ensures { result ≡ voices_of tells.now redundancy sense ports.now }
+    ensures { result ≡ voices_to vote tells.now redundancy sense ports.now }
 {
     let standings = Standings::of(tells, redundancy, vote);
     let sent = sent_by(&standings, sense, ports);

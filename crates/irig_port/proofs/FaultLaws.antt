@@ -38,7 +38,7 @@ first_of : (a b : Option FrameFault) → option_or a b ≡ None → (a ≡ None)
 first_of None b e = (refl, e)
 first_of (Some f) b e = absurd cc
 
-all_right : (i : ℕ) (s : List Symbol) → first_wrong i s ≡ None → (p : ℕ) → p < length s → IsRight (i + p) (slice_get s p)
+pub all_right : (i : ℕ) (s : List Symbol) → first_wrong i s ≡ None → (p : ℕ) → p < length s → IsRight (i + p) (slice_get s p)
 all_right i [] e p h = absurd (omega arith)
 all_right i (x ∷ s) e zero h = elim (right_or_not i x) [
   | inl right ↦ subst (λ (j : ℕ). IsRight j (Some x)) (let same : i ≡ i + 0 = omega arith in same) right
@@ -73,20 +73,20 @@ damaged_own line claims heard f i x e (tells.Poor q) h = absurd h
 -- ---- rotated frames
 
 -- the element p may not hold what stands r further on
-odd_place : ℕ → ℕ → Bool
+pub odd_place : ℕ → ℕ → Bool
 odd_place r p = cond (is_marker_place p) (not (is_marker_place ((p + r) % 100))) (is_marker_place ((p + r) % 100))
 
 -- two such elements, which are no neighbours
-first_odd : ℕ → ℕ
+pub first_odd : ℕ → ℕ
 first_odd r = cond (eqb (r % 10) 0) 0 (cond (eqb r 91) 19 9)
 
-second_odd : ℕ → ℕ
+pub second_odd : ℕ → ℕ
 second_odd r = cond (eqb (r % 10) 0) (100 - r) (cond (eqb r 71) 19 29)
 
 odd_test : ℕ → Bool
 odd_test r = cond (eqb r 0) true (odd_place r (first_odd r) && odd_place r (second_odd r) && nat_lt (first_odd r + 1) (second_odd r) && nat_lt (second_odd r) 100)
 
-odd_at : (r : ℕ) → r < 100 → (r ≡ 0 → ⊥) → (odd_place r (first_odd r) ≡ true) × (odd_place r (second_odd r) ≡ true) × (first_odd r + 1 < second_odd r) × (second_odd r < 100)
+pub odd_at : (r : ℕ) → r < 100 → (r ≡ 0 → ⊥) → (odd_place r (first_odd r) ≡ true) × (odd_place r (second_odd r) ≡ true) × (first_odd r + 1 < second_odd r) × (second_odd r < 100)
 unfolding odd_place first_odd second_odd odd_test
 odd_at r low some =
     let test : odd_test r ≡ true = agree_below_at odd_test (λ _. true) 100 r refl low in
@@ -97,7 +97,7 @@ odd_at r low some =
     let ones = and_parts _ _ (twos.0) in
     (ones.0, ones.1, ltb-true _ _ (twos.1), ltb-true _ _ (three.1))
 
-misplaced : (r p j : ℕ) (x : Symbol) → j % 100 ≡ (p + r) % 100 → odd_place r p ≡ true → IsRight (j % 100) (Some x) → IsRight p (Some x) → ⊥
+pub misplaced : (r p j : ℕ) (x : Symbol) → j % 100 ≡ (p + r) % 100 → odd_place r p ≡ true → IsRight (j % 100) (Some x) → IsRight p (Some x) → ⊥
 unfolding odd_place
 misplaced r p j x e odd there here = of x (subst (λ (n : ℕ). IsRight n (Some x)) e there) here
   where
@@ -137,13 +137,13 @@ rotated rules line heard r q true_line all low some fits =
 
 -- ---- a line of frames
 
-true_line : (rules : Rules) (line : ℕ → Symbol) (claims : ℕ → Claim) → TellsClaims rules line claims → IsTrueLine line
+pub true_line : (rules : Rules) (line : ℕ → Symbol) (claims : ℕ → Claim) → TellsClaims rules line claims → IsTrueLine line
 true_line rules line claims h k =
     let reads = ((carries_is_told rules (frame_at line (k / 100)) (claims (k / 100))).0 (h (k / 100))).reads in
     let same : 100 * (k / 100) + k % 100 ≡ k = omega arith in
     subst (IsRight (k % 100)) (row-get line (100 * (k / 100)) 100 (k % 100) (omega arith) ∙ ap (λ (j : ℕ). Some (line j)) same) (reads.elements (k % 100) (omega arith))
 
-marker_at : (p : ℕ) (x : Symbol) → is_marker_place p ≡ true → IsRight p (Some x) → x ≡ Marker
+pub marker_at : (p : ℕ) (x : Symbol) → is_marker_place p ≡ true → IsRight p (Some x) → x ≡ Marker
 marker_at p Marker m h = refl
 marker_at p Zero m h = absurd cc
 marker_at p One m h = absurd cc

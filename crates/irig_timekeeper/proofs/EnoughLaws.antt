@@ -120,7 +120,7 @@ module _ (a : ℕ → Bool) (g : ℕ → ℕ) where
               let at' : g (from + suc tail.i) ≡ g (from + 1 + tail.i) = ap g (let t : from + suc tail.i ≡ from + 1 + tail.i = omega arith in t) in
               omega (arith, most, at, at')
 
-more_of : (a b : ℕ → Bool) (from n : ℕ) → ((j : ℕ) → j < n → a (from + j) ≡ true → b (from + j) ≡ true) → count_by a (range_with_len from n) ≤ count_by b (range_with_len from n)
+pub more_of : (a b : ℕ → Bool) (from n : ℕ) → ((j : ℕ) → j < n → a (from + j) ≡ true → b (from + j) ≡ true) → count_by a (range_with_len from n) ≤ count_by b (range_with_len from n)
 more_of a b from zero both = omega arith
 more_of a b from (suc n) both =
     let x = sum_by-cons (λ k. cond (a k) 1 0) from (range_with_len (from + 1) n) in
@@ -142,7 +142,7 @@ same_truth t n c c' p q =
     let same : c ≡ c' = cc in
     subst (λ (x : Claim). same_claim c x ≡ true) same (same_itself c)
 
-both_true : (a b : Bool) → a ≡ true → b ≡ true → (a && b) ≡ true
+pub both_true : (a b : Bool) → a ≡ true → b ≡ true → (a && b) ≡ true
 both_true true b p q = q
 both_true false b p q = absurd cc
 

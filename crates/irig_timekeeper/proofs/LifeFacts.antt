@@ -1,9 +1,9 @@
 -- A short life for which all premises of a device's laws hold: three lines, of which one lies, by a
 -- counter that is 100 us a second slow and wraps; four ticks.
-use Rattle.std.proofs.Common.{◌≡◌, ℕ, zero, suc, ◌+◌, ◌-◌, ◌*◌, ◌/◌, ◌%◌, ◌^◌, ◌<◌, ◌≤◌, Bool, true, false, cond, not, ◌&&◌, List, [], ◌∷◌, ◌++◌, length, Some, None, refl, sym, subst, ap, ◌∙◌, arith, inl, inr}
+use Rattle.std.proofs.Common.{◌≡◌, ℕ, zero, suc, ◌+◌, ◌-◌, ◌*◌, ◌/◌, ◌%◌, ◌^◌, ◌<◌, ◌≤◌, ◌⊎◌, Bool, true, false, cond, not, ◌&&◌, List, [], ◌∷◌, ◌++◌, length, Some, None, refl, sym, subst, ap, ◌∙◌, arith, inl, inr}
 use Rattle.std.specs.Prelude.{slice_get, ◌==◌, nat_lt, nat_le, count_by, get_or}
 use Rattle.std.specs.List.{range_with_len}
-use Rattle.std.proofs.lemmas.Bool.{ltb-true, leb-true, lt-ltb}
+use Rattle.std.proofs.lemmas.Bool.{cases_Bool, ltb-true, leb-true, lt-ltb}
 use Rattle.std.proofs.lemmas.Option.{same_Some, slice_get-get_or}
 use Rattle.irig_frame.specs.declared.symbol.Symbol.{Symbol}
 use Rattle.irig_frame.specs.declared.symbol.Symbol.TheVariants.{Zero, One, Marker, Bad}
@@ -48,7 +48,7 @@ use Rattle.irig_timekeeper.specs.Lines.{ArePulsesLately, IsLineOf, IsTrueLately}
 use Rattle.irig_timekeeper.specs.Steps.{IsNewLine, AreNewLines}
 use Rattle.irig_timekeeper.specs.Keeping.{Keeping, new_keeping, restarted, after_pulse, after_tick, answer_at, stamp_at}
 use Rattle.irig_timekeeper.specs.Truth.{IsDevice, IsToldInHoldover, IsLaterSecond}
-use Rattle.irig_timekeeper.specs.Life.{Call, pulses_on, last_call, last_tick, AreInOrder, AreTrueAtTicks, after_calls}
+use Rattle.irig_timekeeper.specs.Life.{Call, AreTrueLately, pulses_on, last_call, last_tick, AreInOrder, AreTrueAtTicks, after_calls}
 use Rattle.irig_timekeeper.specs.Life.Call.{Hear, Tick}
 use Rattle.irig_timekeeper.proofs.LineLaws.{true_lately}
 use Rattle.irig_timekeeper.proofs.LifeLaws.{TellAlwaysTruly, device_true, device_in_order}
@@ -505,6 +505,59 @@ stray is = elim is.are [
 stray_old : IsTrueLately rules noon edges 4294700601 stray_pulse
 unfolding stray_pulse
 stray_old = record { line = line; next = 0; is_line = is_line; are = inl (omega arith, tt) }
+
+-- one with a pulse of another width at a frame's first element is none either
+damaged_pulse : List Pulse
+damaged_pulse = pulse_at 4293500000 5000 ∷ []
+
+damaged : ¬ IsTrueLately rules noon edges 4293600000 damaged_pulse
+unfolding damaged_pulse
+damaged is = elim is.are [
+  | inl old ↦ absurd (omega (arith, old.0))
+  | inr new ↦
+      let first : new.0 % 100 ≡ 0 = place_zero new.0 new.2.0.0 new.2.0.1 in
+      let one : is.line new.0 ≡ One = sym new.2.1 in
+      no_marker (subst (λ (i : ℕ). IsRight i (Some One)) first (subst (λ (x : Symbol). IsRight (new.0 % 100) (Some x)) one (is.is_line.right new.0)))
+]
+  where
+    place_zero : (j : ℕ) → element_at edges j < 4293500000 + 450 → 4293500000 < element_at edges j + 450 → j % 100 ≡ 0
+    place_zero j least most = omega (arith, least, most)
+
+    no_marker : ¬ IsRight 0 (Some One)
+    no_marker e = cc
+
+-- two lines that lie in turn, one behind the other within 1.2 s, are two untrue ones
+in_turn : List Call
+in_turn = Hear 1 4293600000 4293590600 8000 ∷ Hear 0 4293509000 4293500600 8000 ∷ []
+
+rotating : ¬ AreTrueLately (IsTrueLately rules noon edges) 1 4293600000 in_turn
+unfolding in_turn
+rotating is = elim (cases_Bool (is.untrue 0)) [
+  | inr right ↦ stray_at 4293500600 (inl refl) (is.true_lines 0 (omega arith) right)
+  | inl lies ↦ elim (cases_Bool (is.untrue 1)) [
+    | inr right ↦ stray_at 4293590600 (inr refl) (is.true_lines 1 (omega arith) right)
+    | inl too ↦ two (is.untrue 0) (is.untrue 1) (is.untrue 2) (is.untrue 3) (is.untrue 4) lies too is.few
+  ]
+]
+  where
+    stray_at : (rise : ℕ) → (rise ≡ 4293500600) ⊎ (rise ≡ 4293590600) → ¬ IsTrueLately rules noon edges 4293600000 (pulse_at rise 8000 ∷ [])
+    stray_at rise (inl at) is = elim is.are [
+      | inl old ↦ absurd (omega (arith, old.0, at))
+      | inr new ↦ (let low : new.0 % 100 < 100 = omega arith in absurd (omega (arith, low, at, new.2.0.0, new.2.0.1)))
+    ]
+    stray_at rise (inr at) is = elim is.are [
+      | inl old ↦ absurd (omega (arith, old.0, at))
+      | inr new ↦ (let low : new.0 % 100 < 100 = omega arith in absurd (omega (arith, low, at, new.2.0.0, new.2.0.1)))
+    ]
+
+    two : (a b c d e : Bool) → a ≡ true → b ≡ true → ¬ (0 + cond a 1 0 + cond b 1 0 + cond c 1 0 + cond d 1 0 + cond e 1 0 ≤ 1)
+    two true true c d e p q few = omega (arith, few)
+    two true false c d e p q few = absurd cc
+    two false b c d e p q few = absurd cc
+
+-- a device that was off for half an hour, and was not restarted, is not in order
+power_cut : (start : ℕ) (calls : List Call) → ¬ AreInOrder start of.Three (Tick (last_tick start calls + 1800000000) ∷ calls)
+power_cut start calls order = omega (arith, order.1)
 
 -- a restart leaves what is new
 as_new : (k : Keeping) (lines : Lines) → restarted k lines ≡ new_keeping k.rules k.clock k.table lines

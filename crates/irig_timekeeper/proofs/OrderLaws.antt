@@ -28,7 +28,7 @@ use Rattle.irig_timekeeper.specs.Truth.{IsEdgeAt, AreApartBeats}
 use Rattle.irig_timekeeper.specs.Life.{Call, after_calls, pulses_on, last_call, last_tick, AreInOrder}
 use Rattle.irig_timekeeper.specs.Life.Call.{Hear, Tick}
 use Rattle.irig_timekeeper.proofs.AgreeLaws.{is_one}
-use Rattle.irig_timekeeper.proofs.VoteLaws.{still, come, frame_settled, one_more, not_late, come_before, split, last_late}
+use Rattle.irig_timekeeper.proofs.VoteLaws.{still, come, frame_settled, one_more, not_late, split, last_late}
 use Rattle.irig_timekeeper.proofs.WholeLaws.{whole_of, AreSorted, whole_here, not_whole, whole_apart}
 use Rattle.irig_timekeeper.proofs.TimeLaws.{own_count, still_edge, own_edge_at, voted_count, same_edge}
 use Rattle.irig_timekeeper.proofs.LifeLaws.{AreLinesAt, IsEndAt, lines_after, order_before, ticked, line_takes, line_same, line_other, and_false}
@@ -94,7 +94,7 @@ five One = omega arith
 five Three = omega arith
 five Five = omega arith
 
-shared : (r : Redundancy) (a b : ℕ → Bool) → ((i : ℕ) → i < 5 → ports_in r ≤ i → a i ≡ false) → ((i : ℕ) → i < 5 → ports_in r ≤ i → b i ≡ false)
+pub shared : (r : Redundancy) (a b : ℕ → Bool) → ((i : ℕ) → i < 5 → ports_in r ≤ i → a i ≡ false) → ((i : ℕ) → i < 5 → ports_in r ≤ i → b i ≡ false)
     → f_of r < count_by a (range_with_len 0 5) → f_of r < count_by b (range_with_len 0 5) → (i : ℕ) × (i < 5) × (a i ≡ true) × (b i ≡ true)
 shared r a b no_a no_b many_a many_b =
     let found = are_both a b 0 (ports_in r) (omega (arith, few_ports r a no_a, few_ports r b no_b, many_a, many_b, twice r)) in
@@ -229,11 +229,7 @@ module _ (new : Keeping) (start : ℕ) (begins : AreLinesAt new new (λ i. []) s
 
 -- ---- the lines that agree on an edge
 
-IsRanged : KeptClaim → Type 0
-IsRanged y = y.end_us < 2 ^ 32
-
-ranged : (EndsSo : ℕ → Type 0) (rules : Rules) (o : Option KeptClaim) (pulses : List Pulse) (y : KeptClaim) → IfKept EndsSo rules o pulses → o ≡ Some y → IsRanged y
-unfolding IsRanged
+ranged : (EndsSo : ℕ → Type 0) (rules : Rules) (o : Option KeptClaim) (pulses : List Pulse) (y : KeptClaim) → IfKept EndsSo rules o pulses → o ≡ Some y → y.end_us < 2 ^ 32
 ranged EndsSo rules None pulses y h e = absurd cc
 ranged EndsSo rules (Some x) pulses y h e =
     let same : x ≡ y = cc in
@@ -253,101 +249,185 @@ takes k clock v e = of (vote_at k clock) e
     of (Some x) e = either (edges_to_vote k.state.edge_us x.end_us == 0) _ _ _ refl refl
 
 module _ (new : Keeping) (start : ℕ) (begins : AreLinesAt new new (λ i. []) start start) where
-  module _ (calls : List Call) (now : ℕ) (order : AreInOrder start new.clock.redundancy (Tick now ∷ calls)) (v : KeptClaim) (voted : vote_at (after_calls new calls) (now % 2 ^ 32) ≡ Some v) where
-    abbrev clock : ℕ
+  module _ (calls : List Call) (now : ℕ) (order : AreInOrder start new.clock.redundancy (Tick now ∷ calls)) where
+    abbrev pub clock : ℕ
     clock = now % 2 ^ 32
 
-    abbrev lines : Lines
+    abbrev pub lines : Lines
     lines = (after_calls new calls).state.lines
 
-    abbrev agreeing : ℕ → Bool
-    agreeing i = agrees v (claim_kept (line_at (settled clock lines) i).frame)
+    abbrev pub f : ℕ
+    f = f_of (after_calls new calls).clock.redundancy
 
-    there : (agreed (f_of (after_calls new calls).clock.redundancy) (settled clock lines) ≡ Some v) × (has_come v.end_us clock ≡ true)
-    there = come clock (agreed (f_of (after_calls new calls).clock.redundancy) (settled clock lines)) v voted
-
-    -- what an agreeing line keeps
-    kept_by : (i : ℕ) → i < 5 → (y : KeptClaim) → claim_kept (line_at (settled clock lines) i).frame ≡ Some y → (claim_kept (line_at lines i).frame ≡ Some y) × (is_late y.end_us clock ≡ false)
+    -- what a line keeps
+    pub kept_by : (i : ℕ) → i < 5 → (y : KeptClaim) → claim_kept (line_at (settled clock lines) i).frame ≡ Some y → (claim_kept (line_at lines i).frame ≡ Some y) × (is_late y.end_us clock ≡ false)
     kept_by i small y e = still clock (line_at lines i).frame y (ap claim_kept (sym (frame_settled clock lines i small)) ∙ e)
 
-    range_at : (i : ℕ) → i < 5 → (y : KeptClaim) → claim_kept (line_at (settled clock lines) i).frame ≡ Some y → IsRanged y
-    range_at i small y e =
-        ranged (IsEndAt (pulses_on i calls) (last_tick start calls) (last_call start calls)) (after_calls new calls).rules (claim_kept (line_at lines i).frame) (pulses_on i calls) y ((lines_after new start begins calls order.2).lines i small).kept (kept_by i small y e).0
+    -- a frame on which more than f lines agree, and that one of them keeps
+    pub record IsCandidateAt (v : KeptClaim) : Type 0 where
+      pub counts : is_candidate f v (all_kept (settled clock lines)) ≡ true
+      pub range : v.end_us < 2 ^ 32
+      pub i : ℕ
+      pub small : i < 5
+      pub keeps : claim_kept (line_at (settled clock lines) i).frame ≡ Some v
 
-    candidate : (is_candidate (f_of (after_calls new calls).clock.redundancy) v (all_kept (settled clock lines)) ≡ true) × IsRanged v
-    candidate =
+    pub record IsKeptThere (v : KeptClaim) : Type 0 where
+      pub range : v.end_us < 2 ^ 32
+      pub i : ℕ
+      pub small : i < 5
+      pub keeps : claim_kept (line_at (settled clock lines) i).frame ≡ Some v
+
+    pub there_at : (i : ℕ) → i < 5 → (y : KeptClaim) → claim_kept (line_at (settled clock lines) i).frame ≡ Some y → IsKeptThere y
+    there_at i small y e = record {
+      range = ranged (IsEndAt (pulses_on i calls) (last_tick start calls) (last_call start calls)) (after_calls new calls).rules (claim_kept (line_at lines i).frame) (pulses_on i calls) y ((lines_after new start begins calls order.2).lines i small).kept (kept_by i small y e).0;
+      i = i;
+      small = small;
+      keeps = e;
+    }
+
+    pub candidate : (v : KeptClaim) → agreed f (settled clock lines) ≡ Some v → IsCandidateAt v
+    candidate v e =
         let all = all_kept (settled clock lines) in
-        is_one IsRanged (f_of (after_calls new calls).clock.redundancy) all all v
-        (one_more IsRanged _ _ (range_at 0 (omega arith))
-        (one_more IsRanged _ _ (range_at 1 (omega arith))
-        (one_more IsRanged _ _ (range_at 2 (omega arith))
-        (one_more IsRanged _ _ (range_at 3 (omega arith))
-        (one_more IsRanged _ _ (range_at 4 (omega arith)) tt)))))
-        there.0
+        let one = is_one IsKeptThere f all all v
+        (one_more IsKeptThere _ _ (there_at 0 (omega arith))
+        (one_more IsKeptThere _ _ (there_at 1 (omega arith))
+        (one_more IsKeptThere _ _ (there_at 2 (omega arith))
+        (one_more IsKeptThere _ _ (there_at 3 (omega arith))
+        (one_more IsKeptThere _ _ (there_at 4 (omega arith)) tt)))))
+        e in
+        record { counts = one.0; range = one.1.range; i = one.1.i; small = one.1.small; keeps = one.1.keeps }
 
-    many : f_of new.clock.redundancy < count_by agreeing (range_with_len 0 5)
-    many =
-        let all = all_kept (settled clock lines) in
-        let f = f_of (after_calls new calls).clock.redundancy in
-        let same : f ≡ f_of new.clock.redundancy = ap (λ (c : ClockRules). f_of c.redundancy) (lines_after new start begins calls order.2).same.clock in
-        let counted = ltb-true f (count_by (agrees v) all) candidate.0 in
-        omega (arith, counted, same)
+    module _ (v : KeptClaim) (is : IsCandidateAt v) where
+      abbrev pub agreeing : ℕ → Bool
+      agreeing i = agrees v (claim_kept (line_at (settled clock lines) i).frame)
 
-    absent : (i : ℕ) → i < 5 → ports_in new.clock.redundancy ≤ i → agreeing i ≡ false
-    absent i small far = of (claim_kept (line_at (settled clock lines) i).frame) refl
-      where
-        of : (o : Option KeptClaim) → claim_kept (line_at (settled clock lines) i).frame ≡ o → agrees v o ≡ false
-        of None e = refl
-        of (Some y) e =
-            let l = (lines_after new start begins calls order.2).lines i small in
-            let none = kept_of_nothing (IsEndAt (pulses_on i calls) (last_tick start calls) (last_call start calls)) (after_calls new calls).rules (claim_kept (line_at lines i).frame) (pulses_on i calls) (silent_line start new.clock.redundancy i far calls order.2) l.kept in
-            absurd (let both : None ≡ Some y = sym none ∙ (kept_by i small y e).0 in cc)
+      pub many : f_of new.clock.redundancy < count_by agreeing (range_with_len 0 5)
+      many =
+          let same : f ≡ f_of new.clock.redundancy = ap (λ (c : ClockRules). f_of c.redundancy) (lines_after new start begins calls order.2).same.clock in
+          let counted = ltb-true f (count_by (agrees v) (all_kept (settled clock lines))) is.counts in
+          omega (arith, counted, same)
 
-    -- its frame ended at an edge that it votes for, or up to 1 ms behind
-    record IsVoter (i : ℕ) : Type 0 where
-      y : KeptClaim
-      keeps : claim_kept (line_at lines i).frame ≡ Some y
-      edge : ℕ
-      at : IsEdgeAt v.end_us edge now
-      least : edge ≤ whole_of (pulses_on i calls)
-      most : whole_of (pulses_on i calls) ≤ edge + 1000
-      soon : now ≤ edge + 100000
-      low : 9000 ≤ edge
+      pub absent : (i : ℕ) → i < 5 → ports_in new.clock.redundancy ≤ i → agreeing i ≡ false
+      absent i small far = of (claim_kept (line_at (settled clock lines) i).frame) refl
+        where
+          of : (o : Option KeptClaim) → claim_kept (line_at (settled clock lines) i).frame ≡ o → agrees v o ≡ false
+          of None e = refl
+          of (Some y) e =
+              let l = (lines_after new start begins calls order.2).lines i small in
+              let none = kept_of_nothing (IsEndAt (pulses_on i calls) (last_tick start calls) (last_call start calls)) (after_calls new calls).rules (claim_kept (line_at lines i).frame) (pulses_on i calls) (silent_line start new.clock.redundancy i far calls order.2) l.kept in
+              absurd (let both : None ≡ Some y = sym none ∙ (kept_by i small y e).0 in cc)
 
-    voter : (i : ℕ) → i < 5 → agreeing i ≡ true → IsVoter i
-    unfolding IsRanged
-    voter i small same = of (claim_kept (line_at (settled clock lines) i).frame) refl same
-      where
-        of : (o : Option KeptClaim) → claim_kept (line_at (settled clock lines) i).frame ≡ o → agrees v o ≡ true → IsVoter i
-        of None e same = absurd cc
-        of (Some y) e same =
-            let l = (lines_after new start begins calls order.2).lines i small in
-            let keeps = kept_by i small y e in
-            let h = subst (λ (o : Option KeptClaim). IfKept (IsEndAt (pulses_on i calls) (last_tick start calls) (last_call start calls)) (after_calls new calls).rules o (pulses_on i calls)) keeps.0 l.kept in
-            let end : ℕ = h.0 in
-            let ahead : end ≤ now + 10000 = omega (arith, h.3.0, order.0) in
-            let turn : now + 10000 < end + 2 ^ 32 = omega (arith, h.3.1, order.1) in
-            let soon = not_late end now ahead turn (subst (λ (e : ℕ). is_late e clock ≡ false) h.1 keeps.1) in
-            let both = split (same_claim v.claim y.claim) (nat_le (clock_gap v.end_us y.end_us) 1000) same in
-            let near : clock_gap v.end_us (end % 2 ^ 32) ≤ 1000 = subst (λ (e : ℕ). clock_gap v.end_us e ≤ 1000) h.1 (leb-true (clock_gap v.end_us y.end_us) 1000 both.1) in
-            let exact = come_before v.end_us end now candidate.1 (last_late end (drop h.2.late (pulses_on i calls)) h.2.last) ahead soon near (leb-true (clock_gap v.end_us clock) 100000 there.1) in
+      -- a line that agrees keeps a frame that ended with it, or up to 1 ms behind
+      pub record IsAgreeing (i : ℕ) : Type 0 where
+        pub y : KeptClaim
+        pub keeps : claim_kept (line_at lines i).frame ≡ Some y
+        pub settled_keeps : claim_kept (line_at (settled clock lines) i).frame ≡ Some y
+        pub same : same_claim v.claim y.claim ≡ true
+        pub ends : y.end_us ≡ whole_of (pulses_on i calls) % 2 ^ 32
+        pub near : clock_gap v.end_us (whole_of (pulses_on i calls) % 2 ^ 32) ≤ 1000
+        pub ahead : whole_of (pulses_on i calls) ≤ now + 10000
+        pub soon : now ≤ whole_of (pulses_on i calls) + 100000
+        pub low : 10000 ≤ whole_of (pulses_on i calls)
+
+      pub agreed_by : (i : ℕ) → i < 5 → agreeing i ≡ true → IsAgreeing i
+      agreed_by i small agree = of (claim_kept (line_at (settled clock lines) i).frame) refl agree
+        where
+          of : (o : Option KeptClaim) → claim_kept (line_at (settled clock lines) i).frame ≡ o → agrees v o ≡ true → IsAgreeing i
+          of None e agree = absurd cc
+          of (Some y) e agree =
+              let l = (lines_after new start begins calls order.2).lines i small in
+              let keeps = kept_by i small y e in
+              let h = subst (λ (o : Option KeptClaim). IfKept (IsEndAt (pulses_on i calls) (last_tick start calls) (last_call start calls)) (after_calls new calls).rules o (pulses_on i calls)) keeps.0 l.kept in
+              let whole : h.0 ≡ whole_of (pulses_on i calls) = h.3.2 in
+              let ends : y.end_us ≡ whole_of (pulses_on i calls) % 2 ^ 32 = h.1 ∙ ap (λ (x : ℕ). x % 2 ^ 32) whole in
+              let ahead : whole_of (pulses_on i calls) ≤ now + 10000 = omega (arith, whole, h.3.0, order.0) in
+              let turn : now + 10000 < whole_of (pulses_on i calls) + 2 ^ 32 = omega (arith, whole, h.3.1, order.1) in
+              let both = split (same_claim v.claim y.claim) (nat_le (clock_gap v.end_us y.end_us) 1000) agree in
+              record {
+                y = y;
+                keeps = keeps.0;
+                settled_keeps = e;
+                same = both.0;
+                ends = ends;
+                near = subst (λ (e : ℕ). clock_gap v.end_us e ≤ 1000) ends (leb-true (clock_gap v.end_us y.end_us) 1000 both.1);
+                ahead = ahead;
+                soon = not_late (whole_of (pulses_on i calls)) now ahead turn (subst (λ (e : ℕ). is_late e clock ≡ false) ends keeps.1);
+                low = omega (arith, whole, last_late h.0 (drop h.2.late (pulses_on i calls)) h.2.last);
+              }
+
+      -- so it ended at this time
+      pub record EndsAt (edge : ℕ) : Type 0 where
+        pub clock : v.end_us ≡ edge % 2 ^ 32
+        pub ahead : edge ≤ now + 10000
+        pub soon : now ≤ edge + 101000
+        pub low : 9000 ≤ edge
+
+      exact_end : (i : ℕ) → i < 5 → agreeing i ≡ true → (edge : ℕ) × EndsAt edge × (edge ≤ whole_of (pulses_on i calls)) × (whole_of (pulses_on i calls) ≤ edge + 1000)
+      exact_end i small agree =
+          let a = agreed_by i small agree in
+          let end : ℕ = whole_of (pulses_on i calls) in
+          let gap : ℕ = clock_gap v.end_us (end % 2 ^ 32) in (
+            end - gap,
             record {
-              y = y;
-              keeps = keeps.0;
-              edge = exact.exact;
-              at = record { clock = exact.clock; come = exact.come; soon = omega (arith, exact.soon) };
-              least = omega (arith, h.3.2, exact.before);
-              most = omega (arith, h.3.2, exact.behind);
-              soon = exact.soon;
-              low = omega (arith, exact.behind, last_late end (drop h.2.late (pulses_on i calls)) h.2.last);
-            }
+              clock = wrapped v.end_us end is.range a.low a.near;
+              ahead = omega (arith, a.ahead);
+              soon = omega (arith, a.soon, a.near, a.low);
+              low = omega (arith, a.near, a.low);
+            },
+            omega arith,
+            omega (arith, a.near, a.low),
+          )
+        where
+          wrapped : (e end : ℕ) → e < 2 ^ 32 → 10000 ≤ end → clock_gap e (end % 2 ^ 32) ≤ 1000 → e ≡ (end - clock_gap e (end % 2 ^ 32)) % 2 ^ 32
+          wrapped e end range low near = omega (arith, range, low, near)
 
-    -- so there is that edge
+      pub ends_at : (edge : ℕ) × EndsAt edge
+      ends_at =
+          let one = shared new.clock.redundancy agreeing agreeing absent absent many many in
+          let e = exact_end one.0 one.1 one.2 in
+          (e.0, e.1)
+
+      -- each that agrees ended there, or up to 1 ms behind
+      pub near_end : (edge : ℕ) → EndsAt edge → (i : ℕ) → i < 5 → agreeing i ≡ true → (edge ≤ whole_of (pulses_on i calls)) × (whole_of (pulses_on i calls) ≤ edge + 1000)
+      near_end edge at i small agree =
+          let e = exact_end i small agree in
+          let same : e.0 ≡ edge = one_end v.end_us e.0 edge e.1.clock at.clock (omega (arith, e.1.ahead, at.soon)) (omega (arith, at.ahead, e.1.soon)) in
+          (omega (arith, same, e.2), omega (arith, same, e.3))
+        where
+          one_end : (e x y : ℕ) → e ≡ x % 2 ^ 32 → e ≡ y % 2 ^ 32 → x ≤ y + 200000 → y ≤ x + 200000 → x ≡ y
+          one_end e x y p q near far = omega (arith, p, q, near, far)
+
+  module _ (calls : List Call) (now : ℕ) (order : AreInOrder start new.clock.redundancy (Tick now ∷ calls)) (v : KeptClaim) (voted : vote_at (after_calls new calls) (now % 2 ^ 32) ≡ Some v) where
+    there : (agreed (f calls now order) (settled (now % 2 ^ 32) (lines calls now order)) ≡ Some v) × (has_come v.end_us (now % 2 ^ 32) ≡ true)
+    there = come (now % 2 ^ 32) (agreed (f calls now order) (settled (now % 2 ^ 32) (lines calls now order))) v voted
+
+    cand : IsCandidateAt calls now order v
+    cand = candidate calls now order v there.0
+
+    -- the edge that is voted has come
     pub edge_of : (edge : ℕ) × IsEdgeAt v.end_us edge now × (now ≤ edge + 100000) × (9000 ≤ edge)
     edge_of =
-        let one = shared new.clock.redundancy agreeing agreeing absent absent many many in
-        let is = voter one.0 one.1 one.2 in
-        (is.edge, is.at, is.soon, is.low)
+        let end = ends_at calls now order v cand in
+        let few = leb-true (clock_gap v.end_us (now % 2 ^ 32)) 100000 there.1 in
+        let has = has_come_so v.end_us end.0 end.1.clock end.1.ahead end.1.soon few in
+        (end.0, record { clock = end.1.clock; come = has.0; soon = omega (arith, has.1) }, has.1, end.1.low)
+      where
+        has_come_so : (e edge : ℕ) → e ≡ edge % 2 ^ 32 → edge ≤ now + 10000 → now ≤ edge + 101000 → clock_gap e (now % 2 ^ 32) ≤ 100000 → (edge ≤ now) × (now ≤ edge + 100000)
+        has_come_so e edge clock ahead soon few = (omega (arith, clock, ahead, soon, few), omega (arith, clock, ahead, soon, few))
+
+    record IsVoter (V i : ℕ) : Type 0 where
+      y : KeptClaim
+      keeps : claim_kept (line_at (lines calls now order) i).frame ≡ Some y
+      least : V ≤ whole_of (pulses_on i calls)
+      most : whole_of (pulses_on i calls) ≤ V + 1000
+
+    voter : (V : ℕ) → IsEdgeAt v.end_us V now → (i : ℕ) → i < 5 → agreeing calls now order v cand i ≡ true → IsVoter V i
+    voter V at i small agree =
+        let a = agreed_by calls now order v cand i small agree in
+        let e = edge_of in
+        let same : e.0 ≡ V = same_edge v.end_us e.0 V now e.1 at in
+        let near = near_end calls now order v cand V (record { clock = at.clock; ahead = omega (arith, at.come); soon = omega (arith, same, e.2); low = omega (arith, same, e.3) }) i small agree in
+        record { y = a.y; keeps = a.keeps; least = near.0; most = near.1 }
 
   -- two votes share a line, whose frames lie a frame apart
   pub votes_apart : (earlier later : List Call) (before now : ℕ) (v v' : KeptClaim) (V V' : ℕ) → AreInOrder start new.clock.redundancy (Tick now ∷ (later ++ (Tick before ∷ earlier)))
@@ -357,17 +437,17 @@ module _ (new : Keeping) (start : ℕ) (begins : AreLinesAt new new (λ i. []) s
       let base : List Call = Tick before ∷ earlier in
       let calls : List Call = later ++ base in
       let ordered = order_before start new.clock.redundancy later base order.2 in
-      let one = shared new.clock.redundancy (agreeing earlier before ordered v voted) (agreeing calls now order v' voted') (absent earlier before ordered v voted) (absent calls now order v' voted') (many earlier before ordered v voted) (many calls now order v' voted') in
+      let p = cand earlier before ordered v voted in
+      let q = cand calls now order v' voted' in
+      let one = shared new.clock.redundancy (agreeing earlier before ordered v p) (agreeing calls now order v' q) (absent earlier before ordered v p) (absent calls now order v' q) (many earlier before ordered v p) (many calls now order v' q) in
       let i : ℕ = one.0 in
-      let first = voter earlier before ordered v voted i one.1 one.2 in
-      let second = voter calls now order v' voted' i one.1 one.3 in
+      let first = voter earlier before ordered v voted V at i one.1 one.2 in
+      let second = voter calls now order v' voted' V' at' i one.1 one.3 in
       let gone : claim_kept (line_at (after_calls new base).state.lines i).frame ≡ None =
       ap (λ (l : Lines). claim_kept (line_at l i).frame) (takes (after_calls new earlier) (before % 2 ^ 32) v voted)
       ∙ ap (λ (l : Line). claim_kept l.frame) (sym (line_takes (settled (before % 2 ^ 32) (after_calls new earlier).state.lines) i one.1)) in
       let far = (since new start begins i one.1 base gone later order.2).later second.y second.keeps in
-      let here : first.edge ≡ V = same_edge v.end_us first.edge V before first.at at in
-      let there : second.edge ≡ V' = same_edge v'.end_us second.edge V' now second.at at' in
-      omega (arith, first.least, second.most, far, here, there)
+      omega (arith, first.least, second.most, far)
 
   -- ---- one edge and a later one
 

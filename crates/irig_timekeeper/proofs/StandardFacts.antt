@@ -29,8 +29,8 @@ known_late = (refl, refl, refl, refl)
 abbrev rules_of : ℕ → ReaderRules
 rules_of holdover = record { lock_after = 3; holdover = holdover }
 
-pub known_refused : (clock_fault (rules_of 4898) 100 ≡ None) × (clock_fault (rules_of 4899) 100 ≡ Some Holdover) × (clock_fault (rules_of 1000000) 101 ≡ Some Drift) × (clock_fault (rules_of 1000000) 0 ≡ None)
-known_refused = (refl, refl, refl, refl)
+pub known_refused : (clock_fault (rules_of 1000000) 1 ≡ Some Holdover) × (clock_fault (rules_of 4898) 100 ≡ None) × (clock_fault (rules_of 4899) 100 ≡ Some Holdover) × (clock_fault (rules_of 1000000) 101 ≡ Some Drift) × (clock_fault (rules_of 1000000) 0 ≡ None)
+known_refused = (refl, refl, refl, refl, refl)
 
 -- of three frames of one claim the second ends 1 ms behind the first, and the third 1 us later: the
 -- second is the last with which another one agrees; of another claim, or by three, none is

@@ -121,7 +121,7 @@ module _ (f : ℕ) (all : List (Option KeptClaim)) where
   unfolding IsThere
   there_of x i e is = there_in x all i e is None
 
-get_kept : (lines : Lines) (i : ℕ) (x : KeptClaim) → i < 5 → claim_kept (line_at lines i).frame ≡ Some x → slice_get (all_kept lines) i ≡ Some (Some x)
+pub get_kept : (lines : Lines) (i : ℕ) (x : KeptClaim) → i < 5 → claim_kept (line_at lines i).frame ≡ Some x → slice_get (all_kept lines) i ≡ Some (Some x)
 get_kept lines zero x low e = cc
 get_kept lines (suc zero) x low e = cc
 get_kept lines (suc (suc zero)) x low e = cc

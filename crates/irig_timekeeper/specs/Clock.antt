@@ -1,9 +1,10 @@
 -- A device's clock: what becomes of it at a tick, and what it then says. It counts the seconds from
 -- its last edge to one on which lines agree, or else by its own counter.
 -- Source: this project's profile.
-use Rattle.std.specs.Prelude.{ℕ, ◌+◌, ◌-◌, ◌*◌, ◌%◌, ◌^◌, ◌==◌, if◌then◌else◌, Option, Some, None}
+use Rattle.std.specs.Prelude.{ℕ, ◌+◌, ◌-◌, ◌*◌, ◌%◌, ◌^◌, ◌==◌, if◌then◌else◌, Option, Some, None, IfSome}
 use Rattle.irig_time.specs.declared.second.UtcSecond.{UtcSecond}
 use Rattle.irig_time.specs.declared.claim.Claim.{Claim}
+use Rattle.irig_time.specs.Seconds.{IsValid}
 use Rattle.irig_time.specs.Tables.{TableValue}
 use Rattle.irig_vote.specs.Vote.{f_of}
 use Rattle.irig_reader.specs.declared.report.Lock.{Lock}
@@ -128,6 +129,23 @@ clock_after c table s now = clock_by c table (settled_at s now) now (vote_of_lin
 -- what it answers
 abbrev pub clock_answer : ClockRules → TableValue → ClockState → ℕ → Option Beat
 clock_answer c table s now = answer_by c table (settled_at s now) now (vote_of_lines c s now)
+
+-- the claim on which lines agree, if they do
+abbrev pub claim_voted : Option KeptClaim → Option Claim
+claim_voted None = None
+claim_voted (Some vote) = Some vote.claim
+
+abbrev pub clock_vote : ClockRules → ClockState → ℕ → Option Claim
+clock_vote c s now = claim_voted (vote_of_lines c s now)
+
+-- each second that is announced is one of UTC
+abbrev pub SaysOfUtc : Option Beat → Type 0
+SaysOfUtc beat = IfSome beat (λ b. IfSome b.report.announce IsValid)
+
+-- so are those that are kept
+pub record AnnouncedOfUtc (s : ClockState) : Type 0 where
+  pub last : IfSome s.last (λ announced. IsValid announced.second)
+  pub before : IfSome s.before (λ announced. IsValid announced.second)
 
 -- how long until a tick has something to do, if no call comes before it
 abbrev pub clock_wait : ClockRules → ClockState → ℕ → ℕ

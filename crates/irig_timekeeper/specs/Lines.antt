@@ -1,9 +1,10 @@
 -- What it is for a line to be true of late: each frame begins at its own edge, so that the
 -- device's counter may drift.
 -- Source: IRIG Standard 200-16, format B: an element each 10 ms; this project's profile.
-use Rattle.std.specs.Prelude.{◌≡◌, ℕ, ◌+◌, ◌*◌, ◌%◌, ◌^◌, ◌<◌, ◌≤◌, ◌⊎◌, List, [], ◌∷◌, Option, Some, None, drop, ⊤}
+use Rattle.std.specs.Prelude.{◌≡◌, ℕ, ◌+◌, ◌*◌, ◌%◌, ◌^◌, ◌<◌, ◌≤◌, ◌⊎◌, List, [], ◌∷◌, Option, Some, None, take, drop, slice_get, ⊤}
 use Rattle.irig_frame.specs.declared.symbol.Symbol.{Symbol}
-use Rattle.irig_sync.specs.FaultyLines.{IsPulseOf}
+use Rattle.irig_sync.specs.Edges.{element_at}
+use Rattle.irig_sync.specs.FaultyLines.{IsPulseOf, HasOneFault}
 use Rattle.irig_sync.specs.Lines.{Pulse, AreOnTime, IsTrueLine, StandAt, symbols_of_last}
 use Rattle.irig_time.specs.declared.rules.Rules.{Rules}
 use Rattle.irig_time.specs.declared.claim.Claim.{Claim}
@@ -65,3 +66,50 @@ IsAnyEnd end = ⊤
 -- the end has come, at most 99 ms ago
 abbrev pub HasJustCome : ℕ → ℕ → Type 0
 HasJustCome now end = (end ≤ now) × (now ≤ end + 99000)
+
+-- ---- a line with faults
+
+-- but for one of them, the q-th, these hundred symbols stand on the line from its k-th on
+abbrev pub StandButForOne : (ℕ → Symbol) → ℕ → ℕ → List Symbol → Type 0
+StandButForOne line k q s =
+    (i : ℕ) → i < 100 → ¬ (i ≡ q) → slice_get s i ≡ Some (line (k + i))
+
+-- a line of frames whose f-th carries the true claim of T(f), if it carries one, whichever one of
+-- its symbols is another. So is a line whose frames each tell that claim: with another symbol they
+-- are at fault, or claim the same
+pub record IsCheckedLineOf (rules : Rules) (t : TimelineValue) (line : ℕ → Symbol) : Type 0 where
+  pub right : IsTrueLine line
+  pub truth : (f q : ℕ) (s : List Symbol) (c : Claim) → StandButForOne line (100 * f) q s
+      → Carries rules s c → IsTrueClaim t (f + 1) c
+
+-- the newest of these pulses, if there is one, rose before that time
+abbrev pub RoseBefore : ℕ → List Pulse → Type 0
+RoseBefore time [] = ⊤
+RoseBefore time (p ∷ ps) = p.rise < time
+
+-- of these pulses, the newest first, at most one is at fault, and what came in its place rose
+-- before the next element's time was past: what rises later stands behind the next pulse, or that
+-- one is lost too
+pub record HasOneFaultInPlace (line : ℕ → Symbol) (edges : ℕ → ℕ) (pulses : List Pulse)
+    : Type 0 where
+  pub one : HasOneFault line edges 450 pulses
+  pub in_place : RoseBefore (element_at edges (one.element + 1) + 450) one.fault
+
+-- these pulses rose within 1.2 s before now, or later
+abbrev pub RoseLately : ℕ → List Pulse → Type 0
+RoseLately now [] = ⊤
+RoseLately now (p ∷ ps) = (now ≤ p.rise + 1200000) × RoseLately now ps
+
+-- the line was true for the last 1.2 s, but for one fault in each hundred pulses in a row, whatever
+-- it was before
+pub record IsTrueButForFaults (rules : Rules) (t : TimelineValue) (edges : ℕ → ℕ) (now : ℕ)
+    (pulses : List Pulse) : Type 0 where
+  pub line : ℕ → Symbol
+  pub is_line : IsCheckedLineOf rules t line
+  pub few : (n : ℕ) → RoseLately now (take 100 (drop n pulses))
+      → HasOneFaultInPlace line edges (take 100 (drop n pulses))
+
+-- the line was true for the last 1.2 s but for any lost pulses, or but for faults
+abbrev pub IsTrueOrFaulty : Rules → TimelineValue → (ℕ → ℕ) → ℕ → List Pulse → Type 0
+IsTrueOrFaulty rules t edges now pulses =
+    IsTrueLately rules t edges now pulses ⊎ IsTrueButForFaults rules t edges now pulses

@@ -1,22 +1,23 @@
 //! A device's clock: what becomes of it at a tick.
 
-ghost use Rattle.std.specs.Prelude.{◌≡◌, ◌<◌, ◌≤◌, ◌+◌, ◌-◌, ◌*◌, IfSome};
+ghost use Rattle.std.specs.Prelude.{◌≡◌, ◌<◌, ◌≤◌, ◌+◌, ◌-◌, ◌*◌, IfSome, Some, None};
 ghost use Rattle.irig_time.specs.Seconds.{IsValid};
 ghost use Rattle.irig_reader.specs.Rule.{count_of};
 ghost use Rattle.irig_timekeeper.specs.Counting.{edges_to_vote, edges_own};
 ghost use Rattle.irig_timekeeper.specs.Rule.{missed, step_behind};
 ghost use Rattle.irig_timekeeper.specs.Steps.{AreKeptOfUtc, AreNewLines};
 ghost use Rattle.irig_timekeeper.specs.Keeping.{new_state};
-ghost use Rattle.irig_timekeeper.specs.Clock.{lasted, bound_of, announced, beat_by, beaten, step_to, after_vote, answer_to_vote, after_own, answer_alone, clock_after, clock_answer, clock_wait};
+ghost use Rattle.irig_timekeeper.specs.Clock.{lasted, bound_of, announced, beat_by, beaten, step_to, after_vote, answer_to_vote, after_own, answer_alone, clock_after, clock_answer, clock_vote, clock_wait, SaysOfUtc, AnnouncedOfUtc};
 
 use crate::counting::{edge_behind, edges_own, edges_to_vote};
 use crate::lines::{
-    KeptClaim, Lines, agreed, if_come, lines_of_nothing, settled, taken, tells_of, wait_by,
+    KeptClaim, Lines, agreed, if_come, lines_of_nothing, settle, take, tells_of, wait_by,
 };
 use crate::stamp::Announced;
 use irig_reader::{Lock, ReaderRules, Report, State, Step, step_of};
 use irig_time::{Claim, Leaps};
 use irig_vote::{Redundancy, Tells};
+use std::mem;
 
 /// How far from its edge the end of a frame may lie on which lines agree.
 const VOTE_US: u32 = 1_549;
@@ -64,11 +65,12 @@ pub struct Beat {
     pub moved: u32,
 }
 
-/// Where a clock stands after a tick, and what it then answers.
-#[derive(Drop)]
+/// What a tick answers: what is said of a second, if an edge has come, and what lines agreed on, if
+/// they did.
+#[derive(Clone, Copy, Drop)]
 pub struct Ticked {
-    pub state: ClockState,
     pub beat: Option<Beat>,
+    pub vote: Option<Claim>,
 }
 
 /// A clock that nobody has set, on lines on which nothing came.
@@ -86,28 +88,26 @@ pub fn clock_of_nothing() -> ClockState
     }
 }
 
-/// A tick: where a clock then stands, and what is said of a second if an edge has come since the
-/// last one. It may come at any time.
+/// A tick: what is said of a second, if an edge has come since the last one. It may come at any
+/// time.
 ///
 /// The rules have no [`fault`](crate::clock_fault), each claim that a line keeps is of a
 /// [`valid`](irig_time::valid) second, and a reader that is acquiring had fewer votes than it locks
 /// after.
-pub fn tick_of<T: Leaps>(
-    rules: &ClockRules,
-    table: &T,
-    mut state: ClockState,
-    now_us: u32,
-) -> Ticked
+pub fn tick<T: Leaps>(rules: &ClockRules, table: &T, state: &mut ClockState, now_us: u32) -> Ticked
     requires short { (rules.now.reader_rules.holdover + 2) * rules.now.drift_us ≤ 490000 }
-    requires counting { count_of state.reader < rules.now.reader_rules.lock_after }
-    requires valid { AreKeptOfUtc state.lines }
-    ensures answer { result.beat ≡ clock_answer rules.now (T.says table.now) state now_us }
-    ensures after { result.state ≡ clock_after rules.now (T.says table.now) state now_us }
-    ensures counting { count_of result.state.reader < rules.now.reader_rules.lock_after }
-    ensures valid { AreKeptOfUtc result.state.lines }
+    requires counting { count_of state.old.reader < rules.now.reader_rules.lock_after }
+    requires valid { AreKeptOfUtc state.old.lines }
+    ensures answer { result.beat ≡ clock_answer rules.now (T.says table.now) state.old now_us }
+    ensures after { state.new ≡ clock_after rules.now (T.says table.now) state.old now_us }
+    ensures vote { result.vote ≡ clock_vote rules.now state.old now_us }
+    ensures counting { count_of state.new.reader < rules.now.reader_rules.lock_after }
+    ensures valid { AreKeptOfUtc state.new.lines }
+    ensures said { SaysOfUtc result.beat }
+    ensures announced { AnnouncedOfUtc state.old → AnnouncedOfUtc state.new }
 {
-    state.lines = settled(now_us, state.lines);
-    match if_come(now_us, agreed(rules.redundancy, state.lines)) {
+    settle(&mut state.lines, now_us);
+    match if_come(now_us, agreed(rules.redundancy, &state.lines)) {
         Some(vote) => tick_by_vote(rules, table, state, vote),
         None => tick_alone(rules, table, state, now_us),
     }
@@ -117,104 +117,104 @@ pub fn tick_of<T: Leaps>(
 fn tick_by_vote<T: Leaps>(
     rules: &ClockRules,
     table: &T,
-    mut state: ClockState,
+    state: &mut ClockState,
     vote: KeptClaim,
 ) -> Ticked
     requires short { (rules.now.reader_rules.holdover + 2) * rules.now.drift_us ≤ 490000 }
-    requires counting { count_of state.reader < rules.now.reader_rules.lock_after }
+    requires counting { count_of state.old.reader < rules.now.reader_rules.lock_after }
     requires valid { IsValid vote.claim.at }
-    ensures answer { result.beat ≡ answer_to_vote rules.now (T.says table.now) state vote
-        (edges_to_vote state.edge_us vote.end_us) }
-    ensures after { result.state ≡ after_vote rules.now (T.says table.now) state vote
-        (edges_to_vote state.edge_us vote.end_us) }
-    ensures counting { count_of result.state.reader < rules.now.reader_rules.lock_after }
-    ensures valid { AreKeptOfUtc result.state.lines }
+    ensures answer { result.beat ≡ answer_to_vote rules.now (T.says table.now) state.old vote
+        (edges_to_vote state.old.edge_us vote.end_us) }
+    ensures after { state.new ≡ after_vote rules.now (T.says table.now) state.old vote
+        (edges_to_vote state.old.edge_us vote.end_us) }
+    ensures vote { result.vote ≡ Some vote.claim }
+    ensures counting { count_of state.new.reader < rules.now.reader_rules.lock_after }
+    ensures valid { AreKeptOfUtc state.new.lines }
+    ensures said { SaysOfUtc result.beat }
+    ensures announced { AnnouncedOfUtc state.old → AnnouncedOfUtc state.new }
 {
     let edges = edges_to_vote(state.edge_us, vote.end_us);
-    if edges > 0 {
-        let lines = taken(state.lines);
-        return beat_at(
-            rules,
-            table,
-            state,
-            lines,
-            edges,
-            Some(vote.claim),
-            vote.end_us,
-        );
+    let beat = if edges > 0 {
+        Some(beat_at(rules, table, state, edges, Some(vote.claim), vote.end_us))
+    } else {
+        state.edge_us = Some(vote.end_us);
+        state.moved = state.moved.wrapping_add(1);
+        None
+    };
+    take(&mut state.lines);
+    Ticked {
+        beat,
+        vote: Some(vote.claim),
     }
-    state.lines = taken(state.lines);
-    state.edge_us = Some(vote.end_us);
-    state.moved = state.moved.wrapping_add(1);
-    Ticked { state, beat: None }
 }
 
 // They do not.
-fn tick_alone<T: Leaps>(rules: &ClockRules, table: &T, state: ClockState, now_us: u32) -> Ticked
+fn tick_alone<T: Leaps>(
+    rules: &ClockRules,
+    table: &T,
+    state: &mut ClockState,
+    now_us: u32,
+) -> Ticked
     requires short { (rules.now.reader_rules.holdover + 2) * rules.now.drift_us ≤ 490000 }
-    requires counting { count_of state.reader < rules.now.reader_rules.lock_after }
-    requires valid { AreKeptOfUtc state.lines }
-    ensures answer { result.beat ≡ answer_alone rules.now (T.says table.now) state
-        (edges_own state.edge_us now_us) }
-    ensures after { result.state ≡ after_own rules.now (T.says table.now) state
-        (edges_own state.edge_us now_us) }
-    ensures counting { count_of result.state.reader < rules.now.reader_rules.lock_after }
-    ensures valid { AreKeptOfUtc result.state.lines }
+    requires counting { count_of state.old.reader < rules.now.reader_rules.lock_after }
+    requires valid { AreKeptOfUtc state.old.lines }
+    ensures answer { result.beat ≡ answer_alone rules.now (T.says table.now) state.old
+        (edges_own state.old.edge_us now_us) }
+    ensures after { state.new ≡ after_own rules.now (T.says table.now) state.old
+        (edges_own state.old.edge_us now_us) }
+    ensures vote { result.vote ≡ None }
+    ensures counting { count_of state.new.reader < rules.now.reader_rules.lock_after }
+    ensures valid { AreKeptOfUtc state.new.lines }
+    ensures said { SaysOfUtc result.beat }
+    ensures announced { AnnouncedOfUtc state.old → AnnouncedOfUtc state.new }
 {
     let edges = edges_own(state.edge_us, now_us);
-    let Some(edge) = state.edge_us else {
-        return Ticked { state, beat: None };
+    let beat = match state.edge_us {
+        Some(edge) if edges > 0 => {
+            let edge_us = edge_behind(edge, edges);
+            Some(beat_at(rules, table, state, edges, None, edge_us))
+        }
+        _ => None,
     };
-    if edges == 0 {
-        return Ticked { state, beat: None };
-    }
-    let lines = state.lines;
-    let edge_us = edge_behind(edge, edges);
-    beat_at(rules, table, state, lines, edges, None, edge_us)
+    Ticked { beat, vote: None }
 }
 
-// An edge to which so many seconds were counted, with the vote on it, if there is one. The clock
-// then has these lines.
+// An edge to which so many seconds were counted, with the vote on it, if there is one.
 fn beat_at<T: Leaps>(
     rules: &ClockRules,
     table: &T,
-    state: ClockState,
-    lines: Lines,
+    state: &mut ClockState,
     edges: u32,
     vote: Option<Claim>,
     edge_us: u32,
-) -> Ticked
+) -> Beat
     requires short { (rules.now.reader_rules.holdover + 2) * rules.now.drift_us ≤ 490000 }
-    requires counting { count_of state.reader < rules.now.reader_rules.lock_after }
+    requires counting { count_of state.old.reader < rules.now.reader_rules.lock_after }
     requires valid { IfSome vote (λ claim. IsValid claim.at) }
     requires some { 1 ≤ edges }
-    ensures answer { result.beat ≡ Some (beat_by state
-        (step_to rules.now (T.says table.now) state edges vote) (edges - 1) edge_us) }
-    ensures after { result.state ≡ beaten rules.now state lines
-        (step_to rules.now (T.says table.now) state edges vote) edge_us }
-    ensures counting { count_of result.state.reader < rules.now.reader_rules.lock_after }
+    ensures answer { result ≡ beat_by state.old
+        (step_to rules.now (T.says table.now) state.old edges vote) (edges - 1) edge_us }
+    ensures after { state.new ≡ beaten rules.now state.old state.old.lines
+        (step_to rules.now (T.says table.now) state.old edges vote) edge_us }
+    ensures counting { count_of state.new.reader < rules.now.reader_rules.lock_after }
+    ensures said { IfSome result.report.announce IsValid }
+    ensures announced { AnnouncedOfUtc state.old → AnnouncedOfUtc state.new }
 {
-    let told = tells_of(state.lines);
-    let step = step_behind(rules.reader_rules, table, edges - 1, state.reader, vote);
+    let reader = mem::replace(&mut state.reader, State::Idle);
+    let step = step_behind(rules.reader_rules, table, edges - 1, reader, vote);
     let beat = Beat {
         report: step.report,
-        told,
+        told: tells_of(&state.lines),
         edge_us,
         missed: edges - 1,
         moved: state.moved,
     };
-    let last = announced(rules, &step.report, edge_us);
-    Ticked {
-        state: ClockState {
-            lines,
-            reader: step.state,
-            edge_us: Some(edge_us),
-            moved: 0,
-            last,
-            before: state.last,
-        },
-        beat: Some(beat),
-    }
+    state.reader = step.state;
+    state.edge_us = Some(edge_us);
+    state.moved = 0;
+    state.before = state.last;
+    state.last = announced(rules, &beat.report, edge_us);
+    beat
 }
 
 // The rule over edges that were missed, and one more.
@@ -230,6 +230,7 @@ fn step_behind<T: Leaps>(
     ensures step { result ≡ step_behind rules (T.says table.now) edges state vote }
     ensures counting { count_of result.state < rules.lock_after }
     ensures lasted { lasted result.report.lock ≤ rules.holdover }
+    ensures valid { IfSome result.report.announce IsValid }
 {
     let mut state = state;
     for gone in 0..edges {
@@ -242,7 +243,9 @@ fn step_behind<T: Leaps>(
 fn announced(rules: &ClockRules, report: &Report, edge_us: u32) -> Option<Announced>
     requires short { (rules.now.reader_rules.holdover + 2) * rules.now.drift_us ≤ 490000 }
     requires lasted { lasted report.now.lock ≤ rules.now.reader_rules.holdover }
-    ensures { result ≡ announced rules.now.drift_us report.now edge_us }
+    ensures value { result ≡ announced rules.now.drift_us report.now edge_us }
+    ensures valid { IfSome report.now.announce IsValid
+        → IfSome result (λ announced. IsValid announced.second) }
 {
     let bound_us = VOTE_US + lasted(report.lock) * rules.drift_us;
     match report.announce {
@@ -271,6 +274,7 @@ fn lasted(lock: Lock) -> u32
 pub fn wait_of(rules: &ClockRules, state: &ClockState, now_us: u32) -> u32
     ensures { result ≡ clock_wait rules.now state.now now_us }
 {
-    let lines = settled(now_us, state.lines);
-    wait_by(now_us, state.edge_us, agreed(rules.redundancy, lines))
+    let mut lines = state.lines;
+    settle(&mut lines, now_us);
+    wait_by(now_us, state.edge_us, agreed(rules.redundancy, &lines))
 }

@@ -12,7 +12,7 @@ ghost use Rattle.irig_reader.specs.Rule.{count_of};
 ghost use Rattle.irig_reader.specs.Rules.{IsReaderRules};
 ghost use Rattle.irig_timekeeper.specs.Steps.{line_at, line_heard, AreKeptOfUtc, IsKeptOfUtc, AreNewLines};
 
-use crate::clock::{Beat, ClockRules, ClockState, clock_of_nothing, tick_of, wait_of};
+use crate::clock::{Beat, ClockRules, ClockState, clock_of_nothing, tick, wait_of};
 use crate::lines::{KeptFrame, Line, is_pulse, line_at, with_line};
 use crate::setup::{ClockFault, clock_fault};
 use crate::stamp::{Stamp, stamp_of};
@@ -20,7 +20,6 @@ use irig_port::{Port, Told, hear};
 use irig_reader::ReaderRules;
 use irig_time::{LeapTable, Rules};
 use irig_vote::Redundancy;
-use std::mem;
 
 /// A device that keeps time by one line, three or five. It knows no timeline.
 ///
@@ -146,10 +145,7 @@ impl<P: Port> Timekeeper<P> {
         ensures after { Goes self.old self.new (λ k. after_tick k now_us) }
         ensures lines { self.new.clock ≡ self.old.clock }
     {
-        let state = mem::replace(&mut self.state, clock_of_nothing());
-        let ticked = tick_of(&self.clock, &self.table, state, now_us);
-        self.state = ticked.state;
-        ticked.beat
+        tick(&self.clock, &self.table, &mut self.state, now_us).beat
     }
 
     /// How long until a tick has something to do, if no call comes before it, in microseconds, at

@@ -23,7 +23,7 @@ ghost use Rattle.irig_timekeeper.specs.Counting.{edges_between, edges_to, edges_
 ghost use Rattle.irig_timekeeper.specs.Refusals.{clock_fault};
 ghost use Rattle.irig_timekeeper.specs.Steps.{frame_behind, claim_kept, line_at, all_kept, agrees, agreed, settled, tells_of, AreNewLines, wait_by};
 ghost use Rattle.irig_timekeeper.specs.Clock.{answer_to_vote};
-ghost use Rattle.irig_timekeeper.specs.Keeping.{Keeping, new_keeping, vote_at, after_tick, answer_at, stamp_at};
+ghost use Rattle.irig_timekeeper.specs.Keeping.{Keeping, new_keeping, vote_at, after_tick, answer_at, wait_at, stamp_at};
 ghost use Rattle.irig_timekeeper.specs.Truth.{AreHeardTruly, IsTrueVote, IsOnTrack, IsToldTruly, IsToldInHoldover, IsLaterSecond, IsDevice, IsEdgeAt, AreApartBeats, IsStampedTruly, IsInstant};
 ghost use Rattle.irig_timekeeper.specs.Announcing.{AreWellHeard, Announces};
 ghost use Rattle.irig_timekeeper.specs.Life.{Call, AreInOrder, AreTrueLately, AreTrueAtTicks, AreTrueOver, after_calls, last_call};
@@ -224,9 +224,22 @@ pub fn beats_are_votes()
         }) }
 {}
 
-/// Waiting is right: without a frame on which lines agree, a tick after as long as a device says,
-/// or later, counts an edge by the own counter; it says 0 only if one at once does.
+/// Waiting is right: with a frame on which lines agree, a tick after as long as a device says, or
+/// later, by 98 ms behind that frame's end, has a vote, which answers or sets the edge right. Without
+/// one it counts an edge by the own counter. A device says 0 only if a tick at once does so.
 pub fn waiting_is_right()
+    ensures votes { (rules : Rules) (clock : ClockRules) (table : TableValue) (lines : Lines)
+        (start now then edge : ℕ) (calls : List Call) (vote : KeptClaim) → AreNewLines lines
+        → AreInOrder start clock.redundancy (Tick now ∷ calls)
+        → AreInOrder start clock.redundancy (Tick then ∷ calls)
+        → agreed (f_of (after_calls (new_keeping rules clock table lines) calls).clock.redundancy)
+        (settled (now % 2 ^ 32)
+        (after_calls (new_keeping rules clock table lines) calls).state.lines) ≡ Some vote
+        → vote.end_us ≡ edge % 2 ^ 32 → edge ≤ now + 10000 → now ≤ edge + 98000
+        → now + wait_at (after_calls (new_keeping rules clock table lines) calls) (now % 2 ^ 32)
+        ≤ then → then ≤ edge + 98000
+        → (v : KeptClaim) × (vote_at (after_calls (new_keeping rules clock table lines) calls)
+        (then % 2 ^ 32) ≡ Some v) }
     ensures counts { (e edge tick now more : ℕ) → IsEdgeAt e edge tick → tick ≤ now
         → now + wait_by (now % 2 ^ 32) (Some e) None + more ≤ tick + 1800000000
         → 1 ≤ edges_own (Some e) ((now + wait_by (now % 2 ^ 32) (Some e) None + more) % 2 ^ 32) }

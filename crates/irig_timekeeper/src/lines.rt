@@ -2,7 +2,7 @@
 
 ghost use Rattle.std.specs.Prelude.{◌≡◌, None, count_by};
 ghost use Rattle.irig_vote.specs.Vote.{f_of};
-ghost use Rattle.irig_timekeeper.specs.Steps.{is_pulse, line_at, with_line, still_kept, line_settled, settled, line_taken, taken, frame_tells, tells_of, claim_kept, agrees, is_candidate, later, last_candidate, agreed, if_come, IsNewLine, AreNewLines, until, wait_by};
+ghost use Rattle.irig_timekeeper.specs.Steps.{is_pulse, line_at, with_line, still_kept, line_settled, settled, taken, frame_tells, tells_of, claim_kept, agrees, is_candidate, later, last_candidate, agreed, if_come, IsNewLine, AreNewLines, until, wait_by};
 
 use crate::counting::{has_come, is_late};
 use irig_port::Told;
@@ -110,63 +110,42 @@ pub fn is_pulse(width_us: u32) -> bool
     width_us < STUCK_US
 }
 
+fn settle_line(line: &mut Line, now_us: u32)
+    ensures { line.new ≡ line_settled now_us line.old }
+{
+    line.sync.idle(now_us);
+    line.frame = still_kept(now_us, line.frame);
+}
+
 fn still_kept(now_us: u32, frame: Option<KeptFrame>) -> Option<KeptFrame>
     ensures { result ≡ still_kept now_us frame }
 {
-    let Some(kept) = frame else {
-        return None;
-    };
-    if is_late(kept.end_us, now_us) {
-        None
-    } else {
-        Some(kept)
-    }
-}
-
-fn line_settled(now_us: u32, line: Line) -> Line
-    ensures { result ≡ line_settled now_us line }
-{
-    let mut sync = line.sync;
-    sync.idle(now_us);
-    Line {
-        sync,
-        frame: still_kept(now_us, line.frame),
+    match frame {
+        Some(kept) if !is_late(kept.end_us, now_us) => frame,
+        _ => None,
     }
 }
 
 /// What a tick does first: a line may be idle, and a late frame is dropped.
-pub fn settled(now_us: u32, lines: Lines) -> Lines
-    ensures { result ≡ settled now_us lines }
+pub fn settle(lines: &mut Lines, now_us: u32)
+    ensures { lines.new ≡ settled now_us lines.old }
 {
-    Lines {
-        a: line_settled(now_us, lines.a),
-        b: line_settled(now_us, lines.b),
-        c: line_settled(now_us, lines.c),
-        d: line_settled(now_us, lines.d),
-        e: line_settled(now_us, lines.e),
-    }
+    settle_line(&mut lines.a, now_us);
+    settle_line(&mut lines.b, now_us);
+    settle_line(&mut lines.c, now_us);
+    settle_line(&mut lines.d, now_us);
+    settle_line(&mut lines.e, now_us);
 }
 
-fn line_taken(line: Line) -> Line
-    ensures { result ≡ line_taken line }
+/// What a tick does that takes the frames.
+pub fn take(lines: &mut Lines)
+    ensures { lines.new ≡ taken lines.old }
 {
-    Line {
-        sync: line.sync,
-        frame: None,
-    }
-}
-
-/// What a tick leaves that takes the frames.
-pub fn taken(lines: Lines) -> Lines
-    ensures { result ≡ taken lines }
-{
-    Lines {
-        a: line_taken(lines.a),
-        b: line_taken(lines.b),
-        c: line_taken(lines.c),
-        d: line_taken(lines.d),
-        e: line_taken(lines.e),
-    }
+    lines.a.frame = None;
+    lines.b.frame = None;
+    lines.c.frame = None;
+    lines.d.frame = None;
+    lines.e.frame = None;
 }
 
 fn frame_tells(frame: Option<KeptFrame>) -> Told
@@ -179,8 +158,8 @@ fn frame_tells(frame: Option<KeptFrame>) -> Told
 }
 
 /// What the frames tell that lines keep; of a line without one, silence.
-pub fn tells_of(lines: Lines) -> Tells
-    ensures { result ≡ tells_of lines }
+pub fn tells_of(lines: &Lines) -> Tells
+    ensures { result ≡ tells_of lines.now }
 {
     Tells {
         a: frame_tells(lines.a.frame),
@@ -209,8 +188,8 @@ fn claim_kept(frame: Option<KeptFrame>) -> Option<KeptClaim>
 }
 
 /// The frame on which f + 1 lines agree; of several the one that ends last.
-pub fn agreed(redundancy: Redundancy, lines: Lines) -> Option<KeptClaim>
-    ensures { result ≡ agreed (f_of redundancy) lines }
+pub fn agreed(redundancy: Redundancy, lines: &Lines) -> Option<KeptClaim>
+    ensures { result ≡ agreed (f_of redundancy) lines.now }
 {
     last_candidate(
         redundancy.f(),

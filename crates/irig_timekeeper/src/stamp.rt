@@ -1,6 +1,7 @@
 //! Stamps of events, by the seconds that were announced last.
 
-ghost use Rattle.std.specs.Prelude.{◌≡◌};
+ghost use Rattle.std.specs.Prelude.{◌≡◌, IfSome};
+ghost use Rattle.irig_time.specs.Seconds.{IsValid};
 ghost use Rattle.irig_timekeeper.specs.Stamps.{stamp_by, stamp_of};
 
 use irig_time::UtcSecond;
@@ -30,7 +31,9 @@ pub struct Stamp {
 /// The stamp of an event by a second that was announced, if the event lies behind its edge, by a
 /// second and the error of the edge at most.
 fn stamp_by(announced: Option<Announced>, time_us: u32) -> Option<Stamp>
-    ensures { result ≡ stamp_by announced time_us }
+    ensures value { result ≡ stamp_by announced time_us }
+    ensures valid { IfSome announced (λ a. IsValid a.second)
+        → IfSome result (λ stamp. IsValid stamp.second) }
 {
     let Some(announced) = announced else {
         return None;
@@ -48,7 +51,9 @@ fn stamp_by(announced: Option<Announced>, time_us: u32) -> Option<Stamp>
 
 /// The stamp of an event by the second that was announced last, else by the one before.
 pub fn stamp_of(last: Option<Announced>, before: Option<Announced>, time_us: u32) -> Option<Stamp>
-    ensures { result ≡ stamp_of last before time_us }
+    ensures value { result ≡ stamp_of last before time_us }
+    ensures valid { IfSome last (λ a. IsValid a.second) → IfSome before (λ a. IsValid a.second)
+        → IfSome result (λ stamp. IsValid stamp.second) }
 {
     if let Some(stamp) = stamp_by(last, time_us) {
         return Some(stamp);

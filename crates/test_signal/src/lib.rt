@@ -13,6 +13,8 @@ mod frames;
 #[cfg(test)]
 mod generators;
 #[cfg(test)]
+mod keepers;
+#[cfg(test)]
 mod ports;
 #[cfg(test)]
 mod readers;

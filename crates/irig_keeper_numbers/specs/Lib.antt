@@ -1,0 +1,4 @@
+pub mod Lines
+pub mod Timekeepers
+pub mod CheckWord
+pub mod Seconds

@@ -1,0 +1,36 @@
+use Rattle.std.proofs.Common.{◌+◌, ◌≤◌, arith}
+use Rattle.std.proofs.Math.Nat.{mul-le-mul_left}
+use Rattle.irig_timekeeper.specs.Lines.{IsTrueButForFaults, IsTrueOrFaulty}
+use Rattle.irig_timekeeper.proofs.LifeLaws.{device_true, device_calm, device_in_order}
+use Rattle.irig_timekeeper.proofs.FaultLines.{faults_are_true, faults_tell_truly, either_tells_truly, tells_is_checked, whole_is_true}
+use Rattle.irig_timekeeper.proofs.laws_of_faults.lines_with_faults_tell_truly.Goals as goal
+
+pub returns-clause-kept : goal.returns-clause-kept
+returns-clause-kept _ rules t d now end edges pulses claim steady is frame soon = faults_are_true rules t d edges steady now end pulses claim is frame soon
+
+pub returns-clause-life : goal.returns-clause-life
+returns-clause-life _ t edges rules clock table lines start now calls beat u is fresh order truth answer says =
+    device_true rules clock table lines start fresh (IsTrueButForFaults rules t edges) t edges 2549 1549 is (omega arith) (faults_tell_truly rules t clock.drift_us edges is.steady) calls now beat u order truth answer says
+
+pub returns-clause-either : goal.returns-clause-either
+returns-clause-either _ t edges rules clock table lines start now calls beat u is fresh order truth answer says =
+    device_true rules clock table lines start fresh (IsTrueOrFaulty rules t edges) t edges 2549 1549 is (omega arith) (either_tells_truly rules t clock.drift_us edges is.steady) calls now beat u order truth answer says
+
+pub returns-clause-order : goal.returns-clause-order
+returns-clause-order _ t edges rules clock table lines start before now earlier later beat then u v is fresh order truth answer says answers again =
+    device_in_order rules clock table lines start fresh (IsTrueButForFaults rules t edges) t edges 2549 1549 is (omega arith) (faults_tell_truly rules t clock.drift_us edges is.steady) earlier later before now beat then u v order truth answer says answers again
+
+pub returns-clause-calm : goal.returns-clause-calm
+returns-clause-calm _ t edges rules clock table lines start now calls beat is fresh order truth answer =
+    device_calm rules clock table lines start fresh (IsTrueButForFaults rules t edges) t edges 2549 1549 is (omega arith) (faults_tell_truly rules t clock.drift_us edges is.steady) calls now beat order truth answer
+
+pub returns-clause-half : goal.returns-clause-half
+returns-clause-half _ t d edges rules table far is few =
+    let most = mul-le-mul_left d (let h : far ≤ rules.holdover + 2 = omega (arith, few) in h) in
+    omega (arith, most, is.short)
+
+pub returns-clause-lines : goal.returns-clause-lines
+returns-clause-lines _ = tells_is_checked
+
+pub returns-clause-whole : goal.returns-clause-whole
+returns-clause-whole _ rules t line edges now k pulses checked are = whole_is_true line edges rules t now k pulses checked are

@@ -1,0 +1,89 @@
+//! Laws of a timekeeper whose lines have faults, over its definitions. They have no code.
+
+ghost use Rattle.std.specs.Prelude.{◌≡◌, ◌+◌, ◌*◌, ◌%◌, ◌^◌, ◌<◌, ◌≤◌, ℕ, List, ◌∷◌, ◌++◌, Some};
+ghost use Rattle.irig_frame.specs.declared.symbol.Symbol.{Symbol};
+ghost use Rattle.irig_sync.specs.Lines.{Pulse};
+ghost use Rattle.irig_sync.specs.FaultyLines.{ArePulsesBefore};
+ghost use Rattle.irig_time.specs.Timelines.{TimelineValue, IsTrueClaim};
+ghost use Rattle.irig_time.specs.Tables.{TableValue};
+ghost use Rattle.irig_vote.specs.Vote.{f_of};
+ghost use Rattle.irig_port.specs.OwnClaims.{TellsClaims};
+ghost use Rattle.irig_timekeeper.specs.Edges.{IsQuartz, IsTrueNear};
+ghost use Rattle.irig_timekeeper.specs.Lines.{IsFrameOf, IsCheckedLineOf, IsTrueButForFaults, IsTrueOrFaulty};
+ghost use Rattle.irig_timekeeper.specs.Steps.{AreNewLines};
+ghost use Rattle.irig_timekeeper.specs.Keeping.{new_keeping, answer_at};
+ghost use Rattle.irig_timekeeper.specs.Truth.{IsToldInHoldover, IsLaterSecond, IsDevice};
+ghost use Rattle.irig_timekeeper.specs.Life.{Call, AreInOrder, AreTrueAtTicks, after_calls};
+ghost use Rattle.irig_timekeeper.specs.Life.Call.{Tick};
+
+use crate::clock::{Beat, ClockRules};
+use crate::lines::Lines;
+use irig_reader::{Cause, ReaderRules};
+use irig_time::{Claim, Rules, UtcSecond};
+
+/// Lines with faults tell truly: what [`a_device_tells_the_truth`](crate::a_device_tells_the_truth)
+/// says holds too if a line counts as true that had one fault of any kind in each hundred pulses of
+/// the last 1.2 s: a pulse was lost, late, early, doubled, cut in two or of another width, or one
+/// was added. But a frame may then end up to 2 ms earlier, and up to 1 ms later.
+pub fn lines_with_faults_tell_truly()
+    // A frame that ended at most 100 ms ago claims the true second before an edge, and ends near
+    // that edge.
+    ensures kept { (rules : Rules) (t : TimelineValue) (d now end : ℕ) (edges : ℕ → ℕ)
+        (pulses : List Pulse) (claim : Claim) → IsQuartz d edges
+        → IsTrueButForFaults rules t edges now pulses → IsFrameOf rules claim end pulses
+        → now ≤ end + 100000 → IsTrueNear t edges (2449 + d) (1448 + d) end claim }
+    // So a device tells the truth all its life: the edge that it tells lies from 3.549 ms before
+    // the true one to 1.549 ms behind, and as much further off as a holdover drifts.
+    ensures life { (t : TimelineValue) (edges : ℕ → ℕ) (rules : Rules) (clock : ClockRules)
+        (table : TableValue) (lines : Lines) (start now : ℕ) (calls : List Call) (beat : Beat)
+        (u : UtcSecond) → IsDevice t clock.drift_us edges clock.reader_rules table
+        → AreNewLines lines → AreInOrder start clock.redundancy (Tick now ∷ calls)
+        → AreTrueAtTicks (IsTrueButForFaults rules t edges) (f_of clock.redundancy)
+        (Tick now ∷ calls)
+        → answer_at (after_calls (new_keeping rules clock table lines) calls) (now % 2 ^ 32)
+        ≡ Some beat → beat.report.announce ≡ Some u
+        → IsToldInHoldover t edges 3549 1549 clock.drift_us clock.reader_rules.holdover now beat u }
+    // Some of its lines may have faults while others lose any pulses.
+    ensures either { (t : TimelineValue) (edges : ℕ → ℕ) (rules : Rules) (clock : ClockRules)
+        (table : TableValue) (lines : Lines) (start now : ℕ) (calls : List Call) (beat : Beat)
+        (u : UtcSecond) → IsDevice t clock.drift_us edges clock.reader_rules table
+        → AreNewLines lines → AreInOrder start clock.redundancy (Tick now ∷ calls)
+        → AreTrueAtTicks (IsTrueOrFaulty rules t edges) (f_of clock.redundancy) (Tick now ∷ calls)
+        → answer_at (after_calls (new_keeping rules clock table lines) calls) (now % 2 ^ 32)
+        ≡ Some beat → beat.report.announce ≡ Some u
+        → IsToldInHoldover t edges 3549 1549 clock.drift_us clock.reader_rules.holdover now beat u }
+    // In order: what a later tick announces is a later second.
+    ensures order { (t : TimelineValue) (edges : ℕ → ℕ) (rules : Rules) (clock : ClockRules)
+        (table : TableValue) (lines : Lines) (start before now : ℕ) (earlier later : List Call)
+        (beat then : Beat) (u v : UtcSecond)
+        → IsDevice t clock.drift_us edges clock.reader_rules table → AreNewLines lines
+        → AreInOrder start clock.redundancy (Tick now ∷ (later ++ (Tick before ∷ earlier)))
+        → AreTrueAtTicks (IsTrueButForFaults rules t edges) (f_of clock.redundancy)
+        (Tick now ∷ (later ++ (Tick before ∷ earlier)))
+        → answer_at (after_calls (new_keeping rules clock table lines) earlier)
+        (before % 2 ^ 32) ≡ Some beat → beat.report.announce ≡ Some u
+        → answer_at (after_calls (new_keeping rules clock table lines)
+        (later ++ (Tick before ∷ earlier))) (now % 2 ^ 32) ≡ Some then
+        → then.report.announce ≡ Some v → IsLaterSecond t u v }
+    // And no report has the cause `Jump`.
+    ensures calm { (t : TimelineValue) (edges : ℕ → ℕ) (rules : Rules) (clock : ClockRules)
+        (table : TableValue) (lines : Lines) (start now : ℕ) (calls : List Call) (beat : Beat)
+        → IsDevice t clock.drift_us edges clock.reader_rules table → AreNewLines lines
+        → AreInOrder start clock.redundancy (Tick now ∷ calls)
+        → AreTrueAtTicks (IsTrueButForFaults rules t edges) (f_of clock.redundancy)
+        (Tick now ∷ calls)
+        → answer_at (after_calls (new_keeping rules clock table lines) calls) (now % 2 ^ 32)
+        ≡ Some beat → ¬ (beat.report.cause ≡ Cause.Jump) }
+    // The bound is less than half a second.
+    ensures half { (t : TimelineValue) (d : ℕ) (edges : ℕ → ℕ) (rules : ReaderRules)
+        (table : TableValue) (far : ℕ) → IsDevice t d edges rules table → far ≤ rules.holdover
+        → 3549 + far * d < 500000 }
+    // A line whose frames each tell the true claim may have faults.
+    ensures lines { (rules : Rules) (t : TimelineValue) (line : ℕ → Symbol) (claims : ℕ → Claim)
+        → TellsClaims rules line claims → ((f : ℕ) → IsTrueClaim t (f + 1) (claims f))
+        → IsCheckedLineOf rules t line }
+    // And it has none while each pulse comes.
+    ensures whole { (rules : Rules) (t : TimelineValue) (line : ℕ → Symbol) (edges : ℕ → ℕ)
+        (now k : ℕ) (pulses : List Pulse) → IsCheckedLineOf rules t line
+        → ArePulsesBefore line edges 450 k pulses → IsTrueButForFaults rules t edges now pulses }
+{}

@@ -1,0 +1,175 @@
+#include "device.h"
+
+#include <stdio.h>
+
+enum { HALF_HOUR_US = 1790000000 };
+static const uint64_t NEVER = UINT64_MAX;
+
+/* ---- when ticks come */
+
+/* Some seconds to 29 minutes, each size as often. */
+static uint64_t gap_of(chance *luck) {
+    uint64_t gap_us = UINT64_C(300000) << below(luck, 13);
+    gap_us += draw(luck) % gap_us;
+    return gap_us < HALF_HOUR_US ? gap_us : HALF_HOUR_US - below(luck, SECOND_US);
+}
+
+static bool is_by_wait(const device *d) { return d->pace == BY_WAIT || d->pace == WITH_GAPS; }
+
+/* Sets the compare channel by what `wait` answers. */
+static void arm(life *l, bool is_behind_tick) {
+    device *d = &l->device;
+    uint32_t wait_us = l->judge.subject->wait((uint32_t)d->now_us);
+    judge_wait(&l->judge, wait_us, is_behind_tick);
+    d->due_us = d->now_us + wait_us;
+    d->tick_us = d->due_us + d->always_us + below(&d->luck, d->late_us + 1);
+    d->is_asked = (l->judge.has_told || wait_us != SECOND_US) && !l->judge.subject->is_by_wait;
+}
+
+/* Around edge after edge, the next one that lies ahead; or where something is just in time, or just
+ * too late, if nothing drifts. */
+static uint64_t around_edge(life *l) {
+    static const uint32_t JUST_US[] = {99999,   100000,  100001,  1004999, 1005000, 1005001,
+                                       1099999, 1100000, 1100001, 2004999, 2005000};
+    device *d = &l->device;
+    uint64_t just_us = l->sky.told_edge_us + JUST_US[below(&d->luck, 11)];
+    if (is_once_in(&d->luck, 2) && just_us > d->now_us) return just_us;
+    while (d->edge <= l->world.seconds) {
+        uint64_t at_us =
+            l->world.edge_us[d->edge++] + (uint64_t)(int64_t)between(&d->luck, -400000, 400000);
+        if (at_us > d->now_us) return at_us;
+    }
+    return d->now_us + SECOND_US;
+}
+
+static void set_next_tick(life *l) {
+    device *d = &l->device;
+    d->is_asked = false;
+    d->due_us = NEVER;
+    switch (d->pace) {
+    case BY_POLLS: d->tick_us = d->now_us + d->poll_us - below(&d->luck, d->poll_us / 4 + 1); break;
+    case AT_RANDOM: d->tick_us = d->now_us + 100000 + below(&d->luck, 900000); break;
+    case BEFORE_PULSES: d->tick_us = d->now_us + SECOND_US; break;
+    case AROUND_EDGES: d->tick_us = around_edge(l); break;
+    default: arm(l, true);
+    }
+    d->is_asleep = d->pace == WITH_GAPS && is_once_in(&d->luck, d->gap_one_in);
+    if (d->is_asleep) d->tick_us = d->now_us + gap_of(&d->luck);
+    if (d->tick_us >= d->sleep_us && d->tick_us < d->wake_us) {
+        d->is_asleep = true;
+        d->tick_us = d->wake_us;
+    }
+    if (d->is_asleep) d->is_asked = false;
+}
+
+/* ---- calls */
+
+static void say(const life *l, const told_second *s) {
+    const irig_report *r = &s->report;
+    uint32_t edge = edge_before(&l->world, l->judge.edge_us + SECOND_US / 2);
+    printf("  %10.6f s: edge %u %+lld us, day %u second %u, lock %u:%u, cause %u, ports %u, ",
+           (double)(l->device.now_us - l->world.edge_us[0]) / 1e6, edge,
+           (long long)(l->judge.edge_us - l->world.edge_us[edge]), r->day, r->sod, r->lock,
+           r->lock_count, r->cause, r->agreed);
+    printf("%u missed, moved %u times\n", s->missed, s->moved);
+}
+
+static void keep(life *l, const told_second *s) {
+    l->sky.told_edge_us = l->judge.edge_us;
+    if (l->is_told_aloud) say(l, s);
+    if (l->tolds < MOST_ENTRIES)
+        l->told[l->tolds++] = (entry){l->device.now_us, l->judge.edge_us, *s};
+}
+
+/* When something came that is stamped: in the last seconds, or just at a bound of what can be. */
+static uint64_t stamped_time(life *l) {
+    static const int32_t JUST_US[] = {-1, 0, 1001549, 1001550};
+    chance *luck = &l->device.luck;
+    if (!is_once_in(luck, 4) || !l->judge.has_told) return l->device.now_us - below(luck, 2500000);
+    return l->judge.edge_us + (uint64_t)(int64_t)JUST_US[below(luck, 4)];
+}
+
+void tick(life *l, uint64_t now_us) {
+    device *d = &l->device;
+    told_second s = {0};
+    bool is_due = d->is_asked && now_us >= d->due_us;
+    d->now_us = now_us;
+    uint32_t answer = l->judge.subject->tick((uint32_t)now_us, &s);
+    judge_tick(&l->judge, now_us, answer, &s, is_due);
+    if (l->judge.subject->stamp && !l->judge.is_beyond && is_once_in(&d->luck, 8))
+        judge_stamp(&l->judge, stamped_time(l));
+    if (s.is_told) keep(l, &s);
+}
+
+static void tick_and_go_on(life *l) {
+    device *d = &l->device;
+    tick(l, d->tick_us);
+    if (d->restart_one_in > 0 && is_once_in(&d->luck, d->restart_one_in)) {
+        l->judge.subject->restart();
+        judge_restart(&l->judge);
+    }
+    set_next_tick(l);
+}
+
+static void tell(life *l, line *from) {
+    device *d = &l->device;
+    const pulse *p = &from->next;
+    if (d->pace == BEFORE_PULSES) {
+        tick(l, p->end_us);
+        d->tick_us = p->end_us + SECOND_US;
+    }
+    d->now_us = p->end_us;
+    judge_pulse(&l->judge, from->number, p);
+    uint8_t place = l->judge.subject->hear(from->number, (uint32_t)p->rise_us,
+                                           (uint32_t)(p->end_us - p->rise_us));
+    if (place > 100) fail(&l->judge, "a pulse of line %u answers %u", from->number, place);
+    if (place == 100) d->is_asked = false;
+    /* A compare that has come is not taken back. */
+    if (place == 100 && is_by_wait(d) && !d->is_asleep && d->due_us > d->now_us) arm(l, false);
+    go_on(from, &l->sky);
+}
+
+/* The line whose pulse ends next, or none. */
+static line *earliest(sky *s) {
+    line *best = NULL;
+    for (line *l = s->line; l < s->line + s->lines; l++)
+        if (!l->is_over && (!best || l->next.end_us < best->next.end_us)) best = l;
+    return best;
+}
+
+/* ---- a life */
+
+static void begin(life *l, const subject *s) {
+    device *d = &l->device;
+    judge *j = &l->judge;
+    j->world = &l->world;
+    j->subject = s;
+    j->setup = l->setup;
+    j->table = l->table;
+    j->lines = l->sky.lines;
+    d->now_us = l->world.edge_us[0] - 30000;
+    judge_begins(j, d->now_us);
+    d->edge = 0;
+    l->tolds = 0;
+    d->is_asleep = d->is_asked = false;
+    l->sky.told_edge_us = 0;
+    uint32_t answer = s->begin(&l->setup, &l->table, l->world.drift_us);
+    if (answer != IRIG_DONE) fail(j, "it does not begin: %u", answer);
+    set_next_tick(l);
+}
+
+void play(life *l, const subject *s) {
+    begin(l, s);
+    uint64_t end_us = l->world.edge_us[l->world.seconds] + 120000;
+    while (!l->judge.is_failed) {
+        line *next = earliest(&l->sky);
+        uint64_t pulse_us = next ? next->next.end_us : NEVER;
+        uint64_t tick_us = l->device.tick_us;
+        uint64_t now_us = pulse_us < tick_us ? pulse_us : tick_us;
+        if (now_us > end_us) break;
+        if (l->device.pace == BY_WAIT && !l->device.is_asleep) judge_time(&l->judge, now_us);
+        if (pulse_us < tick_us || (pulse_us == tick_us && is_once_in(&l->device.luck, 2)))
+            tell(l, next);
+        else tick_and_go_on(l);
+    }
+}

@@ -1,0 +1,60 @@
+/* A device in its world: what calls it makes, and when. */
+#ifndef DEVICE_H
+#define DEVICE_H
+
+#include "judge.h"
+
+/* When ticks come. */
+typedef enum pace {
+    BY_WAIT, /* when `wait` says */
+    BY_POLLS,
+    AT_RANDOM,
+    BEFORE_PULSES, /* before each pulse is told */
+    WITH_GAPS,     /* when `wait` says, but none for some seconds, or minutes */
+    AROUND_EDGES,  /* one in each second, early or late */
+    PACES
+} pace;
+
+typedef struct device {
+    pace pace;
+    uint32_t poll_us;        /* the longest time between polls */
+    uint32_t late_us;        /* how late a tick is at most that `wait` asked for, */
+    uint32_t always_us;      /* and at least */
+    uint32_t gap_one_in;     /* ticks of WITH_GAPS */
+    uint32_t restart_one_in; /* ticks; 0 none */
+    chance luck;
+    /* where it stands */
+    uint64_t now_us, tick_us, due_us;
+    bool is_asked; /* `wait` asked for the next tick, and no frame has ended since */
+    bool is_asleep;
+    uint64_t sleep_us, wake_us; /* between these there is no tick */
+    uint32_t edge;              /* of AROUND_EDGES */
+} device;
+
+/* What was told, and when. */
+typedef struct entry {
+    uint64_t now_us, edge_us;
+    told_second second;
+} entry;
+
+enum { MOST_ENTRIES = 10000 };
+
+typedef struct life {
+    world world;
+    sky sky;
+    irig_setup setup;
+    irig_table table;
+    device device;
+    judge judge;
+    bool is_told_aloud;       /* each second is printed */
+    entry told[MOST_ENTRIES]; /* the first of them */
+    int tolds;
+} life;
+
+/* A tick at this time, and what comes of it. */
+void tick(life *l, uint64_t now_us);
+
+/* Plays a life up to its last edge, or until something is wrong. */
+void play(life *l, const subject *s);
+
+#endif

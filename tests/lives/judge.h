@@ -1,0 +1,71 @@
+/* Judges what a timekeeper answers, by the world and by what the lines sent: without code of the
+ * library, and without anything that the timekeeper says of itself but its reports. */
+#ifndef JUDGE_H
+#define JUDGE_H
+
+#include "lines.h"
+#include "subject.h"
+
+/* What a line has sent. */
+typedef struct sent {
+    pulse last;
+    bool is_any;        /* since the device began, or was restarted */
+    uint64_t false_us;  /* when its last false pulse rose */
+    uint32_t run_frame; /* the frame of the pulses that came last, from its first one on, */
+    unsigned run;       /* and how many with nothing between; 0 none */
+    int64_t whole;      /* the last frame that it sent whole, and that tells a claim */
+} sent;
+
+typedef struct counts {
+    uint64_t pulses, ticks, told, voted, held, whole, moved, stamps, lit;
+    uint64_t causes[IRIG_CAUSE_RANGE_END + 1];
+    uint64_t leaps;           /* inserted seconds that were announced */
+    int64_t earliest, latest; /* edges of votes against the true ones, in us */
+} counts;
+
+typedef struct judge {
+    const world *world;
+    const subject *subject;
+    irig_setup setup;
+    irig_table table;
+    uint8_t lines;
+    bool is_beyond;  /* more lines lie than may: order alone is judged, */
+    bool is_overrun; /* or all, so that something is found */
+    sent sent[MOST_LINES];
+    uint64_t now_us, lit_us;
+    uint32_t come;    /* the last edge that has come */
+    bool has_told;    /* a second, since it began or was restarted: of the last one */
+    uint64_t edge_us; /* its edge, */
+    irig_report report;
+    int64_t announced; /* the last second announced, or -1 */
+    int64_t voted;     /* the edge of the last second with a vote, or -1 */
+    uint32_t row;      /* seconds with a vote that followed one another */
+    int64_t asked;     /* the last edge whose vote was asked for */
+    int64_t moved;     /* the last such edge to which its own was moved instead, */
+    uint32_t moves;    /* and how many there were since a second was told */
+    bool is_failed;
+    char text[240]; /* why */
+    counts counts;
+} judge;
+
+void judge_begins(judge *j, uint64_t now_us);
+void judge_restart(judge *j);
+
+/* A pulse that is told now, as it ends. */
+void judge_pulse(judge *j, uint8_t line, const pulse *p);
+
+/* What a tick answered. `is_due`: `wait` asked for it, and no frame has ended since. */
+void judge_tick(judge *j, uint64_t now_us, uint32_t answer, const told_second *s, bool is_due);
+
+/* Time goes on, of a device that ticks as `wait` says. */
+void judge_time(judge *j, uint64_t now_us);
+
+/* What `wait` answered. */
+void judge_wait(judge *j, uint32_t wait_us, bool is_behind_tick);
+
+/* What a stamp of this time says, which lies some seconds off now at most. */
+void judge_stamp(judge *j, uint64_t time_us);
+
+void fail(judge *j, const char *form, ...);
+
+#endif

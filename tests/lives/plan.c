@@ -1,0 +1,296 @@
+#include "plan.h"
+
+#include <string.h>
+
+enum { TURN_S = 4295 };
+
+/* One of some numbers. */
+#define ONE_OF(luck, ...)                                                                          \
+    ((const int32_t[]){__VA_ARGS__})[below(luck, sizeof((const int32_t[]){__VA_ARGS__}) / 4)]
+
+/* A number up to a bound, each size as often. */
+static uint32_t of_any_size(chance *luck, uint32_t most) {
+    uint32_t bits = 0;
+    while (bits < 31 && most >> bits > 1) bits++;
+    uint32_t least = 1u << below(luck, bits + 1);
+    uint32_t number = least + below(luck, least);
+    return number < most ? number : most;
+}
+
+/* ---- settings */
+
+static void plan_setup(life *l, chance *luck, bool is_of_three) {
+    static const uint8_t PORTS[] = {IRIG_PORTS_THREE, IRIG_PORTS_FIVE, IRIG_PORTS_ONE};
+    uint32_t kind = is_of_three ? 0 : (uint32_t)ONE_OF(luck, 0, 0, 0, 0, 0, 0, 0, 1, 1, 2);
+    l->sky.lines = kind == 0 ? 3 : kind == 1 ? 5 : 1;
+    l->world.drift_us = (uint32_t)ONE_OF(luck, 0, 1, 10, 100, 100);
+    uint32_t most = l->world.drift_us ? 490000 / l->world.drift_us - 2 : 1000000;
+    uint32_t holdover = (uint32_t)ONE_OF(luck, 0, 1, 5, 20, 60, 300, 1000000);
+    if (holdover == 1000000) holdover = most;
+    else if (holdover > 1) holdover = 1 + below(luck, holdover);
+    l->setup = (irig_setup){
+        .parity = (uint8_t)below(luck, 2),
+        .sense = (uint8_t)below(luck, 2),
+        .sbs = (uint8_t)below(luck, 2),
+        .redundancy = PORTS[kind],
+        .lock_after = (uint8_t)ONE_OF(luck, 1, 1, 2, 2, 3, 3, 3, 4, 5, 5, 9, 20),
+        .holdover = holdover,
+    };
+    l->world.is_odd = l->setup.parity == IRIG_PARITY_ODD;
+    l->world.is_subtracted = l->setup.sense == IRIG_SENSE_SUBTRACT;
+}
+
+/* The month's end at or before a day. */
+static int64_t month_end_before(int64_t day) {
+    while (day > 1 && !is_month_end(day)) day--;
+    return day;
+}
+
+static void plan_time(life *l, chance *luck) {
+    world *w = &l->world;
+    uint32_t days = w->seconds / DAY_S + 2;
+    w->leap_day = -1;
+    w->leap = 0;
+    w->first.day = 1 + below(luck, LAST_DAY - days);
+    w->first.second = below(luck, DAY_S);
+    bool is_last = is_once_in(luck, 100) && w->seconds < DAY_S;
+    if (is_last) w->first.day = LAST_DAY; /* over the end of what is served */
+    else if (is_once_in(luck, 4)) return;
+    else w->first.day = month_end_before(w->first.day);
+    uint32_t before = w->seconds < DAY_S ? w->seconds : DAY_S;
+    w->first.second = DAY_S - 1 - below(luck, before);
+    if (!is_month_end(w->first.day)) return;
+    w->leap_day = w->first.day;
+    w->leap = ONE_OF(luck, -1, 0, 1);
+}
+
+/* A table that is true, of the past too; or none. */
+static void plan_table(life *l, chance *luck) {
+    const world *w = &l->world;
+    memset(&l->table, 0, sizeof l->table);
+    if (is_once_in(luck, 2)) return;
+    int64_t until = w->first.day + ONE_OF(luck, -40, -1, 0, 1, 30, 400);
+    l->table.until = (uint32_t)(until < LAST_DAY ? until > 0 ? until : 0 : LAST_DAY);
+    if (w->leap != 0 && l->table.until >= w->leap_day)
+        l->table.leaps[l->table.len++] =
+            (irig_leap){(uint32_t)w->leap_day, w->leap > 0 ? IRIG_LEAP_INSERT : IRIG_LEAP_DELETE};
+    int64_t day = month_end_before(w->first.day - 1);
+    for (uint32_t more = below(luck, 6); more > 0 && day > 200; more--) {
+        day = month_end_before(day - 1 - below(luck, 90));
+        if (day <= l->table.until && day > 1)
+            l->table.leaps[l->table.len++] = (irig_leap){(uint32_t)day, below(luck, 2)};
+    }
+}
+
+static uint64_t plan_start(const life *l, chance *luck) {
+    uint64_t turn_us = UINT64_C(3) << 32;
+    uint64_t within_s = l->world.seconds < 100 ? l->world.seconds : 100;
+    return is_once_in(luck, 2) ? turn_us - draw(luck) % (within_s * SECOND_US)
+                               : turn_us + (draw(luck) >> 32);
+}
+
+/* ---- lines */
+
+void begin_lines(life *l, uint64_t start_us, walk kind, chance *luck) {
+    make_edges(&l->world, start_us, kind, luck);
+    l->sky.world = &l->world;
+    l->sky.darks = l->sky.lies = 0;
+    memset(l->sky.line, 0, sizeof l->sky.line);
+}
+
+/* Half of them are of one zone. */
+static void plan_line(line *l, int32_t zone, chance *luck) {
+    l->spread = (spread)below(luck, SPREADS);
+    l->offset_us = is_once_in(luck, 2) ? ONE_OF(luck, -449, 449) : between(luck, -449, 449);
+    l->width = (width)below(luck, WIDTHS);
+    l->zone = is_once_in(luck, 2) ? zone : between(luck, -31, 31);
+    l->dst = is_once_in(luck, 4);
+    l->quality = below(luck, 10);
+    l->harm_one_in = (uint32_t)ONE_OF(luck, 0, 0, 4, 15, 60);
+}
+
+static void plan_darkness(life *l, chance *luck) {
+    for (uint32_t count = below(luck, 4); count > 0; count--) {
+        uint32_t from = below(luck, l->world.seconds),
+                 length = of_any_size(luck, l->world.seconds / 2);
+        unsigned lines = is_once_in(luck, 2) ? 31 : below(luck, 31) + 1;
+        l->sky.dark[l->sky.darks++] = (dark){from, from + length, lines};
+    }
+}
+
+/* ---- lies */
+
+static int32_t plan_shift(aim aim, chance *luck) {
+    switch (aim) {
+    case AT_PLACE: return between(luck, -449, 449);
+    case AT_BOUND: return ONE_OF(luck, -1001, -1000, -999, 999, 1000, 1001, 0, -10100, -9000, 500);
+    case SHIFTED:
+        return is_once_in(luck, 2)
+                   ? between(luck, -500000, 500000)
+                   : ONE_OF(luck, -500000, 500000, -2000, 2000, -20000, 20000, 8000, -999);
+    case WALKING: return between(luck, -2000, 2000);
+    default:
+        return ONE_OF(luck, -500000, 500000, 499999, -499999, -4000, 4000, 4999, 5000, 99999,
+                      -99999, 100001, -6000);
+    }
+}
+
+static lie plan_lie(chance *luck, uint8_t lines) {
+    lie told = {.seed = draw(luck)};
+    told.manner = (manner)ONE_OF(luck, 0, 0, 0, 0, 0, 0, 0, 0, NOISE, STUCK);
+    told.saying = (saying)ONE_OF(luck, SAYS_TRUTH, SAYS_OTHER, SAYS_OTHER, SAYS_LEAP, SAYS_POOR,
+                                 SAYS_ANY, SAYS_WRONGLY);
+    told.aim = (aim)below(luck, AIMS);
+    told.harm = (harm)ONE_OF(luck, 0, 0, 0, 0, CUT, TRAILED, LAST_MOVED, GLITCHES, HOLES);
+    told.by = is_once_in(luck, 2) ? ONE_OF(luck, -1, 1)
+                                  : ONE_OF(luck, -2, 2, 60, -60, 3600, -TURN_S, 86400, 7);
+    told.shift_us = plan_shift(told.aim, luck);
+    told.rate_us =
+        is_once_in(luck, 2) ? between(luck, -1000, 1000) : ONE_OF(luck, -1, 1, -100, 100, 1000);
+    told.spacing_us = is_once_in(luck, 3) ? (uint32_t)between(luck, 9000, 10999) : ELEMENT_US;
+    if (is_once_in(luck, 20)) told.spacing_us = (uint32_t)ONE_OF(luck, 9000, 10999, 5000);
+    if (told.aim == AT_BOUND && is_once_in(luck, 2)) told.saying = SAYS_TRUTH;
+    told.target = (uint8_t)below(luck, lines);
+    return told;
+}
+
+/* Lies of one line at a time, handed from line to line of some; or those of another, by a line that
+ * colludes with it. */
+static void plan_liar(life *l, const uint8_t *lines, uint32_t count, uint32_t from, chance *luck) {
+    sky *s = &l->sky;
+    uint64_t time_us = l->world.edge_us[from] + below(luck, 8000000);
+    uint64_t end_us = l->world.edge_us[l->world.seconds];
+    bool is_patient = is_once_in(luck, 3);
+    uint32_t most = (uint32_t)ONE_OF(luck, 3, 10, 60);
+    for (int most_lies = s->lies + MOST_LIES / 3; s->lies < most_lies && time_us < end_us;) {
+        lie told = plan_lie(luck, s->lines);
+        told.line = lines[below(luck, count)];
+        told.from_us = time_us;
+        told.to_us =
+            time_us + 100000 * (uint64_t)of_any_size(luck, 10 * most) + below(luck, 100000);
+        s->lie[s->lies++] = told;
+        time_us = told.to_us + HANDED_ON_US + (is_patient ? below(luck, 20000000) : below(luck, 2));
+    }
+}
+
+static void collude(sky *s, int lies, const uint8_t *lines, uint32_t count, chance *luck) {
+    for (int i = 0; i < lies; i++) {
+        lie told = s->lie[i];
+        told.line = lines[below(luck, count)];
+        s->lie[s->lies++] = told;
+    }
+}
+
+static void plan_lies(life *l, uint32_t from, chance *luck) {
+    uint8_t lines[MOST_LINES] = {0, 1, 2, 3, 4};
+    uint32_t count = l->sky.lines;
+    if (count == 1 || is_once_in(luck, 8)) return;
+    for (uint32_t i = count; i > 1; i--) {
+        uint32_t j = below(luck, i);
+        uint8_t other = lines[i - 1];
+        lines[i - 1] = lines[j];
+        lines[j] = other;
+    }
+    if (l->judge.is_overrun) {
+        plan_liar(l, lines, 1, from, luck);
+        for (uint32_t i = 1, lies = (uint32_t)l->sky.lies; i <= count / 2; i++)
+            collude(&l->sky, (int)lies, lines + i, 1, luck);
+        return;
+    }
+    plan_liar(l, lines, count == 5 ? 2 : 3, from, luck);
+    if (count == 5 && is_once_in(luck, 3)) collude(&l->sky, l->sky.lies, lines + 2, 3, luck);
+    else if (count == 5) plan_liar(l, lines + 2, 3, from, luck);
+}
+
+/* ---- a device */
+
+static void plan_device(life *l, chance *luck, bool is_long) {
+    device *d = &l->device;
+    memset(d, 0, sizeof *d);
+    d->luck.state = draw(luck);
+    d->pace = (pace)ONE_OF(luck, BY_WAIT, BY_WAIT, BY_WAIT, BY_POLLS, BY_POLLS, AT_RANDOM,
+                           BEFORE_PULSES, WITH_GAPS, WITH_GAPS, AROUND_EDGES);
+    if (is_long && (d->pace == BY_POLLS || d->pace == BEFORE_PULSES)) d->pace = BY_WAIT;
+    d->poll_us = 500 * of_any_size(luck, 190);
+    d->late_us = (uint32_t)ONE_OF(luck, 0, 100, 5000, 90000);
+    d->gap_one_in = (uint32_t)ONE_OF(luck, 5, 20, 60);
+    d->restart_one_in = (uint32_t)ONE_OF(luck, 0, 0, 0, 0, 0, 0, 30, 300);
+}
+
+/* ---- lives */
+
+/* Some minutes, with dark stretches. */
+static void plan_short(life *l, chance *luck) {
+    chance lies = {draw(luck)};
+    plan_darkness(l, luck);
+    plan_lies(l, 0, &lies);
+}
+
+/* All is dark for about as long as the holdover; liars are at work behind it. */
+static void plan_long(life *l, chance *luck) {
+    uint32_t back = l->world.seconds - 40;
+    l->sky.dark[l->sky.darks++] = (dark){8 + below(luck, 10), back, 31};
+    plan_lies(l, back - 10, luck);
+}
+
+/* A frame is heard of too few lines, and all are dark. A turn of the counter later a liar sends it
+ * again. */
+static void plan_turn(life *l, chance *luck) {
+    sky *s = &l->sky;
+    uint32_t last = 5 + below(luck, 10), few = s->lines / 2u;
+    s->dark[s->darks++] = (dark){last + 1, l->world.seconds, 31};
+    s->dark[s->darks++] = (dark){last, last + 1, 31u & ~((1u << few) - 1)};
+    for (unsigned i = 0; i < few; i++) s->line[i].harm_one_in = 0;
+    uint64_t end_us = l->world.edge_us[last + 1] + (UINT64_C(1) << 32);
+    uint32_t frame = last + TURN_S - 2;
+    while (l->world.edge_us[frame + 1] + SECOND_US / 2 < end_us) frame++;
+    lie told = {.from_us = end_us - 1300000,
+                .to_us = end_us + 100000,
+                .line = (uint8_t)few,
+                .saying = SAYS_OTHER,
+                .by = (int32_t)last - (int32_t)frame,
+                .aim = SHIFTED,
+                .shift_us =
+                    (int32_t)(int64_t)(end_us - l->world.edge_us[frame + 1]) + s->line[0].offset_us,
+                .spacing_us = ELEMENT_US,
+                .seed = draw(luck)};
+    s->line[0].spread = EQUAL;
+    s->lie[s->lies++] = told;
+}
+
+/* How long all is dark in a long life: most of the longest holdover by this oscillator, or more. */
+static uint32_t plan_dark_time(life *l, chance *luck) {
+    uint32_t drift = l->world.drift_us, most = is_once_in(luck, 20) ? MOST_SECONDS - 100 : 6000;
+    if (drift > 0 && !is_once_in(luck, 4)) l->setup.holdover = 490000 / drift - 2;
+    uint32_t holdover = l->setup.holdover < 20 ? 20 : l->setup.holdover;
+    uint32_t time = is_once_in(luck, 3) ? below(luck, holdover + holdover / 3)
+                                        : holdover - below(luck, holdover / 8);
+    return time < most ? time : below(luck, most);
+}
+
+static uint32_t plan_length(life *l, chance *luck, bool is_turn, bool is_long) {
+    if (is_turn) return TURN_S + 60;
+    if (is_long) return 70 + plan_dark_time(l, luck);
+    return 15 + of_any_size(luck, is_once_in(luck, 300) ? 3000 : 200);
+}
+
+void plan(life *l, uint64_t seed, uint64_t number, bool is_of_three) {
+    chance luck = {seed * UINT64_C(0x2545f4914f6cdd1d) + number};
+    draw(&luck);
+    uint32_t kind = below(&luck, 40);
+    plan_setup(l, &luck, is_of_three);
+    bool is_turn = kind == 0 && l->sky.lines > 1, is_long = kind >= 1 && kind < 6;
+    l->world.seconds = plan_length(l, &luck, is_turn, is_long);
+    plan_time(l, &luck);
+    plan_table(l, &luck);
+    walk kind_of_walk = (walk)(is_long ? ONE_OF(&luck, FAST, SLOW, FAST, SLOW, WALK, STEPS)
+                                       : (int32_t)below(&luck, WALKS));
+    begin_lines(l, plan_start(l, &luck), kind_of_walk, &luck);
+    int32_t zone = between(&luck, -31, 31);
+    for (int i = 0; i < l->sky.lines; i++) plan_line(&l->sky.line[i], zone, &luck);
+    if (is_turn) plan_turn(l, &luck);
+    else if (is_long) plan_long(l, &luck);
+    else plan_short(l, &luck);
+    for (uint8_t i = 0; i < l->sky.lines; i++) begin_line(&l->sky.line[i], &l->sky, i, draw(&luck));
+    plan_device(l, &luck, is_turn || is_long);
+}

@@ -1,0 +1,69 @@
+/* The world of one life: chance, when seconds begin by the device's counter, and which they are. */
+#ifndef WORLD_H
+#define WORLD_H
+
+#include "calendar.h"
+
+enum {
+    SECOND_US = 1000000,
+    ELEMENT_US = 10000,
+    MOST_LINES = 5,
+    MOST_SECONDS = 500500,
+    HANDED_ON_US = 1200000 /* between the lies of one line and those of another */
+};
+
+/* ---- chance: splitmix64, so that a seed gives the same lives everywhere */
+
+typedef struct chance {
+    uint64_t state;
+} chance;
+
+static inline uint64_t draw(chance *luck) {
+    uint64_t x = luck->state += UINT64_C(0x9e3779b97f4a7c15);
+    x = (x ^ x >> 30) * UINT64_C(0xbf58476d1ce4e5b9);
+    x = (x ^ x >> 27) * UINT64_C(0x94d049bb133111eb);
+    return x ^ x >> 31;
+}
+
+/* A number below a bound that is not 0. */
+static inline uint32_t below(chance *luck, uint32_t bound) {
+    return (uint32_t)((draw(luck) >> 32) * bound >> 32);
+}
+
+static inline int32_t between(chance *luck, int32_t low, int32_t high) {
+    return low + (int32_t)below(luck, (uint32_t)(high - low) + 1);
+}
+
+static inline bool is_once_in(chance *luck, uint32_t times) { return below(luck, times) == 0; }
+
+/* ---- a world */
+
+/* How far the device's counter goes in a second of the world, beside 1,000,000. */
+typedef enum walk { WALK, FAST, SLOW, STEPS, ALTERNATING, TURNING, WALKS } walk;
+
+typedef struct world {
+    uint64_t
+        edge_us[MOST_SECONDS + 3]; /* edge n, where T(n) begins, by a counter that does not wrap */
+    uint32_t seconds;              /* the edges 0 to `seconds` + 2 are there */
+    uint32_t drift_us;
+    utc first;                  /* T(0) */
+    int64_t leap_day;           /* at whose end a leap comes, or none */
+    int leap;                   /* 1 inserted, -1 deleted, 0 none */
+    bool is_odd, is_subtracted; /* parity and sense */
+} world;
+
+void make_edges(world *w, uint64_t start_us, walk kind, chance *luck);
+
+/* The last edge at or before a time, or 0. */
+uint32_t edge_before(const world *w, uint64_t time_us);
+
+/* T(n), also of a negative n, if days have 86,400 seconds there. */
+utc second_at(const world *w, int64_t n);
+
+/* Whether a second is one of the timeline, and which. */
+bool find_second(const world *w, utc at, int64_t *n);
+
+/* What a true frame of a second says, by a clock in this zone. */
+content true_content(const world *w, utc at, int32_t zone);
+
+#endif
