@@ -8,6 +8,7 @@ codec, the proved reader, and the proved runner of scenarios.
     widths, symbols, classify   pulses and symbols
     Reader                      a reader with three ports, five, or one
     Sync                        which element of a frame a pulse on a line is
+    Timekeeper                  a device that keeps time by lines and a counter of its own
     run, Log                    scenarios to logs; `Log.blame`: who lied, and what it cost
     irig.scenarios              builds scenarios
     irig.logs                   reads logs
@@ -51,11 +52,13 @@ from .readers import Faulty, Poor, Reader, Report, Silence, Told, Zone, read
 from .scenes import run
 from .seconds import Claim, Leap, Second
 from .stretches import Stretch
+from .timekeepers import Beat, Stamp, Timekeeper
 
 __version__ = "1.0.0"
 
 __all__ = [
     "Announced",
+    "Beat",
     "Claim",
     "Coded",
     "Control",
@@ -75,9 +78,11 @@ __all__ = [
     "Second",
     "Silence",
     "Silent",
+    "Stamp",
     "Stretch",
     "Sync",
     "TableBroken",
+    "Timekeeper",
     "Told",
     "Verdict",
     "Zone",

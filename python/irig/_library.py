@@ -123,6 +123,61 @@ class Told(Structure):
     _fields_ = [("kind", c_uint8), ("quality", c_uint8), ("fault", c_uint32), ("claim", Claim)]
 
 
+class Line(Structure):
+    _fields_ = [
+        ("sync", Sync),
+        ("port", Tally),
+        ("frame", Tally),
+        ("end_us", c_uint32),
+        ("has_frame", c_uint8),
+    ]
+
+
+class Announced(Structure):
+    _fields_ = [
+        ("day", c_uint32),
+        ("sod", c_uint32),
+        ("edge_us", c_uint32),
+        ("bound_us", c_uint32),
+        ("is_told", c_uint8),
+    ]
+
+
+class Timekeeper(Structure):
+    _fields_ = [
+        ("setup", Setup),
+        ("table", Table),
+        ("state", State),
+        ("lines", Line * 5),
+        ("drift_us", c_uint32),
+        ("edge_us", c_uint32),
+        ("moved", c_uint32),
+        ("has_edge", c_uint8),
+        ("last", Announced),
+        ("before", Announced),
+        ("check", c_uint64),
+    ]
+
+
+class Second(Structure):
+    _fields_ = [
+        ("is_told", c_uint8),
+        ("edge_us", c_uint32),
+        ("missed", c_uint32),
+        ("moved", c_uint32),
+        ("report", Report),
+    ]
+
+
+class Stamp(Structure):
+    _fields_ = [
+        ("day", c_uint32),
+        ("sod", c_uint32),
+        ("offset_us", c_uint32),
+        ("bound_us", c_uint32),
+    ]
+
+
 class Span(Structure):
     _fields_ = [("start", c_size_t), ("end", c_size_t)]
 
@@ -189,6 +244,12 @@ CALLS: Dict[str, Tuple[Any, ...]] = {
     "reader_tick": (IRIG, c_uint32, _to(Reader), _to(Report)),
     "reader_restart": (IRIG, None, _to(Reader)),
     "reader_port": (IRIG, c_uint32, _to(Reader), c_uint8, _to(Told)),
+    "timekeeper_init": (IRIG, c_uint32, _to(Timekeeper), _to(Setup), _to(Table), c_uint32),
+    "timekeeper_hear": (IRIG, c_uint8, _to(Timekeeper), c_uint8, c_uint32, c_uint32),
+    "timekeeper_tick": (IRIG, c_uint32, _to(Timekeeper), c_uint32, _to(Second)),
+    "timekeeper_wait": (IRIG, c_uint32, _to(Timekeeper), c_uint32),
+    "timekeeper_stamp": (IRIG, c_uint32, _to(Timekeeper), c_uint32, _to(Stamp)),
+    "timekeeper_restart": (IRIG, None, _to(Timekeeper)),
     "run_shown": (
         SCENE, c_uint8, c_char_p, c_size_t, c_bool, c_bool, _to(c_uint8), c_size_t, _to(c_size_t),
         _to(c_uint8), c_size_t, _to(Refusal),

@@ -71,6 +71,11 @@ MEANINGS: Dict[int, Meaning] = {
     32: Meaning("TableLong", "a table with more than 64 leaps"),
     33: Meaning("TableDay", "a table's leap on a day that is not a month's last, or after until"),
     34: Meaning("TableTwice", "a day is listed twice in a table"),
+    35: Meaning(
+        "Drift",
+        "a holdover longer than a timekeeper's counter can count:"
+        " (holdover + 2) * drift_us is above 490,000",
+    ),
 }
 
 VALUE = 26

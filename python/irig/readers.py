@@ -111,7 +111,8 @@ def _ports_in(mask: int) -> Tuple[int, ...]:
     return tuple(port for port in range(max(PORTS)) if mask >> port & 1)
 
 
-def _report_held(held: c.Report) -> Report:
+def report_held(held: c.Report) -> Report:
+    """A report, as C holds it."""
     return Report(
         second=Second(held.day, held.sod) if held.announces else None,
         lock=LOCKS[held.lock],
@@ -126,15 +127,16 @@ def _report_held(held: c.Report) -> Report:
     )
 
 
-def _changed() -> Fault:
-    return Fault(VALUE, reason="something else has changed the numbers of this reader")
+def changed(what: str = "reader") -> Fault:
+    """Why a reader or a timekeeper is taken no longer."""
+    return Fault(VALUE, reason=f"something else has changed the numbers of this {what}")
 
 
 def _tick(held: c.Reader) -> c.Report:
     """What a reader says at an edge."""
     report = c.Report()
     if c.reader_tick(held, report):
-        raise _changed()
+        raise changed()
     return report
 
 
@@ -146,7 +148,31 @@ def _told_held(held: c.Told) -> Told:
     return Poor(held.quality) if held.kind == 2 else claim_held(held.claim)
 
 
-def _table(until: Optional[Day], leaps: Iterable[Leap]) -> c.Table:
+def setup_of(
+    lock_after: int, holdover: int, ports: int, parity: Parity, sense: Sense, sbs: Sbs
+) -> c.Setup:
+    """A setup as C holds it."""
+    if ports not in PORTS:
+        raise Fault(VALUE, reason=f"ports is {ports!r}; 1, 3 or 5 may stand here")
+    return c.Setup(
+        parity=number_of(parity, Parity, "parity"),
+        sense=number_of(sense, Sense, "sense"),
+        sbs=number_of(sbs, Sbs, "sbs"),
+        redundancy=PORTS.index(ports),
+        lock_after=within("lock_after", lock_after, 1, 60),
+        holdover=within("holdover", holdover, 0, 1_000_000),
+    )
+
+
+def ports_of(setup: c.Setup, what: str = "reader") -> int:
+    """How many ports a setup says."""
+    number = int(setup.redundancy)
+    if number >= len(PORTS):
+        raise changed(what)
+    return PORTS[number]
+
+
+def table_of(until: Optional[Day], leaps: Iterable[Leap]) -> c.Table:
     """A leap table as C holds it."""
     table = c.Table(until=0 if until is None else day_number(until))
     for leap in leaps:
@@ -200,19 +226,10 @@ class Reader:
         until: Optional[Day] = None,
         leaps: Iterable[Leap] = (),
     ) -> None:
-        if ports not in PORTS:
-            raise Fault(VALUE, reason=f"ports is {ports!r}; 1, 3 or 5 may stand here")
-        setup = c.Setup(
-            parity=number_of(parity, Parity, "parity"),
-            sense=number_of(sense, Sense, "sense"),
-            sbs=number_of(sbs, Sbs, "sbs"),
-            redundancy=PORTS.index(ports),
-            lock_after=within("lock_after", lock_after, 1, 60),
-            holdover=within("holdover", holdover, 0, 1_000_000),
-        )
+        setup = setup_of(lock_after, holdover, ports, parity, sense, sbs)
         self._held = c.Reader()
         self._lines = _fresh_lines()
-        check(c.reader_init(self._held, setup, _table(until, leaps)))
+        check(c.reader_init(self._held, setup, table_of(until, leaps)))
 
     def pulse(self, port: int, width_us: int) -> None:
         """A pulse at a port, 0 to 2 of three, 0 to 4 of five, 0 of one, so many microseconds
@@ -281,7 +298,7 @@ class Reader:
         """The edge: what the reader says by what its ports heard since the last. They are then
         empty. A reader whose numbers something else has changed is refused, at this edge and at
         each later one."""
-        return _report_held(_tick(self._held))
+        return report_held(_tick(self._held))
 
     def port(self, port: int) -> Told:
         """What a port would tell if the edge came now."""
@@ -309,10 +326,7 @@ class Reader:
     @property
     def ports(self) -> int:
         """How many ports it has."""
-        number = int(self._held.setup.redundancy)
-        if number >= len(PORTS):
-            raise _changed()
-        return PORTS[number]
+        return ports_of(self._held.setup)
 
     def __eq__(self, other: object) -> bool:
         """Whether it is a reader with the same numbers, which goes on alike."""

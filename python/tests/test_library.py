@@ -25,6 +25,11 @@ STRUCTURES = {
     "irig_sync": _library.Sync,
     "irig_report": _library.Report,
     "irig_told": _library.Told,
+    "irig_line": _library.Line,
+    "irig_announced": _library.Announced,
+    "irig_timekeeper": _library.Timekeeper,
+    "irig_second": _library.Second,
+    "irig_stamp": _library.Stamp,
     "irig_span": _library.Span,
     "irig_refusal": _library.Refusal,
 }

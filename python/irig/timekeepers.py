@@ -1,0 +1,189 @@
+"""Timekeepers: devices that keep time by lines and by a counter of their own."""
+from __future__ import annotations
+
+import ctypes
+from dataclasses import dataclass
+from typing import Iterable, Literal, Optional, Tuple
+
+from . import _library as c
+from .faults import VALUE, Fault, check, whole, within
+from .frames import MOST
+from .readers import Report, changed, ports_of, report_held, setup_of, table_of
+from .seconds import Day, Leap, Second
+from .words import Parity, Sbs, Sense
+
+# What a timekeeper's state begins with: another form of its numbers is another word.
+FORM = "irig timekeeper 1"
+
+WHAT = "timekeeper"  # as messages call it
+
+
+@dataclass(frozen=True)
+class Beat:
+    """What a tick says of a second that begins. As a text it is its report.
+
+    report: what is said of the second, with what the last whole frame of each line told
+    edge_us: where it begins, by the counter; never ahead of the tick
+    missed: the seconds that passed untold before it, as no tick came
+    moved: how often lines set the edge right since the second that was told before
+    """
+
+    report: Report
+    edge_us: int
+    missed: int
+    moved: int
+
+    def __str__(self) -> str:
+        return str(self.report)
+
+
+@dataclass(frozen=True)
+class Stamp:
+    """The time of an event.
+
+    second: the UTC second that had begun
+    offset_us: how long before the event it began, by the counter
+    bound_us: how far from the true instant the two may lie
+    """
+
+    second: Second
+    offset_us: int
+    bound_us: int
+
+
+def _time(what: str, time_us: int) -> int:
+    """A time as the counter has it: the lowest 32 bits count."""
+    return whole(what, time_us) & MOST
+
+
+def _tick(held: c.Timekeeper, now_us: int) -> c.Second:
+    """What a timekeeper says of a second, if one has begun."""
+    second = c.Second()
+    if c.timekeeper_tick(held, now_us, second):
+        raise changed(WHAT)
+    return second
+
+
+def _refuse_changed(held: c.Timekeeper) -> None:
+    """Refuses what a tick would refuse, and changes nothing."""
+    _tick(c.Timekeeper.from_buffer_copy(held), 0)
+
+
+class Timekeeper:
+    """A device that hears lines by its own free-running counter of microseconds, and says which UTC
+    second begins at which count (docs/WIRES.md). Of each time that it is told the lowest 32 bits
+    count, and each that it tells is below 2^32. Calls come in order of time, `tick` at least once
+    in half an hour. After sleep, or if the counter stood still or was set: `restart`.
+
+    Whatever came before, a second that it announces with the cause "voted" is the true one, and its
+    true edge lies at most 1,549 us behind `edge_us` or 549 before it, if no two of its three lines
+    (three of five; not the one) were untrue in the last 1.2 s. One with the cause "held" is true if
+    that was so at each tick, the counter is as steady as `drift_us` says, and the leap table is
+    right; its edge lies off by `drift_us` more for each second since the last vote.
+
+    drift_us: the most by which its counter is wrong, in microseconds a second, 0 to 100; then
+        (holdover + 2) * drift_us may be 490,000 at most
+
+    What else it takes is what a `Reader` takes, and a port is a line. It is its numbers and no
+    more: it can be copied and pickled, and goes on from there; a copy is equal to it, until one of
+    them hears something.
+    """
+
+    def __init__(
+        self,
+        lock_after: int = 2,
+        holdover: int = 3600,
+        *,
+        drift_us: int,
+        ports: Literal[1, 3, 5] = 3,
+        parity: Parity = "even",
+        sense: Sense = "add",
+        sbs: Sbs = "check",
+        until: Optional[Day] = None,
+        leaps: Iterable[Leap] = (),
+    ) -> None:
+        setup = setup_of(lock_after, holdover, ports, parity, sense, sbs)
+        drift = within("drift_us", drift_us, 0, 100)
+        self._held = c.Timekeeper()
+        check(c.timekeeper_init(self._held, setup, table_of(until, leaps), drift))
+
+    def hear(self, line: int, rise_us: int, width_us: int) -> int:
+        """A pulse on a line, 0 to 2 of three, 0 to 4 of five, 0 of one, once it has ended, and at
+        most half a second after it rose: when it rose and how wide it is. It answers the pulse's
+        place in its frame, 1 to 100, or 0 out of step. A pulse of half a second or more is none:
+        the line is stuck, and nothing changes. Behind a place of 100 there may be less to wait."""
+        number = within("line", line, 0, self.ports - 1)
+        width = within("width_us", width_us, 0, MOST)
+        return int(c.timekeeper_hear(self._held, number, _time("rise_us", rise_us), width))
+
+    def tick(self, now_us: int) -> Optional[Beat]:
+        """Says which second begins, if one has begun since the last call; else None. It may come at
+        any time. `now_us` is the time up to which pulses were told, and not a later one: of pulses
+        in a queue the end of the next one, before it is told. A timekeeper whose numbers something
+        else has changed is refused, at this tick and at each later one."""
+        held = _tick(self._held, _time("now_us", now_us))
+        if not held.is_told:
+            return None
+        return Beat(report_held(held.report), held.edge_us, held.missed, held.moved)
+
+    def wait(self, now_us: int) -> int:
+        """How long until a tick has something to do, in microseconds, if no call comes before it.
+        0, if one at once has, and if it would be refused."""
+        return int(c.timekeeper_wait(self._held, _time("now_us", now_us)))
+
+    def stamp(self, time_us: int) -> Optional[Stamp]:
+        """The time of an event: by the second that was told last, if it lies behind that one's
+        edge, else by the one before. None if these were not announced, or if it lies behind them by
+        more than a second and the error of the edge. What a tick would refuse is refused."""
+        held = c.Stamp()
+        if c.timekeeper_stamp(self._held, _time("time_us", time_us), held):
+            _refuse_changed(self._held)
+            return None
+        return Stamp(Second(held.day, held.sod), held.offset_us, held.bound_us)
+
+    def restart(self) -> None:
+        """Forgets all that was heard and counted. A timekeeper that a tick refuses stays so."""
+        c.timekeeper_restart(self._held)
+
+    @property
+    def lock_after(self) -> int:
+        """The votes in a row before it announces."""
+        return int(self._held.setup.lock_after)
+
+    @property
+    def holdover(self) -> int:
+        """The edges without a vote at which it goes on."""
+        return int(self._held.setup.holdover)
+
+    @property
+    def drift_us(self) -> int:
+        """The most by which its counter is wrong, in microseconds a second."""
+        return int(self._held.drift_us)
+
+    @property
+    def ports(self) -> int:
+        """How many lines it has."""
+        return ports_of(self._held.setup, WHAT)
+
+    def __eq__(self, other: object) -> bool:
+        """Whether it is a timekeeper with the same numbers, which goes on alike."""
+        if not isinstance(other, Timekeeper):
+            return NotImplemented
+        return c.same(self._held, other._held)
+
+    def __repr__(self) -> str:
+        return (
+            f"Timekeeper(lock_after={self.lock_after}, holdover={self.holdover}, "
+            f"drift_us={self.drift_us}, ports={self.ports})"
+        )
+
+    def __getstate__(self) -> Tuple[str, bytes]:
+        return FORM, bytes(self._held)
+
+    def __setstate__(self, state: Tuple[str, bytes]) -> None:
+        form, numbers = state
+        if form != FORM or len(numbers) != ctypes.sizeof(c.Timekeeper):
+            raise Fault(VALUE, reason="these are the numbers of a timekeeper of another version")
+        held = c.Timekeeper.from_buffer_copy(numbers)
+        _refuse_changed(held)
+        self._held = held

@@ -1,0 +1,399 @@
+"""Timekeepers: a life of which each second is worked out by hand, and what they refuse."""
+from __future__ import annotations
+
+import copy
+import pickle
+import unittest
+from dataclasses import replace
+from datetime import datetime, timedelta
+from typing import Iterator, NamedTuple
+
+import irig
+from irig import Beat, Second, Stamp, Timekeeper, Zone
+
+WRAP = 1 << 32
+VOTE_US = 1549  # how far from its true edge that of a vote may lie
+FRAME = irig.frame("2016-12-31T23:59:60Z")  # at its end 2017-01-01T00:00:00Z begins
+
+
+def told(keeper: Timekeeper, now_us: int) -> Beat:
+    """What a tick says, which has something to say."""
+    beat = keeper.tick(now_us)
+    assert beat is not None
+    return beat
+
+
+def hear_frame(keeper: Timekeeper, frame: str, start_us: int, *lines: int) -> None:
+    """Lines send one frame side by side."""
+    for element, width in enumerate(irig.widths(frame)):
+        for line in lines:
+            place = keeper.hear(line, start_us + 10_000 * element, width)
+            assert place == element + 1
+
+
+class Expected(NamedTuple):
+    """What is told of an edge, and how much earlier than frames say it is told."""
+
+    words: str  # of the lock, and the cause
+    is_announced: bool = True
+    held: int = 0  # seconds since the last vote
+    moved: int = 0
+    early_us: int = 0
+
+
+class Life:
+    """A timekeeper whose counter gains 100 us a second. Of its three lines the second is dead and
+    the third 400 us late. Edge 0 is at 2016-12-31T23:59:00Z."""
+
+    SECOND_US, ELEMENT_US, LATE_US, DRIFT_US = 1_000_100, 10_001, 400, 100
+    FIRST_US = WRAP - 52_000_000  # it wraps in the first darkness
+    LIGHT = (range(0, 45), range(85, 115), range(195, 215), range(315, 330))
+    LEAP, END = 60, 330
+
+    def __init__(self) -> None:
+        self.keeper = Timekeeper(lock_after=3, holdover=90, drift_us=self.DRIFT_US)
+        self.now_us = self.FIRST_US
+
+    @staticmethod
+    def expected(edge: int) -> Expected:
+        """Votes end at edges 45, 115 and 215. Behind the first darkness a frame ends 4.1 ms behind
+        the own edge, and is voted. Behind the second it is known 6.5 ms behind, behind the third
+        8.5 ms: the edge was told at 5 ms, and is moved."""
+        for last, end in ((45, 86), (115, 197), (215, 306)):
+            if last < edge < end:
+                held = edge - last
+                return Expected(f"holdover:{held} held", held=held, early_us=100 * held)
+        if 306 <= edge <= 316:
+            cause = "expired" if edge == 306 else "no-vote"
+            return Expected(f"unlocked {cause}", False, early_us=100 * (edge - 215))
+        votes = edge if edge < 3 else edge - 316
+        moved = int(edge in (197, 317))
+        if 0 < votes < 3:
+            return Expected(f"acquiring:{votes} acquiring", False, moved=moved)
+        return Expected("locked voted", moved=moved)
+
+    def utc_of(self, edge: int) -> str:
+        """The second that begins at an edge, over 23:59:60."""
+        if edge == self.LEAP:
+            return "2016-12-31T23:59:60Z"
+        seconds = edge if edge < self.LEAP else edge - 1
+        time = datetime(2016, 12, 31, 23, 59) + timedelta(seconds=seconds)
+        return time.isoformat() + "Z"
+
+    def told_us(self, edge: int) -> int:
+        """Where an edge is told: a frame ends 10,000 us by the counter behind its last pulse, which
+        is 1 us early."""
+        early_us = 1 + self.expected(edge).early_us
+        return self.FIRST_US + edge * self.SECOND_US - early_us
+
+    def widths(self, second: int) -> list[int]:
+        """Those of the frame that lines send in a second."""
+        pending = "insert" if second < self.LEAP else None
+        time = self.utc_of(second)
+        return irig.widths(irig.frame(time, local=2, dst=True, quality=2, pending=pending))
+
+    def until(self, time_us: int) -> Iterator[Beat]:
+        """Ticks whenever the timekeeper waits for it."""
+        while True:
+            wait_us = self.keeper.wait(self.now_us)
+            assert 0 <= wait_us <= 1_005_000
+            if self.now_us + wait_us > time_us:
+                break
+            self.now_us += wait_us
+            beat = self.keeper.tick(self.now_us)
+            if beat:
+                yield beat
+        self.now_us = time_us
+
+    def pulses(self, second: int) -> Iterator[tuple[int, int, int, int]]:
+        """Line, place, rise and width of what is heard in a second, in order."""
+        if not any(second in spell for spell in self.LIGHT):
+            return
+        start_us = self.FIRST_US + second * self.SECOND_US
+        for element, width_us in enumerate(self.widths(second)):
+            for line, late_us in ((0, 0), (2, self.LATE_US)):
+                yield line, element + 1, start_us + element * self.ELEMENT_US + late_us, width_us
+
+    def beats(self) -> Iterator[Beat]:
+        """All that is told, one after another."""
+        for second in range(self.END):
+            for line, place, rise_us, width_us in self.pulses(second):
+                yield from self.until(rise_us + width_us)
+                assert self.keeper.hear(line, rise_us, width_us) == place
+        yield from self.until(self.told_us(self.END))
+
+
+class ALife(unittest.TestCase):
+    def try_beat(self, life: Life, edge: int, beat: Beat) -> None:
+        """What is told of an edge is what was worked out."""
+        report, expected = beat.report, life.expected(edge)
+        second = life.utc_of(edge) if expected.is_announced else "-"
+        self.assertEqual(str(beat), f"{second} {expected.words}")
+        self.assertEqual(beat.edge_us, life.told_us(edge) % WRAP)
+        self.assertEqual((beat.missed, beat.moved), (0, expected.moved))
+        has_vote = expected.words.split()[-1] in ("voted", "acquiring")
+        agreed = (0, 2) if has_vote else ()
+        self.assertEqual((report.agreed, report.differed), (agreed, ()))
+        self.assertEqual((report.faulty, report.poor), ((), ()))
+        self.assertEqual(report.quality, 2 if has_vote else 15)
+        self.assertEqual(report.zone, Zone(2, True) if has_vote else None)
+
+    def stamp_is(self, life: Life, time_us: int, edge: int) -> None:
+        """An event is stamped by the second of an edge, and within the bound of the truth."""
+        bound_us = VOTE_US + life.DRIFT_US * life.expected(edge).held
+        offset_us = time_us - life.told_us(edge)
+        stamp = Stamp(Second.read(life.utc_of(edge)), offset_us, bound_us)
+        self.assertEqual(life.keeper.stamp(time_us), stamp)
+        true_us = (time_us - life.FIRST_US) * 1_000_000 / life.SECOND_US
+        self.assertLess(abs(1_000_000 * edge + offset_us - true_us), bound_us)
+
+    def try_stamps(self, life: Life, edge: int) -> None:
+        """Of events behind an edge that was told just now, before it, and too far off."""
+        told_us, before_us = life.told_us(edge), life.told_us(edge - 1)
+        is_announced = life.expected(edge).is_announced
+        was_announced = edge > 1 and life.expected(edge - 1).is_announced
+        if is_announced:
+            most_us = 1_000_000 + VOTE_US + life.DRIFT_US * life.expected(edge).held
+            for offset_us in (0, 250_000, most_us):
+                self.stamp_is(life, told_us + offset_us, edge)
+            self.assertIsNone(life.keeper.stamp(told_us + most_us + 1))
+        if was_announced:
+            self.stamp_is(life, told_us - 1, edge - 1)
+            self.stamp_is(life, before_us, edge - 1)
+        if not is_announced and not was_announced:
+            self.assertIsNone(life.keeper.stamp(told_us))
+        self.assertIsNone(life.keeper.stamp(before_us - 1))
+
+    def test_each_second(self) -> None:
+        life, edge = Life(), 0
+        for edge, beat in enumerate(life.beats(), 1):
+            with self.subTest(edge):
+                self.try_beat(life, edge, beat)
+                self.try_stamps(life, edge)
+        self.assertEqual(edge, Life.END)
+
+    def test_a_copy_lives_on(self) -> None:
+        """Each copy of a timekeeper goes on as the timekeeper would, in light and in darkness."""
+        life = Life()
+        for edge, beat in enumerate(life.beats(), 1):
+            self.try_beat(life, edge, beat)
+            life.keeper = pickle.loads(pickle.dumps(copy.copy(life.keeper)))
+            if edge == 100:
+                break
+        self.assertEqual(edge, 100)
+
+
+class Ticks(unittest.TestCase):
+    def voted(self, ports: int = 3) -> Timekeeper:
+        """A timekeeper that has told edge 0, which was voted."""
+        keeper = Timekeeper(1, 20, drift_us=50, ports=ports)
+        hear_frame(keeper, FRAME, -1_000_000, *range(ports))
+        self.assertEqual(str(told(keeper, 0)), "2017-01-01T00:00:00Z locked voted")
+        return keeper
+
+    def test_a_frame(self) -> None:
+        for ports in (1, 3, 5):
+            for start_us in (0, 5_000_000, WRAP - 500_000, 7 * WRAP - 10):
+                with self.subTest(ports=ports, start_us=start_us):
+                    keeper = Timekeeper(lock_after=1, drift_us=0, ports=ports)
+                    hear_frame(keeper, FRAME, start_us, *range(ports))
+                    end_us = start_us + 1_000_000
+                    self.assertEqual(keeper.wait(end_us - 77), 77)
+                    self.assertIsNone(keeper.tick(end_us - 1))
+                    beat = told(keeper, end_us + 95_000)
+                    self.assertEqual(str(beat), "2017-01-01T00:00:00Z locked voted")
+                    self.assertEqual(beat.edge_us, end_us % WRAP)
+                    self.assertEqual(beat.report.agreed, tuple(range(ports)))
+
+    def test_how_lines_stand(self) -> None:
+        keeper = Timekeeper(lock_after=1, drift_us=10, ports=5)
+        hear_frame(keeper, FRAME, 0, 0, 2, 4)
+        hear_frame(keeper, irig.frame("2017-01-01T01:00:00Z"), 0, 1)
+        hear_frame(keeper, irig.frame("2016-12-31T23:59:60Z", parity="odd"), 0, 3)
+        report = told(keeper, 1_000_000).report
+        self.assertEqual((report.agreed, report.differed), ((0, 2, 4), (1,)))
+        self.assertEqual((report.faulty, report.poor), ((3,), ()))
+
+    def test_two_lines_that_lie_apart(self) -> None:
+        """More than a millisecond apart they do not agree."""
+        for late_us, is_told in ((1000, True), (1001, False)):
+            keeper = Timekeeper(lock_after=1, drift_us=10)
+            hear_frame(keeper, FRAME, 0, 0)
+            hear_frame(keeper, FRAME, late_us, 1)
+            self.assertEqual(keeper.tick(1_000_000 + late_us) is not None, is_told)
+
+    def test_nothing_twice(self) -> None:
+        keeper = self.voted()
+        for now_us in (0, 1, 1_004_999):
+            self.assertIsNone(keeper.tick(now_us))
+        self.assertEqual(keeper.wait(4_999), 1_000_001)
+        self.assertEqual(str(keeper.tick(1_005_000)), "2017-01-01T00:00:01Z holdover:1 held")
+        self.assertIsNone(keeper.tick(1_005_000))
+
+    def test_missed_seconds(self) -> None:
+        keeper = self.voted()
+        beat = told(keeper, 3_500_000)
+        self.assertEqual(str(beat), "2017-01-01T00:00:03Z holdover:3 held")
+        self.assertEqual((beat.edge_us, beat.missed, beat.moved), (3_000_000, 2, 0))
+        beat = told(keeper, 24_500_000)
+        self.assertEqual(str(beat), "- unlocked no-vote")
+        self.assertEqual((beat.edge_us, beat.missed), (24_000_000, 20))
+
+    def test_a_leap_table(self) -> None:
+        """Frames said nothing of the leap second."""
+        known = {"until": "2017-06-30", "leaps": [irig.Leap("2016-12-31")]}
+        keeper = Timekeeper(lock_after=1, drift_us=7, **known)
+        hear_frame(keeper, irig.frame("2016-12-31T23:58:59Z"), 0, 0, 1, 2)
+        self.assertEqual(str(told(keeper, 1_000_000)), "2016-12-31T23:59:00Z locked voted")
+        beat = told(keeper, 61_500_000)
+        self.assertEqual(str(beat), "2016-12-31T23:59:60Z holdover:60 held")
+        self.assertEqual((beat.edge_us, beat.missed), (61_000_000, 59))
+        stamp = Stamp(Second.read("2016-12-31T23:59:60Z"), 500_000, VOTE_US + 60 * 7)
+        self.assertEqual(keeper.stamp(61_500_000), stamp)
+
+    def test_profiles(self) -> None:
+        coded = irig.decode(irig.frame("2016-12-31T12:00:00Z", local=2, sense="subtract"))
+        other = irig.with_parity(irig.encode(replace(coded, sbs=coded.sbs + 1)), "odd")
+        for sbs, is_true in (("check", False), ("ignore", True)):
+            keeper = Timekeeper(1, drift_us=10, parity="odd", sense="subtract", sbs=sbs)
+            hear_frame(keeper, other, 0, 0, 1, 2)
+            beat = keeper.tick(1_000_000)
+            said = "2016-12-31T12:00:01Z locked voted" if is_true else "None"
+            self.assertEqual(str(beat), said)
+
+    def test_nothing_was_heard(self) -> None:
+        keeper = Timekeeper(drift_us=100)
+        self.assertEqual(keeper.wait(77), 1_000_000)
+        self.assertIsNone(keeper.tick(77))
+        self.assertIsNone(keeper.stamp(77))
+
+    def test_restart(self) -> None:
+        keeper = self.voted()
+        self.assertEqual(keeper.stamp(5), Stamp(Second.read("2017-01-01T00:00:00Z"), 5, VOTE_US))
+        keeper.restart()
+        self.assertEqual(keeper, Timekeeper(1, 20, drift_us=50))
+        self.assertIsNone(keeper.stamp(5))
+
+    def test_a_line_that_is_stuck(self) -> None:
+        keeper = self.voted()
+        twin = copy.copy(keeper)
+        for width_us in (500_000, WRAP - 1):
+            self.assertEqual(keeper.hear(0, 0, width_us), 0)
+        self.assertEqual(keeper, twin)
+
+
+class Refusals(unittest.TestCase):
+    def says(self, says: str, number: int = 26, **words: object) -> None:
+        with self.subTest(words), self.assertRaises(irig.Fault) as caught:
+            Timekeeper(**words)
+        self.assertEqual(caught.exception.number, number)
+        self.assertEqual(str(caught.exception), says)
+
+    def test_setups(self) -> None:
+        for ports in (1, 3, 5):
+            self.assertEqual(
+                repr(Timekeeper(60, 1_000_000, drift_us=0, ports=ports)),
+                f"Timekeeper(lock_after=60, holdover=1000000, drift_us=0, ports={ports})",
+            )
+        for words, says in (
+            ({"lock_after": 0}, "lock_after is 0; 1 to 60 may stand here"),
+            ({"holdover": 1_000_001}, "holdover is 1000001; 0 to 1000000 may stand here"),
+            ({"ports": 4}, "ports is 4; 1, 3 or 5 may stand here"),
+            ({"parity": "none"}, "parity is 'none'; even or odd may stand here"),
+            ({"drift_us": -1}, "drift_us is -1; 0 to 100 may stand here"),
+            ({"drift_us": 101}, "drift_us is 101; 0 to 100 may stand here"),
+            ({"drift_us": WRAP + 1}, "drift_us is 4294967297; 0 to 100 may stand here"),
+        ):
+            self.says(f"26 Value: {says}", **{"drift_us": 10, **words})
+        self.assertRaisesRegex(TypeError, "drift_us", Timekeeper)
+        self.assertRaisesRegex(TypeError, "drift_us is 2.5; a whole", Timekeeper, drift_us=2.5)
+
+    def test_a_holdover_that_is_too_long(self) -> None:
+        says = (
+            "35 Drift: a holdover longer than a timekeeper's counter can count:"
+            " (holdover + 2) * drift_us is above 490,000"
+        )
+        for drift_us, most in ((100, 4_898), (40, 12_248), (10, 48_998), (1, 489_998)):
+            self.assertEqual(Timekeeper(2, most, drift_us=drift_us).holdover, most)
+            self.says(says, 35, holdover=most + 1, drift_us=drift_us)
+
+    def test_tables(self) -> None:
+        for number, until, leaps in (
+            (31, "2099-12-31", []),
+            (33, "2030-01-01", [irig.Leap("2016-12-30")]),
+            (34, "2030-01-01", [irig.Leap("2016-12-31"), irig.Leap("2016-12-31", "delete")]),
+        ):
+            with self.subTest(number), self.assertRaises(irig.Fault) as caught:
+                Timekeeper(drift_us=10, until=until, leaps=leaps)
+            self.assertEqual(caught.exception.number, number)
+
+    def test_calls(self) -> None:
+        keeper, most = Timekeeper(drift_us=10), "0 to 4294967295 may stand here"
+        for line in (3, 5, 255, 256, -1):
+            says = f"line is {line}; 0 to 2 may stand here"
+            self.assertRaisesRegex(irig.Fault, says, keeper.hear, line, 0, 8000)
+        for width_us in (-1, WRAP):
+            says = f"width_us is {width_us}; {most}"
+            self.assertRaisesRegex(irig.Fault, says, keeper.hear, 0, 0, width_us)
+        self.assertRaisesRegex(TypeError, "line is '0'; a whole", keeper.hear, "0", 5, 2000)
+        self.assertRaisesRegex(TypeError, "rise_us is 0.5; a whole", keeper.hear, 0, 0.5, 2000)
+        for call, what in ((keeper.tick, "now"), (keeper.wait, "now"), (keeper.stamp, "time")):
+            self.assertRaisesRegex(TypeError, f"{what}_us is None; a whole number", call, None)
+        self.assertEqual(keeper, Timekeeper(drift_us=10))
+        self.assertRaises(irig.Fault, Timekeeper(drift_us=10, ports=1).hear, 1, 0, 8000)
+
+
+class Copies(unittest.TestCase):
+    """A timekeeper is its numbers."""
+
+    def halfway(self) -> Timekeeper:
+        """A timekeeper that has heard sixty pulses of each line."""
+        keeper = Timekeeper(lock_after=1, drift_us=10)
+        for element, width in enumerate(irig.widths(FRAME)[:60]):
+            for line in range(3):
+                keeper.hear(line, 10_000 * element, width)
+        return keeper
+
+    def test_copies_go_on_alone(self) -> None:
+        keeper = self.halfway()
+        twins = [copy.copy(keeper), copy.deepcopy(keeper), pickle.loads(pickle.dumps(keeper))]
+        self.assertEqual(twins, [keeper] * 3)
+        keeper.hear(0, 600_000, 2000)
+        for twin in twins:
+            self.assertNotEqual(twin, keeper)
+            self.assertEqual(repr(twin), repr(keeper))
+            self.assertEqual(twin.hear(1, 600_000, 2000), 61)
+        self.assertNotEqual(Timekeeper(drift_us=1), Timekeeper(drift_us=2))
+        self.assertNotEqual(Timekeeper(drift_us=1), irig.Reader())
+
+    def test_numbers_of_no_timekeeper(self) -> None:
+        form, numbers = self.halfway().__getstate__()
+        keeper = Timekeeper(drift_us=10)
+        for state in (
+            ("irig reader 3", numbers),
+            (form, numbers[:-1]),
+            (form, bytes([255]) * len(numbers)),
+            (form, bytes([numbers[0] ^ 1]) + numbers[1:]),
+        ):
+            self.assertRaises(irig.Fault, keeper.__setstate__, state)
+        self.assertEqual(keeper.__getstate__(), Timekeeper(drift_us=10).__getstate__())
+
+    def test_a_number_that_something_else_changed(self) -> None:
+        keeper = self.halfway()
+        keeper._held.lines[1].end_us += 1
+        says = "something else has changed the numbers of this timekeeper"
+        for _ in range(2):
+            self.assertRaisesRegex(irig.Fault, says, keeper.tick, 1_000_000)
+            self.assertRaisesRegex(irig.Fault, says, keeper.stamp, 1_000_000)
+            self.assertEqual(keeper.wait(1_000_000), 0)
+            keeper.restart()
+        self.assertRaisesRegex(irig.Fault, says, copy.copy, keeper)
+
+    def test_a_number_of_lines_that_is_none(self) -> None:
+        keeper = self.halfway()
+        keeper._held.setup.redundancy = 3
+        self.assertRaisesRegex(irig.Fault, "this timekeeper", keeper.hear, 0, 0, 8000)
+
+
+if __name__ == "__main__":
+    unittest.main()
