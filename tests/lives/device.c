@@ -68,10 +68,10 @@ static void say(const life *l, const told_second *s) {
     const irig_report *r = &s->report;
     uint32_t edge = edge_before(&l->world, l->judge.edge_us + SECOND_US / 2);
     printf("  %10.6f s: edge %u %+lld us, day %u second %u, lock %u:%u, cause %u, ports %u, ",
-           (double)(l->device.now_us - l->world.edge_us[0]) / 1e6, edge,
-           (long long)(l->judge.edge_us - l->world.edge_us[edge]), r->day, r->sod, r->lock,
-           r->lock_count, r->cause, r->agreed);
-    printf("%u missed, moved %u times\n", s->missed, s->moved);
+           (double)(l->device.now_us - l->world.edge_us[0]) / 1e6, (unsigned)edge,
+           (long long)(l->judge.edge_us - l->world.edge_us[edge]), (unsigned)r->day,
+           (unsigned)r->sod, r->lock, (unsigned)r->lock_count, r->cause, r->agreed);
+    printf("%u missed, moved %u times\n", (unsigned)s->missed, (unsigned)s->moved);
 }
 
 static void keep(life *l, const told_second *s) {

@@ -30,9 +30,9 @@ void print_frames(uint32_t count) {
         content what = any_content(&luck);
         bool is_odd = is_once_in(&luck, 2), is_subtracted = is_once_in(&luck, 2);
         frame f = encode(&what, is_odd, is_subtracted);
-        printf("%d %d %d %d %d %d %d %d %d ", (int)what.at.day, (int)what.at.second, what.zone,
-               what.pending, what.is_delete, what.dst_pending, what.dst,
-               is_subtracted ? what.zone : -what.zone, (int)what.quality);
+        printf("%d %d %d %d %d %d %d %d %d ", (int)what.at.day, (int)what.at.second,
+               (int)what.zone, what.pending, what.is_delete, what.dst_pending, what.dst,
+               (int)(is_subtracted ? what.zone : -what.zone), (int)what.quality);
         printf("%s ", is_odd ? "odd" : "even");
         for (unsigned element = 0; element < ELEMENTS; element++) putchar(letter_of(&f, element));
         putchar('\n');

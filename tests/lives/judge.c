@@ -17,8 +17,9 @@ void fail(judge *j, const char *form, ...) {
     va_list values;
     if (j->is_failed) return;
     j->is_failed = true;
-    int begun = snprintf(j->text, sizeof j->text, "%.6f s behind edge %u: ",
-                         (double)(int64_t)(j->now_us - j->world->edge_us[j->come]) / 1e6, j->come);
+    double behind_us = (double)(int64_t)(j->now_us - j->world->edge_us[j->come]);
+    int begun = snprintf(j->text, sizeof j->text, "%.6f s behind edge %u: ", behind_us / 1e6,
+                         (unsigned)j->come);
     va_start(values, form);
     vsnprintf(j->text + begun, sizeof j->text - (size_t)begun, form, values);
     va_end(values);

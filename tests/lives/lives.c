@@ -20,7 +20,6 @@
 #include "plan.h"
 #include "rows.h"
 
-#include <inttypes.h>
 #include <stdio.h>
 #include <stdlib.h>
 #include <string.h>
@@ -46,6 +45,11 @@ static const subject *const SUBJECTS[] = {
     &old_capture_subject,
 };
 
+/* As all boards can print it: no number here comes to 2^32. */
+static unsigned long plain(uint64_t number) {
+    return (unsigned long)number;
+}
+
 /* ---- lives */
 
 static void add(counts *all, const counts *more) {
@@ -69,10 +73,10 @@ static void say_failed(const options *o, uint64_t number) {
     static const char *const PACES_SAID[] = {"by wait",       "by polls",  "at random",
                                              "before pulses", "with gaps", "around edges"};
     const life *l = &one;
-    printf("failed: --seed %" PRIu64 " --life %" PRIu64 ": %s\n", o->seed, number, l->judge.text);
+    printf("failed: --seed %lu --life %lu: %s\n", plain(o->seed), plain(number), l->judge.text);
     printf("  %u lines, lock_after %u, holdover %u, drift %u us, %u s, ticks %s\n", l->sky.lines,
-           l->setup.lock_after, l->setup.holdover, l->world.drift_us, l->world.seconds,
-           PACES_SAID[l->device.pace]);
+           (unsigned)l->setup.lock_after, (unsigned)l->setup.holdover, (unsigned)l->world.drift_us,
+           (unsigned)l->world.seconds, PACES_SAID[l->device.pace]);
 }
 
 /* Whether a life goes as it has to. */
@@ -106,11 +110,11 @@ static void play_lives(const options *o, counts *all, uint64_t *passed, uint64_t
 }
 
 static void say(const char *what, uint64_t number) {
-    printf("  %-34s %" PRIu64 "\n", what, number);
+    printf("  %-34s %lu\n", what, plain(number));
 }
 
 static void say_counts(const options *o, const counts *all) {
-    printf("%s, seed %" PRIu64 "\n", o->subject->name, o->seed);
+    printf("%s, seed %lu\n", o->subject->name, plain(o->seed));
     say("seconds in which a line sends", all->lit);
     say("pulses", all->pulses);
     say("ticks", all->ticks);
@@ -124,8 +128,8 @@ static void say_counts(const options *o, const counts *all) {
     say("ends of a holdover", all->causes[IRIG_CAUSE_EXPIRED]);
     say("leap guards", all->causes[IRIG_CAUSE_LEAP_GUARD]);
     say("ends of the range", all->causes[IRIG_CAUSE_RANGE_END]);
-    printf("  edges of votes, off by             %" PRId64 " to %" PRId64 " us\n", all->earliest,
-           all->latest);
+    printf("  edges of votes, off by             %ld to %ld us\n", (long)all->earliest,
+           (long)all->latest);
 }
 
 /* ---- what is wrong with a model */
@@ -146,8 +150,8 @@ static void find_wrongs(options *o, uint64_t *passed, uint64_t *failed) {
         uint64_t right = 0, rows = 0, number;
         play_rows(&one, o->subject, NULL, false, &right, &rows);
         bool is_found = is_found_by_lives(o, &number);
-        printf("%s: %" PRIu64 " rows", WRONG_NAMES[model_wrong], rows);
-        if (is_found) printf(", life %" PRIu64 ": %s", number, one.judge.text);
+        printf("%s: %lu rows", WRONG_NAMES[model_wrong], plain(rows));
+        if (is_found) printf(", life %lu: %s", plain(number), one.judge.text);
         printf("\n");
         if (is_found || rows > 0) (*passed)++;
         else (*failed)++;
@@ -226,6 +230,6 @@ int main(int count, char **words) {
     } else {
         compare_frames(FRAMES_COMPARED, &passed, &failed);
     }
-    printf("%" PRIu64 " passed, %" PRIu64 " failed\n", passed, failed);
+    printf("%lu passed, %lu failed\n", plain(passed), plain(failed));
     return failed > 0;
 }
