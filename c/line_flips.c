@@ -1,13 +1,14 @@
-/* Each single bit of the irig_sync of a device of one line, flipped behind each element of a frame:
- * examples/capture.c, with LINES=1, announces no second elsewhere than at its edge. It prints how many
- * flips were tried. */
+/* Each single bit of the line of a device of one line, flipped behind each third element of a frame:
+ * examples/capture.c, with LINES=1, announces no second elsewhere than at its edge, and begins afresh.
+ * It prints how many flips were tried. */
 #define LINES 1
 #include "examples/capture.c"
 
 #include <stdio.h>
 #include <stdlib.h>
 
-enum { ELEMENTS = 100, SECONDS = 12, FLIP_SECOND = 6, SYNC_BITS = 8 * sizeof(irig_sync) };
+enum { SECOND_US = 1000000, ELEMENT_US = 10000, NEAR_US = 5000 };
+enum { ELEMENTS = 100, EVERY = 3, SECONDS = 12, FLIP_SECOND = 6, BITS = 8 * sizeof(irig_line) };
 
 static const irig_utc first = {9696, 100};
 static uint32_t widths_us[SECONDS][ELEMENTS];
@@ -18,20 +19,21 @@ static int flip_element, flip_bit, announced;
 
 uint32_t timer_now(void) { return now_us; }
 
+/* What has come already is due at once. */
 void compare_at(uint32_t time_us) {
-    due_us = time_us;
+    due_us = now_us - time_us <= UINT32_MAX / 2 ? now_us : time_us;
     is_due = true;
 }
 
 /* A frame ends where the next second begins. */
-void on_second(const irig_report *report, uint32_t edge_us) {
+void on_second(const irig_second *second) {
+    const irig_report *report = &second->report;
     uint32_t true_us = first_edge_us + (report->sod - first.sod) * SECOND_US;
-    (void)edge_us;
     if (!report->announces) return;
     announced++;
-    if (are_near(now_us, true_us, PATIENCE_US)) return;
+    if (second->edge_us == true_us && now_us - true_us <= NEAR_US) return;
     printf("bit %d behind element %d: %ld us beside the edge\n", flip_bit, flip_element,
-           (long)(int32_t)(now_us - true_us));
+           (long)(int32_t)(second->edge_us - true_us));
     exit(1);
 }
 
@@ -56,7 +58,7 @@ static void play_second(int second) {
         pulse(first_edge_us + (uint32_t)second * SECOND_US + (uint32_t)element * ELEMENT_US,
               widths_us[second][element]);
         if (second == FLIP_SECOND && element == flip_element)
-            ((uint8_t *)&sync[0])[flip_bit / 8] ^= (uint8_t)(1u << flip_bit % 8);
+            ((uint8_t *)&timekeeper.lines[0])[flip_bit / 8] ^= (uint8_t)(1u << flip_bit % 8);
     }
 }
 
@@ -67,9 +69,9 @@ static void play(void) {
     first_edge_us = now_us + SECOND_US;
     is_due = false;
     announced = 0;
-    if (capture_init(&wanted, &none) != IRIG_DONE) exit(2);
+    if (capture_init(&wanted, &none, 100) != IRIG_DONE) exit(2);
     for (int second = 0; second < SECONDS; second++) play_second(second);
-    if (announced < SECONDS - 3) exit(2);
+    if (announced < SECONDS - 5) exit(2);
 }
 
 static void make_widths(void) {
@@ -84,9 +86,10 @@ static void make_widths(void) {
 }
 
 int main(void) {
+    int flips = 0;
     make_widths();
-    for (flip_bit = 0; flip_bit < (int)SYNC_BITS; flip_bit++)
-        for (flip_element = 0; flip_element < ELEMENTS; flip_element++) play();
-    printf("lines: %d bits flipped, each second at its edge\n", (int)SYNC_BITS * ELEMENTS);
+    for (flip_bit = 0; flip_bit < (int)BITS; flip_bit++)
+        for (flip_element = 0; flip_element < ELEMENTS; flip_element += EVERY, flips++) play();
+    printf("lines: %d bits flipped, each second at its edge\n", flips);
     return 0;
 }

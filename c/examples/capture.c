@@ -1,97 +1,26 @@
-/* A reader behind three lines of IRIG-B, or five, or one, as the interrupts of a microcontroller:
- * pulses are measured, frames are found, and the reader is ticked at each edge. docs/WIRES.md says
- * where a tick belongs.
- *
- * A tick belongs at the edge itself, when each line has ended a frame and none has a pulse of the
- * next. If more than half of the lines end a frame within a millisecond, it is the earliest of their
- * edges, of one line its own; if not, it is a second after the last by the board's own clock, and
- * the tick comes 5 ms late, since lines that do come are earlier. A clock that has been set believes
- * an edge far from its own only if it comes twice: a bit that flips in an irig_sync makes one. */
+/* A timekeeper behind three lines of IRIG-B, or five, or one, as the interrupts of a microcontroller:
+ * pulses are measured and told, and it is ticked when it has something to do. docs/WIRES.md says what
+ * it promises. */
 #include "capture.h"
-
-static const uint32_t SECOND_US = 1000000;
-static const uint32_t ELEMENT_US = 10000;
-static const uint32_t AGREE_US = 1000;
-static const uint32_t PATIENCE_US = 5000;
-static const uint32_t FAR_US = 5000;
 
 static irig_setup setup;
 static irig_table table;
-static irig_reader reader;
-static irig_sync sync[LINES];
-static uint32_t rise_us[LINES];      /* the leading edge of the pulse that a line has now */
-static uint32_t frame_end_us[LINES]; /* where the frame ends that a line has heard whole */
-static bool has_frame[LINES];        /* since the last tick */
-static bool has_edge;                /* the lines have agreed on one since the last tick */
-static bool is_set;                  /* the board's clock goes by an edge of the lines */
-static bool has_far_edge;            /* they have agreed on one far from it, */
-static uint32_t far_edge_us;         /* here */
-static uint32_t last_edge_us;
-static uint32_t next_edge_us;
+static uint32_t drift_us;
+static irig_timekeeper timekeeper;
+static uint32_t rise_us[LINES]; /* the leading edge of the pulse that a line has now */
 
-/* Asks for a tick at an edge, so much later than it. */
-static void tick_at(uint32_t edge_us, uint32_t wait_us) {
-    next_edge_us = edge_us;
-    compare_at(edge_us + wait_us);
+/* Asks for the next tick. Pulses were told up to this time. */
+static void ask(uint32_t now_us) {
+    compare_at(now_us + irig_timekeeper_wait(&timekeeper, now_us));
 }
 
-uint32_t capture_init(const irig_setup *wanted, const irig_table *known) {
+uint32_t capture_init(const irig_setup *wanted, const irig_table *known, uint32_t most_drift_us) {
     setup = *wanted;
     table = *known;
-    has_edge = is_set = has_far_edge = false;
-    for (int line = 0; line < LINES; line++) {
-        irig_sync_init(&sync[line]);
-        has_frame[line] = false;
-    }
-    compare_at(timer_now() + SECOND_US);
-    /* So that the first edge on which lines agree is one. */
-    last_edge_us = timer_now() - SECOND_US;
-    return irig_reader_init(&reader, &setup, &table);
-}
-
-/* Whether two times lie so near each other. */
-static bool are_near(uint32_t one_us, uint32_t other_us, uint32_t most_us) {
-    return one_us - other_us + most_us <= 2 * most_us;
-}
-
-/* Whether more than half of the lines end a frame within a millisecond of this one. Their edge is the
- * earliest of theirs: no line has then begun its next frame. */
-static bool is_agreed(uint8_t line, uint32_t *edge_us) {
-    int agreed = 0;
-    *edge_us = frame_end_us[line];
-    for (int other = 0; other < LINES; other++) {
-        if (!has_frame[other] || !are_near(frame_end_us[line], frame_end_us[other], AGREE_US))
-            continue;
-        agreed++;
-        if (frame_end_us[other] - *edge_us > UINT32_MAX / 2) *edge_us = frame_end_us[other];
-    }
-    return agreed > LINES / 2;
-}
-
-/* Whether an edge is that of this clock, or comes a second behind one that was as far from it. */
-static bool is_believed(uint32_t edge_us) {
-    bool is_own = are_near(edge_us, last_edge_us, FAR_US) ||
-                  are_near(edge_us, last_edge_us + SECOND_US, FAR_US);
-    bool is_second = has_far_edge && are_near(edge_us, far_edge_us + SECOND_US, AGREE_US);
-    has_far_edge = !is_own;
-    far_edge_us = edge_us;
-    return !is_set || is_own || is_second;
-}
-
-/* A frame has been heard whole: its last pulse has ended, and its edge comes in two milliseconds. */
-static void on_frame(uint8_t line) {
-    uint32_t edge_us;
-    frame_end_us[line] = rise_us[line] + ELEMENT_US;
-    has_frame[line] = true;
-    if (has_edge || !is_agreed(line, &edge_us) || !is_believed(edge_us)) return;
-    has_edge = is_set = true;
-    if (edge_us - last_edge_us > SECOND_US / 2) {
-        tick_at(edge_us, 0);
-    } else {
-        /* This clock has ticked for that edge already. The lines say where it was. */
-        last_edge_us = edge_us;
-        tick_at(last_edge_us + SECOND_US, PATIENCE_US);
-    }
+    drift_us = most_drift_us;
+    uint32_t answer = irig_timekeeper_init(&timekeeper, &setup, &table, drift_us);
+    if (answer == IRIG_DONE) ask(timer_now());
+    return answer;
 }
 
 void on_capture(uint8_t line, bool is_high, uint32_t time_us) {
@@ -100,25 +29,16 @@ void on_capture(uint8_t line, bool is_high, uint32_t time_us) {
         return;
     }
     uint32_t width_us = time_us - rise_us[line];
-    if (irig_reader_hear(&reader, &sync[line], line, rise_us[line], width_us) == 100)
-        on_frame(line);
-}
-
-/* An edge. */
-static void tick(void) {
-    irig_report report = {.lock = IRIG_LOCK_UNLOCKED, .cause = IRIG_CAUSE_NO_VOTE};
-    last_edge_us = next_edge_us;
-    has_edge = false;
-    for (int line = 0; line < LINES; line++) has_frame[line] = false;
-    /* If something else has changed its numbers, it announces nothing, and begins afresh. */
-    if (irig_reader_tick(&reader, &report) != IRIG_DONE)
-        irig_reader_init(&reader, &setup, &table);
-    on_second(&report, last_edge_us);
-    tick_at(last_edge_us + SECOND_US, PATIENCE_US);
+    /* Behind the last pulse of a frame there may be less to wait. */
+    if (irig_timekeeper_hear(&timekeeper, line, rise_us[line], width_us) == 100) ask(time_us);
 }
 
 void on_compare(void) {
-    for (int line = 0; line < LINES; line++) irig_sync_idle(&sync[line], timer_now());
-    if (is_set) tick();
-    else compare_at(timer_now() + SECOND_US);
+    irig_second second;
+    uint32_t now_us = timer_now();
+    /* If something else has changed its numbers, it announces nothing, and begins afresh. */
+    if (irig_timekeeper_tick(&timekeeper, now_us, &second) != IRIG_DONE)
+        irig_timekeeper_init(&timekeeper, &setup, &table, drift_us);
+    else if (second.is_told) on_second(&second);
+    ask(now_us);
 }

@@ -1,6 +1,6 @@
 /* A board for capture.c without hardware: it plays changes of lines from its standard input, a row
- * for each as `time_us level level level`, and prints what the reader says at each edge, as a line
- * of a log. tests/waves.py makes such rows of a scenario.
+ * for each as `time_us level level level`, and prints what is said of each second, as a line of a
+ * log. tests/waves.py makes such rows of a scenario.
  *
  * The words are `lock_after` and `holdover`; then, of a reader with a leap table, its last day, and
  * the day of each inserted leap second, counted from 2000-01-01. */
@@ -16,15 +16,17 @@ static unsigned edges;
 
 uint32_t timer_now(void) { return now_us; }
 
+/* What has come already is due at once. */
 void compare_at(uint32_t time_us) {
-    due_us = time_us;
+    bool is_past = now_us - time_us <= UINT32_MAX / 2;
+    due_us = is_past ? now_us : time_us;
     is_due = true;
 }
 
-void on_second(const irig_report *report, uint32_t edge_us) {
+void on_second(const irig_second *second) {
+    const irig_report *report = &second->report;
     char text[21] = "-";
     char count[12] = "";
-    (void)edge_us;
     if (report->announces) irig_second_write(&(irig_utc){report->day, report->sod}, text);
     if (report->lock_count > 0) snprintf(count, sizeof count, ":%u", (unsigned)report->lock_count);
     printf("%u relay %s %s%s %s\n", ++edges, text, irig_lock_name(report->lock), count,
@@ -62,7 +64,7 @@ static bool play_row(void) {
     return true;
 }
 
-/* A reader with a port for each line. */
+/* A timekeeper of so many lines. */
 static uint8_t redundancy(void) {
     return LINES == 1 ? IRIG_PORTS_ONE : LINES == 3 ? IRIG_PORTS_THREE : IRIG_PORTS_FIVE;
 }
@@ -79,7 +81,7 @@ int main(int count, char **words) {
     if (count > 3) table.until = (uint32_t)atoi(words[3]);
     for (int word = 4; word < count; word++)
         table.leaps[table.len++].day = (uint32_t)atoi(words[word]);
-    if (capture_init(&setup, &table) != IRIG_DONE) return 2;
+    if (capture_init(&setup, &table, 0) != IRIG_DONE) return 2;
     while (play_row()) {
     }
     return 0;

@@ -1,5 +1,5 @@
 """What a device would hear of recorded lines: pulses by the package's synchroniser, ticks by the
-rule of c/examples/capture.c, and of each line what its pulses are."""
+rule of docs/CAPTURE.md, and of each line what its pulses are."""
 from __future__ import annotations
 
 from collections import Counter
@@ -182,7 +182,7 @@ class Line:
 
 @dataclass
 class Ticks:
-    """When the reader ticks, by the rule of c/examples/capture.c. Each line has so many ports."""
+    """When the reader ticks, by the rule of docs/CAPTURE.md. Each line has so many ports."""
 
     ports: Sequence[int]
     due: float = NEVER
