@@ -60,8 +60,8 @@ void on_event(const irig_stamp *stamp);
 /* Begins, as `capture_init` does. */
 uint32_t poll_init(const irig_setup *setup, const irig_table *table, uint32_t drift_us);
 
-/* Does what there is to do. To be called each 95 ms or sooner, so that seconds are told as they begin.
- * If it comes later, up to half an hour, all that the queue has kept is told behind. */
+/* Does what there is to do. If the loop stood still, for half an hour at most, it tells one second
+ * after another, as if it had not; after longer, begin anew. */
 void poll_queue(void);
 
 #endif

@@ -1,5 +1,5 @@
 /* A timekeeper behind lines of IRIG-B as part of a main loop, which may stand still: pulses and events
- * wait in a queue. */
+ * wait in a queue. It is ticked as by interrupts, at times up to which pulses were told. */
 #include "capture.h"
 
 /* How long behind its edge a second is told at the latest. An event waits as long for its second. */
@@ -9,49 +9,70 @@ static irig_setup setup;
 static irig_table table;
 static uint32_t drift_us;
 static irig_timekeeper timekeeper;
+static uint32_t told_us; /* pulses were told up to this time */
+static uint32_t due_us;  /* when a tick has something to do */
 static bool has_event;
 static uint32_t event_us;
+
+static void ask(void) { due_us = told_us + irig_timekeeper_wait(&timekeeper, told_us); }
 
 uint32_t poll_init(const irig_setup *wanted, const irig_table *known, uint32_t most_drift_us) {
     setup = *wanted;
     table = *known;
     drift_us = most_drift_us;
     has_event = false;
-    return irig_timekeeper_init(&timekeeper, &setup, &table, drift_us);
+    uint32_t answer = irig_timekeeper_init(&timekeeper, &setup, &table, drift_us);
+    told_us = timer_now();
+    ask();
+    return answer;
 }
 
-static void tick(uint32_t time_us) {
+static void tick(void) {
     irig_second second;
     /* If something else has changed its numbers, it announces nothing, and begins afresh. */
-    if (irig_timekeeper_tick(&timekeeper, time_us, &second) != IRIG_DONE)
+    if (irig_timekeeper_tick(&timekeeper, told_us, &second) != IRIG_DONE)
         irig_timekeeper_init(&timekeeper, &setup, &table, drift_us);
     else if (second.is_told) on_second(&second);
+    ask();
 }
 
-/* Pulses were told up to this time. An event is stamped before its second is too long past. */
+/* Pulses are told up to this time, but for those that end just then. */
 static void come_to(uint32_t time_us) {
-    irig_stamp stamp;
-    if (has_event && time_us - event_us >= LATEST_US) {
-        tick(event_us + LATEST_US);
-        has_event = false;
-        if (irig_timekeeper_stamp(&timekeeper, event_us, &stamp) == IRIG_DONE) on_event(&stamp);
+    if (time_us - told_us > UINT32_MAX / 2) return; /* a little out of order */
+    while (due_us - told_us <= time_us - told_us) {
+        told_us = due_us;
+        tick();
     }
-    tick(time_us);
+    told_us = time_us;
+}
+
+static void stamp_event(void) {
+    irig_stamp stamp;
+    come_to(event_us + LATEST_US);
+    has_event = false;
+    if (irig_timekeeper_stamp(&timekeeper, event_us, &stamp) == IRIG_DONE) on_event(&stamp);
+}
+
+static void take(const queued *next) {
+    if (next->line == EVENT) {
+        if (!has_event) event_us = next->rise_us;
+        has_event = true;
+        return;
+    }
+    /* Behind the last pulse of a frame there may be less to wait. */
+    if (irig_timekeeper_hear(&timekeeper, next->line, next->rise_us, next->width_us) == 100) ask();
 }
 
 void poll_queue(void) {
     queued next;
-    for (;;) {
+    bool has_next;
+    do {
         /* The timer first: what ends behind this may be missing in the queue. */
-        uint32_t now_us = timer_now();
-        bool has_next = take_queued(&next);
-        come_to(has_next ? next.rise_us + next.width_us : now_us);
-        if (!has_next) return;
-        if (next.line != EVENT) {
-            irig_timekeeper_hear(&timekeeper, next.line, next.rise_us, next.width_us);
-        } else if (!has_event) { /* one at a time */
-            has_event = true;
-            event_us = next.rise_us;
-        }
-    }
+        uint32_t time_us = timer_now();
+        has_next = take_queued(&next);
+        if (has_next) time_us = next.rise_us + next.width_us;
+        if (has_event && time_us - event_us >= LATEST_US) stamp_event();
+        come_to(time_us);
+        if (has_next) take(&next);
+    } while (has_next);
 }
