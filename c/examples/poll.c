@@ -9,6 +9,7 @@ static irig_setup setup;
 static irig_table table;
 static uint32_t drift_us;
 static irig_timekeeper timekeeper;
+static bool has_begun;
 static uint32_t told_us; /* pulses were told up to this time */
 static uint32_t due_us;  /* when a tick has something to do */
 static bool has_event;
@@ -22,6 +23,7 @@ uint32_t poll_init(const irig_setup *wanted, const irig_table *known, uint32_t m
     drift_us = most_drift_us;
     has_event = false;
     uint32_t answer = irig_timekeeper_init(&timekeeper, &setup, &table, drift_us);
+    has_begun = answer == IRIG_DONE;
     told_us = timer_now();
     ask();
     return answer;
@@ -65,8 +67,8 @@ static void take(const queued *next) {
 
 void poll_queue(void) {
     queued next;
-    bool has_next;
-    do {
+    bool has_next = has_begun;
+    while (has_next) {
         /* The timer first: what ends behind this may be missing in the queue. */
         uint32_t time_us = timer_now();
         has_next = take_queued(&next);
@@ -74,5 +76,5 @@ void poll_queue(void) {
         if (has_event && time_us - event_us >= LATEST_US) stamp_event();
         come_to(time_us);
         if (has_next) take(&next);
-    } while (has_next);
+    }
 }
