@@ -284,11 +284,13 @@ IRIG_ASSERT((sizeof(irig_told) == 20u) && (offsetof(irig_told, fault) == 4u) &&
  * late, often or seldom, but at least once in half an hour.
  *
  * What one gets wrong unnoticed: a tick has to be told the time up to which pulses were told, and
- * not a later one. A device with a queue of pulses ticks at the end of each pulse before it tells
- * that pulse, and last at the time at which it looked into the queue. If ticks run ahead of pulses
- * by more than 4 ms, seconds are counted by the counter alone, and `moved` says so; if by 100 ms,
- * nothing is ever voted. After sleep, or if the counter stood still or was set:
- * irig_timekeeper_restart. */
+ * not a later one. Of pulses in a queue that is a time up to the end of the next one, and behind the
+ * last of them the time at which the loop looked into the queue. What counts is the time that a tick
+ * is told: a loop that stood still ticks behind, between the pulses, at each time that
+ * irig_timekeeper_wait names or each 95 ms, and misses no second (c/examples/poll.c). If ticks run
+ * ahead of pulses by more than 4 ms, seconds are counted by the counter alone, which `moved` and
+ * `missed` show if they come again and again; if by 100 ms, nothing is ever voted. After sleep, or
+ * if the counter stood still or was set: irig_timekeeper_restart. */
 
 /* A line of a timekeeper. */
 typedef struct irig_line {
@@ -338,7 +340,8 @@ IRIG_ASSERT((sizeof(irig_timekeeper) == 936u) && (offsetof(irig_timekeeper, stat
 /* What a tick of a timekeeper says. */
 typedef struct irig_second {
     uint8_t is_told;    /* 1 if a second was counted; 0 if there is nothing to tell, then all zeros */
-    uint32_t edge_us;   /* where it begins; never ahead of the tick */
+    uint32_t edge_us;   /* where it begins, never ahead of the tick; the timekeeper's last.bound_us
+                           says how far off, if it is announced */
     uint32_t missed;    /* seconds that passed untold before it, as no tick came */
     uint32_t moved;     /* how often lines moved the edge since the second that was told before */
     irig_report report; /* masks, quality and zone by the last whole frame of each line */
@@ -496,10 +499,10 @@ uint32_t irig_reader_port(const irig_reader *reader, uint8_t port, irig_told *to
 uint32_t irig_timekeeper_init(irig_timekeeper *timekeeper, const irig_setup *setup,
                               const irig_table *table, uint32_t drift_us);
 
-/* A pulse on a line, 0 to 2 of three, 0 to 4 of five, 0 of one, once it has ended and at most half a
- * second after it rose, in order of time: its place, as irig_sync_pulse answers it. A width of
- * 500,000 us or more is no pulse, the line is stuck: 0, and nothing changes. IRIG_NO_PORT. Behind a
- * place of 100 there may be less to wait. */
+/* A pulse on a line, 0 to 2 of three, 0 to 4 of five, 0 of one, once it has ended, in order of time,
+ * and before any tick of half a second or more after it rose: its place, as irig_sync_pulse answers
+ * it. A width of 500,000 us or more is no pulse, the line is stuck: 0, and nothing changes.
+ * IRIG_NO_PORT. Behind a place of 100 there may be less to wait. */
 uint8_t irig_timekeeper_hear(irig_timekeeper *timekeeper, uint8_t line, uint32_t rise_us,
                              uint32_t width_us);
 
@@ -518,13 +521,14 @@ uint8_t irig_timekeeper_hear(irig_timekeeper *timekeeper, uint8_t line, uint32_t
 uint32_t irig_timekeeper_tick(irig_timekeeper *timekeeper, uint32_t now_us, irig_second *second);
 
 /* How long until a tick has something to do, in microseconds, if no call comes before it: 0 if one at
- * once has, at most 1,005,000 unless `now_us` lies before the last edge. 0 where a tick would be
- * refused. */
+ * once has, at most 1,005,000 unless `now_us` lies before the last edge. Behind a tick at `now_us`
+ * that was not refused it is above 0. 0 where a tick would be refused. */
 uint32_t irig_timekeeper_wait(const irig_timekeeper *timekeeper, uint32_t now_us);
 
-/* The time of an event, by the second that was told last if it lies behind that one's edge, else by
- * the one before; these have to be announced, and the event at most a second and the error of the
- * edge behind them. IRIG_FAULT_VALUE, also where a tick would be refused. */
+/* The time of an event, by the second that was told last if it lies behind that one's edge, as it was
+ * told, else by the one before; these have to be announced, and the event at most a second and the
+ * error of the edge behind them. Ask behind ticks of 5 ms to a second after the event: its own second
+ * is told then, and no two after it. IRIG_FAULT_VALUE, also where a tick would be refused. */
 uint32_t irig_timekeeper_stamp(const irig_timekeeper *timekeeper, uint32_t time_us,
                                irig_stamp *stamp);
 
