@@ -9,7 +9,7 @@ use Rattle.irig_port.specs.Heard.{symbols_heard}
 use Rattle.irig_plant.specs.declared.event.Event.{Event}
 use Rattle.irig_plant.specs.declared.event.Event.TheVariants.{Carry}
 use Rattle.irig_plant.specs.declared.plant.Plant.{Plant}
-use Rattle.irig_plant.specs.declared.ticked_reader.TickedReader.{TickedReader}
+use Rattle.irig_plant.specs.declared.plant.TickedReader.{TickedReader}
 use Rattle.irig_plant.specs.Schedule.{Setup, delivery, delivery_of, pulses_sent, heard_at, history_of}
 use Rattle.irig_plant.specs.History.{PlantHistory, HasPlantHistory, with_event, IsTickedReaderAt}
 use Rattle.irig_plant.proofs.StepLaws.{delivers, heard_is, cached_port_after}

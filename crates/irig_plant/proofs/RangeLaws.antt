@@ -5,7 +5,7 @@ use Rattle.std.proofs.lemmas.List.{get_or_default}
 use Rattle.irig_port.specs.declared.port.Port.{Ghosts}
 use Rattle.irig_reader.specs.declared.rules.ReaderRules.{ReaderRules}
 use Rattle.irig_plant.specs.declared.setup.ReaderSetup.{ReaderSetup}
-use Rattle.irig_plant.specs.declared.ticked_reader.TickedReader.{TickedReader}
+use Rattle.irig_plant.specs.declared.plant.TickedReader.{TickedReader}
 use Rattle.irig_plant.specs.declared.plant.Plant.{Plant}
 use Rattle.irig_plant.specs.Schedule.{no_reader, setup_at}
 use Rattle.irig_plant.specs.History.{PlantHistory, HasPlantHistory, IsTickedReaderAt}

@@ -11,7 +11,7 @@ use Rattle.irig_reader.specs.Readers.{HasReaderHistory}
 use Rattle.irig_plant.specs.declared.event.Event.{Event}
 use Rattle.irig_plant.specs.declared.entry.Entry.{Entry}
 use Rattle.irig_plant.specs.declared.setup.ReaderSetup.{ReaderSetup}
-use Rattle.irig_plant.specs.declared.ticked_reader.TickedReader.{TickedReader}
+use Rattle.irig_plant.specs.declared.plant.TickedReader.{TickedReader}
 use Rattle.irig_plant.specs.declared.told_log.ToldEntry.{ToldEntry}
 use Rattle.irig_plant.specs.declared.plant.Plant.{Plant}
 use Rattle.irig_vote.specs.Vote.{redundancy_of}

@@ -15,11 +15,9 @@ mod event;
 mod fault;
 mod laws;
 mod laws_of_edges;
-mod laws_of_health;
 mod plant;
 mod pulses;
 mod setup;
-mod ticked_reader;
 mod told_log;
 mod truth;
 
@@ -31,10 +29,11 @@ pub use laws::{
     announcements_agree, announcements_are_true, announcements_tell_their_lock,
     announces_exactly_when_held, audit_is_kept, broken_ports, damaged_pulses_are_never_untrue,
     edges_are_voted, equal_hearing, equal_logs, harmless, healthy_carries_vote,
-    healthy_plants_announce, kept_logs_are_true, logs_keep_the_headline, no_false_alarms,
-    no_silent_step, premises_are_needed, readers_keep_to_the_truth, runs_are_announced,
-    silences_tell_their_cause, true_frames_tell_the_truth, true_tables, voted_ports,
-    votes_are_at_voted_edges, votes_are_true,
+    healthy_plants_announce, healthy_ports_stay_healthy, kept_logs_are_true,
+    logs_keep_the_headline, no_false_alarms, no_silent_step, premises_are_needed,
+    readers_keep_to_the_truth, runs_are_announced, silences_tell_their_cause,
+    true_frames_tell_the_truth, true_tables, voted_ports, votes_are_at_voted_edges, votes_are_true,
+    whole_carries_vote,
 };
 pub use laws_of_edges::{
     announcements_rest_on_a_vote, clean_ticks, clean_ticks_are_enough,
@@ -42,7 +41,6 @@ pub use laws_of_edges::{
     false_seconds_have_their_price, false_votes_have_their_majority, healing_takes_the_holdover,
     misled_readers_heal,
 };
-pub use laws_of_health::{healthy_ports_stay_healthy, whole_carries_vote};
 pub use plant::Plant;
 pub use setup::ReaderSetup;
 pub use told_log::ToldEntry;

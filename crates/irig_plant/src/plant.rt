@@ -11,7 +11,6 @@ use crate::entry::Entry;
 use crate::event::Event;
 use crate::fault::{PlantFault, Refused};
 use crate::setup::ReaderSetup;
-use crate::ticked_reader::TickedReader;
 use crate::told_log::{ToldEntry, ToldLog};
 use crate::truth::Truth;
 use irig_gen::Generator;
@@ -20,6 +19,13 @@ use irig_reader::Reader;
 use irig_time::{Rules, Timeline};
 use irig_vote::Redundancy;
 use std::alloc::{AllocError, Global};
+
+/// A reader, and how often it ticked.
+#[derive(Drop)]
+pub(crate) struct TickedReader<P: Port> {
+    pub reader: Reader<P>,
+    pub ticks: u64,
+}
 
 /// Generators, the readers that they feed, and what was logged of the readers.
 #[derive(Drop)]

@@ -1,5 +1,10 @@
 //! What numbers, names and the words of a log mean, in lines.
 
+ghost use Rattle.std.specs.Prelude.{◌≡◌, ◌≢◌, ◌++◌, ◌<◌, [], ℕ, Some, None, false, IfSome, IfOk, OnOk, string_bytes, option_map};
+ghost use Rattle.std.specs.Fmt.{decimal};
+ghost use Rattle.irig_faults.specs.Numbers.{is_number};
+ghost use Rattle.irig_words.specs.Numbers.{meaning_text, IsOfNumber, IsExplained};
+
 use irig_faults::{Meaning, meaning_of};
 use std::alloc::{AllocError, Global};
 
@@ -139,7 +144,11 @@ static WORDS: [Meaning; 21] = [
 /// log shows, also with what stands behind its colon, or `premises`. None if it is no such word.
 ///
 /// ASCII letters are the same in both cases. Of a name that two numbers have both are explained.
-pub fn explanation(alloc: Global, word: &str) -> Result<Option<String>, AllocError> {
+pub fn explanation(alloc: Global, word: &str) -> Result<Option<String>, AllocError>
+    ensures some { IfOk result (λ found. IfSome found (λ text. string_bytes text ≢ [])) }
+    ensures number { (n : ℕ) → n < 256 → word.now ≡ decimal n
+        → IfOk result (λ found. IsExplained n (option_map string_bytes found)) }
+{
     let mut text = String::new(alloc);
     match number_in(word) {
         Some(number) => push_number(&mut text, number)?,
@@ -163,10 +172,25 @@ fn push_named(text: &mut String, word: &str) -> Result<(), AllocError> {
 // ---- what the word is
 
 // The number that it is, or that stands in a port's word for a fault.
-fn number_in(word: &str) -> Option<u8> {
+fn number_in(word: &str) -> Option<u8>
+    ensures { (n : ℕ) → n < 256 → word.now ≡ decimal n → result ≡ Some n }
+{
+    match plain_number(word) {
+        Some(number) => Some(number),
+        None => number_in_word(word),
+    }
+}
+
+fn plain_number(word: &str) -> Option<u8>
+    ensures { (n : ℕ) → n < 256 → word.now ≡ decimal n → result ≡ Some n }
+{
+    word.parse().ok()
+}
+
+fn number_in_word(word: &str) -> Option<u8> {
     match word.split_once(':') {
         Some((kind, fault)) if kind.eq_ignore_ascii_case("fault") => number_in_fault(fault),
-        _ => word.parse().ok(),
+        _ => None,
     }
 }
 
@@ -240,7 +264,11 @@ fn is_last_word(meaning: &Meaning, word: &str) -> bool {
     matches!(meaning.name.split_once(' '), Some((_, last)) if last.eq_ignore_ascii_case(word))
 }
 
-fn push_number(text: &mut String, number: u8) -> Result<(), AllocError> {
+fn push_number(text: &mut String, number: u8) -> Result<(), AllocError>
+    ensures none { is_number number ≡ false → OnOk result (string_bytes text.new ≡ string_bytes text.old) }
+    ensures number { string_bytes text.old ≡ [] → is_number number ≢ false
+        → OnOk result (IsOfNumber number (string_bytes text.new)) }
+{
     match meaning_of(number) {
         Some(meaning) => {
             write!(text, "{number} ")?;
@@ -250,7 +278,10 @@ fn push_number(text: &mut String, number: u8) -> Result<(), AllocError> {
     }
 }
 
-fn push_meaning(text: &mut String, meaning: &Meaning) -> Result<(), AllocError> {
+#[tactic(auto, unfolding(crate::specs::Numbers::meaning_text))]
+fn push_meaning(text: &mut String, meaning: &Meaning) -> Result<(), AllocError>
+    ensures { OnOk result (string_bytes text.new ≡ string_bytes text.old ++ meaning_text meaning.now) }
+{
     write!(
         text,
         "{}\n{}\nfor example: {}\nwhat to do:  {}\n",

@@ -1,5 +1,5 @@
 use Rattle.irig_plant.proofs.CarryLaws.{whole_is_healthy, whole_votes, whole_run_announces}
-use Rattle.irig_plant.proofs.laws_of_health.whole_carries_vote.Goals as goal
+use Rattle.irig_plant.proofs.laws.whole_carries_vote.Goals as goal
 
 pub returns-clause-healthy : goal.returns-clause-healthy
 returns-clause-healthy _ = whole_is_healthy
