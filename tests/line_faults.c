@@ -45,7 +45,7 @@ enum { COUNT_OF_LINES = sizeof LINES / sizeof *LINES };
 static irig_utc truth[FRAMES];
 static pulse nominal[PULSES];
 
-/* Writes the frame of a second in UTC, by docs/GENERATORS.md. */
+/* Writes the frame of a second in UTC, by docs/SCENARIOS.md. */
 static void write_frame(const line *of, const irig_utc *second, pulse *to, uint32_t start_us) {
     irig_control control = {.leap_pending = of->leaps && second->sod >= 86340};
     uint8_t symbols[100];

@@ -3,7 +3,7 @@
 `time_us level level level`, for c/examples/capture_bench.c. Five generators make five levels. With
 --vcd it is a value change dump, which sigrok-cli, PulseView and others read.
 
-Frames and generators are written anew here, by docs/FRAME.md and docs/GENERATORS.md, so that a log
+Frames and generators are written anew here, by docs/FRAME.md and docs/SCENARIOS.md, so that a log
 made of these waves owes nothing to the program's. Each second has its pulses at 10 ms from its edge
 on, and the first edge comes after 50 ms. A restart is no matter of wires, and left out.
 

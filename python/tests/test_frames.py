@@ -148,7 +148,7 @@ class Read(unittest.TestCase):
 
 
 class Bits(unittest.TestCase):
-    """Control bits and parity, by the tables of docs/TIME.md and docs/FRAME.md."""
+    """Control bits and parity, by the tables of docs/FRAME.md."""
 
     def test_control(self) -> None:
         table = {

@@ -1,4 +1,4 @@
-"""Seconds of UTC and claims, by the tables of docs/TIME.md."""
+"""Seconds of UTC and claims, by the tables of docs/FRAME.md."""
 from __future__ import annotations
 
 import unittest

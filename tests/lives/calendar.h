@@ -1,4 +1,4 @@
-/* Days and seconds, and the symbols of a frame, written anew by docs/TIME.md and docs/FRAME.md. */
+/* Days and seconds, and the symbols of a frame, written anew by docs/FRAME.md. */
 #ifndef CALENDAR_H
 #define CALENDAR_H
 

@@ -1,4 +1,4 @@
-/* What a whole frame tells, and the reader's rule: docs/PORTS.md, docs/READER.md, in plain C. */
+/* What a whole frame tells, and the reader's rule: docs/READER.md, in plain C. */
 #ifndef RULE_H
 #define RULE_H
 

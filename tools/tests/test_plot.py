@@ -295,7 +295,7 @@ class Layout(unittest.TestCase):
 
 class Gallery(unittest.TestCase):
     def test_each_example_is_shown(self) -> None:
-        shown = re.findall(r"\]\(gallery/(\w+)\.svg\)", (ROOT / "docs/GALLERY.md").read_text())
+        shown = re.findall(r"\]\(\.\./docs/gallery/(\w+)\.svg\)", (ROOT / "examples/README.md").read_text())
         self.assertEqual(sorted(shown), sorted(path.stem for path in ROOT.glob("examples/*.jsonl")))
 
 

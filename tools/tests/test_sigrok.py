@@ -171,7 +171,7 @@ def in_words(told: str) -> str:
 
 def fields_of(coded: str, told: str) -> list[str]:
     """The fields and control bits, in the order of their elements, by the lines of `irig read`.
-    docs/TIME.md has the bits."""
+    docs/FRAME.md has the bits."""
     year, day, hour, minute, second, control, sbs = map(int, re.findall(r"\d+", coded))
     bit = [control >> place & 1 for place in range(15)]
     half_hours = sum(2 * bit[5 + n] << n for n in range(4)) + bit[9]
@@ -201,7 +201,7 @@ class Played(NamedTuple):
 
 
 def claim_of(timeline: waves.Timeline, edge: int) -> str:
-    """The second and the mark that a true frame claims at an edge: docs/TIME.md."""
+    """The second and the mark that a true frame claims at an edge: docs/FRAME.md."""
     at = timeline.at(edge)
     if at is None:
         return "none unspoken"

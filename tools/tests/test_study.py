@@ -332,8 +332,8 @@ class Runs(unittest.TestCase):
 
     def test_committed_runs(self) -> None:
         """The first, the middle and the last line of each committed table, played once more by the
-        command that docs/STUDY.md has for it."""
-        page = (ROOT / "docs/STUDY.md").read_text()
+        command that docs/EXACTLY_WHEN.md has for it."""
+        page = (ROOT / "docs/EXACTLY_WHEN.md").read_text()
         files = sorted((ROOT / "docs/study").glob("*.csv"))
         self.assertTrue(files)
         for path in files:

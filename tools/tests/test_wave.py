@@ -328,16 +328,16 @@ int main() { for (setup(); !Serial.ended;) loop(); }
 
 
 class Sketch(InAFolder):
-    """The sketch of docs/BENCH.md."""
+    """The sketch of docs/CAPTURE.md."""
 
     def setUp(self) -> None:
         super().setUp()
         if not shutil.which("c++"):
-            print("skipped: the sketch of docs/BENCH.md; c++ is missing")
+            print("skipped: the sketch of docs/CAPTURE.md; c++ is missing")
             self.skipTest("no c++")
 
     def test_it_plays_each_row_in_time(self) -> None:
-        page = (ROOT / "docs/BENCH.md").read_text()
+        page = (ROOT / "docs/CAPTURE.md").read_text()
         begin, end = page.index("    // Plays the rows"), page.index("\nIt is then played by")
         sketch = textwrap.dedent(page[begin:end])
         self.assertLess(max(map(len, sketch.splitlines())), 100)

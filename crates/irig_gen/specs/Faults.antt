@@ -1,5 +1,5 @@
 -- What each fault does to a generator.
--- Source: docs/GENERATORS.md, the table of faults.
+-- Source: docs/SCENARIOS.md, the table of faults.
 use Rattle.std.specs.Prelude.{ℕ, ◌+◌, ◌-◌, min, nat_lt, if◌then◌else◌, true, false, Option, Some, None, ℤ, pos, negsuc, ◌+ℤ◌, neg_ℤ, int_lt}
 use Rattle.irig_control.specs.declared.control.Control.{Control}
 use Rattle.irig_gen.specs.declared.fault.GenFault.{GenFault}

@@ -1,5 +1,5 @@
 -- The frames of a generator.
--- Source: docs/GENERATORS.md, by IRIG Standard 200-16 and IEEE 1344-1995.
+-- Source: docs/SCENARIOS.md, by IRIG Standard 200-16 and IEEE 1344-1995.
 use Rattle.std.specs.Prelude.{◌≡◌, ℕ, List, Option, Some, None, MatchOption}
 use Rattle.irig_frame.specs.declared.symbol.Symbol.{Symbol}
 use Rattle.irig_control.specs.declared.control.Control.{Control}

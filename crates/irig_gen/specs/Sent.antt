@@ -1,6 +1,6 @@
 -- The frames of a generator as functions: the one list of symbols that IsFrameOrNone and IsSent of
 -- specs/Frames.antt name.
--- Source: docs/GENERATORS.md, by the definitions of Frames.antt.
+-- Source: docs/SCENARIOS.md, by the definitions of Frames.antt.
 use Rattle.std.specs.Prelude.{◌≡◌, ℕ, ◌-◌, ◌^◌, ◌<◌, min, List, Option, Some, None}
 use Rattle.std.specs.Option.{option_map}
 use Rattle.std.specs.List.{list_any}

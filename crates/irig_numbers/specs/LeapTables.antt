@@ -1,5 +1,5 @@
 -- The leaps that numbers give, and what is wrong with them.
--- Source: docs/TIME.md, leap tables; docs/FAULTS.md for the numbers.
+-- Source: docs/FRAME.md, leap tables; docs/FAULTS.md for the numbers.
 use Rattle.std.specs.Prelude.{◌≡◌, ℕ, ◌==◌, ◌&&◌, Bool, true, List, [], ◌∷◌, nat_le, nat_lt, if◌then◌else◌, Option, Some, None, min, take, map}
 use Rattle.irig_time.specs.declared.second.TheConstants.{LAST_DAY}
 use Rattle.irig_time.specs.declared.leap.Leap.{Leap}

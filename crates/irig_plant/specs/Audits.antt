@@ -1,6 +1,6 @@
 -- The audit: whether the premises hold under which readers announce the truth, and where they first
 -- break.
--- Source: docs/PLANT.md, the audit.
+-- Source: docs/SCENARIOS.md, the audit.
 use Rattle.std.specs.Prelude.{ℕ, ◌+◌, ◌-◌, Bool, true, false, not, ◌||◌, nat_lt, if◌then◌else◌, List, [], ◌∷◌, length, count_by, Option, Some, None}
 use Rattle.std.specs.Option.{option_or}
 use Rattle.std.specs.List.{list_all, range_with_len}

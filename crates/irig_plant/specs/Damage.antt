@@ -1,5 +1,5 @@
 -- Ports that heard what a generator without fault sends, with one pulse damaged.
--- Source: docs/GENERATORS.md and docs/PLANT.md.
+-- Source: docs/SCENARIOS.md.
 use Rattle.std.specs.Prelude.{◌≡◌, ℕ, ◌<◌, List, [], length}
 use Rattle.irig_vote.specs.Vote.{ports_in, redundancy_of}
 use Rattle.irig_plant.specs.declared.event.Event.{Event}

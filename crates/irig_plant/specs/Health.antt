@@ -1,5 +1,5 @@
 -- Ports that heard what a generator without fault sends.
--- Source: docs/GENERATORS.md and docs/PLANT.md.
+-- Source: docs/SCENARIOS.md.
 use Rattle.std.specs.Prelude.{◌≡◌, ℕ, ◌<◌, List, [], length, All}
 use Rattle.irig_gen.specs.Refusals.{IsGenerator}
 use Rattle.irig_vote.specs.Vote.{ports_in, redundancy_of}

@@ -1,5 +1,5 @@
 -- What a reader's ports heard, tick by tick.
--- Source: docs/READER.md and docs/PLANT.md.
+-- Source: docs/READER.md and docs/SCENARIOS.md.
 use Rattle.std.specs.Prelude.{◌≡◌, ℕ, ◌==◌, if◌then◌else◌, List, [], ◌∷◌, length, Option, Some, None}
 use Rattle.irig_vote.specs.Vote.{redundancy_of}
 use Rattle.irig_reader.specs.History.{Fed}

@@ -1,7 +1,7 @@
 -- What a schedule says: what each generator, port and reader comes to by a list of events, and what
 -- is then logged. Lists of events and of votes are written newest first, so that what was "since
 -- the last .." comes first in them.
--- Source: docs/PLANT.md, events and what a list of them says.
+-- Source: docs/SCENARIOS.md, events and what a list of them says.
 use Rattle.std.specs.Prelude.{ℕ, ◌+◌, Bool, false, ◌==◌, ◌&&◌, if◌then◌else◌, pos, List, [], ◌∷◌, ◌++◌, length, map, Option, Some, None, slice_index_or}
 use Rattle.std.specs.List.{range_with_len}
 use Rattle.irig_control.specs.declared.parity.Parity.TheVariants.{Even}

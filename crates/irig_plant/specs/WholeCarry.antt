@@ -1,5 +1,5 @@
 -- Frames that came whole to an empty port, and what came after them.
--- Source: docs/EXACTLY_WHEN.md, voted edges; docs/PLANT.md.
+-- Source: docs/EXACTLY_WHEN.md, voted edges; docs/SCENARIOS.md.
 use Rattle.std.specs.Prelude.{◌≡◌, ◌⊎◌, ℕ, ◌+◌, ◌<◌, ◌≤◌, Bool, false, ◌==◌, ◌&&◌, List, [], ◌∷◌, ◌++◌, length, All, None}
 use Rattle.irig_vote.specs.Vote.{ports_in, redundancy_of}
 use Rattle.irig_plant.specs.declared.event.Event.{Event}

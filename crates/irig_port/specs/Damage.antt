@@ -1,5 +1,5 @@
 -- One damaged pulse: what a port tells of a frame in which one symbol is another.
--- Source: docs/PORTS.md; the elements by docs/FRAME.md: IRIG Standard 200-16, code B004 (straight
+-- Source: docs/READER.md; the elements by docs/FRAME.md: IRIG Standard 200-16, code B004 (straight
 -- binary seconds at 80 to 97), and IEEE 1344-1995 (control bits), with the parity of elements 1 to
 -- 75 by this project's profile.
 use Rattle.std.specs.Prelude.{◌≡◌, ℕ, Bool, false, nat_lt, List, [], ◌∷◌, Option, Some, ⊤}

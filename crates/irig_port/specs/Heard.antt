@@ -1,5 +1,5 @@
 -- Which symbols a port stands for: those since it was last empty, cut at 101.
--- Source: docs/PORTS.md; this project's profile.
+-- Source: docs/READER.md; this project's profile.
 use Rattle.std.specs.Prelude.{ℕ, List, [], ◌∷◌, ◌++◌, nat_lt, length, take, map, if◌then◌else◌}
 use Rattle.irig_frame.specs.declared.symbol.Symbol.{Symbol}
 use Rattle.irig_frame.specs.Symbols.{symbol_of}

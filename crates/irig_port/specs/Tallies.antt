@@ -1,5 +1,5 @@
 -- What the numbers of a tally say: what they tell, and of which symbols they are.
--- Source: docs/PORTS.md; this project's profile.
+-- Source: docs/READER.md; this project's profile.
 use Rattle.std.specs.Prelude.{ℕ, ◌+◌, ◌*◌, ◌==◌, nat_lt, if◌then◌else◌, List, Option, Some, None}
 use Rattle.irig_frame.specs.declared.symbol.Symbol.{Symbol}
 use Rattle.irig_frame.specs.declared.fault.FrameFault.{FrameFault}

@@ -1,5 +1,5 @@
 -- The second after a second, as far as what was heard of a leap decides it.
--- Source: the table of docs/TIME.md; ITU-R TF.460 for leap seconds.
+-- Source: the table of docs/FRAME.md; ITU-R TF.460 for leap seconds.
 use Rattle.std.specs.Prelude.{ℕ, ◌+◌, ◌==◌, nat_lt, if◌then◌else◌, Option, Some, None}
 use Rattle.irig_time.specs.declared.second.UtcSecond.{UtcSecond}
 use Rattle.irig_time.specs.declared.mark.Mark.{Mark}

@@ -1,5 +1,5 @@
 -- A reader's table of leaps: what it says of a day, and what is wrong with one.
--- Source: docs/TIME.md, leap tables; the order of refusals is this project's profile
+-- Source: docs/FRAME.md, leap tables; the order of refusals is this project's profile
 -- (docs/FAULTS.md).
 use Rattle.std.specs.Prelude.{ℕ, nat_lt, is_some, length, if◌then◌else◌, List, [], ◌∷◌, ◌++◌, Option, Some, None}
 use Rattle.std.specs.Option.{option_or}

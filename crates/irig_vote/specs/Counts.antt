@@ -1,5 +1,5 @@
 -- How many numbers are such, as a relation.
--- Source: docs/PORTS.md, of how many ports something is said.
+-- Source: docs/READER.md, of how many ports something is said.
 use Rattle.std.specs.Prelude.{ℕ, ◌+◌, ◌≤◌, List, [], ◌∷◌, length, All, ⊤}
 
 -- numbers in rising order, from this one on

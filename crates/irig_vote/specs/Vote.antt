@@ -1,5 +1,5 @@
 -- The vote: of 2f + 1 ports, the claim that at least f + 1 tell.
--- Source: docs/PORTS.md; this project's profile: two of three ports, three of five, the only one.
+-- Source: docs/READER.md; this project's profile: two of three ports, three of five, the only one.
 use Rattle.std.specs.Prelude.{ℕ, Bool, false, ◌==◌, not, nat_lt, if◌then◌else◌, List, [], ◌∷◌, count_by, Option, Some, None}
 use Rattle.irig_time.specs.declared.claim.Claim.{Claim}
 use Rattle.irig_time.specs.Claims.{same_claim}
