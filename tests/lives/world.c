@@ -1,5 +1,32 @@
 #include "world.h"
 
+/* Of four years the first has 366 days. */
+bool is_month_end(int64_t day) {
+    static const int32_t ENDS[] = {31, 59, 90, 120, 151, 181, 212, 243, 273, 304, 334, 365};
+    int64_t of_four = day % 1461, year = of_four < 366 ? 0 : (of_four - 1) / 365;
+    int64_t of_year = year == 0 ? of_four + 1 : of_four - 365 * year;
+    for (int month = 0; month < 12; month++)
+        if (of_year == ENDS[month] + (year == 0 && month > 0)) return true;
+    return false;
+}
+
+frame encode(const content *what, bool is_odd, bool is_subtracted) {
+    frame f = {{0, 0}};
+    uint8_t symbols[ELEMENTS];
+    irig_utc at = {(uint32_t)what->at.day, (uint32_t)what->at.second};
+    irig_control control = {.leap_pending = what->pending,
+                            .leap_delete = what->is_delete,
+                            .dst = what->dst,
+                            .offset_half_hours =
+                                (int8_t)(is_subtracted ? what->zone : -what->zone),
+                            .quality = (uint8_t)what->quality};
+    if (irig_frame_of(&at, (int8_t)what->zone, &control, is_odd, symbols) != IRIG_DONE) return f;
+    for (unsigned element = 0; element < ELEMENTS; element++)
+        if (symbols[element] == IRIG_SYMBOL_ONE)
+            f.ones[element / HALF] |= UINT64_C(1) << (element % HALF);
+    return f;
+}
+
 /* The rate of the next second. */
 static int32_t rate_behind(int32_t rate, walk kind, uint32_t n, int32_t most, chance *luck) {
     switch (kind) {
