@@ -257,5 +257,6 @@ class Driven(unittest.TestCase):
             inside = text.split(tag)[1].split(f"</{tag[1:]}")[0]
             digest = base64.b64encode(hashlib.sha256(inside.encode()).digest()).decode()
             self.assertIn(f"{kind} 'sha256-{digest}'", policy)
-        self.assertNotIn("unsafe", policy)
+        self.assertNotIn("'unsafe-", policy)
+        self.assertEqual(policy.count("sha256-"), 2)
         return policy

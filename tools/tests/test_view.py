@@ -276,7 +276,7 @@ class InBrowser(browser.Driven):
                 self.assertIn(STATES[state].colour[1:].lower(), self.colours_on_edge(edge, 0))
 
     def test_the_policy_knows_script_and_style(self) -> None:
-        self.check_policy((self.folder / "page.html").read_text())
+        self.assertNotIn("unsafe", self.check_policy((self.folder / "page.html").read_text()))
 
     def test_dark_and_light(self) -> None:
         ground = "getComputedStyle(document.body).backgroundColor"
