@@ -33,8 +33,7 @@ typedef struct content {
     uint32_t quality;
 } content;
 
-/* The library's frame, which rule.c reads by itself; of a second that is not served, one that tells
- * a fault. */
+/* No code of the library makes it. */
 frame encode(const content *what, bool is_odd, bool is_subtracted);
 
 enum {
