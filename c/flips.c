@@ -8,6 +8,7 @@
 
 #include <stdio.h>
 #include <stdlib.h>
+#include <string.h>
 
 enum { READER_BITS = 8 * sizeof(irig_reader), ELEMENTS = 100, TICK = ELEMENTS, AHEAD = 4 };
 
@@ -19,79 +20,39 @@ typedef struct story {
     irig_table table;
     irig_utc first; /* its first frame is of this second */
     uint8_t mark;   /* what comes at the end of its day, and is told in the last minute */
-    int lost_from;  /* the first edge without frames, until the flip */
+    int lost_from;  /* the first edge without frames, until the flip; 0 none */
     int edge;       /* the flip */
     int element;
     bool by_lines; /* pulses come by irig_reader_hear */
 } story;
 
+#define NOON {9696, 43198}
+
 static const story stories[] = {
-    {.name = "fresh",
-     .setup = {.lock_after = 1, .holdover = 9},
-     .first = {9696, 43198},
-     .lost_from = 9},
-    {.name = "acquiring",
-     .setup = {.lock_after = 3, .holdover = 9},
-     .first = {9696, 43198},
-     .lost_from = 9,
-     .edge = 1},
-    {.name = "locked, ports empty",
-     .setup = {.lock_after = 2, .holdover = 2},
-     .first = {9498, 86396},
-     .mark = IRIG_MARK_NO_LEAP,
-     .lost_from = 9,
-     .edge = 3},
+    {.name = "fresh", .setup = {.lock_after = 1, .holdover = 9}, .first = NOON},
+    {.name = "acquiring", .setup = {.lock_after = 3, .holdover = 9}, .first = NOON, .edge = 1},
+    {.name = "locked, ports empty", .setup = {.lock_after = 2, .holdover = 2},
+     .first = {9498, 86396}, .mark = IRIG_MARK_NO_LEAP, .edge = 3},
     {.name = "locked, half a frame",
-     .setup = {.lock_after = 2, .holdover = 9, .parity = IRIG_PARITY_ODD},
-     .first = {9696, 43198},
-     .lost_from = 9,
-     .edge = 3,
-     .element = 50,
-     .by_lines = true},
-    {.name = "locked, before the tick",
-     .setup = {.lock_after = 2, .holdover = 9},
-     .first = {9696, 43198},
-     .lost_from = 9,
-     .edge = 3,
-     .element = TICK},
-    {.name = "in holdover",
-     .setup = {.lock_after = 1, .holdover = 4},
-     .first = {9696, 43198},
-     .lost_from = 2,
-     .edge = 4},
-    {.name = "a leap that was heard",
-     .setup = {.lock_after = 2, .holdover = 9},
-     .first = {6209, 86395},
-     .mark = IRIG_MARK_INSERT,
-     .lost_from = 9,
-     .edge = 3,
-     .element = 20},
-    {.name = "a deletion in holdover",
-     .setup = {.lock_after = 2, .holdover = 9},
-     .first = {6209, 86394},
-     .mark = IRIG_MARK_DELETE,
-     .lost_from = 2,
-     .edge = 3},
+     .setup = {.lock_after = 2, .holdover = 9, .parity = IRIG_PARITY_ODD}, .first = NOON,
+     .edge = 3, .element = 50, .by_lines = true},
+    {.name = "locked, before the tick", .setup = {.lock_after = 2, .holdover = 9}, .first = NOON,
+     .edge = 3, .element = TICK},
+    {.name = "in holdover", .setup = {.lock_after = 1, .holdover = 4}, .first = NOON,
+     .lost_from = 2, .edge = 4},
+    {.name = "a leap that was heard", .setup = {.lock_after = 2, .holdover = 9},
+     .first = {6209, 86395}, .mark = IRIG_MARK_INSERT, .edge = 3, .element = 20},
+    {.name = "a deletion in holdover", .setup = {.lock_after = 2, .holdover = 9},
+     .first = {6209, 86394}, .mark = IRIG_MARK_DELETE, .lost_from = 2, .edge = 3},
     {.name = "over a leap by a table",
      .setup = {.lock_after = 2, .holdover = 99, .sbs = IRIG_SBS_IGNORE},
-     .table = {.until = 6300, .len = 2, .leaps = {{5659, 0}, {6209, 0}}},
-     .first = {6209, 86336},
-     .mark = IRIG_MARK_INSERT,
-     .lost_from = 4,
-     .edge = 62},
+     .table = {.until = 6300, .len = 2, .leaps = {{5659, 0}, {6209, 0}}}, .first = {6209, 86336},
+     .mark = IRIG_MARK_INSERT, .lost_from = 4, .edge = 62},
     {.name = "five ports",
-     .setup = {.lock_after = 2, .holdover = 9, .redundancy = IRIG_PORTS_FIVE},
-     .first = {9696, 43198},
-     .lost_from = 9,
-     .edge = 2,
-     .element = 70},
-    {.name = "one port",
-     .setup = {.lock_after = 2, .holdover = 9, .redundancy = IRIG_PORTS_ONE},
-     .first = {9696, 43198},
-     .lost_from = 9,
-     .edge = 3,
-     .element = 50,
-     .by_lines = true},
+     .setup = {.lock_after = 2, .holdover = 9, .redundancy = IRIG_PORTS_FIVE}, .first = NOON,
+     .edge = 2, .element = 70},
+    {.name = "one port", .setup = {.lock_after = 2, .holdover = 9, .redundancy = IRIG_PORTS_ONE},
+     .first = NOON, .edge = 3, .element = 50, .by_lines = true},
 };
 enum { STORIES = sizeof stories / sizeof *stories };
 
@@ -162,7 +123,7 @@ static void begin(device *d) {
     if (irig_reader_init(&d->reader, &now->setup, &now->table)) exit(2);
     while (d->edge < now->edge || d->element < now->element) {
         uint8_t symbols[ELEMENTS];
-        bool is_heard = d->edge < now->lost_from;
+        bool is_heard = now->lost_from == 0 || d->edge < now->lost_from;
         int end = d->edge < now->edge ? TICK : now->element;
         make_frame(&d->second, symbols);
         while (d->element < end) step(d, is_heard ? symbols : NULL);
@@ -187,14 +148,10 @@ static said over(device *d) {
     return tick(d);
 }
 
+/* But for the last byte, which belongs to no number. */
 static bool is_alike(const said *a, const said *b) {
-    const irig_report *x = &a->report, *y = &b->report;
-    return a->answer == b->answer && x->announces == y->announces && x->lock == y->lock &&
-           x->cause == y->cause && x->lock_count == y->lock_count && x->day == y->day &&
-           x->sod == y->sod && x->agreed == y->agreed && x->differed == y->differed &&
-           x->faulty == y->faulty && x->poor == y->poor && x->quality == y->quality &&
-           x->has_local == y->has_local && x->local_half_hours == y->local_half_hours &&
-           x->dst == y->dst;
+    return a->answer == b->answer &&
+           memcmp(&a->report, &b->report, offsetof(irig_report, dst) + 1) == 0;
 }
 
 /* Whether a byte of a reader belongs to no number. */

@@ -5,6 +5,7 @@
 
 #include <stdio.h>
 #include <stdlib.h>
+#include <string.h>
 
 /* The same numbers with every C library: xorshift of 32 bits. */
 static uint32_t next(void) {
@@ -27,10 +28,14 @@ static void fill(void *object, size_t size) {
     for (size_t i = 0; i < size; i++) bytes[i] = (unsigned char)(below(8) ? below(3) : below(256));
 }
 
+static void note_bytes(const void *object, size_t size) {
+    const unsigned char *bytes = object;
+    for (size_t i = 0; i < size; i++) note(bytes[i]);
+}
+
+/* Up to its last number: bytes behind that belong to none. */
 static void note_claim(const irig_claim *claim) {
-    note(claim->at.day);
-    note(claim->at.sod);
-    note(claim->mark);
+    note_bytes(claim, offsetof(irig_claim, mark) + 1);
 }
 
 static void note_told(const irig_told *told) {
@@ -40,29 +45,12 @@ static void note_told(const irig_told *told) {
     note_claim(&told->claim);
 }
 
-static void note_report(const irig_report *report) {
-    note(report->announces);
-    note(report->lock);
-    note(report->cause);
-    note(report->lock_count);
-    note(report->day);
-    note(report->sod);
-    note(report->agreed);
-    note(report->differed);
-    note(report->faulty);
-    note(report->poor);
-    note(report->quality);
-    note(report->has_local);
-    note((uint8_t)report->local_half_hours);
-    note(report->dst);
-}
-
 /* What is said may be anything, but a second that is none. */
 static int note_tick(irig_reader *reader, irig_report *report) {
     uint32_t answer = irig_reader_tick(reader, report);
     note(answer);
     if (answer != IRIG_DONE) return 0;
-    note_report(report);
+    note_bytes(report, offsetof(irig_report, dst) + 1);
     if (report->announces && (report->day < 1 || report->day > 36523 || report->sod > 86400))
         abort();
     return report->announces;
@@ -74,7 +62,7 @@ static void note_texts(void) {
     const char *texts[] = {irig_fault_name(number), irig_fault_text(number), irig_lock_name(byte),
                            irig_lock_text(byte),    irig_cause_name(byte),   irig_cause_text(byte)};
     for (size_t i = 0; i < sizeof texts / sizeof *texts; i++)
-        for (const char *at = texts[i]; *at; at++) note((uint8_t)*at);
+        note_bytes(texts[i], strlen(texts[i]));
 }
 
 static void note_coded(const irig_coded *coded) {
@@ -275,7 +263,7 @@ static void try_frame(void) {
     if (answer == IRIG_DONE) note_claim(claim);
     note(irig_encode(coded, frame));
     note(irig_set_parity(frame, (uint8_t)below(4)));
-    for (int i = 0; i < 100; i++) note(frame[i]);
+    note_bytes(frame, 100);
     note(irig_has_parity(frame, (uint8_t)below(4)));
     answer = irig_decode(symbols, count, coded);
     note(answer);
@@ -299,7 +287,7 @@ static void try_second(void) {
     note(irig_second_next(&second, (uint8_t)below(5), &following));
     note(following.day ^ following.sod);
     note(irig_second_write(&second, text));
-    for (int i = 0; i < 20; i++) note((uint8_t)text[i]);
+    note_bytes(text, 20);
     note(irig_second_read(text, 20, &read));
     note(read.day ^ read.sod);
     note(irig_coded_of(&second, (int8_t)((int)below(80) - 40), &coded));

@@ -114,6 +114,11 @@ class Timeline:
             day, sod = day + 1, sod - length
         return (day, sod) if edge >= 0 and day <= LAST_DAY else None
 
+    @classmethod
+    def of(cls, plant: dict) -> Timeline:
+        leaps = {second_of(leap["day"] + "T00:00:00Z")[0]: leap["kind"] for leap in plant["leaps"]}
+        return cls(second_of(plant["start"]), leaps)
+
 
 @dataclass
 class Generator:
@@ -182,8 +187,7 @@ class Plant:
     """The generators of a scenario, and what its first reader has heard since its last tick."""
 
     def __init__(self, plant: dict) -> None:
-        leaps = {second_of(leap["day"] + "T00:00:00Z")[0]: leap["kind"] for leap in plant["leaps"]}
-        timeline = Timeline(second_of(plant["start"]), leaps)
+        timeline = Timeline.of(plant)
         self.generators = [
             Generator(timeline, value, plant["parity"], plant["sense"]) for value in plant["generators"]
         ]

@@ -4,7 +4,6 @@ pictures of what it saw there."""
 from __future__ import annotations
 
 import base64
-import hashlib
 import json
 import re
 import sys
@@ -67,22 +66,16 @@ def trap_module() -> bytes:
     return b"\0asm\1\0\0\0" + types + imports + functions + exports + section(10, give, trap, refuse)
 
 
-class InBrowser(unittest.TestCase):
+class InBrowser(browser.Driven):
     """What the page does."""
 
-    @classmethod
-    def setUpClass(cls) -> None:
-        cls.page = browser.Browser()
-        cls.addClassCleanup(cls.page.close)
-        cls.page.size(1200, 900)
+    height = 900
+    timeline = "tab.timeline"
 
     def setUp(self) -> None:
         self.page.scheme("light")
         self.open()
         self.push("ports")  # off: what follows counts lines of entries
-
-    def tearDown(self) -> None:
-        self.assertEqual(self.page.errors, [])
 
     # ---- what a person does
 
@@ -91,40 +84,14 @@ class InBrowser(unittest.TestCase):
         self.page.ask("ready.then(() => 0)")
         self.end_of_run()
 
-    def text(self, name: str) -> str:
-        return str(self.page.ask(f"part('{name}').textContent"))
-
     def value(self, name: str) -> str:
-        return str(self.page.ask(f"part('{name}').value"))
-
-    def set(self, name: str, value: str) -> None:
-        """What a hand would choose or write."""
-        self.page.ask(
-            f"(() => {{ const it = part('{name}'); it.value = {json.dumps(value)};"
-            " for (const kind of ['input', 'change'])"
-            " it.dispatchEvent(new Event(kind, { bubbles: true })); })()"
-        )
-        self.page.settle()
+        return str(self.part(name, "value"))
 
     def paste(self, name: str, text: str) -> None:
         """In place of what stands there."""
         self.page.ask(f"(() => {{ part('{name}').focus(); part('{name}').select(); }})()")
         self.page.call("Input.insertText", text=text)
         self.page.settle()
-
-    def push(self, name: str) -> None:
-        self.page.ask(f"part('{name}').scrollIntoView({{ block: 'nearest' }})")
-        box = self.place(name)
-        self.page.click(box["x"] + box["width"] / 2, box["y"] + box["height"] / 2)
-
-    def place(self, name: str) -> dict:
-        found = self.page.ask(f"part('{name}').getBoundingClientRect().toJSON()")
-        assert isinstance(found, dict)
-        return found
-
-    def press(self, name: str, *keys: str) -> None:
-        self.page.ask(f"part('{name}').focus()")
-        self.page.press(*keys)
 
     def wait(self, expression: str, patience: float = PATIENCE) -> None:
         end = time.monotonic() + patience
@@ -142,6 +109,11 @@ class InBrowser(unittest.TestCase):
         self.set("text", text)
         self.push("run")
         return self.end_of_run()
+
+    def run_example(self, name: str) -> None:
+        self.set("example", name)
+        self.push("run")
+        self.end_of_run()
 
     def log(self) -> str:
         return str(self.page.ask("new TextDecoder().decode(tab.log.lines.bytes)"))
@@ -172,9 +144,7 @@ class InBrowser(unittest.TestCase):
         self.picture("example")
 
     def test_keys_lead_everywhere(self) -> None:
-        self.set("example", "two_liars")
-        self.push("run")
-        self.end_of_run()
+        self.run_example("two_liars")
         self.page.ask("part('tab-run').focus()")
         reached = []
         for _ in range(40):
@@ -309,15 +279,8 @@ class InBrowser(unittest.TestCase):
 
     # ---- what a run shows
 
-    def on_edge(self, edge: float, lane: int) -> tuple[float, float]:
-        box = self.place("canvas")
-        x = float(str(self.page.ask(f"tab.timeline.x_of({edge})")))
-        return box["x"] + x, box["y"] + 14 + 46 * lane + 18
-
     def test_the_timeline(self) -> None:
-        self.set("example", "dark_hour")
-        self.push("run")
-        self.end_of_run()
+        self.run_example("dark_hour")
         self.press("canvas", "End")
         self.assertTrue(self.text("line").startswith("3616 relay 2016-06-15T13:00:16Z locked voted"))
         self.assertIn('scenario line 10: {"do":"seconds","n":8}', self.text("line"))
@@ -337,9 +300,7 @@ class InBrowser(unittest.TestCase):
         self.assertIn("to 3616 of", self.text("range"))
 
     def test_marks_and_colours(self) -> None:
-        self.set("example", "leap_inserted")
-        self.push("run")
-        self.end_of_run()
+        self.run_example("leap_inserted")
         self.assertEqual(
             self.page.ask("tab.timeline.lanes.map((lane) => lane.marks)"),
             [[[10, "leap second"], [10.5, "month end"]]] * 2,
@@ -348,13 +309,8 @@ class InBrowser(unittest.TestCase):
         self.page.click(*self.on_edge(10, 0))
         self.assertTrue(self.text("line").startswith("10 relay 2016-12-31T23:59:60Z locked voted"))
         self.picture("leap")
-        box = self.place("canvas")
         for edge, state in ((5, "locked"), (1, "acquiring")):
-            x, y = self.on_edge(edge, 1)
-            at = f"{x - box['x']}, {y - box['y']}"
-            points = self.page.ask(f"Array.from(tab.timeline.brush.getImageData({at}, 8, 6).data)")
-            found = {bytes(points[place:place + 3]).hex() for place in range(0, len(points), 4)}
-            self.assertIn(STATES[state].colour[1:].lower(), found)
+            self.assertIn(STATES[state].colour[1:].lower(), self.colours_on_edge(edge, 1))
 
     def test_a_scenario_that_is_too_long_to_edit(self) -> None:
         text = plant(*[{"do": "seconds", "n": 1}] * 20_000, {"do": "tick", "r": "rely"})
@@ -402,9 +358,7 @@ class InBrowser(unittest.TestCase):
         self.assertIn("plant.jsonl can't be read as text in UTF-8", self.text("state"))
 
     def test_search(self) -> None:
-        self.set("example", "leap_inserted")
-        self.push("run")
-        self.end_of_run()
+        self.run_example("leap_inserted")
         self.paste("search", "23:59:60")
         self.assertEqual(self.text("searched"), "2 lines")
         self.press("search", "Enter")
@@ -544,9 +498,7 @@ class InBrowser(unittest.TestCase):
 
     def test_each_control_has_a_name(self) -> None:
         roles = {"button", "textbox", "searchbox", "combobox", "checkbox", "tab", "listbox", "application"}
-        self.set("example", "leap_inserted")
-        self.push("run")
-        self.end_of_run()
+        self.run_example("leap_inserted")
         for tab in ("run", "frame", "read", "about"):
             self.push(f"tab-{tab}")
             nodes = self.page.call("Accessibility.getFullAXTree")["nodes"]
@@ -571,22 +523,13 @@ class InBrowser(unittest.TestCase):
             for ground in (paper, panel):
                 self.assertGreater(contrast(faint, ground), 4.5)
             grounds.append(self.page.ask("getComputedStyle(document.body).backgroundColor"))
-            self.set("example", "one_liar")
-            self.push("run")
-            self.end_of_run()
+            self.run_example("one_liar")
             self.picture(scheme)
         self.assertEqual(grounds, ["rgb(255, 255, 255)", "rgb(22, 22, 22)"])
 
     def test_the_policy(self) -> None:
         text = PAGE.read_text()
-        policy = re.search(r'Content-Security-Policy" content="(.*?)"', text)[1]
-        self.assertTrue(policy.startswith("default-src 'none';"))
-        self.assertIn("connect-src 'none'", policy)
-        self.assertNotIn("'unsafe-", policy)
-        for kind, tag in (("script-src", "<script>"), ("style-src", "<style>")):
-            inside = text.split(tag)[1].split(f"</{tag[1:]}")[0]
-            digest = base64.b64encode(hashlib.sha256(inside.encode()).digest()).decode()
-            self.assertIn(f"{kind} 'sha256-{digest}'", policy)
+        self.assertIn("connect-src 'none'", self.check_policy(text))
         self.assertNotRegex(text, r"(src|href)=")
 
     def test_no_network(self) -> None:

@@ -19,8 +19,15 @@ if TYPE_CHECKING:
 # ---- what a line says
 
 
+class Said:
+    """What is shown by its text."""
+
+    def __repr__(self) -> str:
+        return f"<{type(self).__name__}: {str(self).strip()}>"
+
+
 @dataclass(frozen=True, repr=False)
-class Announced:
+class Announced(Said):
     """At its tick `edge`, counted from 1, a reader announced the second that then began.
 
     reader: its name
@@ -38,12 +45,9 @@ class Announced:
     def __str__(self) -> str:
         return f"{self.edge} {self.reader} {self.second} {lock_text(self.lock, self.count)} {self.cause}"
 
-    def __repr__(self) -> str:
-        return f"<Announced: {self}>"
-
 
 @dataclass(frozen=True, repr=False)
-class Silent:
+class Silent(Said):
     """At its tick `edge` a reader announced nothing; a log with `all` has these.
 
     reader: its name
@@ -60,12 +64,9 @@ class Silent:
     def __str__(self) -> str:
         return f"{self.edge} {self.reader} - {lock_text(self.lock, self.count)} {self.cause}"
 
-    def __repr__(self) -> str:
-        return f"<Silent: {self}>"
-
 
 @dataclass(frozen=True, repr=False)
-class PortWord:
+class PortWord(Said):
     """What a port told at a tick, by its word in a line of `--ports`.
 
     text: the word
@@ -92,12 +93,9 @@ class PortWord:
     def __str__(self) -> str:
         return self.text
 
-    def __repr__(self) -> str:
-        return f"<PortWord: {self}>"
-
 
 @dataclass(frozen=True, repr=False)
-class Ports:
+class Ports(Said):
     """What each port of a reader told at its tick `edge`, in the words of docs/OUTPUT.md. The
     program writes such lines with --ports. `told` has what the words say."""
 
@@ -112,9 +110,6 @@ class Ports:
 
     def __str__(self) -> str:
         return f" {self.edge} {self.reader} {' '.join(self.words)}"
-
-    def __repr__(self) -> str:
-        return f"<Ports: {str(self)[1:]}>"
 
 
 Entry = Union[Announced, Silent, Ports]

@@ -4,7 +4,7 @@ from __future__ import annotations
 import ctypes
 from array import array
 from dataclasses import dataclass
-from typing import Iterable, Literal, Optional, Tuple, Union, overload
+from typing import Any, Iterable, Literal, Optional, Tuple, Union, overload
 
 from . import _library as c
 from .faults import MEANINGS, VALUE, Detail, Fault, check, detail_of, whole, within, words_of
@@ -164,14 +164,6 @@ def setup_of(
     )
 
 
-def ports_of(setup: c.Setup, what: str = "reader") -> int:
-    """How many ports a setup says."""
-    number = int(setup.redundancy)
-    if number >= len(PORTS):
-        raise changed(what)
-    return PORTS[number]
-
-
 def table_of(until: Optional[Day], leaps: Iterable[Leap]) -> c.Table:
     """A leap table as C holds it."""
     table = c.Table(until=0 if until is None else day_number(until))
@@ -192,7 +184,33 @@ def _fresh_lines() -> "ctypes.Array[c.Sync]":
     return lines
 
 
-class Reader:
+class Ruled:
+    """A device that goes by the reader's rule. It is its numbers and no more: it can be copied and
+    pickled, and goes on from there; a copy is equal to it, until one of them hears something."""
+
+    _what = "reader"  # as messages call it
+    _held: Any
+
+    @property
+    def lock_after(self) -> int:
+        """The votes in a row before it announces."""
+        return int(self._held.setup.lock_after)
+
+    @property
+    def holdover(self) -> int:
+        """The edges without a vote at which it goes on."""
+        return int(self._held.setup.holdover)
+
+    @property
+    def ports(self) -> int:
+        """How many ports, or lines, it has."""
+        number = int(self._held.setup.redundancy)
+        if number >= len(PORTS):
+            raise changed(self._what)
+        return PORTS[number]
+
+
+class Reader(Ruled):
     """A reader of IRIG-B: frames come to its ports, and at each edge it announces the second that
     begins, or is silent, by the reader's rule (docs/READER.md). What it announces with the cause
     "voted" is the true second if the tick comes as that second begins and no two of its three ports
@@ -209,9 +227,6 @@ class Reader:
     sbs: "check" or "ignore" the straight binary seconds
     until: the last day of which `leaps` speaks: up to it there is no other leap second
     leaps: the leap seconds that it knows beforehand, 64 at most
-
-    It is its numbers and no more: it can be copied and pickled, and goes on from there; a copy is
-    equal to it, until one of them hears something.
     """
 
     def __init__(
@@ -312,21 +327,6 @@ class Reader:
     def restart(self) -> None:
         """Empties the ports, and forgets what was voted. A reader that a tick refuses stays so."""
         c.reader_restart(self._held)
-
-    @property
-    def lock_after(self) -> int:
-        """The votes in a row before it announces."""
-        return int(self._held.setup.lock_after)
-
-    @property
-    def holdover(self) -> int:
-        """The edges without a vote at which it goes on."""
-        return int(self._held.setup.holdover)
-
-    @property
-    def ports(self) -> int:
-        """How many ports it has."""
-        return ports_of(self._held.setup)
 
     def __eq__(self, other: object) -> bool:
         """Whether it is a reader with the same numbers, which goes on alike."""

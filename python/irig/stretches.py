@@ -6,7 +6,7 @@ from dataclasses import dataclass
 from typing import Dict, Iterable, Iterator, List, Literal, Optional, Tuple, Union
 
 from .faults import Fault
-from .logs import Announced, Log, PortWord, PremisesKept, Refused, Silent, Tick
+from .logs import Announced, Log, PortWord, PremisesKept, Refused, Said, Silent, Tick
 from .scenarios import Timeline, plant_in
 from .words import Cause, PortKind
 
@@ -34,7 +34,7 @@ MEANINGS: Dict[Cause, str] = {
 
 
 @dataclass(frozen=True, repr=False)
-class Stretch:
+class Stretch(Said):
     """A longest run of ticks of a reader at which one of its ports told no truth in one way, or at
     which it announced nothing for one cause. As a text it is a line of `irig blame`.
 
@@ -80,9 +80,6 @@ class Stretch:
             return f"1 second{', untrue' if self.untrue else ''}"
         more = f", {self.untrue} of them untrue" if self.untrue else ""
         return f"{self.announced} seconds{more}"
-
-    def __repr__(self) -> str:
-        return f"<Stretch: {self}>"
 
 
 def stretches_in(log: Log) -> List[Stretch]:

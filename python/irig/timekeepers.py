@@ -8,14 +8,12 @@ from typing import Iterable, Literal, Optional, Tuple
 from . import _library as c
 from .faults import VALUE, Fault, check, whole, within
 from .frames import MOST
-from .readers import Report, changed, ports_of, report_held, setup_of, table_of
+from .readers import Report, Ruled, changed, report_held, setup_of, table_of
 from .seconds import Day, Leap, Second
 from .words import Parity, Sbs, Sense
 
 # What a timekeeper's state begins with: another form of its numbers is another word.
 FORM = "irig timekeeper 1"
-
-WHAT = "timekeeper"  # as messages call it
 
 
 @dataclass(frozen=True)
@@ -60,7 +58,7 @@ def _tick(held: c.Timekeeper, now_us: int) -> c.Second:
     """What a timekeeper says of a second, if one has begun."""
     second = c.Second()
     if c.timekeeper_tick(held, now_us, second):
-        raise changed(WHAT)
+        raise changed("timekeeper")
     return second
 
 
@@ -69,7 +67,7 @@ def _refuse_changed(held: c.Timekeeper) -> None:
     _tick(c.Timekeeper.from_buffer_copy(held), 0)
 
 
-class Timekeeper:
+class Timekeeper(Ruled):
     """A device that hears lines by its own free-running counter of microseconds, and says which UTC
     second begins at which count (docs/WIRES.md). Of each time that it is told the lowest 32 bits
     count, and each that it tells is below 2^32. Calls come in order of time, `tick` at least once
@@ -84,10 +82,10 @@ class Timekeeper:
     drift_us: the most by which its counter is wrong, in microseconds a second, 0 to 100; then
         (holdover + 2) * drift_us may be 490,000 at most
 
-    What else it takes is what a `Reader` takes, and a port is a line. It is its numbers and no
-    more: it can be copied and pickled, and goes on from there; a copy is equal to it, until one of
-    them hears something.
+    What else it takes is what a `Reader` takes, and a port is a line.
     """
+
+    _what = "timekeeper"
 
     def __init__(
         self,
@@ -146,24 +144,9 @@ class Timekeeper:
         c.timekeeper_restart(self._held)
 
     @property
-    def lock_after(self) -> int:
-        """The votes in a row before it announces."""
-        return int(self._held.setup.lock_after)
-
-    @property
-    def holdover(self) -> int:
-        """The edges without a vote at which it goes on."""
-        return int(self._held.setup.holdover)
-
-    @property
     def drift_us(self) -> int:
         """The most by which its counter is wrong, in microseconds a second."""
         return int(self._held.drift_us)
-
-    @property
-    def ports(self) -> int:
-        """How many lines it has."""
-        return ports_of(self._held.setup, WHAT)
 
     def __eq__(self, other: object) -> bool:
         """Whether it is a timekeeper with the same numbers, which goes on alike."""

@@ -1,12 +1,10 @@
-"""Timekeepers: a life of which each second is worked out by hand, and what they refuse."""
+"""Timekeepers: what they tell, by frames and without, and what they refuse."""
 from __future__ import annotations
 
 import copy
 import pickle
 import unittest
 from dataclasses import replace
-from datetime import datetime, timedelta
-from typing import Iterator, NamedTuple
 
 import irig
 from irig import Beat, Second, Stamp, Timekeeper, Zone
@@ -31,158 +29,6 @@ def hear_frame(keeper: Timekeeper, frame: str, start_us: int, *lines: int) -> No
             assert place == element + 1
 
 
-class Expected(NamedTuple):
-    """What is told of an edge, and how much earlier than frames say it is told."""
-
-    words: str  # of the lock, and the cause
-    is_announced: bool = True
-    held: int = 0  # seconds since the last vote
-    moved: int = 0
-    early_us: int = 0
-
-
-class Life:
-    """A timekeeper whose counter gains 100 us a second. Of its three lines the second is dead and
-    the third 400 us late. Edge 0 is at 2016-12-31T23:59:00Z."""
-
-    SECOND_US, ELEMENT_US, LATE_US, DRIFT_US = 1_000_100, 10_001, 400, 100
-    FIRST_US = WRAP - 52_000_000  # it wraps in the first darkness
-    LIGHT = (range(0, 45), range(85, 115), range(195, 215), range(315, 330))
-    LEAP, END = 60, 330
-
-    def __init__(self) -> None:
-        self.keeper = Timekeeper(lock_after=3, holdover=90, drift_us=self.DRIFT_US)
-        self.now_us = self.FIRST_US
-
-    @staticmethod
-    def expected(edge: int) -> Expected:
-        """Votes end at edges 45, 115 and 215. Behind the first darkness a frame ends 4.1 ms behind
-        the own edge, and is voted. Behind the second it is known 6.5 ms behind, behind the third
-        8.5 ms: the edge was told at 5 ms, and is moved."""
-        for last, end in ((45, 86), (115, 197), (215, 306)):
-            if last < edge < end:
-                held = edge - last
-                return Expected(f"holdover:{held} held", held=held, early_us=100 * held)
-        if 306 <= edge <= 316:
-            cause = "expired" if edge == 306 else "no-vote"
-            return Expected(f"unlocked {cause}", False, early_us=100 * (edge - 215))
-        votes = edge if edge < 3 else edge - 316
-        moved = int(edge in (197, 317))
-        if 0 < votes < 3:
-            return Expected(f"acquiring:{votes} acquiring", False, moved=moved)
-        return Expected("locked voted", moved=moved)
-
-    def utc_of(self, edge: int) -> str:
-        """The second that begins at an edge, over 23:59:60."""
-        if edge == self.LEAP:
-            return "2016-12-31T23:59:60Z"
-        seconds = edge if edge < self.LEAP else edge - 1
-        time = datetime(2016, 12, 31, 23, 59) + timedelta(seconds=seconds)
-        return time.isoformat() + "Z"
-
-    def told_us(self, edge: int) -> int:
-        """Where an edge is told: a frame ends 10,000 us by the counter behind its last pulse, which
-        is 1 us early."""
-        early_us = 1 + self.expected(edge).early_us
-        return self.FIRST_US + edge * self.SECOND_US - early_us
-
-    def widths(self, second: int) -> list[int]:
-        """Those of the frame that lines send in a second."""
-        pending = "insert" if second < self.LEAP else None
-        time = self.utc_of(second)
-        return irig.widths(irig.frame(time, local=2, dst=True, quality=2, pending=pending))
-
-    def until(self, time_us: int) -> Iterator[Beat]:
-        """Ticks whenever the timekeeper waits for it."""
-        while True:
-            wait_us = self.keeper.wait(self.now_us)
-            assert 0 <= wait_us <= 1_005_000
-            if self.now_us + wait_us > time_us:
-                break
-            self.now_us += wait_us
-            beat = self.keeper.tick(self.now_us)
-            if beat:
-                yield beat
-        self.now_us = time_us
-
-    def pulses(self, second: int) -> Iterator[tuple[int, int, int, int]]:
-        """Line, place, rise and width of what is heard in a second, in order."""
-        if not any(second in spell for spell in self.LIGHT):
-            return
-        start_us = self.FIRST_US + second * self.SECOND_US
-        for element, width_us in enumerate(self.widths(second)):
-            for line, late_us in ((0, 0), (2, self.LATE_US)):
-                yield line, element + 1, start_us + element * self.ELEMENT_US + late_us, width_us
-
-    def beats(self) -> Iterator[Beat]:
-        """All that is told, one after another."""
-        for second in range(self.END):
-            for line, place, rise_us, width_us in self.pulses(second):
-                yield from self.until(rise_us + width_us)
-                assert self.keeper.hear(line, rise_us, width_us) == place
-        yield from self.until(self.told_us(self.END))
-
-
-class ALife(unittest.TestCase):
-    def try_beat(self, life: Life, edge: int, beat: Beat) -> None:
-        """What is told of an edge is what was worked out."""
-        report, expected = beat.report, life.expected(edge)
-        second = life.utc_of(edge) if expected.is_announced else "-"
-        self.assertEqual(str(beat), f"{second} {expected.words}")
-        self.assertEqual(beat.edge_us, life.told_us(edge) % WRAP)
-        self.assertEqual((beat.missed, beat.moved), (0, expected.moved))
-        has_vote = expected.words.split()[-1] in ("voted", "acquiring")
-        agreed = (0, 2) if has_vote else ()
-        self.assertEqual((report.agreed, report.differed), (agreed, ()))
-        self.assertEqual((report.faulty, report.poor), ((), ()))
-        self.assertEqual(report.quality, 2 if has_vote else 15)
-        self.assertEqual(report.zone, Zone(2, True) if has_vote else None)
-
-    def stamp_is(self, life: Life, time_us: int, edge: int) -> None:
-        """An event is stamped by the second of an edge, and within the bound of the truth."""
-        bound_us = VOTE_US + life.DRIFT_US * life.expected(edge).held
-        offset_us = time_us - life.told_us(edge)
-        stamp = Stamp(Second.read(life.utc_of(edge)), offset_us, bound_us)
-        self.assertEqual(life.keeper.stamp(time_us), stamp)
-        true_us = (time_us - life.FIRST_US) * 1_000_000 / life.SECOND_US
-        self.assertLess(abs(1_000_000 * edge + offset_us - true_us), bound_us)
-
-    def try_stamps(self, life: Life, edge: int) -> None:
-        """Of events behind an edge that was told just now, before it, and too far off."""
-        told_us, before_us = life.told_us(edge), life.told_us(edge - 1)
-        is_announced = life.expected(edge).is_announced
-        was_announced = edge > 1 and life.expected(edge - 1).is_announced
-        if is_announced:
-            most_us = 1_000_000 + VOTE_US + life.DRIFT_US * life.expected(edge).held
-            for offset_us in (0, 250_000, most_us):
-                self.stamp_is(life, told_us + offset_us, edge)
-            self.assertIsNone(life.keeper.stamp(told_us + most_us + 1))
-        if was_announced:
-            self.stamp_is(life, told_us - 1, edge - 1)
-            self.stamp_is(life, before_us, edge - 1)
-        if not is_announced and not was_announced:
-            self.assertIsNone(life.keeper.stamp(told_us))
-        self.assertIsNone(life.keeper.stamp(before_us - 1))
-
-    def test_each_second(self) -> None:
-        life, edge = Life(), 0
-        for edge, beat in enumerate(life.beats(), 1):
-            with self.subTest(edge):
-                self.try_beat(life, edge, beat)
-                self.try_stamps(life, edge)
-        self.assertEqual(edge, Life.END)
-
-    def test_a_copy_lives_on(self) -> None:
-        """Each copy of a timekeeper goes on as the timekeeper would, in light and in darkness."""
-        life = Life()
-        for edge, beat in enumerate(life.beats(), 1):
-            self.try_beat(life, edge, beat)
-            life.keeper = pickle.loads(pickle.dumps(copy.copy(life.keeper)))
-            if edge == 100:
-                break
-        self.assertEqual(edge, 100)
-
-
 class Ticks(unittest.TestCase):
     def voted(self, ports: int = 3) -> Timekeeper:
         """A timekeeper that has told edge 0, which was voted."""
@@ -204,6 +50,44 @@ class Ticks(unittest.TestCase):
                     self.assertEqual(str(beat), "2017-01-01T00:00:00Z locked voted")
                     self.assertEqual(beat.edge_us, end_us % WRAP)
                     self.assertEqual(beat.report.agreed, tuple(range(ports)))
+
+    def test_what_frames_say_beside_the_time(self) -> None:
+        keeper = Timekeeper(lock_after=2, drift_us=10)
+        frame = irig.frame("2016-12-31T12:00:00Z", local=2, dst=True, quality=2)
+        hear_frame(keeper, frame, 0, 0, 2)
+        beat = told(keeper, 1_000_000)
+        self.assertEqual(str(beat), "- acquiring:1 acquiring")
+        self.assertEqual((beat.report.agreed, beat.report.quality), ((0, 2), 2))
+        self.assertEqual(beat.report.zone, Zone(2, True))
+        held = told(keeper, 2_005_000).report
+        self.assertEqual((held.agreed, held.quality, held.zone), ((), 15, None))
+
+    def test_an_edge_that_lines_move(self) -> None:
+        """The own one lies 11 ms before theirs, and is told 4 ms before their last pulse ends."""
+        keeper, frame = self.voted(), irig.widths(irig.frame("2017-01-01T00:00:00Z"))
+        for line in range(3):
+            for element, width in enumerate(frame[:99]):
+                keeper.hear(line, 11_000 + 10_000 * element, width)
+        self.assertEqual(str(told(keeper, 1_005_000)), "2017-01-01T00:00:01Z holdover:1 held")
+        for line in range(3):
+            self.assertEqual(keeper.hear(line, 1_001_000, frame[99]), 100)
+        self.assertIsNone(keeper.tick(1_011_000))
+        beat = told(keeper, 2_016_000)
+        self.assertEqual((beat.edge_us, beat.missed, beat.moved), (2_011_000, 0, 1))
+
+    def test_stamps_by_the_last_two_seconds(self) -> None:
+        keeper = self.voted()
+        told(keeper, 1_005_000)
+        seconds = [Second.read(f"2017-01-01T00:00:0{place}Z") for place in range(2)]
+        for time_us, stamp in (
+            (2_000_000 + VOTE_US + 50, Stamp(seconds[1], 1_000_000 + VOTE_US + 50, VOTE_US + 50)),
+            (2_000_000 + VOTE_US + 51, None),
+            (1_000_000, Stamp(seconds[1], 0, VOTE_US + 50)),
+            (999_999, Stamp(seconds[0], 999_999, VOTE_US)),
+            (0, Stamp(seconds[0], 0, VOTE_US)),
+            (-1, None),
+        ):
+            self.assertEqual(keeper.stamp(time_us), stamp)
 
     def test_how_lines_stand(self) -> None:
         keeper = Timekeeper(lock_after=1, drift_us=10, ports=5)

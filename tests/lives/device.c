@@ -23,7 +23,7 @@ static void arm(life *l, bool is_behind_tick) {
     judge_wait(&l->judge, wait_us, is_behind_tick);
     d->due_us = d->now_us + wait_us;
     d->tick_us = d->due_us + d->always_us + below(&d->luck, d->late_us + 1);
-    d->is_asked = (l->judge.has_told || wait_us != SECOND_US) && !l->judge.subject->is_by_wait;
+    d->is_asked = (l->judge.has_told || wait_us != SECOND_US) && !l->judge.subject->is_old;
 }
 
 /* Around edge after edge, the next one that lies ahead; or where something is just in time, or just
@@ -64,7 +64,7 @@ static void set_next_tick(life *l) {
 
 /* ---- calls */
 
-static void say(const life *l, const told_second *s) {
+static void say(const life *l, const irig_second *s) {
     const irig_report *r = &s->report;
     uint32_t edge = edge_before(&l->world, l->judge.edge_us + SECOND_US / 2);
     printf("  %10.6f s: edge %u %+lld us, day %u second %u, lock %u:%u, cause %u, ports %u, ",
@@ -74,7 +74,7 @@ static void say(const life *l, const told_second *s) {
     printf("%u missed, moved %u times\n", (unsigned)s->missed, (unsigned)s->moved);
 }
 
-static void keep(life *l, const told_second *s) {
+static void keep(life *l, const irig_second *s) {
     l->sky.told_edge_us = l->judge.edge_us;
     if (l->is_told_aloud) say(l, s);
     if (l->tolds < MOST_ENTRIES)
@@ -91,7 +91,7 @@ static uint64_t stamped_time(life *l) {
 
 void tick(life *l, uint64_t now_us) {
     device *d = &l->device;
-    told_second s = {0};
+    irig_second s = {0};
     bool is_due = d->is_asked && now_us >= d->due_us;
     d->now_us = now_us;
     uint32_t answer = l->judge.subject->tick((uint32_t)now_us, &s);
@@ -153,9 +153,23 @@ static void begin(life *l, const subject *s) {
     l->tolds = 0;
     d->is_asleep = d->is_asked = false;
     l->sky.told_edge_us = 0;
-    uint32_t answer = s->begin(&l->setup, &l->table, l->world.drift_us);
+    if (s->is_by_wait) {
+        d->pace = BY_WAIT;
+        d->late_us = d->always_us = 0;
+    }
+    uint32_t answer =
+        s->begin(&l->setup, &l->table, l->world.drift_us, (uint32_t)d->now_us);
     if (answer != IRIG_DONE) fail(j, "it does not begin: %u", answer);
     set_next_tick(l);
+}
+
+/* It begins afresh at its next tick. */
+static void flip_when_due(life *l, uint64_t now_us) {
+    device *d = &l->device;
+    if (d->flip_us == 0 || now_us <= d->flip_us) return;
+    d->flip_us = 0;
+    l->judge.subject->flip(d->flipped_bit);
+    judge_restart(&l->judge);
 }
 
 void play(life *l, const subject *s) {
@@ -167,8 +181,10 @@ void play(life *l, const subject *s) {
         uint64_t tick_us = l->device.tick_us;
         uint64_t now_us = pulse_us < tick_us ? pulse_us : tick_us;
         if (now_us > end_us) break;
+        flip_when_due(l, now_us);
         if (l->device.pace == BY_WAIT && !l->device.is_asleep) judge_time(&l->judge, now_us);
-        if (pulse_us < tick_us || (pulse_us == tick_us && is_once_in(&l->device.luck, 2)))
+        bool may_be_late = pulse_us == tick_us && !s->is_by_wait;
+        if (pulse_us < tick_us || (may_be_late && is_once_in(&l->device.luck, 2)))
             tell(l, next);
         else tick_and_go_on(l);
     }

@@ -28,13 +28,15 @@ typedef struct device {
     bool is_asked; /* `wait` asked for the next tick, and no frame has ended since */
     bool is_asleep;
     uint64_t sleep_us, wake_us; /* between these there is no tick */
+    uint64_t flip_us;           /* behind this a bit of its numbers flips; 0 none */
+    uint32_t flipped_bit;
     uint32_t edge;              /* of AROUND_EDGES */
 } device;
 
 /* What was told, and when. */
 typedef struct entry {
     uint64_t now_us, edge_us;
-    told_second second;
+    irig_second second;
 } entry;
 
 enum { MOST_ENTRIES = 10000 };
@@ -56,5 +58,24 @@ void tick(life *l, uint64_t now_us);
 
 /* Plays a life up to its last edge, or until something is wrong. */
 void play(life *l, const subject *s);
+
+/* ---- lives. Of plan.c: by chance, all of them within what is promised for. */
+
+/* Makes the life of this number; the seed is that of a whole run. */
+void plan(life *l, uint64_t seed, uint64_t number, bool is_of_three);
+
+/* Makes edges, and lines that send nominal frames at their time, of a life that has its settings,
+ * first second, leap and length. */
+void begin_lines(life *l, uint64_t start_us, walk kind, chance *luck);
+
+/* Of rows.c: small worlds with what has to come of each, those in which earlier designs failed, and
+ * those in which more is asked than any device can do. */
+
+/* Plays all rows that a subject can be asked; says which fail, if it is loud; and adds up. */
+void play_rows(life *l, const subject *s, bool is_loud, unsigned long *passed,
+               unsigned long *failed);
+
+/* Flips each bit of the line of a device of one line, behind each third element of a frame. */
+bool play_flips(life *l, const subject *s);
 
 #endif

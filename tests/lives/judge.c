@@ -13,6 +13,9 @@ enum {
     OWN_EARLY_US = 4000
 };
 
+#define SAID_OF(name, said) said,
+const char *const COUNTED_SAID[COUNTED] = {EACH_COUNTED(SAID_OF)};
+
 void fail(judge *j, const char *form, ...) {
     va_list values;
     if (j->is_failed) return;
@@ -85,9 +88,9 @@ void judge_pulse(judge *j, uint8_t line, const pulse *p) {
     follow_run(s, p);
     s->last = *p;
     s->is_any = true;
-    j->counts.pulses++;
+    j->counts[PULSES]++;
     if (j->now_us < j->lit_us) return;
-    j->counts.lit++;
+    j->counts[LIT]++;
     j->lit_us = j->now_us + SECOND_US;
 }
 
@@ -120,7 +123,7 @@ static int64_t off(const judge *j, uint64_t time_us, uint32_t n) {
 }
 
 /* A vote comes at an edge. */
-static void judge_vote(judge *j, const told_second *s, uint64_t edge_us) {
+static void judge_vote(judge *j, const irig_second *s, uint64_t edge_us) {
     uint32_t m = nearest(j, edge_us);
     int64_t off_us = off(j, edge_us, m);
     int agreed = __builtin_popcount(s->report.agreed);
@@ -133,12 +136,12 @@ static void judge_vote(judge *j, const told_second *s, uint64_t edge_us) {
     if (j->row >= j->setup.lock_after && !s->report.announces &&
         second_at(j->world, m).day <= LAST_DAY)
         fail(j, "%u votes in a row, and it is silent", j->row);
-    if (off_us < j->counts.earliest) j->counts.earliest = off_us;
-    if (off_us > j->counts.latest) j->counts.latest = off_us;
+    if (off_us < j->earliest) j->earliest = off_us;
+    if (off_us > j->latest) j->latest = off_us;
 }
 
 /* What is announced is T(m) of an edge that is near. */
-static void judge_announced(judge *j, const told_second *s, uint64_t edge_us) {
+static void judge_announced(judge *j, const irig_second *s, uint64_t edge_us) {
     const irig_report *r = &s->report;
     int64_t m, age = r->lock == IRIG_LOCK_HOLDOVER ? r->lock_count : 0;
     if (!find_second(j->world, (utc){r->day, r->sod}, &m) || m > (int64_t)j->come + 1) {
@@ -160,14 +163,13 @@ static void judge_announced(judge *j, const told_second *s, uint64_t edge_us) {
         fail(j, "T(%lld) behind T(%lld), and %u missed", (long long)m, (long long)j->announced,
              s->missed);
     j->announced = m;
-    j->counts.leaps += r->sod == DAY_S;
-    if (r->cause == IRIG_CAUSE_VOTED) j->counts.voted++;
-    else j->counts.held++;
+    j->counts[LEAPS] += r->sod == DAY_S;
+    j->counts[r->cause == IRIG_CAUSE_VOTED ? VOTED : HELD]++;
 }
 
 /* It goes silent behind an announcement only if its holdover is over, or what follows is not
  * known. */
-static void judge_silence(judge *j, const told_second *s) {
+static void judge_silence(judge *j, const irig_second *s) {
     const irig_report *last = &j->report;
     uint64_t age = last->lock == IRIG_LOCK_HOLDOVER ? last->lock_count : 0;
     uint64_t alone = age + s->missed + (s->report.agreed == 0);
@@ -179,13 +181,15 @@ static void judge_silence(judge *j, const told_second *s) {
         fail(j, "it is silent, cause %u, %u s behind a vote", s->report.cause, (unsigned)alone);
 }
 
-static void judge_report(judge *j, const told_second *s, uint64_t edge_us) {
+static void judge_report(judge *j, const irig_second *s, uint64_t edge_us) {
     const irig_report *r = &s->report;
     judge_world(j);
     if (r->cause == IRIG_CAUSE_JUMP) fail(j, "a jump");
-    if (r->cause <= IRIG_CAUSE_RANGE_END) j->counts.causes[r->cause]++;
+    j->counts[EXPIRED] += r->cause == IRIG_CAUSE_EXPIRED;
+    j->counts[GUARDED] += r->cause == IRIG_CAUSE_LEAP_GUARD;
+    j->counts[ENDED] += r->cause == IRIG_CAUSE_RANGE_END;
     if (!j->has_told && r->agreed == 0) fail(j, "it begins with no vote");
-    if (s->moved < j->moves && !j->subject->is_by_wait)
+    if (s->moved < j->moves && !j->subject->is_old)
         fail(j, "its edge was moved, and it tells of none");
     if (r->agreed != 0) judge_vote(j, s, edge_us);
     else j->row = 0;
@@ -193,10 +197,10 @@ static void judge_report(judge *j, const told_second *s, uint64_t edge_us) {
     else if (j->has_told && j->report.announces) judge_silence(j, s);
 }
 
-static void judge_told(judge *j, const told_second *s) {
+static void judge_told(judge *j, const irig_second *s) {
     uint32_t gone_us = (uint32_t)j->now_us - s->edge_us;
     uint64_t edge_us = j->now_us - gone_us;
-    j->counts.told++;
+    j->counts[TOLD]++;
     if (gone_us >= WAIT_MOST_US) {
         fail(j, "an edge %u us behind now, or ahead of it", gone_us);
         return;
@@ -231,7 +235,7 @@ static void judge_moved(judge *j, uint32_t m) {
         fail(j, "its edge is moved twice in a row, to %u", m);
     j->moved = m;
     j->moves++;
-    j->counts.moved++;
+    j->counts[MOVED]++;
 }
 
 /* If enough lines sent the frame before the last edge whole, the vote has come by now. */
@@ -240,7 +244,7 @@ static void judge_come(judge *j) {
     if (j->asked == (int64_t)m || m == 0) return;
     j->asked = m;
     if (whole_lines(j, (int64_t)m - 1) <= liars_at_most(j)) return;
-    j->counts.whole++;
+    j->counts[WHOLE]++;
     if (j->voted != (int64_t)m) judge_moved(j, m);
 }
 
@@ -257,9 +261,9 @@ void judge_time(judge *j, uint64_t now_us) {
     if (since_us > IN_TIME_US && since_us < SECOND_US / 2 && !j->is_beyond) judge_come(j);
 }
 
-void judge_tick(judge *j, uint64_t now_us, uint32_t answer, const told_second *s, bool is_due) {
+void judge_tick(judge *j, uint64_t now_us, uint32_t answer, const irig_second *s, bool is_due) {
     come_to(j, now_us);
-    j->counts.ticks++;
+    j->counts[TICKS]++;
     if (answer != IRIG_DONE) fail(j, "a tick answers %u", answer);
     if (s->is_told) judge_told(j, s);
     if (!j->is_beyond) judge_come_by_tick(j);
@@ -271,14 +275,14 @@ void judge_tick(judge *j, uint64_t now_us, uint32_t answer, const told_second *s
 }
 
 void judge_wait(judge *j, uint32_t wait_us, bool is_behind_tick) {
-    uint32_t most_us = j->subject->is_by_wait ? INT32_MAX : WAIT_MOST_US;
+    uint32_t most_us = j->subject->is_old ? INT32_MAX : WAIT_MOST_US;
     if (wait_us > most_us) fail(j, "it waits %u us", wait_us);
     if (is_behind_tick && wait_us == 0) fail(j, "it waits for nothing");
 }
 
 /* A stamp is right if its second's edge lies as near as it says. */
 void judge_stamp(judge *j, uint64_t time_us) {
-    told_stamp s = {0};
+    irig_stamp s = {0};
     int64_t m, most_us = EARLY_US + (int64_t)j->setup.holdover * j->world->drift_us;
     uint32_t answer = j->subject->stamp((uint32_t)time_us, &s);
     bool is_behind = j->has_told && j->report.announces && time_us >= j->edge_us;
@@ -297,5 +301,5 @@ void judge_stamp(judge *j, uint64_t time_us) {
         s.offset_us > SECOND_US + s.bound_us)
         fail(j, "a stamp %u us behind T(%lld), within %u us, and %lld us off", s.offset_us,
              (long long)m, s.bound_us, (long long)off_us);
-    j->counts.stamps++;
+    j->counts[STAMPS]++;
 }

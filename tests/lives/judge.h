@@ -16,12 +16,25 @@ typedef struct sent {
     int64_t whole;      /* the last frame that it sent whole, and that tells a claim */
 } sent;
 
-typedef struct counts {
-    uint64_t pulses, ticks, told, voted, held, whole, moved, stamps, lit;
-    uint64_t causes[IRIG_CAUSE_RANGE_END + 1];
-    uint64_t leaps;           /* inserted seconds that were announced */
-    int64_t earliest, latest; /* edges of votes against the true ones, in us */
-} counts;
+#define EACH_COUNTED(X)                                                                            \
+    X(LIT, "seconds in which a line sends")                                                        \
+    X(PULSES, "pulses")                                                                            \
+    X(TICKS, "ticks")                                                                              \
+    X(TOLD, "seconds told")                                                                        \
+    X(VOTED, "announced by a vote")                                                                \
+    X(HELD, "announced in holdover")                                                               \
+    X(LEAPS, "inserted ones announced")                                                            \
+    X(WHOLE, "seconds that had to have a vote")                                                    \
+    X(MOVED, "of them, moved the edge")                                                            \
+    X(STAMPS, "stamps")                                                                            \
+    X(EXPIRED, "ends of a holdover")                                                               \
+    X(GUARDED, "leap guards")                                                                      \
+    X(ENDED, "ends of the range")
+
+#define COUNTER_OF(name, said) name,
+enum { EACH_COUNTED(COUNTER_OF) COUNTED };
+
+extern const char *const COUNTED_SAID[COUNTED];
 
 typedef struct judge {
     const world *world;
@@ -45,7 +58,8 @@ typedef struct judge {
     uint32_t moves;    /* and how many there were since a second was told */
     bool is_failed;
     char text[240]; /* why */
-    counts counts;
+    uint64_t counts[COUNTED];
+    int64_t earliest, latest; /* edges of votes against the true ones, in us */
 } judge;
 
 void judge_begins(judge *j, uint64_t now_us);
@@ -55,7 +69,7 @@ void judge_restart(judge *j);
 void judge_pulse(judge *j, uint8_t line, const pulse *p);
 
 /* What a tick answered. `is_due`: `wait` asked for it, and no frame has ended since. */
-void judge_tick(judge *j, uint64_t now_us, uint32_t answer, const told_second *s, bool is_due);
+void judge_tick(judge *j, uint64_t now_us, uint32_t answer, const irig_second *s, bool is_due);
 
 /* Time goes on, of a device that ticks as `wait` says. */
 void judge_time(judge *j, uint64_t now_us);

@@ -2,7 +2,7 @@
  *
  *     lives [OPTION]..
  *
- *     --subject NAME   library; both, with the model beside it; model; or old_capture
+ *     --subject NAME   library; both, with the model beside it; model; capture, poll; old_capture
  *     --seed N         of all chance; 1 without it
  *     --seconds N      plays so many in which a line sends; 10,000 without it
  *     --life N         that life alone
@@ -10,153 +10,92 @@
  *     --overrun        one liar more than may be, so that lives have to fail
  *     --aloud          prints each second that is told
  *     --rows           plays small worlds with what has to come of each, and no lives
- *     --row NAME       that one alone
+ *     --flips          flips each bit of a line, and plays no lives
  *     --wrongs         all that can be wrong with the model has to be found
- *     --frames         prints frames, for compare_frames
- *     --compare        compares frames with those of the library
  *
  * The last line is 'N passed, M failed'. */
-#include "frames.h"
-#include "plan.h"
-#include "rows.h"
+#include "device.h"
 
 #include <stdio.h>
 #include <stdlib.h>
 #include <string.h>
 
-enum { FRAMES_COMPARED = 5000, FAILURES_SAID = 10, ENOUGH_S = 300000 };
+enum { FAILURES_SAID = 10, ENOUGH_S = 300000 };
 
 static life one;
+static uint64_t *const counts = one.judge.counts;
+static unsigned long passed, failed;
 
-typedef struct options {
+static struct {
     const subject *subject;
     uint64_t seed, seconds, life;
-    bool has_life, is_aloud, is_overrun;
+    bool has_life;
     const char *other; /* in place of lives */
-    const char *row;
-} options;
+} options = {.subject = &library_subject, .seed = 1, .seconds = 10000};
 
-static const subject *const SUBJECTS[] = {
-#ifdef HAS_TIMEKEEPER
-    &library_subject,
-    &both_subject,
-#endif
-    &model_subject,
-    &old_capture_subject,
-};
-
-/* As all boards can print it: no number here comes to 2^32. */
-static unsigned long plain(uint64_t number) {
-    return (unsigned long)number;
+static void add(bool is_passed) {
+    passed += is_passed;
+    failed += !is_passed;
 }
 
-/* ---- lives */
+/* ---- lives. As all boards can print it: no number here comes to 2^32. */
 
-static void add(counts *all, const counts *more) {
-    all->pulses += more->pulses;
-    all->ticks += more->ticks;
-    all->told += more->told;
-    all->voted += more->voted;
-    all->held += more->held;
-    all->whole += more->whole;
-    all->moved += more->moved;
-    all->stamps += more->stamps;
-    all->lit += more->lit;
-    all->leaps += more->leaps;
-    for (int cause = 0; cause <= IRIG_CAUSE_RANGE_END; cause++)
-        all->causes[cause] += more->causes[cause];
-    if (more->earliest < all->earliest) all->earliest = more->earliest;
-    if (more->latest > all->latest) all->latest = more->latest;
-}
-
-static void say_failed(const options *o, uint64_t number) {
+static void say_failed(uint64_t number) {
     static const char *const PACES_SAID[] = {"by wait",       "by polls",  "at random",
                                              "before pulses", "with gaps", "around edges"};
     const life *l = &one;
-    printf("failed: --seed %lu --life %lu: %s\n", plain(o->seed), plain(number), l->judge.text);
+    printf("failed: --seed %lu --life %lu: %s\n", (unsigned long)options.seed,
+           (unsigned long)number, l->judge.text);
     printf("  %u lines, lock_after %u, holdover %u, drift %u us, %u s, ticks %s\n", l->sky.lines,
            (unsigned)l->setup.lock_after, (unsigned)l->setup.holdover, (unsigned)l->world.drift_us,
            (unsigned)l->world.seconds, PACES_SAID[l->device.pace]);
 }
 
 /* Whether a life goes as it has to. */
-static bool play_life(const options *o, uint64_t number) {
-    memset(&one.judge.counts, 0, sizeof one.judge.counts);
-    one.judge.is_overrun = o->is_overrun;
-    one.is_told_aloud = o->is_aloud;
-    plan(&one, o->seed, number, o->subject->is_by_wait);
-    if (o->subject->is_by_wait) {
-        one.device.pace = BY_WAIT;
-        one.device.late_us = one.device.restart_one_in = 0;
-    }
-    play(&one, o->subject);
+static bool play_life(uint64_t number) {
+    plan(&one, options.seed, number, options.subject->is_old);
+    play(&one, options.subject);
     return !one.judge.is_failed;
 }
 
 /* Plays lives up to so many seconds in which a line sends. */
-static void play_lives(const options *o, counts *all, uint64_t *passed, uint64_t *failed) {
-    uint64_t number = o->has_life ? o->life : 0;
-    while (all->lit < o->seconds && *failed < FAILURES_SAID) {
-        if (play_life(o, number)) {
-            (*passed)++;
-        } else {
-            (*failed)++;
-            say_failed(o, number);
-        }
-        add(all, &one.judge.counts);
-        if (o->has_life) break;
+static void play_lives(void) {
+    uint64_t number = options.has_life ? options.life : 0;
+    do {
+        bool is_passed = play_life(number);
+        add(is_passed);
+        if (!is_passed) say_failed(number);
         number++;
-    }
-}
-
-static void say(const char *what, uint64_t number) {
-    printf("  %-34s %lu\n", what, plain(number));
-}
-
-static void say_counts(const options *o, const counts *all) {
-    printf("%s, seed %lu\n", o->subject->name, plain(o->seed));
-    say("seconds in which a line sends", all->lit);
-    say("pulses", all->pulses);
-    say("ticks", all->ticks);
-    say("seconds told", all->told);
-    say("announced by a vote", all->voted);
-    say("announced in holdover", all->held);
-    say("inserted ones announced", all->leaps);
-    say("seconds that had to have a vote", all->whole);
-    say("of them, moved the edge", all->moved);
-    say("stamps", all->stamps);
-    say("ends of a holdover", all->causes[IRIG_CAUSE_EXPIRED]);
-    say("leap guards", all->causes[IRIG_CAUSE_LEAP_GUARD]);
-    say("ends of the range", all->causes[IRIG_CAUSE_RANGE_END]);
-    printf("  edges of votes, off by             %ld to %ld us\n", (long)all->earliest,
-           (long)all->latest);
+    } while (counts[LIT] < options.seconds && failed < FAILURES_SAID && !options.has_life);
+    printf("%s, seed %lu\n", options.subject->name, (unsigned long)options.seed);
+    for (int i = 0; i < COUNTED; i++)
+        printf("  %-34s %lu\n", COUNTED_SAID[i], (unsigned long)counts[i]);
+    printf("  edges of votes, off by             %ld to %ld us\n", (long)one.judge.earliest,
+           (long)one.judge.latest);
 }
 
 /* ---- what is wrong with a model */
 
 /* The first life that finds what is wrong. */
-static bool is_found_by_lives(const options *o, uint64_t *number) {
-    uint64_t seconds = 0;
-    for (*number = 0; seconds < ENOUGH_S; ++*number) {
-        if (!play_life(o, *number)) return true;
-        seconds += one.judge.counts.lit;
-    }
+static bool is_found_by_lives(uint64_t *number) {
+    counts[LIT] = 0;
+    for (*number = 0; counts[LIT] < ENOUGH_S; ++*number)
+        if (!play_life(*number)) return true;
     return false;
 }
 
-static void find_wrongs(options *o, uint64_t *passed, uint64_t *failed) {
-    o->subject = &model_subject;
+static void find_wrongs(void) {
+    options.subject = &model_subject;
     for (model_wrong = NOTHING_WRONG + 1; model_wrong < WRONGS; model_wrong++) {
-        uint64_t right = 0, rows = 0, number;
-        play_rows(&one, o->subject, NULL, false, &right, &rows);
-        bool is_found = is_found_by_lives(o, &number);
-        printf("%s: %lu rows", WRONG_NAMES[model_wrong], plain(rows));
-        if (is_found) printf(", life %lu: %s", plain(number), one.judge.text);
+        unsigned long right = 0, rows = 0;
+        uint64_t number;
+        play_rows(&one, options.subject, false, &right, &rows);
+        bool is_found = is_found_by_lives(&number);
+        printf("%s: %lu rows", WRONG_NAMES[model_wrong], rows);
+        if (is_found) printf(", life %lu: %s", (unsigned long)number, one.judge.text);
         printf("\n");
-        if (is_found || rows > 0) (*passed)++;
-        else (*failed)++;
+        add(is_found || rows > 0);
     }
-    model_wrong = NOTHING_WRONG;
 }
 
 /* ---- words */
@@ -166,70 +105,49 @@ static void refuse(const char *what, const char *word) {
     exit(2);
 }
 
+static bool are_same(const char *word, const char *other) { return strcmp(word, other) == 0; }
+
 static const subject *subject_of(const char *name) {
+    static const subject *const SUBJECTS[] = {&library_subject, &both_subject, &model_subject,
+                                              &capture_subject, &poll_subject,
+                                              &old_capture_subject};
     for (size_t i = 0; i < sizeof SUBJECTS / sizeof *SUBJECTS; i++)
-        if (strcmp(SUBJECTS[i]->name, name) == 0) return SUBJECTS[i];
+        if (are_same(SUBJECTS[i]->name, name)) return SUBJECTS[i];
     refuse("subject", name);
     return NULL;
 }
 
 static wrong wrong_of(const char *name) {
     for (int i = 0; i < WRONGS; i++)
-        if (strcmp(WRONG_NAMES[i], name) == 0) return (wrong)i;
+        if (are_same(WRONG_NAMES[i], name)) return (wrong)i;
     refuse("wrong", name);
     return NOTHING_WRONG;
 }
 
-/* Takes a word without a value. */
-static bool take_word(options *o, const char *word) {
-    static const char *const OTHERS[] = {"--rows", "--wrongs", "--frames", "--compare"};
-    for (size_t i = 0; i < sizeof OTHERS / sizeof *OTHERS; i++)
-        if (strcmp(word, OTHERS[i]) == 0) {
-            o->other = OTHERS[i];
-            return true;
-        }
-    bool is_aloud = strcmp(word, "--aloud") == 0, is_overrun = strcmp(word, "--overrun") == 0;
-    o->is_aloud |= is_aloud;
-    o->is_overrun |= is_overrun;
-    return is_aloud || is_overrun;
-}
-
-static void take_value(options *o, const char *word, const char *value) {
-    if (strcmp(word, "--subject") == 0) o->subject = subject_of(value);
-    else if (strcmp(word, "--wrong") == 0) model_wrong = wrong_of(value);
-    else if (strcmp(word, "--seed") == 0) o->seed = strtoull(value, NULL, 10);
-    else if (strcmp(word, "--seconds") == 0) o->seconds = strtoull(value, NULL, 10);
-    else if (strcmp(word, "--life") == 0) o->life = strtoull(value, NULL, 10);
-    else if (strcmp(word, "--row") == 0) o->row = value;
+static void take_value(const char *word, const char *value) {
+    if (are_same(word, "--subject")) options.subject = subject_of(value);
+    else if (are_same(word, "--wrong")) model_wrong = wrong_of(value);
+    else if (are_same(word, "--seed")) options.seed = strtoull(value, NULL, 10);
+    else if (are_same(word, "--seconds")) options.seconds = strtoull(value, NULL, 10);
+    else if (are_same(word, "--life")) options.life = strtoull(value, NULL, 10);
     else refuse("option", word);
-    if (o->row) o->other = "--rows";
-    o->has_life |= strcmp(word, "--life") == 0;
+    options.has_life |= are_same(word, "--life");
 }
 
 int main(int count, char **words) {
-    options o = {.subject = SUBJECTS[0], .seed = 1, .seconds = 10000};
-    counts all = {0};
-    uint64_t passed = 0, failed = 0;
-    for (int i = 1; i < count; i++)
-        if (!take_word(&o, words[i])) {
-            if (i + 1 == count) refuse("option", words[i]);
-            take_value(&o, words[i], words[i + 1]);
-            i++;
-        }
-    one.is_told_aloud = o.is_aloud;
-    if (!o.other) {
-        play_lives(&o, &all, &passed, &failed);
-        say_counts(&o, &all);
-    } else if (strcmp(o.other, "--rows") == 0) {
-        play_rows(&one, o.subject, o.row, true, &passed, &failed);
-    } else if (strcmp(o.other, "--wrongs") == 0) {
-        find_wrongs(&o, &passed, &failed);
-    } else if (strcmp(o.other, "--frames") == 0) {
-        print_frames(FRAMES_COMPARED);
-        return 0;
-    } else {
-        compare_frames(FRAMES_COMPARED, &passed, &failed);
+    for (int i = 1; i < count; i++) {
+        const char *word = words[i];
+        if (are_same(word, "--aloud")) one.is_told_aloud = true;
+        else if (are_same(word, "--overrun")) one.judge.is_overrun = true;
+        else if (are_same(word, "--rows") || are_same(word, "--flips") ||
+                 are_same(word, "--wrongs"))
+            options.other = word;
+        else take_value(word, ++i < count ? words[i] : "");
     }
-    printf("%lu passed, %lu failed\n", plain(passed), plain(failed));
+    if (!options.other) play_lives();
+    else if (are_same(options.other, "--wrongs")) find_wrongs();
+    else if (are_same(options.other, "--flips")) add(play_flips(&one, options.subject));
+    else play_rows(&one, options.subject, true, &passed, &failed);
+    printf("%lu passed, %lu failed\n", passed, failed);
     return failed > 0;
 }

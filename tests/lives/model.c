@@ -5,17 +5,10 @@
 
 #include <string.h>
 
-const char *const WRONG_NAMES[WRONGS] = {
-    "nothing_wrong",  "counts_early",    "call_is_edge",   "counts_to_call", "any_claim",
-    "ignores_marks",  "empties_ports",   "takes_stale",    "one_is_enough",  "agrees_widely",
-    "agrees_shortly", "has_no_patience", "moves_never",    "misses_none",    "forgets_fast",
-    "forgets_caught", "keeps_ends",      "rounds_low",     "keeps_its_edge", "holds_long",
-    "waits_long",     "takes_ahead",     "takes_earliest", "idles_not",      "guards_not",
-};
+#define NAME_OF(wrong) #wrong,
+const char *const WRONG_NAMES[WRONGS] = {EACH_WRONG(NAME_OF)};
 wrong model_wrong;
 
-static const uint32_t SECOND_US = 1000000;
-static const uint32_t ELEMENT_US = 10000;
 static const uint32_t AHEAD_US = 10000;
 static const uint32_t HALF_TURN = UINT32_C(1) << 31;
 
@@ -41,7 +34,7 @@ static struct {
     heard_line line[5];
     bool has_edge;
     uint32_t edge_us, drift_us, moved;
-    told_second last, before; /* what was told last, as far as it announces */
+    irig_second last, before; /* what was told last, as far as it announces */
 } k;
 
 static bool is(wrong one) { return model_wrong == one; }
@@ -187,7 +180,7 @@ static void forget_ends(void) {
 }
 
 /* A second that begins at an edge, behind so many that were missed. */
-static void tell(told_second *s, uint32_t now_us, uint32_t edge_us, uint32_t missed,
+static void tell(irig_second *s, uint32_t now_us, uint32_t edge_us, uint32_t missed,
                  const heard_line *vote) {
     irig_report lost;
     for (uint32_t i = 0; i < missed && !is(MISSES_NONE); i++) step(&k.reader, NULL, &lost);
@@ -204,7 +197,7 @@ static void tell(told_second *s, uint32_t now_us, uint32_t edge_us, uint32_t mis
     k.last = *s;
 }
 
-static void tell_by_lines(told_second *s, uint32_t now_us, uint32_t end_us) {
+static void tell_by_lines(irig_second *s, uint32_t now_us, uint32_t end_us) {
     const heard_line *vote = vote_of(now_us);
     if (is(TAKES_EARLIEST)) end_us = earliest_near(end_us, now_us);
     uint32_t to_us = is(COUNTS_TO_CALL) ? now_us : end_us;
@@ -221,7 +214,7 @@ static void tell_by_lines(told_second *s, uint32_t now_us, uint32_t end_us) {
     if (!is(KEEPS_ENDS)) forget_ends();
 }
 
-static void tell_alone(told_second *s, uint32_t now_us) {
+static void tell_alone(irig_second *s, uint32_t now_us) {
     uint32_t patience_us = is(HAS_NO_PATIENCE) ? 0 : 5000;
     uint32_t gap_us = now_us - k.edge_us;
     if (is(COUNTS_EARLY) && k.has_edge && gap_us < HALF_TURN) gap_us += SECOND_US / 2;
@@ -238,7 +231,7 @@ static void idle(heard_line *l, uint32_t now_us) {
     l->was_marker = true;
 }
 
-static uint32_t tick(uint32_t now_us, told_second *s) {
+static uint32_t tick(uint32_t now_us, irig_second *s) {
     memset(s, 0, sizeof *s);
     for (int i = 0; i < k.lines; i++) {
         idle(&k.line[i], now_us);
@@ -266,16 +259,16 @@ static uint32_t wait(uint32_t now_us) {
 }
 
 /* A stamp by a second, of what came behind its edge, by a second and the edge's error at most. */
-static bool stamp_by(const told_second *s, uint32_t time_us, told_stamp *stamp) {
+static bool stamp_by(const irig_second *s, uint32_t time_us, irig_stamp *stamp) {
     const irig_report *r = &s->report;
     uint32_t age = r->lock == IRIG_LOCK_HOLDOVER ? r->lock_count : 0;
     uint32_t bound_us = 1549 + age * k.drift_us, offset_us = time_us - s->edge_us;
     if (!r->announces || offset_us > SECOND_US + bound_us) return false;
-    *stamp = (told_stamp){r->day, r->sod, offset_us, bound_us};
+    *stamp = (irig_stamp){r->day, r->sod, offset_us, bound_us};
     return true;
 }
 
-static uint32_t stamp(uint32_t time_us, told_stamp *stamp) {
+static uint32_t stamp(uint32_t time_us, irig_stamp *stamp) {
     bool is_there = stamp_by(&k.last, time_us, stamp) || stamp_by(&k.before, time_us, stamp);
     return is_there ? IRIG_DONE : IRIG_FAULT_VALUE;
 }
@@ -292,9 +285,11 @@ static void restart(void) {
     memset(&k.before, 0, sizeof k.before);
 }
 
-static uint32_t begin(const irig_setup *setup, const irig_table *table, uint32_t drift_us) {
+static uint32_t begin(const irig_setup *setup, const irig_table *table, uint32_t drift_us,
+                      uint32_t now_us) {
+    (void)now_us;
     if (drift_us > 100) return IRIG_FAULT_VALUE;
-    if ((uint64_t)(setup->holdover + 2) * drift_us + 10000 > 500000) return 35;
+    if ((uint64_t)(setup->holdover + 2) * drift_us + 10000 > 500000) return IRIG_FAULT_DRIFT;
     k.reader.setup = *setup;
     if (is(HOLDS_LONG)) k.reader.setup.holdover += 5;
     k.drift_us = drift_us;
@@ -307,4 +302,5 @@ static uint32_t begin(const irig_setup *setup, const irig_table *table, uint32_t
     return IRIG_DONE;
 }
 
-const subject model_subject = {"model", begin, hear, tick, wait, restart, stamp, false};
+const subject model_subject = {"model", begin, hear, tick, wait, restart, stamp, NULL, false,
+                               false};

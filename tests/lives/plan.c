@@ -1,4 +1,4 @@
-#include "plan.h"
+#include "device.h"
 
 #include <string.h>
 

@@ -1,20 +1,20 @@
-#include "rows.h"
-#include "plan.h"
+#include "device.h"
 
 #include <stdio.h>
 #include <stdlib.h>
 #include <string.h>
 
-enum { MOST_PULSES = 20000, ALL = 31 };
+enum { MOST_PULSES = 20000, ALL = 31, BEGIN_US = -600000 };
 
 static pulse script[MOST_PULSES];
 static uint32_t scripted;
+static uint32_t given; /* the number that the table gives a row */
 
 /* ---- making worlds */
 
-/* Three lines of nominal frames at their time, at noon, no drift, and a tick when `wait` says; the
- * counter turns in the first second. */
-static void begin_row(life *l, uint32_t seconds) {
+/* Three lines of nominal frames at their time, at noon, and a tick when `wait` says; the counter
+ * turns in the first second. */
+static void begin_drifting(life *l, uint32_t seconds, uint32_t drift_us) {
     chance luck = {7};
     memset(&l->device, 0, sizeof l->device);
     memset(&l->table, 0, sizeof l->table);
@@ -22,19 +22,28 @@ static void begin_row(life *l, uint32_t seconds) {
     l->setup = (irig_setup){.lock_after = 3, .holdover = 300};
     l->sky.lines = 3;
     l->world.seconds = seconds;
-    l->world.drift_us = 0;
+    l->world.drift_us = drift_us;
     l->world.is_odd = l->world.is_subtracted = false;
     l->world.first = (utc){9826, 45290};
     l->world.leap_day = -1;
     l->world.leap = 0;
     l->judge.is_beyond = false;
-    begin_lines(l, (UINT64_C(3) << 32) - 600000, WALK, &luck);
+    l->judge.earliest = 0;
+    begin_lines(l, (UINT64_C(3) << 32) + (uint64_t)(int64_t)BEGIN_US, FAST, &luck);
 }
 
-static void drift(life *l, uint32_t drift_us, walk kind) {
-    chance luck = {7};
-    l->world.drift_us = drift_us;
-    make_edges(&l->world, (UINT64_C(3) << 32) - 600000, kind, &luck);
+static void begin_row(life *l, uint32_t seconds) { begin_drifting(l, seconds, 0); }
+
+/* A device of one line, which nobody outvotes. */
+static void begin_alone(life *l, uint32_t seconds) {
+    begin_row(l, seconds);
+    l->sky.lines = 1;
+    l->setup.redundancy = IRIG_PORTS_ONE;
+}
+
+/* An edge lies so far behind where it would be by seconds of a million. */
+static void set_edge(world *w, uint32_t edge, int64_t behind_us) {
+    w->edge_us[edge] = w->edge_us[0] + edge * (uint64_t)SECOND_US + (uint64_t)behind_us;
 }
 
 static void send(life *l, uint8_t line, int32_t offset_us, width kind) {
@@ -46,13 +55,15 @@ static void darken(life *l, uint32_t from, uint32_t to, unsigned lines) {
     l->sky.dark[l->sky.darks++] = (dark){from, to, lines};
 }
 
-/* A lie of whole frames, as nominal as the true ones, from a little before one edge to another. */
-static lie *add_lie(life *l, uint8_t line, uint32_t from, uint32_t to) {
+/* A lie of whole frames, as nominal as the true ones, from a little before one edge to another: of
+ * a second so far off, or none. */
+static lie *add_lie(life *l, uint8_t line, uint32_t from, uint32_t to, int32_t by) {
     lie *told = &l->sky.lie[l->sky.lies++];
-    uint64_t begins_us = from > 0 ? l->world.edge_us[from] - 20000 : 0;
-    *told = (lie){.from_us = begins_us,
+    *told = (lie){.from_us = from > 0 ? l->world.edge_us[from] - 20000 : 0,
                   .to_us = l->world.edge_us[to] - 20000,
                   .line = line,
+                  .saying = by == 0 ? SAYS_TRUTH : SAYS_OTHER,
+                  .by = by,
                   .spacing_us = ELEMENT_US};
     return told;
 }
@@ -64,6 +75,7 @@ static void begin_all(life *l) {
 /* Writes down all pulses of a line, so that some can be changed, and lets it send those. */
 static void write_down(life *l, uint8_t number) {
     line *from = &l->sky.line[number];
+    begin_all(l);
     scripted = 0;
     for (; !from->is_over && scripted < MOST_PULSES; go_on(from, &l->sky))
         script[scripted++] = from->next;
@@ -88,6 +100,14 @@ static void add_pulse(uint64_t rise_us, uint32_t width_us) {
 
 /* ---- what came of them */
 
+static bool is_right(const life *l) { return !l->judge.is_failed; }
+
+static bool goes_right(life *l, const subject *s) {
+    begin_all(l);
+    play(l, s);
+    return is_right(l);
+}
+
 static const entry *entry_at(const life *l, uint32_t edge) {
     for (int i = 0; i < l->tolds; i++)
         if (l->told[i].edge_us - l->world.edge_us[edge] + 2000 < 4000) return &l->told[i];
@@ -110,95 +130,83 @@ static bool have_votes(const life *l, uint32_t from, uint32_t to) {
     return true;
 }
 
-static bool is_right(const life *l) { return !l->judge.is_failed; }
+/* Each second of a life has its vote, and none is told beside them. */
+static bool all_voted(life *l, const subject *s) {
+    uint32_t end = l->world.seconds;
+    return goes_right(l, s) && have_votes(l, 1, end) && l->tolds == (int)end;
+}
 
 /* ---- the rows */
 
-/* The device's own edge comes to lie early by 20 ms, or by 0.3 or 0.9 s: it ticks in the middle of
- * frames. It announces again within lock_after + 2 seconds. */
-static bool comes_back(life *l, const subject *s, uint32_t dark_s) {
-    begin_row(l, dark_s + 20);
+/* Dark for so many seconds, the device's own edge comes to lie early by 20 ms, or by 0.3 or 0.9 s:
+ * it ticks in the middle of frames. It announces again within lock_after + 2 seconds. */
+static bool dark_for_long(life *l, const subject *s) {
+    begin_drifting(l, given + 20, 100);
     l->setup.holdover = 100;
-    drift(l, 100, FAST);
-    darken(l, 5, 5 + dark_s, ALL);
-    begin_all(l);
-    play(l, s);
-    for (uint32_t edge = 10 + dark_s; edge < 20 + dark_s; edge++)
+    darken(l, 5, 5 + given, ALL);
+    if (!goes_right(l, s)) return false;
+    for (uint32_t edge = 10 + given; edge < 20 + given; edge++)
         if (!announces(l, edge, IRIG_CAUSE_VOTED)) return false;
-    return is_right(l);
+    return true;
 }
 
-static bool dark_for_minutes(life *l, const subject *s) { return comes_back(l, s, 200); }
-static bool dark_for_an_hour(life *l, const subject *s) { return comes_back(l, s, 3000); }
-static bool dark_for_hours(life *l, const subject *s) { return comes_back(l, s, 9000); }
-
-static bool votes_by_polls(life *l, const subject *s, uint32_t poll_us) {
+static bool polled(life *l, const subject *s) {
     begin_row(l, 30);
     l->device.pace = BY_POLLS;
-    l->device.poll_us = poll_us;
-    begin_all(l);
-    play(l, s);
-    return is_right(l) && have_votes(l, 1, 30) && l->tolds == 30;
+    l->device.poll_us = given;
+    return all_voted(l, s);
 }
 
-static bool polled_fast(life *l, const subject *s) { return votes_by_polls(l, s, 500); }
-static bool polled_each_20_ms(life *l, const subject *s) { return votes_by_polls(l, s, 20000); }
-static bool polled_each_95_ms(life *l, const subject *s) { return votes_by_polls(l, s, 95000); }
-
 /* It ends so much before the first of two true lines, and tells something else, or not. */
-static bool early_liar(life *l, const subject *s, int32_t shift_us, saying saying, width kind) {
+static bool early_liar(life *l, const subject *s, int32_t shift_us, int32_t by, width kind) {
     begin_row(l, 30);
     send(l, 0, -449, kind);
     send(l, 1, 449, kind);
-    lie *told = add_lie(l, 2, 0, 30);
+    lie *told = add_lie(l, 2, 0, 30, by);
     told->aim = AT_BOUND;
     told->shift_us = shift_us;
-    told->saying = saying;
-    told->by = 1;
-    begin_all(l);
-    play(l, s);
-    return is_right(l) && have_votes(l, 1, 30);
+    return goes_right(l, s) && have_votes(l, 1, 30);
 }
 
 static bool liar_ends_before_a_wide_marker(life *l, const subject *s) {
-    return early_liar(l, s, -1000, SAYS_OTHER, WIDE);
+    return early_liar(l, s, -1000, 1, WIDE);
 }
 
 static bool liar_ends_an_element_early(life *l, const subject *s) {
-    if (!early_liar(l, s, -10100, SAYS_TRUTH, NOMINAL)) return false;
-    return l->judge.counts.earliest >= -549;
+    return early_liar(l, s, -10100, 0, NOMINAL) && l->judge.earliest >= -549;
 }
 
 static bool liar_ends_at_the_bound(life *l, const subject *s) {
-    return early_liar(l, s, -1000, SAYS_TRUTH, WIDE);
+    return early_liar(l, s, -1000, 0, WIDE);
 }
 
 /* Nothing is told: of two lines each tells a time of its own. */
 static bool two_tell_two_times(life *l, const subject *s) {
     begin_row(l, 20);
     darken(l, 0, 20, 4);
-    lie *told = add_lie(l, 0, 0, 20);
-    told->saying = SAYS_OTHER;
-    told->by = 1;
-    begin_all(l);
-    play(l, s);
-    return is_right(l) && l->tolds == 0;
+    add_lie(l, 0, 0, 20, 1);
+    return goes_right(l, s) && l->tolds == 0;
 }
 
 /* What is refused, so that nothing is held for half a second's drift. */
 static bool holdover_is_bounded(life *l, const subject *s) {
     static const struct {
-        uint32_t holdover, drift_us;
-        bool is_taken;
-    } TRIED[] = {{4898, 100, true},      {4899, 100, false},   {48998, 10, true},
-                 {48999, 10, false},     {489998, 1, true},    {489999, 1, false},
-                 {1000000, 0, true},     {1000000, 1, false},  {0, 101, false},
-                 {0, UINT32_MAX, false}, {1000000, 100, false}};
+        uint32_t holdover, drift_us, answer;
+    } TRIED[] = {{4898, 100, IRIG_DONE},
+                 {4899, 100, IRIG_FAULT_DRIFT},
+                 {48998, 10, IRIG_DONE},
+                 {48999, 10, IRIG_FAULT_DRIFT},
+                 {489998, 1, IRIG_DONE},
+                 {489999, 1, IRIG_FAULT_DRIFT},
+                 {1000000, 0, IRIG_DONE},
+                 {1000000, 1, IRIG_FAULT_DRIFT},
+                 {0, 101, IRIG_FAULT_VALUE},
+                 {0, UINT32_MAX, IRIG_FAULT_VALUE},
+                 {1000000, 100, IRIG_FAULT_DRIFT}};
     begin_row(l, 1);
     for (size_t i = 0; i < sizeof TRIED / sizeof *TRIED; i++) {
         l->setup.holdover = TRIED[i].holdover;
-        if ((s->begin(&l->setup, &l->table, TRIED[i].drift_us) == IRIG_DONE) != TRIED[i].is_taken)
-            return false;
+        if (s->begin(&l->setup, &l->table, TRIED[i].drift_us, 0) != TRIED[i].answer) return false;
     }
     return true;
 }
@@ -206,16 +214,15 @@ static bool holdover_is_bounded(life *l, const subject *s) {
 /* A call some microseconds behind one of a later time answers nothing; what follows is right. */
 static bool call_out_of_order(life *l, const subject *s) {
     begin_row(l, 8);
-    begin_all(l);
-    play(l, s);
-    told_second told;
+    bool went_right = goes_right(l, s);
+    irig_second told;
     uint32_t edge_us = (uint32_t)l->judge.edge_us;
     for (uint32_t back_us = 1; back_us <= 10000; back_us += 37) {
         s->tick(edge_us - back_us, &told);
         if (told.is_told || s->wait(edge_us - back_us) > 1005000 + back_us) return false;
     }
     s->tick(edge_us + 1005000, &told);
-    return is_right(l) && told.is_told && told.missed == 0 && told.edge_us == edge_us + SECOND_US;
+    return went_right && told.is_told && told.missed == 0 && told.edge_us == edge_us + SECOND_US;
 }
 
 /* In each second another line is half a second off, and out of step in the next. Behind the first
@@ -224,18 +231,17 @@ static bool rotating_liars(life *l, const subject *s) {
     begin_row(l, 30);
     l->judge.is_beyond = true;
     for (uint32_t n = 0; n < 29; n++) {
-        lie *told = add_lie(l, (uint8_t)(n % 3), n, n + 1);
+        lie *told = add_lie(l, (uint8_t)(n % 3), n, n + 1, 0);
         told->from_us = l->world.edge_us[n] - 500;
         told->to_us = l->world.edge_us[n + 1] - 500;
         told->aim = SHIFTED;
         told->shift_us = -460000;
     }
     darken(l, 29, 30, ALL);
-    begin_all(l);
-    play(l, s);
+    if (!goes_right(l, s)) return false;
     for (uint32_t edge = 2; edge <= 30; edge++)
         if (has_vote(l, edge)) return false;
-    return is_right(l) && has_vote(l, 1) && l->judge.report.announces == 0;
+    return has_vote(l, 1) && l->judge.report.announces == 0;
 }
 
 /* A liar begins with a pulse just behind the edge, before the tick, which comes 3 ms late: its true
@@ -245,7 +251,6 @@ static bool liar_begins_at_the_edge(life *l, const subject *s) {
     l->device.always_us = 3000;
     darken(l, 0, 12, 4);
     darken(l, 6, 12, 2);
-    begin_all(l);
     write_down(l, 1);
     add_pulse(l->world.edge_us[6] + 500, 2000);
     add_pulse(l->world.edge_us[6] + 3500, 2000);
@@ -259,28 +264,24 @@ static bool liar_begins_at_the_edge(life *l, const subject *s) {
 static bool slow_drag(life *l, const subject *s) {
     begin_row(l, 60);
     darken(l, 5, 60, 6);
-    lie *told = add_lie(l, 0, 5, 60);
+    lie *told = add_lie(l, 0, 5, 60, 0);
     told->aim = WALKING;
-    told->saying = SAYS_TRUTH;
     told->rate_us = -1000;
-    begin_all(l);
-    play(l, s);
+    if (!goes_right(l, s)) return false;
     for (uint32_t edge = 6; edge < 60; edge++)
         if (!announces(l, edge, IRIG_CAUSE_HELD) ||
             entry_at(l, edge)->edge_us != l->world.edge_us[edge])
             return false;
-    return is_right(l);
+    return true;
 }
 
 /* A line that lied has its hundredth place in the middle of its next true second. */
-static bool residue(life *l, const subject *s) {
+static bool residue_of_a_lie(life *l, const subject *s) {
     begin_row(l, 20);
-    lie *told = add_lie(l, 0, 5, 8);
+    lie *told = add_lie(l, 0, 5, 8, 0);
     told->aim = SHIFTED;
     told->shift_us = 300000;
-    begin_all(l);
-    play(l, s);
-    return is_right(l) && have_votes(l, 1, 20) && l->tolds == 20;
+    return all_voted(l, s);
 }
 
 /* No tick comes for a hundred seconds, and nothing on the lines: they are counted. */
@@ -289,10 +290,9 @@ static bool sleep(life *l, const subject *s) {
     darken(l, 10, 112, ALL);
     l->device.sleep_us = l->world.edge_us[10] + 200000;
     l->device.wake_us = l->world.edge_us[110] + 300000;
-    begin_all(l);
-    play(l, s);
+    bool went_right = goes_right(l, s);
     const entry *woken = entry_at(l, 110);
-    return is_right(l) && woken && woken->second.missed == 99 &&
+    return went_right && woken && woken->second.missed == 99 &&
            announces(l, 110, IRIG_CAUSE_HELD) && have_votes(l, 113, 120);
 }
 
@@ -301,7 +301,7 @@ static bool sleep(life *l, const subject *s) {
  * hundred pulses end in the middle of that frame, and read as a time with right parity and right
  * binary seconds. */
 static void join_frames(life *l, uint8_t number, uint32_t frame) {
-    content what = {.at = {0, 35843}};
+    content what = {.at = {1, 3443}, .zone = -30};
     struct frame head = encode(&what, false, false);
     write_down(l, number);
     uint64_t edge_us = l->world.edge_us[frame];
@@ -318,28 +318,22 @@ static void join_frames(life *l, uint8_t number, uint32_t frame) {
     for (unsigned element = 0; element < 40; element++)
         add_pulse(edge_us - 400000 + ELEMENT_US * element,
                   width_of(NOMINAL, &head, element, &luck));
+    send_script(l, number);
 }
 
 static bool joined_frame(life *l, const subject *s) {
     begin_row(l, 12);
-    begin_all(l);
     join_frames(l, 2, 6);
-    send_script(l, 2);
     play(l, s);
     return is_right(l) && have_votes(l, 1, 12) && l->tolds == 12;
 }
 
-/* The same of a single line, which nobody outvotes: the frame is there, so the row above tries
- * something. */
+/* The same of a single line: the frame is there, so the row above tries something. */
 static bool joined_frame_alone(life *l, const subject *s) {
-    begin_row(l, 7);
+    begin_alone(l, 7);
     l->judge.is_beyond = true;
-    l->sky.lines = 1;
-    l->setup.redundancy = IRIG_PORTS_ONE;
     darken(l, 0, 5, ALL);
-    begin_all(l);
     join_frames(l, 0, 6);
-    send_script(l, 0);
     play(l, s);
     const entry *first = l->tolds > 0 ? &l->told[0] : NULL;
     return is_right(l) && first && first->second.report.agreed == 1 &&
@@ -352,19 +346,15 @@ static bool lines_apart(life *l, const subject *s) {
     send(l, 0, -449, WIDE);
     send(l, 1, 449, WIDE);
     send(l, 2, 449, WIDE);
-    begin_all(l);
-    play(l, s);
-    return is_right(l) && have_votes(l, 1, 20) && l->tolds == 20;
+    return all_voted(l, s);
 }
 
 /* Dark from edge 6 to 139, in seconds of so much more or less than a million, and then two lines as
  * far apart as they may lie, with seconds of a million. */
 static void drift_in_the_dark(life *l, int32_t rate_us) {
-    begin_row(l, 180);
-    l->world.drift_us = 100;
-    for (uint32_t n = 0; n <= l->world.seconds + 1; n++)
-        l->world.edge_us[n + 1] =
-            l->world.edge_us[n] + (uint64_t)(SECOND_US + (n >= 6 && n < 139 ? rate_us : 0));
+    begin_drifting(l, 180, 100);
+    for (uint32_t n = 0; n <= l->world.seconds + 2; n++)
+        set_edge(&l->world, n, rate_us * (n <= 6 ? 0 : n <= 139 ? (int32_t)n - 6 : 133));
     send(l, 0, -449, NOMINAL);
     send(l, 1, 449, NOMINAL);
     darken(l, 6, 139, ALL);
@@ -374,59 +364,42 @@ static void drift_in_the_dark(life *l, int32_t rate_us) {
 /* The own tick falls between the ends of the two: they do agree. */
 static bool tick_between_two_ends(life *l, const subject *s) {
     drift_in_the_dark(l, 42);
-    begin_all(l);
-    play(l, s);
-    return is_right(l) && have_votes(l, 141, 180);
-}
-
-/* Behind long darkness the lines' edge lies so far behind the own one. */
-static void play_half_a_second_off(life *l, const subject *s, uint64_t behind_us) {
-    begin_row(l, 5020);
-    l->world.drift_us = 100;
-    for (uint32_t n = 6; n <= l->world.seconds + 2; n++) {
-        uint64_t late_us = 100 * (uint64_t)(n - 6);
-        l->world.edge_us[n] = l->world.edge_us[0] + n * (uint64_t)SECOND_US +
-                              (late_us < behind_us ? late_us : behind_us);
-    }
-    darken(l, 6, 5010, ALL);
-    begin_all(l);
-    play(l, s);
-}
-
-/* From half a second on it is the next second's; else this one's again, and the clock is set. */
-static bool half_a_second_off(life *l, const subject *s) {
-    for (uint64_t behind_us = 499999; behind_us <= 500001; behind_us++) {
-        play_half_a_second_off(l, s, behind_us);
-        bool is_next = behind_us >= 500000;
-        if (!is_right(l) || has_vote(l, 5011) != is_next || !have_votes(l, 5012, 5020))
-            return false;
-        if (entry_at(l, is_next ? 5011 : 5012)->second.moved != !is_next) return false;
-    }
-    return true;
+    return goes_right(l, s) && have_votes(l, 141, 180);
 }
 
 /* The third ends a millisecond before the first, and tells something else: the clock is set all the
  * same. */
 static bool liar_beside_a_late_clock(life *l, const subject *s) {
     drift_in_the_dark(l, -50);
-    lie *told = add_lie(l, 2, 139, 180);
+    lie *told = add_lie(l, 2, 139, 180, 1);
     told->aim = AT_BOUND;
     told->shift_us = -1000;
-    told->saying = SAYS_OTHER;
-    told->by = 1;
-    begin_all(l);
-    play(l, s);
-    return is_right(l) && have_votes(l, 141, 180);
+    return goes_right(l, s) && have_votes(l, 141, 180);
+}
+
+/* Behind long darkness the lines' edge lies so far behind the own one. From half a second on it is
+ * the next second's; else this one's again, and the clock is set. */
+static bool half_a_second_off(life *l, const subject *s) {
+    for (uint32_t behind_us = 499999; behind_us <= 500001; behind_us++) {
+        bool is_next = behind_us >= 500000;
+        begin_drifting(l, 5020, 100);
+        for (uint32_t n = 0; n <= l->world.seconds + 2; n++) {
+            uint32_t late_us = n > 6 ? 100 * (n - 6) : 0;
+            set_edge(&l->world, n, late_us < behind_us ? late_us : behind_us);
+        }
+        darken(l, 6, 5010, ALL);
+        if (!goes_right(l, s) || has_vote(l, 5011) != is_next || !have_votes(l, 5012, 5020))
+            return false;
+        if (entry_at(l, is_next ? 5011 : 5012)->second.moved != !is_next) return false;
+    }
+    return true;
 }
 
 /* A device of one line is switched on in the middle of a frame, and the first pulses that it hears
  * are false. A hundred places later no frame has ended. */
 static bool switched_on_in_a_frame(life *l, const subject *s) {
-    begin_row(l, 6);
+    begin_alone(l, 6);
     l->judge.is_beyond = true;
-    l->sky.lines = 1;
-    l->setup.redundancy = IRIG_PORTS_ONE;
-    begin_all(l);
     write_down(l, 0);
     memmove(script, script + 9, (scripted - 9) * sizeof *script);
     scripted -= 9;
@@ -443,42 +416,34 @@ static bool switched_on_in_a_frame(life *l, const subject *s) {
 
 /* Edge `frame` + 4,295 lies a turn of the counter behind edge `frame`. */
 static uint32_t turn(life *l, uint32_t frame) {
-    begin_row(l, 4310);
+    int64_t less_us = 4295 * (int64_t)SECOND_US - (INT64_C(1) << 32);
     l->world.drift_us = 10;
-    uint64_t less_us = 4295 * (uint64_t)SECOND_US - (UINT64_C(1) << 32);
     for (uint32_t n = 0; n <= l->world.seconds + 2; n++)
-        l->world.edge_us[n] = l->world.edge_us[0] + n * (uint64_t)SECOND_US - n * less_us / 4295;
+        set_edge(&l->world, n, -(n * less_us / 4295));
     l->setup.holdover = 10;
+    l->setup.lock_after = 1;
     return frame + 4295;
 }
 
 /* The last frame before darkness is heard of one line alone. A turn later a liar sends it again. */
 static bool frame_of_a_turn_ago(life *l, const subject *s) {
+    begin_row(l, 4310);
     uint32_t again = turn(l, 5);
-    l->setup.lock_after = 1;
     darken(l, 6, again + 1, ALL);
     darken(l, 5, 6, 6);
-    lie *told = add_lie(l, 1, again, again + 1);
-    told->saying = SAYS_OTHER;
-    told->by = -4295;
-    told->to_us += 20000;
-    begin_all(l);
-    play(l, s);
-    return is_right(l) && have_votes(l, 1, 5) && !has_vote(l, again + 1) &&
+    add_lie(l, 1, again, again + 1, -4295)->to_us += 20000;
+    return goes_right(l, s) && have_votes(l, 1, 5) && !has_vote(l, again + 1) &&
            have_votes(l, again + 3, l->world.seconds);
 }
 
 /* The only line stops in the middle of a frame, and a turn later it goes on in the middle of
  * another: the two halves are no frame, and the line is true. */
 static bool are_no_frame(life *l, const subject *s, uint32_t later_s) {
+    begin_alone(l, 4310);
     uint32_t again = turn(l, 5), kept = 0;
     l->world.first.second += later_s;
-    l->sky.lines = 1;
-    l->setup.redundancy = IRIG_PORTS_ONE;
     l->setup.sbs = IRIG_SBS_IGNORE;
-    l->setup.lock_after = 1;
     darken(l, 6, again, ALL);
-    begin_all(l);
     write_down(l, 0);
     for (uint32_t i = 0; i < scripted; i++) {
         const pulse *p = &script[i];
@@ -503,52 +468,172 @@ static bool halves_a_turn_apart(life *l, const subject *s) {
 static bool stuck_high(life *l, const subject *s) {
     begin_row(l, 4);
     darken(l, 3, 4, ALL);
-    begin_all(l);
-    play(l, s);
+    bool went_right = goes_right(l, s);
     uint32_t now_us = (uint32_t)l->judge.now_us, wait_us = s->wait(now_us);
-    return is_right(l) && s->hear(0, now_us - 500000, 500000) == 0 &&
+    return went_right && s->hear(0, now_us - 500000, 500000) == 0 &&
            s->hear(0, now_us - 1, UINT32_MAX) == 0 && s->hear(3, now_us, 8000) == IRIG_NO_PORT &&
            s->wait(now_us) == wait_us;
 }
 
+/* ---- numbers that something else changes */
+
+/* A device that begins afresh misses the frame in which a bit flipped, and no other. */
+static bool comes_back(life *l, const subject *s, uint32_t bit, uint64_t behind_us) {
+    l->setup.lock_after = 2;
+    l->device.flip_us = l->world.edge_us[4] + behind_us;
+    l->device.flipped_bit = bit;
+    return goes_right(l, s) && have_votes(l, 1, 4) && have_votes(l, 6, 8) &&
+           announces(l, 4, IRIG_CAUSE_VOTED) && announces(l, 7, IRIG_CAUSE_VOTED);
+}
+
+/* Of the second at which it stands. */
+static bool flipped_bit(life *l, const subject *s) {
+    begin_row(l, 8);
+    return comes_back(l, s, 8 * (offsetof(irig_timekeeper, state) + offsetof(irig_state, sod)) + 2,
+                      300000) &&
+           !has_vote(l, 5);
+}
+
+bool play_flips(life *l, const subject *s) {
+    uint32_t first = 8 * offsetof(irig_timekeeper, lines), lives = 0;
+    for (uint32_t bit = first; bit < first + 8 * sizeof(irig_line); bit++)
+        for (uint32_t element = 0; element < ELEMENTS; element += 3, lives++) {
+            begin_alone(l, 8);
+            if (comes_back(l, s, bit, ELEMENT_US * element + 9000)) continue;
+            printf("bit %u behind element %u: %s\n", (unsigned)(bit - first), (unsigned)element,
+                   l->judge.text);
+            return false;
+        }
+    printf("%s: %u bits of a line flipped\n", s->name, (unsigned)lives);
+    return true;
+}
+
+/* ---- a life by hand */
+
+/* What is told of an edge, and how much earlier than the lines say. */
+typedef struct expected {
+    bool is_announced;
+    uint8_t lock, cause;
+    uint32_t lock_count, moved, early_us;
+} expected;
+
+/* Votes end at edges 90 and 200. Behind the first darkness a frame ends 6.1 ms behind the own edge,
+ * and is known 4.4 ms behind it: it is voted. Behind the second it ends 11.1 ms behind, and is
+ * known 9.4 ms behind: edge 311 was told 5 ms behind it, and is moved. */
+static expected expect(uint32_t edge) {
+    uint32_t votes = edge < 3 ? edge : edge > 311 && edge < 314 ? edge - 311 : 0;
+    uint32_t last = edge <= 150 ? 90 : 200, alone = edge > last ? edge - last : 0;
+    if (votes > 0)
+        return (expected){false, IRIG_LOCK_ACQUIRING, IRIG_CAUSE_ACQUIRING, votes, edge == 312, 0};
+    if (edge >= 314 || alone == 0)
+        return (expected){true, IRIG_LOCK_LOCKED, IRIG_CAUSE_VOTED, 0, 0, 0};
+    if (alone <= 100)
+        return (expected){true, IRIG_LOCK_HOLDOVER, IRIG_CAUSE_HELD, alone, 0, 100 * alone};
+    return (expected){false, IRIG_LOCK_UNLOCKED,
+                      alone == 101 ? IRIG_CAUSE_EXPIRED : IRIG_CAUSE_NO_VOTE, 0, 0, 100 * alone};
+}
+
+/* From 23:58:50 of 2016-12-31 over 23:59:60. A frame ends 100 us before its edge, since elements
+ * are 10,000 us by the counter. By a vote the first two lines agree, and the last is silent. */
+static bool is_expected(const life *l, uint32_t edge) {
+    const irig_second *s = &l->told[edge - 1].second;
+    const irig_report *r = &s->report;
+    expected is = expect(edge);
+    uint32_t day = edge <= 70 ? 6209 : 6210, sod = edge <= 70 ? 86330 + edge : edge - 71;
+    bool is_voted = is.cause == IRIG_CAUSE_VOTED || is.cause == IRIG_CAUSE_ACQUIRING;
+    return r->announces == is.is_announced && r->lock == is.lock && r->cause == is.cause &&
+           r->lock_count == is.lock_count && s->missed == 0 && s->moved == is.moved &&
+           s->edge_us == (uint32_t)l->world.edge_us[edge] - 100 - is.early_us &&
+           r->day == (is.is_announced ? day : 0) && r->sod == (is.is_announced ? sod : 0) &&
+           r->agreed == (is_voted ? 3 : 0) && r->quality == (is_voted ? 2 : 15) &&
+           r->has_local == is_voted && r->dst == is_voted && r->differed == 0 && r->faulty == 0 &&
+           r->poor == 0;
+}
+
+/* Of events behind the last edge, before it, and too far behind. */
+static bool stamps_last(const life *l, const subject *s) {
+    uint32_t edge_us = (uint32_t)l->judge.edge_us;
+    irig_stamp at = {0}, before = {0}, behind;
+    return !s->stamp || (s->stamp(edge_us + 250000, &at) == IRIG_DONE && at.day == 6210 &&
+                         at.sod == 249 && at.offset_us == 250000 && at.bound_us == 1549 &&
+                         s->stamp(edge_us - 1, &before) == IRIG_DONE && before.sod == 248 &&
+                         before.offset_us == 1000099 && before.bound_us == 1549 &&
+                         s->stamp(edge_us + 1001550, &behind) == IRIG_FAULT_VALUE);
+}
+
+/* A counter gains 100 us a second. Of three lines the last is dead, and the second 300 us late. It
+ * is dark for a minute, and then for longer than it holds over; a leap second is inserted. */
+static bool life_by_hand(life *l, const subject *s) {
+    begin_drifting(l, 320, 100);
+    l->setup.holdover = 100;
+    l->world.first = (utc){6209, 86330};
+    l->world.leap_day = 6209;
+    l->world.leap = 1;
+    send(l, 1, 300, NOMINAL);
+    for (int i = 0; i < 2; i++) {
+        l->sky.line[i].quality = 2;
+        l->sky.line[i].dst = true;
+    }
+    darken(l, 0, 320, 4);
+    darken(l, 90, 150, ALL);
+    darken(l, 200, 310, ALL);
+    if (!goes_right(l, s) || l->tolds != 320) return false;
+    for (uint32_t edge = 1; edge <= 320; edge++)
+        if (!is_expected(l, edge)) return false;
+    return stamps_last(l, s);
+}
+
+/* ---- all of them */
+
+/* What is asked of a subject. */
+typedef enum asked { OF_ALL, OF_ANY_TICKS, OF_FLIPS } asked;
+
 static const struct {
     const char *name;
     bool (*play)(life *, const subject *);
+    uint32_t given;
+    asked asked;
 } ROWS[] = {
-    {"dark for minutes", dark_for_minutes},
-    {"dark for an hour", dark_for_an_hour},
-    {"dark for hours", dark_for_hours},
-    {"polled each half millisecond", polled_fast},
-    {"polled each 20 ms", polled_each_20_ms},
-    {"polled each 95 ms", polled_each_95_ms},
-    {"a liar ends before a wide marker", liar_ends_before_a_wide_marker},
-    {"a liar ends an element early", liar_ends_an_element_early},
-    {"a liar ends at the bound", liar_ends_at_the_bound},
-    {"two lines tell two times", two_tell_two_times},
-    {"the holdover is bounded", holdover_is_bounded},
-    {"a call out of order", call_out_of_order},
-    {"rotating liars", rotating_liars},
-    {"a liar begins at the edge", liar_begins_at_the_edge},
-    {"a slow drag", slow_drag},
-    {"residue of a lie", residue},
-    {"sleep", sleep},
-    {"a joined frame", joined_frame},
-    {"a joined frame alone", joined_frame_alone},
-    {"lines apart", lines_apart},
-    {"a tick between two ends", tick_between_two_ends},
-    {"half a second off", half_a_second_off},
-    {"a liar beside a late clock", liar_beside_a_late_clock},
-    {"switched on in a frame", switched_on_in_a_frame},
-    {"a frame of a turn ago", frame_of_a_turn_ago},
-    {"halves a turn apart", halves_a_turn_apart},
-    {"stuck high", stuck_high},
+    {"dark for minutes", dark_for_long, 200, OF_ALL},
+    {"dark for an hour", dark_for_long, 3000, OF_ALL},
+    {"dark for hours", dark_for_long, 9000, OF_ALL},
+    {"polled each half millisecond", polled, 500, OF_ALL},
+    {"polled each 20 ms", polled, 20000, OF_ALL},
+    {"polled each 95 ms", polled, 95000, OF_ALL},
+    {"a liar ends before a wide marker", liar_ends_before_a_wide_marker, 0, OF_ALL},
+    {"a liar ends an element early", liar_ends_an_element_early, 0, OF_ALL},
+    {"a liar ends at the bound", liar_ends_at_the_bound, 0, OF_ALL},
+    {"two lines tell two times", two_tell_two_times, 0, OF_ALL},
+    {"the holdover is bounded", holdover_is_bounded, 0, OF_ALL},
+    {"a call out of order", call_out_of_order, 0, OF_ANY_TICKS},
+    {"rotating liars", rotating_liars, 0, OF_ALL},
+    {"a liar begins at the edge", liar_begins_at_the_edge, 0, OF_ALL},
+    {"a slow drag", slow_drag, 0, OF_ALL},
+    {"residue of a lie", residue_of_a_lie, 0, OF_ALL},
+    {"sleep", sleep, 0, OF_ANY_TICKS},
+    {"a joined frame", joined_frame, 0, OF_ALL},
+    {"a joined frame alone", joined_frame_alone, 0, OF_ALL},
+    {"lines apart", lines_apart, 0, OF_ALL},
+    {"a tick between two ends", tick_between_two_ends, 0, OF_ALL},
+    {"half a second off", half_a_second_off, 0, OF_ALL},
+    {"a liar beside a late clock", liar_beside_a_late_clock, 0, OF_ALL},
+    {"switched on in a frame", switched_on_in_a_frame, 0, OF_ALL},
+    {"a frame of a turn ago", frame_of_a_turn_ago, 0, OF_ALL},
+    {"halves a turn apart", halves_a_turn_apart, 0, OF_ALL},
+    {"stuck high", stuck_high, 0, OF_ALL},
+    {"a life by hand", life_by_hand, 0, OF_ALL},
+    {"a flipped bit", flipped_bit, 0, OF_FLIPS},
 };
 
-void play_rows(life *l, const subject *s, const char *name, bool is_loud, uint64_t *passed,
-               uint64_t *failed) {
+static bool can_be_asked(const subject *s, asked what) {
+    return what == OF_ALL || (what == OF_FLIPS ? s->flip != NULL : !s->is_by_wait);
+}
+
+void play_rows(life *l, const subject *s, bool is_loud, unsigned long *passed,
+               unsigned long *failed) {
     for (size_t i = 0; i < sizeof ROWS / sizeof *ROWS; i++) {
-        if (name && strcmp(name, ROWS[i].name) != 0) continue;
-        memset(&l->judge.counts, 0, sizeof l->judge.counts);
+        if (!can_be_asked(s, ROWS[i].asked)) continue;
+        given = ROWS[i].given;
         l->judge.is_failed = false;
         bool is_passed = ROWS[i].play(l, s);
         *passed += is_passed;

@@ -2,8 +2,7 @@
 #ifndef RULE_H
 #define RULE_H
 
-#include "calendar.h"
-#include "irig.h"
+#include "world.h"
 
 typedef struct claim {
     uint32_t day, sod;

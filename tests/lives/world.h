@@ -1,8 +1,40 @@
-/* The world of one life: chance, when seconds begin by the device's counter, and which they are. */
+/* The world of one life: days and frames, chance, when seconds begin by the device's counter, and
+ * which they are. */
 #ifndef WORLD_H
 #define WORLD_H
 
-#include "calendar.h"
+#include "irig.h"
+
+enum { DAY_S = 86400, LAST_DAY = 36523, ELEMENTS = 100, HALF = 50 };
+
+/* A second of UTC: the day from 2000-01-01, and the second of the day. */
+typedef struct utc {
+    int64_t day, second;
+} utc;
+
+bool is_month_end(int64_t day);
+
+/* A bit for each element that is a one, fifty in each word. */
+typedef struct frame {
+    uint64_t ones[2];
+} frame;
+
+static inline bool is_marker(unsigned element) { return element == 0 || element % 10 == 9; }
+
+static inline bool is_one(const frame *f, unsigned element) {
+    return f->ones[element / HALF] >> (element % HALF) & 1;
+}
+
+/* What a frame says, and how: the time of a zone, in half hours ahead of UTC. */
+typedef struct content {
+    utc at;
+    int32_t zone;
+    bool pending, is_delete, dst;
+    uint32_t quality;
+} content;
+
+/* No code of the library makes it. */
+frame encode(const content *what, bool is_odd, bool is_subtracted);
 
 enum {
     SECOND_US = 1000000,

@@ -1,17 +1,21 @@
-"""Drives Chromium without a window, for tests of pages: by its protocol for debuggers, over a pipe."""
+"""Drives Chromium without a window, for tests of pages: by its protocol for debuggers, over a pipe; and
+what such tests have in common."""
 from __future__ import annotations
 
 import base64
 import fcntl
+import hashlib
 import http.server
 import json
 import os
+import re
 import select
 import shutil
 import subprocess
 import tempfile
 import threading
 import time
+import unittest
 from collections.abc import Iterator
 from contextlib import contextmanager
 from pathlib import Path
@@ -23,6 +27,17 @@ PATIENCE = 60.0  # seconds for one answer
 def program() -> str | None:
     """Where a browser is, if there is one."""
     return next((found for name in NAMES if (found := shutil.which(name))), None)
+
+
+def missing() -> str | None:
+    """Why no page can be opened, if none can."""
+    if not program():
+        return "chromium is missing, of Debian's package chromium"
+    try:
+        Browser().close()
+    except (OSError, RuntimeError, TimeoutError) as error:
+        return f"{program()} does not start: {error}"
+    return None
 
 
 @contextmanager
@@ -171,3 +186,77 @@ def _pipe(is_answer: bool = False) -> tuple[int, int]:
     moved = fcntl.fcntl(theirs, fcntl.F_DUPFD, 10)
     os.close(theirs)
     return (read, moved) if is_answer else (moved, write)
+
+
+class Driven(unittest.TestCase):
+    """Drives a page as a person would."""
+
+    page: Browser
+    height = 800
+    timeline = "timeline"  # how the page names its own
+
+    @classmethod
+    def setUpClass(cls) -> None:
+        cls.page = Browser()
+        cls.addClassCleanup(cls.page.close)
+        cls.page.size(1200, cls.height)
+
+    def tearDown(self) -> None:
+        self.assertEqual(self.page.errors, [])
+
+    def part(self, name: str, what: str) -> object:
+        return self.page.ask(f"document.getElementById('{name}').{what}")
+
+    def text(self, name: str) -> str:
+        return str(self.part(name, "textContent"))
+
+    def set(self, name: str, value: str) -> None:
+        """What a hand would choose or write."""
+        self.page.ask(
+            f"(() => {{ const it = document.getElementById('{name}'); it.value = {json.dumps(value)};"
+            " for (const kind of ['input', 'change'])"
+            " it.dispatchEvent(new Event(kind, { bubbles: true })); })()"
+        )
+        self.page.settle()
+
+    def place(self, name: str) -> dict:
+        found = self.part(name, "getBoundingClientRect().toJSON()")
+        assert isinstance(found, dict)
+        return found
+
+    def press(self, name: str, *keys: str) -> None:
+        self.part(name, "focus()")
+        self.page.press(*keys)
+
+    def push(self, name: str) -> None:
+        self.part(name, "scrollIntoView({ block: 'nearest' })")
+        box = self.place(name)
+        self.page.click(box["x"] + box["width"] / 2, box["y"] + box["height"] / 2)
+
+    def on_edge(self, edge: float, lane: int) -> tuple[float, float]:
+        """Where an edge of a lane is on the screen."""
+        box = self.place("canvas")
+        x = float(str(self.page.ask(f"{self.timeline}.x_of({edge})")))
+        return box["x"] + x, box["y"] + 14 + 46 * lane + 18
+
+    def colours(self, at: str) -> list[str]:
+        """Those of the points of a part of the timeline: its left, top, width and height."""
+        points = self.page.ask(f"Array.from({self.timeline}.brush.getImageData({at}).data)")
+        assert isinstance(points, list)
+        return [bytes(points[place:place + 3]).hex() for place in range(0, len(points), 4)]
+
+    def colours_on_edge(self, edge: float, lane: int) -> list[str]:
+        box, (x, y) = self.place("canvas"), self.on_edge(edge, lane)
+        return self.colours(f"{x - box['x']}, {y - box['y']}, 8, 6")
+
+    def check_policy(self, text: str) -> str:
+        """The policy of a page, which takes no script and no style but its own."""
+        policy = re.search(r'Content-Security-Policy" content="(.*?)"', text)[1]
+        self.assertTrue(policy.startswith("default-src 'none';"))
+        for kind, tag in (("script-src", "<script>"), ("style-src", "<style>")):
+            inside = text.split(tag)[1].split(f"</{tag[1:]}")[0]
+            digest = base64.b64encode(hashlib.sha256(inside.encode()).digest()).decode()
+            self.assertIn(f"{kind} 'sha256-{digest}'", policy)
+        self.assertNotIn("'unsafe-", policy)
+        self.assertEqual(policy.count("sha256-"), 2)
+        return policy

@@ -3,6 +3,8 @@ and the package of python/."""
 from __future__ import annotations
 
 import sys
+import tempfile
+import unittest
 from importlib.machinery import SourceFileLoader
 from importlib.util import module_from_spec, spec_from_loader
 from pathlib import Path
@@ -20,3 +22,12 @@ def loaded(path: Path) -> ModuleType:
     sys.modules[path.name] = module  # where its dataclasses look for it
     spec.loader.exec_module(module)
     return module
+
+
+class InAFolder(unittest.TestCase):
+    """Tests that write files."""
+
+    def setUp(self) -> None:
+        folder = tempfile.TemporaryDirectory()
+        self.addCleanup(folder.cleanup)
+        self.folder = Path(folder.name)

@@ -23,7 +23,7 @@ from functools import cache
 from itertools import dropwhile, groupby
 from pathlib import Path
 
-from loading import ROOT, loaded
+from loading import ROOT, InAFolder, loaded
 
 import waves
 from case_files import all_cases
@@ -349,13 +349,6 @@ def log_with_table(text: str, name: str) -> list[str]:
 
 def limit(kind: int, most: int) -> None:
     resource.setrlimit(kind, (most, most))
-
-
-class InAFolder(unittest.TestCase):
-    def setUp(self) -> None:
-        folder = tempfile.TemporaryDirectory()
-        self.addCleanup(folder.cleanup)
-        self.folder = Path(folder.name)
 
 
 # ---- tests

@@ -31,7 +31,10 @@ from pathlib import Path
 from loading import ROOT
 
 from parts.lines import Lines, write_dump, write_sound
-from test_capture import PROGRAM, InAFolder, captured, examples, log_of, scenarios
+from test_capture import (
+    OTHER, PROGRAM, UNLIKE as unlike_captured, InAFolder, captured, examples, log_of, plant_of,
+    scenarios,
+)
 
 os.environ["IRIG"] = str(PROGRAM)
 TOOL = ROOT / "tools/wave"
@@ -39,25 +42,10 @@ SIGROK = shutil.which("sigrok-cli")
 MISSING = "skipped: round trips through sigrok-cli; Debian's package sigrok-cli is missing"
 
 # Trips that can't end where they began, by scenario and reader, with the reason.
-RESTART = "no wire knows of a restart"
-OTHER = "the last line speaks of another reader"
-SILENT_AT_FIRST = "there is no tick before the first frame"
-NO_FRAME = "most of its lines have no whole frame"
-NO_BEGIN = "a pulse that begins no frame is out of step on a wire"
 UNLIKE = {
-    "a_missed_tick_breaks_the_premise relay": RESTART,
-    "broken_premise_of_another_reader r1": OTHER,
-    "damage_at_the_last_marker_to_a_zero r1": NO_BEGIN,
-    "damage_at_the_last_marker_to_the_same_symbol r1": NO_BEGIN,
+    **{f"{name} {plant_of(scenarios()[name])['readers'][0]['name']}": why
+       for name, why in unlike_captured.items()},
     "heard_mark_goes_before_a_false_table r2": OTHER,
-    "misled_five relay": SILENT_AT_FIRST,
-    "misled_three relay": SILENT_AT_FIRST,
-    "plant_line_alone r1": NO_FRAME,
-    "pulses_since_a_port_was_empty r1": NO_FRAME,
-    "restart relay": RESTART,
-    "restart_empties_the_ports r1": RESTART,
-    "restart_forgets_the_counter r1": RESTART,
-    "step_of_generator_4_of_five r1": NO_FRAME,
 }
 
 # Those that go through the high pass of a sound card.
@@ -95,7 +83,7 @@ class Trip:
 
     @cached_property
     def plant(self) -> dict:
-        return next(json.loads(line) for line in self.text.splitlines() if line.strip())
+        return plant_of(self.text)
 
     @property
     def name(self) -> str:
@@ -134,8 +122,7 @@ class Trip:
 def trips() -> dict[str, Trip]:
     found = {}
     for name, text in scenarios().items():
-        plant = next(json.loads(line) for line in text.splitlines() if line.strip())
-        for reader in plant["readers"]:
+        for reader in plant_of(text)["readers"]:
             found[f"{name} {reader['name']}"] = Trip(text, reader)
     return found
 

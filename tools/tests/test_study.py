@@ -8,7 +8,7 @@ import tempfile
 import unittest
 from pathlib import Path
 
-from loading import ROOT, loaded
+from loading import ROOT, InAFolder, loaded
 from parts.random_day import Day, Fault, Model, Spell, SILENT, play, random_day, scenario_of
 from irig.scenarios import Reader, Scenario
 
@@ -255,13 +255,11 @@ premises kept
         self.assertEqual((found["guard"], found["expired"]), (1, 0))
 
 
-class Tables(unittest.TestCase):
+class Tables(InAFolder):
     """Files of runs."""
 
     def setUp(self) -> None:
-        folder = tempfile.TemporaryDirectory()
-        self.addCleanup(folder.cleanup)
-        self.folder = Path(folder.name)
+        super().setUp()
         self.file = self.folder / "runs.csv"
 
     def write(self, *rows: str) -> None:

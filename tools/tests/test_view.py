@@ -1,8 +1,6 @@
 #!/usr/bin/env python3
 """Tests of view: what its page has in it, which line of a scenario made which edge, what it says of wrong
 words; and, if there is a Chromium, what the page does when keys are pressed and the mouse is moved."""
-import base64
-import hashlib
 import json
 import re
 import subprocess
@@ -11,7 +9,7 @@ import unittest
 from pathlib import Path
 
 import browser
-from loading import ROOT, loaded
+from loading import ROOT, InAFolder, loaded
 from parts.log_lanes import PORT_STATES, STATES
 
 from irig.scenarios import made_edges
@@ -42,13 +40,13 @@ LOG = "".join(f"{edge} relay {relay}\n{edge} meter {meter}\n" for edge, (relay, 
 LOG += "premises broken: edge 3 reader relay\n"
 
 
-def run(folder: str, scenario: str, *options: object, log: str | None = None):
+def run(folder: Path, scenario: str, *options: object, log: str | None = None):
     """Makes a page in a folder; what the tool says, and the page."""
     files = {"plant.jsonl": scenario, "plant.log": log}
     for name, text in files.items():
         if text is not None:
-            (Path(folder) / name).write_text(text)
-    page = Path(folder) / "page.html"
+            (folder / name).write_text(text)
+    page = folder / "page.html"
     words = [VIEW, f"{folder}/plant.jsonl", "-o", page, *options]
     words += ["--log", f"{folder}/plant.log"] if log is not None else []
     return subprocess.run(words, capture_output=True, text=True, timeout=120), page
@@ -59,13 +57,8 @@ def data_in(page: Path) -> dict:
     return json.loads(re.search(r'<script type="application/json" id="data">(.*?)</script>', text)[1])
 
 
-class Page(unittest.TestCase):
+class Page(InAFolder):
     """What stands in a page, without a browser."""
-
-    def setUp(self) -> None:
-        folder = tempfile.TemporaryDirectory()
-        self.addCleanup(folder.cleanup)
-        self.folder = folder.name
 
     def made(self, scenario: str, log: str) -> Path:
         ran, page = run(self.folder, scenario, log=log)
@@ -92,16 +85,6 @@ class Page(unittest.TestCase):
         view = loaded(VIEW)
         data = {"x": "{{script}} }} {{"}
         self.assertIn(json.dumps(data, separators=(",", ":")), view.page_of("a", data))
-
-    def test_the_policy_knows_script_and_style(self) -> None:
-        text = self.made(SCENARIO, LOG).read_text()
-        policy = re.search(r'Content-Security-Policy" content="(.*?)"', text)[1]
-        self.assertTrue(policy.startswith("default-src 'none';"))
-        for kind, tag in (("script-src", "<script>"), ("style-src", "<style>")):
-            inside = text.split(tag)[1].split(f"</{tag[1:]}")[0]
-            digest = base64.b64encode(hashlib.sha256(inside.encode()).digest()).decode()
-            self.assertIn(f"{kind} 'sha256-{digest}';", policy)
-        self.assertNotIn("unsafe", policy)
 
     def test_lines_that_give_no_edges(self) -> None:
         lines = ['{"do":"seconds","n":0}', '{"do":"seconds","n":"3"}', '{"do":"tick","r":"no"}', '"tick"',
@@ -143,76 +126,35 @@ class Page(unittest.TestCase):
                 self.assertEqual((ran.returncode, ran.stdout, page.exists()), (2, "", False))
                 self.assertIn(says, ran.stderr)
                 self.assertEqual(ran.stderr.count("\n"), 1)
-                (Path(self.folder) / "plant.log").unlink(missing_ok=True)
+                (self.folder / "plant.log").unlink(missing_ok=True)
 
     def test_help_begins_with_an_example(self) -> None:
         ran = subprocess.run([VIEW, "--help"], capture_output=True, text=True)
         self.assertTrue(ran.stdout.startswith("for example:\n\n    tools/view examples/"))
 
 
-class InBrowser(unittest.TestCase):
+class InBrowser(browser.Driven):
     """What a page does."""
 
     @classmethod
     def setUpClass(cls) -> None:
-        cls.page = cls.opened()
-        cls.addClassCleanup(cls.page.close)
-        cls.folder = tempfile.TemporaryDirectory()
-        cls.addClassCleanup(cls.folder.cleanup)
-        cls.page.size(1200, 800)
-
-    @staticmethod
-    def opened() -> browser.Browser:
-        why = "chromium is missing, a package of Debian"
-        try:
-            if browser.program():
-                return browser.Browser()
-        except (OSError, RuntimeError, TimeoutError) as error:
-            why = f"{browser.program()} does not start: {error}"
-        print(f"skipped: pages are not opened: {why}")
-        raise unittest.SkipTest(why)
+        why = browser.missing()
+        if why:
+            print(f"skipped: pages are not opened: {why}")
+            raise unittest.SkipTest(why)
+        super().setUpClass()
+        folder = tempfile.TemporaryDirectory()
+        cls.addClassCleanup(folder.cleanup)
+        cls.folder = Path(folder.name)
 
     def setUp(self) -> None:
         self.page.scheme("light")
         self.open(SCENARIO, LOG)
 
-    def tearDown(self) -> None:
-        self.assertEqual(self.page.errors, [])
-
     def open(self, scenario: str, log: str) -> None:
-        ran, page = run(self.folder.name, scenario, log=log)
+        ran, page = run(self.folder, scenario, log=log)
         self.assertEqual(ran.stderr, "")
         self.page.open(page)
-
-    def text(self, name: str) -> str:
-        return str(self.page.ask(f"document.getElementById('{name}').textContent"))
-
-    def set(self, name: str, value: str) -> None:
-        """What a hand would choose or write."""
-        self.page.ask(
-            f"(() => {{ const it = document.getElementById('{name}'); it.value = {json.dumps(value)};"
-            " it.dispatchEvent(new Event('change', { bubbles: true })); })()"
-        )
-        self.page.settle()
-
-    def place(self, name: str) -> dict:
-        found = self.page.ask(f"document.getElementById('{name}').getBoundingClientRect().toJSON()")
-        assert isinstance(found, dict)
-        return found
-
-    def press(self, name: str, *keys: str) -> None:
-        self.page.ask(f"document.getElementById('{name}').focus()")
-        self.page.press(*keys)
-
-    def push(self, name: str) -> None:
-        box = self.place(name)
-        self.page.click(box["x"] + box["width"] / 2, box["y"] + box["height"] / 2)
-
-    def on_edge(self, edge: float, lane: int) -> tuple[float, float]:
-        """Where an edge of a lane is on the screen."""
-        box = self.place("canvas")
-        x = float(str(self.page.ask(f"timeline.x_of({edge})")))
-        return box["x"] + x, box["y"] + 14 + 46 * lane + 18
 
     def test_what_it_shows(self) -> None:
         self.assertIn("premises broken: edge 3 reader relay", self.text("verdict"))
@@ -245,9 +187,8 @@ class InBrowser(unittest.TestCase):
         found = []
         for edge in (5_000, 10_000):
             at = f"Math.floor(timeline.x_of({edge})), timeline.top_of(timeline.lanes[0]) + 3, 1, 1"
-            found.append(self.page.ask(f"Array.from(timeline.brush.getImageData({at}).data.slice(0, 3))"))
-        self.assertEqual(found[0], [0x00, 0x72, 0xB2])
-        self.assertEqual(found[1], [0xF4, 0xF4, 0xF4], "the ground of the chosen reader")
+            found += self.colours(at)
+        self.assertEqual(found, ["0072b2", "f4f4f4"], "the second is the ground of the chosen reader")
 
     def test_zoom_by_keys(self) -> None:
         self.press("canvas", "Home", "+")
@@ -330,15 +271,12 @@ class InBrowser(unittest.TestCase):
         self.assertEqual(self.text("line"), "scenario line 5 gives no reader an edge")
 
     def test_colours_are_those_of_plot(self) -> None:
-        box = self.place("canvas")
         for edge, state in ((5, "locked"), (7, "holdover"), (4, "acquiring"), (3, "unlocked")):
-            x, y = self.on_edge(edge, 0)
-            at = f"{x - box['x']}, {y - box['y']}"
-            points = self.page.ask(f"Array.from(timeline.brush.getImageData({at}, 8, 6).data)")
-            assert isinstance(points, list)
-            found = {bytes(points[place:place + 3]).hex() for place in range(0, len(points), 4)}
             with self.subTest(state):
-                self.assertIn(STATES[state].colour[1:].lower(), found)
+                self.assertIn(STATES[state].colour[1:].lower(), self.colours_on_edge(edge, 0))
+
+    def test_the_policy_knows_script_and_style(self) -> None:
+        self.assertNotIn("unsafe", self.check_policy((self.folder / "page.html").read_text()))
 
     def test_dark_and_light(self) -> None:
         ground = "getComputedStyle(document.body).backgroundColor"
@@ -433,11 +371,8 @@ class InBrowser(unittest.TestCase):
                 f"Math.floor(timeline.x_of({edge})),"
                 f" timeline.foot_of(timeline.lanes[0], {port}) - 3, 8, 3"
             )
-            points = self.page.ask(f"Array.from(timeline.brush.getImageData({at}).data)")
-            assert isinstance(points, list)
-            found = {bytes(points[place:place + 3]).hex() for place in range(0, len(points), 4)}
             with self.subTest(kind):
-                self.assertIn(PORT_STATES[kind].colour[1:].lower(), found)
+                self.assertIn(PORT_STATES[kind].colour[1:].lower(), self.colours(at))
         self.assertIn("port: told another mark", self.text("legend"))
         self.page.click(*self.on_edge(3, 0))
         self.assertTrue(self.text("line").startswith("3 relay"))
@@ -451,8 +386,7 @@ class InBrowser(unittest.TestCase):
         lines[9_999] = " 10000 relay ok insert ok"
         self.open(PLANT, "\n".join(lines))
         at = "Math.floor(timeline.x_of(9999.5)), timeline.foot_of(timeline.lanes[0], 1) - 8, 1, 1"
-        found = self.page.ask(f"Array.from(timeline.brush.getImageData({at}).data.slice(0, 3))")
-        self.assertEqual(found, [0xCC, 0x79, 0xA7])
+        self.assertEqual(self.colours(at), ["cc79a7"])
 
     def test_no_ports_no_lies(self) -> None:
         self.assertTrue(self.page.ask("document.getElementById('lie').hidden"))

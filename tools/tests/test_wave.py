@@ -10,7 +10,6 @@ import os
 import shutil
 import subprocess
 import sys
-import tempfile
 import textwrap
 import unittest
 import wave
@@ -19,6 +18,7 @@ from fractions import Fraction
 from functools import cache
 from pathlib import Path
 
+import loading
 from loading import ROOT
 
 import waves
@@ -143,12 +143,7 @@ def nearest(time: int, rate: int) -> int:
     return math.floor(Fraction(time * rate, 1_000_000) + Fraction(1, 2))
 
 
-class InAFolder(unittest.TestCase):
-    def setUp(self) -> None:
-        folder = tempfile.TemporaryDirectory()
-        self.addCleanup(folder.cleanup)
-        self.folder = Path(folder.name)
-
+class InAFolder(loading.InAFolder):
     def made(self, text: str, name: str = "lines.vcd", *words: str, said: str = "") -> Path:
         """The file that the tool makes of a scenario, of which it has to say no more than this."""
         path = self.folder / name
