@@ -1,21 +1,22 @@
-"""What a device would hear of recorded lines: pulses by the package's synchroniser, ticks by the
-rule of docs/CAPTURE.md, and of each line what its pulses are."""
+"""What a device would hear of recorded lines: a timekeeper of the package is told their pulses, and
+ticked when it has something to do. And of each line what its pulses are."""
 from __future__ import annotations
 
 from collections import Counter
-from dataclasses import dataclass, field
-from functools import lru_cache
-from typing import Dict, Iterable, Iterator, List, Optional, Sequence, Set
+from dataclasses import dataclass
+from functools import lru_cache, partial
+from itertools import product
+from typing import Callable, Dict, Iterable, Iterator, List, Optional, Sequence, Set, Tuple
 
-from irig import Fault, Sync, classify, decode
+from irig import Claim, Fault, Reader, Silence, Sync, Timekeeper, Told, classify, decode
 
 from parts.recordings import END, Change
 
 ELEMENT_US, SECOND_US = 10_000, 1_000_000
-AGREE_US = 1_000  # lines that end a frame so near to each other tell one edge
-PATIENCE_US = 5_000  # how long lines are waited for before the clock makes the edge
-FAR_US = 5_000  # an edge farther from the clock's own has to come twice
-LONGEST_US = 0xFFFFFFFF
+KEPT_US = 100_000  # how long behind its end a timekeeper keeps a frame
+AGREE_US = 1_000  # a frame that ends so near to an edge is of it
+BEHIND_US = 5_000  # how long behind a recording's end it is still ticked
+WORD = 1 << 32  # at which its counter wraps
 NEVER = float("inf")
 
 symbol_of = lru_cache(maxsize=4096)(classify)
@@ -70,12 +71,14 @@ class Spread:
 
 
 class View:
-    """A line seen with one polarity, through a synchroniser."""
+    """A line seen with one polarity."""
 
     def __init__(self, high: int) -> None:
         self.high = high
         self.sync = Sync()
-        self.heard: List[int] = []  # the widths of what is in step since a frame began or a tick
+        self.hears: List[Callable[[int, int], int]] = [self.sync.pulse]  # what says a pulse's place
+        self.heard: List[Tuple[int, int]] = []  # rises and widths, in step since a frame began
+        self.whole: List[Tuple[int, int]] = []  # those of the last frame
         self.rise: Optional[float] = None
         self.last_rise: Optional[float] = None
         self.pulses = self.frames = self.out_of_step = self.begun = self.on_time = 0
@@ -93,13 +96,18 @@ class View:
             return False
         if self.rise is None:
             return False
-        width = min(round(time - self.rise), LONGEST_US)
-        place = self.sync.pulse(round(self.rise), width)
+        if self.last_rise is not None and self.rise >= self.last_rise + SECOND_US:
+            self.sync.idle(round(self.last_rise) + SECOND_US)  # before its clock wraps
+        place, rise, width = 0, round(self.rise), min(round(time - self.rise), WORD - 1)
+        for hear in self.hears:
+            place = hear(rise, width)
         self._note(place, width)
         if place == 1:
             self.heard = []
         if place:
-            self.heard.append(width)
+            self.heard.append((rise, width))
+        if place == 100:
+            self.whole, self.heard = self.heard, []
         return place == 100
 
     def _note(self, place: int, width: int) -> None:
@@ -130,15 +138,19 @@ class View:
 
 class Line:
     """A line with its polarity, as soon as a frame has shown it: pulses rise each 10 ms, and do not
-    end so, so that no frame is found with the other one."""
+    end so, so that no frame is found with the other one. Its ports are told of it from that frame
+    on. The reader says what a frame tells."""
 
-    def __init__(self, name: str, polarity: str) -> None:
+    def __init__(self, name: str, polarity: str, ear: Reader) -> None:
         self.name = name
         highs = {"normal": (1,), "inverted": (0,)}.get(polarity, (1, 0))
         self.views = [View(high) for high in highs]
+        self.ports: List[Callable[[int, int], int]] = []
+        self.told: Told = Silence()  # by the last whole frame
         self.changes = 0
         self.decoded = 0  # frames that are of a time
         self.bare = 0  # those of them whose year and control bits are all 0
+        self._ear = ear
 
     @property
     def view(self) -> View:
@@ -147,9 +159,9 @@ class Line:
 
     @property
     def frame_end(self) -> float:
-        """Where the frame ends that was heard last."""
-        assert self.view.rise is not None
-        return self.view.rise + ELEMENT_US
+        """Where the last whole frame ends."""
+        whole = self.view.whole
+        return whole[-1][0] + ELEMENT_US if whole else -NEVER
 
     def change(self, time: float, level: int) -> bool:
         """A change of the level; whether a frame ends with it."""
@@ -158,12 +170,21 @@ class Line:
             return False
         for view in self.views:
             if view.change(time, level):
-                self.views = [view]
-                self._look(view.heard)
+                if view.frames == 1:
+                    self._begin(view)
+                self._look([width for _, width in view.whole])
                 return True
         return False
 
+    def _begin(self, view: View) -> None:
+        self.views, view.hears = [view], self.ports
+        for hear, pulse in product(self.ports, view.whole):
+            hear(*pulse)
+
     def _look(self, widths: List[int]) -> None:
+        self._ear.restart()
+        self._ear.pulses(0, widths)
+        self.told = self._ear.port(0)
         try:
             coded = decode("".join(map(symbol_of, widths)))
         except Fault:
@@ -171,86 +192,76 @@ class Line:
         self.decoded += 1
         self.bare += coded.year == 0 and coded.control == 0
 
-    def tick(self, now: float) -> List[int]:
-        """The widths that its port heard since the last tick."""
+    def heard(self, now: int) -> Tuple[List[int], Told]:
+        """The widths that its ports have at a tick, and what they tell: the frame that a timekeeper
+        keeps, or the beginning of one."""
+        if self.frame_end >= now - KEPT_US:
+            return [width for _, width in self.view.whole], self.told
         heard = self.view.heard
-        for view in self.views:
-            view.heard = []
-            view.sync.idle(round(now))
-        return heard
+        is_new = bool(heard) and heard[-1][0] > now - SECOND_US
+        return [width for _, width in heard] if is_new else [], Silence()
 
 
-@dataclass
-class Ticks:
-    """When the reader ticks, by the rule of docs/CAPTURE.md. Each line has so many ports."""
+@dataclass(frozen=True)
+class Tick:
+    """A second begins: at this time of the recording, by a claim on which ports agree or by the
+    counter; and the widths that each port heard."""
 
-    ports: Sequence[int]
-    due: float = NEVER
-    apart: float = 0.0  # how far the ends of frames were apart at most
-    first: Optional[float] = None  # the edge of the first tick, and that of the last one
-    last: float = 0.0
-    _edge: float = 0.0  # the next one
-    _last: Optional[float] = None
-    _far: Optional[float] = None  # an edge that was far from the clock's own
-    _is_agreed: bool = False
-    _ends: Dict[int, float] = field(default_factory=dict)  # of frames since the last tick
-
-    def frame(self, line: int, end: float) -> None:
-        """A line has heard a frame whole."""
-        self._ends[line] = end
-        near = {of: other for of, other in self._ends.items() if abs(other - end) <= AGREE_US}
-        if self._is_agreed or 2 * sum(self.ports[of] for of in near) <= sum(self.ports):
-            return
-        edge = min(near.values())
-        if not self._is_believed(edge):
-            return
-        self._is_agreed = True
-        if self._last is None or edge - self._last > SECOND_US / 2:
-            self._edge = self.due = edge
-        else:  # the clock has ticked for it already; the lines say where it was
-            self._wait_from(edge)
-
-    def _is_believed(self, edge: float) -> bool:
-        """Whether it is the clock's own, or comes a second behind one that was as far from it."""
-        if self._last is None:
-            return True
-        own = (self._last, self._last + SECOND_US)
-        is_own = any(abs(edge - at) <= FAR_US for at in own)
-        is_second = self._far is not None and abs(edge - self._far - SECOND_US) <= AGREE_US
-        self._far = None if is_own else edge
-        return is_own or is_second
-
-    def tick(self) -> None:
-        near = [end for end in self._ends.values() if abs(end - self._edge) <= AGREE_US]
-        if near:
-            self.apart = max(self.apart, max(near) - min(near))
-        self._ends.clear()
-        self._is_agreed = False
-        self.first = self._edge if self.first is None else self.first
-        self.last = self._edge
-        self._wait_from(self._edge)
-
-    def last_until(self, end: float) -> float:
-        """Up to when ticks may come if the recording ends there: of a frame that has ended, or a
-        second that has passed."""
-        return end + (ELEMENT_US if self._is_agreed else PATIENCE_US)
-
-    def _wait_from(self, edge: float) -> None:
-        self._last = edge
-        self._edge = edge + SECOND_US
-        self.due = self._edge + PATIENCE_US
+    edge: int
+    claim: Optional[Claim]
+    agreed: Tuple[int, ...]
+    heard: List[List[int]]
 
 
-def heard_at_ticks(
-    changes: Iterable[Change], lines: Sequence[Line], ticks: Ticks
-) -> Iterator[List[List[int]]]:
-    """What each line's port heard at each tick: the widths of its pulses."""
-    for time, number, level in changes:
-        while ticks.due <= (ticks.last_until(time) if number == END else time):
-            yield [line.tick(ticks.due) for line in lines]
-            ticks.tick()
-        if number != END and lines[number].change(time, level):
-            ticks.frame(number, lines[number].frame_end)
+class Device:
+    """A timekeeper with a line to each port, ticked as `c/examples/capture.c` does it."""
+
+    def __init__(self, keeper: Timekeeper, ports: Sequence[Line]) -> None:
+        self.ports = ports
+        self.lines = list(dict.fromkeys(ports))
+        self.count = 0
+        self.first: Optional[Tick] = None
+        self.last: Optional[Tick] = None
+        self.apart = 0.0  # how far frames that ended near an edge were apart at most
+        self._keeper = keeper
+        self._due = NEVER
+        for number, line in enumerate(ports):
+            line.ports.append(partial(keeper.hear, number))
+
+    def ticks(self, changes: Iterable[Change]) -> Iterator[Tick]:
+        """Each tick at which a second begins."""
+        for time, number, level in changes:
+            if self._due == NEVER:
+                self._ask(round(time))
+            end = time + BEHIND_US if number == END else time
+            if self._due <= end:
+                yield from self._until(end)
+            if number != END and self.lines[number].change(time, level):
+                self._ask(round(time))
+
+    def _ask(self, now: int) -> None:
+        self._due = now + self._keeper.wait(now)
+
+    def _until(self, end: float) -> Iterator[Tick]:
+        while self._due <= end:
+            now = int(self._due)
+            beat = self._keeper.tick(now)
+            if beat:
+                yield self._tick(now, now - (now - beat.edge_us) % WORD, beat.report.agreed)
+            self._ask(now)
+
+    def _tick(self, now: int, edge: int, agreed: Tuple[int, ...]) -> Tick:
+        ends = [line.frame_end for line in self.lines if abs(line.frame_end - edge) <= AGREE_US]
+        self.apart = max(self.apart, max(ends, default=0) - min(ends, default=0))
+        heard = [line.heard(now) for line in self.ports]
+        most, count = Counter(told for _, told in heard).most_common(1)[0]
+        claim = most if isinstance(most, Claim) and 2 * count > len(heard) else None
+        if claim and not agreed:  # their frames end too far apart
+            heard, claim = [([], told) if told == claim else (of, told) for of, told in heard], None
+        self.last = Tick(edge, claim, agreed, [widths for widths, _ in heard])
+        self.first = self.first or self.last
+        self.count += 1
+        return self.last
 
 
 # ---- what a line is

@@ -19,8 +19,8 @@ import zipfile
 from collections.abc import Callable, Iterable, Iterator, Sequence
 from contextlib import redirect_stderr
 from dataclasses import dataclass, replace
-from functools import cache
-from itertools import dropwhile, groupby
+from functools import cache, cached_property
+from itertools import dropwhile, groupby, product
 from pathlib import Path
 
 from loading import ROOT, InAFolder, loaded
@@ -34,37 +34,36 @@ ONE_MS = "its pulses are not 10 ms apart but, most often, 1 ms"
 MOST_MEMORY = 200 << 20  # with all that Python maps
 
 # Scenarios whose log no recording of their wires can have, with the reason.
-SILENT_AT_FIRST = "there is no tick before the first frame"
+NO_VOTE = "there is no tick before lines agree"
 RESTART = "no wire knows of a restart"
-NO_FRAME = "most of its lines have no whole frame"
 NO_BEGIN = "a pulse that begins no frame is out of step on a wire"
 OTHER = "the last line speaks of another reader"
 UNLIKE = {
+    "a_deleted_second_has_no_number": NO_VOTE,
     "a_missed_tick_breaks_the_premise": RESTART,
     "broken_premise_of_another_reader": OTHER,
     "damage_at_the_last_marker_to_a_zero": NO_BEGIN,
     "damage_at_the_last_marker_to_the_same_symbol": NO_BEGIN,
-    "misled_five": SILENT_AT_FIRST,
-    "misled_three": SILENT_AT_FIRST,
-    "plant_line_alone": NO_FRAME,
-    "pulses_since_a_port_was_empty": NO_FRAME,
+    "leap_seconds_since_2000": NO_VOTE,
+    "misled_five": NO_VOTE,
+    "misled_three": NO_VOTE,
+    "odd_parity_and_subtract": NO_VOTE,
+    "plant_line_alone": NO_VOTE,
+    "ports_that_tell_faults": NO_VOTE,
+    "pulses_since_a_port_was_empty": NO_VOTE,
     "restart": RESTART,
     "restart_empties_the_ports": RESTART,
     "restart_forgets_the_counter": RESTART,
-    "step_of_generator_4_of_five": NO_FRAME,
+    "step_of_generator_4_of_five": NO_VOTE,
 }
 # And those that need --start and --leap: the first word of most ports, or what they say of a leap
-# second, is not what the scenario says, or there is none.
-NO_WORD = "most ports claim nothing"
+# second, is not what the scenario says.
 LIE = "the first word of most ports is untrue"
 UNTOLD = "most ports tell nothing of a leap second that comes, or one that does not"
 UNLIKE_BY_THEIR_WORD = {
     **UNLIKE,
-    "a_deleted_second_has_no_number": NO_WORD,
     "false_table": UNTOLD,
-    "leap_seconds_since_2000": NO_WORD,
     "misled_by_table": UNTOLD,
-    "ports_that_tell_faults": NO_WORD,
     "table_and_short_holdover_of_five": UNTOLD,
     "table_carries_holdover_over_a_deleted_second": UNTOLD,
     "table_carries_holdover_over_a_leap": UNTOLD,
@@ -148,16 +147,11 @@ def wave_of_seconds(count: int, seconds: Sequence[list[list[int]]]) -> Wave:
     return Wave(count, tuple(found), end)
 
 
-def plant_of(text: str) -> dict:
-    return next(json.loads(line) for line in text.splitlines() if line.strip())
-
-
 @cache
 def wave_of(name: str) -> Wave:
     """The lines of a scenario's first reader."""
-    text = scenarios()[name]
-    seconds = list(waves.seconds_of(text.splitlines()))
-    return wave_of_seconds(len(plant_of(text)["generators"]), seconds)
+    seconds = list(waves.seconds_of(scenarios()[name].splitlines()))
+    return wave_of_seconds(len(trips_of(name)[0].plant["generators"]), seconds)
 
 
 # ---- forms of a recording
@@ -311,40 +305,54 @@ def examples() -> list[str]:
     return sorted(path.stem for path in (ROOT / "examples").glob("*.jsonl"))
 
 
+@dataclass(frozen=True)
+class Trip:
+    """A scenario for one of its readers, to a recording and back."""
+
+    text: str
+    plant: dict
+    reader: dict
+
+    @cached_property
+    def log(self) -> list[str]:
+        """What the scenario's log says of the reader."""
+        lines = log_of(self.text)
+        return [line for line in lines[:-1] if line.split()[1] == self.reader["name"]] + lines[-1:]
+
+    def outcome(self, recording: Path, *more: str, is_told: bool = True) -> list[str]:
+        """The log of what is captured, or why nothing is. The tool is told how the reader is set
+        up, but for a leap table, which is put in, and perhaps what is true."""
+        words = ["--reader={name},{lock_after},{holdover}".format_map(self.reader),
+                 *(f"--{key}={self.plant[key]}" for key in ("parity", "sense", "sbs")), *more]
+        if is_told:
+            leaps = (f"--leap={leap['day']}:{leap['kind']}" for leap in self.plant["leaps"])
+            words += [f"--start={self.plant['start']}", *leaps]
+        try:
+            head, _, rest = captured(recording, *words)[0].partition("\n")
+        except ValueError as error:
+            return [str(error)]
+        made = json.loads(head)
+        if table := self.reader.get("table"):
+            made["version"] = max(2, made["version"])
+            made["readers"][0]["table"] = table
+        return log_of(f"{json.dumps(made)}\n{rest}")
+
+
 @cache
-def wanted_of(name: str) -> list[str]:
-    """What the log of a scenario says of its first reader."""
+def trips_of(name: str) -> list[Trip]:
     text = scenarios()[name]
-    lines, reader = log_of(text), plant_of(text)["readers"][0]["name"]
-    return [line for line in lines[:-1] if line.split()[1] == reader] + lines[-1:]
+    plant = next(json.loads(line) for line in text.splitlines() if line.strip())
+    return [Trip(text, plant, reader) for reader in plant["readers"]]
 
 
-def rules_of(name: str) -> list[str]:
-    """How the first reader is set up, in words of the tool."""
-    plant = plant_of(scenarios()[name])
-    reader = plant["readers"][0]
-    words = [f"--reader={reader['name']},{reader['lock_after']},{reader['holdover']}"]
-    return words + [f"--{key}={plant[key]}" for key in ("parity", "sense", "sbs")]
+def wanted_of(name: str) -> list[str]:
+    return trips_of(name)[0].log
 
 
-def truth_of(name: str) -> list[str]:
-    """What is true in a scenario, in words of the tool."""
-    plant = plant_of(scenarios()[name])
-    leaps = [f"--leap={leap['day']}:{leap['kind']}" for leap in plant["leaps"]]
-    return [f"--start={plant['start']}", *leaps]
-
-
-def log_with_table(text: str, name: str) -> list[str]:
-    """The log of what was captured, with the first reader's leap table, of which the tool is not
-    told, put in."""
-    table = plant_of(scenarios()[name])["readers"][0].get("table")
-    if table:
-        head, rest = text.split("\n", 1)
-        plant = json.loads(head)
-        plant["readers"][0]["table"] = table
-        plant["version"] = max(2, plant["version"])
-        text = json.dumps(plant) + "\n" + rest
-    return log_of(text)
+def from_first_vote(log: list[str]) -> list[str]:
+    """What a reader says of each second, without its number, from the first vote on."""
+    seconds = [line.split(maxsplit=1)[1] for line in log[:-1] if line[0] != " "]
+    return list(dropwhile(lambda line: line.endswith(" no-vote"), seconds))
 
 
 def limit(kind: int, most: int) -> None:
@@ -354,26 +362,25 @@ def limit(kind: int, most: int) -> None:
 # ---- tests
 
 
-class Scenarios(unittest.TestCase):
-    def compare(self, unlike: dict[str, str], words: Callable[[str], list[str]]) -> None:
+class Scenarios(InAFolder):
+    def compare(self, unlike: dict[str, str], is_told: bool) -> None:
         for name in scenarios():
             with self.subTest(name):
-                try:
-                    text, _ = captured_wave(wave_of(name), *rules_of(name), *words(name))
-                    log = log_with_table(text, name)
-                except ValueError:
-                    log = []
+                as_dump(wave_of(name), self.folder / "lines.vcd")
+                log = trips_of(name)[0].outcome(self.folder / "lines.vcd", is_told=is_told)
                 if name in unlike:
                     self.assertNotEqual(log, wanted_of(name), "this is alike now")
+                    if unlike[name] == NO_VOTE:
+                        self.assertEqual(*map(from_first_vote, (log, wanted_of(name))))
                 else:
                     self.assertEqual(log, wanted_of(name))
         self.assertEqual(set(unlike) - set(scenarios()), set())
 
     def test_with_what_is_true(self) -> None:
-        self.compare(UNLIKE, truth_of)
+        self.compare(UNLIKE, True)
 
     def test_by_the_word_of_the_ports(self) -> None:
-        self.compare(UNLIKE_BY_THEIR_WORD, lambda name: [])
+        self.compare(UNLIKE_BY_THEIR_WORD, False)
 
 
 class Forms(InAFolder):
@@ -389,8 +396,7 @@ class Forms(InAFolder):
                 with self.subTest(form, example=name):
                     path = self.folder / f"lines{ending}"
                     write(lines, path)
-                    text, _ = captured(path, *rules_of(name), *truth_of(name), *words)
-                    self.assertEqual(log_with_table(text, name), wanted_of(name))
+                    self.assertEqual(trips_of(name)[0].outcome(path, *words), wanted_of(name))
 
     def test_through_sigrok(self) -> None:
         if not shutil.which("sigrok-cli"):
@@ -462,9 +468,9 @@ class Forms(InAFolder):
 class Recorders(unittest.TestCase):
     """Bad recorders, by seeds: the log is still that of the scenario."""
 
-    def alike(self, lines: Wave, name: str = "leap_inserted") -> str:
-        text, said = captured_wave(lines, *rules_of(name))
-        self.assertEqual(log_of(text), wanted_of(name))
+    def alike(self, lines: Wave) -> str:
+        text, said = captured_wave(lines, "--reader=relay,2,3600")
+        self.assertEqual(log_of(text), wanted_of("leap_inserted"))
         return said
 
     def test_jitter(self) -> None:
@@ -531,9 +537,8 @@ class Recorders(unittest.TestCase):
         ))
 
     def test_lines_apart(self) -> None:
-        late = (0, 350, 700)
         lines = wave_of("leap_inserted")
-        lines = lines.of(lambda change: [(change[0] + late[change[1]], *change[1:])])
+        lines = lines.of(lambda change: [(change[0] + 350 * change[1], *change[1:])])
         when = "tick 1 is at 1.050 s of the recording, tick 14 at 14.050 s"
         self.assertIn(f"14 ticks: {when}; lines are up to 700 us apart\n", self.alike(lines))
 
@@ -548,13 +553,9 @@ class Recorders(unittest.TestCase):
         text, said = captured_wave(lines)
         self.assertEqual(said.count(": 200 pulses, 1 frames, 50 pulses out of step\n"), 3)
         self.assertEqual(sum(line.count(" ok ok ok") for line in log_of(text)), 1)
-
-    def test_a_dark_minute_by_its_own_clock(self) -> None:
-        lines, begin, end = wave_of("plain_minute"), 20_050_000, 40_050_000
-        dark = lines.of(lambda change: [] if begin <= change[0] < end else [change])
-        log = log_of(captured_wave(dark)[0])
-        self.assertEqual(sum(line.endswith(" held") for line in log), 20)
-        self.assertEqual(log[-3:], wanted_of("plain_minute")[-3:])
+        halves = tuple(change for change in lines.changes if change[0] >= 1_050_000)
+        with self.assertRaisesRegex(ValueError, "at last silence$"):
+            captured_wave(replace(lines, changes=halves))
 
 
 class Devices(InAFolder):
@@ -573,26 +574,20 @@ class Devices(InAFolder):
              "-o", self.board], check=True,
         )
 
-    def announced(self, lines: Wave) -> list[str]:
-        """What the board announces, tick by tick."""
-        rows = [*lines.rows(), (lines.end, list(lines.rows())[-1][1])]
-        text = "".join(f"{time} {' '.join(map(str, levels))}\n" for time, levels in rows)
+    def announced(self, lines: Wave, ports: Sequence[int]) -> list[str]:
+        """What the board announces, tick by tick, until 5 ms behind the end."""
+        rows = [*lines.rows(), (lines.end + 5_000, list(lines.rows())[-1][1])]
+        text = "\n".join(" ".join(map(str, [time, *(levels[line] for line in ports)]))
+                         for time, levels in rows)
         ran = subprocess.run([self.board, "2", "5"], input=text, capture_output=True, text=True)
         return ran.stdout.splitlines()
 
     @staticmethod
-    def from_first_vote(log: list[str]) -> list[str]:
-        """A board tells no second before lines agree on one; a recording has ticks from their first
-        edge on."""
-        told = dropwhile(lambda line: line.endswith(" no-vote"), log)
-        return [line.split(maxsplit=1)[1] for line in told]
-
-    @staticmethod
     def troubled(seed: int) -> Wave:
-        """Lines less than a millisecond apart, with jitter, pulses that are lost, first ones that are
-        cut short, and cables that are pulled out."""
+        """Lines, two of them less than a millisecond apart, with jitter, pulses that are lost,
+        first ones that are cut short, and cables that are pulled out."""
         by, lines = random.Random(seed), wave_of("leap_inserted")
-        late = [by.randint(0, 850) for _ in range(3)]
+        late = [by.randint(0, 850), by.randint(0, 850), by.randint(0, 1700)]
         lost = {(by.randrange(3), by.randrange(1400)) for _ in range(by.randrange(6))}
 
         def moved(change: Change) -> list[Change]:
@@ -612,21 +607,92 @@ class Devices(InAFolder):
         return lines
 
     def test_troubled_lines(self) -> None:
+        """A channel on two ports is two lines that agree."""
+        words = "--glitch=0", "--reader=relay,2,5", "--start=2016-12-31T23:59:50Z"
         kinds = set()
-        for seed in range(60):
+        for seed, ports in product(range(60), ((0, 1, 2), (0, 2, 2))):
             lines = self.troubled(seed)
-            with self.subTest(seed=seed):
-                text, _ = captured_wave(
-                    lines, "--glitch=0", "--reader=relay,2,5", "--start=2016-12-31T23:59:50Z"
-                )
+            with self.subTest(seed=seed, ports=ports):
+                channels = ",".join(f"G{line}" for line in ports)
+                text, _ = captured_wave(lines, f"--channels={channels}", *words)
                 said = [line for line in log_of(text)[:-1] if line[0] != " "]
+                self.assertEqual(said, self.announced(lines, ports))
                 kinds |= {line.split()[-1] for line in said}
-                log, wanted = map(self.from_first_vote, (said, self.announced(lines)))
-                # A board and a recording need not end with the same tick.
-                ticks = min(len(log), len(wanted))
-                self.assertLessEqual(max(len(log), len(wanted)) - ticks, 1)
-                self.assertEqual(log[:ticks], wanted[:ticks])
         self.assertLessEqual({"voted", "held", "no-vote", "acquiring"}, kinds)
+
+
+class Ticks(InAFolder):
+    """Where ticks are, by docs/WIRES.md: where the last frame ends whose claim stands on two lines,
+    its own and one that ends up to 1 ms later; else a second behind the tick before."""
+
+    @staticmethod
+    def clocks(seconds: int, late: Sequence[int] = (0, 0, 0), ahead: int = 0, ppm: int = 0) -> Wave:
+        """Clocks that are so many microseconds late, G1 seconds ahead from its fifth frame on, by a
+        counter that is fast."""
+        text = ONE_CLOCK_AHEAD.replace('"n":3', f'"n":{seconds - 4}').replace(":18", f":{ahead}")
+        lines = wave_of_seconds(3, list(waves.seconds_of(text.splitlines())))
+        parts = 1_000_000 + ppm
+        return replace(lines, end=lines.end * parts // 1_000_000).of(
+            lambda change: [((change[0] + late[change[1]]) * parts // 1_000_000, *change[1:])]
+        )
+
+    def ticks(self, lines: Wave) -> list[tuple[int, bool]]:
+        """The time of each tick, and whether lines agree on it."""
+        as_dump(lines, self.folder / "lines.vcd")
+        words = TOOL.command().parse_args([str(self.folder / "lines.vcd")])
+        return [(tick.edge, tick.claim is not None) for tick in TOOL.listened(words)[1]]
+
+    @staticmethod
+    def each(first: int, count: int, is_voted: bool = True) -> list[tuple[int, bool]]:
+        return [(first + number * waves.SECOND_US, is_voted) for number in range(count)]
+
+    def test_lines_apart(self) -> None:
+        """The frames at 350 and 700 us agree, and so do those at 0 and 350 us, earlier."""
+        self.assertEqual(self.ticks(self.clocks(7, (0, 350, 700))), self.each(1_050_350, 7))
+
+    def test_a_liar_a_millisecond_early(self) -> None:
+        """First it agrees with G0, and so do G0 and G2, later; then it is 18 seconds ahead."""
+        self.assertEqual(self.ticks(self.clocks(7, (0, -1000, 700), 18)), self.each(1_050_000, 7))
+
+    @staticmethod
+    def ends(count: int, ppm: int) -> list[tuple[int, bool]]:
+        """A frame ends 10 ms behind the rise of its last pulse."""
+        rises = (second * 1_000_000 + 40_000 for second in range(1, count + 1))
+        return [(rise * (1_000_000 + ppm) // 1_000_000 + 10_000, True) for rise in rises]
+
+    def test_a_counter_that_is_off(self) -> None:
+        self.assertEqual(self.ticks(self.clocks(600, ppm=80)), self.ends(600, 80))
+
+    def test_darkness(self) -> None:
+        """Frames 6 to 95 are lost. A counter that is 80 ppm fast is 7.28 ms ahead as frame 96 ends:
+        it has counted that second, 5 ms behind its edge, and the frame sets the edge right."""
+        lost = range(5_050_000, 95_050_000)
+        for ppm, held in ((0, 90), (80, 91)):
+            lines, bright = self.clocks(100, ppm=ppm), self.ends(100, ppm)
+            lines = lines.of(lambda change: [change] * (change[0] not in lost))
+            dark = self.each(bright[4][0] + 1_000_000, held, False)
+            self.assertEqual(self.ticks(lines), [*bright[:5], *dark, *bright[5 + held :]])
+            log = log_of(captured_wave(lines)[0])
+            self.assertEqual(sum(line.endswith(" held") for line in log), held)
+            self.assertEqual(log[-3], "100 relay 2026-11-24T09:31:40Z locked voted")
+
+    def test_a_frame_that_is_not_kept(self) -> None:
+        """G1 ends each half a second late, and is lost behind the second one."""
+        lines = self.clocks(6, (0, 500_000, 0))
+        lines = lines.line(1, lambda change: [change] * (change[0] < 2_550_000))
+        log = [" 2 relay ok fault:1:Short:50 ok", " 3 relay ok silence ok"]
+        self.assertEqual(log_of(captured_wave(lines)[0])[3:7:2], log)
+
+    def test_frames_too_far_apart(self) -> None:
+        """G1, between two lines that are 1.2 ms apart, is lost after three seconds."""
+        lines = self.clocks(6, (0, 600, 1200))
+        lines = lines.line(1, lambda change: [change] * (change[0] < 3_050_600))
+        held = self.each(4_050_600, 3, False)
+        self.assertEqual(self.ticks(lines), self.each(1_050_600, 3) + held)
+        log = ["4 relay 2026-11-24T09:30:04Z holdover:1 held", " 4 relay silence silence silence"]
+        self.assertEqual(log_of(captured_wave(lines)[0])[6:8], log)
+        with self.assertRaisesRegex(ValueError, "most ports never claim one second within a mill"):
+            captured_wave(self.clocks(6, (0, 1001, 2002)))
 
 
 class Lines(unittest.TestCase):
@@ -655,7 +721,7 @@ class Lines(unittest.TestCase):
 
     def test_a_polarity_that_is_said(self) -> None:
         lines = wave_of("leap_inserted")
-        with self.assertRaisesRegex(ValueError, "no edge"):
+        with self.assertRaisesRegex(ValueError, "most ports never claim one second within a mill"):
             captured_wave(lines, "--polarity=inverted")
         text, _ = captured_wave(lines, "--polarity=normal")
         self.assertEqual(log_of(text), wanted_of("leap_inserted"))
@@ -829,30 +895,24 @@ class Words(InAFolder):
         self.assertTrue(ran.stdout.startswith("for example:\n"))
 
     def test_what_ports_tell_that_claim_nothing(self) -> None:
-        with self.assertRaisesRegex(ValueError, "claim one second, most often .fault 17 Parity.;"):
+        with self.assertRaisesRegex(ValueError, "millisecond; at last fault 17 Parity$"):
             captured_wave(wave_of("odd_parity_and_subtract"))
 
-    def test_a_start_that_lies_before_a_leap_second(self) -> None:
-        """Up to it two lines have a bad pulse in each frame, so that most ports claim nothing."""
-        until = waves.FIRST_EDGE_US + 11 * waves.SECOND_US
+    def test_frames_that_claim_nothing_at_first(self) -> None:
+        """Up to the leap second's end two lines have a bad pulse in each frame, element 3."""
 
         def damaged(change: Change) -> list[Change]:
             time, line, level = change
-            begin = time - (time - waves.FIRST_EDGE_US) % waves.ELEMENT_US
-            is_third = (begin - waves.FIRST_EDGE_US) % waves.SECOND_US == 3 * waves.ELEMENT_US
-            moved = line > 0 and level == 0 and time < until and is_third
-            return [(begin + 9_700, line, 0) if moved else change]
+            is_bad = line > 0 and level == 0 and time < 11_050_000 and time // 10_000 % 100 == 8
+            return [(time - time % waves.ELEMENT_US + 9_700, line, 0) if is_bad else change]
 
         lines, leap = wave_of("leap_inserted").of(damaged), {"day": "2016-12-31", "kind": "insert"}
-        for words, start, leaps in (
-            ([], "2016-12-31T23:59:49Z", []),
-            (["--leap=2016-12-31"], "2016-12-31T23:59:50Z", [leap]),
-        ):
+        for words, leaps in ([], []), (["--leap=2016-12-31"], [leap]):
             text, said = captured_wave(lines, *words)
-            plant = json.loads(text.split("\n")[0])
-            self.assertEqual((plant["start"], plant["leaps"]), (start, leaps))
-            self.assertIn(f"start {start}: G0, G1, G2 told 2017-01-01T00:00:00Z at tick 12\n", said)
+            self.assertEqual(json.loads(text.split("\n")[0])["leaps"], leaps)
             self.assertEqual(said.count("leap 2016-12-31 insert: by --leap\n"), len(leaps))
+        self.assertIn("3 ticks: tick 1 is at 12.050 s of the recording", said)
+        self.assertIn(": G0, G1, G2 told 2017-01-01T00:00:00Z at tick 1\n", said)
 
 
 if __name__ == "__main__":

@@ -6,7 +6,7 @@ port's word.
 All examples and cases that run to their end are tried, with each of their readers, by a value
 change dump that becomes a session of sigrok; those of at most 16 seconds by all forms that the tools
 and sigrok-cli have. Without sigrok-cli each wave is captured as it is. Which trips cannot be
-alike stands in a table, with the reason. Needs the libraries of `make -C c`."""
+alike, test_capture says with the reason. Needs the libraries of `make -C c`."""
 from __future__ import annotations
 
 import json
@@ -25,15 +25,14 @@ from collections.abc import Iterator
 from concurrent.futures import ThreadPoolExecutor
 from contextlib import contextmanager
 from dataclasses import dataclass
-from functools import cache, cached_property
+from functools import cache
 from pathlib import Path
 
 from loading import ROOT
 
 from parts.lines import Lines, write_dump, write_sound
 from test_capture import (
-    OTHER, PROGRAM, UNLIKE as unlike_captured, InAFolder, captured, examples, log_of, plant_of,
-    scenarios,
+    OTHER, PROGRAM, UNLIKE as unlike_captured, InAFolder, Trip, examples, scenarios, trips_of,
 )
 
 os.environ["IRIG"] = str(PROGRAM)
@@ -43,8 +42,7 @@ MISSING = "skipped: round trips through sigrok-cli; Debian's package sigrok-cli 
 
 # Trips that can't end where they began, by scenario and reader, with the reason.
 UNLIKE = {
-    **{f"{name} {plant_of(scenarios()[name])['readers'][0]['name']}": why
-       for name, why in unlike_captured.items()},
+    **{f"{name} {trips_of(name)[0].reader['name']}": why for name, why in unlike_captured.items()},
     "heard_mark_goes_before_a_false_table r2": OTHER,
 }
 
@@ -74,57 +72,17 @@ WAVES: list[tuple[str, list[str], list[Passage]]] = [
 ]
 
 
-@dataclass(frozen=True)
-class Trip:
-    """A scenario for one of its readers."""
-
-    text: str
-    reader: dict
-
-    @cached_property
-    def plant(self) -> dict:
-        return plant_of(self.text)
-
-    @property
-    def name(self) -> str:
-        return self.reader["name"]
-
-    @cached_property
-    def log(self) -> list[str]:
-        """What the scenario's log says of the reader."""
-        lines = log_of(self.text)
-        return [line for line in lines[:-1] if line.split()[1] == self.name] + lines[-1:]
-
-    @contextmanager
-    def lines(self) -> Iterator[Lines]:
-        with tempfile.TemporaryFile() as file:
-            file.write(self.text.encode())
-            file.flush()
-            yield Lines(file, self.name, False)
-
-    def outcome(self, recording: Path, *more: str) -> list[str]:
-        """The log of what is captured, or why nothing is. The tool is told what a recording does not
-        say."""
-        plant, reader = self.plant, self.reader
-        words = [f"--reader={reader['name']},{reader['lock_after']},{reader['holdover']}",
-                 f"--start={plant['start']}",
-                 *(f"--leap={leap['day']}:{leap['kind']}" for leap in plant["leaps"]),
-                 *(f"--{key}={plant[key]}" for key in ("parity", "sense", "sbs"))]
-        try:
-            head, _, rest = captured(recording, *words, *more)[0].partition("\n")
-        except ValueError as error:
-            return [str(error)]
-        made = json.loads(head) | {"version": plant["version"], "readers": [reader]}
-        return log_of(f"{json.dumps(made)}\n{rest}")
+@contextmanager
+def lines_of(trip: Trip) -> Iterator[Lines]:
+    with tempfile.TemporaryFile() as file:
+        file.write(trip.text.encode())
+        file.flush()
+        yield Lines(file, trip.reader["name"], False)
 
 
 @cache
 def trips() -> dict[str, Trip]:
-    found = {}
-    for name, text in scenarios().items():
-        for reader in plant_of(text)["readers"]:
-            found[f"{name} {reader['name']}"] = Trip(text, reader)
-    return found
+    return {f"{name} {one.reader['name']}": one for name in scenarios() for one in trips_of(name)}
 
 
 def short_examples() -> list[str]:
@@ -157,7 +115,7 @@ def by_each_form(name: str) -> list[Outcome]:
         (folder / "scenario.jsonl").write_text(trip.text)
         for wave_file, words, passages in WAVES:
             subprocess.run(
-                [TOOL, "scenario.jsonl", "-o", wave_file, "--reader", trip.name, *words],
+                [TOOL, "scenario.jsonl", "-o", wave_file, "--reader", trip.reader["name"], *words],
                 cwd=folder, capture_output=True, check=True,
             )
             outcomes.append(Outcome(name, wave_file, words, trip.outcome(folder / wave_file)))
@@ -258,14 +216,14 @@ class Trips(InAFolder):
         alike = 0
         for name, trip in trips().items():
             with self.subTest(name):
-                with trip.lines() as lines:
+                with lines_of(trip) as lines:
                     log = trip.outcome(self.recording(lines))
                 if name in UNLIKE:
                     self.assertNotEqual(log, trip.log, "this is alike now")
                 else:
                     self.assertEqual(log, trip.log)
                     alike += 1
-        self.assertEqual(set(UNLIKE) - set(trips()), set())
+        self.assertEqual(UNLIKE - set(trips()), set())
         print(f"round trips: {alike} alike, {len(UNLIKE)} can't be")
         if not SIGROK:
             print(MISSING)
@@ -295,14 +253,11 @@ class Trips(InAFolder):
         """The high pass of a sound card at 20 Hz, out or in."""
         for name in FEW:
             trip = trips()[name]
-            with trip.lines() as lines:
+            with lines_of(trip) as lines:
                 write_sound(self.folder / "a.wav", lines, 8_000)
             coupled(self.folder / "a.wav", self.folder / "b.wav")
-            self.compare(trip, "b.wav", [], [])
-
-    def compare(self, trip: Trip, made: str, options: list[str], more: list[str]) -> None:
-        with self.subTest(trip.name, made=made, options=options):
-            self.assertEqual(trip.outcome(self.folder / made, *more), trip.log)
+            with self.subTest(name):
+                self.assertEqual(trip.outcome(self.folder / "b.wav"), trip.log)
 
 
 class Noise(InAFolder):
@@ -314,7 +269,7 @@ class Noise(InAFolder):
             if name in UNLIKE or name.split()[0] not in short_examples():
                 continue
             for kind, recorder in recorders(seed, name).items():
-                with self.subTest(name, seed=seed, kind=kind), trip.lines() as lines:
+                with self.subTest(name, seed=seed, kind=kind), lines_of(trip) as lines:
                     path = self.folder / "lines.csv"
                     recorder.recorded(lines, path)
                     self.assertEqual(announced(trip.outcome(path)), announced(trip.log))
@@ -331,7 +286,7 @@ class Noise(InAFolder):
             (Recorder(random.Random(1), 900, 0), []),
             (Recorder(random.Random(1), 0, 0, every_us=4000), []),
         ):
-            with self.subTest(recorder), trip.lines() as lines:
+            with self.subTest(recorder), lines_of(trip) as lines:
                 recorder.recorded(lines, path)
                 self.assertNotEqual(trip.outcome(path, *words), trip.log)
 
