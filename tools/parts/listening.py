@@ -75,17 +75,15 @@ class View:
 
     def __init__(self, high: int) -> None:
         self.high = high
-        self.sync = Sync()
-        self.hears: List[Callable[[int, int], int]] = [self.sync.pulse]  # what says a pulse's place
+        self.hears: List[Callable[[int, int], int]] = [Sync().pulse]  # what says a pulse's place
         self.heard: List[Tuple[int, int]] = []  # rises and widths, in step since a frame began
         self.whole: List[Tuple[int, int]] = []  # those of the last frame
-        self.rise: Optional[float] = None
-        self.last_rise: Optional[float] = None
+        self.rise = self.last_rise = -NEVER
         self.pulses = self.frames = self.out_of_step = self.begun = self.on_time = 0
         self.widths = {letter: Spread() for letter in "01P?"}
         self.gaps = Spread()  # between pulses in step
         self.seconds = Spread()  # from the beginning of a frame to that of the next
-        self._begun_at: Optional[float] = None  # the last frame
+        self._begun_at = -NEVER  # the last frame
         self._place = 0
         self.rises: Counter[int] = Counter()  # between all, in tenths of a millisecond
 
@@ -94,14 +92,15 @@ class View:
         if level == self.high:
             self.rise = time
             return False
-        if self.rise is None:
+        if self.rise == -NEVER:
             return False
-        if self.last_rise is not None and self.rise >= self.last_rise + SECOND_US:
-            self.sync.idle(round(self.last_rise) + SECOND_US)  # before its clock wraps
+        gap = self.rise - self.last_rise
+        if gap >= SECOND_US and not self.frames:
+            self.hears = [Sync().pulse]  # as it is idle, even if its clock has wrapped
         place, rise, width = 0, round(self.rise), min(round(time - self.rise), WORD - 1)
         for hear in self.hears:
             place = hear(rise, width)
-        self._note(place, width)
+        self._note(place, width, gap)
         if place == 1:
             self.heard = []
         if place:
@@ -110,20 +109,19 @@ class View:
             self.whole, self.heard = self.heard, []
         return place == 100
 
-    def _note(self, place: int, width: int) -> None:
+    def _note(self, place: int, width: int, gap: float) -> None:
         self.pulses += 1
         self.out_of_step += not place
         self.begun += place == 1
         self.frames += place == 100
         self.widths[symbol_of(width)].add(width)
-        if self.last_rise is not None and self.rise is not None:
-            gap = self.rise - self.last_rise
+        if gap < NEVER:
             self.rises[min(round(gap / 100), 10_000)] += 1
             is_on_time = 9_000 <= gap < 11_000
             self.on_time += is_on_time
             if place > 1:
                 self.gaps.add(gap)
-            elif place == 1 and self._place == 100 and is_on_time and self._begun_at is not None:
+            elif place == 1 and self._place == 100 and is_on_time:
                 self.seconds.add(self.rise - self._begun_at)
         if place == 1:
             self._begun_at = self.rise
@@ -224,25 +222,26 @@ class Device:
         self.last: Optional[Tick] = None
         self.apart = 0.0  # how far frames that ended near an edge were apart at most
         self._keeper = keeper
-        self._due = NEVER
+        self._due = -NEVER  # at which the recording begins
         for number, line in enumerate(ports):
             line.ports.append(partial(keeper.hear, number))
 
     def ticks(self, changes: Iterable[Change]) -> Iterator[Tick]:
         """Each tick at which a second begins."""
         for time, number, level in changes:
-            if self._due == NEVER:
-                self._ask(round(time))
-            end = time + BEHIND_US if number == END else time
-            if self._due <= end:
-                yield from self._until(end)
-            if number != END and self.lines[number].change(time, level):
+            if self._due <= time:
+                yield from self._until(time)
+            if number == END:
+                yield from self._until(time + BEHIND_US)
+            elif self.lines[number].change(time, level):
                 self._ask(round(time))
 
     def _ask(self, now: int) -> None:
         self._due = now + self._keeper.wait(now)
 
     def _until(self, end: float) -> Iterator[Tick]:
+        if self._due == -NEVER:
+            self._ask(round(end))
         while self._due <= end:
             now = int(self._due)
             beat = self._keeper.tick(now)

@@ -621,7 +621,7 @@ class Devices(InAFolder):
         self.assertLessEqual({"voted", "held", "no-vote", "acquiring"}, kinds)
 
 
-class Ticks(InAFolder):
+class Edges(InAFolder):
     """Where ticks are, by docs/WIRES.md: where the last frame ends whose claim stands on two lines,
     its own and one that ends up to 1 ms later; else a second behind the tick before."""
 

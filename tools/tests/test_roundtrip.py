@@ -6,7 +6,7 @@ port's word.
 All examples and cases that run to their end are tried, with each of their readers, by a value
 change dump that becomes a session of sigrok; those of at most 16 seconds by all forms that the tools
 and sigrok-cli have. Without sigrok-cli each wave is captured as it is. Which trips cannot be
-alike, test_capture says with the reason. Needs the libraries of `make -C c`."""
+alike stands in a table, with the reason. Needs the libraries of `make -C c`."""
 from __future__ import annotations
 
 import json
@@ -223,7 +223,7 @@ class Trips(InAFolder):
                 else:
                     self.assertEqual(log, trip.log)
                     alike += 1
-        self.assertEqual(UNLIKE - set(trips()), set())
+        self.assertEqual(set(UNLIKE) - set(trips()), set())
         print(f"round trips: {alike} alike, {len(UNLIKE)} can't be")
         if not SIGROK:
             print(MISSING)
