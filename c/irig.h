@@ -513,11 +513,12 @@ uint8_t irig_timekeeper_hear(irig_timekeeper *timekeeper, uint8_t line, uint32_t
  *
  * If it answers 0, a second that is announced with the cause IRIG_CAUSE_VOTED is the true one, and
  * its true edge lies at most 1,549 us behind `edge_us` or 549 before it, provided that no two of
- * three lines (three of five; not the one line) were untrue in the last 1.2 s, whenever the call
- * comes, whatever came before, and whatever numbers lie in the timekeeper. In one that
- * irig_timekeeper_init made, a second with the cause IRIG_CAUSE_HELD is true too, if that was so at
- * each tick, the counter is as steady as `drift_us` says, the table is right and calls were in
- * order; its edge lies off by `drift_us` more for each of `lock_count` seconds. */
+ * three lines (three of five; not the one line) were untrue in the last 1.2 s, and the others keep
+ * what they then heard. That holds whenever the call comes, whatever came before, and whatever other
+ * numbers lie in the timekeeper. In one that irig_timekeeper_init made, a second with the cause
+ * IRIG_CAUSE_HELD is true too, if that was so at each tick, the counter is as steady as `drift_us`
+ * says, the table is right and calls were in order; its edge lies off by `drift_us` more for each of
+ * `lock_count` seconds. */
 uint32_t irig_timekeeper_tick(irig_timekeeper *timekeeper, uint32_t now_us, irig_second *second);
 
 /* How long until a tick has something to do, in microseconds, if no call comes before it: 0 if one at

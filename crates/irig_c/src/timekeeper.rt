@@ -124,7 +124,8 @@ pub extern "C" fn irig_c_timekeeper_hear(
 
 fn hear_pulse(timekeeper: &mut IrigTimekeeper, port: u8, rise_us: u32, width_us: u32) -> u8
     requires { port < 5 }
-    ensures place { result ≡ place_of (numbers_at timekeeper.old.lines port).sync rise_us width_us }
+    ensures place { result
+        ≡ place_of (numbers_at timekeeper.old.lines port).sync rise_us width_us }
     ensures few { result ≤ 100 }
     ensures fed { (k : Keeping) → IsTimekeeperOf timekeeper.old k
         → IsTimekeeperOf timekeeper.new (one_pulse_more k port rise_us width_us) }
@@ -156,16 +157,17 @@ pub extern "C" fn irig_c_timekeeper_tick(
         → IsTimekeeperOf timekeeper.new (after_tick k now_us) }
     // whatever lies in its numbers: what the clock makes of them
     ensures said { result ≡ 0 → IsSecondOf second.new (answer_in timekeeper.old now_us) }
-    ensures stands { result ≡ 0 → clock_state_in timekeeper.new ≡ state_behind timekeeper.old now_us }
+    ensures stands { result ≡ 0
+        → clock_state_in timekeeper.new ≡ state_behind timekeeper.old now_us }
     // how the lines stand to the vote of the tick, which a second by the own counter has not, and
     // what the frames of those that agree say beside the time
     ensures voices { (beat : Beat) → result ≡ 0 → answer_in timekeeper.old now_us ≡ Some beat
         → voices_in second.new.report ≡ voices_to (vote_in timekeeper.old now_us) beat.told
         (redundancy_in timekeeper.old.setup) (sense_in timekeeper.old.setup.sense)
         (frames_in timekeeper.old.lines) }
-    // A second that is announced by a vote is the true one, whatever lies in the numbers, if at most f
-    // lines were untrue in the last 1.2 s: this needs nothing of the past (irig_timekeeper, the law
-    // `votes_are_true`).
+    // A second that is announced by a vote is the true one, whatever lies in the numbers, if all lines
+    // but f were true in the last 1.2 s and keep what they then heard: this needs nothing of the past
+    // (irig_timekeeper, the law `votes_are_true`).
     ensures truth { (t : TimelineValue) (d : ℕ) (edges : ℕ → ℕ) (now : ℕ)
         (pulses : ℕ → List Pulse) (u : UtcSecond) → result ≡ 0 → now_us ≡ now % 2 ^ 32
         → IsQuartz d edges → IsTimeline t

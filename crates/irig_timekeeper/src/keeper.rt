@@ -105,7 +105,8 @@ impl<P: Port> Timekeeper<P> {
 
     fn hear_pulse(&mut self, port: u8, rise_us: u32, width_us: u32) -> u8
         requires { port < ports_in self.old.clock.redundancy }
-        ensures place { result ≡ place_of (line_at self.old.state.lines port).sync rise_us width_us }
+        ensures place { result
+            ≡ place_of (line_at self.old.state.lines port).sync rise_us width_us }
         ensures heard { Goes self.old self.new (λ k. one_pulse_more k port rise_us width_us) }
         ensures lines { self.new.clock ≡ self.old.clock }
     {

@@ -190,8 +190,8 @@ pub fn enough_lines_vote()
         → (vote : KeptClaim) × (agreed f lines ≡ Some vote) }
     ensures come { (t : TimelineValue) (d : ℕ) (edges : ℕ → ℕ) (k : Keeping) (now : ℕ)
         (pulses : ℕ → List Pulse) (vote : KeptClaim) → IsQuartz d edges
-        → (heard : AreHeardTruly (IsTrueLately k.rules t edges now) k.rules (f_of k.clock.redundancy) now
-        k.state.lines pulses)
+        → (heard : AreHeardTruly (IsTrueLately k.rules t edges now) k.rules
+        (f_of k.clock.redundancy) now k.state.lines pulses)
         → ((i : ℕ) → i < 5 → heard.untrue i ≡ false
         → IfKept (HasJustCome now) k.rules (claim_kept (line_at k.state.lines i).frame)
         (pulses i))

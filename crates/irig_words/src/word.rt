@@ -265,7 +265,8 @@ fn is_last_word(meaning: &Meaning, word: &str) -> bool {
 }
 
 fn push_number(text: &mut String, number: u8) -> Result<(), AllocError>
-    ensures none { is_number number ≡ false → OnOk result (string_bytes text.new ≡ string_bytes text.old) }
+    ensures none { is_number number ≡ false
+        → OnOk result (string_bytes text.new ≡ string_bytes text.old) }
     ensures number { string_bytes text.old ≡ [] → is_number number ≢ false
         → OnOk result (IsOfNumber number (string_bytes text.new)) }
 {
@@ -280,7 +281,8 @@ fn push_number(text: &mut String, number: u8) -> Result<(), AllocError>
 
 #[tactic(auto, unfolding(crate::specs::Numbers::meaning_text))]
 fn push_meaning(text: &mut String, meaning: &Meaning) -> Result<(), AllocError>
-    ensures { OnOk result (string_bytes text.new ≡ string_bytes text.old ++ meaning_text meaning.now) }
+    ensures { OnOk result (string_bytes text.new
+        ≡ string_bytes text.old ++ meaning_text meaning.now) }
 {
     write!(
         text,
