@@ -1,4 +1,4 @@
--- What the report writes is what is said of who lied.
+-- What is written is what is said of who lied.
 use Rattle.std.proofs.Common.{◌≡◌, ℕ, List, [], ◌∷◌, ◌++◌, Option, Some, None, Result, Ok, Err, refl, ap, subst}
 use Rattle.std.specs.Io.KnownBytes.{Appends}
 use Rattle.irig_device.specs.Watched.{AppendsPart}
@@ -6,11 +6,12 @@ use Rattle.irig_log_text.specs.Text.{refusal_text}
 use Rattle.irig_plant.specs.declared.event.Event.{Event}
 use Rattle.irig_scenario.specs.PlantLine.{Plan}
 use Rattle.irig_scene.specs.declared.fault.SceneFault.{SceneFault}
+use Rattle.irig_scene.specs.declared.outcome.Outcome.{Outcome}
 use Rattle.irig_scene.specs.declared.fault.SceneFault.TheVariants.{Refused, Read, Write, Memory}
 use Rattle.irig_scene.specs.Lines.{lines}
 use Rattle.irig_scene.specs.Scene.{Scene, Refused as RefusedLine, meaning, meaning_of, verdict_text}
-use Rattle.irig_report.specs.Texts.{said, meaning_text, report_text, first_of}
-use Rattle.irig_report.specs.Reports.{ReportRun, RanReport}
+use Rattle.irig_scene.specs.Texts.{said, meaning_text, whole_text, first_of}
+use Rattle.irig_scene.specs.ListenerRuns.{RunFor, RanFor}
 use Rattle.irig_blame.specs.BlameText.{all_ended, ended_text, closing_in, blame_texts, blame_meaning, blame_text}
 use Rattle.irig_blame.specs.Blaming.{BlameRun, RanBlame}
 
@@ -24,16 +25,16 @@ same_meaning first None (Some k) = refl
 same_meaning first (Some x) None = ap (λ t. t ++ (closing_in x ++ verdict_text (Some x))) (all_said x.plan x.events)
 same_meaning first (Some x) (Some k) = ap (λ t. t ++ (closing_in x ++ refusal_text k.line k.refusal)) (all_said x.plan x.events)
 
-same_text : (x : List ℕ) → report_text blame_texts x ≡ blame_text x
+same_text : (x : List ℕ) → whole_text blame_texts x ≡ blame_text x
 same_text x = let m = meaning_of x in same_meaning (first_of (lines x)) m.scene m.refused
 
--- a report of who lied is that
-pub ran_blame : (r : Result (Unit {0}) SceneFault) (was old new : Option (List ℕ)) → RanReport blame_texts r was old new → RanBlame r was old new
-ran_blame r was old new ran = record { bytes = ran.bytes; of_input = ran.of_input; ran = of_run r ran.ran }
+-- what a listener is promised is that
+pub ran_blame : (r : Result Outcome SceneFault) (was left old new : Option (List ℕ)) → RanFor blame_texts r was left old new → RanBlame r was left old new
+ran_blame r was left old new ran = record { bytes = ran.bytes; of_input = ran.of_input; ran = of_run r ran.ran; read = ran.ran }
   where
-    of_run : (r : Result (Unit {0}) SceneFault) → ReportRun blame_texts r ran.bytes old new → BlameRun r ran.bytes old new
-    of_run (Ok done) h = (h.0, subst (Appends old new) (same_text ran.bytes) h.1)
-    of_run (Err (Refused line number)) h = (h.0, subst (Appends old new) (same_text ran.bytes) h.1)
-    of_run (Err Read) h = subst (AppendsPart old new) (same_text ran.bytes) h
-    of_run (Err Write) h = subst (AppendsPart old new) (same_text ran.bytes) h
-    of_run (Err Memory) h = subst (AppendsPart old new) (same_text ran.bytes) h
+    of_run : (r : Result Outcome SceneFault) → RunFor blame_texts r ran.bytes was left old new → BlameRun r ran.bytes old new
+    of_run (Ok o) h = (h.1.accepted, subst (Appends old new) (same_text ran.bytes) h.0)
+    of_run (Err (Refused line number)) h = (h.1, subst (Appends old new) (same_text ran.bytes) h.0)
+    of_run (Err Read) h = subst (AppendsPart old new) (same_text ran.bytes) h.0
+    of_run (Err Write) h = subst (AppendsPart old new) (same_text ran.bytes) h.0
+    of_run (Err Memory) h = subst (AppendsPart old new) (same_text ran.bytes) h.0

@@ -5,7 +5,7 @@ use Rattle.irig_plant.specs.declared.event.Event.{Event}
 use Rattle.irig_plant.specs.declared.event.Event.TheVariants as event
 use Rattle.irig_plant.specs.Schedule.{Setup}
 use Rattle.irig_log_text.specs.Text.{name_at}
-use Rattle.irig_report.specs.Texts.{Texts}
+use Rattle.irig_scene.specs.Texts.{Texts}
 use Rattle.irig_scene.specs.Scene.{Scene, Meaning, meaning_of, last_text, verdict_text}
 use Rattle.irig_blame.specs.Books.{tick_of, account_at}
 use Rattle.irig_blame.specs.Text.{texts_below, ended_lines, open_lines, total_lines}
@@ -51,7 +51,7 @@ blame_meaning m = ended_of m.scene ++ (closing_of m.scene ++ last_text m)
 abbrev pub blame_text : List ℕ → List ℕ
 blame_text x = blame_meaning (meaning_of x)
 
--- the report of that: what is said of each event, and at the end
+-- what is said of each event, and at the end
 abbrev pub blame_texts : Texts
 blame_texts = record {
   first = λ line. [];

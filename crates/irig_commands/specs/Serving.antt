@@ -1,5 +1,5 @@
 -- What is done for a request.
--- Source: README.md, the commands; the exit statuses are those of Status.antt.
+-- Source: docs/irig.1, the commands; the exit statuses are those of Status.antt.
 use Rattle.std.specs.Prelude.{◌≡◌, ℕ, ◌≤◌, ◌↔◌, ◌⊎◌, Bool, false, true, ⊤, List, Result, Ok, Err, IfSome, string_bytes}
 use Rattle.std.specs.Io.KnownBytes.{Appends, Keeps}
 use Rattle.std.specs.declared.io.Error.{Error}
@@ -25,7 +25,7 @@ use Rattle.irig_commands.specs.declared.fault.Fault.{Fault}
 use Rattle.irig_commands.specs.declared.fault.Fault.TheVariants as fault
 use Rattle.irig_commands.specs.declared.reports.ReportKind.{ReportKind}
 use Rattle.irig_commands.specs.declared.reports.ReportKind.TheVariants as kind
-use Rattle.irig_commands.specs.Status.{answer_of, result_of, status_of_answer}
+use Rattle.irig_commands.specs.Status.{result_of, status_of_answer}
 
 -- what the program answers
 abbrev pub Answer : Type 0
@@ -61,33 +61,35 @@ RunsFile remaining shown answer old new =
 
 -- a scenario on the input was written out as what its readers hear: what is written has the log of
 -- the scenario, and is its text
-pub record FlattensScene (answer : Answer) (input old new : Bytes) : Type 0 where
-  pub flat : Result (Unit {0}) SceneFault
-  pub answered : answer ≡ answer_of flat
+pub record FlattensScene (answer : Answer) (input left old new : Bytes) : Type 0 where
+  pub flat : Result Outcome SceneFault
+  pub answered : answer ≡ result_of flat
   pub same_log : IfSome input (λ x. OfWritten old new (HasTheLog flat x))
-  pub ran : RanFlat flat input old new
+  pub ran : RanFlat flat input left old new
 
 -- who lied in a scenario on the input was written
-pub record BlamesScene (answer : Answer) (input old new : Bytes) : Type 0 where
-  pub blamed : Result (Unit {0}) SceneFault
-  pub answered : answer ≡ answer_of blamed
-  pub ran : RanBlame blamed input old new
+pub record BlamesScene (answer : Answer) (input left old new : Bytes) : Type 0 where
+  pub blamed : Result Outcome SceneFault
+  pub answered : answer ≡ result_of blamed
+  pub ran : RanBlame blamed input left old new
 
 -- what was written is what readers hear, with the log of the scenario, or who lied
-abbrev pub IsReport : ReportKind → Result (Unit {0}) SceneFault → Bytes → Bytes → Bytes → Type 0
-IsReport kind.Heard r input old new =
-    IfSome input (λ x. OfWritten old new (HasTheLog r x)) × RanFlat r input old new
-IsReport kind.Blame r input old new = RanBlame r input old new
+abbrev pub IsReport : ReportKind → Result Outcome SceneFault → Bytes → Bytes → Bytes → Bytes
+    → Type 0
+IsReport kind.Heard r input left old new =
+    IfSome input (λ x. OfWritten old new (HasTheLog r x)) × RanFlat r input left old new
+IsReport kind.Blame r input left old new = RanBlame r input left old new
 
 -- so of a scenario on the input
-abbrev pub ReportsScene : ReportKind → Answer → Bytes → Bytes → Bytes → Type 0
-ReportsScene kind.Heard answer input old new = FlattensScene answer input old new
-ReportsScene kind.Blame answer input old new = BlamesScene answer input old new
+abbrev pub ReportsScene : ReportKind → Answer → Bytes → Bytes → Bytes → Bytes → Type 0
+ReportsScene kind.Heard answer input left old new = FlattensScene answer input left old new
+ReportsScene kind.Blame answer input left old new = BlamesScene answer input left old new
 
 -- so of what a file gives; or it can't be opened, or there is no memory for it
 abbrev pub ReportsFile : {F : Type 0} → (F → Bytes) → ReportKind → Answer → Bytes → Bytes → Type 0
 ReportsFile remaining kind answer old new =
-    ((input : Bytes) × AreOfFile remaining input × ReportsScene kind answer input old new)
+    ((input left : Bytes) × AreOfFile remaining input
+    × ReportsScene kind answer input left old new)
     ⊎ (((error : Error) × Refuses (fault.Open error) answer old new)
     ⊎ Refuses fault.Memory answer old new)
 
@@ -136,7 +138,7 @@ reads_input (Frame time options) = false
 reads_input (Read frame rules) = false
 reads_input (Explain word) = false
 
--- the request was served; what is left of the input is said of a run of it alone
+-- the request was served
 abbrev pub Serves : {F : Type 0} → (F → Bytes) → Request → Answer → Bytes → Bytes → Bytes → Bytes
     → Type 0
 Serves remaining Plain answer input left old new =
@@ -145,10 +147,11 @@ Serves remaining (Input all ports) answer input left old new =
     RunsScene (shown all ports) answer input left old new
 Serves remaining (Run file all ports) answer input left old new =
     RunsFile remaining (shown all ports) answer old new
-Serves remaining FlattenInput answer input left old new = FlattensScene answer input old new
+Serves remaining FlattenInput answer input left old new =
+    FlattensScene answer input left old new
 Serves remaining (Flatten file) answer input left old new =
     ReportsFile remaining kind.Heard answer old new
-Serves remaining BlameInput answer input left old new = BlamesScene answer input old new
+Serves remaining BlameInput answer input left old new = BlamesScene answer input left old new
 Serves remaining (Blame file) answer input left old new =
     ReportsFile remaining kind.Blame answer old new
 Serves remaining (Frame time options) answer input left old new =

@@ -1,5 +1,5 @@
 -- The exit statuses.
--- Source: README.md, the table of statuses.
+-- Source: docs/OUTPUT.md, the exit status.
 use Rattle.std.specs.Prelude.{◌≡◌, ℕ, ◌≤◌, ◌⊎◌, Result, Ok, Err}
 use Rattle.irig_scene.specs.declared.outcome.Outcome.{Outcome}
 use Rattle.irig_scene.specs.declared.fault.SceneFault.{SceneFault}
@@ -38,11 +38,6 @@ fault_of_reading reading.Memory = Memory
 abbrev pub result_of : Result Outcome SceneFault → Result (Unit {0}) Fault
 result_of (Ok outcome) = Ok _
 result_of (Err fault) = Err (fault_of fault)
-
--- what a scenario that is written out leaves for the program
-abbrev pub answer_of : Result (Unit {0}) SceneFault → Result (Unit {0}) Fault
-answer_of (Ok done) = Ok _
-answer_of (Err fault) = Err (fault_of fault)
 
 -- what was done is 0
 abbrev pub status_of_answer : Result (Unit {0}) Fault → ℕ

@@ -11,7 +11,7 @@ use crate::request::open;
 use irig_blame::blame;
 use irig_device::Watched;
 use irig_flatten::flatten;
-use irig_scene::{RefusedLine, SceneFault};
+use irig_scene::{Outcome, RefusedLine, SceneFault};
 use std::alloc::Global;
 use std::io;
 use std::io::{BufRead, Write};
@@ -38,14 +38,15 @@ pub(crate) fn report_input<R: Eprint + AllocGlobal, I: BufRead, O: Write>(
 ) -> Result<(), Fault>
     requires input_whole { has_failed input.old ≡ false }
     requires output_whole { has_failed output.old ≡ false }
-    ensures reported { ReportsScene kind result (I.remaining (device_of input.old))
+    ensures reported { ReportsScene kind result
+        (I.remaining (device_of input.old)) (I.remaining (device_of input.new))
         (O.contents (device_of output.old)) (O.contents (device_of output.new)) }
     ensures write { (result ≡ Err Fault.Write) ↔ (has_failed output.new ≡ true) }
     ensures read { (result ≡ Err Fault.Read) ↔ (has_failed input.new ≡ true) }
 {
     let mut refused = None;
     match write_report(rt.alloc(), kind, input, output, &mut refused) {
-        Ok(()) => Ok(()),
+        Ok(_) => Ok(()),
         Err(fault) => {
             tell_refusal(rt, fault, &refused);
             Err(Fault::from(fault))
@@ -59,10 +60,10 @@ fn write_report<I: BufRead, O: Write>(
     input: &mut Watched<I>,
     output: &mut Watched<O>,
     refused: &mut Option<RefusedLine>,
-) -> Result<(), SceneFault>
+) -> Result<Outcome, SceneFault>
     requires input_whole { has_failed input.old ≡ false }
     requires output_whole { has_failed output.old ≡ false }
-    ensures is { IsReport kind result (left I.remaining input.old)
+    ensures is { IsReport kind result (left I.remaining input.old) (left I.remaining input.new)
         (written O.contents output.old) (written O.contents output.new) }
     ensures read { (result ≡ Err SceneFault.Read) ↔ (has_failed input.new ≡ true) }
     ensures write { (result ≡ Err SceneFault.Write) ↔ (has_failed output.new ≡ true) }

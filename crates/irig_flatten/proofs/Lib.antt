@@ -1,4 +1,5 @@
 pub mod RunLaws
+pub mod BroughtLaws
 pub mod RecordingLaws
 pub mod WidthLaws
 pub mod TakenLaws

@@ -27,7 +27,7 @@ use Rattle.irig_scene.proofs.StepLaws.{step_taken, meaning_goes, meaning_ends}
 use Rattle.irig_event_text.specs.EventText.{event_line, IsLine, IsWritten}
 use Rattle.irig_event_text.proofs.LineLaws.{is_line}
 use Rattle.irig_event_text.proofs.ReadLaws.{event_read}
-use Rattle.irig_report.specs.Texts.{first_of}
+use Rattle.irig_scene.specs.Texts.{first_of}
 use Rattle.irig_flatten.specs.Recording.{pulses_at, heard_of, recorded, CanBeWritten, AreTaken}
 use Rattle.irig_flatten.specs.FlatText.{heard_line, heard_lines, flat_lines, flat_of, flat_text}
 use Rattle.irig_flatten.proofs.RecordingLaws.{same_ticks, same_log, same_told, same_audit}

@@ -6,7 +6,7 @@ use Rattle.irig_plant.specs.declared.event.Event.{Event}
 use Rattle.irig_plant.specs.Schedule.{Setup}
 use Rattle.irig_event_text.specs.EventText.{event_line}
 use Rattle.irig_log_text.specs.Text.{refusal_text}
-use Rattle.irig_report.specs.Texts.{Texts, first_of}
+use Rattle.irig_scene.specs.Texts.{Texts, first_of}
 use Rattle.irig_scene.specs.Lines.{lines, unlines}
 use Rattle.irig_scene.specs.Scene.{Scene, Refused, Meaning, meaning_of}
 use Rattle.irig_flatten.specs.Recording.{heard_of}
@@ -42,7 +42,7 @@ flat_meaning first m = flat_of first m.scene ++ refused_text m.refused
 abbrev pub flat_text : List ℕ → List ℕ
 flat_text x = flat_meaning (first_of (lines x)) (meaning_of x)
 
--- ---- the report of that
+-- ---- what is said of each event
 
 -- the line of pulses, a tick or a restart with its newline, or nothing
 abbrev pub line_text : List (List ℕ) → Option Event → List ℕ

@@ -1,108 +1,95 @@
-//! Events that are played, and what readers hear of them.
+//! What readers hear of events, as lines.
 
-ghost use Rattle.std.specs.Prelude.{◌≡◌, ◌≤◌, ◌++◌, ◌∷◌, [], None, OnOk, length, string_bytes, ◌||◌};
-ghost use Rattle.irig_device.specs.Watched.{device_of, has_failed};
+ghost use Rattle.std.specs.Prelude.{◌≡◌, ◌++◌, false, OnOk, string_bytes};
 ghost use Rattle.irig_log_text.specs.Text.{texts_of};
-ghost use Rattle.irig_plant.specs.History.{ForHistory};
-ghost use Rattle.irig_plant.specs.Refusals.{refusal};
+ghost use Rattle.irig_scene.specs.Listening.{HasTaken};
+ghost use Rattle.irig_scene.specs.Scene.{Scene};
 ghost use Rattle.irig_flatten.specs.FlatText.{heard_text, line_text};
 ghost use Rattle.irig_flatten.specs.Recording.{pulses_at};
 
 use indexmap::IndexSet;
-use irig_device::Watched;
 use irig_event_text::{push_pulses, push_restart, push_tick};
-use irig_faults::Refusal;
 use irig_plant::{Event, Plant};
-use irig_port::FlowPort;
-use irig_report::Report;
-use irig_scene::{Failure, RefusedLine, Stop, refusal_as, write_text};
+use irig_port::Port;
+use irig_scene::Listener;
 use std::alloc::{AllocError, Global};
-use std::io::Write;
 
-/// A plant, its readers' names, and memory for a line.
+/// Says what readers hear. It keeps nothing.
 #[derive(Drop)]
-pub(crate) struct Recorder {
-    plant: Plant<FlowPort>,
-    names: IndexSet<String>,
-    text: String,
-    ghost few: { length names.keys ≤ 16 },
-}
+pub(crate) struct Recorder {}
 
-impl Report for Recorder {
+impl Listener for Recorder {
+    ghost use Rattle.std.specs.Prelude.{⊤};
     ghost use Rattle.irig_flatten.specs.FlatText.{flat_texts};
-    ghost use Rattle.irig_flatten.specs.Flattening.{IsRecorderAt};
 
-    ghost texts = { flat_texts };
+    type Asked = ();
 
-    ghost stands_for = { IsRecorderAt };
+    ghost texts = { λ asked. flat_texts };
 
-    fn of_plant(
-        alloc: Global,
-        plant: Plant<FlowPort>,
-        names: IndexSet<String>,
+    ghost keeps_told = { λ asked. false };
+
+    ghost stands_for = { λ asked recorder x. ⊤ };
+
+    fn wants_told(_asked: ()) -> bool {
+        false
+    }
+
+    fn new(
+        _alloc: Global,
+        _asked: (),
+        _names: &IndexSet<String>,
         _ports: u8,
     ) -> Result<Recorder, AllocError> {
-        Ok(Recorder {
-            plant,
-            names,
-            text: String::new(alloc),
-        })
+        Ok(Recorder {})
     }
 
-    fn write_first<W: Write>(line: &[u8], output: &mut Watched<W>) -> Result<(), Failure> {
-        match output.write_all(line) {
-            Ok(()) => write_text(output, "\n"),
-            Err(_) => Err(Failure::Write),
-        }
+    fn echoes_plant_line(_asked: ()) -> bool {
+        true
     }
 
-    fn play<W: Write>(&mut self, event: &Event, output: &mut Watched<W>) -> Result<(), Stop> {
-        self.text.clear();
-        if push_heard(&mut self.text, &self.names, &self.plant, event).is_err() {
-            return Err(Stop::Failed(Failure::Memory));
-        }
-        self.plant.clear_log();
-        match self.plant.apply(event) {
-            Ok(()) => Ok(write_text(output, self.text.as_str())?),
-            Err(fault) => match refusal_as(fault) {
-                Some(refusal) => Err(Stop::Refused(refusal)),
-                None => Err(Stop::Failed(Failure::Memory)),
-            },
-        }
+    fn push_event<P: Port>(
+        &mut self,
+        _asked: (),
+        plant: &Plant<P>,
+        names: &IndexSet<String>,
+        event: &Event,
+        text: &mut String,
+    ) -> Result<(), AllocError> {
+        push_heard(text, names, plant, event)
     }
 
-    fn write_closing<W: Write>(
+    fn push_closing<P: Port>(
         &self,
-        _alloc: Global,
-        _output: &mut Watched<W>,
-    ) -> Result<(), Failure> {
+        _asked: (),
+        _plant: &Plant<P>,
+        _names: &IndexSet<String>,
+        _text: &mut String,
+    ) -> Result<(), AllocError> {
         Ok(())
     }
 
-    fn write_end<W: Write>(&self, _alloc: Global, _output: &mut Watched<W>) -> Result<(), Failure> {
+    fn push_end<P: Port>(
+        &self,
+        _asked: (),
+        _plant: &Plant<P>,
+        _names: &IndexSet<String>,
+        _text: &mut String,
+    ) -> Result<(), AllocError> {
         Ok(())
-    }
-
-    fn names(&self) -> &IndexSet<String> {
-        &self.names
-    }
-
-    fn refused(self, alloc: Global, refusal: Refusal, line: Vec<u8>) -> RefusedLine {
-        let Recorder { plant, names, .. } = self;
-        RefusedLine::of_plant(alloc, refusal, line, names, plant.generators())
     }
 }
 
-// Pushes the line of what readers hear of an event that comes now, if it is not refused.
-fn push_heard(
+// Pushes the line of what readers heard of an event that the plant has just taken.
+fn push_heard<P: Port>(
     text: &mut String,
     names: &IndexSet<String>,
-    plant: &Plant<FlowPort>,
+    plant: &Plant<P>,
     event: &Event,
 ) -> Result<(), AllocError>
-    ensures { OnOk result (ForHistory plant.now (λ h. refusal h.setup event.now h.events ≡ None
-        → string_bytes text.new ≡ string_bytes text.old
-        ++ heard_text (texts_of names.now.keys) h.setup event.now h.events)) }
+    ensures { OnOk result ((x : Scene)
+        → HasTaken plant.now false (texts_of names.now.keys) event.now x
+        → string_bytes text.new
+        ≡ string_bytes text.old ++ heard_text x.plan.names x.plan.setup event.now x.events) }
 {
     match event {
         Event::Tick(r) => push_tick(text, names, *r),

@@ -8,8 +8,8 @@ ghost use Rattle.irig_flatten.specs.Flattening.{HasTheLog, RanFlat};
 
 use crate::record::Recorder;
 use irig_device::Watched;
-use irig_report::run_report;
-use irig_scene::{RefusedLine, SceneFault};
+use irig_port::FlowPort;
+use irig_scene::{Outcome, RefusedLine, SceneFault, run_to};
 use std::alloc::Global;
 use std::io::{BufRead, Write};
 
@@ -27,15 +27,15 @@ pub fn flatten<R: BufRead, W: Write>(
     input: &mut Watched<R>,
     output: &mut Watched<W>,
     refused: &mut Option<RefusedLine>,
-) -> Result<(), SceneFault>
+) -> Result<Outcome, SceneFault>
     requires input_whole { has_failed input.old ≡ false }
     requires output_whole { has_failed output.old ≡ false }
     ensures same_log { IfSome (left R.remaining input.old) (λ x. OfWritten
         (written W.contents output.old) (written W.contents output.new) (HasTheLog result x)) }
-    ensures ran { RanFlat result (left R.remaining input.old)
+    ensures ran { RanFlat result (left R.remaining input.old) (left R.remaining input.new)
         (written W.contents output.old) (written W.contents output.new) }
     ensures read { (result ≡ Err SceneFault.Read) ↔ (has_failed input.new ≡ true) }
     ensures write { (result ≡ Err SceneFault.Write) ↔ (has_failed output.new ≡ true) }
 {
-    run_report::<Recorder, R, W>(alloc, input, output, refused)
+    run_to::<Recorder, FlowPort, R, W>(alloc, (), input, output, refused)
 }

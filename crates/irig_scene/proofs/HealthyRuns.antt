@@ -36,7 +36,7 @@ use Rattle.irig_scene.specs.HealthyRun.{AskSeconds, IsOfSeconds, IsHealthyRun, H
 use Rattle.irig_scene.proofs.NameLaws.{are_names_named}
 use Rattle.irig_log_text.proofs.LogLaws.{entry_line, lines_of_entries, entry_line_shows}
 use Rattle.irig_scene.proofs.PlayLaws.{play_all}
-use Rattle.irig_scene.proofs.SecondsPlayed.{split_at}
+use Rattle.irig_scene.proofs.PlayLaws.{split_at}
 use Rattle.irig_scene.proofs.StepLaws.{step_blank, step_taken, meaning_goes, meaning_ends}
 use Rattle.irig_scenario.proofs.BlankLines.{plant_not_blank, command_not_blank}
 

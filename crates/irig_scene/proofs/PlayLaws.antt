@@ -1,4 +1,4 @@
--- Events that are played, by what a plant says of them.
+-- Events that are played, and the log that grows by them.
 use Rattle.std.proofs.Common.{◌≡◌, ℕ, zero, suc, ◌<◌, List, [], ◌∷◌, ◌++◌, take, length, Option, Some, None, true, false, refl, ap, sym, ◌∙◌, arith, inl, inr, slice_get, drop, append-nil, append_assoc, cond, subst}
 use Rattle.std.specs.Prelude.{IfSome, option_and_then}
 use Rattle.std.proofs.Math.Seq.{drop-append_seam}
@@ -7,27 +7,18 @@ use Rattle.irig_plant.specs.declared.event.Event.TheVariants.{GenEdge, Tick, Car
 use Rattle.irig_plant.specs.declared.entry.Entry.{Entry}
 use Rattle.irig_plant.specs.declared.told_log.ToldEntry.{ToldEntry}
 use Rattle.irig_plant.specs.declared.fault.PlantFault.{PlantFault}
-use Rattle.irig_port.specs.declared.port.Port.{Ghosts}
-use Rattle.irig_plant.specs.declared.plant.Plant.{Plant}
-use Rattle.irig_plant.specs.History.{HasPlantHistory, beginning, with_told_kept}
 use Rattle.irig_plant.specs.Schedule.{Setup, log_of, entry_of, told_log_of, told_entry_of}
 use Rattle.irig_plant.specs.Refusals.{refusal}
 use Rattle.irig_plant.proofs.ToldLaws.{told_length}
 use Rattle.irig_plant.specs.Runs.{events_after, AreAccepted, IsRefused}
 use Rattle.irig_faults.specs.declared.refusal.Refusal.{Refusal}
-use Rattle.irig_scenario.specs.PlantLine.{Plan}
 use Rattle.irig_log_text.specs.declared.shown.Shown.{Shown}
 use Rattle.irig_scene.specs.Scene.{refusal_as}
 use Rattle.irig_scene.specs.Scene.{Play, play, play_by, unless_refused, Scene, scene, log_text}
-use Rattle.std.specs.Io.KnownBytes.{Appends}
-use Rattle.std.proofs.KnownBytes.{Appends-nil}
-use Rattle.irig_device.specs.Watched.{AppendsPart}
-use Rattle.irig_scene.specs.declared.player.Player.{Player}
-use Rattle.irig_scene.specs.declared.rounds.Round.{Round}
-use Rattle.irig_scene.specs.Rounds.{events_in, history_shown, RunsFor, Runs}
-use Rattle.irig_scene.specs.PlayerRuns.{second_in, IsPlayerAt, after_events, OutputGrewBy, OutputGrewByPartOf}
 use Rattle.irig_log_text.specs.Text.{lines_text}
-use Rattle.irig_log_text.proofs.TextLaws.{lines_join, same_lines}
+use Rattle.irig_log_text.proofs.TextLaws.{lines_join}
+use Rattle.irig_plant.specs.WholeSecond.{times}
+use Rattle.std.proofs.Common.{◌+◌, ◌-◌}
 
 one_accepted : (s : Setup) (e : Event) (es ev : List Event) → refusal s e ev ≡ None → play s (e ∷ es) ev ≡ play s es (e ∷ ev)
 one_accepted s e es ev h = ap (λ k. unless_refused (option_and_then refusal_as k) ev (play s es (e ∷ ev))) h
@@ -95,10 +86,6 @@ grows_by_play s (e ∷ es) ev =
 
 -- ---- its text
 
--- what a log has more is what is left of it past the other
-more_is : {X : Type 0} (a b more : List X) → b ≡ a ++ more → drop (length a) b ≡ more
-more_is a b more e = ap (drop (length a)) e ∙ drop-append_seam a more
-
 -- the text grows by that of what came since
 pub lines_grow : (x : Scene) (later : List Event) (shown : Shown) (grown : LogGrows x.plan.setup x.events later)
     → log_text shown (Some (scene x.plan later)) ≡ log_text shown (Some x) ++ lines_text x.plan.names shown grown.more grown.told
@@ -108,69 +95,45 @@ lines_grow x later shown grown =
     ap (λ es. lines_text names shown es (told_log_of s later)) grown.is ∙ ap (λ ts. lines_text names shown (log_of s x.events ++ grown.more) ts) grown.told_is
     ∙ lines_join names shown (log_of s x.events) grown.more (told_log_of s x.events) grown.told (sym (told_length s x.events))
 
--- what has yet to be shown
-abbrev pub entries_left : Scene → List Event → List Entry
-entries_left x events = drop (length (log_of x.plan.setup x.events)) (log_of x.plan.setup (after_events x events).events)
+-- ---- lists of events
 
-abbrev pub told_left : Shown → Scene → List Event → List ToldEntry
-told_left shown x events = cond shown.ports (drop (length (log_of x.plan.setup x.events)) (told_log_of x.plan.setup (after_events x events).events)) []
+commutes : (n : ℕ) (es : List Event) → es ++ times n es ≡ times n es ++ es
+commutes zero es = append-nil es
+commutes (suc n) es = ap (λ more. es ++ more) (commutes n es) ∙ sym (append_assoc es (times n es) es)
 
-text_grows : (x : Scene) (events : List Event) (shown : Shown) (entries : List Entry) (tolds : List ToldEntry) → entries ≡ entries_left x events → tolds ≡ told_left shown x events
-    → log_text shown (Some (after_events x events)) ≡ log_text shown (Some x) ++ lines_text x.plan.names shown entries tolds
-text_grows x events shown entries tolds e t =
-    let s = x.plan.setup in
-    let later = (after_events x events).events in
-    let grown = grows_by_play s events x.events in
-    let same : entries ≡ grown.more = e ∙ more_is (log_of s x.events) (log_of s later) grown.more grown.is in
-    let told : drop (length (log_of s x.events)) (told_log_of s later) ≡ grown.told =
-    ap (λ n. drop n (told_log_of s later)) (sym (told_length s x.events)) ∙ more_is (told_log_of s x.events) (told_log_of s later) grown.told grown.told_is in
-    lines_grow x later shown grown ∙ ap (λ more. log_text shown (Some x) ++ more) (same_lines x.plan.names shown entries grown.more tolds _ grown.told same t told)
+pub one_time_more : (n : ℕ) (es : List Event) → times (n + 1) es ≡ times n es ++ es
+one_time_more n es = let next : n + 1 ≡ suc n = omega arith in ap (λ k. times k es) next ∙ commutes n es
 
--- ---- what was written
+pub split_at : (i k : ℕ) (es : List Event) → times (i + k) es ≡ times i es ++ times k es
+split_at zero k es = let same : 0 + k ≡ k = omega arith in ap (λ n. times n es) same
+split_at (suc i) k es =
+    let next : suc i + k ≡ suc (i + k) = omega arith in
+    ap (λ n. times n es) next ∙ ap (λ more. es ++ more) (split_at i k es) ∙ sym (append_assoc es (times i es) (times k es))
 
--- what a plant had yet to show, and its text
-pub lines_shown : (x : Scene) (events : List Event) (shown : Shown) (names : List (List ℕ)) (entries : List Entry) (tolds : List ToldEntry) (old new : Option (List ℕ))
-    → names ≡ x.plan.names → entries ≡ entries_left x events → tolds ≡ told_left shown x events
-    → Appends old new (lines_text names shown entries tolds) → OutputGrewBy shown (Some x) (Some (after_events x events)) old new
-lines_shown x events shown names entries tolds old new same are told wrote =
-    record {
-      text = lines_text x.plan.names shown entries tolds;
-      more = text_grows x events shown entries tolds are told;
-      wrote = subst (λ (n : List (List ℕ)). Appends old new (lines_text n shown entries tolds)) same wrote;
-    }
+-- a time more, and what is left
+pub times_left : (i n : ℕ) (es : List Event) → i < n → times n es ≡ (times i es ++ es) ++ times (n - (i + 1)) es
+times_left i n es lt =
+    let sum : n ≡ i + 1 + (n - (i + 1)) = omega (arith, lt) in
+    ap (λ k. times k es) sum ∙ split_at (i + 1) (n - (i + 1)) es ∙ ap (λ more. more ++ times (n - (i + 1)) es) (one_time_more i es)
 
-pub lines_shown_in_part : (x : Scene) (events : List Event) (shown : Shown) (names : List (List ℕ)) (entries : List Entry) (tolds : List ToldEntry) (old new : Option (List ℕ))
-    → names ≡ x.plan.names → entries ≡ entries_left x events → tolds ≡ told_left shown x events
-    → AppendsPart old new (lines_text names shown entries tolds) → OutputGrewByPartOf shown (Some x) (Some (after_events x events)) old new
-lines_shown_in_part x events shown names entries tolds old new same are told wrote =
-    record {
-      text = lines_text x.plan.names shown entries tolds;
-      more = text_grows x events shown entries tolds are told;
-      wrote = subst (λ (n : List (List ℕ)). AppendsPart old new (lines_text n shown entries tolds)) same wrote;
-    }
+-- ---- events that are played in two parts
 
-pub nothing_shown : (x : Scene) (events : List Event) (shown : Shown) (out : Option (List ℕ)) → OutputGrewByPartOf shown (Some x) (Some (after_events x events)) out out
-nothing_shown x events shown out =
-    let entries = entries_left x events in
-    let tolds = told_left shown x events in
-    let text = lines_text x.plan.names shown entries tolds in
-    record {
-      text = text;
-      more = text_grows x events shown entries tolds refl refl;
-      wrote = record { front = []; rest = text; whole = refl; wrote = Appends-nil out };
-    }
+on_unless : (s : Setup) (b : List Event) (k : Option Refusal) (ev : List Event) (p q : Play) → (unless_refused k ev p).refusal ≡ None
+    → (p.refusal ≡ None → q ≡ play s b p.events) → unless_refused k ev q ≡ play s b (unless_refused k ev p).events
+on_unless s b None ev p q h rest = rest h
+on_unless s b (Some k) ev p q h rest = absurd cc
 
--- ---- a round of a player
+pub plays_on : (s : Setup) (a b ev : List Event) → (play s a ev).refusal ≡ None → play s (a ++ b) ev ≡ play s b (play s a ev).events
+plays_on s [] b ev h = refl
+plays_on s (e ∷ a) b ev h =
+    on_unless s b (option_and_then refusal_as (refusal s e ev)) ev (play s a (e ∷ ev)) (play s (a ++ b) (e ∷ ev)) h (plays_on s a b (e ∷ ev))
 
-pub round_ran : {P : Type 0} {g : Ghosts P} (shown : Shown) (x : Scene) (player : Player P g) (round : Round) (is : Plant P g) (k : Option Refusal) → IsPlayerAt shown player x
-    → Runs player.rounds.plant (events_in player.rounds.second.items round) is k → RunsFor shown x (events_in (second_in x.plan) round) is k
-round_ran shown x player round is k at ran =
-    subst (λ (second : List Event). RunsFor shown x (events_in second round) is k) at.second (ran shown x at.gone at.plant)
+stop_unless : (k : Option Refusal) (ev : List Event) (p q : Play) (r : Refusal) → (unless_refused k ev p).refusal ≡ Some r
+    → (p.refusal ≡ Some r → q ≡ p) → unless_refused k ev q ≡ unless_refused k ev p
+stop_unless None ev p q r h rest = rest h
+stop_unless (Some k) ev p q r h rest = refl
 
--- ---- a plant to which nothing has happened
-
-pub begun_with_ports : {P : Type 0} {g : Ghosts P} (p : Plant P g) (shown : Shown) (plan : Plan) → shown.ports ≡ true → HasPlantHistory p (with_told_kept (beginning plan.setup)) → HasPlantHistory p (history_shown shown (scene plan []))
-begun_with_ports p shown plan e h = subst (λ b. HasPlantHistory p (record (history_shown shown (scene plan [])) { keeps_told = b })) (sym e) h
-
-pub begun_without_ports : {P : Type 0} {g : Ghosts P} (p : Plant P g) (shown : Shown) (plan : Plan) → shown.ports ≡ false → HasPlantHistory p (beginning plan.setup) → HasPlantHistory p (history_shown shown (scene plan []))
-begun_without_ports p shown plan e h = subst (λ b. HasPlantHistory p (record (history_shown shown (scene plan [])) { keeps_told = b })) (sym e) h
+pub plays_no_further : (s : Setup) (a b ev : List Event) (r : Refusal) → (play s a ev).refusal ≡ Some r → play s (a ++ b) ev ≡ play s a ev
+plays_no_further s [] b ev r h = absurd cc
+plays_no_further s (e ∷ a) b ev r h =
+    stop_unless (option_and_then refusal_as (refusal s e ev)) ev (play s a (e ∷ ev)) (play s (a ++ b) (e ∷ ev)) r h (plays_no_further s a b (e ∷ ev) r)

@@ -1,114 +1,144 @@
 -- What the loop over the lines has done so far, and what each way out of it tells.
-use Rattle.std.proofs.Common.{◌≡◌, ℕ, ◌+◌, ◌-◌, ◌<◌, ◌≤◌, true, false, List, [], ◌∷◌, ◌++◌, length, All, Option, Some, None, Result, Ok, Err, refl, ap, sym, subst, ◌∙◌, append_assoc, append-nil, length-append, arith, rules, nat_lt, cond, inl, inr}
-use Rattle.std.specs.Prelude.{⊤, IfSome}
+use Rattle.std.proofs.Common.{◌≡◌, ℕ, ◌+◌, ◌<◌, Bool, true, false, not, cond, ◌-◌, ◌≤◌, List, [], ◌∷◌, ◌++◌, length, length-append, All, inl, inr, Option, Some, None, Result, Ok, Err, refl, ap, sym, subst, ◌∙◌, append_assoc, append-nil, arith, rules, nat_lt}
+use Rattle.std.specs.Prelude.{⊤, IfSome, is_some, unwrap_or}
+use Rattle.std.specs.List.{find}
 use Rattle.std.specs.Io.KnownBytes.{Appends, Consumes}
 use Rattle.std.proofs.KnownBytes.{Consumes-trans, Consumes-nil, Appends-trans, Appends-nil}
 use Rattle.std.proofs.lemmas.List.Elements.{All-push}
 use Rattle.std.proofs.lemmas.Grind.{flat_map-append}
-use Rattle.irig_port.specs.declared.port.Port.{Ghosts}
-use Rattle.irig_log_text.specs.declared.shown.Shown.{Shown}
-use Rattle.irig_scene.specs.declared.outcome.Outcome.{Outcome}
-use Rattle.irig_scene.specs.declared.player.Player.{Player}
 use Rattle.irig_device.specs.declared.line.LineEnd.{LineEnd}
 use Rattle.irig_device.specs.declared.line.LineEnd.TheVariants.{Newline, EndOfInput, TooLong}
-use Rattle.irig_scene.specs.declared.fault.SceneFault.{SceneFault}
-use Rattle.irig_scene.specs.declared.fault.SceneFault.TheVariants.{Refused, Read, Write, Memory}
+use Rattle.irig_device.specs.Lines.{HasNoNewline, HasLength, spelling, GivesLine, GivesPart}
+use Rattle.irig_device.specs.Watched.{AppendsPart}
 use Rattle.irig_faults.specs.declared.refusal.Refusal.{Refusal}
 use Rattle.irig_faults.specs.declared.refusal.Refusal.TheVariants as refusal
-use Rattle.irig_device.specs.Lines.{HasNoNewline, HasLength, spelling, GivesLine, GivesPart}
-use Rattle.irig_scene.specs.Lines.{lines, unlines, max_line, max_lines, limit_of, shown_by}
-use Rattle.irig_device.specs.Watched.{AppendsPart}
+use Rattle.irig_scenario.specs.declared.event_line.Command.{Command}
+use Rattle.irig_scenario.specs.EventLine.{command_in_line}
+use Rattle.irig_scenario.specs.PlantLine.{Plan, plan_in_line}
+use Rattle.irig_scene.specs.declared.outcome.Outcome.{Outcome}
+use Rattle.irig_scene.specs.declared.fault.SceneFault.{SceneFault}
+use Rattle.irig_scene.specs.declared.fault.SceneFault.TheVariants.{Refused, Read, Write, Memory}
 use Rattle.irig_scene.specs.Faults.{IsFaultOfReading}
-use Rattle.irig_scene.specs.Scene.{Scene, Step, step_to, step, Meaning, meaning, refusal_at, meaning_from, meaning_of, meaning_at_end, log_text, text_of, output_shown}
-use Rattle.irig_scene.specs.PlayerRuns.{OutputGrewBy}
-use Rattle.irig_scene.specs.Run.{AreTaken, IsOfOneLine, StoppedInLine, read_of, RanOn, AreBytesOf, RanShown}
-use Rattle.irig_scene.specs.LineRuns.{IsAt, ProcessedTo, RanRest, WrotePart, WroteRefusal, too_long, IsOfLine, EndsRun}
-use Rattle.irig_scene.proofs.SecondsPlayed.{nothing_grew, grew_on}
-use Rattle.irig_scene.proofs.LineLaws.{line_first, no_line, lines_after, Opens, opens}
-use Rattle.irig_scene.proofs.StepLaws.{front_of_meaning, meaning_goes, meaning_stops, meaning_ends, step_many, step_long}
-use Rattle.irig_scene.proofs.LineRunLaws.{rest_on, refused_rest}
+use Rattle.irig_scene.specs.Lines.{too_long}
+use Rattle.irig_scene.specs.Faults.{IsOfLine}
+use Rattle.irig_scene.specs.Lines.{lines, unlines, is_blank, max_line, max_lines, limit_of, shown_by}
+use Rattle.irig_scene.specs.Run.{AreTaken, IsOfOneLine, read_of, AreBytesOf}
+use Rattle.irig_scene.specs.Scene.{Scene, Step, step_to, step_of_plan, step_of_command, step_of_line, step, Meaning, meaning, refusal_at, meaning_from, meaning_of, meaning_at_end}
+use Rattle.irig_scene.proofs.LineLaws.{line_first, no_line, lines_after, one_line, Opens, opens}
 use Rattle.irig_scene.proofs.ReadLaws.{shown_with_newline, shown_too_long, shown_at_end, refused_later}
+use Rattle.irig_scene.proofs.StepLaws.{meaning_goes, meaning_stops, meaning_ends, step_many, step_long}
+use Rattle.irig_scene.specs.Texts.{Texts, text_of, first_of, closing_of, meaning_text, whole_text}
+use Rattle.irig_scene.specs.ListenerRuns.{IsAt, TextMore, TookTo, IsFirst, WroteStop, WrotePart, RunsLine, EndsFor, RestFor, StoppedInLine, RunFor, RanFor}
+use Rattle.irig_scene.proofs.TakenLaws.{TextFront, front_of_meaning, nothing_more, more_on}
+use Rattle.irig_scene.proofs.RestLaws.{rest_on, refused_rest}
 
--- the loop stands before line n: these whole lines were run, and their log was written
-pub record HasRun {P : Type 0} {g : Ghosts P} (shown : Shown) (player : Option (Player P g)) (in0 in1 out0 out1 : Option (List ℕ)) (n : ℕ) : Type 0 where
-  pub at : Option Scene
-  pub stands : IsAt shown player at
-  pub past : List (List ℕ)
-  pub whole : All HasNoNewline past
-  pub taken : (rest : List (List ℕ)) → AreTaken rest n at → AreTaken (past ++ rest) 1 None
-  pub took : Consumes in0 in1 (unlines past)
-  pub count : n ≡ length past + 1
-  pub means : (rest : List (List ℕ)) → meaning_from (past ++ rest) 1 None ≡ meaning_from rest n at
-  pub grew : OutputGrewBy shown None at out0 out1
+-- ---- a line that was read
 
-pub has_begun : {P : Type 0} {g : Ghosts P} (shown : Shown) (in0 out0 : Option (List ℕ)) → HasRun {P = P} {g = g} shown None in0 in0 out0 out0 1
-has_begun shown in0 out0 =
-    record {
-      at = None;
-      stands = tt;
-      past = [];
-      whole = search rules;
-      taken = λ rest more. more;
-      took = Consumes-nil in0;
-      count = refl;
-      means = λ rest. refl;
-      grew = nothing_grew shown None out0;
-    }
-
--- ---- one line more
-
-goes_on : {P : Type 0} {g : Ghosts P} (shown : Shown) (was is : Option (Player P g)) (in0 in1 in2 out0 out1 out2 : Option (List ℕ)) (n : ℕ) (l : List ℕ) (run : HasRun shown was in0 in1 out0 out1 n)
-    → ProcessedTo (step n run.at l) shown run.at is None out1 out2 → HasNoNewline l → Consumes in1 in2 (l ++ 10 ∷ []) → HasRun shown is in0 in2 out0 out2 (n + 1)
-goes_on shown was is in0 in1 in2 out0 out1 out2 n l run took h read =
-    let grown : unlines (run.past ++ l ∷ []) ≡ unlines run.past ++ (l ++ 10 ∷ []) =
-    flat_map-append (λ l. l ++ 10 ∷ []) run.past (l ∷ []) ∙ ap (λ more. unlines run.past ++ more) (append-nil (l ++ 10 ∷ [])) in
-    record {
-      at = (step n run.at l).scene;
-      stands = took.stands;
-      past = run.past ++ l ∷ [];
-      whole = All-push HasNoNewline _ _ run.whole h;
-      taken = λ rest more. subst (λ ls. AreTaken ls 1 None) (sym (append_assoc run.past (l ∷ []) rest)) (run.taken (l ∷ rest) (took.refused, more));
-      took = subst (Consumes in0 in2) (sym grown) (Consumes-trans in0 in1 in2 _ _ run.took read);
-      count = omega (arith, run.count, length-append run.past (l ∷ []));
-      means = λ rest. ap (λ ls. meaning_from ls 1 None) (append_assoc run.past (l ∷ []) rest) ∙ run.means (l ∷ rest) ∙ meaning_goes l rest n run.at took.refused;
-      grew = grew_on shown None run.at (step n run.at l).scene out0 out1 out2 run.grew took.grew;
-    }
-
-pub as_newline : (end : LineEnd) (line : List ℕ) (in1 in2 : Option (List ℕ)) → end ≡ Newline → Consumes in1 in2 (spelling end line) → Consumes in1 in2 (line ++ 10 ∷ [])
+as_newline : (end : LineEnd) (line : List ℕ) (in1 in2 : Option (List ℕ)) → end ≡ Newline → Consumes in1 in2 (spelling end line) → Consumes in1 in2 (line ++ 10 ∷ [])
 as_newline end line in1 in2 is took = subst (λ end. Consumes in1 in2 (spelling end line)) is took
-
-pub line_done : {P : Type 0} {g : Ghosts P} (shown : Shown) (was is : Option (Player P g)) (in0 in1 in2 out0 out1 out2 : Option (List ℕ)) (n limit : ℕ) (l line : List ℕ) (end : LineEnd) (run : HasRun shown was in0 in1 out0 out1 n)
-    → GivesLine end limit line in1 in2 → end ≡ Newline → l ≡ line → ProcessedTo (step n run.at l) shown run.at is None out1 out2 → HasRun shown is in0 in2 out0 out2 (n + 1)
-line_done shown was is in0 in1 in2 out0 out1 out2 n limit l line end run got ends same took =
-    goes_on shown was is in0 in1 in2 out0 out1 out2 n l run took (subst HasNoNewline (sym same) got.whole)
-    (subst (λ l. Consumes in1 in2 (l ++ 10 ∷ [])) (sym same) (as_newline end line in1 in2 ends got.taken))
 
 -- ---- the input, if it tells its bytes
 
 -- what a line took is followed by what is left, or by nothing if that is not told
-pub known_rest : (was left : Option (List ℕ)) (spelled : List ℕ) → Consumes was left spelled → (rest : List ℕ) × AreBytesOf was (spelled ++ rest)
+known_rest : (was left : Option (List ℕ)) (spelled : List ℕ) → Consumes was left spelled → (rest : List ℕ) × AreBytesOf was (spelled ++ rest)
 known_rest None left spelled took = ([], tt)
 known_rest (Some y) None spelled took = absurd took
 known_rest (Some y) (Some rest) spelled took = (rest, sym took)
 
-pub all_bytes : (in0 in1 : Option (List ℕ)) (front y : List ℕ) → Consumes in0 in1 front → AreBytesOf in1 y → AreBytesOf in0 (front ++ y)
+all_bytes : (in0 in1 : Option (List ℕ)) (front y : List ℕ) → Consumes in0 in1 front → AreBytesOf in1 y → AreBytesOf in0 (front ++ y)
 all_bytes None in1 front y took is = tt
 all_bytes (Some x) None front y took is = absurd took
 all_bytes (Some x) (Some z) front y took is = ap (λ y. front ++ y) is ∙ sym took
 
--- ---- the ways out
-
-ended_scene : (n : ℕ) (at : Option Scene) → (meaning_at_end n at).scene ≡ at
-ended_scene n None = refl
-ended_scene n (Some x) = refl
-
-pub stops_long : (n : ℕ) (at : Option Scene) (line more : List ℕ) → limit_of n < length line → step n at (line ++ more) ≡ step_to at (Some (too_long n))
+stops_long : (n : ℕ) (at : Option Scene) (line more : List ℕ) → limit_of n < length line → step n at (line ++ more) ≡ step_to at (Some (too_long n))
 stops_long n at line more long = elim (nat_lt max_lines n) as (λ b. nat_lt max_lines n ≡ b → step n at (line ++ more) ≡ step_to at (Some (too_long n))) [
   | true ↦ λ many. step_many n at (line ++ more) (search rules) ∙ ap (λ b. step_to at (Some (cond b refusal.TooManyLines refusal.TooLong))) (sym many)
   | false ↦ λ few.
       let limit : limit_of n ≡ max_line = ap (λ b. cond b 0 max_line) few in
       step_long n at (line ++ more) (search rules) (omega (arith, limit, long, length-append line more)) ∙ ap (λ b. step_to at (Some (cond b refusal.TooManyLines refusal.TooLong))) (sym few)
 ] refl
+
+-- ---- the first line that is not blank
+
+abbrev is_full : List ℕ → Bool
+is_full line = not (is_blank line)
+
+abbrev first_in : List (List ℕ) → Option (List ℕ)
+first_in ls = find is_full ls
+
+-- so far all lines are blank before there is a plant, and then one is not
+abbrev pub IsPlanted : Option Scene → List (List ℕ) → Type 0
+IsPlanted None past = first_in past ≡ None
+IsPlanted (Some x) past = is_some (first_in past) ≡ true
+
+find_past : (ls more : List (List ℕ)) → first_in ls ≡ None → first_in (ls ++ more) ≡ first_in more
+find_past [] more h = refl
+find_past (l ∷ ls) more h = elim (is_full l) as (λ b. cond b (Some l) (first_in ls) ≡ None → cond b (Some l) (first_in (ls ++ more)) ≡ first_in more) [
+  | true ↦ λ h. absurd cc
+  | false ↦ λ h. find_past ls more h
+] h
+
+find_within : (ls more : List (List ℕ)) → is_some (first_in ls) ≡ true → first_in (ls ++ more) ≡ first_in ls
+find_within [] more h = absurd cc
+find_within (l ∷ ls) more h = elim (is_full l) as (λ b. is_some (cond b (Some l) (first_in ls)) ≡ true → cond b (Some l) (first_in (ls ++ more)) ≡ cond b (Some l) (first_in ls)) [
+  | true ↦ λ h. refl
+  | false ↦ λ h. find_within ls more h
+] h
+
+full_first : (l : List ℕ) (ls : List (List ℕ)) → is_blank l ≡ false → first_in (l ∷ ls) ≡ Some l
+full_first l ls h = rw h refl
+
+blank_first : (l : List ℕ) → is_blank l ≡ true → first_in (l ∷ []) ≡ None
+blank_first l h = rw h refl
+
+-- the next line, if it is the first
+pub first_is : (at : Option Scene) (past : List (List ℕ)) (l : List ℕ) (rest : List (List ℕ)) → IsPlanted at past → IsFirst at l (first_of (past ++ l ∷ rest))
+first_is (Some x) past l rest h = tt
+first_is None past l rest h = λ full. ap (λ o. unwrap_or o []) (find_past past (l ∷ rest) h ∙ full_first l rest full)
+
+-- so of the last one, which may be empty
+first_last : (at : Option Scene) (past : List (List ℕ)) (l : List ℕ) → HasNoNewline l → IsPlanted at past → IsFirst at l (first_of (past ++ lines l))
+first_last (Some x) past l whole h = tt
+first_last None past [] whole h = λ full. absurd cc
+first_last None past (b ∷ bs) whole h =
+    subst (λ ls. IsFirst None (b ∷ bs) (first_of (past ++ ls))) (sym (one_line (b ∷ bs) whole (omega arith))) (first_is None past (b ∷ bs) [] h)
+
+stays_some : (past : List (List ℕ)) (l : List ℕ) → is_some (first_in past) ≡ true → is_some (first_in (past ++ l ∷ [])) ≡ true
+stays_some past l h = ap is_some (find_within past (l ∷ []) h) ∙ h
+
+commanded_some : (x : Scene) (past : List (List ℕ)) (l : List ℕ) (c : Result Command Refusal) → is_some (first_in past) ≡ true → IsPlanted (step_of_command x c).scene (past ++ l ∷ [])
+commanded_some x past l (Ok c) h = stays_some past l h
+commanded_some x past l (Err k) h = stays_some past l h
+
+planned_some : (past : List (List ℕ)) (l : List ℕ) (p : Result Plan Refusal) → first_in past ≡ None → is_blank l ≡ false → (step_of_plan p).refusal ≡ None → IsPlanted (step_of_plan p).scene (past ++ l ∷ [])
+planned_some past l (Ok plan) h full taken = ap is_some (find_past past (l ∷ []) h ∙ full_first l [] full)
+planned_some past l (Err k) h full taken = absurd cc
+
+planted_line : (at : Option Scene) (past : List (List ℕ)) (l : List ℕ) → IsPlanted at past → is_blank l ≡ false → (step_of_line at l).refusal ≡ None → IsPlanted (step_of_line at l).scene (past ++ l ∷ [])
+planted_line None past l h full taken = planned_some past l (plan_in_line l) h full taken
+planted_line (Some x) past l h full taken = commanded_some x past l (command_in_line x.plan.names l) h
+
+planted_blank : (at : Option Scene) (past : List (List ℕ)) (l : List ℕ) → IsPlanted at past → is_blank l ≡ true → IsPlanted at (past ++ l ∷ [])
+planted_blank None past l h blank = find_past past (l ∷ []) h ∙ blank_first l blank
+planted_blank (Some x) past l h blank = stays_some past l h
+
+planted_next : (n : ℕ) (at : Option Scene) (past : List (List ℕ)) (l : List ℕ) → IsPlanted at past → (step n at l).refusal ≡ None → IsPlanted (step n at l).scene (past ++ l ∷ [])
+unfolding step
+planted_next n at past l h taken = by_tests (nat_lt max_lines n) (nat_lt max_line (length l)) (is_blank l) refl taken
+  where
+    by_tests : (many long blank : Bool) → is_blank l ≡ blank
+        → (cond many (step_to at (Some refusal.TooManyLines)) (cond long (step_to at (Some refusal.TooLong)) (cond blank (step_to at None) (step_of_line at l)))).refusal ≡ None
+        → IsPlanted (cond many (step_to at (Some refusal.TooManyLines)) (cond long (step_to at (Some refusal.TooLong)) (cond blank (step_to at None) (step_of_line at l)))).scene (past ++ l ∷ [])
+    by_tests true long blank is taken = absurd cc
+    by_tests false true blank is taken = absurd cc
+    by_tests false false true is taken = planted_blank at past l h is
+    by_tests false false false is taken = planted_line at past l h is taken
+
+-- ---- what is read
+
+ended_scene : (n : ℕ) (at : Option Scene) → (meaning_at_end n at).scene ≡ at
+ended_scene n None = refl
+ended_scene n (Some x) = refl
 
 -- what is read for an answer: as much as the bytes ask for, or a part of one line
 abbrev ReadsFor : Result Outcome SceneFault → List ℕ → List ℕ → List ℕ → Type 0
@@ -124,39 +154,106 @@ reads_refused Read x read spelled n k is shown one = tt
 reads_refused Write x read spelled n k is shown one = one
 reads_refused Memory x read spelled n k is shown one = one
 
-stopped_in_line : (x rest : List ℕ) (shown : Shown) (was left out0 out1 out2 : Option (List ℕ)) (past : List (List ℕ)) (spelled : List ℕ) (at : Option Scene) (m : Meaning) → All HasNoNewline past → AreTaken past 1 None → x ≡ (unlines past ++ spelled) ++ rest → Consumes was left (unlines past ++ spelled)
-    → OutputGrewBy shown None at out0 out1 → (meaning_of (unlines past)).scene ≡ at → WrotePart shown at m out1 out2 → IsOfOneLine spelled → StoppedInLine x shown was left out0 out2
-stopped_in_line x rest shown was left out0 out1 out2 past spelled at m lined taken of_bytes took grew means here one =
-    record {
-      whole = past;
-      part = spelled;
-      rest = rest;
-      lined = lined;
-      taken = taken;
-      in_hand = one;
-      of_bytes = of_bytes;
-      read = took;
-      more = here.wrote.front;
-      wrote = Appends-trans out0 out1 out2 _ _ (subst (Appends out0 out1) (sym (ap (log_text shown) means ∙ grew.more)) grew.wrote) here.wrote.wrote;
-    }
+module _ (texts : Texts) where
+  -- the text so far does not rest on later lines
+  grew_to : (at : Option Scene) (past rest : List (List ℕ)) (old new : Option (List ℕ)) → IsPlanted at past → TextMore texts (first_of past) None at old new → TextMore texts (first_of (past ++ rest)) None at old new
+  grew_to None past rest old new h grew = record { text = grew.text; more = grew.more; wrote = grew.wrote }
+  grew_to (Some x) past rest old new h grew = subst (λ o. TextMore texts (unwrap_or o []) None (Some x) old new) (sym (find_within past rest h)) grew
 
-conclude : (r : Result Outcome SceneFault) (x rest : List ℕ) (shown : Shown) (was left out0 out1 out2 : Option (List ℕ)) (past : List (List ℕ)) (spelled : List ℕ) (at : Option Scene) → All HasNoNewline past → AreTaken past 1 None → x ≡ (unlines past ++ spelled) ++ rest → Consumes was left (unlines past ++ spelled)
-    → OutputGrewBy shown None at out0 out1 → (meaning_of (unlines past)).scene ≡ at → RanRest r (meaning_of x) (length (lines x)) shown at out1 out2 → ReadsFor r x (unlines past ++ spelled) spelled → RanOn r x shown was left out0 out2
-conclude (Ok o) x rest shown was left out0 out1 out2 past spelled at lined taken of_bytes took grew means here reads =
-    let h = rest_on (Ok o) (meaning_of x) (length (lines x)) shown None at out0 out1 out2 grew here in
-    (subst (Appends out0 out2) (sym h.1.is) h.1.wrote, h.0, subst (Consumes was left) (sym reads) took)
-conclude (Err (Refused line number)) x rest shown was left out0 out1 out2 past spelled at lined taken of_bytes took grew means here reads =
-    let h = rest_on (Err (Refused line number)) (meaning_of x) (length (lines x)) shown None at out0 out1 out2 grew here in
-    (subst (Appends out0 out2) (sym h.1.is) h.1.wrote, h.0, subst (Consumes was left) (sym reads) took)
-conclude (Err Read) x rest shown was left out0 out1 out2 past spelled at lined taken of_bytes took grew means here reads = absurd here
-conclude (Err Write) x rest shown was left out0 out1 out2 past spelled at lined taken of_bytes took grew means here reads =
-    let h = rest_on (Err Write) (meaning_of x) (length (lines x)) shown None at out0 out1 out2 grew here in
-    (subst (AppendsPart out0 out2) (sym h.is) h.wrote, stopped_in_line x rest shown was left out0 out1 out2 past spelled at (meaning_of x) lined taken of_bytes took grew means here reads)
-conclude (Err Memory) x rest shown was left out0 out1 out2 past spelled at lined taken of_bytes took grew means here reads =
-    let h = rest_on (Err Memory) (meaning_of x) (length (lines x)) shown None at out0 out1 out2 grew here in
-    (subst (AppendsPart out0 out2) (sym h.is) h.wrote, stopped_in_line x rest shown was left out0 out1 out2 past spelled at (meaning_of x) lined taken of_bytes took grew means here reads)
+  stopped_in_line : (x rest first : List ℕ) (was left out0 out1 out2 : Option (List ℕ)) (past : List (List ℕ)) (spelled : List ℕ) (at : Option Scene) (m : Meaning) → All HasNoNewline past → AreTaken past 1 None → x ≡ (unlines past ++ spelled) ++ rest → Consumes was left (unlines past ++ spelled)
+      → TextMore texts (first_of past) None at out0 out1 → (meaning_of (unlines past)).scene ≡ at → WrotePart texts first at m out1 out2 → IsOfOneLine spelled → StoppedInLine texts x was left out0 out2
+  stopped_in_line x rest first was left out0 out1 out2 past spelled at m lined taken of_bytes took grew means here one = record {
+    whole = past;
+    part = spelled;
+    rest = rest;
+    lined = lined;
+    taken = taken;
+    in_hand = one;
+    of_bytes = of_bytes;
+    read = took;
+    more = here.wrote.front;
+    wrote = Appends-trans out0 out1 out2 _ _ (subst (Appends out0 out1) (sym (ap (text_of texts (first_of past)) means ∙ grew.more)) grew.wrote) here.wrote.wrote;
+  }
 
-module _ {P : Type 0} {g : Ghosts P} (shown : Shown) (player : Option (Player P g)) (in0 in1 out0 out1 : Option (List ℕ)) (n : ℕ) (run : HasRun shown player in0 in1 out0 out1 n) where
+  conclude : (r : Result Outcome SceneFault) (x rest first : List ℕ) (was left out0 out1 out2 : Option (List ℕ)) (past : List (List ℕ)) (spelled : List ℕ) (at : Option Scene) → All HasNoNewline past → AreTaken past 1 None → x ≡ (unlines past ++ spelled) ++ rest → Consumes was left (unlines past ++ spelled)
+      → TextMore texts (first_of past) None at out0 out1 → TextMore texts first None at out0 out1 → first ≡ first_of (lines x) → (meaning_of (unlines past)).scene ≡ at
+      → RestFor texts r (meaning_of x) (length (lines x)) first at out1 out2 → ReadsFor r x (unlines past ++ spelled) spelled → RunFor texts r x was left out0 out2
+  conclude (Ok o) x rest first was left out0 out1 out2 past spelled at lined taken of_bytes took grew so e means here reads =
+      let h = rest_on texts (Ok o) (meaning_of x) (length (lines x)) first None at out0 out1 out2 so here in
+      (subst (Appends out0 out2) (sym (ap (λ f. meaning_text texts f (meaning_of x)) (sym e) ∙ h.1.is)) h.1.wrote, h.0, subst (Consumes was left) (sym reads) took)
+  conclude (Err (Refused line number)) x rest first was left out0 out1 out2 past spelled at lined taken of_bytes took grew so e means here reads =
+      let h = rest_on texts (Err (Refused line number)) (meaning_of x) (length (lines x)) first None at out0 out1 out2 so here in
+      (subst (Appends out0 out2) (sym (ap (λ f. meaning_text texts f (meaning_of x)) (sym e) ∙ h.1.is)) h.1.wrote, h.0, subst (Consumes was left) (sym reads) took)
+  conclude (Err Read) x rest first was left out0 out1 out2 past spelled at lined taken of_bytes took grew so e means here reads = absurd here
+  conclude (Err Write) x rest first was left out0 out1 out2 past spelled at lined taken of_bytes took grew so e means here reads =
+      let h = rest_on texts (Err Write) (meaning_of x) (length (lines x)) first None at out0 out1 out2 so here in
+      (subst (AppendsPart out0 out2) (sym (ap (λ f. meaning_text texts f (meaning_of x)) (sym e) ∙ h.is)) h.wrote, stopped_in_line x rest first was left out0 out1 out2 past spelled at (meaning_of x) lined taken of_bytes took grew means here reads)
+  conclude (Err Memory) x rest first was left out0 out1 out2 past spelled at lined taken of_bytes took grew so e means here reads =
+      let h = rest_on texts (Err Memory) (meaning_of x) (length (lines x)) first None at out0 out1 out2 so here in
+      (subst (AppendsPart out0 out2) (sym (ap (λ f. meaning_text texts f (meaning_of x)) (sym e) ∙ h.is)) h.wrote, stopped_in_line x rest first was left out0 out1 out2 past spelled at (meaning_of x) lined taken of_bytes took grew means here reads)
+
+-- ---- the loop
+
+-- it stands before line n: these whole lines were played, and what is said of them was written
+pub record HasRun {A : Type 0} (stands_for : A → Scene → Type 0) (texts : Texts) (r : Option A) (in0 in1 out0 out1 : Option (List ℕ)) (n : ℕ) : Type 0 where
+  pub at : Option Scene
+  pub stands : IsAt stands_for r at
+  pub past : List (List ℕ)
+  pub whole : All HasNoNewline past
+  pub taken : (rest : List (List ℕ)) → AreTaken rest n at → AreTaken (past ++ rest) 1 None
+  pub count : n ≡ length past + 1
+  pub took : Consumes in0 in1 (unlines past)
+  pub means : (rest : List (List ℕ)) → meaning_from (past ++ rest) 1 None ≡ meaning_from rest n at
+  pub planted : IsPlanted at past
+  pub grew : TextMore texts (first_of past) None at out0 out1
+
+module _ {A : Type 0} (stands_for : A → Scene → Type 0) (texts : Texts) where
+  pub has_begun : (in0 out0 : Option (List ℕ)) → HasRun stands_for texts None in0 in0 out0 out0 1
+  has_begun in0 out0 = record {
+    at = None;
+    stands = tt;
+    past = [];
+    whole = search rules;
+    taken = λ rest more. more;
+    count = refl;
+    took = Consumes-nil in0;
+    means = λ rest. refl;
+    planted = refl;
+    grew = nothing_more texts [] None out0;
+  }
+
+  pub line_done : (was is : Option A) (in0 in1 in2 out0 out1 out2 : Option (List ℕ)) (n limit : ℕ) (l line : List ℕ) (end : LineEnd) (run : HasRun stands_for texts was in0 in1 out0 out1 n)
+      → GivesLine end limit line in1 in2 → end ≡ Newline → l ≡ line → RunsLine stands_for texts was n l (Ok _) is out1 out2 → HasRun stands_for texts is in0 in2 out0 out2 (n + 1)
+  line_done was is in0 in1 in2 out0 out1 out2 n limit l line end run got ends same runs =
+      let h : HasNoNewline l = subst HasNoNewline (sym same) got.whole in
+      let read : Consumes in1 in2 (l ++ 10 ∷ []) = subst (λ l. Consumes in1 in2 (l ++ 10 ∷ [])) (sym same) (as_newline end line in1 in2 ends got.taken) in
+      let first = first_of (run.past ++ l ∷ []) in
+      let took : TookTo stands_for texts (step n run.at l) first run.at is None out1 out2 = runs run.at first run.stands (first_is run.at run.past l [] run.planted) in
+      let grown : unlines (run.past ++ l ∷ []) ≡ unlines run.past ++ (l ++ 10 ∷ []) =
+      flat_map-append (λ l. l ++ 10 ∷ []) run.past (l ∷ []) ∙ ap (λ more. unlines run.past ++ more) (append-nil (l ++ 10 ∷ [])) in
+      record {
+        at = (step n run.at l).scene;
+        stands = took.stands;
+        past = run.past ++ l ∷ [];
+        whole = All-push HasNoNewline _ _ run.whole h;
+        taken = λ rest more. subst (λ ls. AreTaken ls 1 None) (sym (append_assoc run.past (l ∷ []) rest)) (run.taken (l ∷ rest) (took.refused, more));
+        count = omega (arith, run.count, length-append run.past (l ∷ []));
+        took = subst (Consumes in0 in2) (sym grown) (Consumes-trans in0 in1 in2 _ _ run.took read);
+        means = λ rest. ap (λ ls. meaning_from ls 1 None) (append_assoc run.past (l ∷ []) rest) ∙ run.means (l ∷ rest) ∙ meaning_goes l rest n run.at took.refused;
+        planted = planted_next n run.at run.past l run.planted took.refused;
+        grew = more_on texts first None run.at (step n run.at l).scene out0 out1 out2 (grew_to texts run.at run.past (l ∷ []) out0 out1 run.planted run.grew) took.grew;
+      }
+
+-- ---- the ways out
+
+module _ {A : Type 0} (stands_for : A → Scene → Type 0) (texts : Texts) (f : Option A) (in0 in1 out0 out1 : Option (List ℕ)) (n : ℕ) (run : HasRun stands_for texts f in0 in1 out0 out1 n) where
+  -- the next line is the first, if none was yet
+  pub line_first_is : (l : List ℕ) → IsFirst run.at l (first_of (run.past ++ l ∷ []))
+  line_first_is l = first_is run.at run.past l [] run.planted
+
+  pub last_first_is : (limit : ℕ) (l line : List ℕ) (end : LineEnd) (in2 : Option (List ℕ)) → GivesLine end limit line in1 in2 → l ≡ line → IsFirst run.at l (first_of (run.past ++ lines l))
+  last_first_is limit l line end in2 got same = first_last run.at run.past l (subst HasNoNewline (sym same) got.whole) run.planted
+
   -- the lines that are left mean what all of them mean
   left_means : (y : List ℕ) → meaning_of (unlines run.past ++ y) ≡ meaning_from (lines y) n run.at
   left_means y = ap (λ ls. meaning_from ls 1 None) (lines_after run.past y run.whole) ∙ run.means (lines y)
@@ -179,17 +276,19 @@ module _ {P : Type 0} {g : Ghosts P} (shown : Shown) (player : Option (Player P 
 
   -- y is left, of which a part is read
   exit : (r : Result Outcome SceneFault) (in2 out2 : Option (List ℕ)) (spelled rest y : List ℕ) (ls : List (List ℕ)) → y ≡ spelled ++ rest → Consumes in1 in2 spelled → AreBytesOf in1 y → lines y ≡ ls
-      → RanRest r (meaning_from ls n run.at) (n - 1 + length ls) shown run.at out1 out2 → ReadsFor r (unlines run.past ++ y) (unlines run.past ++ spelled) spelled → RanShown r shown in0 in2 out0 out2
+      → RestFor texts r (meaning_from ls n run.at) (n - 1 + length ls) (first_of (run.past ++ ls)) run.at out1 out2 → ReadsFor r (unlines run.past ++ y) (unlines run.past ++ spelled) spelled → RanFor texts r in0 in2 out0 out2
   exit r in2 out2 spelled rest y ls begins took of_y is tells reads =
       let x = unlines run.past ++ y in
-      let m = meaning_from (lines y) n run.at in
-      let here : RanRest r m (n - 1 + length (lines y)) shown run.at out1 out2 = subst (λ ls. RanRest r (meaning_from ls n run.at) (n - 1 + length ls) shown run.at out1 out2) (sym is) tells in
-      let counted : RanRest r m (length (lines x)) shown run.at out1 out2 = subst (λ k. RanRest r m k shown run.at out1 out2) (left_count y) here in
+      let first = first_of (run.past ++ ls) in
+      let counted : n - 1 + length ls ≡ length (lines x) = ap (λ ls. n - 1 + length ls) (sym is) ∙ left_count y in
+      let here : RestFor texts r (meaning_of x) (length (lines x)) first run.at out1 out2 =
+      subst (λ k. RestFor texts r (meaning_of x) k first run.at out1 out2) counted
+      (subst (λ (m : Meaning). RestFor texts r m (n - 1 + length ls) first run.at out1 out2) (sym (left_means y ∙ ap (λ ls. meaning_from ls n run.at) is)) tells) in
       record {
         bytes = x;
         of_input = all_bytes in0 in1 (unlines run.past) y run.took of_y;
-        ran = conclude r x rest shown in0 in2 out0 out1 out2 run.past spelled run.at run.whole past_taken (of_parts spelled rest y begins) (Consumes-trans in0 in1 in2 _ _ run.took took) run.grew past_scene
-            (subst (λ (w : Meaning). RanRest r w (length (lines x)) shown run.at out1 out2) (sym (left_means y)) counted) reads;
+        ran = conclude texts r x rest first in0 in2 out0 out1 out2 run.past spelled run.at run.whole past_taken (of_parts spelled rest y begins) (Consumes-trans in0 in1 in2 _ _ run.took took)
+            run.grew (grew_to texts run.at run.past ls out0 out1 run.planted run.grew) (ap first_of (sym (lines_after run.past y run.whole ∙ ap (λ ls. run.past ++ ls) is))) past_scene here reads;
       }
 
   -- line n is refused: what shows that
@@ -197,34 +296,37 @@ module _ {P : Type 0} {g : Ghosts P} (shown : Shown) (player : Option (Player P 
   refused_at y l ls k is stops = ap (λ (m : Meaning). m.refused) (left_means y ∙ ap (λ ls. meaning_from ls n run.at) is ∙ meaning_stops l ls n run.at k stops)
 
   -- line n ended the run
-  reads_ended : (e : SceneFault) (y l : List ℕ) (ls : List (List ℕ)) (count : ℕ) (out2 : Option (List ℕ)) (read spelled : List ℕ) → lines y ≡ l ∷ ls → IsOfLine n e → RanRest (Err e) (meaning_from (l ∷ ls) n run.at) count shown run.at out1 out2
+  reads_ended : (e : SceneFault) (y l first : List ℕ) (ls : List (List ℕ)) (count : ℕ) (out2 : Option (List ℕ)) (read spelled : List ℕ) → lines y ≡ l ∷ ls → IsOfLine n e → RestFor texts (Err e) (meaning_from (l ∷ ls) n run.at) count first run.at out1 out2
       → shown_by n (unlines run.past ++ y) ≡ read → IsOfOneLine spelled → ReadsFor (Err e) (unlines run.past ++ y) read spelled
-  reads_ended (Refused line number) y l ls count out2 read spelled is here ran shows one =
+  reads_ended (Refused line number) y l first ls count out2 read spelled is here ran shows one =
       ap (λ refused. read_of refused (unlines run.past ++ y)) (ap (λ (m : Meaning). m.refused) (left_means y ∙ ap (λ ls. meaning_from ls n run.at) is) ∙ ran.0.first ∙ ap (λ n. Some (refusal_at n ran.0.refusal)) here) ∙ shows
-  reads_ended Read y l ls count out2 read spelled is here ran shows one = tt
-  reads_ended Write y l ls count out2 read spelled is here ran shows one = one
-  reads_ended Memory y l ls count out2 read spelled is here ran shows one = one
+  reads_ended Read y l first ls count out2 read spelled is here ran shows one = tt
+  reads_ended Write y l first ls count out2 read spelled is here ran shows one = one
+  reads_ended Memory y l first ls count out2 read spelled is here ran shows one = one
 
   -- ---- a line with its newline
 
-  pub left_ended : (e : SceneFault) (in2 out2 : Option (List ℕ)) (limit : ℕ) (l line : List ℕ) (end : LineEnd)
-      → GivesLine end limit line in1 in2 → end ≡ Newline → l ≡ line → limit ≡ limit_of n → EndsRun e n l shown run.at out1 out2 → RanShown (Err e) shown in0 in2 out0 out2
-  left_ended e in2 out2 limit l line end got ends same limited ended =
+  pub left_ended : (e : SceneFault) (is : Option A) (in2 out2 : Option (List ℕ)) (limit : ℕ) (l line : List ℕ) (end : LineEnd)
+      → GivesLine end limit line in1 in2 → end ≡ Newline → l ≡ line → limit ≡ limit_of n → RunsLine stands_for texts f n l (Err e) is out1 out2 → RanFor texts (Err e) in0 in2 out0 out2
+  left_ended e is in2 out2 limit l line end got ends same limited runs =
       let h : HasNoNewline l = subst HasNoNewline (sym same) got.whole in
       let read : Consumes in1 in2 (l ++ 10 ∷ []) = subst (λ l. Consumes in1 in2 (l ++ 10 ∷ [])) (sym same) (as_newline end line in1 in2 ends got.taken) in
       let short : length l ≤ limit_of n = omega (arith, ap length same, limited, subst (λ end. HasLength end limit line) ends got.has_length) in
       let known = known_rest in1 in2 (l ++ 10 ∷ []) read in
       let y = (l ++ 10 ∷ []) ++ known.0 in
-      let count = n - 1 + length (l ∷ lines known.0) in
-      exit (Err e) in2 out2 (l ++ 10 ∷ []) known.0 y (l ∷ lines known.0) refl read known.1 (line_first l known.0 h)
-      (ended.ran (lines known.0) count)
-      (reads_ended e y l (lines known.0) count out2 _ _ (line_first l known.0 h) ended.numbered (ended.ran (lines known.0) count)
+      let ls = lines known.0 in
+      let first = first_of (run.past ++ l ∷ ls) in
+      let count = n - 1 + length (l ∷ ls) in
+      let ended : EndsFor texts e n l first run.at out1 out2 = runs run.at first run.stands (first_is run.at run.past l ls run.planted) in
+      exit (Err e) in2 out2 (l ++ 10 ∷ []) known.0 y (l ∷ ls) refl read known.1 (line_first l known.0 h)
+      (ended.ran ls count)
+      (reads_ended e y l first ls count out2 _ _ (line_first l known.0 h) ended.numbered (ended.ran ls count)
       (shown_with_newline run.past n l known.0 run.whole run.count h short) (record { line = l; unlined = h; is = inr refl }))
 
   -- ---- a line that is too long
 
   pub left_too_long : (e : SceneFault) (in2 out2 : Option (List ℕ)) (limit : ℕ) (line : List ℕ) (end : LineEnd) (k : Refusal)
-      → GivesLine end limit line in1 in2 → end ≡ TooLong → limit ≡ limit_of n → k ≡ too_long n → WroteRefusal e n k out1 out2 → RanShown (Err e) shown in0 in2 out0 out2
+      → GivesLine end limit line in1 in2 → end ≡ TooLong → limit ≡ limit_of n → k ≡ too_long n → ((at : Option Scene) → IsAt stands_for f at → WroteStop e n k (closing_of texts at) out1 out2) → RanFor texts (Err e) in0 in2 out0 out2
   left_too_long e in2 out2 limit line end k got ends limited is tells =
       let beyond : length line ≡ limit + 1 = subst (λ end. HasLength end limit line) ends got.has_length in
       let long : limit_of n < length line = omega (arith, beyond, limited) in
@@ -237,20 +339,20 @@ module _ {P : Type 0} {g : Ghosts P} (shown : Shown) (player : Option (Player P 
       let means : meaning_from (l ∷ first.others) n run.at ≡ meaning run.at (Some (refusal_at n k)) =
       meaning_stops l first.others n run.at k (ap (λ (s : Step). s.refusal) stop) ∙ ap (λ (s : Step). meaning s.scene (Some (refusal_at n k))) stop in
       exit (Err e) in2 out2 line known.0 y (l ∷ first.others) refl read known.1 first.is
-      (refused_rest e shown run.at (meaning_from (l ∷ first.others) n run.at) (n - 1 + length (l ∷ first.others)) n k out1 out2 means tells)
+      (refused_rest texts e (first_of (run.past ++ l ∷ first.others)) run.at (meaning_from (l ∷ first.others) n run.at) (n - 1 + length (l ∷ first.others)) n k out1 out2 means (tells run.at run.stands))
       (reads_refused e (unlines run.past ++ y) _ _ n k (refused_at y l first.others k first.is (ap (λ (s : Step). s.refusal) stop))
       (shown_too_long run.past n line known.0 run.whole run.count got.whole (omega (arith, beyond, limited))) (record { line = line; unlined = got.whole; is = inl refl }))
 
   -- ---- the end of the input
 
-  reads_last : (r : Result Outcome SceneFault) (l : List ℕ) (count : ℕ) (out2 : Option (List ℕ)) → HasNoNewline l → length l ≤ limit_of n → RanRest r (meaning_from (lines l) n run.at) count shown run.at out1 out2 → ReadsFor r (unlines run.past ++ l) (unlines run.past ++ l) l
-  reads_last (Ok o) l count out2 h short tells = ap (λ refused. read_of refused (unlines run.past ++ l)) (ap (λ (m : Meaning). m.refused) (left_means l) ∙ tells.0.accepted)
-  reads_last (Err (Refused line number)) l count out2 h short tells =
+  reads_last : (r : Result Outcome SceneFault) (l first : List ℕ) (count : ℕ) (out2 : Option (List ℕ)) → HasNoNewline l → length l ≤ limit_of n → RestFor texts r (meaning_from (lines l) n run.at) count first run.at out1 out2 → ReadsFor r (unlines run.past ++ l) (unlines run.past ++ l) l
+  reads_last (Ok o) l first count out2 h short tells = ap (λ refused. read_of refused (unlines run.past ++ l)) (ap (λ (m : Meaning). m.refused) (left_means l) ∙ tells.0.accepted)
+  reads_last (Err (Refused line number)) l first count out2 h short tells =
       ap (λ refused. read_of refused (unlines run.past ++ l)) (ap (λ (m : Meaning). m.refused) (left_means l) ∙ tells.0.first)
       ∙ shown_at_end run.past n l line run.whole run.count h short (refused_later (lines l) n run.at line tells.0.refusal tells.0.first)
-  reads_last (Err Read) l count out2 h short tells = tt
-  reads_last (Err Write) l count out2 h short tells = record { line = l; unlined = h; is = inl refl }
-  reads_last (Err Memory) l count out2 h short tells = record { line = l; unlined = h; is = inl refl }
+  reads_last (Err Read) l first count out2 h short tells = tt
+  reads_last (Err Write) l first count out2 h short tells = record { line = l; unlined = h; is = inl refl }
+  reads_last (Err Memory) l first count out2 h short tells = record { line = l; unlined = h; is = inl refl }
 
   ended_bytes : (l line : List ℕ) → l ≡ line → IfSome in1 (λ left. left ≡ line) → AreBytesOf in1 l
   ended_bytes l line same at_end = elim in1 as (λ in1. IfSome in1 (λ left. left ≡ line) → AreBytesOf in1 l) [
@@ -259,34 +361,32 @@ module _ {P : Type 0} {g : Ghosts P} (shown : Shown) (player : Option (Player P 
   ] at_end
 
   pub left_last : (r : Result Outcome SceneFault) (in2 out2 : Option (List ℕ)) (limit : ℕ) (l line : List ℕ) (end : LineEnd)
-      → GivesLine end limit line in1 in2 → end ≡ EndOfInput → l ≡ line → limit ≡ limit_of n → RanRest r (meaning_from (lines l) n run.at) (n - 1 + length (lines l)) shown run.at out1 out2 → RanShown r shown in0 in2 out0 out2
+      → GivesLine end limit line in1 in2 → end ≡ EndOfInput → l ≡ line → limit ≡ limit_of n
+      → ((at : Option Scene) (first : List ℕ) → IsAt stands_for f at → IsFirst at l first → RestFor texts r (meaning_from (lines l) n at) (n - 1 + length (lines l)) first at out1 out2) → RanFor texts r in0 in2 out0 out2
   left_last r in2 out2 limit l line end got ends same limited tells =
+      let first = first_of (run.past ++ lines l) in
       let h : HasNoNewline l = subst HasNoNewline (sym same) got.whole in
       let read : Consumes in1 in2 l = subst (Consumes in1 in2) (sym same) (subst (λ end. Consumes in1 in2 (spelling end line)) ends got.taken) in
       let short : length l ≤ limit_of n = omega (arith, ap length same, limited, subst (λ end. HasLength end limit line) ends got.has_length) in
-      exit r in2 out2 l [] l (lines l) (sym (append-nil l)) read (ended_bytes l line same (got.at_end ends)) refl tells (reads_last r l (n - 1 + length (lines l)) out2 h short tells)
+      let here = tells run.at first run.stands (first_last run.at run.past l h run.planted) in
+      exit r in2 out2 l [] l (lines l) (sym (append-nil l)) read (ended_bytes l line same (got.at_end ends)) refl here (reads_last r l first (n - 1 + length (lines l)) out2 h short here)
 
   -- ---- a failed read
 
-  written_part : (y : List ℕ) → AppendsPart out0 out1 (output_shown (unlines run.past ++ y) shown)
-  written_part y =
-      let front = front_of_meaning shown (lines y) n run.at in
-      record {
-        front = run.grew.text;
-        rest = front.rest;
-        whole = ap (text_of shown) (left_means y) ∙ front.is ∙ ap (λ t. t ++ front.rest) run.grew.more;
-        wrote = run.grew.wrote;
-      }
-
-  pub left_read : (e : SceneFault) (in2 : Option (List ℕ)) → IsFaultOfReading e → GivesPart in1 in2 → RanShown (Err e) shown in0 in2 out0 out1
+  pub left_read : (e : SceneFault) (in2 : Option (List ℕ)) → IsFaultOfReading e → GivesPart in1 in2 → RanFor texts (Err e) in0 in2 out0 out1
   left_read (Refused line number) in2 kind got = absurd kind
   left_read Read in2 kind got =
       let known = known_rest in1 in2 got.part got.taken in
+      let y = got.part ++ known.0 in
+      let x = unlines run.past ++ y in
+      let first = first_of (lines x) in
+      let grew : TextMore texts first None run.at out0 out1 = subst (λ ls. TextMore texts (first_of ls) None run.at out0 out1) (sym (lines_after run.past y run.whole)) (grew_to texts run.at run.past (lines y) out0 out1 run.planted run.grew) in
+      let front : TextFront texts first run.at (whole_text texts x) = subst (λ (m : Meaning). TextFront texts first run.at (meaning_text texts first m)) (sym (left_means y)) (front_of_meaning texts first (lines y) n run.at) in
       record {
-        bytes = unlines run.past ++ (got.part ++ known.0);
-        of_input = all_bytes in0 in1 (unlines run.past) (got.part ++ known.0) run.took known.1;
+        bytes = x;
+        of_input = all_bytes in0 in1 (unlines run.past) y run.took known.1;
         ran = (
-          written_part (got.part ++ known.0),
+          record { front = grew.text; rest = front.rest; whole = front.is ∙ ap (λ t. t ++ front.rest) grew.more; wrote = grew.wrote },
           record {
             whole = run.past;
             part = got.part;
@@ -294,9 +394,9 @@ module _ {P : Type 0} {g : Ghosts P} (shown : Shown) (player : Option (Player P 
             lined = run.whole;
             taken = past_taken;
             unlined = got.whole;
-            of_bytes = of_parts got.part known.0 (got.part ++ known.0) refl;
+            of_bytes = of_parts got.part known.0 y refl;
             read = Consumes-trans in0 in1 in2 _ _ run.took got.taken;
-            wrote = subst (Appends out0 out1) (sym (ap (log_text shown) past_scene ∙ run.grew.more)) run.grew.wrote;
+            wrote = subst (Appends out0 out1) (sym (ap (text_of texts (first_of run.past)) past_scene ∙ run.grew.more)) run.grew.wrote;
           },
         );
       }
@@ -304,7 +404,8 @@ module _ {P : Type 0} {g : Ghosts P} (shown : Shown) (player : Option (Player P 
   left_read Memory in2 kind got =
       let known = known_rest in1 in2 got.part got.taken in
       let y = got.part ++ known.0 in
-      let front = front_of_meaning shown (lines y) n run.at in
+      let first = first_of (run.past ++ lines y) in
+      let front = front_of_meaning texts first (lines y) n run.at in
       exit (Err Memory) in2 out1 got.part known.0 y (lines y) refl got.taken known.1 refl
       (record { rest = front.rest; is = front.is; wrote = record { front = []; rest = front.rest; whole = refl; wrote = Appends-nil out1 } })
       (record { line = got.part; unlined = got.whole; is = inl refl })

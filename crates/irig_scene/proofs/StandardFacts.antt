@@ -29,8 +29,7 @@ use Rattle.irig_faults.specs.declared.refusal.Refusal.TheVariants as refusal
 use Rattle.irig_scene.specs.Lines.{lines, unlines, is_blank, limit_of}
 use Rattle.irig_scenario.specs.PlantLine.{Plan}
 use Rattle.irig_log_text.specs.Text.{entry_text, entries_text, audit_text, refusal_text}
-use Rattle.irig_scene.specs.declared.rounds.Round.TheVariants as round
-use Rattle.irig_scene.specs.Rounds.{events_in, ticks_among, RanRound}
+use Rattle.irig_scene.specs.Stepping.{ticks_among, HasStepped}
 use Rattle.irig_scene.specs.Scene.{Scene, scene, play, play_by, step_to, step_of_command, step, refusal_at, meaning, meaning_from, meaning_of, output}
 
 -- ---- lines
@@ -54,19 +53,13 @@ known_limits = refl
 
 -- ---- rounds
 
--- one event is a round, and has one tick at most; a whole second of three clocks and two readers has two
-pub known_rounds : (events_in (second_of 3 2) (round.Event (Tick 1)) ≡ Tick 1 ∷ [])
-    × (events_in (second_of 3 2) round.Second ≡ second_of 3 2)
-    × (map ticks_among ((Tick 1 ∷ []) ∷ (Restart 1 ∷ []) ∷ second_of 3 2 ∷ []) ≡ 1 ∷ 0 ∷ 2 ∷ [])
-known_rounds = (refl, refl, refl)
+-- a whole second of three clocks and two readers has two ticks
+pub known_ticks : map ticks_among ((Tick 1 ∷ []) ∷ (Restart 1 ∷ []) ∷ second_of 3 2 ∷ []) ≡ 1 ∷ 0 ∷ 2 ∷ []
+known_ticks = refl
 
--- two seconds are no round of that plant: they have more ticks than there are readers
-pub two_seconds_are_no_round : ticks_among (seconds 2 (second_of 3 2)) ≤ 2 → ⊥
-two_seconds_are_no_round few = absurd (omega (arith, few))
-
--- with one entry no more than it has ticks, no plant has run a round
-pub one_entry_is_too_many : {P : Type 0} {g : Ghosts P} (was is : Plant P g) (events : List Event) → vec_len is.log ≡ ticks_among events + 1 → RanRound was events is → ⊥
-one_entry_is_too_many was is events more ran = absurd (omega (arith, more, ran.few))
+-- where two entries stand, a plant has not taken its events one at a time
+pub two_entries_are_too_many : {P : Type 0} {g : Ghosts P} (plant : Plant P g) → vec_len plant.log ≡ 2 → HasStepped plant → ⊥
+two_entries_are_too_many plant two stepped = absurd (omega (arith, two, stepped.few))
 
 -- ---- refusals
 

@@ -1,5 +1,5 @@
 -- Which faults a step of a run can have, and what it wrote before them.
-use Rattle.std.specs.Prelude.{ℕ, List, Result, Ok, Err, ⊤, Bool, true, false}
+use Rattle.std.specs.Prelude.{◌≡◌, ℕ, List, Option, Some, None, Result, Ok, Err, ⊤, Bool, true, false}
 use Rattle.std.specs.Io.KnownBytes.{Appends}
 use Rattle.irig_device.specs.Watched.{AppendsPart}
 use Rattle.irig_device.specs.Lines.{Bytes}
@@ -9,6 +9,11 @@ use Rattle.irig_scene.specs.declared.stop.Failure.{Failure}
 use Rattle.irig_scene.specs.declared.stop.Failure.TheVariants as failure
 use Rattle.irig_scene.specs.declared.stop.Stop.{Stop}
 use Rattle.irig_scene.specs.declared.stop.Stop.TheVariants as stop
+use Rattle.irig_faults.specs.declared.refusal.Refusal.{Refusal}
+use Rattle.irig_faults.specs.Refusals.{number_of}
+use Rattle.irig_plant.specs.declared.fault.PlantFault.{PlantFault}
+use Rattle.irig_log_text.specs.Text.{refusal_text}
+use Rattle.irig_scene.specs.Scene.{refusal_as}
 use Rattle.irig_faults.specs.declared.refusal.LineFault.{LineFault}
 use Rattle.irig_faults.specs.declared.refusal.LineFault.TheVariants as line_fault
 
@@ -73,3 +78,26 @@ says_read (Err fault) = is_read_fault fault
 abbrev pub WroteText : Result (Unit {0}) Failure → Bytes → Bytes → List ℕ → Type 0
 WroteText (Ok done) old new text = Appends old new text
 WroteText (Err f) old new text = AppendsPart old new text
+
+-- the line was refused, and that was written
+abbrev pub WroteRefusal : SceneFault → ℕ → Refusal → Bytes → Bytes → Type 0
+WroteRefusal (Refused line number) n k old new =
+    (line ≡ n) × (number ≡ number_of k) × Appends old new (refusal_text n k)
+WroteRefusal Read n k old new = ⊥
+WroteRefusal Write n k old new = AppendsPart old new (refusal_text n k)
+WroteRefusal Memory n k old new = AppendsPart old new (refusal_text n k)
+
+-- if a line was refused, it is this one
+abbrev pub IsOfLine : ℕ → SceneFault → Type 0
+IsOfLine n (Refused line number) = line ≡ n
+IsOfLine n Read = ⊤
+IsOfLine n Write = ⊤
+IsOfLine n Memory = ⊤
+
+-- why an event that gives nothing ends the run
+abbrev pub stop_as : Option Refusal → Stop
+stop_as (Some k) = stop.Refused k
+stop_as None = stop.Failed failure.Memory
+
+abbrev pub stop_of_event : PlantFault → Stop
+stop_of_event fault = stop_as (refusal_as fault)

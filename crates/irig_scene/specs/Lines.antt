@@ -2,6 +2,8 @@
 -- Source: docs/SCENARIOS.md.
 use Rattle.std.specs.Prelude.{ℕ, zero, suc, ◌+◌, ◌-◌, ◌==◌, ◌||◌, Bool, List, [], ◌∷◌, ◌++◌, if◌then◌else◌, nat_lt, take}
 use Rattle.std.specs.List.{flat_map, list_all}
+use Rattle.irig_faults.specs.declared.refusal.Refusal.{Refusal}
+use Rattle.irig_faults.specs.declared.refusal.Refusal.TheVariants.{TooManyLines, TooLong}
 
 -- a byte before the first line
 abbrev pub onto_first : ℕ → List (List ℕ) → List (List ℕ)
@@ -28,6 +30,10 @@ max_line = 65536
 -- how many bytes of a line are read at most before it is known to be refused
 abbrev pub limit_of : ℕ → ℕ
 limit_of number = if nat_lt max_lines number then 0 else max_line
+
+-- the refusal of line n if it is too long
+abbrev pub too_long : ℕ → Refusal
+too_long n = if nat_lt max_lines n then TooManyLines else TooLong
 
 -- blanks, tabs and carriage returns alone: such a line is skipped
 abbrev pub is_blank : List ℕ → Bool

@@ -60,11 +60,18 @@ play s [] ev = play_by ev None
 play s (e ∷ es) ev =
     unless_refused (option_and_then refusal_as (refusal s e ev)) ev (play s es (e ∷ ev))
 
+-- the scene after events were played
+abbrev pub after_events : Scene → List Event → Scene
+after_events x events = scene x.plan (play x.plan.setup events x.events).events
+
+-- the events of a whole second of a plan
+abbrev pub second_in : Plan → List Event
+second_in plan = second_of (length plan.setup.generators) (length plan.setup.readers)
+
 -- what a line asks for, as events
 abbrev pub events_of : Plan → Command → List Event
 events_of plan (command.Event e) = e ∷ []
-events_of plan (command.Seconds n) =
-    times n (second_of (length plan.setup.generators) (length plan.setup.readers))
+events_of plan (command.Seconds n) = times n (second_in plan)
 
 -- ---- one line
 

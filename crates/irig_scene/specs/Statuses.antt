@@ -1,5 +1,5 @@
 -- The exit statuses of a program whose run ended early.
--- Source: README.md, the table of statuses.
+-- Source: docs/OUTPUT.md, the exit status.
 use Rattle.std.specs.Prelude.{ℕ}
 use Rattle.irig_scene.specs.declared.fault.SceneFault.{SceneFault}
 use Rattle.irig_scene.specs.declared.fault.SceneFault.TheVariants.{Refused, Read, Write, Memory}

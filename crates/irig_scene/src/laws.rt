@@ -12,7 +12,7 @@ ghost use Rattle.irig_plant.specs.WholeSecond.{second_of};
 ghost use Rattle.irig_scenario.specs.PlantLine.{Plan};
 ghost use Rattle.irig_scene.specs.HealthyRun.{IsOfSeconds, IsHealthyRun, HasTimeLine};
 ghost use Rattle.irig_scene.specs.Scene.{Scene, scene, Refused, meaning, meaning_of, ending_text, output, output_shown};
-ghost use Rattle.irig_scene.specs.Rounds.{ticks_among};
+ghost use Rattle.irig_scene.specs.Stepping.{ticks_among};
 ghost use Rattle.irig_log_text.specs.Text.{entry_text, entries_text, port_line, port_word, time_shown_text};
 ghost use Rattle.irig_scene.specs.PortLines.{is_port_line, without_port_lines, ports_too};
 ghost use Rattle.irig_log_text.specs.LogLines.{whole_lines, Shows, ShowsNothing};

@@ -4,13 +4,16 @@
 mod fault;
 mod laws;
 mod line;
-mod log_writer;
+mod listener;
+mod log;
 mod outcome;
 mod player;
+mod read;
 mod refused_line;
-mod rounds;
 mod run;
+mod stepped;
 mod stop;
+mod write;
 
 pub use fault::{OUT_OF_MEMORY, READ_FAILED, REFUSED, SceneFault, WRITE_FAILED};
 pub use irig_log_text::Shown;
@@ -18,10 +21,9 @@ pub use laws::{
     a_second_has_a_tick_a_reader, entries_are_true, healthy_scenarios_announce, lines_read_one_way,
     logs_are_true, plant_lines_read_one_way, port_lines_stand_apart,
 };
-pub use line::{MAX_LINES, is_blank, limit_of, read_line, refuse, too_long};
-pub use log_writer::write_text;
+pub use listener::Listener;
+pub use log::{run_scene, run_scene_over, run_scene_shown};
 pub use outcome::Outcome;
+pub use read::{MAX_LINES, is_blank, limit_of, read_line, too_long};
 pub use refused_line::RefusedLine;
-pub use rounds::refusal_as;
-pub use run::{run_scene, run_scene_over, run_scene_shown};
-pub use stop::{Failure, Stop};
+pub use run::run_to;

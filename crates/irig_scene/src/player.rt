@@ -1,14 +1,17 @@
-//! A plant that plays the events of lines, with what is written of it.
+//! A plant that plays the events of lines, its listener, and the text that is yet to be written.
 
-ghost use Rattle.std.specs.Prelude.{◌≡◌, ◌≤◌, [], ◌∷◌, IfOk, IfErr, length, ◌||◌};
+ghost use Rattle.std.specs.Prelude.{◌≡◌, ◌≤◌, ◌∷◌, [], IfOk, IfErr, OnOk, length, string_bytes, ◌||◌, vec_len};
 ghost use Rattle.irig_device.specs.Watched.{device_of, has_failed};
 ghost use Rattle.irig_scene.specs.declared.stop.Failure.TheVariants.{Memory};
-ghost use Rattle.irig_scene.specs.Faults.{stopped_write};
+ghost use Rattle.irig_scene.specs.Faults.{WroteText, failed_write, stopped_write};
+ghost use Rattle.irig_scene.specs.Scene.{Scene};
+ghost use Rattle.irig_scene.specs.ListenerRuns.{Adds, IsStageAt, text_in};
 
-use crate::log_writer::{LogText, LogWriter};
+use crate::listener::Listener;
 use crate::refused_line::RefusedLine;
-use crate::rounds::{Round, Rounds};
+use crate::stepped::SteppedPlant;
 use crate::stop::{Failure, Stop};
+use crate::write::write_text;
 use indexmap::IndexSet;
 use irig_device::Watched;
 use irig_faults::{LineFault, Refusal};
@@ -18,32 +21,103 @@ use irig_scenario::{BuiltPlant, Command, EventReader, second_of};
 use std::alloc::Global;
 use std::io::Write;
 
-/// A plant in rounds, what reads the lines of its events, and the text of its log.
+// So many bytes of text are written at once, though not past the second that says them.
+const MANY: usize = 8192;
+
+/// A plant, what reads the lines of its events, its listener, and what is yet to be written.
 #[derive(Drop)]
-pub(crate) struct Player<P: Port> {
-    rounds: Rounds<P>,
+pub(crate) struct Stage<L, P: Port> {
+    listener: L,
+    plant: SteppedPlant<P>,
     lines: EventReader,
-    text: LogText,
+    text: String,
 }
 
-impl<P: Port> Player<P> {
-    ghost use Rattle.std.specs.Prelude.{vec_len};
+impl<L: Listener, P: Port> Stage<L, P> {
+    // Plays an event, and adds what is said of it to the text.
+    fn play(&mut self, asked: L::Asked, event: &Event) -> Result<(), Stop>
+        ensures { Adds (IsStageAt (L.stands_for asked) (L.keeps_told asked)) (L.texts asked)
+            self.old (event.now ∷ []) result self.new (text_in self.old) (text_in self.new) }
+    {
+        self.plant.step(event)?;
+        let plant = self.plant.plant();
+        let names = self.lines.names();
+        match self
+            .listener
+            .push_event(asked, plant, names, event, &mut self.text)
+        {
+            Ok(()) => Ok(()),
+            Err(_) => Err(Stop::Failed(Failure::Memory)),
+        }
+    }
+
+    fn is_long(&self) -> bool {
+        self.text.len() >= MANY
+    }
+
+    // Writes the text, and lets it go.
+    fn write<W: Write>(&mut self, output: &mut Watched<W>) -> Result<(), Failure>
+        ensures wrote { WroteText result
+            (W.contents (device_of output.old)) (W.contents (device_of output.new))
+            (text_in self.old) }
+        ensures empty { OnOk result (text_in self.new ≡ []) }
+        ensures plant { self.new.plant ≡ self.old.plant }
+        ensures lines { self.new.lines ≡ self.old.lines }
+        ensures listener { self.new.listener ≡ self.old.listener }
+        ensures note { has_failed output.new ≡ (has_failed output.old || failed_write result) }
+    {
+        write_text(output, self.text.as_str())?;
+        self.text.clear();
+        Ok(())
+    }
+}
+
+// Plays events one after another, up to one that is refused.
+fn play_all<L: Listener, P: Port>(
+    stage: &mut Stage<L, P>,
+    asked: L::Asked,
+    events: &[Event],
+) -> Result<(), Stop>
+    ensures { Adds (IsStageAt (L.stands_for asked) (L.keeps_told asked)) (L.texts asked)
+        stage.old events.now result stage.new (text_in stage.old) (text_in stage.new) }
+{
+    for event in events {
+        stage.play(asked, event)?;
+    }
+    Ok(())
+}
+
+/// A stage, and the events of its plant's whole second.
+#[derive(Drop)]
+pub(crate) struct Player<L, P: Port> {
+    stage: Stage<L, P>,
+    second: Vec<Event>,
+}
+
+impl<L: Listener, P: Port> Player<L, P> {
+    ghost use Rattle.std.specs.Prelude.{false};
     ghost use Rattle.irig_plant.specs.History.{AreGenerators, AreReaders};
     ghost use Rattle.irig_plant.specs.WholeSecond.{times};
-    ghost use Rattle.irig_log_text.specs.declared.shown.Shown.{Shown};
     ghost use Rattle.irig_faults.specs.Refusals.{IsUnlessMemory};
     ghost use Rattle.irig_scenario.specs.EventLine.{command_in_line};
     ghost use Rattle.irig_scenario.specs.PlantLine.{plan_of};
-    ghost use Rattle.irig_scene.specs.Scene.{Scene as SceneOf, scene, audit_in, events_of};
-    ghost use Rattle.irig_scene.specs.PlayerRuns.{AddsRound, IsPlayerAt, Plays, second_in};
+    ghost use Rattle.irig_scene.specs.Scene.{scene, audit_in, events_of};
+    ghost use Rattle.irig_scene.specs.Scene.{second_in};
+    ghost use Rattle.irig_scene.specs.ListenerRuns.{IsPlayerAt, PlaysAsked, held_by};
 
-    /// The player of a plant to which nothing has happened, for what is to be shown.
-    pub(crate) fn new(line: BuiltPlant, log: LogWriter) -> Result<Player<P>, Failure>
+    /// The player of a plant to which nothing has happened.
+    pub(crate) fn new(
+        alloc: Global,
+        asked: L::Asked,
+        line: BuiltPlant,
+    ) -> Result<Player<L, P>, Failure>
         requires generators { AreGenerators line.rules line.generators.items }
         requires readers { AreReaders line.readers.items }
         requires names { length line.names.keys ≡ vec_len line.readers }
-        ensures stands { IfOk result
-            (λ player. IsPlayerAt log.shown player (scene (plan_of line) [])) }
+        ensures stands { IfOk result (λ player.
+            IsPlayerAt (L.stands_for asked) (L.keeps_told asked) player
+            (scene (plan_of line) [])) }
+        ensures empty { IfOk result (λ player. held_by player ≡ []) }
         ensures memory { IfErr result (λ failure. failure ≡ Memory) }
     {
         let BuiltPlant {
@@ -53,139 +127,191 @@ impl<P: Port> Player<P> {
             readers,
             names,
         } = line;
-        let LogWriter { alloc, shown } = log;
+        let ports = generators.len() as u8;
+        let second = second_of(alloc, ports, readers.len() as u8);
+        let plant = Plant::new(alloc, timeline, generators, rules, &readers);
+        let listener = L::new(alloc, asked, &names, ports);
+        let (Ok(mut plant), Ok(second), Ok(listener)) = (plant, second, listener) else {
+            return Err(Failure::Memory);
+        };
         let Ok(lines) = EventReader::new(alloc, names) else {
             return Err(Failure::Memory);
         };
-        let second = second_of(alloc, generators.len() as u8, readers.len() as u8);
-        let plant = Plant::new(alloc, timeline, generators, rules, &readers);
-        match (plant, second) {
-            (Ok(plant), Ok(second)) => {
-                let mut rounds = Rounds::new(plant, second);
-                if shown.ports {
-                    rounds.keep_told();
-                }
-                let text = LogText::new(alloc);
-                Ok(Player {
-                    rounds,
-                    lines,
-                    text,
-                })
-            }
-            _ => Err(Failure::Memory),
+        if L::wants_told(asked) {
+            plant.keep_told();
         }
-    }
-
-    /// The readers' names, in order.
-    pub(crate) fn names(&self) -> &IndexSet<String>
-        ensures names { result.now ≡ self.now.lines.names }
-        ensures few { length result.now.keys ≤ 16 }
-    {
-        self.lines.names()
+        let stage = Stage {
+            listener,
+            plant: SteppedPlant::new(plant),
+            lines,
+            text: String::new(alloc),
+        };
+        Ok(Player { stage, second })
     }
 
     /// What a line after the plant line asks for.
     pub(crate) fn event_of_line(&mut self, alloc: Global, line: &[u8]) -> Result<Command, LineFault>
-        ensures said { (shown : Shown) (x : SceneOf) → IsPlayerAt shown self.old x
+        ensures said { (asked : L.Asked) (x : Scene)
+            → IsPlayerAt (L.stands_for asked) (L.keeps_told asked) self.old x
             → IsUnlessMemory (λ c. c) (command_in_line x.plan.names line.now) result }
-        ensures stands { (shown : Shown) (x : SceneOf) → IsPlayerAt shown self.old x
-            → IsPlayerAt shown self.new x }
+        ensures stands { (asked : L.Asked) (x : Scene)
+            → IsPlayerAt (L.stands_for asked) (L.keeps_told asked) self.old x
+            → IsPlayerAt (L.stands_for asked) (L.keeps_told asked) self.new x }
     {
-        self.lines.event_of_line(alloc, line)
+        self.stage.lines.event_of_line(alloc, line)
+    }
+
+    /// Writes what is open where a line is refused.
+    pub(crate) fn write_closing<W: Write>(
+        &self,
+        alloc: Global,
+        asked: L::Asked,
+        output: &mut Watched<W>,
+    ) -> Result<(), Failure>
+        ensures wrote { (x : Scene)
+            → IsPlayerAt (L.stands_for asked) (L.keeps_told asked) self.now x
+            → WroteText result
+            (W.contents (device_of output.old)) (W.contents (device_of output.new))
+            ((L.texts asked).closing x) }
+        ensures note { has_failed output.new ≡ (has_failed output.old || failed_write result) }
+    {
+        let Stage {
+            listener,
+            plant,
+            lines,
+            ..
+        } = &self.stage;
+        let mut text = String::new(alloc);
+        if listener
+            .push_closing(asked, plant.plant(), lines.names(), &mut text)
+            .is_err()
+        {
+            return Err(Failure::Memory);
+        }
+        write_text(output, text.as_str())
+    }
+
+    /// Writes what comes where the lines end without a refusal.
+    pub(crate) fn write_end<W: Write>(
+        &self,
+        alloc: Global,
+        asked: L::Asked,
+        output: &mut Watched<W>,
+    ) -> Result<(), Failure>
+        ensures wrote { (x : Scene)
+            → IsPlayerAt (L.stands_for asked) (L.keeps_told asked) self.now x
+            → WroteText result
+            (W.contents (device_of output.old)) (W.contents (device_of output.new))
+            ((L.texts asked).end x) }
+        ensures note { has_failed output.new ≡ (has_failed output.old || failed_write result) }
+    {
+        let Stage {
+            listener,
+            plant,
+            lines,
+            ..
+        } = &self.stage;
+        let mut text = String::new(alloc);
+        if listener
+            .push_end(asked, plant.plant(), lines.names(), &mut text)
+            .is_err()
+        {
+            return Err(Failure::Memory);
+        }
+        write_text(output, text.as_str())
     }
 
     /// The audit so far.
     pub(crate) fn audit(&self) -> Audit
-        ensures { (shown : Shown) (x : SceneOf) → IsPlayerAt shown self.now x
+        ensures { (asked : L.Asked) (x : Scene)
+            → IsPlayerAt (L.stands_for asked) (L.keeps_told asked) self.now x
             → result ≡ audit_in x }
     {
-        self.rounds.plant().audit()
+        self.stage.plant.plant().audit()
     }
 
     /// What explains the refusal of this line.
     pub(crate) fn refused(self, alloc: Global, refusal: Refusal, line: Vec<u8>) -> RefusedLine {
-        let Player { rounds, lines, .. } = self;
-        let names = lines.into_names();
-        RefusedLine::of_plant(alloc, refusal, line, names, rounds.plant().generators())
+        let Player { stage, .. } = self;
+        let Stage { plant, lines, .. } = stage;
+        RefusedLine::of_plant(
+            alloc,
+            refusal,
+            line,
+            lines.into_names(),
+            plant.plant().generators(),
+        )
     }
 
-    /// Does what a line asks for, up to an event that is refused, and writes what the readers said.
-    pub(crate) fn run_command<W: Write>(
+    /// Plays what a line asks for, up to an event that is refused, and writes what is said of it.
+    pub(crate) fn play_command<W: Write>(
         &mut self,
+        asked: L::Asked,
         command: Command,
-        log: LogWriter,
         output: &mut Watched<W>,
     ) -> Result<(), Stop>
-        ensures runs { Plays self.old (λ plan. events_of plan command) log.shown result self.new
+        ensures plays { PlaysAsked (IsPlayerAt (L.stands_for asked) (L.keeps_told asked))
+            (L.texts asked) self.old (λ plan. events_of plan command) result self.new
             (W.contents (device_of output.old)) (W.contents (device_of output.new)) }
         ensures note { has_failed output.new ≡ (has_failed output.old || stopped_write result) }
     {
         match command {
-            Command::Event(event) => self.play(event, log, output),
-            Command::Seconds(count) => self.play_seconds(count, log, output),
+            Command::Event(event) => self.play_event(asked, event, output),
+            Command::Seconds(count) => self.play_seconds(asked, count, output),
         }
     }
 
-    // Plays so many whole seconds, up to an event that is refused, and writes what the readers said,
-    // that of several seconds at once: a call of the output takes longer than a second does.
-    fn play_seconds<W: Write>(
+    // Plays an event, and writes what is said of it.
+    fn play_event<W: Write>(
         &mut self,
-        count: u32,
-        log: LogWriter,
+        asked: L::Asked,
+        event: Event,
         output: &mut Watched<W>,
     ) -> Result<(), Stop>
-        ensures plays { Plays self.old (λ plan. times count (second_in plan)) log.shown result
-            self.new (W.contents (device_of output.old)) (W.contents (device_of output.new)) }
+        ensures plays { PlaysAsked (IsPlayerAt (L.stands_for asked) (L.keeps_told asked))
+            (L.texts asked) self.old (λ plan. event ∷ []) result self.new
+            (W.contents (device_of output.old)) (W.contents (device_of output.new)) }
         ensures note { has_failed output.new ≡ (has_failed output.old || stopped_write result) }
     {
-        self.text.clear();
-        for _ in 0..count {
-            if let Some(refusal) = self.play_round(Round::Second, log)? {
-                self.text.write(output)?;
+        self.stage.text.clear();
+        match self.stage.play(asked, &event) {
+            Ok(()) => {}
+            Err(Stop::Refused(refusal)) => {
+                self.stage.write(output)?;
                 return Err(Stop::Refused(refusal));
             }
-            if self.text.is_long() {
-                self.text.write(output)?;
-            }
+            Err(Stop::Failed(failure)) => return Err(Stop::Failed(failure)),
         }
-        self.text.write(output)?;
-        Ok(())
+        Ok(self.stage.write(output)?)
     }
 
-    // Plays an event, and writes what the readers said, before a refusal too.
-    fn play<W: Write>(
+    // Plays so many whole seconds, up to an event that is refused, and writes what is said of
+    // several of them at once.
+    fn play_seconds<W: Write>(
         &mut self,
-        event: Event,
-        log: LogWriter,
+        asked: L::Asked,
+        count: u32,
         output: &mut Watched<W>,
     ) -> Result<(), Stop>
-        ensures plays { Plays self.old (λ plan. event ∷ []) log.shown result
-            self.new (W.contents (device_of output.old)) (W.contents (device_of output.new)) }
+        ensures plays { PlaysAsked (IsPlayerAt (L.stands_for asked) (L.keeps_told asked))
+            (L.texts asked) self.old (λ plan. times count (second_in plan)) result self.new
+            (W.contents (device_of output.old)) (W.contents (device_of output.new)) }
         ensures note { has_failed output.new ≡ (has_failed output.old || stopped_write result) }
     {
-        self.text.clear();
-        let refusal = self.play_round(Round::Event(event), log)?;
-        self.text.write(output)?;
-        match refusal {
-            None => Ok(()),
-            Some(refusal) => Err(Stop::Refused(refusal)),
+        self.stage.text.clear();
+        for _ in 0..count {
+            match play_all(&mut self.stage, asked, &self.second) {
+                Ok(()) => {}
+                Err(Stop::Refused(refusal)) => {
+                    self.stage.write(output)?;
+                    return Err(Stop::Refused(refusal));
+                }
+                Err(Stop::Failed(failure)) => return Err(Stop::Failed(failure)),
+            }
+            if self.stage.is_long() {
+                self.stage.write(output)?;
+            }
         }
-    }
-
-    // Plays a round up to the first event that is refused, whose refusal it answers, and adds what
-    // the readers said to the text.
-    fn play_round(&mut self, round: Round, log: LogWriter) -> Result<Option<Refusal>, Failure>
-        ensures plays { IfOk result (AddsRound self.old round log.shown self.new) }
-        ensures memory { IfErr result (λ failure. failure ≡ Memory) }
-    {
-        let refusal = self.rounds.run(round)?;
-        let plant = self.rounds.plant();
-        log.push_log(
-            &mut self.text,
-            self.lines.names(),
-            plant.log(),
-            plant.told(),
-        )?;
-        Ok(refusal)
+        Ok(self.stage.write(output)?)
     }
 }

@@ -1,10 +1,8 @@
 //! What explains a refused line.
 
-use crate::player::Player;
 use indexmap::IndexSet;
 use irig_faults::Refusal;
 use irig_gen::Generator;
-use irig_port::Port;
 use std::alloc::{AllocError, Global};
 
 /// A line that was refused, and where the plant then stood.
@@ -23,7 +21,7 @@ pub struct RefusedLine {
 
 impl RefusedLine {
     /// A line before there is a plant.
-    pub fn before_plant(alloc: Global, refusal: Refusal, line: Vec<u8>) -> RefusedLine {
+    pub(crate) fn before_plant(alloc: Global, refusal: Refusal, line: Vec<u8>) -> RefusedLine {
         RefusedLine {
             refusal,
             line,
@@ -33,7 +31,7 @@ impl RefusedLine {
     }
 
     /// A line of a plant whose readers have these names, and whose generators stand so.
-    pub fn of_plant(
+    pub(crate) fn of_plant(
         alloc: Global,
         refusal: Refusal,
         line: Vec<u8>,
@@ -49,18 +47,6 @@ impl RefusedLine {
             line,
             names,
             edges,
-        }
-    }
-
-    pub(crate) fn of<P: Port>(
-        alloc: Global,
-        refusal: Refusal,
-        line: Vec<u8>,
-        player: Option<Player<P>>,
-    ) -> Self {
-        match player {
-            Some(player) => player.refused(alloc, refusal, line),
-            None => RefusedLine::before_plant(alloc, refusal, line),
         }
     }
 }

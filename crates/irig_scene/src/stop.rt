@@ -2,10 +2,11 @@
 
 ghost use Rattle.std.specs.Prelude.{◌≡◌};
 ghost use Rattle.irig_scene.specs.declared.stop.Stop.TheVariants.{Failed};
-ghost use Rattle.irig_scene.specs.Faults.{fault_of, stop_of};
+ghost use Rattle.irig_scene.specs.Faults.{fault_of, stop_of, stop_of_event};
 
 use crate::fault::SceneFault;
 use irig_faults::{LineFault, Refusal};
+use irig_plant::PlantFault;
 
 /// What fails though the line is right.
 #[derive(Clone, Copy)]
@@ -40,6 +41,20 @@ impl From<LineFault> for Stop {
         match fault {
             LineFault::Refused(refusal) => Stop::Refused(refusal),
             LineFault::Memory => Stop::Failed(Failure::Memory),
+        }
+    }
+}
+
+impl From<PlantFault> for Stop {
+    ghost from_gives = { λ fault stop. stop ≡ stop_of_event fault };
+
+    fn from(fault: PlantFault) -> Stop {
+        match fault {
+            PlantFault::NoSuchReader => Stop::Refused(Refusal::NoSuchReader),
+            PlantFault::NoSuchGenerator => Stop::Refused(Refusal::NoSuchGenerator),
+            PlantFault::FutureReplay => Stop::Refused(Refusal::FutureReplay),
+            PlantFault::EndOfYears => Stop::Refused(Refusal::EndOfYears),
+            PlantFault::Memory => Stop::Failed(Failure::Memory),
         }
     }
 }

@@ -38,7 +38,7 @@ use Rattle.irig_scenario.proofs.SoundPlans.{plan_is_sound}
 use Rattle.irig_device.specs.Lines.{HasNoNewline}
 use Rattle.irig_scene.proofs.LineLaws.{line_first, one_line, no_line}
 use Rattle.irig_scene.specs.Lines.{lines, is_blank, max_line, max_lines}
-use Rattle.irig_scene.specs.LineRuns.{too_long}
+use Rattle.irig_scene.specs.Lines.{too_long}
 use Rattle.irig_scene.specs.Scene.{Scene, scene, Play, play, unless_refused, refusal_as, events_of, Step, step, step_to, step_of_plan, step_of_command, Meaning, meaning, refusal_at, unless_stopped, meaning_from}
 use Rattle.irig_scene_c.specs.declared.edges.IrigEdges.{IrigEdges}
 use Rattle.irig_scene_c.specs.Edges.{edges, each_reader, no_edges, edges_of, edges_if_taken, is_beyond, Names, names_in_line, LineEdges, line_with, line_after, ends_after, edges_in_line, edges_from, line_edges, edges_at, TellsTicks, CountsTicks}

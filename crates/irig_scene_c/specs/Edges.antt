@@ -13,7 +13,7 @@ use Rattle.irig_scenario.specs.declared.event_line.Command.TheVariants.{Event, S
 use Rattle.irig_scenario.specs.EventLine.{command_in_line}
 use Rattle.irig_scenario.specs.PlantLine.{Plan, plan_in_line}
 use Rattle.irig_scene.specs.Lines.{lines, is_blank, max_line, max_lines}
-use Rattle.irig_scene.specs.LineRuns.{too_long}
+use Rattle.irig_scene.specs.Lines.{too_long}
 use Rattle.irig_scene.specs.Scene.{Scene, events_of, meaning, meaning_from}
 use Rattle.irig_scene_c.specs.declared.edges.IrigEdges.{IrigEdges}
 

@@ -1,19 +1,20 @@
+use Rattle.irig_scene.specs.ListenerRuns.{IsPlayerAt}
 use Rattle.std.proofs.Common.{rules}
 use Rattle.std.proofs.lemmas.List.{nil_from_length}
 use Rattle.std.proofs.lemmas.Result.{err_from_is_err_and}
-use Rattle.irig_scene.proofs.LastLaws.{last_empty, last_goes, last_ends}
+use Rattle.irig_scene.proofs.RestLaws.{last_empty, last_goes, last_ends}
 use Rattle.irig_scene.proofs.line.run_last.Goals as goal
 
 pub returns-then-is_empty-clause-runs : goal.returns-then-is_empty-clause-runs
-returns-then-is_empty-clause-runs g c = λ at stands.
-    last_empty _ _ _ _ at _ _ (nil_from_length _ (search rules)) (c.write_verdict.ensures.writes at stands)
+returns-then-is_empty-clause-runs g c = λ at first stands here.
+    last_empty (g.L.Listener.texts c.args.asked) _ _ _ first at _ _ (nil_from_length _ (search rules)) (c.end.ensures.ends at first stands)
 
 pub returns-in_err-run_line-clause-runs : goal.returns-in_err-run_line-clause-runs
 returns-in_err-run_line-clause-runs g c =
     let p = err_from_is_err_and c.from_residual.result c.from_residual.ensures.1 in
-    rw (p.1, p.2) (λ at stands. last_ends _ _ _ _ at _ _ (search rules) c.requires.whole (c.in_err-run_line.ensures.runs at stands))
+    rw (p.1, p.2) (λ at first stands here. last_ends (g.L.Listener.texts c.args.asked) _ _ _ _ first at _ _ (search rules) c.requires.whole (c.in_err-run_line.ensures.runs at first stands here))
 
 pub returns-clause-runs : goal.returns-clause-runs
-returns-clause-runs g c = λ at stands.
-    let took = c.in_ok-run_line.ensures.runs at stands in
-    last_goes _ _ _ _ at _ _ _ _ c.requires.number (search rules) c.requires.whole took (c.write_verdict-2.ensures.writes _ took.stands)
+returns-clause-runs g c = λ at first stands here.
+    let took = c.in_ok-run_line.ensures.runs at first stands here in
+    last_goes (IsPlayerAt {g = g.P.Port} (g.L.Listener.stands_for c.args.asked) (g.L.Listener.keeps_told c.args.asked)) (g.L.Listener.texts c.args.asked) _ _ _ first at _ _ _ _ (search rules) c.requires.whole c.requires.number took (c.end-2.ensures.ends _ first took.stands)

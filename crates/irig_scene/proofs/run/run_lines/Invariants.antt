@@ -1,3 +1,4 @@
+use Rattle.irig_scene.specs.ListenerRuns.{IsPlayerAt}
 use Rattle.std.proofs.Common.{◌≡◌, ◌≤◌, ◌-◌, false}
 use Rattle.irig_device.specs.Watched.{device_of, has_failed}
 use Rattle.irig_scene.proofs.RunLaws.{HasRun}
@@ -9,7 +10,7 @@ invariant-loop-player g l =
     × (l.number ≤ 1000001)
     × (has_failed l.output ≡ false)
     × (has_failed l.input ≡ false)
-    × HasRun l.log.shown l.player (g.R.Read.remaining (device_of l.initial.input)) (g.R.Read.remaining (device_of l.input)) (g.W.Write.contents (device_of l.initial.output)) (g.W.Write.contents (device_of l.output)) l.number
+    × HasRun (IsPlayerAt {g = g.P.Port} (g.L.Listener.stands_for l.asked) (g.L.Listener.keeps_told l.asked)) (g.L.Listener.texts l.asked) l.player (g.R.Read.remaining (device_of l.initial.input)) (g.R.Read.remaining (device_of l.input)) (g.W.Write.contents (device_of l.initial.output)) (g.W.Write.contents (device_of l.output)) l.number
 
 abbrev pub decreases-loop-player : goal.decreases-loop-player
 decreases-loop-player g l = 1000002 - l.number

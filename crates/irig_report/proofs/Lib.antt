@@ -1,4 +1,0 @@
-pub mod PlayedLaws
-pub mod LineLaws
-pub mod RestLaws
-pub mod RunLaws

@@ -1,0 +1,152 @@
+-- The log as what a listener says.
+use Rattle.std.proofs.Common.{◌≡◌, ℕ, true, false, cond, List, [], ◌∷◌, ◌++◌, length, drop, Option, Some, None, Result, Ok, Err, refl, ap, sym, subst, ◌∙◌, append-nil}
+use Rattle.irig_plant.specs.declared.event.Event.{Event}
+use Rattle.irig_plant.specs.declared.event.Event.TheVariants.{GenEdge, Tick, Carry, Damage, Replay, Raw, Fault, Repair, Restart}
+use Rattle.irig_plant.specs.Schedule.{Setup, log_of, told_log_of}
+use Rattle.irig_scenario.specs.PlantLine.{Plan}
+use Rattle.irig_device.specs.Watched.{AppendsPart}
+use Rattle.std.specs.Io.KnownBytes.{Appends}
+use Rattle.irig_log_text.specs.declared.shown.Shown.{Shown}
+use Rattle.irig_log_text.specs.Text.{lines_text, entries_text, ticks_text}
+use Rattle.irig_plant.specs.declared.entry.Entry.{Entry}
+use Rattle.irig_plant.specs.declared.told_log.ToldEntry.{ToldEntry}
+use Rattle.irig_plant.proofs.ToldLaws.{told_length}
+use Rattle.std.specs.Prelude.{OnOk}
+use Rattle.std.proofs.Math.Seq.{drop-append_seam}
+use Rattle.irig_log_text.proofs.TextLaws.{no_lines}
+use Rattle.irig_scene.specs.declared.outcome.Outcome.{Outcome}
+use Rattle.irig_scene.specs.declared.fault.SceneFault.{SceneFault}
+use Rattle.irig_scene.specs.declared.fault.SceneFault.TheVariants.{Refused, Read, Write, Memory}
+use Rattle.irig_scene.specs.Lines.{lines, unlines}
+use Rattle.irig_scene.specs.Scene.{Scene, scene, Refused as RefusedAt, Meaning, meaning_of, log_text, ending_text, text_of, output_shown}
+use Rattle.irig_scene.specs.Run.{RanOn, RanShown}
+use Rattle.irig_scene.specs.Run as run
+use Rattle.irig_scene.proofs.PlayLaws.{LogGrows, lines_grow}
+use Rattle.irig_scene.specs.Texts as by
+use Rattle.irig_scene.specs.Texts.{said, ending_of, meaning_text, whole_text}
+use Rattle.irig_scene.specs.LogTexts.{entries_by, told_by, log_texts}
+use Rattle.irig_scene.specs.ListenerRuns.{StoppedReading, StoppedInLine, RunFor, RanFor}
+
+-- ---- an entry more
+
+pub grows : (s : Setup) (e : Event) (ev : List Event) → log_of s (e ∷ ev) ≡ log_of s ev ++ entries_by s e ev
+grows s (Tick r) ev = refl
+grows s (GenEdge g) ev = sym (append-nil (log_of s ev))
+grows s (Carry g r) ev = sym (append-nil (log_of s ev))
+grows s (Damage g r at width) ev = sym (append-nil (log_of s ev))
+grows s (Replay g r edge) ev = sym (append-nil (log_of s ev))
+grows s (Raw g r widths) ev = sym (append-nil (log_of s ev))
+grows s (Fault g kind) ev = sym (append-nil (log_of s ev))
+grows s (Repair g) ev = sym (append-nil (log_of s ev))
+grows s (Restart r) ev = sym (append-nil (log_of s ev))
+
+pub told_grows : (s : Setup) (e : Event) (ev : List Event) → told_log_of s (e ∷ ev) ≡ told_log_of s ev ++ told_by s e ev
+told_grows s (Tick r) ev = refl
+told_grows s (GenEdge g) ev = sym (append-nil (told_log_of s ev))
+told_grows s (Carry g r) ev = sym (append-nil (told_log_of s ev))
+told_grows s (Damage g r at width) ev = sym (append-nil (told_log_of s ev))
+told_grows s (Replay g r edge) ev = sym (append-nil (told_log_of s ev))
+told_grows s (Raw g r widths) ev = sym (append-nil (told_log_of s ev))
+told_grows s (Fault g kind) ev = sym (append-nil (told_log_of s ev))
+told_grows s (Repair g) ev = sym (append-nil (told_log_of s ev))
+told_grows s (Restart r) ev = sym (append-nil (told_log_of s ev))
+
+-- ---- what is said is the log
+
+module _ (shown : Shown) where
+  said_is_log : (plan : Plan) (ev : List Event) → said (log_texts shown) plan ev ≡ log_text shown (Some (scene plan ev))
+  said_is_log plan [] = sym (no_lines plan.names shown)
+  said_is_log plan (e ∷ ev) =
+      let s = plan.setup in
+      ap (λ t. t ++ lines_text plan.names shown (entries_by s e ev) (told_by s e ev)) (said_is_log plan ev)
+      ∙ sym (lines_grow (scene plan ev) (e ∷ ev) shown (record { more = entries_by s e ev; is = grows s e ev; told = told_by s e ev; told_is = told_grows s e ev }))
+
+  text_is : (first : List ℕ) (at : Option Scene) → by.text_of (log_texts shown) first at ≡ log_text shown at
+  text_is first None = refl
+  text_is first (Some x) = said_is_log x.plan x.events
+
+  ending_is : (k : Option RefusedAt) (at : Option Scene) → ending_of (log_texts shown) k at ≡ ending_text k at
+  ending_is (Some k) None = refl
+  ending_is (Some k) (Some x) = refl
+  ending_is None None = refl
+  ending_is None (Some x) = refl
+
+  meaning_is : (first : List ℕ) (m : Meaning) → meaning_text (log_texts shown) first m ≡ text_of shown m
+  meaning_is first m = ap (λ t. t ++ ending_of (log_texts shown) m.refused m.scene) (text_is first m.scene) ∙ ap (λ t. log_text shown m.scene ++ t) (ending_is m.refused m.scene)
+
+  all_is : (x : List ℕ) → whole_text (log_texts shown) x ≡ output_shown x shown
+  all_is x = meaning_is (by.first_of (lines x)) (meaning_of x)
+
+  -- ---- so what a listener is promised is what a run of a scenario promises
+
+  reading_is : (x : List ℕ) (was left old new : Option (List ℕ)) → StoppedReading (log_texts shown) x was left old new → run.StoppedReading x shown was left old new
+  reading_is x was left old new h = record {
+    whole = h.whole;
+    part = h.part;
+    rest = h.rest;
+    lined = h.lined;
+    taken = h.taken;
+    unlined = h.unlined;
+    of_bytes = h.of_bytes;
+    read = h.read;
+    wrote = subst (Appends old new) (text_is (by.first_of h.whole) (meaning_of (unlines h.whole)).scene) h.wrote;
+  }
+
+  in_line_is : (x : List ℕ) (was left old new : Option (List ℕ)) → StoppedInLine (log_texts shown) x was left old new → run.StoppedInLine x shown was left old new
+  in_line_is x was left old new h = record {
+    whole = h.whole;
+    part = h.part;
+    rest = h.rest;
+    lined = h.lined;
+    taken = h.taken;
+    in_hand = h.in_hand;
+    of_bytes = h.of_bytes;
+    read = h.read;
+    more = h.more;
+    wrote = subst (λ t. Appends old new (t ++ h.more)) (text_is (by.first_of h.whole) (meaning_of (unlines h.whole)).scene) h.wrote;
+  }
+
+  run_is : (r : Result Outcome SceneFault) (x : List ℕ) (was left old new : Option (List ℕ)) → RunFor (log_texts shown) r x was left old new → RanOn r x shown was left old new
+  run_is (Ok o) x was left old new h = (subst (Appends old new) (all_is x) h.0, h.1, h.2)
+  run_is (Err (Refused line number)) x was left old new h = (subst (Appends old new) (all_is x) h.0, h.1, h.2)
+  run_is (Err Read) x was left old new h = (subst (AppendsPart old new) (all_is x) h.0, reading_is x was left old new h.1)
+  run_is (Err Write) x was left old new h = (subst (AppendsPart old new) (all_is x) h.0, in_line_is x was left old new h.1)
+  run_is (Err Memory) x was left old new h = (subst (AppendsPart old new) (all_is x) h.0, in_line_is x was left old new h.1)
+
+  pub log_ran : (r : Result Outcome SceneFault) (was left old new : Option (List ℕ)) → RanFor (log_texts shown) r was left old new → RanShown r shown was left old new
+  log_ran r was left old new h = record { bytes = h.bytes; of_input = h.of_input; ran = run_is r h.bytes was left old new h.ran }
+
+-- ---- what is pushed of an event
+
+left_is : {X : Type 0} (a b more : List X) → b ≡ a ++ more → drop (length a) b ≡ more
+left_is a b more e = ap (drop (length a)) e ∙ drop-append_seam a more
+
+-- the entry of a tick, and what its ports told
+pub tick_is_lines : (shown : Shown) (x : Scene) (e : Event) (names : List (List ℕ)) (entries : List Entry) (tolds : List ToldEntry) → shown.ports ≡ true → names ≡ x.plan.names
+    → entries ≡ drop (length (log_of x.plan.setup x.events)) (log_of x.plan.setup (e ∷ x.events))
+    → tolds ≡ cond shown.ports (drop (length (log_of x.plan.setup x.events)) (told_log_of x.plan.setup (e ∷ x.events))) []
+    → ticks_text names shown.all entries tolds ≡ (log_texts shown).event x.plan e x.events
+tick_is_lines shown x e names entries tolds ports named are told =
+    let s = x.plan.setup in
+    let ev = x.events in
+    let same = are ∙ left_is (log_of s ev) (log_of s (e ∷ ev)) (entries_by s e ev) (grows s e ev) in
+    let told_same = told ∙ ap (λ b. cond b (drop (length (log_of s ev)) (told_log_of s (e ∷ ev))) []) ports
+    ∙ ap (λ n. drop n (told_log_of s (e ∷ ev))) (sym (told_length s ev)) ∙ left_is (told_log_of s ev) (told_log_of s (e ∷ ev)) (told_by s e ev) (told_grows s e ev) in
+    rw (ports, named, same, told_same) refl
+
+-- the entry alone
+pub entry_is_lines : (shown : Shown) (x : Scene) (e : Event) (names : List (List ℕ)) (entries : List Entry) → shown.ports ≡ false → names ≡ x.plan.names
+    → entries ≡ drop (length (log_of x.plan.setup x.events)) (log_of x.plan.setup (e ∷ x.events))
+    → entries_text names shown.all entries ≡ (log_texts shown).event x.plan e x.events
+entry_is_lines shown x e names entries ports named are =
+    let s = x.plan.setup in
+    let ev = x.events in
+    let same = are ∙ left_is (log_of s ev) (log_of s (e ∷ ev)) (entries_by s e ev) (grows s e ev) in
+    rw (ports, named, same) refl
+
+pub on_ok : {A E : Type 0} (r : Result A E) (P Q : Type 0) → (P → Q) → OnOk r P → OnOk r Q
+on_ok (Ok a) P Q f h = f h
+on_ok (Err e) P Q f h = tt
+
+pub then_same : (old new a b : List ℕ) → new ≡ old ++ a → a ≡ b → new ≡ old ++ b
+then_same old new a b h e = h ∙ ap (λ t. old ++ t) e

@@ -1,6 +1,0 @@
-use Rattle.irig_log_text.specs.Text.{entries_alone}
-use Rattle.irig_scene.proofs.WrittenLaws.{runs_truly}
-use Rattle.irig_scene.proofs.run.run_scene_over.Goals as goal
-
-pub returns : goal.returns
-returns g c = runs_truly _ _ (entries_alone c.args.all) _ _ _ _ _ c.run_lines.ensures.ran c.run_lines.ensures.read c.run_lines.ensures.write

@@ -1,0 +1,90 @@
+//! What every listener does.
+
+ghost use Rattle.std.specs.Prelude.{◌≡◌, ◌++◌, [], ◌∷◌, ◌≤◌, ℕ, Bool, if◌then◌else◌, List, IfOk, OnOk, codes, length, string_bytes};
+ghost use Rattle.irig_log_text.specs.Text.{texts_of};
+ghost use Rattle.irig_scene.specs.Scene.{Scene, scene};
+ghost use Rattle.irig_scene.specs.Texts.{Texts};
+ghost use Rattle.irig_scene.specs.Listening.{HasTaken, IsPlantOf, Names};
+
+use indexmap::IndexSet;
+use irig_plant::{Event, Plant};
+use irig_port::Port;
+use std::alloc::{AllocError, Global};
+
+/// What is said of a scenario while it is played. It adds to a text, and sees no device.
+pub trait Listener: Drop {
+    /// What is asked for.
+    type Asked: Copy;
+
+    // What it says.
+    ghost texts: { Self.Asked → Texts };
+
+    // The plant keeps what ports told.
+    ghost keeps_told: { Self.Asked → Bool };
+
+    // It stands as this scene leaves it.
+    ghost stands_for: { Self.Asked → Self → Scene → Type 0 };
+
+    /// Whether it wants to know what ports told.
+    fn wants_told(asked: Self::Asked) -> bool
+        ensures { result ≡ keeps_told asked };
+
+    /// The listener of a plant to which nothing has happened, whose readers have these names, 16 at
+    /// most, and so many ports each.
+    fn new(
+        alloc: Global,
+        asked: Self::Asked,
+        names: &IndexSet<String>,
+        ports: u8,
+    ) -> Result<Self, AllocError>
+        requires { length names.now.keys ≤ 16 }
+        ensures { IfOk result (λ listener. (x : Scene)
+            → IsPlantOf (texts_of names.now.keys) ports x → stands_for asked listener x) };
+
+    /// Whether the plant line is written as it stands, or nothing is said of it.
+    fn echoes_plant_line(asked: Self::Asked) -> bool
+        ensures { (line : List ℕ) → (texts asked).first line
+            ≡ if result then line ++ codes "\n" else [] };
+
+    /// Adds what is said of an event that the plant has just taken.
+    fn push_event<P: Port>(
+        &mut self,
+        asked: Self::Asked,
+        plant: &Plant<P>,
+        names: &IndexSet<String>,
+        event: &Event,
+        text: &mut String,
+    ) -> Result<(), AllocError>
+        requires { length names.now.keys ≤ 16 }
+        ensures said { OnOk result ((x : Scene) → stands_for asked self.old x
+            → HasTaken plant.now (keeps_told asked) (texts_of names.now.keys) event.now x
+            → string_bytes text.new
+            ≡ string_bytes text.old ++ (texts asked).event x.plan event.now x.events) }
+        ensures stands { OnOk result ((x : Scene) → stands_for asked self.old x
+            → HasTaken plant.now (keeps_told asked) (texts_of names.now.keys) event.now x
+            → stands_for asked self.new (scene x.plan (event.now ∷ x.events))) };
+
+    /// Adds what is open where a line is refused.
+    fn push_closing<P: Port>(
+        &self,
+        asked: Self::Asked,
+        plant: &Plant<P>,
+        names: &IndexSet<String>,
+        text: &mut String,
+    ) -> Result<(), AllocError>
+        ensures { OnOk result ((x : Scene) → stands_for asked self.now x
+            → Names plant.now (texts_of names.now.keys) x
+            → string_bytes text.new ≡ string_bytes text.old ++ (texts asked).closing x) };
+
+    /// Adds what comes where the lines end without a refusal.
+    fn push_end<P: Port>(
+        &self,
+        asked: Self::Asked,
+        plant: &Plant<P>,
+        names: &IndexSet<String>,
+        text: &mut String,
+    ) -> Result<(), AllocError>
+        ensures { OnOk result ((x : Scene) → stands_for asked self.now x
+            → Names plant.now (texts_of names.now.keys) x
+            → string_bytes text.new ≡ string_bytes text.old ++ (texts asked).end x) };
+}
