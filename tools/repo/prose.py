@@ -3,7 +3,6 @@ that they name."""
 from __future__ import annotations
 
 import re
-from collections import Counter
 from collections.abc import Iterator
 
 from made import without_made
@@ -85,10 +84,13 @@ def runs_in(text: str) -> set[tuple[str, ...]]:
     return found
 
 
-def shared_runs(texts: list[str]) -> list[str]:
-    """The runs of words that stand in two pages or more."""
-    counts = Counter(run for text in texts for run in runs_in(text))
-    return sorted(" ".join(run) for run, count in counts.items() if count > 1)
+def shared_runs(texts: dict[str, str]) -> dict[str, list[str]]:
+    """The runs of words that two pages or more have, and the names of these pages."""
+    found: dict[str, list[str]] = {}
+    for name, text in texts.items():
+        for run in runs_in(text):
+            found.setdefault(" ".join(run), []).append(name)
+    return {run: names for run, names in sorted(found.items()) if len(names) > 1}
 
 
 def missing_crates(crates: str, page_with_map: str) -> list[str]:

@@ -73,21 +73,29 @@ class Sentences(unittest.TestCase):
         self.assertEqual(wrong[11], f"b: {words(36)}.")
 
 
+def shared(*texts: str) -> list[str]:
+    return list(prose.shared_runs({str(place): text for place, text in enumerate(texts)}))
+
+
 class SharedRuns(unittest.TestCase):
     def test_seven_words_in_two_pages(self) -> None:
         first = "x a b c d e f g y\n"
-        self.assertEqual(prose.shared_runs([first, "z a b c d e f g\n"]), ["a b c d e f g"])
-        self.assertEqual(prose.shared_runs([first, "z a b c d e f h\n"]), [])
-        self.assertEqual(prose.shared_runs([first + "\n" + first, "z\n"]), [])
-        self.assertEqual(len(prose.shared_runs([first, first, first])), 3)
+        self.assertEqual(shared(first, "z a b c d e f g\n"), ["a b c d e f g"])
+        self.assertEqual(shared(first, "z a b c d e f h\n"), [])
+        self.assertEqual(shared(first + "\n" + first, "z\n"), [])
+        self.assertEqual(len(shared(first, first, first)), 3)
+
+    def test_pages_are_named(self) -> None:
+        texts = {"one.md": "a b c d e f g\n", "two.md": "z\n", "three.md": "a b c d e f g\n"}
+        self.assertEqual(prose.shared_runs(texts), {"a b c d e f g": ["one.md", "three.md"]})
 
     def test_capitals_stops_and_lines_do_not_matter(self) -> None:
-        self.assertEqual(len(prose.shared_runs(["A b, c\nd (e) **f** g.\n", "| a b c d e f g |\n"])), 1)
+        self.assertEqual(len(shared("A b, c\nd (e) **f** g.\n", "| a b c d e f g |\n")), 1)
 
     def test_code_blocks_and_parts_that_are_made_do_not_count(self) -> None:
         line = "a b c d e f g"
         made = f"<!-- list, made -->\n\n{line}\n\n<!-- list, end -->\n"
-        self.assertEqual(prose.shared_runs([f"{line}\n", f"    {line}\n", made]), [])
+        self.assertEqual(shared(f"{line}\n", f"    {line}\n", made), [])
 
 
 class Crates(unittest.TestCase):
@@ -109,7 +117,7 @@ class TheNumberThatMayFall(InAFolder):
         self.pages = [self.folder / "a.md", self.folder / "b.md"]
         for page in self.pages:
             page.write_text("a b c d e f g h\n")
-        for name, value in (("SHARED", self.shared), ("BY_HAND", self.pages)):
+        for name, value in (("SHARED", self.shared), ("BY_HAND", self.pages), ("ROOT", self.folder)):
             patch = mock.patch.object(pages, name, value)
             patch.start()
             self.addCleanup(patch.stop)
@@ -122,7 +130,12 @@ class TheNumberThatMayFall(InAFolder):
         self.assertEqual(self.wrong(), [])
         self.shared.write_text("1\n")
         self.assertEqual(
-            self.wrong(), ["pages share 2 runs of 7 words, 1 may be:", "a b c d e f g", "b c d e f g h"]
+            self.wrong(),
+            [
+                "pages share 2 runs of 7 words, 1 may be:",
+                "a b c d e f g: a.md, b.md",
+                "b c d e f g h: a.md, b.md",
+            ],
         )
 
     def test_it_falls_and_never_rises(self) -> None:
