@@ -20,6 +20,8 @@ SENTENCE_END = re.compile(r"(?<=[.?!])[\"')*_]*\s+")
 WORD = re.compile(r"\w(?:[\w'./-]*\w)?")
 PRODUCT = re.compile(r"^(irig_(?!uses\b)\w+)(?: staticlib)?:", re.MULTILINE)
 CRATE = re.compile(r"^(\w+)(?: staticlib)?:", re.MULTILINE)
+USES = re.compile(r"^(\w+)(?: staticlib)?:(.*)", re.MULTILINE)
+CRATES = re.compile(r"\birig_\w+")
 NAME = re.compile(r"`[^`]*`|\b(irig_[a-z]\w*)\b")
 
 
@@ -93,14 +95,34 @@ def shared_runs(texts: dict[str, str]) -> dict[str, list[str]]:
     return {run: names for run, names in sorted(found.items()) if len(names) > 1}
 
 
-def missing_crates(crates: str, page_with_map: str) -> list[str]:
+def mapped_crates(page: str) -> list[str]:
+    """The crates in the map of a page, in its order."""
+    drawing = page.partition("## The crates")[2].partition("\n## ")[0]
+    return [name for line in drawing.splitlines() if line.startswith("    ") for name in CRATES.findall(line)]
+
+
+def missing_crates(crates: str, page: str) -> list[str]:
     """The crates of the product, by crates.txt, that the map of crates does not name."""
-    mapped = page_with_map.partition("## The crates")[2].partition("\n## ")[0]
-    return [name for name in PRODUCT.findall(crates) if name not in re.findall(r"\w+", mapped)]
+    mapped = mapped_crates(page)
+    return [name for name in PRODUCT.findall(crates) if name not in mapped]
+
+
+def misplaced_crates(crates: str, page: str) -> list[str]:
+    """Pairs of a crate and one that it uses, by crates.txt, which the map does not have after it."""
+    mapped = mapped_crates(page)
+    uses = [(name, used) for name, rest in USES.findall(crates) for used in rest.split()]
+    known = [(name, used) for name, used in uses if name in mapped and used in mapped]
+    return [f"{name}, {used}" for name, used in known if mapped.index(used) < mapped.index(name)]
+
+
+def drawn_crates(text: str) -> list[str]:
+    """The crates in the drawings of a page: lines of code with an arrow, and the map of crates."""
+    lines = [line for line in text.splitlines() if line.startswith("    ") and "─►" in line]
+    return [name for line in lines for name in CRATES.findall(line)] + mapped_crates(text)
 
 
 def gone_crates(crates: str, text: str) -> list[str]:
     """The names of crates in a page that crates.txt does not have. One without marks of code is a crate's."""
     known = CRATE.findall(crates)
-    prose = " ".join(passages(text))
-    return [name for name in NAME.findall(prose) if name and name not in known]
+    told = [name for name in NAME.findall(" ".join(passages(text))) if name]
+    return [name for name in told + drawn_crates(text) if name not in known]

@@ -104,10 +104,21 @@ class Crates(unittest.TestCase):
         whole = MAP.replace("irig_frame_text", "irig_frame, irig_frame_text, irig_c")
         self.assertEqual(prose.missing_crates(CRATES, whole), [])
 
+    def test_each_is_before_those_that_it_uses(self) -> None:
+        map_of = "## The crates\n\nUses those after it, as irig_frame does.\n\n    {}\n    {}\n".format
+        right = map_of("top    irig_c, irig_frame_text,", "low    irig_frame")
+        self.assertEqual(prose.misplaced_crates(CRATES, right), [])
+        wrong = map_of("top    irig_frame_text, irig_frame", "low    irig_c")
+        self.assertEqual(prose.misplaced_crates(CRATES, wrong), ["irig_c, irig_frame"])
+
     def test_none_that_is_gone(self) -> None:
         text = "Over irig_frame and irig_uses, in irig_gone.\n\n| irig_old |\n\n    irig_code\n"
         self.assertEqual(prose.gone_crates(CRATES, text), ["irig_gone", "irig_old"])
         self.assertEqual(prose.gone_crates(CRATES, "`irig_reader_tick` of irig_c\n"), [])
+
+    def test_none_that_is_gone_is_drawn(self) -> None:
+        text = "    tick     irig_frame code ─► irig_first    a log line\n\n## The crates\n\n    irig_c, irig_second\n"
+        self.assertEqual(prose.gone_crates(CRATES, text), ["irig_first", "irig_second"])
 
 
 class TheNumberThatMayFall(InAFolder):
