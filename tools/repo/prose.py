@@ -56,7 +56,7 @@ def passages(text: str) -> Iterator[str]:
     """The paragraphs, items and cells of tables that were written by hand, without marks."""
     for is_prose, lines in blocks(without_made(text)):
         if is_prose:
-            yield " ".join(line.strip().removeprefix("> ") for line in lines).lstrip("-*>0123456789. ")
+            yield BULLET.sub("", " ".join(line.strip().removeprefix("> ") for line in lines), count=1)
         elif lines[0].startswith("|"):
             yield from (cell.strip() for cell in CELL_END.split(lines[0]) if cell.strip("-: "))
 

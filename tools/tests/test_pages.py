@@ -45,6 +45,8 @@ class Sentences(unittest.TestCase):
         self.assertEqual(len(prose.long_sentences(words(18) + "\n" + words(18) + ".\n")), 1)
         self.assertEqual(len(prose.long_sentences("- " + words(18) + "\n  " + words(18) + ".\n")), 1)
         self.assertEqual(prose.long_sentences("- " + words(18) + "\n- " + words(18) + "\n"), [])
+        self.assertEqual(prose.long_sentences("1. " + words(35) + ".\n"), [])
+        self.assertEqual(len(prose.long_sentences("60 " + words(35) + ".\n")), 1)
         self.assertEqual(prose.long_sentences(words(18) + "\n\n" + words(18) + "\n"), [])
 
     def test_cells_of_tables(self) -> None:
