@@ -5,6 +5,7 @@ ghost use Rattle.irig_device.specs.Watched.{device_of, has_failed};
 ghost use Rattle.irig_scene.specs.declared.stop.Failure.TheVariants.{Memory};
 ghost use Rattle.irig_scene.specs.Faults.{WroteText, failed_write, stopped_write};
 ghost use Rattle.irig_scene.specs.Scene.{Scene};
+ghost use Rattle.irig_scene.specs.Texts.{last_of};
 ghost use Rattle.irig_scene.specs.ListenerRuns.{Adds, IsStageAt, max_held, text_in};
 
 use crate::listener::Listener;
@@ -164,18 +165,19 @@ impl<L: Listener, P: Port> Player<L, P> {
         self.stage.lines.event_of_line(alloc, line)
     }
 
-    /// Writes what is open where a line is refused.
-    pub(crate) fn write_closing<W: Write>(
+    /// Writes what comes last: what is open, if a line is refused, and else what ends the text.
+    pub(crate) fn write_last<W: Write>(
         &self,
         alloc: Global,
         asked: L::Asked,
+        refused: bool,
         output: &mut Watched<W>,
     ) -> Result<(), Failure>
         ensures wrote { (x : Scene)
             → IsPlayerAt (L.stands_for asked) (L.keeps_told asked) self.now x
             → WroteText result
             (W.contents (device_of output.old)) (W.contents (device_of output.new))
-            ((L.texts asked).closing x) }
+            (last_of (L.texts asked) refused x) }
         ensures note { has_failed output.new ≡ (has_failed output.old || failed_write result) }
     {
         let Stage {
@@ -186,37 +188,7 @@ impl<L: Listener, P: Port> Player<L, P> {
         } = &self.stage;
         let mut text = String::new(alloc);
         if listener
-            .push_closing(asked, plant.plant(), lines.names(), &mut text)
-            .is_err()
-        {
-            return Err(Failure::Memory);
-        }
-        write_text(output, text.as_str())
-    }
-
-    /// Writes what comes where the lines end without a refusal.
-    pub(crate) fn write_end<W: Write>(
-        &self,
-        alloc: Global,
-        asked: L::Asked,
-        output: &mut Watched<W>,
-    ) -> Result<(), Failure>
-        ensures wrote { (x : Scene)
-            → IsPlayerAt (L.stands_for asked) (L.keeps_told asked) self.now x
-            → WroteText result
-            (W.contents (device_of output.old)) (W.contents (device_of output.new))
-            ((L.texts asked).end x) }
-        ensures note { has_failed output.new ≡ (has_failed output.old || failed_write result) }
-    {
-        let Stage {
-            listener,
-            plant,
-            lines,
-            ..
-        } = &self.stage;
-        let mut text = String::new(alloc);
-        if listener
-            .push_end(asked, plant.plant(), lines.names(), &mut text)
+            .push_last(asked, plant.plant(), lines.names(), refused, &mut text)
             .is_err()
         {
             return Err(Failure::Memory);
