@@ -88,7 +88,7 @@ loop-preserved g c = (
       ],
   elim c.if-is_full.branch [
     | then-is_full+in_ok-write w ↦ rw w.self-is (empty_has_room _ w.in_ok-write.ensures.empty)
-    | else-is_full w ↦ rw w.self-is (w.is_full.ensures.0 refl)
+    | else-is_full w ↦ rw w.self-is (c.is_full.ensures.0 w.if-is_full.false)
   ],
 )
 
