@@ -1,8 +1,8 @@
 #!/usr/bin/env python3
 """Tests that sigrok/irigb says of a line what a port tells of it.
 
-Whole frames are compared with what the program reads in them, scenarios with what each port told in
-their runs, and faults on a line with a reader of the Python package, which hears the same pulses.
+Whole frames are compared with what the program reads in them; lines of scenarios, and lines with
+faults, with a reader of the Python package, which hears the same pulses.
 Needs sigrok-cli; what needs the libraries of `make -C c` is skipped where they are not there."""
 from __future__ import annotations
 
@@ -17,7 +17,6 @@ import sys
 import tempfile
 import unittest
 from collections.abc import Iterable, Iterator, Sequence
-from datetime import timedelta
 from functools import cache
 from pathlib import Path
 from typing import Any, NamedTuple
@@ -194,28 +193,6 @@ def fields_of(coded: str, told: str) -> list[str]:
 # ---- scenarios
 
 
-class Played(NamedTuple):
-    """The widths that came to a port for a tick of its reader, what the program says the port told,
-    and what it would truly have claimed."""
-
-    widths: list[int]
-    told: str
-    true: str
-
-
-def claim_of(timeline: waves.Timeline, edge: int) -> str:
-    """The second and the mark that a true frame claims at an edge: docs/FRAME.md."""
-    at = timeline.at(edge)
-    if at is None:
-        return "none unspoken"
-    minute = min(at[1] // 60, 1439)
-    day, second = waves.EPOCH + timedelta(at[0]), at[1] - 60 * minute
-    mark = "unspoken"
-    if minute == 1439 and 1 <= second <= 59 and (day + timedelta(1)).day == 1:
-        mark = timeline.leaps.get(at[0], "no-leap")
-    return f"{day}T{minute // 60:02}:{minute % 60:02}:{second:02}Z {mark}"
-
-
 class Run(NamedTuple):
     """A scenario that runs to its end: its first reader's ports, with the widths that came to each,
     tick by tick."""
@@ -223,7 +200,6 @@ class Run(NamedTuple):
     name: str
     plant: dict[str, Any]
     ports: list[tuple[list[int], ...]]
-    restarts: bool
 
     @property
     def rules(self) -> Rules:
@@ -235,18 +211,6 @@ class Run(NamedTuple):
         for port in self.ports:
             line += wave_of(next_begin(line), port)
         return line
-
-    def played(self, path: str) -> Iterator[Played]:
-        """What was played to one port after another, with what the program says of it."""
-        timeline = waves.Plant(self.plant).generators[0].timeline
-        reader = self.plant["readers"][0]["name"]
-        log = printed(path, "run", self.name, "--all", "--ports")
-        told = [line.split()[2:] for line in log if re.match(rf" \d+ {reader} ", line)]
-        claims = [claim_of(timeline, edge) for edge in range(len(told))]
-        for port, words in zip(self.ports, zip(*told)):
-            assert len(port) == len(words), self.name
-            yield from map(Played, port, words, claims)
-            yield Played([], "silence", "")
 
 
 def wave_of(begin_us: int, port: Sequence[Sequence[int]]) -> Iterator[Pulse]:
@@ -268,26 +232,8 @@ def runs() -> list[Run]:
 
 def run_of(name: str) -> Run:
     lines = [line for line in (ROOT / name).read_text().splitlines() if line.strip()]
-    plant, *events = map(json.loads, lines)
-    restarts = any(event["do"] == "restart" for event in events)
-    return Run(name, plant, list(zip(*waves.seconds_of(lines))), restarts)
-
-
-def wanted_of(played: Played) -> str:
-    """What the decoder has to say of a frame. Of a false second the log does not say the mark: then
-    it ends with two dots."""
-    second, _ = played.true.split()
-    if played.told == "ok":
-        return in_words(f"claim {played.true}")
-    if re.match(r"\d{4}-", played.told):
-        return f"UTC {played.told} .."
-    if ":" in played.told:
-        return in_words(played.told.replace(":", " "))
-    return in_words(f"claim {second} {played.told}")
-
-
-def fits(text: str, wanted: str) -> bool:
-    return wanted == (f"{text.partition(' (')[0]} .." if wanted.endswith("..") else text)
+    plant = json.loads(lines[0])
+    return Run(name, plant, list(zip(*waves.seconds_of(lines))))
 
 
 # ---- what a reader hears
@@ -456,43 +402,6 @@ class Frames(unittest.TestCase):
 FIELDS = {text.split(":")[0] for text in fields_of("2000-001 00:00:00 control 0 sbs 0", "")}
 
 
-class Scenarios(unittest.TestCase):
-    """What came to the ports of the first reader of each scenario, by its own rules, against what
-    the log says each port told. A restart is no matter of wires."""
-
-    def test_each(self) -> None:
-        path = program()
-        count = 0
-        for run in runs():
-            with self.subTest(run.name):
-                if not run.restarts:
-                    count += self.compare(list(run.played(path)), run.rules)
-        print(f"scenarios: {count} frames")
-        self.assertGreater(count, 1000)
-
-    def compare(self, ports: list[Played], rules: Rules) -> int:
-        """How many frames came to ports, all of them alike."""
-        line: list[Pulse] = []
-        begins: list[int] = []
-        carried = [played for played in ports if is_carried(played.widths)]
-        for played, before in zip(ports, [None, *ports]):
-            if is_carried(played.widths):
-                goes_on = before and is_carried(before.widths)
-                begins.append(begins[-1] + waves.SECOND_US if goes_on else next_begin(line))
-                line += pulses_of(begins[-1], played.widths)
-        if line:
-            said = verdicts(decoded(dump_of(closed(line)), rules))
-            self.compare_each(said, carried, begins)
-        return len(carried)
-
-    def compare_each(self, said: list[Said], carried: list[Played], begins: list[int]) -> None:
-        self.assertEqual(len(said), len(carried))
-        for one, played, begin in zip(said, carried, begins):
-            self.assertTrue(begin <= one.begin_us < begin + waves.SECOND_US)
-            if not fits(one.text, wanted_of(played)):
-                self.assertEqual(one.text, wanted_of(played))
-
-
 class Lines(unittest.TestCase):
     """Faults on a line, against `irig.Sync` and a reader that hears it."""
 
@@ -557,7 +466,7 @@ class Lines(unittest.TestCase):
         self.compare_said(decoded(dump_of(line, low=1)), turned(line))
 
     def test_lines_of_scenarios(self) -> None:
-        """Whole lines, with what no port hears as it was sent."""
+        """Whole lines, by each scenario's own rules, with what no port hears as it was sent."""
         for run in runs():
             line = run.line()
             if line and line[-1].rise_us < 1000 * waves.SECOND_US:
