@@ -136,7 +136,8 @@ class Sources(unittest.TestCase):
 
 
 class Blame(unittest.TestCase):
-    """Who lied, in one line; python/tests/test_logs.py has what each word means."""
+    """Who lied, in one line; test_logs.py has what each word means, and tests/blame compares all lines
+    with the program's."""
 
     WANTED = [
         "edge 1: relay announced nothing: acquiring, not yet enough votes in a row",
@@ -165,17 +166,6 @@ class Blame(unittest.TestCase):
             *(f"edges 5 to 10: port {port} of relay told another second, first 2016-06-15T13:00:04Z;"
               " relay announced 4 seconds, 4 of them untrue" for port in (0, 1)),
         ])
-
-    def test_beside_the_program(self) -> None:
-        """The lines of `irig blame`, but for the totals behind them."""
-        if told("blame", "--help")[0]:
-            print("skipped: who lied, beside the program: it has no `irig blame`")
-            self.skipTest("the program has no `irig blame`")
-        for path in sorted((ROOT / "examples").glob("*.jsonl")):
-            said = [line for line in printed("blame", str(path)).splitlines() if line.startswith("edge")]
-            log = irig.read_log(printed("run", str(path), "--all", "--ports"), path.read_text())
-            with self.subTest(path.stem):
-                self.assertEqual([str(stretch) for stretch in log.blame()], said)
 
 
 class Refusals(unittest.TestCase):
