@@ -1,6 +1,5 @@
 /* Faults on lines of true frames, heard through the synchroniser by a port of irig.h: each single
- * fault, pairs of them by chance, cables that are pulled, and every state of a synchroniser. It
- * prints what they cost. The status is 1 if a claim was untrue where the synchroniser promises that
+ * fault, pairs of them by chance, and cables that are pulled. It prints what they cost. The status is 1 if a claim was untrue where the synchroniser promises that
  * none is, or a fault cost more frames than it may.
  *
  * The words are how many pairs to try on each line, and a seed. */
@@ -278,33 +277,6 @@ static bool try_pulled(void) {
     return beyond == 0 && untrue == 0;
 }
 
-/* ---- states */
-
-/* Every state, on a line that is heard from any element on: right from the 101st pulse on. */
-static bool try_states(void) {
-    long cases = 0;
-    int latest = 0;
-    for (int place = 0; place < 256; place++)
-        for (int was_marker = 0; was_marker < 2; was_marker++)
-            for (int is_near = 0; is_near < 2; is_near++)
-                for (int from = 0; from < 100; from++) {
-                    irig_sync sync = {nominal[from].rise_us - (is_near ? ELEMENT_US : 77777u),
-                                      (uint8_t)place, (uint8_t)(was_marker ? 7 : 0)};
-                    int right_from = 0;
-                    for (int i = 0; i < 250; i++) {
-                        const pulse *p = &nominal[from + i];
-                        int wanted = (from + i) % 100 + 1;
-                        bool is_right =
-                            irig_sync_pulse(&sync, p->rise_us, p->width_us) == wanted;
-                        if (!is_right) right_from = i + 1;
-                    }
-                    cases++;
-                    if (right_from + 1 > latest) latest = right_from + 1;
-                }
-    printf("states: %ld; in step for good from pulse %d on at the latest\n", cases, latest);
-    return latest <= 101;
-}
-
 int main(int count, char **words) {
     static fault faults[200 * 60];
     bool is_right = true;
@@ -319,7 +291,6 @@ int main(int count, char **words) {
         is_right &= try_singles(faults, all);
         is_right &= try_pairs(faults, all, atol(words[1]));
         is_right &= try_pulled();
-        is_right &= try_states();
     }
     return is_right ? 0 : 1;
 }

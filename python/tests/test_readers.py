@@ -350,19 +350,13 @@ class Copies(unittest.TestCase):
         form, numbers = self.locked().__getstate__()
         reader = Reader()
         for state in (
-            ("another", numbers),
+            ("another", numbers), ("irig reader 2", numbers),
             (form, numbers[:-1]),
             (form, bytes([255]) * len(numbers)),
             (form, bytes([numbers[0] ^ 1]) + numbers[1:]),
         ):
             self.assertRaises(irig.Fault, reader.__setstate__, state)
         self.assertEqual(reader.__getstate__(), Reader().__getstate__())
-
-    def test_older_forms(self) -> None:
-        """A reader had 672 bytes, without a check word; at first it had no lines behind them."""
-        _, numbers = self.locked().__getstate__()
-        for state in (("irig reader 1", numbers[:672]), ("irig reader 2", numbers[:672] + bytes(40))):
-            self.assertRaisesRegex(irig.Fault, "check word", Reader().__setstate__, state)
 
     def test_a_number_that_something_else_changed(self) -> None:
         reader = self.locked()

@@ -7,7 +7,6 @@ from __future__ import annotations
 import io
 import json
 import random
-import resource
 import shutil
 import subprocess
 import tempfile
@@ -28,7 +27,6 @@ from case_files import all_cases
 PROGRAM = ROOT / "crates/irig_main/out/irig_main"
 TOOL = loaded(ROOT / "tools/capture")
 ONE_MS = "its pulses are not 10 ms apart but, most often, 1 ms"
-MOST_MEMORY = 200 << 20  # with all that Python maps
 
 # Scenarios whose log no recording of their wires can have, with the reason.
 NO_VOTE = "there is no tick before lines agree"
@@ -316,10 +314,6 @@ def from_first_vote(log: list[str]) -> list[str]:
     return list(dropwhile(lambda line: line.endswith(" no-vote"), seconds))
 
 
-def limit(kind: int, most: int) -> None:
-    resource.setrlimit(kind, (most, most))
-
-
 # ---- tests
 
 
@@ -385,18 +379,6 @@ class Forms(InAFolder):
     def test_channels_in_another_order(self) -> None:
         text, _ = captured_wave(wave_of("one_liar"), "--channels=G1,G0,G2")
         self.assertIn(" 5 relay 2017-06-30T23:59:57Z ok ok", log_of(text))
-
-    def test_ten_minutes_in_little_memory(self) -> None:
-        """600 million samples, silent behind the first minute."""
-        lines = replace(wave_of("plain_minute"), end=600 * waves.SECOND_US)
-        as_session(lines, self.folder / "lines.sr")
-        with open(self.folder / "lines.jsonl", "w+") as out:
-            ran = subprocess.run(
-                [ROOT / "tools/capture", self.folder / "lines.sr"], stdout=out, text=True,
-                stderr=subprocess.PIPE, preexec_fn=lambda: limit(resource.RLIMIT_AS, MOST_MEMORY),
-            )
-            out.seek(0)
-            self.assertEqual((ran.returncode, out.read().count('"tick"')), (0, 599), ran.stderr)
 
 
 class Recorders(unittest.TestCase):

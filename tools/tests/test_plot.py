@@ -154,32 +154,12 @@ class Runs(unittest.TestCase):
         ])
         self.assertEqual((lane.runs, lane.marks), (lane_of(example("one_liar")).runs, lane.marks))
 
-    def test_each_word_of_a_port(self) -> None:
-        told = ["ok silence fault:17:Parity", "poor:12 no-leap 2016-06-15T12:00:00Z"]
-        lane = lane_of([f" {edge} relay {words}" for edge, words in enumerate(told, 1)])
-        kinds = [[run.state for run in runs] for runs in lane.ports]
-        self.assertEqual(kinds, [["agreed", "poor"], ["silent", "another mark"],
-                                 ["faulty", "another second"]])
-        self.assertEqual(lane.runs, [Run(1, 2, "not announced", "not announced")])
-
     def test_a_part(self) -> None:
         part = bars_of(example("dark_hour")).part(10, 20)
         self.assertEqual(
             part.lanes[0].runs,
             [Run(10, 18, "holdover", "held"), Run(19, 20, "not announced", "not announced")],
         )
-
-    def test_lines_that_are_none(self) -> None:
-        edge = "2 relay 2016-06-15T12:00:02Z locked voted"
-        for lines, says in (
-            (["2 relay locked voted"], "line 1 is no line of a log"),
-            ([edge, edge], "line 2: edge 2 of relay comes after edge 2"),
-            (["0 relay - unlocked no-vote"], "line 1: edge 0 of relay comes before edge 1"),
-            (["premises kept", edge], "line 2 stands below the last line"),
-            (['{"version":1'], "line 1 is of a scenario"),
-        ):
-            with self.subTest(says), self.assertRaisesRegex(ValueError, says):
-                bars_of(lines)
 
 
 class Marks(unittest.TestCase):
