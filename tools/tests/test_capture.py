@@ -784,10 +784,6 @@ class Words(InAFolder):
         self.assertIn("is not DAY or DAY:delete", self.refused(path, "--leap=2016-12-31:never"))
         self.assertIn("No such file", self.refused(self.folder / "none.vcd"))
 
-    def test_help_begins_with_an_example(self) -> None:
-        ran = subprocess.run([ROOT / "tools/capture", "--help"], capture_output=True, text=True)
-        self.assertTrue(ran.stdout.startswith("for example:\n\n    tools/capture "))
-
     def test_without_the_libraries(self) -> None:
         for name in ("tools/capture", "tools/parts", "python/irig"):
             source, copy = ROOT / name, self.folder / name

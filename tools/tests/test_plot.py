@@ -428,12 +428,6 @@ class Refusals(unittest.TestCase):
         self.assertEqual(ran.stderr.count("\n"), 1)
 
 
-class Help(unittest.TestCase):
-    def test_it_begins_with_an_example(self) -> None:
-        ran = subprocess.run([PLOT, "--help"], capture_output=True, text=True)
-        self.assertTrue(ran.stdout.startswith("for example:\n\n    ./irig run "))
-
-
 if __name__ == "__main__":
     if not find_spec("matplotlib") and sys.executable != DEBIAN and os.path.exists(DEBIAN):
         os.execv(DEBIAN, [DEBIAN, *sys.argv])

@@ -455,10 +455,6 @@ class Words(InAFolder):
         said = self.refused("-", "-o", self.folder / "a.vcd", given=scenario_of(), IRIG="none/irig")
         self.assertEqual(said, "wave: -: No such file or directory\n")
 
-    def test_help_begins_with_an_example(self) -> None:
-        ran = run("--help")
-        self.assertTrue(ran.stdout.startswith("for example:\n\n    tools/wave "))
-
 
 if __name__ == "__main__":
     unittest.main()
