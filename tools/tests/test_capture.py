@@ -487,8 +487,9 @@ class Devices(InAFolder):
     def announced(self, lines: Wave, ports: Sequence[int]) -> list[str]:
         """What the board announces, tick by tick, until 5 ms behind the end."""
         rows = [*lines.rows(), (lines.end + 5_000, list(lines.rows())[-1][1])]
-        text = "\n".join(" ".join(map(str, [time, *(levels[line] for line in ports)]))
-                         for time, levels in rows)
+        table = [f"{time / 1e6:.6f}," + ",".join(str(levels[line]) for line in ports)
+                 for time, levels in rows]
+        text = "\n".join(["Time [s]", *table, ""])
         ran = subprocess.run([self.board, "2", "5"], input=text, capture_output=True, text=True)
         return ran.stdout.splitlines()
 
