@@ -9,7 +9,7 @@ from pathlib import Path
 from unittest import mock
 
 import irig
-from irig import Announced, PremiseBroken, PremisesKept, Ports, Second, Silent, TableBroken
+from irig import Announced, PremiseBroken, PremisesKept, Second, Silent, TableBroken
 from irig.scenarios import Reader, Scenario
 from program import ROOT, cases, printed, told
 
@@ -89,20 +89,11 @@ class Logs(unittest.TestCase):
         self.assertEqual(irig.run(example("two_liars")).verdict, PremiseBroken(5, "relay"))
         self.assertEqual(irig.run(example("misled_by_table")).verdict, TableBroken("relay"))
 
-    def test_logs_of_the_program(self) -> None:
-        text = printed("run", str(ROOT / "examples/one_liar.jsonl"), "--ports")
-        log = irig.read_log(text)
-        self.assertEqual("".join(f"{entry}\n" for entry in log) + f"{log.verdict}\n", text)
-        self.assertIn(Ports(9, "relay", ("ok", "insert", "ok")), log.entries)
-
     def test_texts_that_are_no_log(self) -> None:
         broken = "premises broken: edge 5 reader rel"  # ay, and the end of the line
         for text in ("", "1 relay - unlocked no-vote\n", "premises\n", "premises kept", broken):
             with self.subTest(text):
                 self.assertRaises(ValueError, irig.read_log, text)
-        for line in ("1 relay", "1 relay -", "1 relay - open no-vote", "1 relay - unlocked no"):
-            with self.subTest(line), self.assertRaises(ValueError):
-                irig.read_log(f"{line}\npremises kept\n").entries
 
 
 class Sources(unittest.TestCase):
