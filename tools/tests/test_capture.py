@@ -533,19 +533,14 @@ class Devices(InAFolder):
 
 
 class Edges(InAFolder):
-    """Where ticks are, by docs/WIRES.md: where the last frame ends whose claim stands on two lines,
-    its own and one that ends up to 1 ms later; else a second behind the tick before."""
+    """Where ticks are, by docs/WIRES.md, and which frames are left out."""
 
     @staticmethod
-    def clocks(seconds: int, late: Sequence[int] = (0, 0, 0), ahead: int = 0, ppm: int = 0) -> Wave:
-        """Clocks that are so many microseconds late, G1 seconds ahead from its fifth frame on, by a
-        counter that is fast."""
-        text = ONE_CLOCK_AHEAD.replace('"n":3', f'"n":{seconds - 4}').replace(":18", f":{ahead}")
+    def clocks(seconds: int, late: Sequence[int]) -> Wave:
+        """Clocks that are so many microseconds late."""
+        text = ONE_CLOCK_AHEAD.replace('"n":3', f'"n":{seconds - 4}').replace(":18", ":0")
         lines = wave_of_seconds(3, list(waves.seconds_of(text.splitlines())))
-        parts = 1_000_000 + ppm
-        return replace(lines, end=lines.end * parts // 1_000_000).of(
-            lambda change: [((change[0] + late[change[1]]) * parts // 1_000_000, *change[1:])]
-        )
+        return lines.of(lambda change: [(change[0] + late[change[1]], *change[1:])])
 
     def ticks(self, lines: Wave) -> list[tuple[int, bool]]:
         """The time of each tick, and whether lines agree on it."""
@@ -560,32 +555,6 @@ class Edges(InAFolder):
     def test_lines_apart(self) -> None:
         """The frames at 350 and 700 us agree, and so do those at 0 and 350 us, earlier."""
         self.assertEqual(self.ticks(self.clocks(7, (0, 350, 700))), self.each(1_050_350, 7))
-
-    def test_a_liar_a_millisecond_early(self) -> None:
-        """First it agrees with G0, and so do G0 and G2, later; then it is 18 seconds ahead."""
-        self.assertEqual(self.ticks(self.clocks(7, (0, -1000, 700), 18)), self.each(1_050_000, 7))
-
-    @staticmethod
-    def ends(count: int, ppm: int) -> list[tuple[int, bool]]:
-        """A frame ends 10 ms behind the rise of its last pulse."""
-        rises = (second * 1_000_000 + 40_000 for second in range(1, count + 1))
-        return [(rise * (1_000_000 + ppm) // 1_000_000 + 10_000, True) for rise in rises]
-
-    def test_a_counter_that_is_off(self) -> None:
-        self.assertEqual(self.ticks(self.clocks(600, ppm=80)), self.ends(600, 80))
-
-    def test_darkness(self) -> None:
-        """Frames 6 to 95 are lost. A counter that is 80 ppm fast is 7.28 ms ahead as frame 96 ends:
-        it has counted that second, 5 ms behind its edge, and the frame sets the edge right."""
-        lost = range(5_050_000, 95_050_000)
-        for ppm, held in ((0, 90), (80, 91)):
-            lines, bright = self.clocks(100, ppm=ppm), self.ends(100, ppm)
-            lines = lines.of(lambda change: [change] * (change[0] not in lost))
-            dark = self.each(bright[4][0] + 1_000_000, held, False)
-            self.assertEqual(self.ticks(lines), [*bright[:5], *dark, *bright[5 + held :]])
-            log = log_of(captured_wave(lines)[0])
-            self.assertEqual(sum(line.endswith(" held") for line in log), held)
-            self.assertEqual(log[-3], "100 relay 2026-11-24T09:31:40Z locked voted")
 
     def test_a_frame_that_is_not_kept(self) -> None:
         """G1 ends each half a second late, and is lost behind the second one."""
