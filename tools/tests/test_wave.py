@@ -9,7 +9,6 @@ import math
 import os
 import shutil
 import subprocess
-import sys
 import textwrap
 import unittest
 import wave
@@ -17,6 +16,7 @@ from collections.abc import Iterable, Sequence
 from fractions import Fraction
 from functools import cache
 from pathlib import Path
+from unittest import mock
 
 import loading
 from loading import ROOT
@@ -389,18 +389,11 @@ class Memory(InAFolder):
                 self.assertLess(most, least + self.MORE)
 
     def peak(self, seconds: int, ending: str) -> int:
-        """The most that the tool and the program take, in KiB, by a process that takes little."""
         scenario = self.folder / "long.jsonl"
         scenario.write_text(scenario_of({"do": "seconds", "n": seconds}))
-        least = "import resource as r, subprocess as s, sys; s.run(sys.argv[1:], check=True);" \
-            "print(r.getrusage(r.RUSAGE_CHILDREN).ru_maxrss)"
         more = ["--rate=2000"] if ending != ".vcd" else []
-        command = [TOOL, scenario, "-o", self.folder / f"long{ending}", *more]
-        ran = subprocess.run(
-            [sys.executable, "-c", least, *command], capture_output=True, text=True, check=True,
-            env=ENVIRONMENT, timeout=300,
-        )
-        return int(ran.stdout)
+        with mock.patch.dict(os.environ, ENVIRONMENT):
+            return loading.peak(TOOL, scenario, "-o", self.folder / f"long{ending}", *more)[1]
 
 
 class Words(InAFolder):
