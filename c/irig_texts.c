@@ -1,5 +1,5 @@
 /* The texts of irig.h. tools/repo/faults makes this file: of crates/irig_faults/src/meaning.rt, and
- * of the tables of docs/OUTPUT.md. */
+ * of crates/irig_words/src/word.rt. */
 #include "irig.h"
 
 typedef struct words {
@@ -53,22 +53,29 @@ static const words faults[] = {
     {"Drift", "a holdover longer than a timekeeper's counter can count"},
 };
 static const words locks[] = {
-    {"unlocked", "nothing is known"},
-    {"acquiring", "N votes in a row, less than lock_after; nothing is announced yet"},
-    {"locked", "the second stands on a vote for the one before it"},
-    {"holdover", "no vote for N edges; the second is counted from the last vote"},
+    {"unlocked", "the reader knows nothing of the time, and announces nothing"},
+    {"acquiring",
+     "there were N votes in a row, fewer than lock_after, since the reader began afresh; it "
+     "announces nothing yet"},
+    {"locked", "the announced second stands on a vote for the one before it"},
+    {"holdover",
+     "there was no vote for N edges, and the announced second is counted from the last one"},
 };
 static const words causes[] = {
-    {"voted", "two of three ports, or three of five, told this second, and the same of a leap"},
-    {"held", "there was no vote, and the reader counts on"},
+    {"voted",
+     "there was a vote: two of three ports, or three of five, told the second that has just "
+     "ended, and the same of a leap second"},
+    {"held", "there was no vote, and the reader counts on from its last one"},
     {"acquiring",
-     "there was a vote, and not yet enough of them in a row, since the start or a restart"},
-    {"no-vote", "there was no vote, and nothing to count from, as after a restart"},
-    {"expired", "no vote for more than holdover edges; the reader no longer counts"},
+     "there were N votes in a row, fewer than lock_after, since the reader began afresh; it "
+     "announces nothing yet"},
+    {"no-vote", "there was no vote, and the reader has nothing to count from, as after a restart"},
+    {"expired", "there was no vote for more than holdover edges, and the reader no longer counts"},
     {"leap-guard",
-     "counting alone it came to 23:59:58 of a month's last day, and no frame or table told if "
-     "a leap second comes"},
-    {"jump", "the vote is for another second than the one that follows"},
+     "counting alone the reader came to 23:59:58 of a month's last day, and no frame or table "
+     "told if a leap second comes"},
+    {"jump",
+     "the vote is for another second than the one that follows, and the reader begins afresh"},
     {"range-end", "the next second would be after 2099-12-30"},
 };
 

@@ -22,7 +22,7 @@ DID: Dict[str, str] = {
 
 # What a cause means, as `irig blame` has it.
 MEANINGS: Dict[Cause, str] = {
-    "voted": "most ports told this second",
+    "voted": "most ports told the second that had just ended",
     "held": "there was no vote, and the reader counted on",
     "acquiring": "not yet enough votes in a row",
     "no-vote": "there was no vote, and nothing to count from",

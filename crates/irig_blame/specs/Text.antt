@@ -52,7 +52,7 @@ seconds_text announced untrue =
 
 -- what a cause means, in a few words
 abbrev pub meaning_text : Cause → List ℕ
-meaning_text cause.Voted = codes "most ports told this second"
+meaning_text cause.Voted = codes "most ports told the second that had just ended"
 meaning_text cause.Held = codes "there was no vote, and the reader counted on"
 meaning_text cause.Acquiring = codes "not yet enough votes in a row"
 meaning_text cause.NoVote = codes "there was no vote, and nothing to count from"

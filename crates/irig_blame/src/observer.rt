@@ -66,29 +66,20 @@ impl Listener for Observer {
         Ok(())
     }
 
-    fn push_closing<P: Port>(
-        &self,
-        _asked: (),
-        _plant: &Plant<P>,
-        names: &IndexSet<String>,
-        text: &mut String,
-    ) -> Result<(), AllocError> {
-        self.book.push_open(text, names)?;
-        self.book.push_totals(text, names)?;
-        Ok(())
-    }
-
-    fn push_end<P: Port>(
+    fn push_last<P: Port>(
         &self,
         _asked: (),
         plant: &Plant<P>,
         names: &IndexSet<String>,
+        refused: bool,
         text: &mut String,
     ) -> Result<(), AllocError> {
         self.book.push_open(text, names)?;
         self.book.push_totals(text, names)?;
-        push_audit(text, names, plant.audit())?;
-        Ok(())
+        if refused {
+            return Ok(());
+        }
+        push_audit(text, names, plant.audit())
     }
 }
 

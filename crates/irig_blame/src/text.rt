@@ -258,7 +258,7 @@ fn cause_meaning(cause: Cause) -> &'static str
     ensures { result.now ≡ meaning_text cause }
 {
     match cause {
-        Cause::Voted => "most ports told this second",
+        Cause::Voted => "most ports told the second that had just ended",
         Cause::Held => "there was no vote, and the reader counted on",
         Cause::Acquiring => "not yet enough votes in a row",
         Cause::NoVote => "there was no vote, and nothing to count from",

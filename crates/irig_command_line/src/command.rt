@@ -8,7 +8,7 @@ use crate::help::{
     ABOUT, AFTER, BLAME_AFTER, EXPLAIN_AFTER, FLATTEN_AFTER, FRAME_AFTER, READ_AFTER, RUN_AFTER,
     USAGE,
 };
-use crate::request::{NoRequest, Request};
+use crate::request::{NoRequest, Request, Source, Wanted};
 use crate::tip::fault_with_tip;
 use clap::builder::ValueParser;
 use clap::error::ErrorKind;
@@ -66,9 +66,9 @@ fn request_by<'a>(name: &str, matches: &ArgMatches<'a>) -> Option<Request<'a>>
     ensures in_range { IfSome result IsRequest }
 {
     match name {
-        "run" => Some(run_of(matches)),
-        "flatten" => Some(flatten_of(matches)),
-        "blame" => Some(blame_of(matches)),
+        "run" => Some(play_of(log_of(matches), matches)),
+        "flatten" => Some(play_of(Wanted::Flat, matches)),
+        "blame" => Some(play_of(Wanted::Blame, matches)),
         "frame" => Some(frame_of(matches)),
         "read" => Some(read_of(matches)),
         "explain" => Some(explain_of(matches)),
@@ -76,37 +76,23 @@ fn request_by<'a>(name: &str, matches: &ArgMatches<'a>) -> Option<Request<'a>>
     }
 }
 
-fn run_of<'a>(matches: &ArgMatches<'a>) -> Request<'a>
-    ensures not_plain { result ≢ Request.Plain }
-    ensures in_range { IsRequest result }
-{
-    let all = matches.get_flag("all");
-    let ports = matches.get_flag("ports");
-    match value(matches, "FILE") {
-        "-" => Request::Input { all, ports },
-        file => Request::Run { file, all, ports },
+fn log_of(matches: &ArgMatches<'_>) -> Wanted {
+    Wanted::Log {
+        all: matches.get_flag("all"),
+        ports: matches.get_flag("ports"),
     }
 }
 
-fn flatten_of<'a>(matches: &ArgMatches<'a>) -> Request<'a>
+// Where a command may lack its FILE, the scenario is that on the input.
+fn play_of<'a>(wanted: Wanted, matches: &ArgMatches<'a>) -> Request<'a>
     ensures not_plain { result ≢ Request.Plain }
     ensures in_range { IsRequest result }
 {
-    match value(matches, "FILE") {
-        "-" => Request::FlattenInput,
-        file => Request::Flatten { file },
-    }
-}
-
-// Without a word for FILE it is the input.
-fn blame_of<'a>(matches: &ArgMatches<'a>) -> Request<'a>
-    ensures not_plain { result ≢ Request.Plain }
-    ensures in_range { IsRequest result }
-{
-    match matches.get_str("FILE") {
-        None | Some("-") => Request::BlameInput,
-        Some(file) => Request::Blame { file },
-    }
+    let source = match matches.get_str("FILE") {
+        None | Some("-") => Source::Input,
+        Some(path) => Source::File(path),
+    };
+    Request::Play { wanted, source }
 }
 
 fn frame_of<'a>(matches: &ArgMatches<'a>) -> Request<'a>

@@ -3,37 +3,40 @@
 use irig_frame_text::FrameOptions;
 use irig_time::Rules;
 
+/// What is written of a scenario.
+#[derive(Clone, Copy)]
+pub enum Wanted {
+    /// Its log.
+    Log {
+        /// Whether the log shows silent ticks too.
+        all: bool,
+        /// Whether the log shows what each port told.
+        ports: bool,
+    },
+    /// The scenario as what its readers hear.
+    Flat,
+    /// Who lied in it, and what it cost.
+    Blame,
+}
+
+/// Where a scenario is read from.
+#[derive(Clone, Copy)]
+pub enum Source<'a> {
+    /// The input.
+    Input,
+    /// The file with this path.
+    File(&'a str),
+}
+
 /// What a command line asks for.
 #[derive(Clone, Copy)]
 pub enum Request<'a> {
-    /// The scenario on the input: no words at all.
+    /// The log of the scenario on the input, without options: no words at all.
     Plain,
-    /// The scenario on the input, with options.
-    Input {
-        /// Whether the log shows silent ticks too.
-        all: bool,
-        /// Whether the log shows what each port told.
-        ports: bool,
-    },
-    /// The scenario in a file.
-    Run {
-        file: &'a str,
-        /// Whether the log shows silent ticks too.
-        all: bool,
-        /// Whether the log shows what each port told.
-        ports: bool,
-    },
-    /// The scenario on the input, written out as what its readers hear.
-    FlattenInput,
-    /// The scenario in a file, written out so.
-    Flatten {
-        file: &'a str,
-    },
-    /// The scenario on the input: who lied in it, and what it cost.
-    BlameInput,
-    /// The scenario in a file, so.
-    Blame {
-        file: &'a str,
+    /// A scenario is played, and what is wanted of it is written.
+    Play {
+        wanted: Wanted,
+        source: Source<'a>,
     },
     /// The frame of a UTC second.
     Frame {

@@ -18,13 +18,15 @@ use Rattle.irig_scene.specs.Run.{RanShown}
 use Rattle.irig_flatten.specs.Flattening.{HasTheLog, RanFlat}
 use Rattle.irig_blame.specs.Blaming.{RanBlame}
 use Rattle.irig_command_line.specs.declared.request.Request.{Request}
-use Rattle.irig_command_line.specs.declared.request.Request.TheVariants.{Plain, Input, Run, FlattenInput, Flatten, BlameInput, Blame, Frame, Read, Explain}
+use Rattle.irig_command_line.specs.declared.request.Request.TheVariants.{Plain, Play, Frame, Read, Explain}
+use Rattle.irig_command_line.specs.declared.request.Source.{Source}
+use Rattle.irig_command_line.specs.declared.request.Source.TheVariants.{Input, File}
+use Rattle.irig_command_line.specs.declared.request.Wanted.{Wanted}
+use Rattle.irig_command_line.specs.declared.request.Wanted.TheVariants.{Log, Flat, Blame}
 use Rattle.irig_command_line.specs.declared.request.NoRequest.{NoRequest}
 use Rattle.irig_command_line.specs.declared.request.NoRequest.TheVariants as none
 use Rattle.irig_commands.specs.declared.fault.Fault.{Fault}
 use Rattle.irig_commands.specs.declared.fault.Fault.TheVariants as fault
-use Rattle.irig_commands.specs.declared.reports.ReportKind.{ReportKind}
-use Rattle.irig_commands.specs.declared.reports.ReportKind.TheVariants as kind
 use Rattle.irig_commands.specs.Status.{result_of, status_of_answer}
 
 -- what the program answers
@@ -42,56 +44,48 @@ Wrote text (Err f) old new = (f ≡ fault.Write) × AppendsPart old new text
 
 -- ---- each request
 
--- a run of the input, of which `left` is left
-pub record RunsScene (shown : Shown) (answer : Answer) (input left old new : Bytes) : Type 0 where
+-- what is shown in a log
+abbrev pub shown : Bool → Bool → Shown
+shown all ports = record { all = all; ports = ports }
+
+-- without options a log shows announcements alone
+abbrev pub plain_log : Wanted
+plain_log = Log false false
+
+-- what is wanted of a scenario was written: its log; the scenario as what its readers hear, which
+-- has the same log; or who lied in it
+abbrev pub Writes : Wanted → Result Outcome SceneFault → Bytes → Bytes → Bytes → Bytes → Type 0
+Writes (Log all ports) run input left old new = RanShown run (shown all ports) input left old new
+Writes Flat run input left old new =
+    IfSome input (λ x. OfWritten old new (HasTheLog run x)) × RanFlat run input left old new
+Writes Blame run input left old new = RanBlame run input left old new
+
+-- the scenario on an input was played, of which `left` is left
+pub record PlaysScene (wanted : Wanted) (answer : Answer) (input left old new : Bytes)
+    : Type 0 where
   pub run : Result Outcome SceneFault
   pub answered : answer ≡ result_of run
-  pub ran : RanShown run shown input left old new
+  pub wrote : Writes wanted run input left old new
 
 -- the bytes are those that some file has to give
 abbrev pub AreOfFile : {F : Type 0} → (F → Bytes) → Bytes → Type 0
 AreOfFile {F} remaining bytes = (file : F) × (bytes ≡ remaining file)
 
--- a run of what a file gives; or it can't be opened, or there is no memory for it
-abbrev pub RunsFile : {F : Type 0} → (F → Bytes) → Shown → Answer → Bytes → Bytes → Type 0
-RunsFile remaining shown answer old new =
-    ((input left : Bytes) × AreOfFile remaining input × RunsScene shown answer input left old new)
-    ⊎ (((error : Error) × Refuses (fault.Open error) answer old new)
-    ⊎ Refuses fault.Memory answer old new)
-
--- a scenario on the input was written out as what its readers hear: what is written has the log of
--- the scenario, and is its text
-pub record FlattensScene (answer : Answer) (input left old new : Bytes) : Type 0 where
-  pub flat : Result Outcome SceneFault
-  pub answered : answer ≡ result_of flat
-  pub same_log : IfSome input (λ x. OfWritten old new (HasTheLog flat x))
-  pub ran : RanFlat flat input left old new
-
--- who lied in a scenario on the input was written
-pub record BlamesScene (answer : Answer) (input left old new : Bytes) : Type 0 where
-  pub blamed : Result Outcome SceneFault
-  pub answered : answer ≡ result_of blamed
-  pub ran : RanBlame blamed input left old new
-
--- what was written is what readers hear, with the log of the scenario, or who lied
-abbrev pub IsReport : ReportKind → Result Outcome SceneFault → Bytes → Bytes → Bytes → Bytes
-    → Type 0
-IsReport kind.Heard r input left old new =
-    IfSome input (λ x. OfWritten old new (HasTheLog r x)) × RanFlat r input left old new
-IsReport kind.Blame r input left old new = RanBlame r input left old new
-
--- so of a scenario on the input
-abbrev pub ReportsScene : ReportKind → Answer → Bytes → Bytes → Bytes → Bytes → Type 0
-ReportsScene kind.Heard answer input left old new = FlattensScene answer input left old new
-ReportsScene kind.Blame answer input left old new = BlamesScene answer input left old new
-
 -- so of what a file gives; or it can't be opened, or there is no memory for it
-abbrev pub ReportsFile : {F : Type 0} → (F → Bytes) → ReportKind → Answer → Bytes → Bytes → Type 0
-ReportsFile remaining kind answer old new =
+abbrev pub PlaysFile : {F : Type 0} → (F → Bytes) → Wanted → Answer → Bytes → Bytes → Type 0
+PlaysFile remaining wanted answer old new =
     ((input left : Bytes) × AreOfFile remaining input
-    × ReportsScene kind answer input left old new)
+    × PlaysScene wanted answer input left old new)
     ⊎ (((error : Error) × Refuses (fault.Open error) answer old new)
     ⊎ Refuses fault.Memory answer old new)
+
+-- so of the scenario on the input or in a file
+abbrev pub Plays : {F : Type 0} → (F → Bytes) → Wanted → Source → Answer → Bytes → Bytes → Bytes
+    → Bytes → Type 0
+Plays remaining wanted Input answer input left old new =
+    PlaysScene wanted answer input left old new
+Plays remaining wanted (File path) answer input left old new =
+    PlaysFile remaining wanted answer old new
 
 -- the frame of the second that the time names, with the options, if it names one
 abbrev pub ShowsFrame : List ℕ → FrameOptions → Answer → Bytes → Bytes → Type 0
@@ -121,19 +115,14 @@ ShowsMeaning answer old new =
 
 -- ---- all requests
 
--- what is shown of a run
-abbrev pub shown : Bool → Bool → Shown
-shown all ports = record { all = all; ports = ports }
+-- it is the input that is read
+abbrev pub is_input : Source → Bool
+is_input Input = true
+is_input (File path) = false
 
--- it is the input that is run
 abbrev pub reads_input : Request → Bool
 reads_input Plain = true
-reads_input (Input all ports) = true
-reads_input (Run file all ports) = false
-reads_input FlattenInput = true
-reads_input (Flatten file) = false
-reads_input BlameInput = true
-reads_input (Blame file) = false
+reads_input (Play wanted source) = is_input source
 reads_input (Frame time options) = false
 reads_input (Read frame rules) = false
 reads_input (Explain word) = false
@@ -142,18 +131,9 @@ reads_input (Explain word) = false
 abbrev pub Serves : {F : Type 0} → (F → Bytes) → Request → Answer → Bytes → Bytes → Bytes → Bytes
     → Type 0
 Serves remaining Plain answer input left old new =
-    RunsScene (shown false false) answer input left old new
-Serves remaining (Input all ports) answer input left old new =
-    RunsScene (shown all ports) answer input left old new
-Serves remaining (Run file all ports) answer input left old new =
-    RunsFile remaining (shown all ports) answer old new
-Serves remaining FlattenInput answer input left old new =
-    FlattensScene answer input left old new
-Serves remaining (Flatten file) answer input left old new =
-    ReportsFile remaining kind.Heard answer old new
-Serves remaining BlameInput answer input left old new = BlamesScene answer input left old new
-Serves remaining (Blame file) answer input left old new =
-    ReportsFile remaining kind.Blame answer old new
+    PlaysScene plain_log answer input left old new
+Serves remaining (Play wanted source) answer input left old new =
+    Plays remaining wanted source answer input left old new
 Serves remaining (Frame time options) answer input left old new =
     ShowsFrame time.now options answer old new
 Serves remaining (Read frame rules) answer input left old new =

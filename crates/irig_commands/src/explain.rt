@@ -1,7 +1,7 @@
 //! What the program says on the standard error beside the line of a fault.
 
 use crate::fault::Fault;
-use irig_command_line::Request;
+use irig_command_line::{Request, Source};
 use irig_explain::{PlantContext, why_refused};
 use irig_reason_text::{why_no_frame, why_no_time};
 use irig_scene::{RefusedLine, SceneFault};
@@ -61,14 +61,10 @@ fn help_text(
     let text = match (fault, request) {
         (Fault::BadTime, Some(Request::Frame { time, .. })) => why_no_time(alloc, time),
         (Fault::BadFrameText, Some(Request::Read { frame, .. })) => why_no_frame(alloc, frame),
-        (
-            Fault::Open(error),
-            Some(Request::Run { file, .. } | Request::Flatten { file } | Request::Blame { file }),
-        ) => { format!(in alloc; "{file}: {error}") }
-        (
-            Fault::Read,
-            Some(Request::Run { file, .. } | Request::Flatten { file } | Request::Blame { file }),
-        ) => format!(in alloc;
+        (Fault::Open(error), Some(Request::Play { source: Source::File(file), .. })) => {
+            format!(in alloc; "{file}: {error}")
+        }
+        (Fault::Read, Some(Request::Play { source: Source::File(file), .. })) => format!(in alloc;
             "{file}: it was opened, and could not be read to its end; is it a folder?"
         ),
         (Fault::Read, _) => format!(in alloc;

@@ -4,10 +4,11 @@
 
 mod explain;
 mod fault;
+mod play;
 mod program;
-mod reports;
 mod request;
 
 pub use fault::{Fault, report};
+pub use play::play_input;
 pub use program::drive;
-pub use request::{run_input, serve};
+pub use request::serve;

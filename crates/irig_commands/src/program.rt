@@ -4,7 +4,7 @@ ghost use Rattle.std.specs.Prelude.{◌≡◌, ◌↔◌, ◌≤◌, Err, IfOk, 
 ghost use Rattle.irig_command_line.specs.Requests.{IsRequest};
 ghost use Rattle.irig_command_line.specs.declared.request.Request.{Request};
 ghost use Rattle.irig_device.specs.Watched.{device_of, has_failed};
-ghost use Rattle.irig_commands.specs.Serving.{Answer, Answers, Drove, RunsScene, shown};
+ghost use Rattle.irig_commands.specs.Serving.{Answer, Answers, Drove, PlaysScene, plain_log};
 ghost use Rattle.irig_commands.specs.Status.{IsStatus, status_of_answer};
 
 use crate::explain::tell_more;
@@ -16,7 +16,7 @@ use std::io::{BufRead, Write};
 use std::rt::Files;
 
 /// Does what the words ask for, of which the first is the program's name, and answers the exit
-/// status. Without a command it runs the scenario on the input.
+/// status. Without a command it writes the log of the scenario on the input.
 pub fn drive<'a, R: Files + Eprint + AllocGlobal, I: BufRead, O: Write>(
     rt: &R,
     words: &'a [&'a str],
@@ -29,7 +29,7 @@ pub fn drive<'a, R: Files + Eprint + AllocGlobal, I: BufRead, O: Write>(
         (I.remaining (device_of input.old)) (I.remaining (device_of input.new))
         (O.contents (device_of output.old)) (O.contents (device_of output.new)) }
     ensures plain { length words.entry.now ≤ 1 → (answer : Answer)
-        × (result ≡ status_of_answer answer) × RunsScene (shown false false) answer
+        × (result ≡ status_of_answer answer) × PlaysScene plain_log answer
         (I.remaining (device_of input.old)) (I.remaining (device_of input.new))
         (O.contents (device_of output.old)) (O.contents (device_of output.new)) }
     ensures status { IsStatus result }

@@ -8,23 +8,21 @@ ghost use Rattle.irig_frame_text.specs.Frame.{IsFrameOptions};
 ghost use Rattle.irig_commands.specs.Serving.{
   AreOfFile,
   IsUnknownWord,
-  RunsFile,
-  RunsScene,
+  Plays,
   Serves,
   ShowsFrame,
   ShowsMeaning,
   ShowsReading,
   Wrote,
+  is_input,
   reads_input,
 };
 
-use crate::explain::tell_refusal;
 use crate::fault::Fault;
-use crate::reports::{ReportKind, report_file, report_input};
-use irig_command_line::Request;
+use crate::play::{play_file, play_input};
+use irig_command_line::{Request, Source, Wanted};
 use irig_device::Watched;
 use irig_frame_text::{FrameOptions, frame_lines, frame_text};
-use irig_scene::{Shown, run_scene_shown};
 use irig_time::Rules;
 use irig_words::{explanation, why_no_word};
 use std::alloc::Global;
@@ -32,14 +30,14 @@ use std::io::{BufRead, BufReader, Write};
 use std::rt::Files;
 use std::{fs, io};
 
-// Without options a run shows announcements alone.
-const NOTHING_MORE: Shown = Shown {
+// Without options a log shows announcements alone.
+const PLAIN_LOG: Wanted = Wanted::Log {
     all: false,
     ports: false,
 };
 
-/// Does what is asked for: runs a scenario, writes it out as what its readers hear, or who lied in it,
-/// writes a frame or what one says, or explains a word. Neither device may have failed before.
+/// Does what is asked for: plays a scenario and writes its log, what its readers hear, or who lied in
+/// it; writes a frame or what one says; or explains a word. Neither device may have failed before.
 ///
 /// `BadTime` if TIME is the text of no second, `BadFrameText` if FRAME has a letter of no
 /// symbol, `CommandLine` if WORD is none that is explained, and then nothing is written; `Refused`
@@ -66,63 +64,36 @@ pub fn serve<'a, R: Files + Eprint + AllocGlobal, I: BufRead, O: Write>(
         → output.new ≡ output.old }
 {
     match request {
-        Request::Plain => run_input(rt, input, output, NOTHING_MORE),
-        Request::Input { all, ports } => run_input(rt, input, output, Shown { all, ports }),
-        Request::Run { file, all, ports } => run_file(rt, file, Shown { all, ports }, output),
-        Request::FlattenInput => report_input(rt, ReportKind::Heard, input, output),
-        Request::Flatten { file } => report_file(rt, ReportKind::Heard, file, output),
-        Request::BlameInput => report_input(rt, ReportKind::Blame, input, output),
-        Request::Blame { file } => report_file(rt, ReportKind::Blame, file, output),
+        Request::Plain => play_input(rt, PLAIN_LOG, input, output),
+        Request::Play { wanted, source } => play(rt, wanted, source, input, output),
         Request::Frame { time, options } => show_frame(time, &options, output),
         Request::Read { frame, rules } => show_reading(rt.alloc(), frame, rules, output),
         Request::Explain { word } => show_meaning(rt.alloc(), word, output),
     }
 }
 
-/// Runs the scenario on an input: the standard one, or a FILE that was opened. Neither device may
-/// have failed before.
-///
-/// `Refused` if a line of it is refused, which the standard error then explains; `Read` if the
-/// input can't be read to its end, `Write` if the output fails; `Memory` if there was none.
-pub fn run_input<R: Eprint + AllocGlobal, I: BufRead, O: Write>(
+fn play<'a, R: Files + Eprint + AllocGlobal, I: BufRead, O: Write>(
     rt: &R,
+    wanted: Wanted,
+    source: Source<'a>,
     input: &mut Watched<I>,
     output: &mut Watched<O>,
-    shown: Shown,
 ) -> Result<(), Fault>
     requires input_whole { has_failed input.old ≡ false }
     requires output_whole { has_failed output.old ≡ false }
-    ensures ran { RunsScene shown result
+    ensures played { Plays R.File.remaining wanted source.entry result
         (I.remaining (device_of input.old)) (I.remaining (device_of input.new))
         (O.contents (device_of output.old)) (O.contents (device_of output.new)) }
     ensures write { (result ≡ Err Fault.Write) ↔ (has_failed output.new ≡ true) }
-    ensures read { (result ≡ Err Fault.Read) ↔ (has_failed input.new ≡ true) }
+    ensures read { is_input source.entry ≡ true
+        → (result ≡ Err Fault.Read) ↔ (has_failed input.new ≡ true) }
+    ensures unread { is_input source.entry ≡ false → input.new ≡ input.old }
+    ensures time { result ≢ Err Fault.BadTime }
+    ensures frame { result ≢ Err Fault.BadFrameText }
 {
-    let mut refused = None;
-    match run_scene_shown(rt.alloc(), input, output, shown, &mut refused) {
-        Ok(_) => Ok(()),
-        Err(fault) => {
-            tell_refusal(rt, fault, &refused);
-            Err(Fault::from(fault))
-        }
-    }
-}
-
-fn run_file<R: Files + Eprint + AllocGlobal, O: Write>(
-    rt: &R,
-    path: &str,
-    shown: Shown,
-    output: &mut Watched<O>,
-) -> Result<(), Fault>
-    requires { has_failed output.old ≡ false }
-    ensures ran { RunsFile R.File.remaining shown result
-        (O.contents (device_of output.old)) (O.contents (device_of output.new)) }
-    ensures write { (result ≡ Err Fault.Write) ↔ (has_failed output.new ≡ true) }
-{
-    match open(rt, path) {
-        Ok(mut input) => run_input(rt, &mut input, output, shown),
-        Err(error) if error.kind() == io::ErrorKind::OutOfMemory => Err(Fault::Memory),
-        Err(error) => Err(Fault::Open(error)),
+    match source {
+        Source::Input => play_input(rt, wanted, input, output),
+        Source::File(path) => play_file(rt, wanted, path, output),
     }
 }
 

@@ -58,21 +58,12 @@ impl Listener for Recorder {
         push_heard(text, names, plant, event)
     }
 
-    fn push_closing<P: Port>(
+    fn push_last<P: Port>(
         &self,
         _asked: (),
         _plant: &Plant<P>,
         _names: &IndexSet<String>,
-        _text: &mut String,
-    ) -> Result<(), AllocError> {
-        Ok(())
-    }
-
-    fn push_end<P: Port>(
-        &self,
-        _asked: (),
-        _plant: &Plant<P>,
-        _names: &IndexSet<String>,
+        _refused: bool,
         _text: &mut String,
     ) -> Result<(), AllocError> {
         Ok(())

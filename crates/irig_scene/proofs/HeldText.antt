@@ -1,5 +1,5 @@
 -- Text that a player holds before it is written.
-use Rattle.std.proofs.Common.{◌≡◌, ℕ, ◌+◌, ◌-◌, ◌<◌, ◌≤◌, List, [], ◌∷◌, ◌++◌, Option, Some, None, Result, Ok, Err, refl, ap, sym, subst, ◌∙◌, arith, append-nil, append_assoc}
+use Rattle.std.proofs.Common.{◌≡◌, ℕ, ◌+◌, ◌-◌, ◌<◌, ◌≤◌, List, [], ◌∷◌, ◌++◌, length, Option, Some, None, Result, Ok, Err, refl, ap, sym, subst, ◌∙◌, arith, append-nil, append_assoc}
 use Rattle.std.specs.Io.KnownBytes.{Appends}
 use Rattle.std.proofs.KnownBytes.{Appends-trans, Appends-nil}
 use Rattle.irig_device.specs.Watched.{AppendsPart}
@@ -12,7 +12,7 @@ use Rattle.irig_scene.specs.Scene.{Scene, events_of, play}
 use Rattle.irig_scene.specs.Scene.{after_events}
 use Rattle.irig_scene.proofs.PlayLaws.{one_time_more, split_at, times_left}
 use Rattle.irig_scene.specs.Texts.{Texts, said_in}
-use Rattle.irig_scene.specs.ListenerRuns.{SaidMore, SaidPart, PlayedFor, HoldsTextOf}
+use Rattle.irig_scene.specs.ListenerRuns.{SaidMore, SaidPart, PlayedFor, HoldsTextOf, max_held}
 use Rattle.irig_scene.proofs.PlayedLaws.{nothing_said, part_of_more, front_past, alike, goes_on, goes_on_to, stops_at}
 
 then_part : (o0 o1 o2 : Option (List ℕ)) (front text : List ℕ) → Appends o0 o1 front → AppendsPart o1 o2 text → AppendsPart o0 o2 (front ++ text)
@@ -23,6 +23,10 @@ then_part o0 o1 o2 front text h k =
       whole = ap (λ (t : List ℕ). front ++ t) k.whole ∙ sym (append_assoc front k.front k.rest);
       wrote = Appends-trans o0 o1 o2 front k.front h k.wrote;
     }
+
+-- a second may be played where nothing is yet to be written
+pub empty_has_room : (text : List ℕ) → text ≡ [] → length text < max_held
+empty_has_room text none = subst (λ (t : List ℕ). length t < max_held) (sym none) (omega arith)
 
 -- nothing of it was written
 pub none_written : (out : Option (List ℕ)) (text : List ℕ) → AppendsPart out out text

@@ -76,6 +76,10 @@ PlaysAsked stands_for t was events result is old new =
 abbrev pub text_in : {L P : Type 0} {g : Ghosts P} → Stage L P g → List ℕ
 text_in s = string_bytes s.text
 
+-- a second is played only while less bytes than these are yet to be written
+abbrev pub max_held : ℕ
+max_held = 8192
+
 -- and that of a player
 abbrev pub held_by : {L P : Type 0} {g : Ghosts P} → Player L P g → List ℕ
 held_by p = string_bytes p.stage.text

@@ -1,6 +1,6 @@
 -- What is written of a scenario in place of its log, by what is said of each of its events.
 -- Source: docs/OUTPUT.md and docs/SCENARIOS.md.
-use Rattle.std.specs.Prelude.{ℕ, List, [], ◌∷◌, ◌++◌, not, unwrap_or, Option, Some, None}
+use Rattle.std.specs.Prelude.{ℕ, Bool, if◌then◌else◌, List, [], ◌∷◌, ◌++◌, not, unwrap_or, Option, Some, None}
 use Rattle.std.specs.List.{find}
 use Rattle.irig_plant.specs.declared.event.Event.{Event}
 use Rattle.irig_log_text.specs.Text.{refusal_text}
@@ -15,6 +15,10 @@ pub record Texts : Type 0 where
   pub event : Plan → Event → List Event → List ℕ
   pub closing : Scene → List ℕ
   pub end : Scene → List ℕ
+
+-- what comes last: what is open, if a line is refused, and else what ends the text
+abbrev pub last_of : Texts → Bool → Scene → List ℕ
+last_of t refused x = if refused then t.closing x else t.end x
 
 -- the first line that is not blank: the plant line
 abbrev pub first_of : List (List ℕ) → List ℕ

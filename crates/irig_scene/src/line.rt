@@ -160,7 +160,7 @@ pub(crate) fn stop<L: Listener, P: Port, W: Write>(
 {
     match player {
         None => refuse(alloc, number, refusal, output),
-        Some(player) => match player.write_closing(alloc, asked, output) {
+        Some(player) => match player.write_last(alloc, asked, true, output) {
             Ok(()) => refuse(alloc, number, refusal, output),
             Err(failure) => SceneFault::from(failure),
         },
@@ -212,7 +212,7 @@ fn end<L: Listener, P: Port, W: Write>(
 {
     match player {
         None => Err(refuse(alloc, number, Refusal::NoPlant, output)),
-        Some(player) => match player.write_end(alloc, asked, output) {
+        Some(player) => match player.write_last(alloc, asked, false, output) {
             Ok(()) => Ok(Outcome {
                 lines: number - 1,
                 audit: player.audit(),

@@ -3,7 +3,7 @@
 ghost use Rattle.std.specs.Prelude.{◌≡◌, ◌++◌, [], ◌∷◌, ◌≤◌, ℕ, Bool, if◌then◌else◌, List, IfOk, OnOk, codes, length, string_bytes};
 ghost use Rattle.irig_log_text.specs.Text.{texts_of};
 ghost use Rattle.irig_scene.specs.Scene.{Scene, scene};
-ghost use Rattle.irig_scene.specs.Texts.{Texts};
+ghost use Rattle.irig_scene.specs.Texts.{Texts, last_of};
 ghost use Rattle.irig_scene.specs.Listening.{HasTaken, IsPlantOf, Names};
 
 use indexmap::IndexSet;
@@ -64,27 +64,17 @@ pub trait Listener: Drop {
             → HasTaken plant.now (keeps_told asked) (texts_of names.now.keys) event.now x
             → stands_for asked self.new (scene x.plan (event.now ∷ x.events))) };
 
-    /// Adds what is open where a line is refused.
-    fn push_closing<P: Port>(
+    /// Adds what comes last: what is open, if a line is refused, and else what ends the text.
+    fn push_last<P: Port>(
         &self,
         asked: Self::Asked,
         plant: &Plant<P>,
         names: &IndexSet<String>,
+        refused: bool,
         text: &mut String,
     ) -> Result<(), AllocError>
         ensures { OnOk result ((x : Scene) → stands_for asked self.now x
             → Names plant.now (texts_of names.now.keys) x
-            → string_bytes text.new ≡ string_bytes text.old ++ (texts asked).closing x) };
-
-    /// Adds what comes where the lines end without a refusal.
-    fn push_end<P: Port>(
-        &self,
-        asked: Self::Asked,
-        plant: &Plant<P>,
-        names: &IndexSet<String>,
-        text: &mut String,
-    ) -> Result<(), AllocError>
-        ensures { OnOk result ((x : Scene) → stands_for asked self.now x
-            → Names plant.now (texts_of names.now.keys) x
-            → string_bytes text.new ≡ string_bytes text.old ++ (texts asked).end x) };
+            → string_bytes text.new
+            ≡ string_bytes text.old ++ last_of (texts asked) refused x) };
 }

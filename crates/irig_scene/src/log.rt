@@ -77,23 +77,17 @@ impl Listener for Log {
         }
     }
 
-    fn push_closing<P: Port>(
-        &self,
-        _shown: Shown,
-        _plant: &Plant<P>,
-        _names: &IndexSet<String>,
-        _text: &mut String,
-    ) -> Result<(), AllocError> {
-        Ok(())
-    }
-
-    fn push_end<P: Port>(
+    fn push_last<P: Port>(
         &self,
         _shown: Shown,
         plant: &Plant<P>,
         names: &IndexSet<String>,
+        refused: bool,
         text: &mut String,
     ) -> Result<(), AllocError> {
+        if refused {
+            return Ok(());
+        }
         push_audit(text, names, plant.audit())
     }
 }

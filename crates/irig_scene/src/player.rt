@@ -1,11 +1,12 @@
 //! A plant that plays the events of lines, its listener, and the text that is yet to be written.
 
-ghost use Rattle.std.specs.Prelude.{◌≡◌, ◌≤◌, ◌∷◌, [], IfOk, IfErr, OnOk, length, string_bytes, ◌||◌, vec_len};
+ghost use Rattle.std.specs.Prelude.{◌≡◌, ◌↔◌, ◌<◌, ◌≤◌, ◌∷◌, [], false, IfOk, IfErr, OnOk, length, string_bytes, ◌||◌, vec_len};
 ghost use Rattle.irig_device.specs.Watched.{device_of, has_failed};
 ghost use Rattle.irig_scene.specs.declared.stop.Failure.TheVariants.{Memory};
 ghost use Rattle.irig_scene.specs.Faults.{WroteText, failed_write, stopped_write};
 ghost use Rattle.irig_scene.specs.Scene.{Scene};
-ghost use Rattle.irig_scene.specs.ListenerRuns.{Adds, IsStageAt, text_in};
+ghost use Rattle.irig_scene.specs.Texts.{last_of};
+ghost use Rattle.irig_scene.specs.ListenerRuns.{Adds, IsStageAt, max_held, text_in};
 
 use crate::listener::Listener;
 use crate::refused_line::RefusedLine;
@@ -21,8 +22,8 @@ use irig_scenario::{BuiltPlant, Command, EventReader, second_of};
 use std::alloc::Global;
 use std::io::Write;
 
-// So many bytes of text are written at once, though not past the second that says them.
-const MANY: usize = 8192;
+// A second is played only while less bytes than these are yet to be written.
+const MAX_HELD: usize = 8192;
 
 /// A plant, what reads the lines of its events, its listener, and what is yet to be written.
 #[derive(Drop)]
@@ -51,8 +52,11 @@ impl<L: Listener, P: Port> Stage<L, P> {
         }
     }
 
-    fn is_long(&self) -> bool {
-        self.text.len() >= MANY
+    // Whether the text has to be written before a second is played.
+    fn is_full(&self) -> bool
+        ensures { (result ≡ false) ↔ (length (text_in self.now) < max_held) }
+    {
+        self.text.len() >= MAX_HELD
     }
 
     // Writes the text, and lets it go.
@@ -72,12 +76,13 @@ impl<L: Listener, P: Port> Stage<L, P> {
     }
 }
 
-// Plays events one after another, up to one that is refused.
+// Plays the events of a second one after another, up to one that is refused.
 fn play_all<L: Listener, P: Port>(
     stage: &mut Stage<L, P>,
     asked: L::Asked,
     events: &[Event],
 ) -> Result<(), Stop>
+    requires room { length (text_in stage.old) < max_held }
     ensures { Adds (IsStageAt (L.stands_for asked) (L.keeps_told asked)) (L.texts asked)
         stage.old events.now result stage.new (text_in stage.old) (text_in stage.new) }
 {
@@ -95,7 +100,6 @@ pub(crate) struct Player<L, P: Port> {
 }
 
 impl<L: Listener, P: Port> Player<L, P> {
-    ghost use Rattle.std.specs.Prelude.{false};
     ghost use Rattle.irig_plant.specs.History.{AreGenerators, AreReaders};
     ghost use Rattle.irig_plant.specs.WholeSecond.{times};
     ghost use Rattle.irig_faults.specs.Refusals.{IsUnlessMemory};
@@ -161,18 +165,19 @@ impl<L: Listener, P: Port> Player<L, P> {
         self.stage.lines.event_of_line(alloc, line)
     }
 
-    /// Writes what is open where a line is refused.
-    pub(crate) fn write_closing<W: Write>(
+    /// Writes what comes last: what is open, if a line is refused, and else what ends the text.
+    pub(crate) fn write_last<W: Write>(
         &self,
         alloc: Global,
         asked: L::Asked,
+        refused: bool,
         output: &mut Watched<W>,
     ) -> Result<(), Failure>
         ensures wrote { (x : Scene)
             → IsPlayerAt (L.stands_for asked) (L.keeps_told asked) self.now x
             → WroteText result
             (W.contents (device_of output.old)) (W.contents (device_of output.new))
-            ((L.texts asked).closing x) }
+            (last_of (L.texts asked) refused x) }
         ensures note { has_failed output.new ≡ (has_failed output.old || failed_write result) }
     {
         let Stage {
@@ -183,37 +188,7 @@ impl<L: Listener, P: Port> Player<L, P> {
         } = &self.stage;
         let mut text = String::new(alloc);
         if listener
-            .push_closing(asked, plant.plant(), lines.names(), &mut text)
-            .is_err()
-        {
-            return Err(Failure::Memory);
-        }
-        write_text(output, text.as_str())
-    }
-
-    /// Writes what comes where the lines end without a refusal.
-    pub(crate) fn write_end<W: Write>(
-        &self,
-        alloc: Global,
-        asked: L::Asked,
-        output: &mut Watched<W>,
-    ) -> Result<(), Failure>
-        ensures wrote { (x : Scene)
-            → IsPlayerAt (L.stands_for asked) (L.keeps_told asked) self.now x
-            → WroteText result
-            (W.contents (device_of output.old)) (W.contents (device_of output.new))
-            ((L.texts asked).end x) }
-        ensures note { has_failed output.new ≡ (has_failed output.old || failed_write result) }
-    {
-        let Stage {
-            listener,
-            plant,
-            lines,
-            ..
-        } = &self.stage;
-        let mut text = String::new(alloc);
-        if listener
-            .push_end(asked, plant.plant(), lines.names(), &mut text)
+            .push_last(asked, plant.plant(), lines.names(), refused, &mut text)
             .is_err()
         {
             return Err(Failure::Memory);
@@ -308,7 +283,7 @@ impl<L: Listener, P: Port> Player<L, P> {
                 }
                 Err(Stop::Failed(failure)) => return Err(Stop::Failed(failure)),
             }
-            if self.stage.is_long() {
+            if self.stage.is_full() {
                 self.stage.write(output)?;
             }
         }

@@ -11,8 +11,12 @@ use Rattle.irig_scene.specs.declared.fault.SceneFault.TheVariants.{Refused, Read
 use Rattle.irig_log_text.specs.declared.shown.Shown.{Shown}
 use Rattle.irig_scene.specs.Run.{RanShown}
 use Rattle.irig_scene.specs.Scene.{output_shown}
-use Rattle.irig_scene.proofs.StepLaws.{IsFront}
 use Rattle.irig_scene_c.specs.Runs.{IsRun, written_over}
+
+-- a text begins with another
+pub record IsFront (front whole : List ℕ) : Type 0 where
+  pub rest : List ℕ
+  pub is : whole ≡ front ++ rest
 
 all_of : (front whole : List ℕ) → front ≡ whole → IsFront front whole
 all_of front whole e = record { rest = []; is = sym e ∙ sym (append-nil front) }

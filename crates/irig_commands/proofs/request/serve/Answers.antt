@@ -19,28 +19,9 @@ not_of_run (Err Write) h = elim h [ inl e ↦ absurd cc | inr e ↦ absurd cc ]
 not_of_run (Err Memory) h = elim h [ inl e ↦ absurd cc | inr e ↦ absurd cc ]
 
 pub returns-in-Plain-clause-served : goal.returns-in-Plain-clause-served
-returns-in-Plain-clause-served g c = rw c.in-Plain.is c.run_input.ensures.ran
-
-pub returns-in-Input-clause-served : goal.returns-in-Input-clause-served
-returns-in-Input-clause-served g c = rw c.in-Input.is c.run_input-in-Input.ensures.ran
-
-pub returns-in-Run-clause-served : goal.returns-in-Run-clause-served
-returns-in-Run-clause-served g c = rw c.in-Run.is c.run_file.ensures.ran
+returns-in-Plain-clause-served g c = rw c.in-Plain.is c.play_input.ensures.played
 
 pub returns-in-Plain-clause-unwritten : goal.returns-in-Plain-clause-unwritten
 returns-in-Plain-clause-unwritten g c = λ h.
-    let ran = c.run_input.ensures.ran in
-    absurd (not_of_run ran.run (subst NamesNothing ran.answered h))
-
-pub returns-in-Input-clause-unwritten : goal.returns-in-Input-clause-unwritten
-returns-in-Input-clause-unwritten g c = λ h.
-    let ran = c.run_input-in-Input.ensures.ran in
-    absurd (not_of_run ran.run (subst NamesNothing ran.answered h))
-
-pub returns-in-Run-clause-unwritten : goal.returns-in-Run-clause-unwritten
-returns-in-Run-clause-unwritten g c = λ h.
-    elim c.run_file.ensures.ran [
-      | inl r ↦ absurd (not_of_run r.3.run (subst NamesNothing r.3.answered h))
-      | inr (inl r) ↦ elim h [ inl e ↦ absurd (cc r.1.0) | inr e ↦ absurd (cc r.1.0) ]
-      | inr (inr r) ↦ elim h [ inl e ↦ absurd (cc r.0) | inr e ↦ absurd (cc r.0) ]
-    ]
+    let played = c.play_input.ensures.played in
+    absurd (not_of_run played.run (subst NamesNothing played.answered h))

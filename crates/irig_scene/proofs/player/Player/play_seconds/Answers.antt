@@ -4,15 +4,16 @@ use Rattle.irig_device.specs.Watched.{device_of}
 use Rattle.irig_plant.specs.WholeSecond.{times}
 use Rattle.irig_scene.specs.Scene.{second_in}
 use Rattle.irig_scene.specs.ListenerRuns.{IsStageAt, IsPlayerAt, HoldsTextOf, held_by}
-use Rattle.irig_scene.proofs.HeldText.{none_written, none_held, held_fails, second_is_cut, refused_written, one_more_held, held_is_written, all_written}
+use Rattle.irig_scene.proofs.HeldText.{empty_has_room, none_written, none_held, held_fails, second_is_cut, refused_written, one_more_held, held_is_written, all_written}
 use Rattle.irig_scene.proofs.PlayerLaws.{other_player, second_plays, refused_adds}
-use Rattle.irig_scene.proofs.player.Player.play_seconds.Goals.{then-is_long+in_ok-write, else-is_long}
+use Rattle.irig_scene.proofs.player.Player.play_seconds.Goals.{then-is_full+in_ok-write, else-is_full}
 use Rattle.irig_scene.proofs.player.Player.play_seconds.Goals as goal
 
 pub loop-init : goal.loop-init
 loop-init g c = (
   search rules,
   λ x at. none_held (IsPlayerAt {g = g.P.Port} (g.L.Listener.stands_for c.args.asked) (g.L.Listener.keeps_told c.args.asked)) (g.L.Listener.texts c.args.asked) x (second_in x.plan) _ _ _ c.clear.ensures.bytes at,
+  empty_has_room _ c.clear.ensures.bytes,
 )
 
 pub returns-in_err-write-in-Err-Refused-clause-plays : goal.returns-in_err-write-in-Err-Refused-clause-plays
@@ -79,12 +80,16 @@ loop-preserved g c = (
       let d = record b { stage = c.play_all.new.stage } in
       let held = one_more_held (IsPlayerAt {g = g.P.Port} sf keeps) texts x c.loop.counter (second_in x.plan) b d _ _ _ _ was
       (second_plays {g = g.P.Port} sf keeps texts x c.loop.counter b d None _ _ _ refl c.deref.ensures.value was c.in-Ok.ensures) in
-      elim c.if-is_long.branch [
-        | then-is_long+in_ok-write w ↦ rw (w.self-is, w.output-is)
+      elim c.if-is_full.branch [
+        | then-is_full+in_ok-write w ↦ rw (w.self-is, w.output-is)
             (held_is_written (IsPlayerAt {g = g.P.Port} sf keeps) texts x (times (c.loop.counter + 1) (second_in x.plan)) d _ _ _ _ _ _ held w.in_ok-write.ensures.wrote w.in_ok-write.ensures.empty
             (λ y h. other_player {g = g.P.Port} sf keeps _ d refl w.in_ok-write.ensures.listener w.in_ok-write.ensures.plant w.in_ok-write.ensures.lines y h))
-        | else-is_long w ↦ rw (w.self-is, w.output-is) held
+        | else-is_full w ↦ rw (w.self-is, w.output-is) held
       ],
+  elim c.if-is_full.branch [
+    | then-is_full+in_ok-write w ↦ rw w.self-is (empty_has_room _ w.in_ok-write.ensures.empty)
+    | else-is_full w ↦ rw w.self-is (w.is_full.ensures.0 refl)
+  ],
 )
 
 pub returns-in_err-write-2-clause-plays : goal.returns-in_err-write-2-clause-plays

@@ -1,0 +1,128 @@
+"""What is measured of the pages: their sentences, the runs of words that two pages share, and the crates
+that they name."""
+from __future__ import annotations
+
+import re
+from collections.abc import Iterator
+
+from made import without_made
+
+# A sentence has at most so many words, but for a few of all pages.
+LONGEST = 35
+MAY_BE_LONG = 10
+# Two pages that have as many words in a row say the same.
+RUN = 7
+
+BULLET = re.compile(r"^( *)(?:([-*>]|\d+\.) +)?")
+CELL_END = re.compile(r"(?<!\\)\|")
+# Where a sentence ends: marks of emphasis and brackets may stand behind its full stop.
+SENTENCE_END = re.compile(r"(?<=[.?!])[\"')*_]*\s+")
+WORD = re.compile(r"\w(?:[\w'./-]*\w)?")
+PRODUCT = re.compile(r"^(irig_(?!uses\b)\w+)(?: staticlib)?:", re.MULTILINE)
+CRATE = re.compile(r"^(\w+)(?: staticlib)?:", re.MULTILINE)
+USES = re.compile(r"^(\w+)(?: staticlib)?:(.*)", re.MULTILINE)
+CRATES = re.compile(r"\birig_\w+")
+NAME = re.compile(r"`[^`]*`|\b(irig_[a-z]\w*)\b")
+
+
+def mark_of(line: str) -> str | None:
+    """The mark with which an item of a list or a quotation begins."""
+    match = BULLET.match(line)
+    return match.group(2) if match else None
+
+
+def blocks(text: str) -> Iterator[tuple[bool, list[str]]]:
+    """Runs of lines: (is prose, lines). Tables, headings, code and blank lines are none."""
+    is_fenced = False
+    run: list[str] = []
+    for line in text.splitlines():
+        is_fence = line.startswith("```")
+        is_fenced ^= is_fence
+        is_code = line.startswith("    ") and not (run and mark_of(run[0]))
+        is_prose = not (is_fenced or is_fence or is_code or not line.strip() or line[0] in "|#")
+        starts = mark_of(line) is not None and not (run and line.startswith("> "))
+        if run and (starts or not is_prose):
+            yield True, run
+            run = []
+        if is_prose:
+            run.append(line)
+        else:
+            yield False, [line]
+    if run:
+        yield True, run
+
+
+def passages(text: str) -> Iterator[str]:
+    """The paragraphs, items and cells of tables that were written by hand, without marks."""
+    for is_prose, lines in blocks(without_made(text)):
+        if is_prose:
+            yield BULLET.sub("", " ".join(line.strip().removeprefix("> ") for line in lines), count=1)
+        elif lines[0].startswith("|"):
+            yield from (cell.strip() for cell in CELL_END.split(lines[0]) if cell.strip("-: "))
+
+
+def sentences(text: str) -> Iterator[str]:
+    """The sentences of a page. Code counts as one word."""
+    for passage in passages(text):
+        plain = re.sub(r"`[^`]*`", "code", passage).replace("**", "")
+        yield from (sentence for sentence in SENTENCE_END.split(plain) if sentence)
+
+
+def words_in(text: str) -> list[str]:
+    return WORD.findall(text)
+
+
+def long_sentences(text: str) -> list[str]:
+    """Those with more than LONGEST words."""
+    return [sentence for sentence in sentences(text) if len(words_in(sentence)) > LONGEST]
+
+
+def runs_in(text: str) -> set[tuple[str, ...]]:
+    """The runs of RUN words of a page."""
+    found: set[tuple[str, ...]] = set()
+    for passage in passages(text):
+        words = [word.lower() for word in words_in(passage)]
+        found.update(tuple(words[at : at + RUN]) for at in range(len(words) - RUN + 1))
+    return found
+
+
+def shared_runs(texts: dict[str, str]) -> dict[str, list[str]]:
+    """The runs of words that two pages or more have, and the names of these pages."""
+    found: dict[str, list[str]] = {}
+    for name, text in texts.items():
+        for run in runs_in(text):
+            found.setdefault(" ".join(run), []).append(name)
+    return {run: names for run, names in sorted(found.items()) if len(names) > 1}
+
+
+def mapped_crates(page: str) -> list[str]:
+    """The crates in the map of a page, in its order."""
+    drawing = page.partition("## The crates")[2].partition("\n## ")[0]
+    return [name for line in drawing.splitlines() if line.startswith("    ") for name in CRATES.findall(line)]
+
+
+def missing_crates(crates: str, page: str) -> list[str]:
+    """The crates of the product, by crates.txt, that the map of crates does not name."""
+    mapped = mapped_crates(page)
+    return [name for name in PRODUCT.findall(crates) if name not in mapped]
+
+
+def misplaced_crates(crates: str, page: str) -> list[str]:
+    """Pairs of a crate and one that it uses, by crates.txt, which the map does not have after it."""
+    mapped = mapped_crates(page)
+    uses = [(name, used) for name, rest in USES.findall(crates) for used in rest.split()]
+    known = [(name, used) for name, used in uses if name in mapped and used in mapped]
+    return [f"{name}, {used}" for name, used in known if mapped.index(used) < mapped.index(name)]
+
+
+def drawn_crates(text: str) -> list[str]:
+    """The crates in the drawings of a page: lines of code with an arrow, and the map of crates."""
+    lines = [line for line in text.splitlines() if line.startswith("    ") and "─►" in line]
+    return [name for line in lines for name in CRATES.findall(line)] + mapped_crates(text)
+
+
+def gone_crates(crates: str, text: str) -> list[str]:
+    """The names of crates in a page that crates.txt does not have. One without marks of code is a crate's."""
+    known = CRATE.findall(crates)
+    told = [name for name in NAME.findall(" ".join(passages(text))) if name]
+    return [name for name in told + drawn_crates(text) if name not in known]
