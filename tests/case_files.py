@@ -86,6 +86,16 @@ def all_cases() -> list[Case]:
     return [*cases(), *examples()]
 
 
+def scenarios(statuses: tuple[int, ...] = (0, 3)) -> dict[str, bytes]:
+    """The scenarios of cases and examples that end with these, by their names."""
+    found = {}
+    for case in all_cases():
+        path = case.scenario or (case.input if case.words[:1] != [b"read"] else NOTHING)
+        if path != NOTHING and case.status in statuses:
+            found[case.name] = (ROOT / path).read_bytes()
+    return found
+
+
 def over_whole_ports(case: Case) -> Case | None:
     """The same for test_whole_port, which runs what it is given and takes no more words than --all;
     none where a case is of something else."""

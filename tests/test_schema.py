@@ -1,7 +1,7 @@
 #!/usr/bin/env python3
-"""Tests of docs/scenario.schema.json: the lines of every case and example, the limits that
-docs/SCENARIOS.md has, and lines that are changed at one place, of which the program that was built
-says if they are refused."""
+"""Tests of docs/scenario.schema.json by the validator of Python's jsonschema: the lines of every case
+and example, the limits that docs/SCENARIOS.md has, and lines that are changed at one place, of which
+the program that was built says if they are refused."""
 import json
 import re
 import subprocess
@@ -10,6 +10,11 @@ from collections.abc import Iterator
 from pathlib import Path
 
 from case_files import NOTHING, ROOT, all_cases
+
+try:
+    from jsonschema import Draft202012Validator
+except ImportError:
+    Draft202012Validator = None
 
 PROGRAM = ROOT / "crates/irig_main/out/irig_main"
 SCHEMA = json.loads((ROOT / "docs/scenario.schema.json").read_text())
@@ -42,86 +47,33 @@ UNSAID_NUMBERS = {11, 13, 16, 19, 20, 21, 22, 28, 33, 34}
 # Refusals of a line that has no JSON value of its own.
 NO_VALUE = {23, 24, 29, 30}
 
-
-# ---- the part of JSON Schema that the schema uses
-
-TYPES = {
-    "object": dict, "array": list, "string": str, "boolean": bool, "integer": int, "null": type(None),
-}
-NOTES = {"$schema", "$defs", "title", "description", "patternErrorMessage"}
+# Keywords of which a validator has no function of their own.
+NOTES = {"$schema", "$defs", "title", "description", "patternErrorMessage", "then", "else"}
 
 
-def defined(reference: str) -> dict:
-    return SCHEMA["$defs"][reference.removeprefix("#/$defs/")]
+def setUpModule() -> None:
+    if Draft202012Validator is None:
+        print("skipped: the schema of a scenario; Debian's package python3-jsonschema is missing")
+        raise unittest.SkipTest("no jsonschema")
 
 
-def is_type(name: str, value: object) -> bool:
-    if name == "integer" and isinstance(value, float):
-        return value.is_integer()
-    return isinstance(value, TYPES[name]) and not (name == "integer" and isinstance(value, bool))
+def accepts(value: object) -> bool:
+    return Draft202012Validator(SCHEMA).is_valid(value)
+
+
+def parts_of(schema: object) -> Iterator[dict]:
+    """A schema and each schema in it."""
+    if isinstance(schema, list):
+        for part in schema:
+            yield from parts_of(part)
+    elif isinstance(schema, dict):
+        yield schema
+        for key, value in schema.items():
+            yield from parts_of(list(value.values()) if key in ("properties", "$defs") else value)
 
 
 def is_same(value: object, other: object) -> bool:
     return value == other and isinstance(value, bool) == isinstance(other, bool)
-
-
-def is_number(value: object) -> bool:
-    return isinstance(value, (int, float)) and not isinstance(value, bool)
-
-
-def accepts(schema: dict | bool, value: object) -> bool:
-    """Whether a schema, or a part of it, accepts a value."""
-    if isinstance(schema, bool):
-        return schema
-    return all(keeps(schema, key, value) for key in schema.keys() - NOTES)
-
-
-def keeps(schema: dict, key: str, value: object) -> bool:
-    """Whether a value is as one keyword of a schema wants it."""
-    wanted = schema[key]
-    match key:
-        case "$ref":
-            return accepts(defined(wanted), value)
-        case "type":
-            return is_type(wanted, value)
-        case "enum":
-            return any(is_same(value, one) for one in wanted)
-        case "const":
-            return is_same(value, wanted)
-        case "allOf":
-            return all(accepts(part, value) for part in wanted)
-        case "anyOf":
-            return any(accepts(part, value) for part in wanted)
-        case "not":
-            return not accepts(wanted, value)
-        case "if":
-            return accepts(schema.get("then" if accepts(wanted, value) else "else", True), value)
-        case "then" | "else":
-            return True  # `if` has asked
-        case "minimum" | "maximum":
-            return not is_number(value) or (value >= wanted if key == "minimum" else value <= wanted)
-        case "pattern":  # `$` is the end of a text in a schema, and in Python an end of a line too
-            return not isinstance(value, str) or bool(re.search(wanted.replace("$", r"\Z"), value))
-        case "items" | "minItems" | "maxItems":
-            return not isinstance(value, list) or keeps_of_list(key, wanted, value)
-        case "properties" | "required" | "additionalProperties":
-            return not isinstance(value, dict) or keeps_of_object(schema, key, value)
-    raise ValueError(f"the schema has a keyword that this test does not know: {key}")
-
-
-def keeps_of_list(key: str, wanted: dict | int, value: list) -> bool:
-    if key == "items":
-        return all(accepts(wanted, item) for item in value)
-    return len(value) >= wanted if key == "minItems" else len(value) <= wanted
-
-
-def keeps_of_object(schema: dict, key: str, value: dict) -> bool:
-    if key == "required":
-        return all(name in value for name in schema[key])
-    named = schema.get("properties", {})
-    if key == "properties":
-        return all(accepts(part, value[name]) for name, part in named.items() if name in value)
-    return all(accepts(schema[key], item) for name, item in value.items() if name not in named)
 
 
 # ---- lines
@@ -221,7 +173,7 @@ class Schema(unittest.TestCase):
         for number, line in lines_of(path):
             if number == last and reason in NO_VALUE:
                 break
-            is_accepted = accepts(SCHEMA, json.loads(line))
+            is_accepted = accepts(json.loads(line))
             wanted = number != last or path.parent.name in UNSAID_CASES
             self.assertEqual(is_accepted, wanted, f"{path}, line {number}: {line[:500]!r}")
             judged += 1
@@ -245,7 +197,7 @@ class Schema(unittest.TestCase):
                 elif line is ZONES:
                     value = plant(generators=[value] * 3)
                 with self.subTest(key, number=number):
-                    self.assertEqual(accepts(SCHEMA, value), least <= number <= most)
+                    self.assertEqual(accepts(value), least <= number <= most)
 
     def test_lengths_of_the_page(self) -> None:
         leap, change, reader = LEAPS[0], ZONES["changes"][0], plant()["readers"][0]
@@ -261,36 +213,36 @@ class Schema(unittest.TestCase):
             (16, lambda n: plant(readers=[{**reader, "name": "r" * n}])),
             (1000, lambda n: {**EVENTS[5], "widths": [2000] * n}),
         ):
-            self.assertTrue(accepts(SCHEMA, line(most)), most)
-            self.assertFalse(accepts(SCHEMA, line(most + 1)), most + 1)
+            self.assertTrue(accepts(line(most)), most)
+            self.assertFalse(accepts(line(most + 1)), most + 1)
 
     def test_versions(self) -> None:
         table = {"readers": [{**plant()["readers"][0], "table": TABLE}]}
         five = {"generators": [{"local": 0}] * 5}
         for keys, versions in (({}, {1, 2, 3}), (table, {2, 3}), (five, {3})):
             for version in range(5):
-                self.assertEqual(accepts(SCHEMA, plant(version, **keys)), version in versions)
+                self.assertEqual(accepts(plant(version, **keys)), version in versions)
 
     def test_each_key_has_a_description(self) -> None:
-        def look(part: object) -> None:
-            if isinstance(part, dict) and part.get("additionalProperties") is False:
-                for name, item in part["properties"].items():
+        for part in parts_of(SCHEMA):
+            for name, item in part.get("properties", {}).items():
+                if part.get("additionalProperties") is False and name not in ("do", "kind"):
                     with self.subTest(name):
-                        self.assertTrue(name in ("do", "kind") or is_told(item))
-            if isinstance(part, (dict, list)):
-                for item in part.values() if isinstance(part, dict) else part:
-                    look(item)
+                        defined = SCHEMA["$defs"].get(item.get("$ref", "").removeprefix("#/$defs/"), {})
+                        self.assertIn("description", {**defined, **item})
 
-        def is_told(part: dict) -> bool:
-            return "description" in part or is_told(defined(part["$ref"]))
-
-        look(SCHEMA)
+    def test_keywords(self) -> None:
+        """A validator passes over a keyword that it does not know."""
+        Draft202012Validator.check_schema(SCHEMA)
+        known = {*Draft202012Validator.VALIDATORS, *NOTES}
+        for part in parts_of(SCHEMA):
+            self.assertLessEqual(part.keys(), known)
 
     def test_changed_lines(self) -> None:
         counts = {True: 0, False: 0}
         for first, lines in (([], [RICH, plant(1), plant(2)]), ([RICH], EVENTS)):
             for value in (other for line in lines for other in [line, *changed(line)]):
-                number, is_accepted = refused([*first, value]), accepts(SCHEMA, value)
+                number, is_accepted = refused([*first, value]), accepts(value)
                 if is_accepted:
                     self.assertIn(number, {None, *UNSAID_NUMBERS}, json.dumps(value))
                 elif first and isinstance(value, dict) and "do" not in value:

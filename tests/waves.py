@@ -1,28 +1,19 @@
 #!/usr/bin/env python3
-"""Plays a scenario to the wires of its first reader: a row for each change of level, as
-`time_us level level level`, for c/examples/capture_bench.c. Five generators make five levels. With
---vcd it is a value change dump, which sigrok-cli, PulseView and others read.
+"""The waves of a scenario: what comes to the lines of its first reader. Tests compare with them what the
+tools make, and what a log says.
 
 Frames and generators are written anew here, by docs/FRAME.md and docs/SCENARIOS.md, so that a log
 made of these waves owes nothing to the program's. Each second has its pulses at 10 ms from its edge
 on, and the first edge comes after 50 ms. A restart is no matter of wires, and left out.
 
-    tests/waves.py SCENARIO [--late US,US,US] [--pull LINE,FROM_MS,TO_MS] [--line LINE] [--vcd]
-    tests/waves.py SCENARIO --words
-
---late: by how much the pulses of each line come later; --pull: the cable of a line is pulled out
-then, and plugged in again; --line: that line alone, for a reader of one port; --vcd: a value change
-dump; --words: prints how the reader is set up, as the bench takes it."""
+    tests/waves.py SCENARIO     how its first reader is set up, as c/examples/capture_bench.c takes it"""
 from __future__ import annotations
 
-import argparse
 import json
-import os
 import sys
 from collections.abc import Iterable, Iterator, Sequence
 from dataclasses import dataclass, field, replace
 from datetime import date, timedelta
-from pathlib import Path
 
 EPOCH = date(2000, 1, 1)
 LAST_DAY = 36523
@@ -260,36 +251,14 @@ def pulled(changes: Iterable[tuple[int, int, int]], line: int, begin: int, end: 
         if of == line:
             if not is_out and begin <= time < end:
                 is_out = True
-                yield begin, line, 0
+                yield from [(begin, line, 0)] * level
             if is_out and time >= end:
                 is_out = False
-                yield end, line, level
+                yield from [(end, line, 1)] * level
             level = to
             if is_out:
                 continue
         yield time, of, to
-
-
-def rows_of(changes: Iterable[tuple[int, int, int]], lines: Sequence[int]) -> Iterator[list[int]]:
-    """The time of each change of these lines, and their levels from then on."""
-    levels = dict.fromkeys(lines, 0)
-    for time, line, level in changes:
-        if levels.get(line, level) != level:
-            levels[line] = level
-            yield [time, *levels.values()]
-
-
-def dump_of(rows: Sequence[Sequence[int]], lines: Sequence[int]) -> Iterator[str]:
-    """The lines of a value change dump of levels. Its unit is as coarse as they allow, since sigrok
-    takes a sample each unit."""
-    levels_at = {0: [0] * len(lines)} | {time: levels for time, *levels in rows}
-    unit = next(unit for unit in (100, 10, 1) if not any(time % unit for time in levels_at))
-    yield f"$timescale {unit} us $end"
-    yield from (f"$var wire 1 {line} LINE{line} $end" for line in lines)
-    yield "$enddefinitions $end"
-    for time, levels in levels_at.items():
-        values = (f"{level}{line}" for line, level in zip(lines, levels))
-        yield f"#{time // unit} {' '.join(values)}"
 
 
 def words_of(plant: dict) -> str:
@@ -302,49 +271,6 @@ def words_of(plant: dict) -> str:
     return " ".join(map(str, words))
 
 
-def main() -> None:
-    words = argparse.ArgumentParser(description=__doc__, formatter_class=argparse.RawDescriptionHelpFormatter)
-    words.add_argument("scenario", type=Path, metavar="SCENARIO")
-    words.add_argument("--late", metavar="US,US,US", default="0,0,0,0,0")
-    words.add_argument("--pull", metavar="LINE,FROM_MS,TO_MS")
-    words.add_argument("--line", metavar="LINE", type=int)
-    words.add_argument("--vcd", action="store_true")
-    words.add_argument("--words", action="store_true")
-    told = words.parse_args()
-    late = [int(word) for word in told.late.split(",")]
-    lines = told.scenario.read_text().splitlines()
-    plant = json.loads(lines[0])
-    count = len(plant["generators"])
-    if len(late) < count:
-        words.error(f"--late wants {count} times, one for each line")
-    if told.words:
-        print(words_of(plant))
-        return
-    seconds = list(seconds_of(lines))
-    changes: Iterable[tuple[int, int, int]] = sorted(
-        change
-        for number, second in enumerate(seconds)
-        for change in changes_of(number, second, late)
-    )
-    if told.pull:
-        line, begin, end = (int(word) for word in told.pull.split(","))
-        if line >= count:
-            words.error(f"--pull names line {line}; there are 0 to {count - 1}")
-        changes = sorted(pulled(changes, line, begin * 1000, end * 1000))
-    if told.line not in (None, *range(count)):
-        words.error(f"--line names line {told.line}; there are 0 to {count - 1}")
-    lines = [line for line in range(count) if told.line in (None, line)]
-    rows = list(rows_of(changes, lines))
-    # The lines stay as they are until the last tick has come, as late as it may.
-    end = FIRST_EDGE_US + len(seconds) * SECOND_US + ELEMENT_US + max(late)
-    rows.append([end, *(rows[-1][1:] if rows else [0] * len(lines))])
-    for text in dump_of(rows, lines) if told.vcd else (" ".join(map(str, row)) for row in rows):
-        print(text)
-
-
 if __name__ == "__main__":
-    try:
-        main()
-        sys.stdout.flush()
-    except BrokenPipeError:  # whoever reads has enough
-        os.dup2(os.open(os.devnull, os.O_WRONLY), sys.stdout.fileno())
+    with open(sys.argv[1]) as scenario:
+        print(words_of(json.loads(next(line for line in scenario if line.strip()))))

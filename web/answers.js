@@ -9,16 +9,9 @@ async function hash_of(bytes) {
   return Array.from(digest, (byte) => byte.toString(16).padStart(2, "0")).join("");
 }
 
-// How the page stood each reader, as tools/parts/log_lanes.py and tools/view have it.
-function lanes_of({ lanes, causes, first, last, verdict }) {
-  const runs_of = ({ firsts, lasts, states, causes: of_runs }) =>
-    Array.from(firsts, (from, place) => [from, lasts[place], states[place], causes[of_runs[place]]]);
-  const ticks_of = ({ ends, makers }) => Array.from(ends, (edge, place) => [edge, makers[place] + 1]);
-  const ports_of = ({ ports }) =>
-    ports.map((runs) => Array.from(runs.firsts, (from, place) => [from, runs.lasts[place], runs.states[place]]));
-  const shown = lanes.map((lane) => [lane.reader, runs_of(lane), lane.marks, ports_of(lane), ticks_of(lane)]);
-  return { lanes: shown, first, last, verdict };
-}
+// Which lines made the edges of each reader.
+const edges_of = ({ lanes }) => Object.fromEntries(lanes.map(({ reader, ends, makers }) =>
+  [reader, Array.from(ends, (edge, place) => [edge, makers[place] + 1])]));
 
 function frame_of({ time, ...wanted }, { codec, frame_text }) {
   const symbols = codec.frame(time, wanted);
@@ -37,7 +30,7 @@ async function answer_of(request, calls) {
   const result = await calls.run(bytes_of(request.text), request.shown), why = result.refusal;
   const reason = why && `line ${why.line}: ${why.number}: ${why.reason}`;
   const answer = [result.status, await hash_of(result.log), reason];
-  return request.lanes ? [...answer, lanes_of(result)] : answer;
+  return request.edges ? [...answer, edges_of(result)] : answer;
 }
 
 async function answers_of(requests, calls) {

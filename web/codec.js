@@ -15,7 +15,7 @@ class Codec {
     this.view = new DataView(memory.buffer);
     let place = Math.ceil(Number(this.calls.__heap_base.value) / 16) * 16;
     const sizes = {
-      symbols: 112, coded: 16, control: 16, word: 16, second: 16, text: 64, setup: 16, table: 528,
+      symbols: 112, coded: 16, control: 16, second: 16, text: 64, setup: 16, table: 528,
       reader: 720, told: 32,
     };
     for (const [name, size] of Object.entries(sizes)) {
@@ -46,15 +46,9 @@ class Codec {
     if (!this.second_of(text)) return null;
     const control = [pending !== "", pending === "delete", dst_pending, dst, -local, quality];
     new Int8Array(this.view.buffer, this.control, 6).set(control.map(Number));
-    const answers = [
-      this.ask("coded_of", this.at("second"), local, this.at("coded")),
-      this.ask("control_pack", this.at("control"), this.at("word")),
-    ];
-    this.view.setUint32(this.coded + 8, this.view.getUint32(this.word, true), true);
-    answers.push(this.ask("encode", this.at("coded"), this.at("symbols")));
-    if (answers.some((answer) => answer)) return null;
-    this.ask("set_parity", this.at("symbols"), Number(is_odd));
-    return [...this.bytes("symbols", 100)];
+    const places = [this.at("control"), Number(is_odd), this.at("symbols")];
+    const answer = this.ask("frame_of", this.at("second"), local, ...places);
+    return answer ? null : [...this.bytes("symbols", 100)];
   }
 
   // What symbols, 101 at most, read as: numbers of the coded time, or its first fault.

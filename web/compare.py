@@ -1,7 +1,7 @@
 #!/usr/bin/env python3
 """Compares the page with the program, `compare.py PAGE PROGRAM`: in node and in Chromium, status and bytes
-of each case and example, of 3,000 scenarios made at random, and frames that are made and read. How the page
-stands the readers is compared with tools/parts/log_lanes.py and irig.scenarios."""
+of each case and example, of 3,000 scenarios made at random, and frames that are made and read. Which
+lines made a reader's edges is compared with irig.scenarios; tools/tests/test_reading.py has the rest."""
 from __future__ import annotations
 
 import base64
@@ -21,13 +21,11 @@ sys.path.insert(0, str(WEB.parent / "tools/tests"))
 import browser  # noqa: E402
 from loading import ROOT, loaded  # noqa: E402
 from case_files import NOTHING, all_cases  # noqa: E402
-from parts.log_lanes import PORT_STATES, STATES, bars_of  # noqa: E402
 from irig.scenarios import made_edges  # noqa: E402
 
 BY_CHANCE, FRAMES = 3000, 400
 MOST_SECONDS = 5_000  # of a scenario made at random, so that all end soon
 BATCH = 100
-NAMES, KINDS = list(STATES), list(PORT_STATES)
 LETTERS = "01P?"
 REFUSED = 3
 RULES = ("even", "odd"), ("add", "subtract"), ("check", "ignore")  # by their numbers
@@ -44,9 +42,9 @@ def ran(program: Path, *words: str, text: bytes = b"") -> tuple[int, bytes, str]
     return done.returncode, done.stdout, done.stderr.decode()
 
 
-def scenario(text: bytes, has_all: bool, has_ports: bool, has_lanes: bool) -> dict:
+def scenario(text: bytes, has_all: bool, has_ports: bool, has_edges: bool) -> dict:
     shown = {"all": has_all, "ports": has_ports}
-    return {"text": base64.b64encode(text).decode(), "shown": shown, "lanes": has_lanes}
+    return {"text": base64.b64encode(text).decode(), "shown": shown, "edges": has_edges}
 
 
 def told_scenario(program: Path, request: dict) -> list:
@@ -55,28 +53,13 @@ def told_scenario(program: Path, request: dict) -> list:
     status, log, why = ran(program, "run", "-", *options, text=text)
     reason = re.sub(r"^(line \d+: \d+) \w+:", r"\1:", why.partition("\n")[0]) if status == REFUSED else None
     answer = [status, hashlib.sha256(log).hexdigest(), reason]
-    return [*answer, lanes_of(text.decode(errors="replace"), log.decode())] if request["lanes"] else answer
+    return [*answer, edges_of(text.decode(errors="replace"), log.decode())] if request["edges"] else answer
 
 
-def lanes_of(text: str, log: str) -> dict:
-    """How the readers stood, by the tools; nothing where there is nothing to draw."""
-    lines = log.splitlines()
-    verdict = lines[-1] if lines and lines[-1][:1].isalpha() else None
-    if lines in ([], [verdict]):
-        return {"lanes": [], "first": 1, "last": 1, "verdict": verdict}
-    bars = bars_of(lines)
-    ticks = made_edges(text.split("\n"), [lane.reader for lane in bars.lanes])
-    lanes = [
-        [
-            lane.reader,
-            [[run.first, run.last, NAMES.index(run.state), run.cause] for run in lane.runs],
-            [[mark.at, mark.kind] for mark in lane.marks],
-            [[[run.first, run.last, KINDS.index(run.state)] for run in runs] for runs in lane.ports],
-            ticks[lane.reader],
-        ]
-        for lane in bars.lanes
-    ]
-    return {"lanes": lanes, "first": bars.first, "last": bars.last, "verdict": verdict}
+def edges_of(text: str, log: str) -> dict:
+    """Which lines made the edges of each reader in a log, by the Python package."""
+    lines = [line for line in log.splitlines() if not line[0].isalpha()]
+    return made_edges(text.split("\n"), dict.fromkeys(line.split()[1] for line in lines))
 
 
 def files() -> Iterator[bytes]:

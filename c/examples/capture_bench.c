@@ -1,6 +1,5 @@
-/* A board for capture.c without hardware: it plays changes of lines from its standard input, a row
- * for each as `time_us level level level`, and prints what is said of each second, as a line of a
- * log. tests/waves.py makes such rows of a scenario.
+/* A board for capture.c without hardware: it plays what `tools/wave --changes` makes of a scenario from
+ * its standard input, and prints what is said of each second, as a line of a log.
  *
  * The words are `lock_after` and `holdover`; then, of a reader with a leap table, its last day, and
  * the day of each inserted leap second, counted from 2000-01-01. */
@@ -43,25 +42,22 @@ static void run_until(uint32_t time_us) {
     now_us = time_us;
 }
 
-/* Plays the next row. False behind the last. */
+/* Plays the next row, as `12.058000,1,0,1`. False behind the last. */
 static bool play_row(void) {
     static bool level[LINES];
-    bool is_high[LINES];
-    unsigned long long time_us;
-    if (scanf("%llu", &time_us) != 1) return false;
-    for (int line = 0; line < LINES; line++) {
-        int next;
-        if (scanf("%d", &next) != 1 || (next != 0 && next != 1)) {
-            fprintf(stderr, "capture: a row is a time and %d levels\n", LINES);
-            exit(2);
-        }
-        is_high[line] = next == 1;
+    char row[64], *cell;
+    if (fgets(row, sizeof row, stdin) == NULL) return false;
+    uint32_t time_us = (uint32_t)strtoul(row, &cell, 10) * 1000000;
+    if (*cell == '.') time_us += (uint32_t)strtoul(cell + 1, &cell, 10);
+    run_until(time_us);
+    for (uint8_t line = 0; line < LINES; line++, cell += 2) {
+        if (cell[0] != ',' || (cell[1] != '0' && cell[1] != '1')) break;
+        bool is_high = cell[1] == '1';
+        if (is_high != level[line]) on_capture(line, level[line] = is_high, now_us);
     }
-    run_until((uint32_t)time_us);
-    for (uint8_t line = 0; line < LINES; line++)
-        if (is_high[line] != level[line])
-            on_capture(line, level[line] = is_high[line], now_us);
-    return true;
+    if (*cell == '\n') return true;
+    fprintf(stderr, "capture: a row is a time and %d levels\n", LINES);
+    exit(2);
 }
 
 /* A timekeeper of so many lines. */
@@ -82,6 +78,9 @@ int main(int count, char **words) {
     for (int word = 4; word < count; word++)
         table.leaps[table.len++].day = (uint32_t)atoi(words[word]);
     if (capture_init(&setup, &table, 0) != IRIG_DONE) return 2;
+    int letter;
+    do letter = getchar();
+    while (letter != EOF && letter != '\n'); /* the names above the rows */
     while (play_row()) {
     }
     return 0;

@@ -7,7 +7,7 @@ from ctypes import Structure, c_bool, c_char_p, c_int8, c_size_t
 from ctypes import c_uint8, c_uint16, c_uint32, c_uint64
 from functools import lru_cache
 from pathlib import Path
-from typing import Any, Dict, Tuple
+from typing import Any, Dict, List, Tuple
 
 HERE = Path(__file__).resolve().parent
 
@@ -15,31 +15,27 @@ HERE = Path(__file__).resolve().parent
 FOLDERS = (HERE, HERE.parent.parent / "c" / "out")
 
 
+def _of(kind: Any, names: str) -> List[Tuple[str, Any]]:
+    """Fields of one type, in a row."""
+    return [(name, kind) for name in names.split()]
+
+
 class Coded(Structure):
     _fields_ = [
-        ("second", c_uint8),
-        ("minute", c_uint8),
-        ("hour", c_uint8),
-        ("day", c_uint16),
-        ("year", c_uint8),
-        ("control", c_uint32),
-        ("sbs", c_uint32),
+        *_of(c_uint8, "second minute hour"), ("day", c_uint16), ("year", c_uint8),
+        *_of(c_uint32, "control sbs"),
     ]
 
 
 class Control(Structure):
     _fields_ = [
-        ("leap_pending", c_uint8),
-        ("leap_delete", c_uint8),
-        ("dst_pending", c_uint8),
-        ("dst", c_uint8),
-        ("offset_half_hours", c_int8),
+        *_of(c_uint8, "leap_pending leap_delete dst_pending dst"), ("offset_half_hours", c_int8),
         ("quality", c_uint8),
     ]
 
 
 class Utc(Structure):
-    _fields_ = [("day", c_uint32), ("sod", c_uint32)]
+    _fields_ = _of(c_uint32, "day sod")
 
 
 class Claim(Structure):
@@ -47,149 +43,82 @@ class Claim(Structure):
 
 
 class Setup(Structure):
-    _fields_ = [
-        ("parity", c_uint8),
-        ("sense", c_uint8),
-        ("sbs", c_uint8),
-        ("redundancy", c_uint8),
-        ("lock_after", c_uint8),
-        ("holdover", c_uint32),
-    ]
+    _fields_ = [*_of(c_uint8, "parity sense sbs redundancy lock_after"), ("holdover", c_uint32)]
 
 
 class Leap(Structure):
-    _fields_ = [("day", c_uint32), ("kind", c_uint32)]
+    _fields_ = _of(c_uint32, "day kind")
 
 
 class Table(Structure):
-    _fields_ = [("until", c_uint32), ("len", c_uint32), ("leaps", Leap * 64)]
+    _fields_ = [*_of(c_uint32, "until len"), ("leaps", Leap * 64)]
 
 
 class State(Structure):
-    _fields_ = [
-        ("kind", c_uint8),
-        ("count", c_uint8),
-        ("heard", c_uint8),
-        ("day", c_uint32),
-        ("sod", c_uint32),
-        ("age", c_uint32),
-    ]
+    _fields_ = [*_of(c_uint8, "kind count heard"), *_of(c_uint32, "day sod age")]
 
 
 class Tally(Structure):
     _fields_ = [
-        ("count", c_uint32),
-        ("wrong_kind", c_uint8),
-        ("wrong_element", c_uint8),
-        ("time", c_uint64),
-        ("control", c_uint64),
+        ("count", c_uint32), *_of(c_uint8, "wrong_kind wrong_element"), *_of(c_uint64, "time control"),
     ]
 
 
 class Reader(Structure):
     _fields_ = [
-        ("setup", Setup),
-        ("table", Table),
-        ("state", State),
-        ("ports", Tally * 5),
-        ("check", c_uint64),
+        ("setup", Setup), ("table", Table), ("state", State), ("ports", Tally * 5), ("check", c_uint64),
     ]
 
 
 class Sync(Structure):
-    _fields_ = [("rise_us", c_uint32), ("place", c_uint8), ("was_marker", c_uint8)]
+    _fields_ = [("rise_us", c_uint32), *_of(c_uint8, "place was_marker")]
 
 
 class Report(Structure):
     _fields_ = [
-        ("announces", c_uint8),
-        ("lock", c_uint8),
-        ("cause", c_uint8),
-        ("agreed", c_uint8),
-        ("lock_count", c_uint32),
-        ("day", c_uint32),
-        ("sod", c_uint32),
-        ("differed", c_uint8),
-        ("faulty", c_uint8),
-        ("poor", c_uint8),
-        ("quality", c_uint8),
-        ("has_local", c_uint8),
-        ("local_half_hours", c_int8),
+        *_of(c_uint8, "announces lock cause agreed"), *_of(c_uint32, "lock_count day sod"),
+        *_of(c_uint8, "differed faulty poor quality has_local"), ("local_half_hours", c_int8),
         ("dst", c_uint8),
     ]
 
 
 class Told(Structure):
-    _fields_ = [("kind", c_uint8), ("quality", c_uint8), ("fault", c_uint32), ("claim", Claim)]
+    _fields_ = [*_of(c_uint8, "kind quality"), ("fault", c_uint32), ("claim", Claim)]
 
 
 class Line(Structure):
     _fields_ = [
-        ("sync", Sync),
-        ("port", Tally),
-        ("frame", Tally),
-        ("end_us", c_uint32),
-        ("has_frame", c_uint8),
+        ("sync", Sync), *_of(Tally, "port frame"), ("end_us", c_uint32), ("has_frame", c_uint8),
     ]
 
 
 class Announced(Structure):
-    _fields_ = [
-        ("day", c_uint32),
-        ("sod", c_uint32),
-        ("edge_us", c_uint32),
-        ("bound_us", c_uint32),
-        ("is_told", c_uint8),
-    ]
+    _fields_ = [*_of(c_uint32, "day sod edge_us bound_us"), ("is_told", c_uint8)]
 
 
 class Timekeeper(Structure):
     _fields_ = [
-        ("setup", Setup),
-        ("table", Table),
-        ("state", State),
-        ("lines", Line * 5),
-        ("drift_us", c_uint32),
-        ("edge_us", c_uint32),
-        ("moved", c_uint32),
-        ("has_edge", c_uint8),
-        ("last", Announced),
-        ("before", Announced),
-        ("check", c_uint64),
+        ("setup", Setup), ("table", Table), ("state", State), ("lines", Line * 5),
+        *_of(c_uint32, "drift_us edge_us moved"), ("has_edge", c_uint8),
+        *_of(Announced, "last before"), ("check", c_uint64),
     ]
 
 
 class Second(Structure):
-    _fields_ = [
-        ("is_told", c_uint8),
-        ("edge_us", c_uint32),
-        ("missed", c_uint32),
-        ("moved", c_uint32),
-        ("report", Report),
-    ]
+    _fields_ = [("is_told", c_uint8), *_of(c_uint32, "edge_us missed moved"), ("report", Report)]
 
 
 class Stamp(Structure):
-    _fields_ = [
-        ("day", c_uint32),
-        ("sod", c_uint32),
-        ("offset_us", c_uint32),
-        ("bound_us", c_uint32),
-    ]
+    _fields_ = _of(c_uint32, "day sod offset_us bound_us")
 
 
 class Span(Structure):
-    _fields_ = [("start", c_size_t), ("end", c_size_t)]
+    _fields_ = _of(c_size_t, "start end")
 
 
 class Refusal(Structure):
     _fields_ = [
-        ("line", c_uint64),
-        ("whole", c_size_t),
-        ("place", Span),
-        ("key", Span),
-        ("value", Span),
-        ("allowed", Span),
+        ("line", c_uint64), ("whole", c_size_t), *_of(Span, "place key value allowed"),
         ("number", c_uint8),
     ]
 

@@ -13,10 +13,8 @@ from .logs import lock_text
 from .seconds import Claim, Day, Leap, Second, day_number
 from .words import CAUSES, LOCKS, Cause, Kind, Lock, Parity, Sbs, Sense, number_of
 
-# What a reader's state begins with: another form of its numbers is another word. The older forms had
-# no check word, and one that was made now would say nothing of what came over their numbers before.
+# What a reader's state begins with: another form of its numbers is another word.
 FORM = "irig reader 3"
-OLDER_FORMS = ("irig reader 1", "irig reader 2")
 
 PORTS = (3, 5, 1)  # how many ports, by the number that C has for it
 
@@ -342,8 +340,6 @@ class Reader(Ruled):
 
     def __setstate__(self, state: Tuple[str, bytes]) -> None:
         form, numbers = state
-        if form in OLDER_FORMS:
-            raise Fault(VALUE, reason="this reader was kept without a check word: make a new one")
         lines, size = c.Sync * 5, ctypes.sizeof(c.Reader)
         if form != FORM or len(numbers) != size + ctypes.sizeof(lines):
             raise Fault(VALUE, reason="these are the numbers of a reader of another version")

@@ -88,10 +88,9 @@ def _explained(refused: Refused, ran: _Ran) -> Refused:
     def part(span: c.Span) -> Optional[str]:
         return ran.reason[span.start : span.end].decode(errors="replace") or None
 
-    begins = f"line {refused.line}: {refused.number} {refused.name}: "
-    words, spans = ran.reason.decode(errors="replace"), ran.refusal
+    spans = ran.refusal
     return Refused(
         refused.line, refused.number, refused.name, refused.log,
-        words[len(begins) :] if words.startswith(begins) else words or None,
+        ran.reason.decode(errors="replace") or None,
         part(spans.place), part(spans.key), part(spans.value), part(spans.allowed),
     )

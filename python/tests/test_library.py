@@ -12,26 +12,8 @@ from irig import _library
 from program import ROOT
 
 STRUCTURES = {
-    "irig_coded": _library.Coded,
-    "irig_control": _library.Control,
-    "irig_utc": _library.Utc,
-    "irig_claim": _library.Claim,
-    "irig_setup": _library.Setup,
-    "irig_leap": _library.Leap,
-    "irig_table": _library.Table,
-    "irig_state": _library.State,
-    "irig_tally": _library.Tally,
-    "irig_reader": _library.Reader,
-    "irig_sync": _library.Sync,
-    "irig_report": _library.Report,
-    "irig_told": _library.Told,
-    "irig_line": _library.Line,
-    "irig_announced": _library.Announced,
-    "irig_timekeeper": _library.Timekeeper,
-    "irig_second": _library.Second,
-    "irig_stamp": _library.Stamp,
-    "irig_span": _library.Span,
-    "irig_refusal": _library.Refusal,
+    f"irig_{name.lower()}": kind for name, kind in vars(_library).items()
+    if isinstance(kind, type) and issubclass(kind, ctypes.Structure) and kind is not ctypes.Structure
 }
 UNUSED = {"irig_edges", "irig_frame_options"}
 

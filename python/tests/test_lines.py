@@ -29,21 +29,6 @@ class Lines(unittest.TestCase):
             # Behind the hundredth comes the first of the next.
             self.assertEqual(sync.pulse(start_us + 100 * ELEMENT_US, 8000), 1)
 
-    def test_what_is_not_on_time(self) -> None:
-        for late_us, place in ((-1001, 0), (-1000, 3), (0, 3), (999, 3), (1000, 0), (10_000, 0)):
-            sync = Sync()
-            sync.pulse(0, 8000)
-            sync.pulse(ELEMENT_US, 2000)
-            self.assertEqual(sync.pulse(2 * ELEMENT_US + late_us, 5000), place, late_us)
-            self.assertEqual(sync.place, place)
-
-    def test_a_marker_begins_a_frame(self) -> None:
-        sync = Sync()
-        sync.pulse(0, 2000)
-        self.assertEqual(sync.pulse(ELEMENT_US, 8000), 0)  # alone, out of step
-        self.assertEqual(sync.pulse(2 * ELEMENT_US, 8000), 1)  # behind a marker
-        self.assertEqual(sync.pulse(5 * ELEMENT_US, 8000), 1)  # behind a pause
-
     def test_an_idle_line(self) -> None:
         # 2^32 us late is on time by a clock that wraps, unless the line was seen to be idle.
         for idles, place in (((), 2), ((1_000_000,), 0), ((999_999,), 2)):
@@ -83,21 +68,6 @@ class Hearing(unittest.TestCase):
             self.assertEqual(place, 100)
         reader.idle(6_000_000)
         self.assertEqual(str(reader.tick()), "2017-01-01T00:00:00Z locked voted")
-
-    def test_a_lost_pulse_is_short(self) -> None:
-        reader = Reader()
-        for number, pulse in enumerate(pulses(FRAME, 0)):
-            if number != 50:
-                reader.hear(0, *pulse)
-        self.assertEqual(str(reader.port(0)), "fault 1 Short 50")
-
-    def test_half_a_frame_and_then_a_whole_one(self) -> None:
-        reader = Reader()
-        for pulse in list(pulses(FRAME, 0))[40:]:
-            reader.hear(0, *pulse)
-        for pulse in pulses(irig.frame("2017-01-01T00:00:00Z"), 1_000_000):
-            reader.hear(0, *pulse)
-        self.assertEqual(str(reader.port(0)), "claim 2017-01-01T00:00:00Z unspoken")
 
     def test_a_port_that_is_not_there(self) -> None:
         reader = Reader()

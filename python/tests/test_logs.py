@@ -8,7 +8,7 @@ from typing import Iterator, List
 
 from irig import Announced, PortWord, Ports, PremiseBroken, PremisesKept, Second, Silent, read_log
 from irig.logs import RefusedLine, Tick, read_lines, ticks_of
-from program import ROOT, all_cases, printed
+from program import all_cases, printed
 
 # Two readers, and a plant that starts at 23:59:50: relay's second at edge 3 is one too late.
 SCENARIO = (

@@ -174,56 +174,6 @@ class BesideTheProgram(unittest.TestCase):
         self.assertIn("4 relay 2016-12-31T23:59:60Z holdover:1 held\n", said)
 
 
-class Voices(unittest.TestCase):
-    """What a report says of the ports, beside the vote."""
-
-    NOON = Second.read("2020-02-29T12:00:00Z")
-
-    def report(self, *frames: Optional[str], **words: str) -> irig.Report:
-        """Of a reader with as many ports as there are frames, each of which hears its own."""
-        reader = Reader(1, ports=len(frames), **words)
-        for port, frame in enumerate(frames):
-            if frame:
-                reader.hear(port, frame)
-        return reader.tick()
-
-    def test_how_ports_stand(self) -> None:
-        true, later = irig.frame(self.NOON), irig.frame("2020-02-29T13:00:00Z")
-        poor, wrong = frame_in(Zone(0, False), self.NOON, 12), irig.frame(self.NOON, parity="odd")
-        for frames, agreed, differed, faulty, poorly in (
-            ((true, true, later), (0, 1), (2,), (), ()),
-            ((later, None, true), (), (0, 2), (), ()),
-            ((poor, true, true), (1, 2), (), (), (0,)),
-            ((None, wrong, true, true, true), (2, 3, 4), (), (1,), ()),
-            ((None, None, None), (), (), (), ()),
-            ((true,), (0,), (), (), ()),
-            ((wrong,), (), (), (0,), ()),
-        ):
-            with self.subTest(frames):
-                report = self.report(*frames)
-                self.assertEqual((report.agreed, report.differed), (agreed, differed))
-                self.assertEqual((report.faulty, report.poor), (faulty, poorly))
-
-    def test_the_worst_quality(self) -> None:
-        for qualities, worst in (((0, 0, 0), 0), ((0, 9, 3), 9), ((12, 2, 1), 2), ((12, 12, 1), 15)):
-            frames = [frame_in(Zone(0, False), self.NOON, quality) for quality in qualities]
-            self.assertEqual(self.report(*frames).quality, worst)
-
-    def test_the_zone(self) -> None:
-        utc, summer, winter = Zone(0, False), Zone(4, True), Zone(-7, False)
-        for zones, zone in (
-            ((summer, utc, summer), summer),
-            ((winter, summer, utc), None),
-            ((winter, winter, winter, utc, utc), winter),
-            ((Zone(4, False), summer, utc), None),
-            ((winter,), winter),
-        ):
-            for sense in ("add", "subtract"):
-                with self.subTest(zones, sense=sense):
-                    frames = [frame_in(one, self.NOON, sense=sense) for one in zones]
-                    self.assertEqual(self.report(*frames, sense=sense).zone, zone)
-
-
 class Calls(unittest.TestCase):
     """What a reader takes, and what it is."""
 
@@ -350,19 +300,13 @@ class Copies(unittest.TestCase):
         form, numbers = self.locked().__getstate__()
         reader = Reader()
         for state in (
-            ("another", numbers),
+            ("another", numbers), ("irig reader 2", numbers),
             (form, numbers[:-1]),
             (form, bytes([255]) * len(numbers)),
             (form, bytes([numbers[0] ^ 1]) + numbers[1:]),
         ):
             self.assertRaises(irig.Fault, reader.__setstate__, state)
         self.assertEqual(reader.__getstate__(), Reader().__getstate__())
-
-    def test_older_forms(self) -> None:
-        """A reader had 672 bytes, without a check word; at first it had no lines behind them."""
-        _, numbers = self.locked().__getstate__()
-        for state in (("irig reader 1", numbers[:672]), ("irig reader 2", numbers[:672] + bytes(40))):
-            self.assertRaisesRegex(irig.Fault, "check word", Reader().__setstate__, state)
 
     def test_a_number_that_something_else_changed(self) -> None:
         reader = self.locked()

@@ -9,7 +9,7 @@ from pathlib import Path
 from unittest import mock
 
 import irig
-from irig import Announced, PremiseBroken, PremisesKept, Ports, Second, Silent, TableBroken
+from irig import Announced, PremiseBroken, PremisesKept, Second, Silent, TableBroken
 from irig.scenarios import Reader, Scenario
 from program import ROOT, cases, printed, told
 
@@ -89,20 +89,11 @@ class Logs(unittest.TestCase):
         self.assertEqual(irig.run(example("two_liars")).verdict, PremiseBroken(5, "relay"))
         self.assertEqual(irig.run(example("misled_by_table")).verdict, TableBroken("relay"))
 
-    def test_logs_of_the_program(self) -> None:
-        text = printed("run", str(ROOT / "examples/one_liar.jsonl"), "--ports")
-        log = irig.read_log(text)
-        self.assertEqual("".join(f"{entry}\n" for entry in log) + f"{log.verdict}\n", text)
-        self.assertIn(Ports(9, "relay", ("ok", "insert", "ok")), log.entries)
-
     def test_texts_that_are_no_log(self) -> None:
         broken = "premises broken: edge 5 reader rel"  # ay, and the end of the line
         for text in ("", "1 relay - unlocked no-vote\n", "premises\n", "premises kept", broken):
             with self.subTest(text):
                 self.assertRaises(ValueError, irig.read_log, text)
-        for line in ("1 relay", "1 relay -", "1 relay - open no-vote", "1 relay - unlocked no"):
-            with self.subTest(line), self.assertRaises(ValueError):
-                irig.read_log(f"{line}\npremises kept\n").entries
 
 
 class Sources(unittest.TestCase):
@@ -136,7 +127,8 @@ class Sources(unittest.TestCase):
 
 
 class Blame(unittest.TestCase):
-    """Who lied, in one line; python/tests/test_logs.py has what each word means."""
+    """Who lied, in one line; test_logs.py has what each word means, and tests/blame compares all lines
+    with the program's."""
 
     WANTED = [
         "edge 1: relay announced nothing: acquiring, not yet enough votes in a row",
@@ -165,17 +157,6 @@ class Blame(unittest.TestCase):
             *(f"edges 5 to 10: port {port} of relay told another second, first 2016-06-15T13:00:04Z;"
               " relay announced 4 seconds, 4 of them untrue" for port in (0, 1)),
         ])
-
-    def test_beside_the_program(self) -> None:
-        """The lines of `irig blame`, but for the totals behind them."""
-        if told("blame", "--help")[0]:
-            print("skipped: who lied, beside the program: it has no `irig blame`")
-            self.skipTest("the program has no `irig blame`")
-        for path in sorted((ROOT / "examples").glob("*.jsonl")):
-            said = [line for line in printed("blame", str(path)).splitlines() if line.startswith("edge")]
-            log = irig.read_log(printed("run", str(path), "--all", "--ports"), path.read_text())
-            with self.subTest(path.stem):
-                self.assertEqual([str(stretch) for stretch in log.blame()], said)
 
 
 class Refusals(unittest.TestCase):

@@ -98,22 +98,6 @@ class Ticks(unittest.TestCase):
         self.assertEqual((report.agreed, report.differed), ((0, 2, 4), (1,)))
         self.assertEqual((report.faulty, report.poor), ((3,), ()))
 
-    def test_two_lines_that_lie_apart(self) -> None:
-        """More than a millisecond apart they do not agree."""
-        for late_us, is_told in ((1000, True), (1001, False)):
-            keeper = Timekeeper(lock_after=1, drift_us=10)
-            hear_frame(keeper, FRAME, 0, 0)
-            hear_frame(keeper, FRAME, late_us, 1)
-            self.assertEqual(keeper.tick(1_000_000 + late_us) is not None, is_told)
-
-    def test_nothing_twice(self) -> None:
-        keeper = self.voted()
-        for now_us in (0, 1, 1_004_999):
-            self.assertIsNone(keeper.tick(now_us))
-        self.assertEqual(keeper.wait(4_999), 1_000_001)
-        self.assertEqual(str(keeper.tick(1_005_000)), "2017-01-01T00:00:01Z holdover:1 held")
-        self.assertIsNone(keeper.tick(1_005_000))
-
     def test_missed_seconds(self) -> None:
         keeper = self.voted()
         beat = told(keeper, 3_500_000)
@@ -157,13 +141,6 @@ class Ticks(unittest.TestCase):
         keeper.restart()
         self.assertEqual(keeper, Timekeeper(1, 20, drift_us=50))
         self.assertIsNone(keeper.stamp(5))
-
-    def test_a_line_that_is_stuck(self) -> None:
-        keeper = self.voted()
-        twin = copy.copy(keeper)
-        for width_us in (500_000, WRAP - 1):
-            self.assertEqual(keeper.hear(0, 0, width_us), 0)
-        self.assertEqual(keeper, twin)
 
 
 class Refusals(unittest.TestCase):

@@ -23,7 +23,7 @@ static void arm(life *l, bool is_behind_tick) {
     judge_wait(&l->judge, wait_us, is_behind_tick);
     d->due_us = d->now_us + wait_us;
     d->tick_us = d->due_us + d->always_us + below(&d->luck, d->late_us + 1);
-    d->is_asked = (l->judge.has_told || wait_us != SECOND_US) && !l->judge.subject->is_old;
+    d->is_asked = l->judge.has_told || wait_us != SECOND_US;
 }
 
 /* Around edge after edge, the next one that lies ahead; or where something is just in time, or just

@@ -62,7 +62,7 @@ void play(life *l, const subject *s);
 /* ---- lives. Of plan.c: by chance, all of them within what is promised for. */
 
 /* Makes the life of this number; the seed is that of a whole run. */
-void plan(life *l, uint64_t seed, uint64_t number, bool is_of_three);
+void plan(life *l, uint64_t seed, uint64_t number);
 
 /* Makes edges, and lines that send nominal frames at their time, of a life that has its settings,
  * first second, leap and length. */

@@ -189,8 +189,7 @@ static void judge_report(judge *j, const irig_second *s, uint64_t edge_us) {
     j->counts[GUARDED] += r->cause == IRIG_CAUSE_LEAP_GUARD;
     j->counts[ENDED] += r->cause == IRIG_CAUSE_RANGE_END;
     if (!j->has_told && r->agreed == 0) fail(j, "it begins with no vote");
-    if (s->moved < j->moves && !j->subject->is_old)
-        fail(j, "its edge was moved, and it tells of none");
+    if (s->moved < j->moves) fail(j, "its edge was moved, and it tells of none");
     if (r->agreed != 0) judge_vote(j, s, edge_us);
     else j->row = 0;
     if (r->announces) judge_announced(j, s, edge_us);
@@ -275,8 +274,7 @@ void judge_tick(judge *j, uint64_t now_us, uint32_t answer, const irig_second *s
 }
 
 void judge_wait(judge *j, uint32_t wait_us, bool is_behind_tick) {
-    uint32_t most_us = j->subject->is_old ? INT32_MAX : WAIT_MOST_US;
-    if (wait_us > most_us) fail(j, "it waits %u us", wait_us);
+    if (wait_us > WAIT_MOST_US) fail(j, "it waits %u us", wait_us);
     if (is_behind_tick && wait_us == 0) fail(j, "it waits for nothing");
 }
 

@@ -30,8 +30,7 @@ static uint32_t stamp(uint32_t time_us, irig_stamp *s) {
 
 void flip_library(uint32_t bit) { ((uint8_t *)&keeper)[bit / 8] ^= (uint8_t)(1u << bit % 8); }
 
-const subject library_subject = {"library", begin, hear, tick, wait, restart, stamp, NULL, false,
-                                 false};
+const subject library_subject = {"library", begin, hear, tick, wait, restart, stamp, NULL, false};
 
 /* ---- with the model */
 
@@ -77,4 +76,4 @@ static void restart_both(void) {
 }
 
 const subject both_subject = {"both", begin_both, hear_both, tick_both, wait_both, restart_both,
-                              stamp_both, NULL, false, false};
+                              stamp_both, NULL, false};

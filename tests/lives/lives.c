@@ -2,7 +2,7 @@
  *
  *     lives [OPTION]..
  *
- *     --subject NAME   library; both, with the model beside it; model; capture, poll; old_capture
+ *     --subject NAME   library; both, with the model beside it; model; capture, poll
  *     --seed N         of all chance; 1 without it
  *     --seconds N      plays so many in which a line sends; 10,000 without it
  *     --life N         that life alone
@@ -53,7 +53,7 @@ static void say_failed(uint64_t number) {
 
 /* Whether a life goes as it has to. */
 static bool play_life(uint64_t number) {
-    plan(&one, options.seed, number, options.subject->is_old);
+    plan(&one, options.seed, number);
     play(&one, options.subject);
     return !one.judge.is_failed;
 }
@@ -109,8 +109,7 @@ static bool are_same(const char *word, const char *other) { return strcmp(word, 
 
 static const subject *subject_of(const char *name) {
     static const subject *const SUBJECTS[] = {&library_subject, &both_subject, &model_subject,
-                                              &capture_subject, &poll_subject,
-                                              &old_capture_subject};
+                                              &capture_subject, &poll_subject};
     for (size_t i = 0; i < sizeof SUBJECTS / sizeof *SUBJECTS; i++)
         if (are_same(SUBJECTS[i]->name, name)) return SUBJECTS[i];
     refuse("subject", name);

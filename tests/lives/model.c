@@ -302,5 +302,4 @@ static uint32_t begin(const irig_setup *setup, const irig_table *table, uint32_t
     return IRIG_DONE;
 }
 
-const subject model_subject = {"model", begin, hear, tick, wait, restart, stamp, NULL, false,
-                               false};
+const subject model_subject = {"model", begin, hear, tick, wait, restart, stamp, NULL, false};

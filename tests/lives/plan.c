@@ -19,9 +19,9 @@ static uint32_t of_any_size(chance *luck, uint32_t most) {
 
 /* ---- settings */
 
-static void plan_setup(life *l, chance *luck, bool is_of_three) {
+static void plan_setup(life *l, chance *luck) {
     static const uint8_t PORTS[] = {IRIG_PORTS_THREE, IRIG_PORTS_FIVE, IRIG_PORTS_ONE};
-    uint32_t kind = is_of_three ? 0 : (uint32_t)ONE_OF(luck, 0, 0, 0, 0, 0, 0, 0, 1, 1, 2);
+    uint32_t kind = (uint32_t)ONE_OF(luck, 0, 0, 0, 0, 0, 0, 0, 1, 1, 2);
     l->sky.lines = kind == 0 ? 3 : kind == 1 ? 5 : 1;
     l->world.drift_us = (uint32_t)ONE_OF(luck, 0, 1, 10, 100, 100);
     uint32_t most = l->world.drift_us ? 490000 / l->world.drift_us - 2 : 1000000;
@@ -274,11 +274,11 @@ static uint32_t plan_length(life *l, chance *luck, bool is_turn, bool is_long) {
     return 15 + of_any_size(luck, is_once_in(luck, 300) ? 3000 : 200);
 }
 
-void plan(life *l, uint64_t seed, uint64_t number, bool is_of_three) {
+void plan(life *l, uint64_t seed, uint64_t number) {
     chance luck = {seed * UINT64_C(0x2545f4914f6cdd1d) + number};
     draw(&luck);
     uint32_t kind = below(&luck, 40);
-    plan_setup(l, &luck, is_of_three);
+    plan_setup(l, &luck);
     bool is_turn = kind == 0 && l->sky.lines > 1, is_long = kind >= 1 && kind < 6;
     l->world.seconds = plan_length(l, &luck, is_turn, is_long);
     plan_time(l, &luck);

@@ -14,7 +14,6 @@ typedef struct subject {
     uint32_t (*stamp)(uint32_t time_us, irig_stamp *); /* or null */
     void (*flip)(uint32_t bit); /* a bit of one that then begins afresh, or null */
     bool is_by_wait;            /* it has no other ticks */
-    bool is_old;                /* it has three lines, and is not asked how long it waits */
 } subject;
 
 enum { DIFFERS = 200 }; /* what a subject answers where two have to answer alike, and do not */
@@ -53,10 +52,8 @@ typedef enum wrong { EACH_WRONG(NUMBER_OF) WRONGS } wrong;
 extern const char *const WRONG_NAMES[WRONGS];
 extern wrong model_wrong;
 
-/* The library's; it and the model, which have to answer alike; c/examples/capture.c and poll.c; and
- * capture.c as it was before irig.h had a timekeeper. */
-extern const subject model_subject, library_subject, both_subject, capture_subject, poll_subject,
-    old_capture_subject;
+/* The library's; it and the model, which have to answer alike; c/examples/capture.c and poll.c. */
+extern const subject model_subject, library_subject, both_subject, capture_subject, poll_subject;
 
 /* For poll_device.c, beside the library's. */
 void flip_library(uint32_t bit);

@@ -3,14 +3,16 @@
 `irig flatten` plays the scenario; nothing is played here. The pulses of a second rise each 10 ms
 from its edge on, since a scenario knows no other times. The first edge comes 50 ms behind the
 beginning, and the end 20 ms behind the last edge. All is written as it streams: a scenario is
-flattened twice, once to see what has to stand at the head of a file, and once for the file."""
+flattened twice, once to see what has to stand at the head of a file, and once for the file. Lines
+may be late, and the cable of one out for a while."""
 from __future__ import annotations
 
 import json
 import os
 import subprocess
 import wave
-from itertools import zip_longest
+from heapq import merge
+from itertools import groupby, tee, zip_longest
 from math import gcd
 from pathlib import Path
 from typing import BinaryIO, Dict, Iterator, List, Optional, Sequence, TextIO, Tuple
@@ -80,9 +82,13 @@ class Oddities:
 
 class Lines:
     """The lines to the ports of a reader, the first one if none is named. The scenario is a file that
-    can be read twice."""
+    can be read twice. Each line may be late by so many microseconds, and one without pulses from a
+    time on, up to another, as if its cable were out."""
 
-    def __init__(self, scenario: BinaryIO, reader: Optional[str], is_inverted: bool) -> None:
+    def __init__(
+        self, scenario: BinaryIO, reader: Optional[str], is_inverted: bool,
+        late: Sequence[int] = (), pull: Optional[Tuple[int, int, int]] = None,
+    ) -> None:
         lines = flattened(scenario)
         plant = json.loads(next(lines))
         readers = [one["name"] for one in plant["readers"]]
@@ -90,10 +96,15 @@ class Lines:
             raise ValueError(f"it has no reader {reader!r}; it has {', '.join(readers)}")
         self.reader: str = reader or readers[0]
         self.names = [f"G{number}" for number in range(len(plant["generators"]))]
+        count = len(self.names)
+        if late and len(late) != count:
+            raise ValueError(f"--late wants {count} times, one for each line")
+        if pull and pull[0] >= count:
+            raise ValueError(f"--pull names line {pull[0]}; there are 0 to {count - 1}")
         self.oddities = Oddities()
-        self._scenario = scenario
+        self._scenario, self._late, self._pull = scenario, late, pull
         self._high = (1 << len(self.names)) - 1 if is_inverted else 0  # between pulses
-        self.ticks, self.unit_us = 0, COARSEST_US
+        self.ticks, self.unit_us = 0, gcd(COARSEST_US, *late, *(pull or ())[1:])
         for event in map(json.loads, lines):
             if event["r"] == self.reader:
                 self.ticks += event["do"] == "tick"
@@ -101,12 +112,15 @@ class Lines:
 
     @property
     def end_us(self) -> int:
-        return FIRST_EDGE_US + self.ticks * SECOND_US + TAIL_US
+        return FIRST_EDGE_US + self.ticks * SECOND_US + TAIL_US + max(self._late, default=0)
 
     def steps(self) -> Iterator[Step]:
         """Each time at which a line changes, from 0 on."""
         yield 0, self._high
-        for time, pulses in self._pulses():
+        steps = _delayed(self._pulses(), self._late) if self._late else self._pulses()
+        if self._pull:
+            steps = _pulled(steps, *self._pull, self.end_us)
+        for time, pulses in steps:
             yield time, pulses ^ self._high
 
     def spans(self) -> Iterator[Span]:
@@ -131,7 +145,7 @@ class Lines:
                     self.oddities.add(RUNS_ON, number + 1)
                 if before != _bits(ends):
                     yield rise, _bits(ends)
-        yield from _fallen(ends, self.end_us)
+        yield from _fallen(ends, FIRST_EDGE_US + self.ticks * SECOND_US + TAIL_US)
 
     def _seconds(self) -> Iterator[List[List[int]]]:
         """For each tick the widths of the pulses on each line since the one before."""
@@ -184,6 +198,36 @@ def _rise(ends: Dict[int, int], rise: int, widths: Sequence[int]) -> bool:
         if width or end > rise:
             ends[line] = max(end, rise + width)
     return runs_on
+
+
+def _changes(steps: Iterator[Step], line: int, late: int) -> Iterator[Tuple[int, int]]:
+    """When a line that is late changes."""
+    before = 0
+    for time, pulses in steps:
+        if (pulses ^ before) >> line & 1:
+            yield time + late, line
+        before = pulses
+
+
+def _delayed(steps: Iterator[Step], late: Sequence[int]) -> Iterator[Step]:
+    copies = tee(steps, len(late))
+    changes = merge(*(_changes(copy, line, late[line]) for line, copy in enumerate(copies)))
+    pulses = 0
+    for time, together in groupby(changes, lambda change: change[0]):
+        pulses ^= _bits({line: time for _, line in together})
+        yield time, pulses
+
+
+def _pulled(steps: Iterator[Step], line: int, begin: int, end: int, last: int) -> Iterator[Step]:
+    """The same steps but that a line has no pulse from a time on, up to another."""
+    ends = [(time, None) for time in (begin, end) if time < last]
+    pulses = before = 0
+    for time, then in merge(steps, ends, key=lambda step: step[0]):
+        pulses = pulses if then is None else then
+        left = pulses & ~(1 << line) if begin <= time < end else pulses
+        if left != before:
+            yield time, left
+        before = left
 
 
 # ---- files

@@ -1,6 +1,6 @@
 """What a log of irig shows as bars: for each reader runs of edges at which it stood alike, for each of
 its ports runs at which it told alike, and marks at leap seconds, month ends and where a premise broke.
-tools/plot draws them; tools/parts/log.js makes the same of a log for pages."""
+tools/plot draws them; tools/parts/reading.js makes the same of a log for pages."""
 from __future__ import annotations
 
 from collections.abc import Iterable, Iterator

@@ -2,6 +2,7 @@
 and the package of python/."""
 from __future__ import annotations
 
+import subprocess
 import sys
 import tempfile
 import unittest
@@ -22,6 +23,16 @@ def loaded(path: Path) -> ModuleType:
     sys.modules[path.name] = module  # where its dataclasses look for it
     spec.loader.exec_module(module)
     return module
+
+
+def peak(*words: object) -> tuple[str, int]:
+    """What a command prints, and the most memory that it and what it starts take, in KiB: a process tells
+    that takes little itself."""
+    least = "import resource as r, subprocess as s, sys; s.run(sys.argv[1:], check=True);" \
+        "print(r.getrusage(r.RUSAGE_CHILDREN).ru_maxrss, file=sys.stderr)"
+    command = [sys.executable, "-c", least, *map(str, words)]
+    ran = subprocess.run(command, capture_output=True, text=True, check=True, timeout=300)
+    return ran.stdout, int(ran.stderr.splitlines()[-1])
 
 
 class InAFolder(unittest.TestCase):

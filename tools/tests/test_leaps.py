@@ -94,10 +94,6 @@ class Leaps(unittest.TestCase):
         self.assertEqual((ran.returncode, ran.stdout), (2, ""))
         self.assertIn("'June' is no day", ran.stderr)
 
-    def test_help_begins_with_an_example(self) -> None:
-        ran = subprocess.run([ROOT / "tools/leaps", "--help"], capture_output=True, text=True)
-        self.assertTrue(ran.stdout.startswith("for example:\n\n    tools/leaps --since "))
-
     def test_no_file(self) -> None:
         ran = subprocess.run([ROOT / "tools/leaps", "no_such.list"], capture_output=True, text=True)
         self.assertEqual(ran.returncode, 2)

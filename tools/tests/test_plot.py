@@ -1,18 +1,19 @@
 #!/usr/bin/env python3
 """Tests of plot: what it draws of logs, where it puts labels, what it says of files that are no logs, and
 that the pictures of docs/gallery are what it draws now. Needs matplotlib for the pictures."""
+import io
 import os
 import re
-import signal
 import subprocess
 import sys
 import tempfile
 import time
-import traceback
 import unittest
+from contextlib import redirect_stderr, redirect_stdout
 from importlib.util import find_spec
 from itertools import combinations
 from pathlib import Path
+from unittest import mock
 
 from loading import ROOT, loaded
 from parts.log_lanes import PORT_STATES, STATES, Bars, Lane, Mark, Run, bars_of
@@ -33,54 +34,19 @@ def lane_of(lines: list[str]) -> Lane:
     return lane
 
 
-def read_font() -> None:
-    """Loads matplotlib, which takes a second, and reads the font, if there is one."""
-    if find_spec("matplotlib"):
-        from parts import drawing
-
-        drawing.width_of("a letter", drawing.NORMAL)
-
-
-read_font()
 TOOL = loaded(PLOT)
 
 
-def become(words: list[str], files: list) -> None:
-    """Makes this process the tool, with these files as its standard input and outputs."""
-    for descriptor, file in enumerate(files):
-        os.dup2(file.fileno(), descriptor)
-    sys.argv, sys.stdin = words, open(0)
-    sys.stdout, sys.stderr = open(1, "w", closefd=False), open(2, "w", closefd=False)
-    signal.alarm(60)
-    status = 1
-    try:
-        TOOL.main()
-        status = 0
-    except SystemExit as ended:
-        status = ended.code or 0
-    except Exception:
-        traceback.print_exc()
-    finally:
-        sys.stdout.flush()
-        sys.stderr.flush()
-        os._exit(status)
-
-
 def run(words: list[str], text: str) -> subprocess.CompletedProcess:
-    """A run of the tool in a process that is split from this one, where all is loaded."""
-    with tempfile.TemporaryFile("w+") as given, tempfile.TemporaryFile("w+") as out, \
-            tempfile.TemporaryFile("w+") as told:
-        given.write(text)
-        given.seek(0)
-        child = os.fork()
-        if child == 0:
-            become(words, [given, out, told])
-        status = os.waitstatus_to_exitcode(os.waitpid(child, 0)[1])
-        says = []
-        for file in (out, told):
-            file.seek(0)
-            says.append(file.read())
-        return subprocess.CompletedProcess(words, status, *says)
+    """A run of the tool in this process, since matplotlib takes a second to be loaded."""
+    status, out, told = 0, io.StringIO(), io.StringIO()
+    given = io.TextIOWrapper(io.BytesIO(text.encode()))
+    with mock.patch.multiple(sys, argv=words, stdin=given), redirect_stdout(out), redirect_stderr(told):
+        try:
+            TOOL.main()
+        except SystemExit as ended:
+            status = ended.code or 0
+    return subprocess.CompletedProcess(words, status, out.getvalue(), told.getvalue())
 
 
 def plot(text: str, *options: str, name: str = "a.svg") -> tuple[subprocess.CompletedProcess, str]:
@@ -154,32 +120,12 @@ class Runs(unittest.TestCase):
         ])
         self.assertEqual((lane.runs, lane.marks), (lane_of(example("one_liar")).runs, lane.marks))
 
-    def test_each_word_of_a_port(self) -> None:
-        told = ["ok silence fault:17:Parity", "poor:12 no-leap 2016-06-15T12:00:00Z"]
-        lane = lane_of([f" {edge} relay {words}" for edge, words in enumerate(told, 1)])
-        kinds = [[run.state for run in runs] for runs in lane.ports]
-        self.assertEqual(kinds, [["agreed", "poor"], ["silent", "another mark"],
-                                 ["faulty", "another second"]])
-        self.assertEqual(lane.runs, [Run(1, 2, "not announced", "not announced")])
-
     def test_a_part(self) -> None:
         part = bars_of(example("dark_hour")).part(10, 20)
         self.assertEqual(
             part.lanes[0].runs,
             [Run(10, 18, "holdover", "held"), Run(19, 20, "not announced", "not announced")],
         )
-
-    def test_lines_that_are_none(self) -> None:
-        edge = "2 relay 2016-06-15T12:00:02Z locked voted"
-        for lines, says in (
-            (["2 relay locked voted"], "line 1 is no line of a log"),
-            ([edge, edge], "line 2: edge 2 of relay comes after edge 2"),
-            (["0 relay - unlocked no-vote"], "line 1: edge 0 of relay comes before edge 1"),
-            (["premises kept", edge], "line 2 stands below the last line"),
-            (['{"version":1'], "line 1 is of a scenario"),
-        ):
-            with self.subTest(says), self.assertRaisesRegex(ValueError, says):
-                bars_of(lines)
 
 
 class Marks(unittest.TestCase):
@@ -446,12 +392,6 @@ class Refusals(unittest.TestCase):
         self.assertEqual((ran.returncode, ran.stdout, picture), (2, "", ""))
         self.assertIn(text, ran.stderr)
         self.assertEqual(ran.stderr.count("\n"), 1)
-
-
-class Help(unittest.TestCase):
-    def test_it_begins_with_an_example(self) -> None:
-        ran = subprocess.run([PLOT, "--help"], capture_output=True, text=True)
-        self.assertTrue(ran.stdout.startswith("for example:\n\n    ./irig run "))
 
 
 if __name__ == "__main__":

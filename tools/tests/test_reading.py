@@ -8,7 +8,6 @@ import random
 import shutil
 import subprocess
 import unittest
-from pathlib import Path
 
 from loading import ROOT
 from parts.log_lanes import PORT_STATES, STATES, Run, bars_of

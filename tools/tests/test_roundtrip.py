@@ -15,7 +15,6 @@ import os
 import random
 import shutil
 import subprocess
-import sys
 import tempfile
 import time
 import unittest
@@ -28,6 +27,7 @@ from dataclasses import dataclass
 from functools import cache
 from pathlib import Path
 
+import loading
 from loading import ROOT
 
 from parts.lines import Lines, write_dump, write_sound
@@ -302,18 +302,10 @@ class Memory(InAFolder):
                 self.assertLess(most, least + self.MORE)
 
     def peak(self, seconds: int, ending: str) -> int:
-        """The most that the tool takes, in KiB, as a process tells that takes little itself."""
-        recording = self.recording(seconds, ending)
-        least = "import resource as r, subprocess as s, sys; s.run(sys.argv[1:], check=True);" \
-            "print(r.getrusage(r.RUSAGE_CHILDREN).ru_maxrss, file=sys.stderr)"
-        begin = time.monotonic()
-        ran = subprocess.run(
-            [sys.executable, "-c", least, ROOT / "tools/capture", recording],
-            capture_output=True, text=True, check=True,
-        )
+        recording, begin = self.recording(seconds, ending), time.monotonic()
+        printed, peak = loading.peak(ROOT / "tools/capture", recording)
         took = time.monotonic() - begin
-        self.assertEqual(ran.stdout.count('"tick"'), seconds)
-        peak = int(ran.stderr.splitlines()[-1])
+        self.assertEqual(printed.count('"tick"'), seconds)
         print(f"{ending}: {seconds} s of lines in {took:.1f} s and {peak >> 10} MB")
         return peak
 

@@ -1,6 +1,6 @@
 #!/usr/bin/env python3
-"""Tests of the command scenario.py: the examples that it was made for, and what it says of mistakes.
-python/tests tests what it builds scenarios by."""
+"""Tests of the command scenario.py: the examples that it was made for, and what it says of mistakes;
+and of the help of all tools. python/tests tests what it builds scenarios by."""
 import subprocess
 import sys
 import unittest
@@ -52,6 +52,15 @@ class Command(unittest.TestCase):
         # The plant, a line of seconds, three faults, seconds, three repairs, and seconds.
         made = self.printed(*example.split()[1:])
         self.assertEqual(len(made.splitlines()), 10)
+
+    def test_help_of_all_tools_begins_with_an_example(self) -> None:
+        for tool in ("capture", "gallery", "leaps", "plot", "study", "view", "wave", "wires"):
+            with self.subTest(tool):
+                words = [ROOT / "tools" / tool, "--help"]
+                ran = subprocess.run(words, capture_output=True, text=True, check=True)
+                first, example = ran.stdout.split("\n\n")[:2]
+                self.assertEqual(first, "for example:")
+                self.assertIn(f"tools/{tool} ", example)
 
     def test_the_builder_is_found_here_too(self) -> None:
         """For scripts that take it from this folder."""

@@ -1,8 +1,8 @@
 #!/usr/bin/env python3
 """Tests that sigrok/irigb says of a line what a port tells of it.
 
-Whole frames are compared with what the program reads in them, scenarios with what each port told in
-their runs, and faults on a line with a reader of the Python package, which hears the same pulses.
+Whole frames are compared with what the program reads in them; lines of scenarios, and lines with
+faults, with a reader of the Python package, which hears the same pulses.
 Needs sigrok-cli; what needs the libraries of `make -C c` is skipped where they are not there."""
 from __future__ import annotations
 
@@ -16,8 +16,8 @@ import subprocess
 import sys
 import tempfile
 import unittest
+from collections import Counter
 from collections.abc import Iterable, Iterator, Sequence
-from datetime import timedelta
 from functools import cache
 from pathlib import Path
 from typing import Any, NamedTuple
@@ -43,6 +43,7 @@ ENVIRONMENT = {
 SAID = re.compile(r"(\d+)-(\d+) irigb-1: (.*)")
 VERDICTS = ("Fault ", "UTC ", "Poor ")
 PAUSE_US = 30_000  # ends a run of pulses that are on time
+DONE = "14 seconds of relay on 3 lines\n"  # as tools/wave says
 
 
 class Rules(NamedTuple):
@@ -79,7 +80,9 @@ def dump_of(pulses: Sequence[Pulse], *, low: int = 0) -> str:
     for rise, width in pulses:
         rows += [[rise, 1 - low], [rise + width, low]]
     rows.append([rows[-1][0] + PAUSE_US, low])
-    return "\n".join(waves.dump_of(rows, [0])) + "\n"
+    unit = next(unit for unit in (100, 10, 1) if not any(time % unit for time, _ in rows))
+    head = f"$timescale {unit} us $end\n$var wire 1 ! LINE0 $end\n$enddefinitions $end\n"
+    return head + "".join(f"#{time // unit} {level}!\n" for time, level in rows)
 
 
 def unit_of(dump: str) -> int:
@@ -191,28 +194,6 @@ def fields_of(coded: str, told: str) -> list[str]:
 # ---- scenarios
 
 
-class Played(NamedTuple):
-    """The widths that came to a port for a tick of its reader, what the program says the port told,
-    and what it would truly have claimed."""
-
-    widths: list[int]
-    told: str
-    true: str
-
-
-def claim_of(timeline: waves.Timeline, edge: int) -> str:
-    """The second and the mark that a true frame claims at an edge: docs/FRAME.md."""
-    at = timeline.at(edge)
-    if at is None:
-        return "none unspoken"
-    minute = min(at[1] // 60, 1439)
-    day, second = waves.EPOCH + timedelta(at[0]), at[1] - 60 * minute
-    mark = "unspoken"
-    if minute == 1439 and 1 <= second <= 59 and (day + timedelta(1)).day == 1:
-        mark = timeline.leaps.get(at[0], "no-leap")
-    return f"{day}T{minute // 60:02}:{minute % 60:02}:{second:02}Z {mark}"
-
-
 class Run(NamedTuple):
     """A scenario that runs to its end: its first reader's ports, with the widths that came to each,
     tick by tick."""
@@ -220,7 +201,6 @@ class Run(NamedTuple):
     name: str
     plant: dict[str, Any]
     ports: list[tuple[list[int], ...]]
-    restarts: bool
 
     @property
     def rules(self) -> Rules:
@@ -232,18 +212,6 @@ class Run(NamedTuple):
         for port in self.ports:
             line += wave_of(next_begin(line), port)
         return line
-
-    def played(self, path: str) -> Iterator[Played]:
-        """What was played to one port after another, with what the program says of it."""
-        timeline = waves.Plant(self.plant).generators[0].timeline
-        reader = self.plant["readers"][0]["name"]
-        log = printed(path, "run", self.name, "--all", "--ports")
-        told = [line.split()[2:] for line in log if re.match(rf" \d+ {reader} ", line)]
-        claims = [claim_of(timeline, edge) for edge in range(len(told))]
-        for port, words in zip(self.ports, zip(*told)):
-            assert len(port) == len(words), self.name
-            yield from map(Played, port, words, claims)
-            yield Played([], "silence", "")
 
 
 def wave_of(begin_us: int, port: Sequence[Sequence[int]]) -> Iterator[Pulse]:
@@ -265,26 +233,8 @@ def runs() -> list[Run]:
 
 def run_of(name: str) -> Run:
     lines = [line for line in (ROOT / name).read_text().splitlines() if line.strip()]
-    plant, *events = map(json.loads, lines)
-    restarts = any(event["do"] == "restart" for event in events)
-    return Run(name, plant, list(zip(*waves.seconds_of(lines))), restarts)
-
-
-def wanted_of(played: Played) -> str:
-    """What the decoder has to say of a frame. Of a false second the log does not say the mark: then
-    it ends with two dots."""
-    second, _ = played.true.split()
-    if played.told == "ok":
-        return in_words(f"claim {played.true}")
-    if re.match(r"\d{4}-", played.told):
-        return f"UTC {played.told} .."
-    if ":" in played.told:
-        return in_words(played.told.replace(":", " "))
-    return in_words(f"claim {second} {played.told}")
-
-
-def fits(text: str, wanted: str) -> bool:
-    return wanted == (f"{text.partition(' (')[0]} .." if wanted.endswith("..") else text)
+    plant = json.loads(lines[0])
+    return Run(name, plant, list(zip(*waves.seconds_of(lines))))
 
 
 # ---- what a reader hears
@@ -337,6 +287,12 @@ FAULTS = {
 }
 
 
+# What leaves its width to a pulse, and so makes no other frame that looks true.
+KEEP_WIDTHS = ("lost", "late", "early", "cut in two", "glitch behind")
+# What the first three frames of the line below claim.
+TRUE = ["UTC 2016-12-31T23:59:59Z (insert)", "UTC 2016-12-31T23:59:60Z", "UTC 2017-01-01T00:00:00Z"]
+
+
 def true_line(begin_us: int, seconds: int) -> list[Pulse]:
     """The line of a clock that is two hours ahead, before and behind the leap second of 2016."""
     timeline = waves.Timeline(waves.second_of("2016-12-31T23:59:59Z"), {6209: "insert"})
@@ -351,6 +307,18 @@ def with_single_faults() -> list[Pulse]:
     for make, element in itertools.product(FAULTS.values(), range(100, 200, 3)):
         frames = true_line(next_begin(line), 3)
         line += [*frames[:element], *make(*frames[element]), *frames[element + 1 :]]
+    return line
+
+
+def with_pairs(chance: random.Random, count: int) -> list[Pulse]:
+    """The same with two faults, of which one at most changes a width, in the second frame."""
+    line: list[Pulse] = []
+    for _ in range(count):
+        frames = true_line(next_begin(line), 3)
+        kinds = chance.choice(list(FAULTS)), chance.choice(KEEP_WIDTHS)
+        for element, kind in zip(sorted(chance.sample(range(100, 200), 2), reverse=True), kinds):
+            frames[element : element + 1] = FAULTS[kind](*frames[element])
+        line += frames
     return line
 
 
@@ -453,43 +421,6 @@ class Frames(unittest.TestCase):
 FIELDS = {text.split(":")[0] for text in fields_of("2000-001 00:00:00 control 0 sbs 0", "")}
 
 
-class Scenarios(unittest.TestCase):
-    """What came to the ports of the first reader of each scenario, by its own rules, against what
-    the log says each port told. A restart is no matter of wires."""
-
-    def test_each(self) -> None:
-        path = program()
-        count = 0
-        for run in runs():
-            with self.subTest(run.name):
-                if not run.restarts:
-                    count += self.compare(list(run.played(path)), run.rules)
-        print(f"scenarios: {count} frames")
-        self.assertGreater(count, 1000)
-
-    def compare(self, ports: list[Played], rules: Rules) -> int:
-        """How many frames came to ports, all of them alike."""
-        line: list[Pulse] = []
-        begins: list[int] = []
-        carried = [played for played in ports if is_carried(played.widths)]
-        for played, before in zip(ports, [None, *ports]):
-            if is_carried(played.widths):
-                goes_on = before and is_carried(before.widths)
-                begins.append(begins[-1] + waves.SECOND_US if goes_on else next_begin(line))
-                line += pulses_of(begins[-1], played.widths)
-        if line:
-            said = verdicts(decoded(dump_of(closed(line)), rules))
-            self.compare_each(said, carried, begins)
-        return len(carried)
-
-    def compare_each(self, said: list[Said], carried: list[Played], begins: list[int]) -> None:
-        self.assertEqual(len(said), len(carried))
-        for one, played, begin in zip(said, carried, begins):
-            self.assertTrue(begin <= one.begin_us < begin + waves.SECOND_US)
-            if not fits(one.text, wanted_of(played)):
-                self.assertEqual(one.text, wanted_of(played))
-
-
 class Lines(unittest.TestCase):
     """Faults on a line, against `irig.Sync` and a reader that hears it."""
 
@@ -517,8 +448,19 @@ class Lines(unittest.TestCase):
                 self.assertEqual(one.begin_us, begin)
 
     def test_single_faults(self) -> None:
+        """A fault costs its own frame alone."""
         said = self.compare(with_single_faults())
         print(f"single faults: {len(verdicts(said))} frames")
+        told = Counter(one.text for one in verdicts(said) if one.text.startswith("UTC"))
+        count = len(FAULTS) * 34
+        self.assertEqual((told[TRUE[0]], told[TRUE[2]], set(told) - set(TRUE)), (count, count, set()))
+
+    def test_pairs_of_faults(self) -> None:
+        """No claim is untrue, and a frame of three is left at least."""
+        said = self.compare(with_pairs(random.Random(3), 400))
+        told = Counter(one.text for one in verdicts(said) if one.text.startswith("UTC"))
+        self.assertEqual(set(told) - set(TRUE), set())
+        self.assertGreaterEqual(told.total(), 400)
 
     def test_random_faults(self) -> None:
         said = self.compare(with_random_faults(random.Random(1), 300))
@@ -554,7 +496,7 @@ class Lines(unittest.TestCase):
         self.compare_said(decoded(dump_of(line, low=1)), turned(line))
 
     def test_lines_of_scenarios(self) -> None:
-        """Whole lines, with what no port hears as it was sent."""
+        """Whole lines, by each scenario's own rules, with what no port hears as it was sent."""
         for run in runs():
             line = run.line()
             if line and line[-1].rise_us < 1000 * waves.SECOND_US:
@@ -583,10 +525,10 @@ class Pages(unittest.TestCase):
         self.assertEqual((ran.stdout, ran.stderr), (blocks[place + 1], told))
 
     def test_wires(self) -> None:
-        self.compare(ROOT / "docs/WIRES.md", False, "")
+        self.compare(ROOT / "docs/WIRES.md", False, DONE)
 
     def test_pull_request(self) -> None:
-        self.compare(ROOT / "sigrok/README.md", True, "14 seconds of relay on 3 lines\n")
+        self.compare(ROOT / "sigrok/README.md", True, DONE)
 
 
 if __name__ == "__main__":

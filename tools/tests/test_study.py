@@ -141,51 +141,6 @@ class RandomDays(unittest.TestCase):
         )
 
 
-def votes_of(lines: list[dict]) -> list[tuple[bool, bool]]:
-    """Of each edge of a plant of three, none of which lies: is it voted, was a restart before it."""
-    silent: set[int] = set()
-    edges, came, restarted = [], 0, False
-    for line in lines:
-        match line["do"]:
-            case "fault":
-                silent.add(line["g"])
-            case "repair":
-                silent.discard(line["g"])
-            case "restart":
-                came, restarted = 0, True
-            case "carry":
-                came += line["g"] not in silent
-            case "tick":
-                edges.append((came >= 2, restarted))
-                came, restarted = 0, False
-            case "seconds":
-                edges += [(len(silent) < 2, restarted and at == 0) for at in range(line["n"])]
-                restarted = restarted and line["n"] == 0
-    return edges
-
-
-def by_the_rule(edges: list[tuple[bool, bool]], lock_after: int, holdover: int) -> dict[str, int]:
-    """What a reader makes of its edges away from a month's end, by the table of docs/READER.md."""
-    votes, alone, said, expired, longest = 0, 0, [], 0, 0
-    for is_voted, is_restarted in edges:
-        votes = 0 if is_restarted else votes
-        if is_voted:
-            votes, alone = votes + 1, 0
-        elif votes < lock_after:
-            votes = 0
-        elif alone == holdover:
-            votes, expired = 0, expired + 1
-        else:
-            alone += 1
-            longest = max(longest, alone)
-        said.append(votes >= lock_after)
-    runs = "".join("x" if is_said else "." for is_said in said).split("x")
-    return {
-        "edges": len(said), "announced": sum(said), "worst_silence": max(map(len, runs)),
-        "first": said.index(True) + 1, "expired": expired, "guard": 0, "alone": longest,
-    }
-
-
 class Measured(unittest.TestCase):
     """What a log comes to."""
 
@@ -231,15 +186,6 @@ premises kept
                 self.assertEqual(found["worst_silence"], max(lock_after - 1, silent))
                 self.assertEqual(found["expired"], int(silent > 0))
                 self.assertEqual(found["alone"], min(holdover, length))
-
-    def test_random_days(self) -> None:
-        """Whole random days, and what the rule makes of them."""
-        model = Model(lies=0, dark=20, bursts=60, restarts=6, longest=900)
-        for seed, (lock_after, holdover) in enumerate([(1, 0), (3, 1), (5, 10), (20, 60), (60, 600)]):
-            with self.subTest(lock_after=lock_after, holdover=holdover):
-                plant = scenario_of(model, lock_after, holdover, seed)
-                wanted = by_the_rule(votes_of(plant.values[1:]), lock_after, holdover)
-                self.assertEqual(study.measured(study.log_of(plant.text())), wanted)
 
     def test_a_restart(self) -> None:
         found = self.played(7, 60, Day(100, restarts=[50]))
@@ -305,22 +251,18 @@ class Tables(InAFolder):
         self.assertIn(text, found.stderr)
 
     def test_a_map(self) -> None:
-        if not any(self.draws(python) for python in (sys.executable, study.DEBIAN_PYTHON)):
-            skip(self, "the heat map", "python3-matplotlib")
         self.write(
             "5,10,,1,1000,900,40,5,2,0,10", "5,3600,,1,1000,996,4,5,0,0,70", "2,10,,1,10,9,1,2,0,0,0"
         )
         picture = self.folder / "map.png"
         found = ran("map", self.file, picture)
+        if "matplotlib is missing" in found.stderr:
+            skip(self, "the heat map", "python3-matplotlib")
         self.assertEqual((found.returncode, found.stderr), (0, ""))
         self.assertEqual(picture.read_bytes()[:8], b"\x89PNG\r\n\x1a\n")
         self.assertEqual(int.from_bytes(picture.read_bytes()[16:20], "big"), 1200)
         self.says(ran("map", self.file, self.folder / "none/map.png"), "No such file")
         self.says(ran("map", self.file, self.folder / "map.none"), "none")
-
-    def draws(self, python: str) -> bool:
-        words = [python, "-c", "import matplotlib"]
-        return bool(shutil.which(python)) and subprocess.run(words, capture_output=True).returncode == 0
 
 
 class Runs(unittest.TestCase):

@@ -128,10 +128,6 @@ class Page(InAFolder):
                 self.assertEqual(ran.stderr.count("\n"), 1)
                 (self.folder / "plant.log").unlink(missing_ok=True)
 
-    def test_help_begins_with_an_example(self) -> None:
-        ran = subprocess.run([VIEW, "--help"], capture_output=True, text=True)
-        self.assertTrue(ran.stdout.startswith("for example:\n\n    tools/view examples/"))
-
 
 class InBrowser(browser.Driven):
     """What a page does."""

@@ -9,7 +9,6 @@ import math
 import os
 import shutil
 import subprocess
-import sys
 import textwrap
 import unittest
 import wave
@@ -17,6 +16,7 @@ from collections.abc import Iterable, Sequence
 from fractions import Fraction
 from functools import cache
 from pathlib import Path
+from unittest import mock
 
 import loading
 from loading import ROOT
@@ -75,9 +75,8 @@ def is_carried(seconds: Sequence[list[list[int]]]) -> bool:
     return all(width < waves.ELEMENT_US for width in widths)
 
 
-def played(seconds: Sequence[list[list[int]]]) -> list[Change]:
+def played(seconds: Sequence[list[list[int]]], late: Sequence[int] = (0,) * 5) -> list[Change]:
     """The changes by tests/waves.py."""
-    late = [0] * 5
     return sorted(
         change for number, second in enumerate(seconds)
         for change in waves.changes_of(number, second, late)
@@ -175,6 +174,25 @@ class Waves(InAFolder):
     def low(text: str) -> list[Change]:
         plant = json.loads(next(line for line in text.splitlines() if line.strip()))
         return [(0, line, 0) for line in range(len(plant["generators"]))]
+
+    def test_late_lines_and_a_pulled_cable(self) -> None:
+        text = (ROOT / "examples/leap_inserted.jsonl").read_text()
+        for late, (line, *ends) in (
+            ((0, 350, 700), (0, 3300, 5200)), ((700, 0, 10_000), (2, 0, 9062)),
+            ((2**32, 2**32 + 1, 2**32), (1, 2**32 // 1000 + 40, 2**32 // 1000 + 14_060)),
+        ):
+            words = "--late=" + ",".join(map(str, late)), f"--pull={line},{ends[0]},{ends[1]}"
+            wanted = waves.pulled(played(seconds_of(text), late), line, *(1000 * end for end in ends))
+            with self.subTest(words):
+                path = self.made(text, "lines.vcd", *words)
+                self.assertEqual(dumped(path), ([*self.low(text), *sorted(wanted)], 14_070_000 + max(late)))
+                table = self.made(text, "lines.csv", "--changes", *words)
+                self.assertEqual(tabled(table), dumped(path))
+
+    def test_a_cable_that_is_pulled_out_of_a_pulse(self) -> None:
+        text = scenario_of(raw(0, 8000), tick())
+        changes, _ = dumped(self.made(text, "lines.vcd", "--pull=0,52,54"))
+        self.assertEqual([time for time, *_ in changes[3:]], [50_000, 52_000, 54_000, 58_000])
 
     def test_the_reader_that_is_named(self) -> None:
         text = scenario_of(raw(0, 8000), raw(1, 2000, reader="meter"), tick("meter"), tick())
@@ -371,18 +389,11 @@ class Memory(InAFolder):
                 self.assertLess(most, least + self.MORE)
 
     def peak(self, seconds: int, ending: str) -> int:
-        """The most that the tool and the program take, in KiB, by a process that takes little."""
         scenario = self.folder / "long.jsonl"
         scenario.write_text(scenario_of({"do": "seconds", "n": seconds}))
-        least = "import resource as r, subprocess as s, sys; s.run(sys.argv[1:], check=True);" \
-            "print(r.getrusage(r.RUSAGE_CHILDREN).ru_maxrss)"
         more = ["--rate=2000"] if ending != ".vcd" else []
-        command = [TOOL, scenario, "-o", self.folder / f"long{ending}", *more]
-        ran = subprocess.run(
-            [sys.executable, "-c", least, *command], capture_output=True, text=True, check=True,
-            env=ENVIRONMENT, timeout=300,
-        )
-        return int(ran.stdout)
+        with mock.patch.dict(os.environ, ENVIRONMENT):
+            return loading.peak(TOOL, scenario, "-o", self.folder / f"long{ending}", *more)[1]
 
 
 class Words(InAFolder):
@@ -399,6 +410,10 @@ class Words(InAFolder):
             ([path, "-o", "a.vcd", "--changes"], "--changes is for a .csv; see"),
             ([path, "-o", "a.vcd", "--rate=5000"], "--rate is for a .wav, and a .csv with a row a"),
             ([path, "-o", "a.csv", "--changes", "--rate=5000"], "--rate is for a .wav, and"),
+            ([path, "-o", "a.vcd", "--late=0,1"], f"wave: {path}: --late wants 3 times, one for each line\n"),
+            ([path, "-o", "a.vcd", "--late=0,1,-1"], "'0,1,-1' is not whole numbers, as 0,350,700"),
+            ([path, "-o", "a.vcd", "--pull=3,1,2"], "--pull names line 3; there are 0 to 2\n"),
+            ([path, "-o", "a.vcd", "--pull=0,2,1"], "'0,2,1' is not LINE,FROM_MS,TO_MS, as 0,3300"),
             ([path, "-o", "a.wav", "--rate=100"], "'100' is not a whole number from 2000 to"),
             ([path, "-o", "a.vcd", "--reader=meter"],
              f"wave: {path}: it has no reader 'meter'; it has relay, recorder\n"),
@@ -432,10 +447,6 @@ class Words(InAFolder):
         self.assertEqual(said, "wave: -: 'irig flatten' ended with status 1\n")
         said = self.refused("-", "-o", self.folder / "a.vcd", given=scenario_of(), IRIG="none/irig")
         self.assertEqual(said, "wave: -: No such file or directory\n")
-
-    def test_help_begins_with_an_example(self) -> None:
-        ran = run("--help")
-        self.assertTrue(ran.stdout.startswith("for example:\n\n    tools/wave "))
 
 
 if __name__ == "__main__":
