@@ -1,5 +1,5 @@
 /* The calls of irig.h: each tests its pointers, and then calls the proved function of its name in
- * crates/irig_c, which asks for pointers that lead somewhere and for nothing else. */
+ * crates/c_reader, which asks for pointers that lead somewhere and for nothing else. */
 #include "irig.h"
 
 /* ---- the proved functions */

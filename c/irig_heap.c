@@ -1,4 +1,4 @@
-/* The three functions by which libirig_scene_c.a asks for memory, over those of the C library. */
+/* The three functions by which libc_scenario.a asks for memory, over those of the C library. */
 #include <stdbool.h>
 #include <stddef.h>
 #include <stdlib.h>

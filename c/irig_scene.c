@@ -1,5 +1,5 @@
 /* The calls of irig_scene.h: each tests its pointers, and then calls the proved function in
- * crates/irig_scene_c, which asks for pointers that lead somewhere and for nothing else. */
+ * crates/c_scenario, which asks for pointers that lead somewhere and for nothing else. */
 #include "irig_scene.h"
 
 uint8_t irig_scene_c_run(const uint8_t *text, size_t count, bool all, uint8_t *log, size_t room,

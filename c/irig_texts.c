@@ -1,5 +1,5 @@
-/* The texts of irig.h. tools/repo/faults makes this file: of crates/irig_faults/src/meaning.rt, and
- * of crates/irig_words/src/word.rt. */
+/* The texts of irig.h. tools/repo/faults makes this file: of crates/text_faults/src/meaning.rt, and
+ * of crates/text_words/src/explained.rt. */
 #include "irig.h"
 
 typedef struct words {

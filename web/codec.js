@@ -1,4 +1,4 @@
-// ---- the codec: what the page asks the module of irig_c, as c/irig.h has its structures
+// ---- the codec: what the page asks the module of c_reader, as c/irig.h has its structures
 
 const SYMBOLS = "01P?";
 const MOST_SYMBOLS = 101; // enough to see that there are too many
@@ -135,7 +135,7 @@ function symbols_of(text) {
   return { symbols };
 }
 
-// ---- the lines that `irig read` prints, by the module of irig_scene_c; each call has a memory of its own
+// ---- the lines that `irig read` prints, by the module of c_scenario; each call has a memory of its own
 
 const TEXT_PAGES = 64, MOST_TEXT_PAGES = 1024; // of memory
 const LINES_ROOM = 256; // bytes: more than the lines have

@@ -26,7 +26,7 @@ for (const name of TABS) {
 }
 show_tab("run");
 
-const modules = { runner: compiled("irig_scene_c"), codec: compiled("irig_c") };
+const modules = { runner: compiled("c_scenario"), codec: compiled("c_reader") };
 const tab = new ScenarioTab(modules.runner);
 const ready = Promise.all([
   tab.take_link().then((is_taken) => is_taken || tab.run_example("leap_inserted")),

@@ -1,6 +1,6 @@
 #!/usr/bin/env python3
 """Makes the page that runs irig of its parts here, the modules beside it and the pages of docs/:
-`page.py FOLDER`, where FOLDER has irig_scene_c.wasm and irig_c.wasm, and gets irig.html."""
+`page.py FOLDER`, where FOLDER has c_scenario.wasm and c_reader.wasm, and gets irig.html."""
 from __future__ import annotations
 
 import base64
@@ -20,7 +20,7 @@ SCRIPTS = (PARTS / "list.js", PARTS / "reading.js", WEB / "log.js", PARTS / "tim
            WEB / "frame.js", WEB / "editor.js", WEB / "scenario.js", WEB / "page.js")
 WORKER = PARTS / "reading.js", WEB / "worker.js"
 FIELDS = ("second", "minute", "hour", "day", "year")
-MODULES = ("irig_scene_c", "irig_c")
+MODULES = ("c_scenario", "c_reader")
 LETTERS = {**dict(zip("smhdy", FIELDS)), "o": "offset", "q": "time quality", "b": "straight binary seconds"}
 FLAGS = {".": "none", "par": "parity", "LP": "leap pending", "LD": "leap is deleted",
          "DP": "daylight saving pending", "DS": "daylight saving"}

@@ -18,7 +18,7 @@ const { told_of } = values(inside("worker"), "told_of");
 const { Codec, Texts, frame_text } = values(here("codec.js"), "Codec, Texts, frame_text");
 const { answers_of } = values(here("answers.js"), "answers_of");
 
-const module = module_of("irig_scene_c"), codec = new Codec(module_of("irig_c"));
+const module = module_of("c_scenario"), codec = new Codec(module_of("c_reader"));
 const texts = new Texts(module);
 const run = (text, shown) => told_of({ module, text, shown, most: MOST }, () => {});
 let text = "";

@@ -6,7 +6,7 @@ import { argv } from "node:process";
 const ROUNDS = 200_000, MOST_BLOCKS = 300, LARGEST = 1 << 20, PAGES = 4096;
 const page = readFileSync(argv[2], "utf8");
 const data = JSON.parse(page.split(' id="data">')[1].split("</script>")[0]);
-const module = new WebAssembly.Module(Buffer.from(data.modules.irig_scene_c, "base64"));
+const module = new WebAssembly.Module(Buffer.from(data.modules.c_scenario, "base64"));
 
 let seed = 1;
 const chance = (below) => { // the numbers of a small generator, the same each time

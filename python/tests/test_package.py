@@ -77,7 +77,7 @@ class Package(unittest.TestCase):
             shutil.copytree(ROOT / name, self.folder / name, ignore=ignored)
         ran = self.hook("build_wheel", self.folder, self.folder)
         self.assertEqual((ran.returncode, ran.stdout), (1, ""))
-        self.assertRegex(ran.stderr, r"^crates/irig_c/out/libirig_c.a is missing. `make -C c`")
+        self.assertRegex(ran.stderr, r"^crates/c_reader/out/libc_reader.a is missing. `make -C c`")
 
     def test_a_folder_alone(self) -> None:
         ignored = shutil.ignore_patterns("__pycache__")

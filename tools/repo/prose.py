@@ -18,10 +18,10 @@ CELL_END = re.compile(r"(?<!\\)\|")
 # Where a sentence ends: marks of emphasis and brackets may stand behind its full stop.
 SENTENCE_END = re.compile(r"(?<=[.?!])[\"')*_]*\s+")
 WORD = re.compile(r"\w(?:[\w'./-]*\w)?")
-PRODUCT = re.compile(r"^(irig_(?!uses\b)\w+)(?: staticlib)?:", re.MULTILINE)
+PRODUCT = re.compile(r"^((?!example_|test_|bench_)[a-z]+_\w+)(?: staticlib)?:", re.MULTILINE)
 CRATE = re.compile(r"^(\w+)(?: staticlib)?:", re.MULTILINE)
 USES = re.compile(r"^(\w+)(?: staticlib)?:(.*)", re.MULTILINE)
-CRATES = re.compile(r"\birig_\w+")
+CRATES = re.compile(r"\b(?:irig|scenario|report|text|c|cli)_\w+")
 NAME = re.compile(r"`[^`]*`|\b(irig_[a-z]\w*)\b")
 
 

@@ -15,16 +15,16 @@ pages = loaded(ROOT / "tools/repo/pages")
 
 CRATES = """# frames
 irig_frame:
-irig_frame_text: irig_frame
-irig_c staticlib: irig_frame
-irig_uses: irig_frame
+text_frame: irig_frame
+c_reader staticlib: irig_frame
+example_uses: irig_frame
 test_signal: irig_frame
 """
-MAP = """Begins with irig_c.
+MAP = """Begins with c_reader.
 
 ## The crates
 
-    texts    irig_frame_text
+    texts    text_frame
 
 ## Frames
 
@@ -102,24 +102,24 @@ class SharedRuns(unittest.TestCase):
 
 class Crates(unittest.TestCase):
     def test_each_of_the_product_is_in_the_map(self) -> None:
-        self.assertEqual(prose.missing_crates(CRATES, MAP), ["irig_frame", "irig_c"])
-        whole = MAP.replace("irig_frame_text", "irig_frame, irig_frame_text, irig_c")
+        self.assertEqual(prose.missing_crates(CRATES, MAP), ["irig_frame", "c_reader"])
+        whole = MAP.replace("text_frame", "irig_frame, text_frame, c_reader")
         self.assertEqual(prose.missing_crates(CRATES, whole), [])
 
     def test_each_is_before_those_that_it_uses(self) -> None:
         map_of = "## The crates\n\nUses those after it, as irig_frame does.\n\n    {}\n    {}\n".format
-        right = map_of("top    irig_c, irig_frame_text,", "low    irig_frame")
+        right = map_of("top    c_reader, text_frame,", "low    irig_frame")
         self.assertEqual(prose.misplaced_crates(CRATES, right), [])
-        wrong = map_of("top    irig_frame_text, irig_frame", "low    irig_c")
-        self.assertEqual(prose.misplaced_crates(CRATES, wrong), ["irig_c, irig_frame"])
+        wrong = map_of("top    text_frame, irig_frame", "low    c_reader")
+        self.assertEqual(prose.misplaced_crates(CRATES, wrong), ["c_reader, irig_frame"])
 
     def test_none_that_is_gone(self) -> None:
-        text = "Over irig_frame and irig_uses, in irig_gone.\n\n| irig_old |\n\n    irig_code\n"
+        text = "Over irig_frame and example_uses, in irig_gone.\n\n| irig_old |\n\n    irig_code\n"
         self.assertEqual(prose.gone_crates(CRATES, text), ["irig_gone", "irig_old"])
-        self.assertEqual(prose.gone_crates(CRATES, "`irig_reader_tick` of irig_c\n"), [])
+        self.assertEqual(prose.gone_crates(CRATES, "`irig_reader_tick` of c_reader\n"), [])
 
     def test_none_that_is_gone_is_drawn(self) -> None:
-        text = "    tick     irig_frame code ─► irig_first    a log line\n\n## The crates\n\n    irig_c, irig_second\n"
+        text = "    tick     irig_frame code ─► irig_first    a log line\n\n## The crates\n\n    c_reader, irig_second\n"
         self.assertEqual(prose.gone_crates(CRATES, text), ["irig_first", "irig_second"])
 
 

@@ -4,11 +4,11 @@
 ghost use Rattle.std.specs.Prelude.{IfSome};
 ghost use Rattle.irig_plant.specs.History.{AreReaders};
 
+use example_uses::plants::plain_plant;
 use irig_plant::{Event, Plant, ReaderSetup};
 use irig_port::FlowPort;
 use irig_reader::ReaderRules;
 use irig_time::{LeapTable, Timeline, UtcSecond};
-use irig_uses::plants::plain_plant;
 use std::alloc::Global;
 use std::io;
 

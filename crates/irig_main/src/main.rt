@@ -1,8 +1,15 @@
 //! The program: the words, the devices and the exit status of a run.
 #![tactic(auto)]
 
-use irig_commands::{Fault, drive, report};
+mod explain;
+mod fault;
+mod play;
+mod program;
+mod request;
+
+use fault::{Fault, report};
 use irig_device::Watched;
+use program::drive;
 use std::io::{BufReader, ErrorKind, IsTerminal};
 use std::process::ExitCode;
 use std::{env, io};

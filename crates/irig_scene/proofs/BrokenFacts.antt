@@ -4,9 +4,9 @@ use Rattle.std.specs.Prelude.{slice_get, unwrap_or}
 use Rattle.std.specs.Fmt.{digits}
 use Rattle.std.proofs.lemmas.List.{length-append}
 use Rattle.std.proofs.lemmas.List.Elements.{recursion_from_All, All-from_recursion}
-use Rattle.irig_scenario.proofs.PlainLines.{plan}
-use Rattle.irig_log_text.specs.LogLines.{whole_lines, Shows, broken_line}
-use Rattle.irig_log_text.proofs.LogLaws.{shown_once}
+use Rattle.scenario_line.proofs.PlainLines.{plan}
+use Rattle.report_log.specs.LogLines.{whole_lines, Shows, broken_line}
+use Rattle.report_log.proofs.LogLaws.{shown_once}
 use Rattle.irig_scene.specs.Lines.{lines}
 use Rattle.irig_scene.specs.VouchedLines.{ShowsTruth}
 use Rattle.irig_scene.specs.BrokenLogs.{ShowsTruthBefore, AreTrueUntil, VouchesUntilBroken}

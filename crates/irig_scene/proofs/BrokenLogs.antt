@@ -18,13 +18,13 @@ use Rattle.irig_time.specs.TimelineFaults.{IsTimeline}
 use Rattle.irig_plant.specs.Truth.{AnnouncesTruth, IsTruthful}
 use Rattle.irig_plant.proofs.BrokenLogs.{BreaksFirst, breaks_at, true_below, splits_log}
 use Rattle.irig_plant.proofs.Headline.{log_is_true}
-use Rattle.irig_log_text.specs.declared.shown.Shown.{Shown}
-use Rattle.irig_log_text.specs.LogLines.{whole_lines, Shows, ShowsNothing, broken_line}
-use Rattle.irig_log_text.proofs.WordLaws.{AreNames}
-use Rattle.irig_log_text.proofs.LogLaws.{all_left, all_at, all_join, whole_front, entry_line, entry_shows, entry_digit}
-use Rattle.irig_log_text.proofs.RowLaws.{rows, lines_of_rows, each_row, port_row_shows_nothing}
-use Rattle.irig_log_text.proofs.LastLines.{refusal_lines, audit_lines}
-use Rattle.irig_log_text.proofs.BrokenLines.{HasFewEdge, IsBrokenBy, says_broken, refusal_not_broken, rows_join, AllAfterFirst, rows_after_first, front_has}
+use Rattle.report_log.specs.declared.shown.Shown.{Shown}
+use Rattle.report_log.specs.LogLines.{whole_lines, Shows, ShowsNothing, broken_line}
+use Rattle.report_log.proofs.WordLaws.{AreNames}
+use Rattle.report_log.proofs.LogLaws.{all_left, all_at, all_join, whole_front, entry_line, entry_shows, entry_digit}
+use Rattle.report_log.proofs.RowLaws.{rows, lines_of_rows, each_row, port_row_shows_nothing}
+use Rattle.report_log.proofs.LastLines.{refusal_lines, audit_lines}
+use Rattle.report_log.proofs.BrokenLines.{HasFewEdge, IsBrokenBy, says_broken, refusal_not_broken, rows_join, AllAfterFirst, rows_after_first, front_has}
 use Rattle.irig_scene.specs.Scene.{Scene, refusal_as, Refused, meaning_of, log_text, audit_in, ending_text, output_shown}
 use Rattle.irig_scene.specs.VouchedLines.{ShowsTruth}
 use Rattle.irig_scene.specs.BrokenLogs.{ShowsTruthBefore, AreTrueUntil, VouchesUntilBroken}

@@ -6,11 +6,11 @@ use Rattle.std.specs.Fmt.{digits}
 use Rattle.std.proofs.lemmas.Bool.{false≢true}
 use Rattle.std.proofs.lemmas.List.{length-append}
 use Rattle.std.proofs.lemmas.List.Elements.{All-from_recursion}
-use Rattle.irig_scenario.proofs.PlainLines.{plan}
-use Rattle.irig_log_text.specs.LogLines.{whole_lines}
-use Rattle.irig_log_text.specs.PortWords.{ShowsVoted, ShowsWords, has_false_majority}
-use Rattle.irig_log_text.proofs.LogLaws.{shown_once}
-use Rattle.irig_log_text.proofs.PortWordLaws.{words_once}
+use Rattle.scenario_line.proofs.PlainLines.{plan}
+use Rattle.report_log.specs.LogLines.{whole_lines}
+use Rattle.report_log.specs.PortWords.{ShowsVoted, ShowsWords, has_false_majority}
+use Rattle.report_log.proofs.LogLaws.{shown_once}
+use Rattle.report_log.proofs.PortWordLaws.{words_once}
 use Rattle.irig_scene.specs.Lines.{lines}
 use Rattle.irig_scene.specs.LogLines.{IsTimeOf}
 use Rattle.irig_scene.specs.VouchedByPorts.{ShowsTruthByPorts, IsTrueByPorts, VouchesByPorts}

@@ -15,22 +15,22 @@ use Rattle.irig_plant.specs.Audits.{is_true_table}
 use Rattle.irig_plant.specs.HealthyPlant.{healthy_log}
 use Rattle.irig_plant.proofs.TableLaws.{test_by_true}
 use Rattle.irig_plant.proofs.KeptLaws.{empty_true}
-use Rattle.irig_faults.specs.declared.refusal.Refusal.{Refusal}
-use Rattle.irig_scenario.specs.declared.event_line.Command.{Command}
-use Rattle.irig_scenario.specs.declared.event_line.Command.TheVariants as command
-use Rattle.irig_values.specs.Names.{is_name, are_names}
-use Rattle.irig_scenario.specs.EventLine.{command_in_line}
-use Rattle.irig_scenario.specs.PlantLine.{Plan, plan_in_line}
-use Rattle.irig_scenario.proofs.BlankLines.{command_not_blank}
-use Rattle.irig_scenario.proofs.PlainLines.{seconds_line, asks_two, plant_line, plan, makes_plan}
+use Rattle.text_faults.specs.declared.refusal.Refusal.{Refusal}
+use Rattle.scenario_line.specs.declared.event_line.Command.{Command}
+use Rattle.scenario_line.specs.declared.event_line.Command.TheVariants as command
+use Rattle.scenario_values.specs.Names.{is_name, are_names}
+use Rattle.scenario_line.specs.EventLine.{command_in_line}
+use Rattle.scenario_line.specs.PlantLine.{Plan, plan_in_line}
+use Rattle.scenario_line.proofs.BlankLines.{command_not_blank}
+use Rattle.scenario_line.proofs.PlainLines.{seconds_line, asks_two, plant_line, plan, makes_plan}
 use Rattle.irig_scene.specs.Lines.{lines, is_blank, max_line}
 use Rattle.irig_scene.specs.Scene.{output}
-use Rattle.irig_log_text.specs.Text.{entry_text, entries_text}
-use Rattle.irig_log_text.specs.LogLines.{Shows}
+use Rattle.report_log.specs.Text.{entry_text, entries_text}
+use Rattle.report_log.specs.LogLines.{Shows}
 use Rattle.irig_scene.specs.HealthyRun.{AskSeconds, IsOfSeconds, IsHealthyRun, HasTimeLine}
-use Rattle.irig_log_text.proofs.WordLaws.{AreNames}
+use Rattle.report_log.proofs.WordLaws.{AreNames}
 use Rattle.irig_scene.proofs.NameLaws.{are_names_named}
-use Rattle.irig_log_text.proofs.LogLaws.{shown_once}
+use Rattle.report_log.proofs.LogLaws.{shown_once}
 use Rattle.irig_scene.proofs.HealthyRuns.{is_announced, writes_healthy_log}
 
 -- ---- the plant line, a blank line, and two seconds

@@ -23,22 +23,22 @@ use Rattle.irig_plant.proofs.Standing.{can_lock}
 use Rattle.irig_plant.proofs.SecondEvents.{after_both}
 use Rattle.irig_plant.proofs.HealthyLaws.{earlier_there, parts_accepted, takes_seconds_so_far, logs_health, keeps_health}
 use Rattle.irig_plant.specs.HealthyPlant.{seconds_of, IsHealthyPlant, healthy_report, healthy_entry, healthy_log}
-use Rattle.irig_scenario.specs.declared.event_line.Command.TheVariants as command
-use Rattle.irig_scenario.specs.EventLine.{command_in_line}
-use Rattle.irig_values.specs.Names.{are_names}
-use Rattle.irig_scenario.specs.PlantLine.{Plan}
-use Rattle.irig_scenario.proofs.SoundPlans.{IsSound, plan_is_sound}
+use Rattle.scenario_line.specs.declared.event_line.Command.TheVariants as command
+use Rattle.scenario_line.specs.EventLine.{command_in_line}
+use Rattle.scenario_values.specs.Names.{are_names}
+use Rattle.scenario_line.specs.PlantLine.{Plan}
+use Rattle.scenario_line.proofs.SoundPlans.{IsSound, plan_is_sound}
 use Rattle.irig_scene.specs.Lines.{max_line, max_lines}
 use Rattle.irig_scene.specs.Scene.{scene, after_play, Step, step, step_to, step_of_plan, step_of_command, meaning, meaning_from, meaning_of, text_of, output}
-use Rattle.irig_log_text.specs.Text.{time_shown_text, entries_text, entries_alone, audit_text}
-use Rattle.irig_log_text.specs.LogLines.{whole_lines, Shows}
+use Rattle.report_log.specs.Text.{time_shown_text, entries_text, entries_alone, audit_text}
+use Rattle.report_log.specs.LogLines.{whole_lines, Shows}
 use Rattle.irig_scene.specs.HealthyRun.{AskSeconds, IsOfSeconds, IsHealthyRun, HasTimeLine}
 use Rattle.irig_scene.proofs.NameLaws.{are_names_named}
-use Rattle.irig_log_text.proofs.LogLaws.{entry_line, lines_of_entries, entry_line_shows}
+use Rattle.report_log.proofs.LogLaws.{entry_line, lines_of_entries, entry_line_shows}
 use Rattle.irig_scene.proofs.PlayLaws.{play_all}
 use Rattle.irig_scene.proofs.PlayLaws.{split_at}
 use Rattle.irig_scene.proofs.StepLaws.{step_blank, step_taken, meaning_goes, meaning_ends}
-use Rattle.irig_scenario.proofs.BlankLines.{plant_not_blank, command_not_blank}
+use Rattle.scenario_line.proofs.BlankLines.{plant_not_blank, command_not_blank}
 
 -- ---- elements of lists
 

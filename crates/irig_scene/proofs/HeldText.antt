@@ -5,9 +5,9 @@ use Rattle.std.proofs.KnownBytes.{Appends-trans, Appends-nil}
 use Rattle.irig_device.specs.Watched.{AppendsPart}
 use Rattle.irig_plant.specs.declared.event.Event.{Event}
 use Rattle.irig_plant.specs.WholeSecond.{times}
-use Rattle.irig_faults.specs.declared.refusal.Refusal.{Refusal}
-use Rattle.irig_scenario.specs.declared.event_line.Command.{Command}
-use Rattle.irig_scenario.specs.declared.event_line.Command.TheVariants as command
+use Rattle.text_faults.specs.declared.refusal.Refusal.{Refusal}
+use Rattle.scenario_line.specs.declared.event_line.Command.{Command}
+use Rattle.scenario_line.specs.declared.event_line.Command.TheVariants as command
 use Rattle.irig_scene.specs.Scene.{Scene, events_of, play}
 use Rattle.irig_scene.specs.Scene.{after_events}
 use Rattle.irig_scene.proofs.PlayLaws.{one_time_more, split_at, times_left}

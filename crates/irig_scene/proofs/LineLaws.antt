@@ -4,7 +4,7 @@ use Rattle.std.specs.List.{AllByRecursion}
 use Rattle.std.proofs.lemmas.List.Elements.{recursion_from_All}
 use Rattle.irig_device.specs.Lines.{HasNoNewline}
 use Rattle.irig_scene.specs.Lines.{lines, onto_first, unlines}
-use Rattle.irig_log_text.proofs.LogLaws.{not_newline}
+use Rattle.report_log.proofs.LogLaws.{not_newline}
 
 line_ends : (l : List ℕ) → AllByRecursion (λ b. b ≢ 10) l → (rest : List ℕ) → lines (l ++ 10 ∷ rest) ≡ l ∷ lines rest
 unfolding lines

@@ -3,17 +3,17 @@ use Rattle.std.proofs.Common.{◌≡◌, ℕ, true, false, cond, List, [], ◌�
 use Rattle.irig_plant.specs.declared.event.Event.{Event}
 use Rattle.irig_plant.specs.declared.event.Event.TheVariants.{GenEdge, Tick, Carry, Damage, Replay, Raw, Fault, Repair, Restart}
 use Rattle.irig_plant.specs.Schedule.{Setup, log_of, told_log_of}
-use Rattle.irig_scenario.specs.PlantLine.{Plan}
+use Rattle.scenario_line.specs.PlantLine.{Plan}
 use Rattle.irig_device.specs.Watched.{AppendsPart}
 use Rattle.std.specs.Io.KnownBytes.{Appends}
-use Rattle.irig_log_text.specs.declared.shown.Shown.{Shown}
-use Rattle.irig_log_text.specs.Text.{lines_text, entries_text, ticks_text}
+use Rattle.report_log.specs.declared.shown.Shown.{Shown}
+use Rattle.report_log.specs.Text.{lines_text, entries_text, ticks_text}
 use Rattle.irig_plant.specs.declared.entry.Entry.{Entry}
 use Rattle.irig_plant.specs.declared.told_log.ToldEntry.{ToldEntry}
 use Rattle.irig_plant.proofs.ToldLaws.{told_length}
 use Rattle.std.specs.Prelude.{OnOk}
 use Rattle.std.proofs.Math.Seq.{drop-append_seam}
-use Rattle.irig_log_text.proofs.TextLaws.{no_lines}
+use Rattle.report_log.proofs.TextLaws.{no_lines}
 use Rattle.irig_scene.specs.declared.outcome.Outcome.{Outcome}
 use Rattle.irig_scene.specs.declared.fault.SceneFault.{SceneFault}
 use Rattle.irig_scene.specs.declared.fault.SceneFault.TheVariants.{Refused, Read, Write, Memory}

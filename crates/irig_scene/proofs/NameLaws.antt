@@ -5,9 +5,9 @@ use Rattle.std.specs.List.{list_all, list_any}
 use Rattle.std.specs.Str.{bytes_eq}
 use Rattle.std.proofs.lemmas.Bool.{and_parts, or_cases, not-true, both_ways}
 use Rattle.std.proofs.lemmas.Slice.Eq.{bytes_eq-Decides}
-use Rattle.irig_values.specs.Names.{is_name_byte, one_to_sixteen, is_name, all_different, are_names}
-use Rattle.irig_log_text.specs.Text.{name_at}
-use Rattle.irig_log_text.proofs.WordLaws.{IsWord, AreNames}
+use Rattle.scenario_values.specs.Names.{is_name_byte, one_to_sixteen, is_name, all_different, are_names}
+use Rattle.report_log.specs.Text.{name_at}
+use Rattle.report_log.proofs.WordLaws.{IsWord, AreNames}
 
 name_byte_word : (b : ℕ) → is_name_byte b ≡ true → 32 < b
 name_byte_word b h = elim (or_cases (nat_le 97 b && nat_le b 122) _ h) [

@@ -2,20 +2,20 @@
 use Rattle.std.proofs.Common.{◌≡◌, ℕ, ◌+◌, Bool, true, false, not, cond, List, [], ◌∷◌, ◌++◌, length, map, Option, Some, None, Result, Ok, Err, refl, ap, sym, subst, ◌∙◌, nat_lt}
 use Rattle.std.specs.Prelude.{⊤, is_some}
 use Rattle.std.specs.List.{find}
-use Rattle.irig_faults.specs.declared.refusal.Refusal.{Refusal}
-use Rattle.irig_faults.specs.declared.refusal.Refusal.TheVariants as refusal
-use Rattle.irig_scenario.specs.declared.event_line.Command.{Command}
-use Rattle.irig_scenario.specs.EventLine.{command_in_line}
-use Rattle.irig_scenario.specs.PlantLine.{Plan, plan_in_line}
-use Rattle.irig_scenario.proofs.NamesAndTimes.{plan_has}
-use Rattle.irig_scenario.specs.NamesAndTimes.{HasNamesAndTimes}
-use Rattle.irig_forms.specs.Json.{json_of}
-use Rattle.irig_values.specs.Names.{name_in}
-use Rattle.irig_values.specs.PlantValues.{start_of, leaps_of, readers_in}
+use Rattle.text_faults.specs.declared.refusal.Refusal.{Refusal}
+use Rattle.text_faults.specs.declared.refusal.Refusal.TheVariants as refusal
+use Rattle.scenario_line.specs.declared.event_line.Command.{Command}
+use Rattle.scenario_line.specs.EventLine.{command_in_line}
+use Rattle.scenario_line.specs.PlantLine.{Plan, plan_in_line}
+use Rattle.scenario_line.proofs.NamesAndTimes.{plan_has}
+use Rattle.scenario_line.specs.NamesAndTimes.{HasNamesAndTimes}
+use Rattle.scenario_json.specs.Json.{json_of}
+use Rattle.scenario_values.specs.Names.{name_in}
+use Rattle.scenario_values.specs.PlantValues.{start_of, leaps_of, readers_in}
 use Rattle.irig_time.specs.Timelines.{TimelineValue, times}
 use Rattle.irig_scene.specs.Lines.{lines, is_blank, max_line, max_lines}
 use Rattle.irig_scene.specs.Scene.{Scene, scene, step, step_to, step_of_plan, step_of_command, step_of_line, Meaning, unless_stopped, meaning_from, meaning_of, output_shown}
-use Rattle.irig_log_text.specs.declared.shown.Shown.{Shown}
+use Rattle.report_log.specs.declared.shown.Shown.{Shown}
 use Rattle.irig_scene.specs.LogLines.{IsTrueLog}
 use Rattle.irig_scene.specs.VouchedLines.{plant_line_of, IsPlantLineOf, AreTrueOf, VouchesByPlantLine}
 use Rattle.irig_scene.proofs.TrueLines.{vouches_for_itself}

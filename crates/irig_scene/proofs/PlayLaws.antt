@@ -11,12 +11,12 @@ use Rattle.irig_plant.specs.Schedule.{Setup, log_of, entry_of, told_log_of, told
 use Rattle.irig_plant.specs.Refusals.{refusal}
 use Rattle.irig_plant.proofs.ToldLaws.{told_length}
 use Rattle.irig_plant.specs.Runs.{events_after, AreAccepted, IsRefused}
-use Rattle.irig_faults.specs.declared.refusal.Refusal.{Refusal}
-use Rattle.irig_log_text.specs.declared.shown.Shown.{Shown}
+use Rattle.text_faults.specs.declared.refusal.Refusal.{Refusal}
+use Rattle.report_log.specs.declared.shown.Shown.{Shown}
 use Rattle.irig_scene.specs.Scene.{refusal_as}
 use Rattle.irig_scene.specs.Scene.{Play, play, play_by, unless_refused, Scene, scene, log_text}
-use Rattle.irig_log_text.specs.Text.{lines_text}
-use Rattle.irig_log_text.proofs.TextLaws.{lines_join}
+use Rattle.report_log.specs.Text.{lines_text}
+use Rattle.report_log.proofs.TextLaws.{lines_join}
 use Rattle.irig_plant.specs.WholeSecond.{times}
 use Rattle.std.proofs.Common.{◌+◌, ◌-◌}
 

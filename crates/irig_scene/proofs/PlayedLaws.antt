@@ -10,16 +10,16 @@ use Rattle.irig_plant.specs.WholeSecond.{times}
 use Rattle.irig_plant.specs.Runs.{IsRefused}
 use Rattle.irig_plant.specs.declared.fault.PlantFault.{PlantFault}
 use Rattle.irig_device.specs.Watched.{AppendsPart}
-use Rattle.irig_faults.specs.declared.refusal.Refusal.{Refusal}
-use Rattle.irig_scenario.specs.declared.event_line.Command.{Command}
-use Rattle.irig_scenario.specs.declared.event_line.Command.TheVariants as command
+use Rattle.text_faults.specs.declared.refusal.Refusal.{Refusal}
+use Rattle.scenario_line.specs.declared.event_line.Command.{Command}
+use Rattle.scenario_line.specs.declared.event_line.Command.TheVariants as command
 use Rattle.irig_scene.specs.declared.stop.Stop.{Stop}
 use Rattle.irig_scene.specs.declared.stop.Stop.TheVariants.{Refused, Failed}
 use Rattle.irig_scene.specs.Scene.{Scene, scene, events_of, refusal_as, Play, play, play_by, unless_refused}
 use Rattle.irig_scene.specs.Scene.{after_events, second_in}
 use Rattle.irig_scene.proofs.PlayLaws.{play_until}
 use Rattle.irig_scene.proofs.PlayLaws.{plays_on, plays_no_further, one_time_more, times_left}
-use Rattle.irig_scenario.specs.PlantLine.{Plan}
+use Rattle.scenario_line.specs.PlantLine.{Plan}
 use Rattle.irig_scene.specs.Texts.{Texts, said, said_in}
 use Rattle.irig_scene.specs.ListenerRuns.{SaidMore, SaidPart, PlayedFor, Played}
 

@@ -5,16 +5,16 @@ use Rattle.irig_plant.specs.declared.event.Event.{Event}
 use Rattle.irig_plant.specs.WholeSecond.{times}
 use Rattle.irig_plant.specs.History.{HasPlantHistory}
 use Rattle.irig_plant.specs.Schedule.{log_of}
-use Rattle.irig_log_text.specs.Text.{texts_of}
-use Rattle.irig_scenario.specs.declared.event_reader.EventReader.{EventReader}
+use Rattle.report_log.specs.Text.{texts_of}
+use Rattle.scenario_line.specs.declared.event_reader.EventReader.{EventReader}
 use Rattle.std.specs.Prelude.{Vec, String, IfOk, string_bytes}
 use Rattle.std.specs.declared.alloc.Global.{Global}
 use Rattle.irig_scene.specs.Listening.{history_past, HasTaken}
-use Rattle.irig_faults.specs.declared.refusal.Refusal.{Refusal}
+use Rattle.text_faults.specs.declared.refusal.Refusal.{Refusal}
 use Rattle.irig_scene.specs.declared.stop.Stop.{Stop}
 use Rattle.irig_scene.specs.declared.stop.Stop.TheVariants.{Refused, Failed}
 use Rattle.irig_plant.specs.declared.plant.Plant.{Plant}
-use Rattle.irig_scenario.specs.PlantLine.{Plan}
+use Rattle.scenario_line.specs.PlantLine.{Plan}
 use Rattle.irig_scene.specs.Scene.{Scene, scene}
 use Rattle.irig_scene.specs.Scene.{after_events, second_in}
 use Rattle.irig_scene.specs.declared.player.Player.{Player}

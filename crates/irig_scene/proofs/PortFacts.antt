@@ -25,8 +25,8 @@ use Rattle.irig_plant.specs.declared.told_log.ToldEntry.{ToldEntry}
 use Rattle.irig_plant.specs.Widths.{widths_of}
 use Rattle.irig_plant.specs.Schedule.{generator_at, entry_of, told_entry_of}
 use Rattle.irig_plant.proofs.FrameLaws.{true_frame_told}
-use Rattle.irig_scenario.proofs.PlainLines.{plan}
-use Rattle.irig_log_text.specs.Text.{port_word, port_line}
+use Rattle.scenario_line.proofs.PlainLines.{plan}
+use Rattle.report_log.specs.Text.{port_word, port_line}
 use Rattle.irig_scene.proofs.HealthyFacts.{text_2}
 
 -- ---- words

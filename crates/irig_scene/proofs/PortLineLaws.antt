@@ -7,7 +7,7 @@ use Rattle.std.proofs.lemmas.Bool.Decides.{eqb_tells}
 use Rattle.std.proofs.lemmas.Fmt.{decimal_nonempty}
 use Rattle.std.proofs.lemmas.Grind.{flat_map-append}
 use Rattle.std.proofs.lemmas.List.Elements.{filter-append, All-from_recursion}
-use Rattle.irig_faults.specs.declared.refusal.Refusal.{Refusal}
+use Rattle.text_faults.specs.declared.refusal.Refusal.{Refusal}
 use Rattle.irig_plant.specs.declared.audit.Audit.{Audit}
 use Rattle.irig_plant.specs.declared.audit.Audit.TheVariants.{Kept, Broken, FalseTable}
 use Rattle.irig_plant.specs.declared.entry.Entry.{Entry}
@@ -16,14 +16,14 @@ use Rattle.irig_plant.specs.Schedule.{log_of, told_log_of}
 use Rattle.irig_plant.proofs.ToldLaws.{told_length}
 use Rattle.irig_scene.specs.Lines.{unlines}
 use Rattle.irig_scene.specs.Scene.{Scene, Refused, meaning_of, ending_text, output_shown, output}
-use Rattle.irig_log_text.specs.Text.{entry_text, entries_text, entries_alone, port_line, refusal_text}
-use Rattle.irig_log_text.specs.LogLines.{whole_lines, ShowsNothing}
+use Rattle.report_log.specs.Text.{entry_text, entries_text, entries_alone, port_line, refusal_text}
+use Rattle.report_log.specs.LogLines.{whole_lines, ShowsNothing}
 use Rattle.irig_scene.specs.PortLines.{is_port_line, without_port_lines, ports_too}
-use Rattle.irig_log_text.proofs.WordLaws.{IsNumber, AreNames, decimal_number}
+use Rattle.report_log.proofs.WordLaws.{IsNumber, AreNames, decimal_number}
 use Rattle.irig_scene.proofs.NameLaws.{are_names_named}
-use Rattle.irig_log_text.proofs.LogLaws.{entry_line, line_of_entry, one_whole}
-use Rattle.irig_log_text.proofs.LastLines.{refusal_line, refusal_lines, refusal_text_is, audit_line, audit_lines, audit_text_is}
-use Rattle.irig_log_text.proofs.RowLaws.{entry_rows, tick_rows, port_row, row_of_ports, port_row_whole, port_row_shows_nothing, lines_of_rows}
+use Rattle.report_log.proofs.LogLaws.{entry_line, line_of_entry, one_whole}
+use Rattle.report_log.proofs.LastLines.{refusal_line, refusal_lines, refusal_text_is, audit_line, audit_lines, audit_text_is}
+use Rattle.report_log.proofs.RowLaws.{entry_rows, tick_rows, port_row, row_of_ports, port_row_whole, port_row_shows_nothing, lines_of_rows}
 use Rattle.irig_scene.proofs.TrueLines.{HasFewEdges, edges_few, scene_sound, output_of}
 
 abbrev keep : List ℕ → Bool

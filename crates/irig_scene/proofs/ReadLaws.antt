@@ -5,11 +5,11 @@ use Rattle.std.specs.List.{AllByRecursion}
 use Rattle.std.proofs.lemmas.Bool.{cases_lt}
 use Rattle.std.proofs.lemmas.List.Elements.{recursion_from_All}
 use Rattle.std.proofs.Math.Seq.{take-append_seam}
-use Rattle.irig_faults.specs.declared.refusal.Refusal.{Refusal}
+use Rattle.text_faults.specs.declared.refusal.Refusal.{Refusal}
 use Rattle.irig_device.specs.Lines.{HasNoNewline}
 use Rattle.irig_scene.specs.Lines.{unlines, first_lines, after_lines, limit_of, shown_by}
 use Rattle.irig_scene.specs.Scene.{Scene, step, Meaning, Refused, refusal_at, unless_stopped, meaning_at_end, meaning_from}
-use Rattle.irig_log_text.proofs.LogLaws.{not_newline}
+use Rattle.report_log.proofs.LogLaws.{not_newline}
 
 abbrev NoNewline : List ℕ → Type 0
 NoNewline l = AllByRecursion (λ b. b ≢ 10) l

@@ -28,23 +28,23 @@ use Rattle.irig_plant.specs.declared.audit.Audit.{Audit}
 use Rattle.irig_plant.specs.declared.audit.Audit.TheVariants.{Kept, Broken}
 use Rattle.irig_plant.proofs.KeptLaws.{empty_true}
 use Rattle.irig_device.specs.Lines.{HasNoNewline}
-use Rattle.irig_faults.specs.declared.refusal.Refusal.{Refusal}
-use Rattle.irig_faults.specs.declared.refusal.Refusal.TheVariants.{Json, NoPlant}
-use Rattle.irig_faults.specs.Refusals.{number_of}
-use Rattle.irig_values.specs.Names.{are_names, is_name}
-use Rattle.irig_scenario.specs.PlantLine.{plan_in_line}
-use Rattle.irig_forms.specs.Json.{json_of}
+use Rattle.text_faults.specs.declared.refusal.Refusal.{Refusal}
+use Rattle.text_faults.specs.declared.refusal.Refusal.TheVariants.{Json, NoPlant}
+use Rattle.text_faults.specs.Refusals.{number_of}
+use Rattle.scenario_values.specs.Names.{are_names, is_name}
+use Rattle.scenario_line.specs.PlantLine.{plan_in_line}
+use Rattle.scenario_json.specs.Json.{json_of}
 use Rattle.irig_scene.specs.Lines.{lines, unlines, first_lines, after_lines, shown_by}
-use Rattle.irig_log_text.specs.LogLines.{whole_lines, Shows, ShowsNothing}
+use Rattle.report_log.specs.LogLines.{whole_lines, Shows, ShowsNothing}
 use Rattle.irig_scene.specs.LogLines.{IsTimeOf, IsTrueLine, IsTrueLineIfKept, TellsTruth, IsTrueLog, VouchesForItself, OfWritten}
 use Rattle.irig_scene.specs.declared.outcome.Outcome.{Outcome}
 use Rattle.irig_scene.specs.declared.fault.SceneFault.TheVariants as fault
-use Rattle.irig_log_text.specs.Text.{entries_alone, refusal_text}
+use Rattle.report_log.specs.Text.{entries_alone, refusal_text}
 use Rattle.irig_scene.specs.Scene.{Scene, scene, step, Refused, meaning, meaning_from, meaning_of, refusal_at, audit_in, log_text}
 use Rattle.irig_scene.specs.Run.{IsDone, IsRefused, AreTaken, StoppedReading, IsOfOneLine, StoppedInLine, AreBytesOf, read_of, Ran}
-use Rattle.irig_log_text.proofs.LogLaws.{not_newline}
-use Rattle.irig_log_text.proofs.LogLaws.{NoNewline, shows_digit, shown_once, one_whole, whole_along}
-use Rattle.irig_log_text.proofs.WordLaws.{AreNames}
+use Rattle.report_log.proofs.LogLaws.{not_newline}
+use Rattle.report_log.proofs.LogLaws.{NoNewline, shows_digit, shown_once, one_whole, whole_along}
+use Rattle.report_log.proofs.WordLaws.{AreNames}
 use Rattle.irig_scene.proofs.NameLaws.{are_names_named}
 
 -- ---- lines

@@ -24,11 +24,11 @@ use Rattle.irig_plant.specs.declared.audit.Audit.TheVariants.{Kept, Broken, Fals
 use Rattle.irig_plant.specs.declared.setup.ReaderSetup.{ReaderSetup}
 use Rattle.irig_plant.specs.Schedule.{Setup, setup}
 use Rattle.irig_plant.specs.WholeSecond.{second_of, times as seconds}
-use Rattle.irig_scenario.specs.declared.event_line.Command.TheVariants as command
-use Rattle.irig_faults.specs.declared.refusal.Refusal.TheVariants as refusal
+use Rattle.scenario_line.specs.declared.event_line.Command.TheVariants as command
+use Rattle.text_faults.specs.declared.refusal.Refusal.TheVariants as refusal
 use Rattle.irig_scene.specs.Lines.{lines, unlines, is_blank, limit_of}
-use Rattle.irig_scenario.specs.PlantLine.{Plan}
-use Rattle.irig_log_text.specs.Text.{entry_text, entries_text, audit_text, refusal_text}
+use Rattle.scenario_line.specs.PlantLine.{Plan}
+use Rattle.report_log.specs.Text.{entry_text, entries_text, audit_text, refusal_text}
 use Rattle.irig_scene.specs.Stepping.{ticks_among, HasStepped}
 use Rattle.irig_scene.specs.Scene.{Scene, scene, play, play_by, step_to, step_of_command, step, refusal_at, meaning, meaning_from, meaning_of, output}
 

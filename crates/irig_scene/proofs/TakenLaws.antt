@@ -3,14 +3,14 @@ use Rattle.std.proofs.Common.{◌≡◌, ℕ, ◌+◌, ◌≤◌, Bool, true, fa
 use Rattle.std.specs.Io.KnownBytes.{Appends}
 use Rattle.std.proofs.KnownBytes.{Appends-trans, Appends-nil}
 use Rattle.irig_device.specs.Watched.{AppendsPart}
-use Rattle.irig_faults.specs.declared.refusal.LineFault.{LineFault}
-use Rattle.irig_faults.specs.declared.refusal.LineFault.TheVariants as line_fault
-use Rattle.irig_faults.specs.declared.refusal.Refusal.{Refusal}
-use Rattle.irig_faults.specs.declared.refusal.Refusal.TheVariants.{TooManyLines, TooLong}
-use Rattle.irig_faults.specs.Refusals.{IsUnlessMemory}
-use Rattle.irig_scenario.specs.declared.event_line.Command.{Command}
-use Rattle.irig_scenario.specs.EventLine.{command_in_line}
-use Rattle.irig_scenario.specs.PlantLine.{Plan, plan_in_line}
+use Rattle.text_faults.specs.declared.refusal.LineFault.{LineFault}
+use Rattle.text_faults.specs.declared.refusal.LineFault.TheVariants as line_fault
+use Rattle.text_faults.specs.declared.refusal.Refusal.{Refusal}
+use Rattle.text_faults.specs.declared.refusal.Refusal.TheVariants.{TooManyLines, TooLong}
+use Rattle.text_faults.specs.Refusals.{IsUnlessMemory}
+use Rattle.scenario_line.specs.declared.event_line.Command.{Command}
+use Rattle.scenario_line.specs.EventLine.{command_in_line}
+use Rattle.scenario_line.specs.PlantLine.{Plan, plan_in_line}
 use Rattle.irig_scene.specs.declared.stop.Stop.{Stop}
 use Rattle.irig_scene.specs.declared.stop.Stop.TheVariants.{Refused, Failed}
 use Rattle.irig_scene.specs.declared.stop.Failure.{Failure}

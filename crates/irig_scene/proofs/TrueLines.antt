@@ -7,7 +7,7 @@ use Rattle.irig_time.specs.declared.second.UtcSecond.{UtcSecond}
 use Rattle.irig_time.specs.Timelines.{TimelineValue, second_at}
 use Rattle.irig_time.proofs.TimeLaws.{few}
 use Rattle.irig_time.proofs.SecondAt.{second_is}
-use Rattle.irig_faults.specs.declared.refusal.Refusal.{Refusal}
+use Rattle.text_faults.specs.declared.refusal.Refusal.{Refusal}
 use Rattle.irig_plant.specs.declared.audit.Audit.TheVariants.{Kept}
 use Rattle.irig_plant.specs.declared.entry.Entry.{Entry}
 use Rattle.irig_plant.specs.declared.told_log.ToldEntry.{ToldEntry}
@@ -19,25 +19,25 @@ use Rattle.irig_hold.specs.Truth.{IsTrueTable}
 use Rattle.irig_plant.specs.Schedule.{Setup, setup_at, ticks_of, log_of, told_log_of}
 use Rattle.irig_plant.specs.Premises.{IsKeptUpTo, IsKept}
 use Rattle.irig_plant.specs.Truth.{AnnouncesTruth, IsTruthful}
-use Rattle.irig_scenario.specs.declared.event_line.Command.{Command}
-use Rattle.irig_faults.specs.declared.refusal.Refusal.TheVariants as refusal
-use Rattle.irig_scenario.specs.EventLine.{command_in_line}
-use Rattle.irig_log_text.specs.declared.shown.Shown.{Shown}
+use Rattle.scenario_line.specs.declared.event_line.Command.{Command}
+use Rattle.text_faults.specs.declared.refusal.Refusal.TheVariants as refusal
+use Rattle.scenario_line.specs.EventLine.{command_in_line}
+use Rattle.report_log.specs.declared.shown.Shown.{Shown}
 use Rattle.irig_scene.specs.Lines.{lines, is_blank, max_line, max_lines}
 use Rattle.irig_scene.specs.Scene.{Scene, Play, play, unless_refused, refusal_as, events_of, step_to, step_of_plan, step_of_command, step_of_line, step, Meaning, Refused, unless_stopped, meaning_at_end, meaning_from, meaning_of, log_text, audit_in, ending_text, output_shown}
-use Rattle.irig_log_text.specs.Text.{time_shown_text, refusal_text}
-use Rattle.irig_log_text.specs.LogLines.{whole_lines, ShowsNothing}
+use Rattle.report_log.specs.Text.{time_shown_text, refusal_text}
+use Rattle.report_log.specs.LogLines.{whole_lines, ShowsNothing}
 use Rattle.irig_scene.specs.LogLines.{IsTimeOf, IsTrueLine, IsTrueLineIfKept, TellsTruth, IsTrueLog, VouchesForItself}
-use Rattle.irig_scenario.specs.PlantLine.{Plan, plan_in_line}
-use Rattle.irig_scenario.proofs.SoundPlans.{IsSound, plan_is_sound}
+use Rattle.scenario_line.specs.PlantLine.{Plan, plan_in_line}
+use Rattle.scenario_line.proofs.SoundPlans.{IsSound, plan_is_sound}
 use Rattle.irig_plant.proofs.Headline.{log_is_true}
 use Rattle.irig_plant.proofs.KeptLaws.{kept_log_is_true}
 use Rattle.irig_plant.proofs.AuditLaws.{kept_is}
-use Rattle.irig_log_text.proofs.WordLaws.{AreNames}
+use Rattle.report_log.proofs.WordLaws.{AreNames}
 use Rattle.irig_scene.proofs.NameLaws.{are_names_named}
-use Rattle.irig_log_text.proofs.LogLaws.{all_left, all_at, all_join, whole_front, entry_line, entry_shows, entry_digit}
-use Rattle.irig_log_text.proofs.RowLaws.{rows, lines_of_rows, each_row, port_row_shows_nothing}
-use Rattle.irig_log_text.proofs.LastLines.{IsLastLine, refusal_last, audit_last}
+use Rattle.report_log.proofs.LogLaws.{all_left, all_at, all_join, whole_front, entry_line, entry_shows, entry_digit}
+use Rattle.report_log.proofs.RowLaws.{rows, lines_of_rows, each_row, port_row_shows_nothing}
+use Rattle.report_log.proofs.LastLines.{IsLastLine, refusal_last, audit_last}
 
 -- ---- events that were played
 

@@ -9,17 +9,17 @@ use Rattle.irig_time.specs.TimelineFaults.{IsTimeline}
 use Rattle.irig_plant.specs.declared.entry.Entry.{Entry}
 use Rattle.irig_plant.specs.declared.told_log.ToldEntry.{ToldEntry}
 use Rattle.irig_plant.specs.Schedule.{log_of, told_log_of}
-use Rattle.irig_log_text.specs.declared.shown.Shown.{Shown}
-use Rattle.irig_log_text.specs.Text.{time_shown_text}
-use Rattle.irig_log_text.specs.LogLines.{whole_lines}
-use Rattle.irig_log_text.specs.PortWords.{has_false_majority}
-use Rattle.irig_log_text.proofs.WordLaws.{AreNames}
-use Rattle.irig_log_text.proofs.LogLaws.{all_join, all_map, all_filter, whole_front, entry_line, entry_shows}
-use Rattle.irig_log_text.proofs.RowLaws.{port_row, entry_rows, tick_rows, rows, lines_of_rows, port_row_shows_nothing}
-use Rattle.irig_log_text.proofs.LastLines.{refusal_lines}
-use Rattle.irig_log_text.proofs.PortWordLaws.{row_words}
-use Rattle.irig_log_text.proofs.VotedTicks.{IsTrueByWords, log_true_by_words, ticks_with}
-use Rattle.irig_log_text.proofs.NextLines.{AllNext, next_at, next_by_second, next_of_ticks, line_voted}
+use Rattle.report_log.specs.declared.shown.Shown.{Shown}
+use Rattle.report_log.specs.Text.{time_shown_text}
+use Rattle.report_log.specs.LogLines.{whole_lines}
+use Rattle.report_log.specs.PortWords.{has_false_majority}
+use Rattle.report_log.proofs.WordLaws.{AreNames}
+use Rattle.report_log.proofs.LogLaws.{all_join, all_map, all_filter, whole_front, entry_line, entry_shows}
+use Rattle.report_log.proofs.RowLaws.{port_row, entry_rows, tick_rows, rows, lines_of_rows, port_row_shows_nothing}
+use Rattle.report_log.proofs.LastLines.{refusal_lines}
+use Rattle.report_log.proofs.PortWordLaws.{row_words}
+use Rattle.report_log.proofs.VotedTicks.{IsTrueByWords, log_true_by_words, ticks_with}
+use Rattle.report_log.proofs.NextLines.{AllNext, next_at, next_by_second, next_of_ticks, line_voted}
 use Rattle.irig_scene.specs.Scene.{Scene, Refused, meaning_of, ending_text, output_shown}
 use Rattle.irig_scene.specs.PortLines.{is_port_line}
 use Rattle.irig_scene.specs.VouchedByPorts.{ShowsTruthByPorts, IsTrueByPorts, VouchesByPorts}

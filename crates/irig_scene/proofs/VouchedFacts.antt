@@ -8,13 +8,13 @@ use Rattle.irig_time.specs.declared.second.UtcSecond.{UtcSecond}
 use Rattle.irig_time.specs.Timelines.{TimelineValue, second_at}
 use Rattle.irig_time.specs.TextValues.{day_text, second_text}
 use Rattle.irig_time.specs.Texts.{time_text}
-use Rattle.irig_scenario.proofs.NamesAndTimes.{plan_has}
-use Rattle.irig_scenario.proofs.PlainLines.{plant_line, plan, makes_plan}
+use Rattle.scenario_line.proofs.NamesAndTimes.{plan_has}
+use Rattle.scenario_line.proofs.PlainLines.{plant_line, plan, makes_plan}
 use Rattle.irig_scene.specs.Lines.{lines}
-use Rattle.irig_values.specs.Names.{is_name, are_names}
-use Rattle.irig_log_text.specs.LogLines.{whole_lines, Shows}
-use Rattle.irig_log_text.proofs.LogLaws.{shown_once}
-use Rattle.irig_log_text.proofs.WordLaws.{AreNames}
+use Rattle.scenario_values.specs.Names.{is_name, are_names}
+use Rattle.report_log.specs.LogLines.{whole_lines, Shows}
+use Rattle.report_log.proofs.LogLaws.{shown_once}
+use Rattle.report_log.proofs.WordLaws.{AreNames}
 use Rattle.irig_scene.specs.LogLines.{IsTimeOf}
 use Rattle.irig_scene.specs.VouchedLines.{plant_line_of, IsPlantLineOf, ShowsTruth, AreTrueOf, VouchesByPlantLine}
 use Rattle.irig_scene.proofs.NameLaws.{are_names_named}

@@ -5,7 +5,7 @@ use Rattle.std.specs.Io.KnownBytes.{Appends}
 use Rattle.std.proofs.lemmas.List.{append_cancel_left}
 use Rattle.irig_device.specs.declared.watched.Watched.{Watched}
 use Rattle.irig_device.specs.Watched.{AppendsPart, has_failed}
-use Rattle.irig_log_text.specs.declared.shown.Shown.{Shown}
+use Rattle.report_log.specs.declared.shown.Shown.{Shown}
 use Rattle.irig_scene.specs.declared.outcome.Outcome.{Outcome}
 use Rattle.irig_scene.specs.declared.fault.SceneFault.{SceneFault}
 use Rattle.irig_scene.specs.declared.fault.SceneFault.TheVariants.{Refused, Read, Write, Memory}

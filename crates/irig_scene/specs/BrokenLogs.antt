@@ -2,8 +2,8 @@
 -- Source: docs/OUTPUT.md, docs/HEADLINE.md.
 use Rattle.std.specs.Prelude.{◌≡◌, ◌≢◌, ℕ, ◌^◌, ◌<◌, List, [], ◌∷◌, ◌++◌, length, codes, All}
 use Rattle.irig_time.specs.Timelines.{TimelineValue}
-use Rattle.irig_log_text.specs.Text.{name_at}
-use Rattle.irig_log_text.specs.LogLines.{whole_lines, Shows, broken_line}
+use Rattle.report_log.specs.Text.{name_at}
+use Rattle.report_log.specs.LogLines.{whole_lines, Shows, broken_line}
 use Rattle.irig_scene.specs.LogLines.{IsTimeOf}
 use Rattle.irig_scene.specs.VouchedLines.{IsPlantLineOf, ShowsTruth}
 

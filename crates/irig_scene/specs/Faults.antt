@@ -9,13 +9,13 @@ use Rattle.irig_scene.specs.declared.stop.Failure.{Failure}
 use Rattle.irig_scene.specs.declared.stop.Failure.TheVariants as failure
 use Rattle.irig_scene.specs.declared.stop.Stop.{Stop}
 use Rattle.irig_scene.specs.declared.stop.Stop.TheVariants as stop
-use Rattle.irig_faults.specs.declared.refusal.Refusal.{Refusal}
-use Rattle.irig_faults.specs.Refusals.{number_of}
+use Rattle.text_faults.specs.declared.refusal.Refusal.{Refusal}
+use Rattle.text_faults.specs.Refusals.{number_of}
 use Rattle.irig_plant.specs.declared.fault.PlantFault.{PlantFault}
-use Rattle.irig_log_text.specs.Text.{refusal_text}
+use Rattle.report_log.specs.Text.{refusal_text}
 use Rattle.irig_scene.specs.Scene.{refusal_as}
-use Rattle.irig_faults.specs.declared.refusal.LineFault.{LineFault}
-use Rattle.irig_faults.specs.declared.refusal.LineFault.TheVariants as line_fault
+use Rattle.text_faults.specs.declared.refusal.LineFault.{LineFault}
+use Rattle.text_faults.specs.declared.refusal.LineFault.TheVariants as line_fault
 
 -- the input failed, or there was no memory
 abbrev pub IsFaultOfReading : SceneFault → Type 0

@@ -4,11 +4,11 @@ use Rattle.std.specs.Prelude.{◌≡◌, ℕ, ◌+◌, ◌≤◌, ◌⊎◌, tru
 use Rattle.std.specs.List.{Contains}
 use Rattle.irig_time.specs.Timelines.{second_at}
 use Rattle.irig_plant.specs.Premises.{HasTrueTable}
-use Rattle.irig_scenario.specs.declared.event_line.Command.TheVariants.{Seconds}
-use Rattle.irig_scenario.specs.EventLine.{command_in_line}
-use Rattle.irig_scenario.specs.PlantLine.{Plan, plan_in_line}
+use Rattle.scenario_line.specs.declared.event_line.Command.TheVariants.{Seconds}
+use Rattle.scenario_line.specs.EventLine.{command_in_line}
+use Rattle.scenario_line.specs.PlantLine.{Plan, plan_in_line}
 use Rattle.irig_scene.specs.Lines.{lines, is_blank, max_line, max_lines}
-use Rattle.irig_log_text.specs.LogLines.{Shows}
+use Rattle.report_log.specs.LogLines.{Shows}
 use Rattle.irig_scene.specs.LogLines.{IsTimeOf}
 
 -- the lines ask for n whole seconds in all, and for nothing else: each is blank, and skipped, or

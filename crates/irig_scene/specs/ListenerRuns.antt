@@ -7,11 +7,11 @@ use Rattle.irig_plant.specs.declared.event.Event.{Event}
 use Rattle.irig_plant.specs.History.{HasPlantHistory}
 use Rattle.irig_device.specs.Lines.{Bytes, HasNoNewline}
 use Rattle.irig_device.specs.Watched.{AppendsPart}
-use Rattle.irig_faults.specs.declared.refusal.Refusal.{Refusal}
-use Rattle.irig_faults.specs.Refusals.{number_of}
-use Rattle.irig_log_text.specs.Text.{refusal_text, texts_of}
-use Rattle.irig_scenario.specs.EventLine.{command_in_line}
-use Rattle.irig_scenario.specs.PlantLine.{Plan, plan_in_line}
+use Rattle.text_faults.specs.declared.refusal.Refusal.{Refusal}
+use Rattle.text_faults.specs.Refusals.{number_of}
+use Rattle.report_log.specs.Text.{refusal_text, texts_of}
+use Rattle.scenario_line.specs.EventLine.{command_in_line}
+use Rattle.scenario_line.specs.PlantLine.{Plan, plan_in_line}
 use Rattle.irig_scene.specs.declared.fault.SceneFault.{SceneFault}
 use Rattle.irig_scene.specs.declared.fault.SceneFault.TheVariants as fault
 use Rattle.irig_scene.specs.declared.outcome.Outcome.{Outcome}

@@ -8,7 +8,7 @@ use Rattle.irig_hold.specs.Truth.{IsTrueTable}
 use Rattle.irig_device.specs.Lines.{Bytes}
 use Rattle.irig_plant.specs.Schedule.{setup_at}
 use Rattle.irig_plant.specs.Premises.{IsKeptUpTo}
-use Rattle.irig_log_text.specs.LogLines.{whole_lines, Shows}
+use Rattle.report_log.specs.LogLines.{whole_lines, Shows}
 use Rattle.irig_scene.specs.Scene.{Scene, meaning_of}
 
 -- ---- true lines

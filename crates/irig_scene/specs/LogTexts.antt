@@ -6,8 +6,8 @@ use Rattle.irig_plant.specs.declared.event.Event.TheVariants.{Tick}
 use Rattle.irig_plant.specs.declared.entry.Entry.{Entry}
 use Rattle.irig_plant.specs.declared.told_log.ToldEntry.{ToldEntry}
 use Rattle.irig_plant.specs.Schedule.{Setup, entry_of, told_entry_of}
-use Rattle.irig_log_text.specs.declared.shown.Shown.{Shown}
-use Rattle.irig_log_text.specs.Text.{lines_text}
+use Rattle.report_log.specs.declared.shown.Shown.{Shown}
+use Rattle.report_log.specs.Text.{lines_text}
 use Rattle.irig_scene.specs.Scene.{verdict_text}
 use Rattle.irig_scene.specs.Texts.{Texts}
 

@@ -1,9 +1,9 @@
 -- The lines of what ports told, and a text without them.
 -- Source: docs/OUTPUT.md; this project's profile.
 use Rattle.std.specs.Prelude.{ℕ, ◌==◌, Bool, true, false, not, List, [], ◌∷◌, filter}
-use Rattle.irig_log_text.specs.declared.shown.Shown.{Shown}
+use Rattle.report_log.specs.declared.shown.Shown.{Shown}
 use Rattle.irig_scene.specs.Lines.{unlines}
-use Rattle.irig_log_text.specs.LogLines.{whole_lines}
+use Rattle.report_log.specs.LogLines.{whole_lines}
 
 -- a line of what ports told begins with a blank, 32
 abbrev pub is_port_line : List ℕ → Bool

@@ -9,16 +9,16 @@ use Rattle.irig_plant.specs.declared.fault.PlantFault.TheVariants as plant
 use Rattle.irig_plant.specs.Schedule.{Setup, log_of, told_log_of}
 use Rattle.irig_plant.specs.Refusals.{refusal}
 use Rattle.irig_plant.specs.Audits.{audit_of}
-use Rattle.irig_scenario.specs.declared.event_line.Command.{Command}
-use Rattle.irig_scenario.specs.declared.event_line.Command.TheVariants as command
-use Rattle.irig_faults.specs.declared.refusal.Refusal.{Refusal}
-use Rattle.irig_faults.specs.declared.refusal.Refusal.TheVariants.{NoSuchReader, NoSuchGenerator, FutureReplay, EndOfYears, TooLong, NoPlant, TooManyLines}
+use Rattle.scenario_line.specs.declared.event_line.Command.{Command}
+use Rattle.scenario_line.specs.declared.event_line.Command.TheVariants as command
+use Rattle.text_faults.specs.declared.refusal.Refusal.{Refusal}
+use Rattle.text_faults.specs.declared.refusal.Refusal.TheVariants.{NoSuchReader, NoSuchGenerator, FutureReplay, EndOfYears, TooLong, NoPlant, TooManyLines}
 use Rattle.irig_scene.specs.Lines.{lines, is_blank, max_line, max_lines}
 use Rattle.irig_plant.specs.WholeSecond.{second_of, times}
-use Rattle.irig_scenario.specs.EventLine.{command_in_line}
-use Rattle.irig_scenario.specs.PlantLine.{Plan, plan_in_line}
-use Rattle.irig_log_text.specs.declared.shown.Shown.{Shown}
-use Rattle.irig_log_text.specs.Text.{entries_alone, lines_text, audit_text, refusal_text}
+use Rattle.scenario_line.specs.EventLine.{command_in_line}
+use Rattle.scenario_line.specs.PlantLine.{Plan, plan_in_line}
+use Rattle.report_log.specs.declared.shown.Shown.{Shown}
+use Rattle.report_log.specs.Text.{entries_alone, lines_text, audit_text, refusal_text}
 
 -- a plant with its readers' names, and the events that came, the newest first
 pub record Scene : Type 0 where

@@ -3,8 +3,8 @@
 use Rattle.std.specs.Prelude.{ℕ, Bool, if◌then◌else◌, List, [], ◌∷◌, ◌++◌, not, unwrap_or, Option, Some, None}
 use Rattle.std.specs.List.{find}
 use Rattle.irig_plant.specs.declared.event.Event.{Event}
-use Rattle.irig_log_text.specs.Text.{refusal_text}
-use Rattle.irig_scenario.specs.PlantLine.{Plan}
+use Rattle.report_log.specs.Text.{refusal_text}
+use Rattle.scenario_line.specs.PlantLine.{Plan}
 use Rattle.irig_scene.specs.Lines.{lines, is_blank}
 use Rattle.irig_scene.specs.Scene.{Scene, Refused, Meaning, meaning_of}
 

@@ -2,8 +2,8 @@
 -- Source: docs/OUTPUT.md, what each port told.
 use Rattle.std.specs.Prelude.{◌≡◌, ℕ, false, List, ◌∷◌, ◌++◌}
 use Rattle.irig_time.specs.Timelines.{TimelineValue}
-use Rattle.irig_log_text.specs.LogLines.{whole_lines}
-use Rattle.irig_log_text.specs.PortWords.{ShowsVoted, ShowsWords, has_false_majority}
+use Rattle.report_log.specs.LogLines.{whole_lines}
+use Rattle.report_log.specs.PortWords.{ShowsVoted, ShowsWords, has_false_majority}
 use Rattle.irig_scene.specs.LogLines.{IsTimeOf}
 use Rattle.irig_scene.specs.VouchedLines.{IsPlantLineOf}
 

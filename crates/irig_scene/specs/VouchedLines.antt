@@ -3,8 +3,8 @@
 use Rattle.std.specs.Prelude.{◌≡◌, ◌≢◌, ℕ, List, [], ◌∷◌, ◌++◌, codes, not, All, Option, Some}
 use Rattle.std.specs.List.{find}
 use Rattle.irig_time.specs.Timelines.{TimelineValue}
-use Rattle.irig_scenario.specs.NamesAndTimes.{HasNamesAndTimes}
-use Rattle.irig_log_text.specs.LogLines.{whole_lines, Shows}
+use Rattle.scenario_line.specs.NamesAndTimes.{HasNamesAndTimes}
+use Rattle.report_log.specs.LogLines.{whole_lines, Shows}
 use Rattle.irig_scene.specs.Lines.{lines, is_blank}
 use Rattle.irig_scene.specs.LogLines.{IsTimeOf}
 

@@ -7,24 +7,24 @@ ghost use Rattle.irig_plant.specs.Premises.{IsKept};
 ghost use Rattle.irig_plant.specs.Runs.{events_after};
 ghost use Rattle.irig_plant.specs.Truth.{IsTruthful};
 ghost use Rattle.irig_plant.specs.Schedule.{setup_at, log_of};
-ghost use Rattle.irig_values.specs.Names.{are_names};
+ghost use Rattle.scenario_values.specs.Names.{are_names};
 ghost use Rattle.irig_plant.specs.WholeSecond.{second_of};
-ghost use Rattle.irig_scenario.specs.PlantLine.{Plan};
+ghost use Rattle.scenario_line.specs.PlantLine.{Plan};
 ghost use Rattle.irig_scene.specs.HealthyRun.{IsOfSeconds, IsHealthyRun, HasTimeLine};
 ghost use Rattle.irig_scene.specs.Scene.{Scene, scene, Refused, meaning, meaning_of, ending_text, output, output_shown};
 ghost use Rattle.irig_scene.specs.Stepping.{ticks_among};
-ghost use Rattle.irig_log_text.specs.Text.{entry_text, entries_text, port_line, port_word, time_shown_text};
+ghost use Rattle.report_log.specs.Text.{entry_text, entries_text, port_line, port_word, time_shown_text};
 ghost use Rattle.irig_scene.specs.PortLines.{is_port_line, without_port_lines, ports_too};
-ghost use Rattle.irig_log_text.specs.LogLines.{whole_lines, Shows, ShowsNothing};
-ghost use Rattle.irig_log_text.specs.PortWords.{ShowsWords};
+ghost use Rattle.report_log.specs.LogLines.{whole_lines, Shows, ShowsNothing};
+ghost use Rattle.report_log.specs.PortWords.{ShowsWords};
 ghost use Rattle.irig_vote.specs.Vote.{ports_of};
 ghost use Rattle.irig_scene.specs.LogLines.{TellsTruth, VouchesForItself};
 ghost use Rattle.irig_scene.specs.BrokenLogs.{VouchesUntilBroken};
 ghost use Rattle.irig_scene.specs.VouchedByPorts.{VouchesByPorts};
 ghost use Rattle.irig_scene.specs.VouchedLines.{IsPlantLineOf, VouchesByPlantLine};
 
-use irig_log_text::Shown;
 use irig_plant::{Entry, ToldEntry};
+use report_log::Shown;
 
 /// If the premises hold for all readers and ticks of the events that the bytes give, each entry of
 /// their log announces the true second of its edge, or none.

@@ -16,7 +16,6 @@ mod stop;
 mod write;
 
 pub use fault::{OUT_OF_MEMORY, READ_FAILED, REFUSED, SceneFault, WRITE_FAILED};
-pub use irig_log_text::Shown;
 pub use laws::{
     a_second_has_a_tick_a_reader, entries_are_true, healthy_scenarios_announce, lines_read_one_way,
     logs_are_true, plant_lines_read_one_way, port_lines_stand_apart,
@@ -26,4 +25,5 @@ pub use log::{run_scene, run_scene_over, run_scene_shown};
 pub use outcome::Outcome;
 pub use read::{MAX_LINES, is_blank, limit_of, read_line, too_long};
 pub use refused_line::RefusedLine;
+pub use report_log::Shown;
 pub use run::run_to;

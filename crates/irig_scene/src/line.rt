@@ -27,11 +27,11 @@ use crate::read::{MAX_LINES, is_blank};
 use crate::stop::{Failure, Stop};
 use crate::write::{refuse, write_text};
 use irig_device::Watched;
-use irig_faults::Refusal;
 use irig_port::Port;
-use irig_scenario::plant_of_line;
+use scenario_line::plant_of_line;
 use std::alloc::Global;
 use std::io::Write;
+use text_faults::Refusal;
 
 /// Plays a line that isn't too long, and writes what is said of it; if it is refused, what is open
 /// and the refusal.

@@ -1,7 +1,7 @@
 //! What every listener does.
 
 ghost use Rattle.std.specs.Prelude.{◌≡◌, ◌++◌, [], ◌∷◌, ◌≤◌, ℕ, Bool, if◌then◌else◌, List, IfOk, OnOk, codes, length, string_bytes};
-ghost use Rattle.irig_log_text.specs.Text.{texts_of};
+ghost use Rattle.report_log.specs.Text.{texts_of};
 ghost use Rattle.irig_scene.specs.Scene.{Scene, scene};
 ghost use Rattle.irig_scene.specs.Texts.{Texts, last_of};
 ghost use Rattle.irig_scene.specs.Listening.{HasTaken, IsPlantOf, Names};

@@ -2,7 +2,7 @@
 
 ghost use Rattle.std.specs.Prelude.{◌≡◌, ◌++◌, OnOk, false, string_bytes};
 ghost use Rattle.irig_device.specs.Watched.{has_failed};
-ghost use Rattle.irig_log_text.specs.Text.{entries_alone};
+ghost use Rattle.report_log.specs.Text.{entries_alone};
 ghost use Rattle.irig_scene.specs.WholeRun.{RunsTruly};
 
 use crate::fault::SceneFault;
@@ -12,9 +12,9 @@ use crate::refused_line::RefusedLine;
 use crate::run::{run_over, run_to};
 use indexmap::IndexSet;
 use irig_device::Watched;
-use irig_log_text::{ReportText, Shown, push_audit, push_entries, push_ticks};
 use irig_plant::{Event, Plant};
 use irig_port::{FlowPort, Port};
+use report_log::{ReportText, Shown, push_audit, push_entries, push_ticks};
 use std::alloc::{AllocError, Global};
 use std::io::{BufRead, Write};
 

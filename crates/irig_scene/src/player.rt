@@ -15,12 +15,12 @@ use crate::stop::{Failure, Stop};
 use crate::write::write_text;
 use indexmap::IndexSet;
 use irig_device::Watched;
-use irig_faults::{LineFault, Refusal};
 use irig_plant::{Audit, Event, Plant};
 use irig_port::Port;
-use irig_scenario::{BuiltPlant, Command, EventReader, second_of};
+use scenario_line::{BuiltPlant, Command, EventReader, second_of};
 use std::alloc::Global;
 use std::io::Write;
+use text_faults::{LineFault, Refusal};
 
 // A second is played only while less bytes than these are yet to be written.
 const MAX_HELD: usize = 8192;
@@ -102,9 +102,9 @@ pub(crate) struct Player<L, P: Port> {
 impl<L: Listener, P: Port> Player<L, P> {
     ghost use Rattle.irig_plant.specs.History.{AreGenerators, AreReaders};
     ghost use Rattle.irig_plant.specs.WholeSecond.{times};
-    ghost use Rattle.irig_faults.specs.Refusals.{IsUnlessMemory};
-    ghost use Rattle.irig_scenario.specs.EventLine.{command_in_line};
-    ghost use Rattle.irig_scenario.specs.PlantLine.{plan_of};
+    ghost use Rattle.text_faults.specs.Refusals.{IsUnlessMemory};
+    ghost use Rattle.scenario_line.specs.EventLine.{command_in_line};
+    ghost use Rattle.scenario_line.specs.PlantLine.{plan_of};
     ghost use Rattle.irig_scene.specs.Scene.{scene, audit_in, events_of};
     ghost use Rattle.irig_scene.specs.Scene.{second_in};
     ghost use Rattle.irig_scene.specs.ListenerRuns.{IsPlayerAt, PlaysAsked, held_by};

@@ -8,8 +8,8 @@ ghost use Rattle.irig_scene.specs.Lines.{is_blank, limit_of, too_long};
 
 use crate::fault::SceneFault;
 use irig_device::{LineEnd, ReadFault, Watched};
-use irig_faults::Refusal;
 use std::io::BufRead;
+use text_faults::Refusal;
 
 /// The last line that is run.
 pub const MAX_LINES: u64 = 1_000_000;

@@ -1,9 +1,9 @@
 //! What explains a refused line.
 
 use indexmap::IndexSet;
-use irig_faults::Refusal;
 use irig_gen::Generator;
 use std::alloc::{AllocError, Global};
+use text_faults::Refusal;
 
 /// A line that was refused, and where the plant then stood.
 #[derive(Drop)]

@@ -13,10 +13,10 @@ use crate::player::Player;
 use crate::read::{limit_of, read_line, too_long};
 use crate::refused_line::RefusedLine;
 use irig_device::{LineEnd, Watched};
-use irig_faults::Refusal;
 use irig_port::Port;
 use std::alloc::Global;
 use std::io::{BufRead, Write};
+use text_faults::Refusal;
 
 /// Plays the lines of the input as a run does, and writes a report of this kind in place of the log.
 /// What is said of each line is written before the next is read.

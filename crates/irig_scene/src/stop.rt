@@ -5,8 +5,8 @@ ghost use Rattle.irig_scene.specs.declared.stop.Stop.TheVariants.{Failed};
 ghost use Rattle.irig_scene.specs.Faults.{fault_of, stop_of, stop_of_event};
 
 use crate::fault::SceneFault;
-use irig_faults::{LineFault, Refusal};
 use irig_plant::PlantFault;
+use text_faults::{LineFault, Refusal};
 
 /// What fails though the line is right.
 #[derive(Clone, Copy)]

@@ -2,16 +2,16 @@
 
 ghost use Rattle.std.specs.Prelude.{◌≡◌, ◌||◌};
 ghost use Rattle.irig_device.specs.Watched.{device_of, has_failed};
-ghost use Rattle.irig_log_text.specs.Text.{refusal_text};
+ghost use Rattle.report_log.specs.Text.{refusal_text};
 ghost use Rattle.irig_scene.specs.Faults.{WroteRefusal, WroteText, failed_write, is_write_fault};
 
 use crate::fault::SceneFault;
 use crate::stop::Failure;
 use irig_device::Watched;
-use irig_faults::Refusal;
-use irig_log_text::push_refusal;
+use report_log::push_refusal;
 use std::alloc::Global;
 use std::io::Write;
+use text_faults::Refusal;
 
 /// Writes the refusal of a line, and answers it; or what failed meanwhile, `Write` or `Memory`.
 pub fn refuse<W: Write>(

@@ -1,4 +1,4 @@
-//! Runs over devices that fail, a refused line handed back, and the callers in `irig_uses`, tried by
+//! Runs over devices that fail, a refused line handed back, and the callers in `example_uses`, tried by
 //! their public calls. What a scenario can say is tried by cases.
 //!
 //! They stand apart from the crates that they try, which would be proved once more for them.

@@ -1,9 +1,9 @@
+use example_uses::{frames, plants, ports, scenes, times};
 use irig_frame::{Coded, encode};
 use irig_plant::{Event, Plant, PlantFault, ReaderSetup, Refused, Widths};
 use irig_port::{FlowPort, Told, WholePort};
 use irig_reader::ReaderRules;
 use irig_time::{Leap, LeapTable, Rules, Timeline, UtcSecond};
-use irig_uses::{frames, plants, ports, scenes, times};
 use std::test::Fail;
 
 #[test]

@@ -1,6 +1,6 @@
 use Rattle.irig_scene.proofs.NameLaws.{are_names_named}
-use Rattle.irig_log_text.proofs.LogLaws.{entry_is_shown, shown_once}
-use Rattle.irig_log_text.proofs.PortWordLaws.{port_is_shown, words_once}
+use Rattle.report_log.proofs.LogLaws.{entry_is_shown, shown_once}
+use Rattle.report_log.proofs.PortWordLaws.{port_is_shown, words_once}
 use Rattle.irig_scene.proofs.TrueLines.{last_shows_nothing}
 use Rattle.irig_scene.proofs.laws.lines_read_one_way.Goals as goal
 

@@ -1,4 +1,4 @@
-use Rattle.irig_log_text.specs.Text.{entries_alone}
+use Rattle.report_log.specs.Text.{entries_alone}
 use Rattle.irig_scene.proofs.TrueLines.{tells_truth, vouches_for_itself}
 use Rattle.irig_scene.proofs.PlantLines.{vouches_by_plant_line}
 use Rattle.irig_scene.proofs.BrokenLogs.{vouches_until_broken}

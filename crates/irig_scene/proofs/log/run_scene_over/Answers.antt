@@ -1,4 +1,4 @@
-use Rattle.irig_log_text.specs.Text.{entries_alone}
+use Rattle.report_log.specs.Text.{entries_alone}
 use Rattle.irig_scene.proofs.WrittenLaws.{runs_truly}
 use Rattle.irig_scene.proofs.LogLaws.{log_ran}
 use Rattle.irig_scene.proofs.log.run_scene_over.Goals as goal

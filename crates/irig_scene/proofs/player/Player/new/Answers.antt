@@ -2,7 +2,7 @@ use Rattle.std.proofs.Common.{rules, ◌≡◌, ◌∙◌, [], ap, length, refl,
 use Rattle.std.specs.Prelude.{string_bytes}
 use Rattle.std.proofs.lemmas.List.{length-map}
 use Rattle.irig_plant.specs.History.{beginning, HasPlantHistory}
-use Rattle.irig_scenario.specs.PlantLine.{plan_of}
+use Rattle.scenario_line.specs.PlantLine.{plan_of}
 use Rattle.irig_scene.specs.Listening.{history_past}
 use Rattle.irig_scene.specs.Scene.{scene}
 use Rattle.irig_scene.proofs.PlayerLaws.{made, keeping, begun}

@@ -1,6 +1,6 @@
 use Rattle.std.proofs.Common.{ap}
 use Rattle.std.proofs.lemmas.Result.{err_from_is_err_and}
-use Rattle.irig_log_text.specs.Text.{texts_of}
+use Rattle.report_log.specs.Text.{texts_of}
 use Rattle.irig_scene.proofs.PlayerLaws.{step_takes, step_stops}
 use Rattle.irig_scene.proofs.player.Stage.play.Goals as goal
 

@@ -1,0 +1,128 @@
+-- A line behind a pulse, and the timekeeper that has it.
+use Rattle.std.proofs.Common.{◌≡◌, ◌↔◌, ◌∙◌, ◌<◌, ℕ, List, refl, sym, ap, subst, arith, inl, inr}
+use Rattle.std.proofs.lemmas.Bool.{cases_eq}
+use Rattle.irig_frame.specs.declared.symbol.Symbol.{Symbol}
+use Rattle.irig_time.specs.declared.rules.Rules.{Rules}
+use Rattle.irig_port.specs.Hearing.{heard_at}
+use Rattle.irig_port.specs.Tallies.{IsTallyOf}
+use Rattle.irig_port.specs.Told.{told_of}
+use Rattle.irig_sync.specs.Sync.{place_of}
+use Rattle.irig_timekeeper.specs.declared.clock.ClockState.{ClockState}
+use Rattle.irig_timekeeper.specs.declared.lines.Line.{Line}
+use Rattle.irig_timekeeper.specs.declared.lines.Lines.{Lines}
+use Rattle.irig_timekeeper.specs.Keeping.{Heard, Keeping, heard_by, heard_then, one_pulse_more, with_heard, with_lines}
+use Rattle.irig_timekeeper.specs.Steps.{line_at, line_heard, with_line}
+use Rattle.c_numbers.specs.Setups.{rules_in}
+use Rattle.c_keeper.specs.declared.line.IrigLine.{IrigLine}
+use Rattle.c_keeper.specs.declared.line.IrigLines.{IrigLines}
+use Rattle.c_keeper.specs.declared.timekeeper.IrigTimekeeper.{IrigTimekeeper}
+use Rattle.c_keeper.specs.CheckWord.{IsSealed}
+use Rattle.c_keeper.specs.Lines.{line_in, lines_in, numbers_at, with_numbers, HaveHeard}
+use Rattle.c_keeper.specs.Timekeepers.{clock_state_in, IsTimekeeperOf}
+
+-- a fact of each of five ports is one of a port
+of_each : (P : ℕ → Type 0) → P 0 → P 1 → P 2 → P 3 → P 4 → (port : ℕ) → port < 5 → P port
+of_each P p0 p1 p2 p3 p4 port here =
+    elim (cases_eq port 0) [
+      | inl is ↦ subst P (sym is) p0
+      | inr not_0 ↦ elim (cases_eq port 1) [
+        | inl is ↦ subst P (sym is) p1
+        | inr not_1 ↦ elim (cases_eq port 2) [
+          | inl is ↦ subst P (sym is) p2
+          | inr not_2 ↦ elim (cases_eq port 3) [
+            | inl is ↦ subst P (sym is) p3
+            | inr not_3 ↦
+                let is : port ≡ 4 = omega (arith, not_0, not_1, not_2, not_3, here) in
+                subst P (sym is) p4
+          ]
+        ]
+      ]
+    ]
+
+-- ---- the line of a port
+
+pub line_there : (rules : Rules) (ls : IrigLines) (port : ℕ) → port < 5 → line_at (lines_in rules ls) port ≡ line_in rules (numbers_at ls port)
+line_there rules ls = of_each (λ port. line_at (lines_in rules ls) port ≡ line_in rules (numbers_at ls port)) refl refl refl refl refl
+
+line_put : (rules : Rules) (ls : IrigLines) (l : IrigLine) (port : ℕ) → port < 5
+    → lines_in rules (with_numbers ls port l) ≡ with_line (lines_in rules ls) port (line_in rules l)
+line_put rules ls l = of_each (λ port. lines_in rules (with_numbers ls port l) ≡ with_line (lines_in rules ls) port (line_in rules l)) refl refl refl refl refl
+
+pub heard_there : (ls : IrigLines) (heard : Heard) → HaveHeard ls heard → (port : ℕ) → port < 5 → IsTallyOf (numbers_at ls port).port (heard_by heard port)
+heard_there ls heard h = of_each (λ port. IsTallyOf (numbers_at ls port).port (heard_by heard port)) h.a h.b h.c h.d h.e
+
+heard_put : (ls : IrigLines) (heard : Heard) (l : IrigLine) (s : List Symbol) → HaveHeard ls heard → IsTallyOf l.port s → (port : ℕ) → port < 5
+    → HaveHeard (with_numbers ls port l) (with_heard heard port s)
+heard_put ls heard l s h now =
+    of_each (λ port. HaveHeard (with_numbers ls port l) (with_heard heard port s))
+    (record { a = now; b = h.b; c = h.c; d = h.d; e = h.e })
+    (record { a = h.a; b = now; c = h.c; d = h.d; e = h.e })
+    (record { a = h.a; b = h.b; c = now; d = h.d; e = h.e })
+    (record { a = h.a; b = h.b; c = h.c; d = now; e = h.e })
+    (record { a = h.a; b = h.b; c = h.c; d = h.d; e = now })
+
+-- the place that the value gives a pulse
+pub place_as : (t : IrigTimekeeper) (k : Keeping) (port rise width : ℕ) → port < 5 → IsTimekeeperOf t k
+    → place_of (numbers_at t.lines port).sync rise width ≡ place_of (line_at k.state.lines port).sync rise width
+place_as t k port rise width here h =
+    ap (λ (x : Line). place_of x.sync rise width) (sym (line_there (rules_in t.setup) t.lines port here))
+    ∙ ap (λ (s : ClockState). place_of (line_at s.lines port).sync rise width) h.state
+
+-- ---- a pulse
+
+-- a line's numbers behind a pulse with this place
+pub record IsBehindPulse (rise width place : ℕ) (before after : IrigLine) : Type 0 where
+  pub at : place ≡ place_of before.sync rise width
+  pub line : (rules : Rules) (s : List Symbol) → IsTallyOf before.port s
+      → line_in rules after ≡ line_heard (line_in rules before) rise width (told_of rules (heard_at place s width))
+  pub heard : (s : List Symbol) → IsTallyOf before.port s → IsTallyOf after.port (heard_at place s width)
+
+-- the timekeeper that has such a line is the value behind the pulse
+pub one_more : (t q : IrigTimekeeper) (k : Keeping) (port rise width place : ℕ) (l : IrigLine) → port < 5 → IsBehindPulse rise width place (numbers_at t.lines port) l
+    → q ≡ record t { lines = with_numbers t.lines port l; check = q.check } → (IsSealed q ↔ IsSealed t) → IsTimekeeperOf t k
+    → IsTimekeeperOf q (one_pulse_more k port rise width)
+one_more t q k port rise width place l here behind is seal h =
+    subst (λ (x : IrigTimekeeper). IsTimekeeperOf x (one_pulse_more k port rise width)) (sym is) (record {
+      rules = h.rules;
+      clock = h.clock;
+      table = h.table;
+      heard = subst (λ (s : List Symbol). HaveHeard (with_numbers t.lines port l) (with_heard k.heard port s)) heard
+          (heard_put t.lines k.heard l (heard_at place (heard_by k.heard port) width) h.heard (behind.heard _ was) port here);
+      state = whole;
+      accepted = record {
+        setup = h.accepted.setup;
+        steady = h.accepted.steady;
+        is_state = h.accepted.is_state;
+        last = h.accepted.last;
+        before = h.accepted.before;
+        sealed = subst (λ (x : IrigTimekeeper). IsSealed x) is (seal.1 h.accepted.sealed);
+      };
+    })
+  where
+    rules : Rules
+    rules = rules_in t.setup
+
+    was : IsTallyOf (numbers_at t.lines port).port (heard_by k.heard port)
+    was = heard_there t.lines k.heard h.heard port here
+
+    -- the line of the value
+    line : line_at k.state.lines port ≡ line_in rules (numbers_at t.lines port)
+    line = ap (λ (s : ClockState). line_at s.lines port) (sym h.state) ∙ line_there rules t.lines port here
+
+    place_is : place_of (line_at k.state.lines port).sync rise width ≡ place
+    place_is = ap (λ (x : Line). place_of x.sync rise width) line ∙ sym behind.at
+
+    heard : heard_at place (heard_by k.heard port) width ≡ heard_then k port rise width
+    heard = ap (λ (n : ℕ). heard_at n (heard_by k.heard port) width) (sym place_is)
+
+    new_line : line_in rules l ≡ line_heard (line_at k.state.lines port) rise width (told_of k.rules (heard_then k port rise width))
+    new_line = behind.line rules (heard_by k.heard port) was
+        ∙ (ap (λ (x : Line). line_heard x rise width (told_of rules (heard_at place (heard_by k.heard port) width))) (sym line)
+        ∙ (ap (λ (r : Rules). line_heard (line_at k.state.lines port) rise width (told_of r (heard_at place (heard_by k.heard port) width))) h.rules
+        ∙ ap (λ (s : List Symbol). line_heard (line_at k.state.lines port) rise width (told_of k.rules s)) heard))
+
+    whole : clock_state_in (record t { lines = with_numbers t.lines port l; check = q.check })
+        ≡ with_lines k.state (with_line k.state.lines port (line_heard (line_at k.state.lines port) rise width (told_of k.rules (heard_then k port rise width))))
+    whole = ap (λ (ls : Lines). with_lines (clock_state_in t) ls) (line_put rules t.lines l port here)
+        ∙ (ap (λ (s : ClockState). with_lines s (with_line s.lines port (line_in rules l))) h.state
+        ∙ ap (λ (x : Line). with_lines k.state (with_line k.state.lines port x)) new_line)

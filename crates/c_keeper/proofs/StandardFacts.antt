@@ -1,0 +1,38 @@
+-- Known values of this library's own definitions, so that a wrong one does not check.
+use Rattle.std.proofs.Common.{◌≡◌, Some, None, refl}
+use Rattle.c_numbers.specs.CheckWord.{weighted}
+use Rattle.c_numbers.specs.Tallies.{no_tally}
+use Rattle.c_keeper.specs.declared.announced.IrigAnnounced.{IrigAnnounced}
+use Rattle.c_keeper.specs.declared.line.IrigLine.{IrigLine}
+use Rattle.c_keeper.specs.declared.line.IrigLines.{IrigLines}
+use Rattle.c_keeper.specs.CheckWord.{announced_numbers, lines_numbers}
+use Rattle.c_keeper.specs.Lines.{numbers_at, with_numbers}
+use Rattle.c_keeper.specs.Seconds.{stamp_in}
+use Rattle.c_keeper.specs.Timekeepers.{announced_in}
+
+abbrev silent : IrigLine
+silent = record { sync = record { rise_us = 0; place = 0; was_marker = 0 }; port = no_tally; frame = no_tally; end_us = 0; has_frame = 0 }
+
+abbrev all_silent : IrigLines
+all_silent = record { a = silent; b = silent; c = silent; d = silent; e = silent }
+
+-- the weights of the first number of the first line, of the last one of the last, and of a second's
+pub known_weights : (weighted 315 (lines_numbers (record all_silent { a = record silent { sync = record { rise_us = 1000; place = 0; was_marker = 0 } } })) ≡ 315000)
+    × (weighted 315 (lines_numbers (record all_silent { e = record silent { has_frame = 1 } })) ≡ 463)
+    × (weighted 295 (announced_numbers (record { day = 1; sod = 0; edge_us = 0; bound_us = 0; is_told = 1000 })) ≡ 303295)
+known_weights = (refl, refl, refl)
+
+-- the line of port 3, and the last one for a port that is not there
+pub known_lines : (numbers_at (with_numbers all_silent 3 (record silent { end_us = 7 })) 3 ≡ record silent { end_us = 7 })
+    × (numbers_at (with_numbers all_silent 3 (record silent { end_us = 7 })) 4 ≡ silent)
+    × (with_numbers all_silent 3 (record silent { end_us = 7 }) ≡ record all_silent { d = record silent { end_us = 7 } })
+known_lines = (refl, refl, refl)
+
+abbrev told : IrigAnnounced
+told = record { day = 6209; sod = 86400; edge_us = 12; bound_us = 1549; is_told = 1 }
+
+pub known_seconds : (announced_in told ≡ Some (record { second = record { day = 6209; sod = 86400 }; edge_us = 12; bound_us = 1549 }))
+    × (announced_in (record told { is_told = 0 }) ≡ None)
+    × (stamp_in 0 (record { day = 6209; sod = 86400; offset_us = 250000; bound_us = 1549 }) ≡ Some (record { second = record { day = 6209; sod = 86400 }; offset_us = 250000; bound_us = 1549 }))
+    × (stamp_in 26 (record { day = 6209; sod = 86400; offset_us = 250000; bound_us = 1549 }) ≡ None)
+known_seconds = (refl, refl, refl, refl)

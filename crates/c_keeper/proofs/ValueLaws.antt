@@ -1,0 +1,67 @@
+-- What calls make of the numbers of a timekeeper is what they make of the value that it is.
+use Rattle.std.specs.Prelude.{IfSome}
+use Rattle.std.proofs.Common.{◌≡◌, ◌∙◌, ℕ, Option, Some, None, refl, sym, ap, subst, arith}
+use Rattle.irig_time.specs.Tables.{TableValue}
+use Rattle.irig_timekeeper.specs.declared.clock.Beat.{Beat}
+use Rattle.irig_timekeeper.specs.declared.clock.ClockRules.{ClockRules}
+use Rattle.irig_timekeeper.specs.declared.clock.ClockState.{ClockState}
+use Rattle.irig_time.specs.Seconds.{IsValid}
+use Rattle.irig_reader.specs.declared.report.Report.{Report}
+use Rattle.irig_timekeeper.specs.Clock.{clock_after, clock_answer, SaysOfUtc}
+use Rattle.irig_timekeeper.specs.Refusals.{clock_fault}
+use Rattle.c_numbers.specs.declared.setup.IrigSetup.{IrigSetup}
+use Rattle.c_numbers.specs.Reports.{report_in}
+use Rattle.c_numbers.specs.Setups.{reader_rules_in, redundancy_in}
+use Rattle.c_keeper.specs.declared.announced.IrigAnnounced.{IrigAnnounced}
+use Rattle.irig_timekeeper.specs.Keeping.{Keeping, after_tick, answer_at}
+use Rattle.c_numbers.specs.LeapTables.{table_in}
+use Rattle.c_keeper.specs.declared.second.IrigSecond.{IrigSecond}
+use Rattle.c_keeper.specs.declared.timekeeper.IrigTimekeeper.{IrigTimekeeper}
+use Rattle.c_keeper.specs.Seconds.{IsSecondOf, IsToldOf}
+use Rattle.c_keeper.specs.Timekeepers.{answer_in, clock_in, clock_state_in, state_behind, IsAnnounced, IsTimekeeperOf}
+
+pub answers_as : (t : IrigTimekeeper) (k : Keeping) (now : ℕ) → IsTimekeeperOf t k → answer_in t now ≡ answer_at k now
+answers_as t k now h =
+    ap (λ (c : ClockRules). clock_answer c (table_in t.table) (clock_state_in t) now) h.clock
+    ∙ (ap (λ (table : TableValue). clock_answer k.clock table (clock_state_in t) now) h.table
+    ∙ ap (λ (s : ClockState). clock_answer k.clock k.table s now) h.state)
+
+pub stands_as : (t : IrigTimekeeper) (k : Keeping) (now : ℕ) → IsTimekeeperOf t k → state_behind t now ≡ (after_tick k now).state
+stands_as t k now h =
+    ap (λ (c : ClockRules). clock_after c (table_in t.table) (clock_state_in t) now) h.clock
+    ∙ (ap (λ (table : TableValue). clock_after k.clock table (clock_state_in t) now) h.table
+    ∙ ap (λ (s : ClockState). clock_after k.clock k.table s now) h.state)
+
+-- a second that is told is a beat
+pub record IsBeatOf (s : IrigSecond) (answer : Option Beat) (beat : Beat) : Type 0 where
+  pub is : answer ≡ Some beat
+  pub told : IsToldOf s beat
+
+pub beat_of : (s : IrigSecond) (answer : Option Beat) → IsSecondOf s answer → s.is_told ≡ 1 → (beat : Beat) × IsBeatOf s answer beat
+beat_of s None nothing told =
+    let none : s.is_told ≡ 0 = ap (λ (x : IrigSecond). x.is_told) nothing in
+    absurd (omega (arith, none, told))
+beat_of s (Some beat) is told = (beat, record { is = refl; told = is })
+
+-- what is announced is of UTC
+pub valid_told : (s : IrigSecond) (answer : Option Beat) → IsSecondOf s answer → SaysOfUtc answer → IfSome (report_in s.report).announce IsValid
+valid_told s None nothing says = subst (λ (x : IrigSecond). IfSome (report_in x.report).announce IsValid) (sym nothing) tt
+valid_told s (Some beat) told says = subst (λ (r : Report). IfSome r.announce IsValid) (sym told.report) says
+
+-- ---- the same setup and drift
+
+pub clock_as : (t q : IrigTimekeeper) → q.setup ≡ t.setup → q.drift_us ≡ t.drift_us → clock_in q ≡ clock_in t
+clock_as t q setup drift =
+    ap (λ (s : IrigSetup). clock_of s q.drift_us) setup ∙ ap (λ (d : ℕ). clock_of t.setup d) drift
+  where
+    clock_of : IrigSetup → ℕ → ClockRules
+    clock_of s d = record { reader_rules = reader_rules_in s; redundancy = redundancy_in s; drift_us = d }
+
+pub steady_as : (t q : IrigTimekeeper) → q.setup ≡ t.setup → q.drift_us ≡ t.drift_us → clock_fault (reader_rules_in t.setup) t.drift_us ≡ None
+    → clock_fault (reader_rules_in q.setup) q.drift_us ≡ None
+steady_as t q setup drift steady =
+    ap (λ (s : IrigSetup). clock_fault (reader_rules_in s) q.drift_us) setup ∙ (ap (λ (d : ℕ). clock_fault (reader_rules_in t.setup) d) drift ∙ steady)
+
+-- nothing was announced
+pub none_announced : (a : IrigAnnounced) → a.is_told ≡ 0 → IsAnnounced a
+none_announced a e = rw e tt

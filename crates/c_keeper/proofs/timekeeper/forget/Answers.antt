@@ -1,0 +1,11 @@
+use Rattle.std.proofs.Common.{sym, ap, subst}
+use Rattle.irig_timekeeper.specs.Steps.{AreNewLines}
+use Rattle.c_keeper.specs.declared.line.IrigLines.{IrigLines}
+use Rattle.c_keeper.specs.declared.timekeeper.IrigTimekeeper.{IrigTimekeeper}
+use Rattle.c_keeper.specs.Lines.{lines_in}
+use Rattle.c_keeper.proofs.timekeeper.forget.Goals as goal
+
+pub returns-clause-lines : goal.returns-clause-lines
+returns-clause-lines c rules =
+    subst (λ (ls : IrigLines). AreNewLines (lines_in rules ls)) (sym (ap (λ (t : IrigTimekeeper). t.lines) c.set_edge.ensures.others))
+    (c.lines_of_nothing-timekeeper.ensures.new rules)

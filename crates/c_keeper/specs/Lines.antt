@@ -1,0 +1,69 @@
+-- Where the lines of a timekeeper stand, by their numbers.
+use Rattle.std.specs.Prelude.{◌≡◌, ℕ, ◌⊎◌, ◌==◌, if◌then◌else◌, List, [], ◌∷◌, Option, Some, None}
+use Rattle.irig_time.specs.declared.rules.Rules.{Rules}
+use Rattle.irig_port.specs.declared.tally.Tally.{Tally}
+use Rattle.irig_port.specs.Tallies.{IsTallyOf, tally_told}
+use Rattle.irig_timekeeper.specs.declared.lines.KeptFrame.{KeptFrame}
+use Rattle.irig_timekeeper.specs.declared.lines.Line.{Line}
+use Rattle.irig_timekeeper.specs.declared.lines.Lines.{Lines}
+use Rattle.irig_timekeeper.specs.Keeping.{Heard}
+use Rattle.c_keeper.specs.declared.line.IrigLine.{IrigLine}
+use Rattle.c_keeper.specs.declared.line.IrigLines.{IrigLines}
+
+-- its last whole frame, if it keeps one: what its numbers tell, and where it ends
+abbrev pub frame_in : Rules → IrigLine → Option KeptFrame
+frame_in rules l =
+    if l.has_frame == 0 then None
+    else Some (record { told = tally_told rules l.frame; end_us = l.end_us })
+
+abbrev pub line_in : Rules → IrigLine → Line
+line_in rules l = record { sync = l.sync; frame = frame_in rules l }
+
+abbrev pub lines_in : Rules → IrigLines → Lines
+lines_in rules ls = record {
+  a = line_in rules ls.a;
+  b = line_in rules ls.b;
+  c = line_in rules ls.c;
+  d = line_in rules ls.d;
+  e = line_in rules ls.e;
+}
+
+-- the frames that they keep, and of others what they kept last
+abbrev pub frames_in : IrigLines → List Tally
+frames_in ls = ls.a.frame ∷ ls.b.frame ∷ ls.c.frame ∷ ls.d.frame ∷ ls.e.frame ∷ []
+
+-- the numbers of the line of a port
+abbrev pub numbers_at : IrigLines → ℕ → IrigLine
+numbers_at ls port =
+    if port == 0 then ls.a
+    else (if port == 1 then ls.b
+    else (if port == 2 then ls.c
+    else (if port == 3 then ls.d
+    else ls.e)))
+
+abbrev pub with_numbers : IrigLines → ℕ → IrigLine → IrigLines
+with_numbers ls port l =
+    if port == 0 then record ls { a = l }
+    else (if port == 1 then record ls { b = l }
+    else (if port == 2 then record ls { c = l }
+    else (if port == 3 then record ls { d = l }
+    else record ls { e = l })))
+
+-- what the ports of the lines heard
+pub record HaveHeard (ls : IrigLines) (heard : Heard) : Type 0 where
+  pub a : IsTallyOf ls.a.port heard.a
+  pub b : IsTallyOf ls.b.port heard.b
+  pub c : IsTallyOf ls.c.port heard.c
+  pub d : IsTallyOf ls.d.port heard.d
+  pub e : IsTallyOf ls.e.port heard.e
+
+-- a tick keeps a frame or drops it
+abbrev pub IsKeptFrom : Option KeptFrame → Option KeptFrame → Type 0
+IsKeptFrom before after = (after ≡ None) ⊎ (after ≡ before)
+
+pub record AreKeptFrom (before after : Lines) : Type 0 where
+  pub a : IsKeptFrom before.a.frame after.a.frame
+  pub b : IsKeptFrom before.b.frame after.b.frame
+  pub c : IsKeptFrom before.c.frame after.c.frame
+  pub d : IsKeptFrom before.d.frame after.d.frame
+  pub e : IsKeptFrom before.e.frame after.e.frame

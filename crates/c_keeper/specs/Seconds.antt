@@ -1,0 +1,54 @@
+-- What a timekeeper says, by numbers.
+use Rattle.std.specs.Prelude.{◌≡◌, ℕ, ◌==◌, if◌then◌else◌, Option, Some, None, pos}
+use Rattle.irig_timekeeper.specs.declared.clock.Beat.{Beat}
+use Rattle.irig_timekeeper.specs.declared.stamp.Stamp.{Stamp}
+use Rattle.c_numbers.specs.declared.report.IrigReport.{IrigReport}
+use Rattle.c_numbers.specs.Reports.{report_in}
+use Rattle.c_keeper.specs.declared.second.IrigSecond.{IrigSecond}
+use Rattle.c_keeper.specs.declared.stamp.IrigStamp.{IrigStamp}
+
+-- the numbers of what a tick answers at which an edge has come
+pub record IsToldOf (s : IrigSecond) (beat : Beat) : Type 0 where
+  pub is_told : s.is_told ≡ 1
+  pub edge_us : s.edge_us ≡ beat.edge_us
+  pub missed : s.missed ≡ beat.missed
+  pub moved : s.moved ≡ beat.moved
+  pub report : report_in s.report ≡ beat.report
+
+-- nothing is told
+abbrev pub nothing_reported : IrigReport
+nothing_reported = record {
+  announces = 0;
+  lock = 0;
+  cause = 0;
+  agreed = 0;
+  lock_count = 0;
+  day = 0;
+  sod = 0;
+  differed = 0;
+  faulty = 0;
+  poor = 0;
+  quality = 0;
+  has_local = 0;
+  local_half_hours = pos 0;
+  dst = 0;
+}
+
+abbrev pub nothing_told : IrigSecond
+nothing_told = record { is_told = 0; edge_us = 0; missed = 0; moved = 0; report = nothing_reported }
+
+-- the numbers of what a tick answers
+abbrev pub IsSecondOf : IrigSecond → Option Beat → Type 0
+IsSecondOf s None = s ≡ nothing_told
+IsSecondOf s (Some beat) = IsToldOf s beat
+
+-- the stamp that a call gives which answers this
+abbrev pub stamp_in : ℕ → IrigStamp → Option Stamp
+stamp_in answer s =
+    if answer == 0
+    then Some (record {
+      second = record { day = s.day; sod = s.sod };
+      offset_us = s.offset_us;
+      bound_us = s.bound_us;
+    })
+    else None

@@ -1,0 +1,99 @@
+-- What it is for the numbers that C holds to be those of a timekeeper.
+use Rattle.std.specs.Prelude.{◌≡◌, ℕ, ◌==◌, if◌then◌else◌, Option, Some, None, IfSome}
+use Rattle.irig_time.specs.declared.claim.Claim.{Claim}
+use Rattle.irig_time.specs.Seconds.{IsValid}
+use Rattle.irig_timekeeper.specs.declared.clock.Beat.{Beat}
+use Rattle.irig_timekeeper.specs.declared.clock.ClockRules.{ClockRules}
+use Rattle.irig_timekeeper.specs.declared.clock.ClockState.{ClockState}
+use Rattle.irig_timekeeper.specs.declared.stamp.Announced.{Announced}
+use Rattle.irig_timekeeper.specs.declared.stamp.Stamp.{Stamp}
+use Rattle.irig_timekeeper.specs.Clock.{clock_after, clock_answer, clock_vote, clock_wait}
+use Rattle.irig_timekeeper.specs.Keeping.{Keeping}
+use Rattle.irig_timekeeper.specs.Refusals.{clock_fault}
+use Rattle.irig_timekeeper.specs.Stamps.{stamp_of}
+use Rattle.c_numbers.specs.Setups.{rules_in, reader_rules_in, redundancy_in, IsSetup}
+use Rattle.c_numbers.specs.LeapTables.{table_in}
+use Rattle.c_numbers.specs.States.{state_in, IsState}
+use Rattle.c_keeper.specs.declared.announced.IrigAnnounced.{IrigAnnounced}
+use Rattle.c_keeper.specs.declared.timekeeper.IrigTimekeeper.{IrigTimekeeper}
+use Rattle.c_keeper.specs.Lines.{lines_in, HaveHeard}
+use Rattle.c_keeper.specs.CheckWord.{IsSealed}
+
+-- the second that was announced, if there is one
+abbrev pub announced_in : IrigAnnounced → Option Announced
+announced_in a =
+    if a.is_told == 0 then None
+    else Some (record {
+      second = record { day = a.day; sod = a.sod };
+      edge_us = a.edge_us;
+      bound_us = a.bound_us;
+    })
+
+-- if there is one, it is of UTC
+abbrev pub IsAnnounced : IrigAnnounced → Type 0
+IsAnnounced a = IfSome (announced_in a) (λ announced. IsValid announced.second)
+
+-- the rules of its clock
+abbrev pub clock_in : IrigTimekeeper → ClockRules
+clock_in t = record {
+  reader_rules = reader_rules_in t.setup;
+  redundancy = redundancy_in t.setup;
+  drift_us = t.drift_us;
+}
+
+-- its last edge, if there was one
+abbrev pub edge_in : IrigTimekeeper → Option ℕ
+edge_in t = if t.has_edge == 0 then None else Some t.edge_us
+
+-- where its clock stands
+abbrev pub clock_state_in : IrigTimekeeper → ClockState
+clock_state_in t = record {
+  lines = lines_in (rules_in t.setup) t.lines;
+  reader = state_in t.state;
+  edge_us = edge_in t;
+  moved = t.moved;
+  last = announced_in t.last;
+  before = announced_in t.before;
+}
+
+-- its calls accept the numbers
+pub record IsAccepted (t : IrigTimekeeper) : Type 0 where
+  pub setup : IsSetup t.setup
+  pub steady : clock_fault (reader_rules_in t.setup) t.drift_us ≡ None
+  pub is_state : IsState t.setup.lock_after t.state
+  pub last : IsAnnounced t.last
+  pub before : IsAnnounced t.before
+  pub sealed : IsSealed t
+
+-- ---- what the calls make of numbers that they accept
+
+-- what a tick says
+abbrev pub answer_in : IrigTimekeeper → ℕ → Option Beat
+answer_in t now = clock_answer (clock_in t) (table_in t.table) (clock_state_in t) now
+
+-- the claim on which the lines then agree, if they do
+abbrev pub vote_in : IrigTimekeeper → ℕ → Option Claim
+vote_in t now = clock_vote (clock_in t) (clock_state_in t) now
+
+-- where its clock then stands
+abbrev pub state_behind : IrigTimekeeper → ℕ → ClockState
+state_behind t now = clock_after (clock_in t) (table_in t.table) (clock_state_in t) now
+
+-- how long until a tick has something to do
+abbrev pub wait_in : IrigTimekeeper → ℕ → ℕ
+wait_in t now = clock_wait (clock_in t) (clock_state_in t) now
+
+-- the stamp of an event
+abbrev pub stamp_for : IrigTimekeeper → ℕ → Option Stamp
+stamp_for t time = stamp_of (announced_in t.last) (announced_in t.before) time
+
+-- ---- which value they are
+
+-- the numbers are those of a timekeeper that is this value
+pub record IsTimekeeperOf (t : IrigTimekeeper) (k : Keeping) : Type 0 where
+  pub rules : rules_in t.setup ≡ k.rules
+  pub clock : clock_in t ≡ k.clock
+  pub table : table_in t.table ≡ k.table
+  pub heard : HaveHeard t.lines k.heard
+  pub state : clock_state_in t ≡ k.state
+  pub accepted : IsAccepted t

@@ -1,0 +1,24 @@
+//! The plain numbers of a timekeeper that C owns, what they stand for in the libraries, and the check
+//! word that tells if one of them was changed.
+//!
+//! As in c_numbers a function `.._of` gives the value that numbers stand for, and `.._for_c` the
+//! numbers of a value. There is no memory to ask for.
+#![tactic(auto)]
+
+mod announced;
+mod check_word;
+mod laws;
+mod line;
+mod second;
+mod stamp;
+mod timekeeper;
+
+pub use announced::IrigAnnounced;
+pub use check_word::{check_of, set_line};
+pub use laws::another_number_is_told;
+pub use line::{IrigLine, IrigLines, hear, line_at};
+pub use second::{IrigSecond, second_of};
+pub use stamp::{IrigStamp, stamp_for_c};
+pub use timekeeper::{
+    IrigTimekeeper, clock_rules_of, clock_state_of, forget, is_accepted, keep, restart, stamp_at,
+};

@@ -1,0 +1,89 @@
+//! What a timekeeper says at a tick, in numbers.
+
+ghost use Rattle.std.specs.Prelude.{◌≡◌, Some};
+ghost use Rattle.c_numbers.specs.Numbers.{sense_in};
+ghost use Rattle.c_numbers.specs.Reports.{report_in, voices_in};
+ghost use Rattle.c_numbers.specs.Setups.{redundancy_in};
+ghost use Rattle.c_numbers.specs.Voices.{voices_to};
+ghost use Rattle.c_keeper.specs.Lines.{frames_in};
+ghost use Rattle.c_keeper.specs.Seconds.{IsSecondOf, IsToldOf};
+
+use crate::line::frames_of;
+use crate::timekeeper::IrigTimekeeper;
+use c_numbers::{IrigReport, Voices, redundancy_of, report_for_c, sense_of, voices_of};
+use irig_timekeeper::{Beat, Ticked};
+
+/// What a timekeeper says at a tick.
+#[repr(C)]
+#[derive(Clone, Copy, Drop)]
+pub struct IrigSecond {
+    /// 1 if a second was counted, of which the rest is; 0 if there is nothing to tell, with zeros
+    /// behind it.
+    pub is_told: u8,
+    /// Where the second begins.
+    pub edge_us: u32,
+    /// The seconds that passed untold before it.
+    pub missed: u32,
+    /// How often lines moved the edge since the second that was told before.
+    pub moved: u32,
+    /// What is said of it.
+    pub report: IrigReport,
+}
+
+const NOTHING_REPORTED: IrigReport = IrigReport {
+    announces: 0,
+    lock: 0,
+    cause: 0,
+    agreed: 0,
+    lock_count: 0,
+    day: 0,
+    sod: 0,
+    differed: 0,
+    faulty: 0,
+    poor: 0,
+    quality: 0,
+    has_local: 0,
+    local_half_hours: 0,
+    dst: 0,
+};
+
+const NOTHING_TOLD: IrigSecond = IrigSecond {
+    is_told: 0,
+    edge_us: 0,
+    missed: 0,
+    moved: 0,
+    report: NOTHING_REPORTED,
+};
+
+/// What a tick answers, as C is given it, with what lines told by the frames that they kept.
+pub fn second_of(timekeeper: &IrigTimekeeper, ticked: &Ticked) -> IrigSecond
+    ensures told { IsSecondOf result ticked.now.beat }
+    ensures voices { (beat : Beat) → ticked.now.beat ≡ Some beat → voices_in result.report
+        ≡ voices_to ticked.now.vote beat.told (redundancy_in timekeeper.now.setup)
+        (sense_in timekeeper.now.setup.sense) (frames_in timekeeper.now.lines) }
+{
+    let Some(beat) = ticked.beat else {
+        return NOTHING_TOLD;
+    };
+    let voices = voices_of(
+        &beat.told,
+        redundancy_of(&timekeeper.setup),
+        ticked.vote,
+        sense_of(timekeeper.setup.sense),
+        &frames_of(&timekeeper.lines),
+    );
+    second_for_c(&beat, &voices)
+}
+
+fn second_for_c(beat: &Beat, voices: &Voices) -> IrigSecond
+    ensures told { IsToldOf result beat.now }
+    ensures voices { voices_in result.report ≡ voices.now }
+{
+    IrigSecond {
+        is_told: 1,
+        edge_us: beat.edge_us,
+        missed: beat.missed,
+        moved: beat.moved,
+        report: report_for_c(&beat.report, voices),
+    }
+}

@@ -1,0 +1,234 @@
+//! A timekeeper in numbers.
+
+ghost use Rattle.std.specs.Prelude.{◌≡◌, ◌↔◌, ◌+◌, ◌*◌, ◌%◌, ◌^◌, ◌<◌, ◌≤◌, IfSome, IsTrue, None, is_some};
+ghost use Rattle.irig_time.specs.declared.rules.Rules.{Rules};
+ghost use Rattle.irig_time.specs.Seconds.{IsValid};
+ghost use Rattle.irig_reader.specs.Rule.{count_of};
+ghost use Rattle.irig_timekeeper.specs.Clock.{AnnouncedOfUtc};
+ghost use Rattle.irig_timekeeper.specs.Keeping.{Heard, new_state, nothing_heard};
+ghost use Rattle.irig_timekeeper.specs.Stamps.{stamp_of};
+ghost use Rattle.irig_timekeeper.specs.Steps.{AreKeptOfUtc, AreNewLines};
+ghost use Rattle.c_numbers.specs.CheckWord.{setup_numbers, table_numbers, weighted};
+ghost use Rattle.c_numbers.specs.Setups.{rules_in, reader_rules_in, IsSetup};
+ghost use Rattle.c_numbers.specs.States.{state_in, IsState};
+ghost use Rattle.c_keeper.specs.Lines.{lines_in, AreKeptFrom, HaveHeard};
+ghost use Rattle.c_numbers.specs.declared.state.TheConstants.{IDLE};
+ghost use Rattle.c_keeper.specs.CheckWord.{IsSealed};
+ghost use Rattle.irig_timekeeper.specs.Refusals.{clock_fault};
+ghost use Rattle.c_keeper.specs.Timekeepers.{announced_in, clock_in, clock_state_in, edge_in, IsAccepted, IsAnnounced};
+
+use crate::announced::{
+    IrigAnnounced, NOTHING_ANNOUNCED, announced_for_c, announced_of, is_announced,
+};
+use crate::check_word::{changing_sum, check_of};
+use crate::line::{IrigLines, keep_lines, lines_of, lines_of_nothing};
+use c_numbers::{
+    IDLE, IrigSetup, IrigState, IrigTable, is_setup, reader_rules_of, redundancy_of, rules_of,
+    state_for_c, state_of,
+};
+use irig_reader::State;
+use irig_timekeeper::{ClockRules, ClockState, Stamp, clock_fault, stamp_of};
+
+/// A timekeeper, all of it plain numbers. It may be copied, kept and taken up again.
+#[repr(C)]
+#[derive(Clone, Copy, Drop)]
+pub struct IrigTimekeeper {
+    /// How it is set up.
+    pub setup: IrigSetup,
+    /// The leaps that it knows beforehand.
+    pub table: IrigTable,
+    /// Where its reader's rule stands.
+    pub state: IrigState,
+    /// Its lines, of three the first three, of one the first.
+    pub lines: IrigLines,
+    /// How many microseconds a second the device's counter may be wrong.
+    pub drift_us: u32,
+    /// Where the last second begins that was counted.
+    pub edge_us: u32,
+    /// How often lines set that edge right since.
+    pub moved: u32,
+    /// 0 if no second was counted yet; any other, if one was.
+    pub has_edge: u8,
+    /// The last second that was counted, if it was announced.
+    pub last: IrigAnnounced,
+    /// The one counted before it, if it was announced.
+    pub before: IrigAnnounced,
+    /// What all other numbers add up to, each times a weight of its own: it tells if one of them is
+    /// changed by anything but the calls of the library.
+    pub check: u64,
+}
+
+/// The rules of its clock.
+pub fn clock_rules_of(timekeeper: &IrigTimekeeper) -> ClockRules
+    ensures { result ≡ clock_in timekeeper.now }
+{
+    ClockRules {
+        reader_rules: reader_rules_of(&timekeeper.setup),
+        redundancy: redundancy_of(&timekeeper.setup),
+        drift_us: timekeeper.drift_us,
+    }
+}
+
+// Whether setup, drift and the seconds that it announced have a meaning, and its check word is that
+// of its numbers, if `fixed` is what setup and table add to it.
+fn is_sound(fixed: u64, timekeeper: &IrigTimekeeper) -> bool
+    requires { fixed ≡ (weighted 3 (setup_numbers timekeeper.now.setup)
+        + weighted 15 (table_numbers timekeeper.now.table)) % 2 ^ 64 }
+    ensures { IsTrue result ↔ (IsSetup timekeeper.now.setup
+        × ((clock_fault (reader_rules_in timekeeper.now.setup) timekeeper.now.drift_us ≡ None)
+        × (IsAnnounced timekeeper.now.last × (IsAnnounced timekeeper.now.before
+        × IsSealed timekeeper.now)))) }
+{
+    is_setup(&timekeeper.setup)
+        && clock_fault(reader_rules_of(&timekeeper.setup), timekeeper.drift_us).is_none()
+        && is_announced(&timekeeper.last)
+        && is_announced(&timekeeper.before)
+        && timekeeper.check == check_of(fixed, timekeeper)
+}
+
+/// Whether its calls accept the numbers, if `fixed` is what setup and table add to the check word.
+pub fn is_accepted(fixed: u64, timekeeper: &IrigTimekeeper) -> bool
+    requires { fixed ≡ (weighted 3 (setup_numbers timekeeper.now.setup)
+        + weighted 15 (table_numbers timekeeper.now.table)) % 2 ^ 64 }
+    ensures { IsTrue result ↔ IsAccepted timekeeper.now }
+{
+    is_sound(fixed, timekeeper)
+        && state_of(&timekeeper.state, timekeeper.setup.lock_after).is_some()
+}
+
+/// Where the clock of a timekeeper stands whose calls accept its numbers.
+pub fn clock_state_of(timekeeper: &IrigTimekeeper) -> ClockState
+    requires { IsAccepted timekeeper.now }
+    ensures is { result ≡ clock_state_in timekeeper.now }
+    ensures counting { count_of result.reader < timekeeper.now.setup.lock_after }
+    ensures valid { AreKeptOfUtc result.lines }
+    ensures announced { AnnouncedOfUtc result }
+{
+    ClockState {
+        lines: lines_of(&rules_of(&timekeeper.setup), &timekeeper.lines),
+        reader: reader_of(timekeeper),
+        edge_us: edge_of(timekeeper),
+        moved: timekeeper.moved,
+        last: announced_of(&timekeeper.last),
+        before: announced_of(&timekeeper.before),
+    }
+}
+
+fn reader_of(timekeeper: &IrigTimekeeper) -> State
+    requires { IsAccepted timekeeper.now }
+    ensures is { result ≡ state_in timekeeper.now.state }
+    ensures counting { count_of result < timekeeper.now.setup.lock_after }
+{
+    match state_of(&timekeeper.state, timekeeper.setup.lock_after) {
+        Some(state) => state,
+        // Numbers that are accepted have one.
+        None => State::Idle,
+    }
+}
+
+fn edge_of(timekeeper: &IrigTimekeeper) -> Option<u32>
+    ensures { result ≡ edge_in timekeeper.now }
+{
+    if timekeeper.has_edge == 0 {
+        None
+    } else {
+        Some(timekeeper.edge_us)
+    }
+}
+
+fn set_edge(timekeeper: &mut IrigTimekeeper, edge_us: Option<u32>)
+    ensures edge { edge_in timekeeper.new ≡ edge_us }
+    ensures others { timekeeper.new ≡ record timekeeper.old {
+      edge_us = timekeeper.new.edge_us;
+      has_edge = timekeeper.new.has_edge;
+    } }
+{
+    match edge_us {
+        Some(edge) => {
+            timekeeper.edge_us = edge;
+            timekeeper.has_edge = 1;
+        }
+        None => {
+            timekeeper.edge_us = 0;
+            timekeeper.has_edge = 0;
+        }
+    }
+}
+
+/// The stamp of an event, by the seconds that were announced last.
+pub fn stamp_at(timekeeper: &IrigTimekeeper, time_us: u32) -> Option<Stamp>
+    ensures value { result ≡ stamp_of (announced_in timekeeper.now.last)
+        (announced_in timekeeper.now.before) time_us }
+    ensures valid { IsAnnounced timekeeper.now.last → IsAnnounced timekeeper.now.before
+        → IfSome result (λ stamp. IsValid stamp.second) }
+{
+    stamp_of(
+        announced_of(&timekeeper.last),
+        announced_of(&timekeeper.before),
+        time_us,
+    )
+}
+
+/// Takes up where a tick leaves its clock. The check word stays.
+pub fn keep(timekeeper: &mut IrigTimekeeper, state: &ClockState)
+    requires kept { AreKeptFrom (lines_in (rules_in timekeeper.old.setup) timekeeper.old.lines)
+        state.now.lines }
+    requires counting { count_of state.now.reader < timekeeper.old.setup.lock_after }
+    ensures state { clock_state_in timekeeper.new ≡ state.now }
+    ensures heard { (heard : Heard) → HaveHeard timekeeper.old.lines heard
+        → HaveHeard timekeeper.new.lines heard }
+    ensures is_state { IsState timekeeper.new.setup.lock_after timekeeper.new.state }
+    ensures setup { timekeeper.new.setup ≡ timekeeper.old.setup }
+    ensures table { timekeeper.new.table ≡ timekeeper.old.table }
+    ensures drift { timekeeper.new.drift_us ≡ timekeeper.old.drift_us }
+    ensures check { timekeeper.new.check ≡ timekeeper.old.check }
+{
+    keep_lines(&mut timekeeper.lines, &state.lines);
+    timekeeper.state = state_for_c(&state.reader);
+    set_edge(timekeeper, state.edge_us);
+    timekeeper.moved = state.moved;
+    timekeeper.last = announced_for_c(&state.last);
+    timekeeper.before = announced_for_c(&state.before);
+}
+
+/// Forgets all that happened to it. The check word stays.
+pub fn forget(timekeeper: &mut IrigTimekeeper)
+    ensures state { clock_state_in timekeeper.new
+        ≡ new_state (lines_in (rules_in timekeeper.new.setup) timekeeper.new.lines) }
+    ensures lines { (rules : Rules) → AreNewLines (lines_in rules timekeeper.new.lines) }
+    ensures heard { HaveHeard timekeeper.new.lines nothing_heard }
+    ensures is_state { timekeeper.new.state ≡ IDLE }
+    ensures last { timekeeper.new.last.is_told ≡ 0 }
+    ensures before { timekeeper.new.before.is_told ≡ 0 }
+    ensures setup { timekeeper.new.setup ≡ timekeeper.old.setup }
+    ensures table { timekeeper.new.table ≡ timekeeper.old.table }
+    ensures drift { timekeeper.new.drift_us ≡ timekeeper.old.drift_us }
+    ensures check { timekeeper.new.check ≡ timekeeper.old.check }
+{
+    timekeeper.lines = lines_of_nothing();
+    timekeeper.state = IDLE;
+    set_edge(timekeeper, None);
+    timekeeper.moved = 0;
+    timekeeper.last = NOTHING_ANNOUNCED;
+    timekeeper.before = NOTHING_ANNOUNCED;
+}
+
+/// Forgets all that happened to it. A check word that is wrong stays so.
+pub fn restart(timekeeper: &mut IrigTimekeeper)
+    ensures state { clock_state_in timekeeper.new
+        ≡ new_state (lines_in (rules_in timekeeper.new.setup) timekeeper.new.lines) }
+    ensures lines { (rules : Rules) → AreNewLines (lines_in rules timekeeper.new.lines) }
+    ensures heard { HaveHeard timekeeper.new.lines nothing_heard }
+    ensures is_state { timekeeper.new.state ≡ IDLE }
+    ensures last { timekeeper.new.last.is_told ≡ 0 }
+    ensures before { timekeeper.new.before.is_told ≡ 0 }
+    ensures setup { timekeeper.new.setup ≡ timekeeper.old.setup }
+    ensures table { timekeeper.new.table ≡ timekeeper.old.table }
+    ensures drift { timekeeper.new.drift_us ≡ timekeeper.old.drift_us }
+    ensures sealed { IsSealed timekeeper.new ↔ IsSealed timekeeper.old }
+{
+    let before = changing_sum(timekeeper);
+    forget(timekeeper);
+    let after = changing_sum(timekeeper);
+    timekeeper.check = timekeeper.check.wrapping_sub(before).wrapping_add(after);
+}

@@ -1,0 +1,5 @@
+use Rattle.c_numbers.proofs.ApartLaws.{apart_told}
+use Rattle.c_numbers.proofs.laws.another_number_is_told.Goals as goal
+
+pub returns : goal.returns
+returns c = apart_told

@@ -1,0 +1,80 @@
+-- The check word of a reader: what its numbers add up to, each times an odd weight of its own.
+-- Source: this library's own.
+use Rattle.std.specs.Prelude.{ℕ, ◌≡◌, ◌+◌, ◌*◌, ◌%◌, ◌^◌, ◌<◌, ◌⊎◌, List, [], ◌∷◌, ◌++◌}
+use Rattle.irig_port.specs.declared.tally.Tally.{Tally}
+use Rattle.c_numbers.specs.declared.reader.IrigReader.{IrigReader}
+use Rattle.c_numbers.specs.declared.setup.IrigSetup.{IrigSetup}
+use Rattle.c_numbers.specs.declared.state.IrigState.{IrigState}
+use Rattle.c_numbers.specs.declared.table.IrigLeap.{IrigLeap}
+use Rattle.c_numbers.specs.declared.table.IrigTable.{IrigTable}
+use Rattle.c_numbers.specs.Tallies.{tally_at}
+
+-- the numbers of a setup
+abbrev pub setup_numbers : IrigSetup → List ℕ
+setup_numbers s =
+    s.parity ∷ s.sense ∷ s.sbs ∷ s.redundancy ∷ s.lock_after ∷ s.holdover ∷ []
+
+-- the numbers of leaps
+abbrev pub leap_numbers : List IrigLeap → List ℕ
+leap_numbers [] = []
+leap_numbers (l ∷ ls) = l.day ∷ l.kind ∷ leap_numbers ls
+
+-- the numbers of a table, also of the leaps that do not count
+abbrev pub table_numbers : IrigTable → List ℕ
+table_numbers t = t.until ∷ t.len ∷ leap_numbers t.leaps
+
+-- the numbers of a state
+abbrev pub state_numbers : IrigState → List ℕ
+state_numbers s = s.kind ∷ s.count ∷ s.heard ∷ s.day ∷ s.sod ∷ s.age ∷ []
+
+-- the numbers of what a port heard
+abbrev pub tally_numbers : Tally → List ℕ
+tally_numbers t = t.count ∷ t.wrong.kind ∷ t.wrong.element ∷ t.time ∷ t.control ∷ []
+
+-- the same numbers, added up, and what they add beside the first one's weight
+abbrev pub plain_of : Tally → ℕ
+plain_of t = t.count + t.wrong.kind + t.wrong.element + t.time + t.control
+
+abbrev pub slope_of : Tally → ℕ
+slope_of t = 2 * t.wrong.kind + 4 * t.wrong.element + 6 * t.time + 8 * t.control
+
+-- the numbers of five ports
+abbrev pub port_numbers : List Tally → List ℕ
+port_numbers ports =
+    tally_numbers (tally_at ports 0) ++ tally_numbers (tally_at ports 1)
+    ++ tally_numbers (tally_at ports 2) ++ tally_numbers (tally_at ports 3)
+    ++ tally_numbers (tally_at ports 4)
+
+-- all numbers of a reader but the check word
+abbrev pub numbers_of : IrigReader → List ℕ
+numbers_of r =
+    setup_numbers r.setup ++ table_numbers r.table ++ state_numbers r.state ++ port_numbers r.ports
+
+-- what numbers add up to, the first one times this weight, each other times two more
+abbrev pub weighted : ℕ → List ℕ → ℕ
+weighted weight [] = 0
+weighted weight (n ∷ ns) = weight * n + weighted (weight + 2) ns
+
+-- the check word that belongs to these numbers
+unfoldable pub check_of : IrigReader → ℕ
+check_of r = weighted 3 (numbers_of r) % 2 ^ 64
+
+-- the reader has it
+abbrev pub IsSealed : IrigReader → Type 0
+IsSealed r = r.check ≡ check_of r
+
+-- the first of two lists of numbers of 64 bits are different, and nothing else is
+pub record DifferFirst (m n : ℕ) (ms ns : List ℕ) : Type 0 where
+  pub one : m < 2 ^ 64
+  pub other : n < 2 ^ 64
+  pub differ : m ≡ n → ⊥
+  pub rest : ms ≡ ns
+
+-- two lists of numbers are alike but for one number
+abbrev pub AreOneApart : List ℕ → List ℕ → Type 0
+AreOneApart (m ∷ ms) (n ∷ ns) = DifferFirst m n ms ns ⊎ ((m ≡ n) × AreOneApart ms ns)
+AreOneApart _ _ = ⊥
+
+-- one number of a reader is another one in the other reader
+abbrev pub IsOneNumberApart : IrigReader → IrigReader → Type 0
+IsOneNumberApart r q = AreOneApart (r.check ∷ numbers_of r) (q.check ∷ numbers_of q)

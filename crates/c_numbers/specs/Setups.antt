@@ -1,0 +1,39 @@
+-- The rules that a setup gives, and which of its numbers have a meaning.
+use Rattle.std.specs.Prelude.{ℕ, ◌≤◌, ◌<◌, ◌==◌, if◌then◌else◌}
+use Rattle.irig_time.specs.declared.rules.Rules.{Rules}
+use Rattle.irig_time.specs.declared.rules.SbsUse.TheVariants as sbs
+use Rattle.irig_vote.specs.declared.redundancy.Redundancy.{Redundancy}
+use Rattle.irig_vote.specs.declared.redundancy.Redundancy.TheVariants.{One, Three, Five}
+use Rattle.irig_vote.specs.Vote.{ports_in}
+use Rattle.irig_reader.specs.declared.rules.ReaderRules.{ReaderRules}
+use Rattle.irig_reader.specs.Rules.{IsReaderRules}
+use Rattle.c_numbers.specs.declared.setup.IrigSetup.{IrigSetup}
+use Rattle.c_numbers.specs.Numbers.{parity_in, sense_in}
+
+-- the rules by which frames are read
+abbrev pub rules_in : IrigSetup → Rules
+rules_in s = record {
+  parity = parity_in s.parity;
+  sense = sense_in s.sense;
+  sbs = if s.sbs == 0 then sbs.Check else sbs.Ignore;
+}
+
+-- the rules of the reader
+abbrev pub reader_rules_in : IrigSetup → ReaderRules
+reader_rules_in s = record { lock_after = s.lock_after; holdover = s.holdover }
+
+-- how many ports it has
+abbrev pub redundancy_in : IrigSetup → Redundancy
+redundancy_in s = if s.redundancy == 0 then Three else (if s.redundancy == 1 then Five else One)
+
+-- it is a setup: each number has a meaning, and the rules are in range
+pub record IsSetup (s : IrigSetup) : Type 0 where
+  pub parity : s.parity ≤ 1
+  pub sense : s.sense ≤ 1
+  pub sbs : s.sbs ≤ 1
+  pub redundancy : s.redundancy ≤ 2
+  pub rules : IsReaderRules (reader_rules_in s)
+
+-- there is such a port
+abbrev pub IsPort : IrigSetup → ℕ → Type 0
+IsPort s port = (s.redundancy ≤ 2) × (port < ports_in (redundancy_in s))

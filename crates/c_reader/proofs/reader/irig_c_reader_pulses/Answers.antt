@@ -1,0 +1,17 @@
+use Rattle.std.proofs.Common.{rules, ◌<◌, ◌++◌, subst}
+use Rattle.irig_port.specs.Heard.{symbols_heard}
+use Rattle.irig_port.specs.Tallies.{IsTallyOf}
+use Rattle.irig_reader.specs.History.{Fed, fed_to}
+use Rattle.c_reader.specs.Readers.{IsReaderOf}
+use Rattle.c_numbers.specs.Tallies.{tally_at}
+use Rattle.c_reader.proofs.PortLaws.{more-port}
+use Rattle.c_reader.proofs.reader.irig_c_reader_pulses.Goals as goal
+
+pub returns-clause-fed : goal.returns-clause-fed
+returns-clause-fed c done h s =
+    let port = c.args.port in
+    let here : port < 5 = search rules in
+    let widths = fed_to h.fed port in
+    let was : IsTallyOf (tally_at c.args.reader.now.ports c.from.result) (symbols_heard widths) = rw c.from.ensures (s.heard port here) in
+    subst (λ (f : Fed). IsReaderOf c.set_port.new.reader (record h { fed = f })) (more-port h.fed port c.args.widths_us.now)
+    (c.set_port.ensures.heard h (widths ++ c.args.widths_us.now) s (c.add_all.ensures.added widths was))

@@ -1,0 +1,12 @@
+use Rattle.std.proofs.Common.{subst}
+use Rattle.c_keeper.specs.declared.line.IrigLine.{IrigLine}
+use Rattle.c_keeper.proofs.HeardLaws.{one_more, IsBehindPulse}
+use Rattle.c_reader.proofs.timekeeper.hear_pulse.Goals as goal
+
+pub returns-clause-fed : goal.returns-clause-fed
+returns-clause-fed c k h =
+    let heard = c.hear-place.ensures in
+    let behind = subst (λ (l : IrigLine). IsBehindPulse c.args.rise_us c.args.width_us c.hear-place.result l c.hear-place.new.line) c.line_at-line.ensures
+    (record { at = heard.place; line = heard.line; heard = heard.heard }) in
+    one_more c.args.timekeeper.now c.set_line.new.timekeeper k c.args.port c.args.rise_us c.args.width_us c.hear-place.result c.hear-place.new.line
+    c.requires behind c.set_line.ensures.line c.set_line.ensures.sealed h

@@ -1,0 +1,36 @@
+use Rattle.std.proofs.Common.{rules, ◌≡◌, ◌∙◌, ℕ, None, sym, ap, subst, refl, inl}
+use Rattle.irig_timekeeper.specs.Keeping.{new_state}
+use Rattle.irig_timekeeper.specs.Refusals.{clock_fault}
+use Rattle.c_numbers.specs.declared.setup.IrigSetup.{IrigSetup}
+use Rattle.c_numbers.specs.declared.state.IrigState.{IrigState}
+use Rattle.c_numbers.specs.declared.table.IrigTable.{IrigTable}
+use Rattle.c_numbers.specs.LeapTables.{table_in}
+use Rattle.c_numbers.specs.Setups.{rules_in, reader_rules_in, IsSetup}
+use Rattle.c_keeper.specs.CheckWord.{check_of}
+use Rattle.c_keeper.specs.Lines.{lines_in}
+use Rattle.c_keeper.proofs.ValueLaws.{none_announced}
+use Rattle.c_reader.proofs.timekeeper.irig_c_timekeeper_init.Goals as goal
+
+pub returns-clause-fresh : goal.returns-clause-fresh
+unfolding check_of
+returns-clause-fresh c done =
+    let q = c.forget.new.timekeeper in
+    let new = c.forget.ensures in
+    let is_setup : IsSetup c.args.setup.now = search rules in
+    let steady : clock_fault (reader_rules_in c.args.setup.now) c.args.drift_us ≡ None = search rules in
+    record {
+      rules = ap (λ (s : IrigSetup). rules_in s) new.setup;
+      clock = refl;
+      table = ap (λ (t : IrigTable). table_in t) new.table;
+      heard = new.heard;
+      state = new.state ∙ ap (λ (s : IrigSetup). new_state (lines_in (rules_in s) q.lines)) new.setup;
+      accepted = record {
+        setup = subst (λ (s : IrigSetup). IsSetup s) (sym new.setup) is_setup;
+        steady = ap (λ (s : IrigSetup). clock_fault (reader_rules_in s) q.drift_us) new.setup
+            ∙ (ap (λ (d : ℕ). clock_fault (reader_rules_in c.args.setup.now) d) new.drift ∙ steady);
+        is_state = inl (ap (λ (s : IrigState). s.kind) new.is_state);
+        last = none_announced q.last new.last;
+        before = none_announced q.before new.before;
+        sealed = c.check_of-timekeeper.ensures;
+      };
+    }

@@ -1,0 +1,71 @@
+use Rattle.std.proofs.Common.{◌≡◌, ◌∙◌, ℕ, Bool, true, false, Option, sym, ap, subst, refl}
+use Rattle.irig_reader.specs.declared.report.Report.{Report}
+use Rattle.irig_timekeeper.specs.declared.clock.Beat.{Beat}
+use Rattle.irig_timekeeper.specs.Keeping.{Keeping, nothing_heard}
+use Rattle.irig_timekeeper.specs.Lines.{IsTrueLately}
+use Rattle.irig_timekeeper.proofs.LineLaws.{true_lately}
+use Rattle.irig_timekeeper.proofs.VotedLaws.{tick_voted}
+use Rattle.c_numbers.specs.declared.setup.IrigSetup.{IrigSetup}
+use Rattle.c_numbers.specs.declared.table.IrigTable.{IrigTable}
+use Rattle.c_numbers.specs.LeapTables.{table_in}
+use Rattle.c_numbers.specs.Setups.{rules_in, IsSetup}
+use Rattle.c_keeper.specs.CheckWord.{check_of}
+use Rattle.c_keeper.specs.Seconds.{IsSecondOf}
+use Rattle.c_keeper.specs.Timekeepers.{answer_in, clock_in, clock_state_in}
+use Rattle.c_keeper.proofs.ValueLaws.{answers_as, beat_of, clock_as, stands_as, steady_as}
+use Rattle.c_reader.proofs.timekeeper.irig_c_timekeeper_tick.Goals as goal
+
+never : ◌≡◌ {A = Bool} false true → ⊥
+never h = absurd cc
+
+pub returns-then-not-is_accepted-clause-answered : goal.returns-then-not-is_accepted-clause-answered
+returns-then-not-is_accepted-clause-answered c k h = absurd (never (sym c.if-not-is_accepted.true ∙ c.is_accepted.ensures.1 h.accepted))
+
+pub returns-then-not-is_accepted-clause-second : goal.returns-then-not-is_accepted-clause-second
+returns-then-not-is_accepted-clause-second c k h = absurd (never (sym c.if-not-is_accepted.true ∙ c.is_accepted.ensures.1 h.accepted))
+
+pub returns-then-not-is_accepted-clause-after : goal.returns-then-not-is_accepted-clause-after
+returns-then-not-is_accepted-clause-after c k h = absurd (never (sym c.if-not-is_accepted.true ∙ c.is_accepted.ensures.1 h.accepted))
+
+pub returns-clause-answer : goal.returns-clause-answer
+returns-clause-answer c = (λ done. c.is_accepted.ensures.0 c.if-not-is_accepted.false, λ is. refl)
+
+pub returns-clause-second : goal.returns-clause-second
+returns-clause-second c k h =
+    subst (λ (a : Option Beat). IsSecondOf c.tick_accepted.result a) (answers_as c.args.timekeeper.now k c.args.now_us h) c.tick_accepted.ensures.said
+
+pub returns-clause-after : goal.returns-clause-after
+unfolding check_of
+returns-clause-after c k h =
+    let t = c.args.timekeeper.now in
+    let q = c.tick_accepted.new.timekeeper in
+    let new = c.tick_accepted.ensures in
+    record {
+      rules = ap (λ (s : IrigSetup). rules_in s) new.setup ∙ h.rules;
+      clock = clock_as t q new.setup new.drift ∙ h.clock;
+      table = ap (λ (x : IrigTable). table_in x) new.table ∙ h.table;
+      heard = new.heard k.heard h.heard;
+      state = new.stands ∙ stands_as t k c.args.now_us h;
+      accepted = record {
+        setup = subst (λ (s : IrigSetup). IsSetup s) (sym new.setup) h.accepted.setup;
+        steady = steady_as t q new.setup new.drift h.accepted.steady;
+        is_state = new.is_state;
+        last = new.last;
+        before = new.before;
+        sealed = c.check_of-timekeeper.ensures;
+      };
+    }
+
+pub returns-clause-truth : goal.returns-clause-truth
+returns-clause-truth c t d edges now pulses u done clock steady sound heard told voted says =
+    let numbers = c.args.timekeeper.now in
+    let k : Keeping = record { rules = rules_in numbers.setup; clock = clock_in numbers; table = table_in numbers.table; heard = nothing_heard; state = clock_state_in numbers } in
+    let found = beat_of c.tick_accepted.result (answer_in numbers c.args.now_us) c.tick_accepted.ensures.said told in
+    let beat = found.0 in (
+      beat,
+      found.1.told,
+      tick_voted (IsTrueLately k.rules t edges now) t edges 549 549 k now pulses beat u (λ end ps claim is frame soon. true_lately k.rules t d edges now end ps claim steady is frame soon) sound heard
+          (ap (λ (x : ℕ). answer_in numbers x) (sym clock) ∙ found.1.is)
+          (ap (λ (r : Report). r.cause) (sym found.1.told.report) ∙ voted)
+          (ap (λ (r : Report). r.announce) (sym found.1.told.report) ∙ says),
+    )

@@ -1,0 +1,273 @@
+//! A timekeeper that C holds.
+
+ghost use Rattle.std.specs.Prelude.{◌≡◌, ◌↔◌, ◌%◌, ◌^◌, ◌<◌, ◌≤◌, if◌then◌else◌, ℕ, List, IfSome, IsTrue, None, Some, is_some};
+ghost use Rattle.irig_sync.specs.Lines.{Pulse};
+ghost use Rattle.irig_sync.specs.Sync.{place_of};
+ghost use Rattle.irig_time.specs.declared.rules.Rules.{Rules};
+ghost use Rattle.irig_time.specs.declared.second.UtcSecond.{UtcSecond};
+ghost use Rattle.irig_time.specs.Seconds.{IsValid};
+ghost use Rattle.irig_time.specs.Timelines.{TimelineValue};
+ghost use Rattle.irig_time.specs.TimelineFaults.{IsTimeline};
+ghost use Rattle.irig_vote.specs.Vote.{f_of};
+ghost use Rattle.irig_reader.specs.declared.report.Cause.TheVariants as Cause;
+ghost use Rattle.irig_timekeeper.specs.declared.clock.Beat.{Beat};
+ghost use Rattle.irig_timekeeper.specs.Edges.{IsQuartz};
+ghost use Rattle.irig_timekeeper.specs.Lines.{IsTrueLately};
+ghost use Rattle.irig_timekeeper.specs.Keeping.{Heard, Keeping, new_keeping, place_told, one_pulse_more, after_pulse, after_tick, answer_at, wait_at, stamp_at, restarted};
+ghost use Rattle.irig_timekeeper.specs.Refusals.{clock_fault};
+ghost use Rattle.irig_timekeeper.specs.Steps.{is_pulse, AreNewLines};
+ghost use Rattle.irig_timekeeper.specs.Truth.{AreHeardTruly, IsToldTruly};
+ghost use Rattle.c_numbers.specs.LeapTables.{table_in, HasKinds, IsTable, code_of_table};
+ghost use Rattle.c_numbers.specs.Numbers.{sense_in};
+ghost use Rattle.c_numbers.specs.Reports.{report_in, voices_in};
+ghost use Rattle.c_numbers.specs.Setups.{rules_in, reader_rules_in, redundancy_in, IsPort, IsSetup};
+ghost use Rattle.c_numbers.specs.States.{IsState};
+ghost use Rattle.c_numbers.specs.Voices.{voices_to};
+ghost use Rattle.c_keeper.specs.CheckWord.{IsSealed};
+ghost use Rattle.c_keeper.specs.Lines.{frames_in, lines_in, numbers_at, HaveHeard};
+ghost use Rattle.c_keeper.specs.Seconds.{stamp_in, IsSecondOf, IsToldOf};
+ghost use Rattle.c_keeper.specs.Timekeepers.{answer_in, clock_in, clock_state_in, stamp_for, state_behind, vote_in, wait_in, IsAccepted, IsAnnounced, IsTimekeeperOf};
+
+use crate::line::NO_PORT;
+use c_keeper::{
+    IrigSecond, IrigStamp, IrigTimekeeper, check_of, clock_rules_of, clock_state_of, forget, hear,
+    is_accepted, keep, line_at, restart, second_of, set_line, stamp_at, stamp_for_c,
+};
+use c_numbers::{
+    IrigSetup, IrigTable, OUT_OF_RANGE, fixed_sum, has_kinds, is_port, is_setup, reader_rules_of,
+    table_fault,
+};
+use irig_timekeeper::{clock_fault, is_pulse, tick, wait_of};
+
+/// The holdover is longer than the device's counter can count.
+const DRIFT: u32 = 35;
+
+/// Makes a timekeeper to which nothing has happened, by a counter that is at most `drift_us`
+/// microseconds a second wrong. 26 if a number of the setup has no meaning or is out of its range, a
+/// leap that counts has another kind, or the drift is above 100; then 31 to 34 for the first fault
+/// of the table; then 35 if the holdover is longer than such a counter can count.
+#[unsafe(no_mangle)]
+pub extern "C" fn irig_c_timekeeper_init(
+    timekeeper: &mut IrigTimekeeper,
+    setup: &IrigSetup,
+    table: &IrigTable,
+    drift_us: u32,
+) -> u32
+    ensures answer { (result ≡ 0) ↔ (IsSetup setup.now × (HasKinds table.now × (IsTable table.now
+        × (clock_fault (reader_rules_in setup.now) drift_us ≡ None)))) }
+    ensures table { IsSetup setup.now → HasKinds table.now → drift_us ≤ 100
+        → (IsTable table.now → ⊥) → result ≡ code_of_table table.now }
+    ensures drift { IsSetup setup.now → HasKinds table.now → drift_us ≤ 100 → IsTable table.now
+        → (clock_fault (reader_rules_in setup.now) drift_us ≡ None → ⊥) → result ≡ 35 }
+    ensures refused { (result ≡ 0 → ⊥) → timekeeper.new ≡ timekeeper.old }
+    ensures fresh { result ≡ 0 → IsTimekeeperOf timekeeper.new (new_keeping (rules_in setup.now)
+        (clock_in timekeeper.new) (table_in table.now)
+        (lines_in (rules_in setup.now) timekeeper.new.lines)) }
+    ensures clock { result ≡ 0 → clock_in timekeeper.new ≡ record {
+      reader_rules = reader_rules_in setup.now;
+      redundancy = redundancy_in setup.now;
+      drift_us = drift_us;
+    } }
+    ensures lines { (rules : Rules) → result ≡ 0
+        → AreNewLines (lines_in rules timekeeper.new.lines) }
+{
+    if !is_setup(setup) || !has_kinds(table) || drift_us > 100 {
+        return OUT_OF_RANGE;
+    }
+    let fault = table_fault(table);
+    if fault != 0 {
+        return fault;
+    }
+    if clock_fault(reader_rules_of(setup), drift_us).is_some() {
+        return DRIFT;
+    }
+    timekeeper.setup = *setup;
+    timekeeper.table = *table;
+    timekeeper.drift_us = drift_us;
+    forget(timekeeper);
+    timekeeper.check = check_of(fixed_sum(setup, table), timekeeper);
+    0
+}
+
+/// A pulse on a line, once it has ended: its place in its frame, 1 to 100, or 0 out of step. One of
+/// half a second or more is none: 0, and nothing changes. 255 if there is no such line.
+#[unsafe(no_mangle)]
+pub extern "C" fn irig_c_timekeeper_hear(
+    timekeeper: &mut IrigTimekeeper,
+    line: u8,
+    rise_us: u32,
+    width_us: u32,
+) -> u8
+    ensures answer { (result ≡ 255 → ⊥) ↔ IsPort timekeeper.old.setup line }
+    ensures refused { result ≡ 255 → timekeeper.new ≡ timekeeper.old }
+    ensures stuck { 500000 ≤ width_us → timekeeper.new ≡ timekeeper.old }
+    // whatever lies in its numbers: the place by the line's own
+    ensures place { (result ≡ 255 → ⊥) → result ≡ (if is_pulse width_us
+        then place_of (numbers_at timekeeper.old.lines line).sync rise_us width_us else 0) }
+    // of a timekeeper: the place is the one that the value gives, and it goes on as the value does
+    ensures told { (result ≡ 255 → ⊥) → (k : Keeping) → IsTimekeeperOf timekeeper.old k
+        → result ≡ place_told k line rise_us width_us }
+    ensures fed { (result ≡ 255 → ⊥) → (k : Keeping) → IsTimekeeperOf timekeeper.old k
+        → IsTimekeeperOf timekeeper.new (after_pulse k line rise_us width_us) }
+    // the check word is right exactly if it was
+    ensures sealed { IsSealed timekeeper.new ↔ IsSealed timekeeper.old }
+{
+    if !is_port(&timekeeper.setup, line) {
+        return NO_PORT;
+    }
+    if is_pulse(width_us) {
+        hear_pulse(timekeeper, line, rise_us, width_us)
+    } else {
+        0
+    }
+}
+
+fn hear_pulse(timekeeper: &mut IrigTimekeeper, port: u8, rise_us: u32, width_us: u32) -> u8
+    requires { port < 5 }
+    ensures place { result
+        ≡ place_of (numbers_at timekeeper.old.lines port).sync rise_us width_us }
+    ensures few { result ≤ 100 }
+    ensures fed { (k : Keeping) → IsTimekeeperOf timekeeper.old k
+        → IsTimekeeperOf timekeeper.new (one_pulse_more k port rise_us width_us) }
+    ensures sealed { IsSealed timekeeper.new ↔ IsSealed timekeeper.old }
+{
+    let mut line = line_at(&timekeeper.lines, port);
+    let place = hear(&mut line, rise_us, width_us);
+    set_line(timekeeper, port, &line);
+    place
+}
+
+/// What the timekeeper says, if a second has begun since the last call. 26 if a number has no meaning
+/// or is out of its range, or the check word is not that of the numbers.
+#[unsafe(no_mangle)]
+pub extern "C" fn irig_c_timekeeper_tick(
+    timekeeper: &mut IrigTimekeeper,
+    now_us: u32,
+    second: &mut IrigSecond,
+) -> u32
+    ensures answer { (result ≡ 0) ↔ IsAccepted timekeeper.old }
+    ensures refused { (result ≡ 0 → ⊥)
+        → (timekeeper.new ≡ timekeeper.old) × (second.new ≡ second.old) }
+    ensures valid { result ≡ 0 → IfSome (report_in second.new.report).announce IsValid }
+    // of a timekeeper: it is never refused, says what the value says, and goes on as the value does
+    ensures answered { (k : Keeping) → IsTimekeeperOf timekeeper.old k → result ≡ 0 }
+    ensures second { (k : Keeping) → IsTimekeeperOf timekeeper.old k
+        → IsSecondOf second.new (answer_at k now_us) }
+    ensures after { (k : Keeping) → IsTimekeeperOf timekeeper.old k
+        → IsTimekeeperOf timekeeper.new (after_tick k now_us) }
+    // whatever lies in its numbers: what the clock makes of them
+    ensures said { result ≡ 0 → IsSecondOf second.new (answer_in timekeeper.old now_us) }
+    ensures stands { result ≡ 0
+        → clock_state_in timekeeper.new ≡ state_behind timekeeper.old now_us }
+    // how the lines stand to the vote of the tick, which a second by the own counter has not, and
+    // what the frames of those that agree say beside the time
+    ensures voices { (beat : Beat) → result ≡ 0 → answer_in timekeeper.old now_us ≡ Some beat
+        → voices_in second.new.report ≡ voices_to (vote_in timekeeper.old now_us) beat.told
+        (redundancy_in timekeeper.old.setup) (sense_in timekeeper.old.setup.sense)
+        (frames_in timekeeper.old.lines) }
+    // A second that is announced by a vote is the true one, whatever lies in the numbers, if all lines
+    // but f were true in the last 1.2 s and keep what they then heard: this needs nothing of the past
+    // (irig_timekeeper, the law `votes_are_true`).
+    ensures truth { (t : TimelineValue) (d : ℕ) (edges : ℕ → ℕ) (now : ℕ)
+        (pulses : ℕ → List Pulse) (u : UtcSecond) → result ≡ 0 → now_us ≡ now % 2 ^ 32
+        → IsQuartz d edges → IsTimeline t
+        → AreHeardTruly (IsTrueLately (rules_in timekeeper.old.setup) t edges now)
+        (rules_in timekeeper.old.setup) (f_of (redundancy_in timekeeper.old.setup)) now
+        (lines_in (rules_in timekeeper.old.setup) timekeeper.old.lines) pulses
+        → second.new.is_told ≡ 1 → (report_in second.new.report).cause ≡ Cause.Voted
+        → (report_in second.new.report).announce ≡ Some u
+        → (beat : Beat) × IsToldOf second.new beat × IsToldTruly t edges 1549 549 now beat u }
+{
+    let fixed = fixed_sum(&timekeeper.setup, &timekeeper.table);
+    if !is_accepted(fixed, timekeeper) {
+        return OUT_OF_RANGE;
+    }
+    *second = tick_accepted(timekeeper, now_us);
+    timekeeper.check = check_of(fixed, timekeeper);
+    0
+}
+
+// A tick of numbers that are accepted. The check word stays.
+fn tick_accepted(timekeeper: &mut IrigTimekeeper, now_us: u32) -> IrigSecond
+    requires { IsAccepted timekeeper.old }
+    ensures said { IsSecondOf result (answer_in timekeeper.old now_us) }
+    ensures valid { IfSome (report_in result.report).announce IsValid }
+    ensures voices { (beat : Beat) → answer_in timekeeper.old now_us ≡ Some beat
+        → voices_in result.report ≡ voices_to (vote_in timekeeper.old now_us) beat.told
+        (redundancy_in timekeeper.old.setup) (sense_in timekeeper.old.setup.sense)
+        (frames_in timekeeper.old.lines) }
+    ensures stands { clock_state_in timekeeper.new ≡ state_behind timekeeper.old now_us }
+    ensures heard { (heard : Heard) → HaveHeard timekeeper.old.lines heard
+        → HaveHeard timekeeper.new.lines heard }
+    ensures is_state { IsState timekeeper.new.setup.lock_after timekeeper.new.state }
+    ensures last { IsAnnounced timekeeper.new.last }
+    ensures before { IsAnnounced timekeeper.new.before }
+    ensures setup { timekeeper.new.setup ≡ timekeeper.old.setup }
+    ensures table { timekeeper.new.table ≡ timekeeper.old.table }
+    ensures drift { timekeeper.new.drift_us ≡ timekeeper.old.drift_us }
+{
+    let rules = clock_rules_of(timekeeper);
+    let mut state = clock_state_of(timekeeper);
+    let ticked = tick(&rules, &timekeeper.table, &mut state, now_us);
+    let second = second_of(timekeeper, &ticked);
+    keep(timekeeper, &state);
+    second
+}
+
+/// How long until a tick has something to do, in microseconds, if no call comes before it; 0 where a
+/// tick would be refused.
+#[unsafe(no_mangle)]
+pub extern "C" fn irig_c_timekeeper_wait(timekeeper: &IrigTimekeeper, now_us: u32) -> u32
+    ensures waits { (k : Keeping) → IsTimekeeperOf timekeeper.now k → result ≡ wait_at k now_us }
+    ensures said { IsAccepted timekeeper.now → result ≡ wait_in timekeeper.now now_us }
+    ensures refused { (IsAccepted timekeeper.now → ⊥) → result ≡ 0 }
+{
+    let fixed = fixed_sum(&timekeeper.setup, &timekeeper.table);
+    if !is_accepted(fixed, timekeeper) {
+        return 0;
+    }
+    let state = clock_state_of(timekeeper);
+    wait_of(&clock_rules_of(timekeeper), &state, now_us)
+}
+
+/// The time of an event, by the seconds that were announced last. 26 if there is none, or a tick would
+/// be refused.
+#[unsafe(no_mangle)]
+pub extern "C" fn irig_c_timekeeper_stamp(
+    timekeeper: &IrigTimekeeper,
+    time_us: u32,
+    stamp: &mut IrigStamp,
+) -> u32
+    ensures answer { (result ≡ 0) ↔ (IsAccepted timekeeper.now
+        × IsTrue (is_some (stamp_for timekeeper.now time_us))) }
+    ensures refused { (result ≡ 0 → ⊥) → stamp.new ≡ stamp.old }
+    ensures valid { result ≡ 0 → IfSome (stamp_in result stamp.new) (λ s. IsValid s.second) }
+    ensures said { IsAccepted timekeeper.now
+        → stamp_in result stamp.new ≡ stamp_for timekeeper.now time_us }
+    ensures stamped { (k : Keeping) → IsTimekeeperOf timekeeper.now k
+        → stamp_in result stamp.new ≡ stamp_at k time_us }
+{
+    let fixed = fixed_sum(&timekeeper.setup, &timekeeper.table);
+    if !is_accepted(fixed, timekeeper) {
+        return OUT_OF_RANGE;
+    }
+    match stamp_at(timekeeper, time_us) {
+        Some(found) => {
+            *stamp = stamp_for_c(&found);
+            0
+        }
+        None => OUT_OF_RANGE,
+    }
+}
+
+/// Forgets all that happened to it. A timekeeper whose check word is wrong stays so.
+#[unsafe(no_mangle)]
+pub extern "C" fn irig_c_timekeeper_restart(timekeeper: &mut IrigTimekeeper)
+    ensures restarted { (k : Keeping) → IsTimekeeperOf timekeeper.old k
+        → IsTimekeeperOf timekeeper.new (restarted k (lines_in k.rules timekeeper.new.lines)) }
+    ensures lines { (rules : Rules) → AreNewLines (lines_in rules timekeeper.new.lines) }
+    // the check word is right exactly if it was
+    ensures sealed { IsSealed timekeeper.new ↔ IsSealed timekeeper.old }
+{
+    restart(timekeeper);
+}

@@ -1,0 +1,21 @@
+use Rattle.std.proofs.Common.{◌∙◌, ap, rules}
+use Rattle.report_log.specs.Text.{entries_alone}
+use Rattle.irig_scene.specs.LogLines.{TellsTruth, VouchesForItself}
+use Rattle.irig_scene.proofs.TrueLines.{tells_truth, vouches_for_itself}
+use Rattle.c_scenario.specs.Runs.{written_over}
+use Rattle.c_scenario.proofs.RunLaws.{fact_left}
+use Rattle.c_scenario.proofs.irig_scene_c_run.Goals as goal
+
+pub returns-clause-vouches : goal.returns-clause-vouches
+returns-clause-vouches c =
+    let run = c.run_text-ended.result in
+    fact_left (VouchesForItself c.args.text.now) c.args.text.now (entries_alone c.args.all) run.answer run.log.items c.args.log.now c.len.result c.write_over.new.room
+    (vouches_for_itself (entries_alone c.args.all) c.args.text.now) c.run_text-ended.ensures
+    (search rules) (c.write_over.ensures ∙ ap (written_over c.args.log.now) c.deref.ensures.value)
+
+pub returns-clause-truth : goal.returns-clause-truth
+returns-clause-truth c =
+    let run = c.run_text-ended.result in
+    fact_left (TellsTruth c.args.text.now) c.args.text.now (entries_alone c.args.all) run.answer run.log.items c.args.log.now c.len.result c.write_over.new.room
+    (tells_truth (entries_alone c.args.all) c.args.text.now) c.run_text-ended.ensures
+    (search rules) (c.write_over.ensures ∙ ap (written_over c.args.log.now) c.deref.ensures.value)

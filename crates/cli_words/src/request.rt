@@ -1,0 +1,68 @@
+//! What the words of a command line ask for.
+
+use irig_time::Rules;
+use text_frame::FrameOptions;
+
+/// What is written of a scenario.
+#[derive(Clone, Copy)]
+pub enum Wanted {
+    /// Its log.
+    Log {
+        /// Whether the log shows silent ticks too.
+        all: bool,
+        /// Whether the log shows what each port told.
+        ports: bool,
+    },
+    /// The scenario as what its readers hear.
+    Flat,
+    /// Who lied in it, and what it cost.
+    Blame,
+}
+
+/// Where a scenario is read from.
+#[derive(Clone, Copy)]
+pub enum Source<'a> {
+    /// The input.
+    Input,
+    /// The file with this path.
+    File(&'a str),
+}
+
+/// What a command line asks for.
+#[derive(Clone, Copy)]
+pub enum Request<'a> {
+    /// The log of the scenario on the input, without options: no words at all.
+    Plain,
+    /// A scenario is played, and what is wanted of it is written.
+    Play {
+        wanted: Wanted,
+        source: Source<'a>,
+    },
+    /// The frame of a UTC second.
+    Frame {
+        time: &'a str,
+        /// What the frame says beside its time, each in its range.
+        options: FrameOptions,
+    },
+    /// What a frame says.
+    Read {
+        frame: &'a str,
+        /// How it is read.
+        rules: Rules,
+    },
+    /// What a number, a name or a word of a log means.
+    Explain {
+        word: &'a str,
+    },
+}
+
+/// What comes in place of a request.
+#[derive(Drop)]
+pub enum NoRequest {
+    /// The help, or the version, that the words ask for.
+    Help(String),
+    /// What is wrong with the words, and what would be right.
+    Fault(String),
+    /// The system gave no memory.
+    Memory,
+}

@@ -1,6 +1,0 @@
-use Rattle.std.proofs.Common.{◌≡◌, ◌++◌, take, string_bytes}
-use Rattle.irig_event_text.specs.EventText.{after_commas}
-use Rattle.irig_event_text.proofs.text.push_others.Given as goal
-
-abbrev pub invariant-loop-number : goal.invariant-loop-number
-invariant-loop-number l = string_bytes l.text ≡ string_bytes l.fn.text ++ after_commas (take l.number-index l.numbers)

@@ -1,5 +1,0 @@
-use Rattle.irig_flatten.proofs.TextLaws.{same_output}
-use Rattle.irig_flatten.proofs.laws.flat_scenarios_have_their_log.Goals as goal
-
-pub returns : goal.returns
-returns _ = same_output

@@ -1,3 +1,0 @@
-pub mod Recording
-pub mod FlatText
-pub mod Flattening

@@ -1,7 +1,0 @@
-use Rattle.std.proofs.Common.{◌+◌, ◌*◌}
-use Rattle.irig_keeper_numbers.specs.CheckWord.{line_numbers}
-use Rattle.irig_keeper_numbers.proofs.SumLaws.{by_one_product}
-use Rattle.irig_keeper_numbers.proofs.check_word.line_sum.Goals as goal
-
-pub returns : goal.returns
-returns c = rw (c.from.ensures, c.plain_sum.ensures, c.slope.ensures) (by_one_product (315 + 30 * c.args.port) (line_numbers c.args.line.now))

@@ -1,5 +1,0 @@
-use Rattle.irig_keeper_numbers.proofs.ApartLaws.{apart_told}
-use Rattle.irig_keeper_numbers.proofs.laws.another_number_is_told.Goals as goal
-
-pub returns : goal.returns
-returns c = apart_told

@@ -1,5 +1,0 @@
-use Rattle.irig_log_text.proofs.PortWordLaws.{clean_by_words}
-use Rattle.irig_log_text.proofs.laws.words_show_clean_ticks.Goals as goal
-
-pub returns : goal.returns
-returns _ = clean_by_words

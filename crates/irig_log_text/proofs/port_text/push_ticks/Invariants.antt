@@ -1,6 +1,0 @@
-use Rattle.std.proofs.Common.{map, drop, string_bytes}
-use Rattle.irig_log_text.proofs.RowLaws.{HasTicks}
-use Rattle.irig_log_text.proofs.port_text.push_ticks.Given as goal
-
-abbrev pub invariant-loop-index : goal.invariant-loop-index
-invariant-loop-index l = HasTicks (map string_bytes l.names.keys) l.shown.all (string_bytes l.fn.text) (string_bytes l.text) (drop l.index l.entries) l.entries (drop l.index l.tolds) l.tolds

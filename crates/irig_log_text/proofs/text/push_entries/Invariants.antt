@@ -1,6 +1,0 @@
-use Rattle.std.proofs.Common.{map, drop, string_bytes}
-use Rattle.irig_log_text.proofs.TextLaws.{HasAdded}
-use Rattle.irig_log_text.proofs.text.push_entries.Given as goal
-
-abbrev pub invariant-loop-entry : goal.invariant-loop-entry
-invariant-loop-entry l = HasAdded (map string_bytes l.names.keys) l.shown.all (string_bytes l.fn.text) (string_bytes l.text) (drop l.entry-index l.entries) l.entries

@@ -1,6 +1,0 @@
-use Rattle.irig_log_text.specs.Text.{refusal_text}
-use Rattle.irig_log_text.proofs.text.push_refusal.Goals as goal
-
-pub returns : goal.returns
-unfolding refusal_text
-returns c = rw (← c.number-number.ensures.number, ← c.name-name.ensures) c.write.ensures.bytes

@@ -1,0 +1,163 @@
+-- What is done for a request.
+-- Source: docs/irig.1, the commands; the exit statuses are those of Status.antt.
+use Rattle.std.specs.Prelude.{◌≡◌, ℕ, ◌≤◌, ◌↔◌, ◌⊎◌, Bool, false, true, ⊤, List, Result, Ok, Err, IfSome, string_bytes}
+use Rattle.std.specs.Io.KnownBytes.{Appends, Keeps}
+use Rattle.std.specs.declared.io.Error.{Error}
+use Rattle.irig_device.specs.Lines.{Bytes}
+use Rattle.irig_device.specs.Watched.{AppendsPart}
+use Rattle.irig_time.specs.declared.rules.Rules.{Rules}
+use Rattle.text_frame.specs.declared.frame.FrameOptions.{FrameOptions}
+use Rattle.text_frame.specs.Frame.{NamesNoSecond, ShowsFrameOf}
+use Rattle.text_frame.specs.Letters.{ShowsNoSymbols}
+use Rattle.text_frame.specs.Reading.{IsReadingOf}
+use Rattle.irig_scene.specs.declared.outcome.Outcome.{Outcome}
+use Rattle.irig_scene.specs.declared.fault.SceneFault.{SceneFault}
+use Rattle.report_log.specs.declared.shown.Shown.{Shown}
+use Rattle.irig_scene.specs.LogLines.{OfWritten}
+use Rattle.irig_scene.specs.Run.{RanShown}
+use Rattle.report_flat.specs.Flattening.{HasTheLog, RanFlat}
+use Rattle.report_blame.specs.Blaming.{RanBlame}
+use Rattle.cli_words.specs.declared.request.Request.{Request}
+use Rattle.cli_words.specs.declared.request.Request.TheVariants.{Plain, Play, Frame, Read, Explain}
+use Rattle.cli_words.specs.declared.request.Source.{Source}
+use Rattle.cli_words.specs.declared.request.Source.TheVariants.{Input, File}
+use Rattle.cli_words.specs.declared.request.Wanted.{Wanted}
+use Rattle.cli_words.specs.declared.request.Wanted.TheVariants.{Log, Flat, Blame}
+use Rattle.cli_words.specs.declared.request.NoRequest.{NoRequest}
+use Rattle.cli_words.specs.declared.request.NoRequest.TheVariants as none
+use Rattle.irig_main.specs.declared.fault.Fault.{Fault}
+use Rattle.irig_main.specs.declared.fault.Fault.TheVariants as fault
+use Rattle.irig_main.specs.Status.{result_of, status_of_answer}
+
+-- what the program answers
+abbrev pub Answer : Type 0
+Answer = Result (Unit {0}) Fault
+
+-- this fault, before anything was written
+abbrev pub Refuses : Fault → Answer → Bytes → Bytes → Type 0
+Refuses f answer old new = (answer ≡ Err f) × Keeps old new
+
+-- the whole text was written, or a prefix of it before the output failed
+abbrev pub Wrote : List ℕ → Answer → Bytes → Bytes → Type 0
+Wrote text (Ok done) old new = Appends old new text
+Wrote text (Err f) old new = (f ≡ fault.Write) × AppendsPart old new text
+
+-- ---- each request
+
+-- what is shown in a log
+abbrev pub shown : Bool → Bool → Shown
+shown all ports = record { all = all; ports = ports }
+
+-- without options a log shows announcements alone
+abbrev pub plain_log : Wanted
+plain_log = Log false false
+
+-- what is wanted of a scenario was written: its log; the scenario as what its readers hear, which
+-- has the same log; or who lied in it
+abbrev pub Writes : Wanted → Result Outcome SceneFault → Bytes → Bytes → Bytes → Bytes → Type 0
+Writes (Log all ports) run input left old new = RanShown run (shown all ports) input left old new
+Writes Flat run input left old new =
+    IfSome input (λ x. OfWritten old new (HasTheLog run x)) × RanFlat run input left old new
+Writes Blame run input left old new = RanBlame run input left old new
+
+-- the scenario on an input was played, of which `left` is left
+pub record PlaysScene (wanted : Wanted) (answer : Answer) (input left old new : Bytes)
+    : Type 0 where
+  pub run : Result Outcome SceneFault
+  pub answered : answer ≡ result_of run
+  pub wrote : Writes wanted run input left old new
+
+-- the bytes are those that some file has to give
+abbrev pub AreOfFile : {F : Type 0} → (F → Bytes) → Bytes → Type 0
+AreOfFile {F} remaining bytes = (file : F) × (bytes ≡ remaining file)
+
+-- so of what a file gives; or it can't be opened, or there is no memory for it
+abbrev pub PlaysFile : {F : Type 0} → (F → Bytes) → Wanted → Answer → Bytes → Bytes → Type 0
+PlaysFile remaining wanted answer old new =
+    ((input left : Bytes) × AreOfFile remaining input
+    × PlaysScene wanted answer input left old new)
+    ⊎ (((error : Error) × Refuses (fault.Open error) answer old new)
+    ⊎ Refuses fault.Memory answer old new)
+
+-- so of the scenario on the input or in a file
+abbrev pub Plays : {F : Type 0} → (F → Bytes) → Wanted → Source → Answer → Bytes → Bytes → Bytes
+    → Bytes → Type 0
+Plays remaining wanted Input answer input left old new =
+    PlaysScene wanted answer input left old new
+Plays remaining wanted (File path) answer input left old new =
+    PlaysFile remaining wanted answer old new
+
+-- the frame of the second that the time names, with the options, if it names one
+abbrev pub ShowsFrame : List ℕ → FrameOptions → Answer → Bytes → Bytes → Type 0
+ShowsFrame time options answer old new =
+    ((text : List ℕ) × ShowsFrameOf time options text × Wrote text answer old new)
+    ⊎ (NamesNoSecond time × Refuses fault.BadTime answer old new)
+
+-- what is said, by these rules, of the symbols that the text shows, if it shows some and there is
+-- memory
+abbrev pub ShowsReading : Rules → List ℕ → Answer → Bytes → Bytes → Type 0
+ShowsReading rules text answer old new =
+    ((lines : List ℕ) × IsReadingOf rules text lines × Wrote lines answer old new)
+    ⊎ ((ShowsNoSymbols text × Refuses fault.BadFrameText answer old new)
+    ⊎ Refuses fault.Memory answer old new)
+
+-- what is answered of a word that is none of those that are explained
+abbrev pub IsUnknownWord : Fault → Type 0
+IsUnknownWord (fault.CommandLine text) = ⊤
+IsUnknownWord fault.Memory = ⊤
+IsUnknownWord _ = ⊥
+
+-- a text, if the word is one that is explained and there is memory; which text is not said
+abbrev pub ShowsMeaning : Answer → Bytes → Bytes → Type 0
+ShowsMeaning answer old new =
+    ((text : List ℕ) × Wrote text answer old new)
+    ⊎ ((f : Fault) × IsUnknownWord f × Refuses f answer old new)
+
+-- ---- all requests
+
+-- it is the input that is read
+abbrev pub is_input : Source → Bool
+is_input Input = true
+is_input (File path) = false
+
+abbrev pub reads_input : Request → Bool
+reads_input Plain = true
+reads_input (Play wanted source) = is_input source
+reads_input (Frame time options) = false
+reads_input (Read frame rules) = false
+reads_input (Explain word) = false
+
+-- the request was served
+abbrev pub Serves : {F : Type 0} → (F → Bytes) → Request → Answer → Bytes → Bytes → Bytes → Bytes
+    → Type 0
+Serves remaining Plain answer input left old new =
+    PlaysScene plain_log answer input left old new
+Serves remaining (Play wanted source) answer input left old new =
+    Plays remaining wanted source answer input left old new
+Serves remaining (Frame time options) answer input left old new =
+    ShowsFrame time.now options answer old new
+Serves remaining (Read frame rules) answer input left old new =
+    ShowsReading rules frame.now answer old new
+Serves remaining (Explain word) answer input left old new = ShowsMeaning answer old new
+
+-- the words ask for this, or for help, or for nothing that there is
+abbrev pub Answers : {F : Type 0} → (F → Bytes) → Result Request NoRequest → Answer → Bytes
+    → Bytes → Bytes → Bytes → Type 0
+Answers remaining (Ok request) answer input left old new =
+    Serves remaining request answer input left old new
+Answers remaining (Err (none.Help text)) answer input left old new =
+    Wrote (string_bytes text) answer old new
+Answers remaining (Err (none.Fault text)) answer input left old new =
+    Refuses (fault.CommandLine text) answer old new
+Answers remaining (Err none.Memory) answer input left old new =
+    Refuses fault.Memory answer old new
+
+-- what so many words ask for was answered with this exit status: a plain run if there is none
+-- after the program's name
+pub record Drove {F : Type 0} (remaining : F → Bytes) (words status : ℕ)
+    (input left old new : Bytes) : Type 0 where
+  pub asked : Result Request NoRequest
+  pub plain : (asked ≡ Ok Plain) ↔ (words ≤ 1)
+  pub answer : Answer
+  pub answered : Answers remaining asked answer input left old new
+  pub ends : status ≡ status_of_answer answer

@@ -1,0 +1,49 @@
+-- The exit statuses.
+-- Source: docs/OUTPUT.md, the exit status.
+use Rattle.std.specs.Prelude.{◌≡◌, ℕ, ◌≤◌, ◌⊎◌, Result, Ok, Err}
+use Rattle.irig_scene.specs.declared.outcome.Outcome.{Outcome}
+use Rattle.irig_scene.specs.declared.fault.SceneFault.{SceneFault}
+use Rattle.irig_scene.specs.declared.fault.SceneFault.TheVariants as scene
+use Rattle.text_frame.specs.declared.reading.ReadingFault.{ReadingFault}
+use Rattle.text_frame.specs.declared.reading.ReadingFault.TheVariants as reading
+use Rattle.irig_main.specs.declared.fault.Fault.{Fault}
+use Rattle.irig_main.specs.declared.fault.Fault.TheVariants.{CommandLine, NotText, BadTime, BadFrameText, Refused, Open, Read, Write, Memory}
+
+-- a fault of the words is 2, a refused scenario 3, a fault of the input 4, of the output 5, of the
+-- memory 6
+abbrev pub status_of : Fault → ℕ
+status_of (CommandLine text) = 2
+status_of NotText = 2
+status_of BadTime = 2
+status_of BadFrameText = 2
+status_of Refused = 3
+status_of (Open error) = 4
+status_of Read = 4
+status_of Write = 5
+status_of Memory = 6
+
+-- the fault of the program by which the run of a scenario ended
+abbrev pub fault_of : SceneFault → Fault
+fault_of (scene.Refused line number) = Refused
+fault_of scene.Read = Read
+fault_of scene.Write = Write
+fault_of scene.Memory = Memory
+
+-- the fault of the program by which the reading of a frame's text ended
+abbrev pub fault_of_reading : ReadingFault → Fault
+fault_of_reading reading.BadFrameText = BadFrameText
+fault_of_reading reading.Memory = Memory
+
+-- what the run of a scenario leaves for the program
+abbrev pub result_of : Result Outcome SceneFault → Result (Unit {0}) Fault
+result_of (Ok outcome) = Ok _
+result_of (Err fault) = Err (fault_of fault)
+
+-- what was done is 0
+abbrev pub status_of_answer : Result (Unit {0}) Fault → ℕ
+status_of_answer (Ok done) = 0
+status_of_answer (Err fault) = status_of fault
+
+-- 0 says that all was done; 1 is no status of the program
+abbrev pub IsStatus : ℕ → Type 0
+IsStatus n = (n ≡ 0) ⊎ ((2 ≤ n) × (n ≤ 6))

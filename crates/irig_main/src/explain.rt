@@ -1,0 +1,92 @@
+//! What the program says on the standard error beside the line of a fault.
+
+use crate::fault::Fault;
+use cli_words::{Request, Source};
+use irig_scene::{RefusedLine, SceneFault};
+use std::alloc::{AllocError, Global};
+use text_refusal::{PlantContext, why_refused};
+use text_words::{meaning_of, why_no_frame, why_no_time};
+
+/// Writes why a line is refused to the standard error. Without memory, or if it takes nothing,
+/// this is left out.
+pub(crate) fn tell_refusal<R: Eprint + AllocGlobal>(
+    rt: &R,
+    fault: SceneFault,
+    refused: &Option<RefusedLine>,
+) {
+    if let SceneFault::Refused { line, number } = fault
+        && let Some(refused) = refused
+        && let Ok(text) = refusal_text(rt.alloc(), line, number, refused)
+    {
+        let _ = rt.eprintln(&text);
+    }
+}
+
+fn refusal_text(
+    alloc: Global,
+    line: u64,
+    number: u8,
+    refused: &RefusedLine,
+) -> Result<String, AllocError> {
+    let context = PlantContext {
+        names: &refused.names,
+        edges: refused.edges.as_slice(),
+    };
+    let reason = why_refused(alloc, refused.refusal, refused.line.as_slice(), &context)?;
+    let name = meaning_of(number).map_or("", |meaning| meaning.name);
+    format!(in alloc;
+        "line {line}: {number} {name}: {}\nmore: irig explain {number}",
+        reason.text
+    )
+}
+
+/// Writes what helps with a fault to the standard error, behind its line. Without memory, or if
+/// it takes nothing, this is left out.
+pub(crate) fn tell_more<R: Eprint + AllocGlobal>(
+    rt: &R,
+    request: Option<Request<'_>>,
+    fault: &Fault,
+) {
+    if let Ok(Some(text)) = help_text(rt.alloc(), request, fault) {
+        let _ = rt.eprintln(&text);
+    }
+}
+
+fn help_text(
+    alloc: Global,
+    request: Option<Request<'_>>,
+    fault: &Fault,
+) -> Result<Option<String>, AllocError> {
+    let text = match (fault, request) {
+        (Fault::BadTime, Some(Request::Frame { time, .. })) => why_no_time(alloc, time),
+        (Fault::BadFrameText, Some(Request::Read { frame, .. })) => why_no_frame(alloc, frame),
+        (
+            Fault::Open(error),
+            Some(
+                Request::Play {
+                    source: Source::File(file),
+                    ..
+                },
+            ),
+        ) => { format!(in alloc; "{file}: {error}") }
+        (
+            Fault::Read,
+            Some(
+                Request::Play {
+                    source: Source::File(file),
+                    ..
+                },
+            ),
+        ) => format!(in alloc;
+            "{file}: it was opened, and could not be read to its end; is it a folder?"
+        ),
+        (Fault::Read, _) => format!(in alloc;
+            "standard input could not be read to its end; is it a folder?"
+        ),
+        (Fault::Write, _) => format!(in alloc;
+            "standard output took no more: is the disk full, or has its reader ended?"
+        ),
+        _ => return Ok(None),
+    };
+    Ok(Some(text?))
+}

@@ -1,8 +1,0 @@
-use Rattle.std.proofs.Common.{◌≡◌, drop}
-use Rattle.std.specs.Prelude.{max}
-use Rattle.irig_numbers.specs.Standings.{worst_of}
-use Rattle.irig_numbers.proofs.zone.worst_of.Given as goal
-
--- the worst so far, and of what is left
-abbrev pub invariant-loop-frame : goal.invariant-loop-frame
-invariant-loop-frame l = max l.worst (worst_of (drop l.frame-index l.sent)) ≡ worst_of l.sent

@@ -1,6 +1,0 @@
-use Rattle.std.proofs.Common.{◌∙◌}
-use Rattle.irig_forms.proofs.Keys.{position_of_text}
-use Rattle.irig_scenario.proofs.raw_line.place_of.Goals as goal
-
-pub returns-clause-place : goal.returns-clause-place
-returns-clause-place c = c.get_index_of.ensures.index ∙ position_of_text c.args.name.now c.args.names.now.keys

@@ -1,8 +1,0 @@
-use Rattle.std.proofs.Common.{drop}
-use Rattle.irig_values.specs.PlantValues.{generator_of}
-use Rattle.irig_forms.proofs.ListLaws.{Found}
-use Rattle.irig_values.proofs.generator_values.all_generators.Given as goal
-
-abbrev pub invariant-loop-value : goal.invariant-loop-value
-invariant-loop-value l =
-    Found generator_of l.generators.items (drop l.value-index l.values) l.values

@@ -1,7 +1,0 @@
-use Rattle.std.proofs.Common.{drop}
-use Rattle.irig_values.specs.PlantValues.{leap_of}
-use Rattle.irig_forms.proofs.ListLaws.{Found}
-use Rattle.irig_values.proofs.leap_values.all_leaps.Given as goal
-
-abbrev pub invariant-loop-value : goal.invariant-loop-value
-invariant-loop-value l = Found leap_of l.leaps.items (drop l.value-index l.values) l.values

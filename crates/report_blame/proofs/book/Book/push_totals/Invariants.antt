@@ -1,0 +1,11 @@
+use Rattle.std.proofs.Common.{◌≡◌, ◌++◌, [], string_bytes}
+use Rattle.std.specs.Prelude.{slice_index_or}
+use Rattle.report_log.specs.Text.{name_at, texts_of}
+use Rattle.report_blame.specs.Accounts.{account_of}
+use Rattle.report_blame.specs.Text.{texts_below, total_lines}
+use Rattle.report_blame.proofs.book.Book.push_totals.Given as goal
+
+abbrev pub invariant-loop-reader : goal.invariant-loop-reader
+invariant-loop-reader l =
+    string_bytes l.text ≡ string_bytes l.initial.text
+    ++ texts_below (λ r. total_lines (name_at (texts_of l.names.keys) r) l.self.ports (slice_index_or l.self.accounts.items r (account_of []))) l.reader

@@ -1,0 +1,48 @@
+-- A book of readers' ticks: what stands after an event, and what a run writes.
+use Rattle.std.specs.Prelude.{◌≡◌, ℕ, true, List, length, drop, Option, None, Result, Ok, Err}
+use Rattle.std.specs.Io.KnownBytes.{Appends}
+use Rattle.irig_plant.specs.Schedule.{log_of, told_log_of}
+use Rattle.irig_plant.specs.History.{PlantHistory}
+use Rattle.irig_device.specs.Lines.{Bytes}
+use Rattle.irig_device.specs.Watched.{AppendsPart}
+use Rattle.irig_scene.specs.declared.fault.SceneFault.{SceneFault}
+use Rattle.irig_scene.specs.declared.fault.SceneFault.TheVariants as fault
+use Rattle.irig_scene.specs.declared.outcome.Outcome.{Outcome}
+use Rattle.irig_scene.specs.ListenerRuns.{RunFor}
+use Rattle.irig_scene.specs.Run.{IsRefused, AreBytesOf}
+use Rattle.irig_scene.specs.Scene.{Scene, meaning_of}
+use Rattle.report_blame.specs.declared.observer.Observer.{Observer}
+use Rattle.report_blame.specs.declared.tick.Tick.{Tick}
+use Rattle.report_blame.specs.Books.{IsBookOf, first_tick}
+use Rattle.report_blame.specs.BlameText.{blame_text, blame_texts}
+
+-- the first tick that a plant's log still has
+abbrev pub LastTick : Option Tick → PlantHistory → Type 0
+LastTick tick h =
+    h.keeps_told ≡ true
+    → tick ≡ first_tick (drop h.shown (log_of h.setup h.events))
+    (drop h.shown (told_log_of h.setup h.events))
+
+-- an observer stands as a scene leaves it: its book has the ticks of the scene's readers
+pub record IsObserverAt (o : Observer) (x : Scene) : Type 0 where
+  pub book : IsBookOf o.book x.plan.setup x.events
+  pub ports : o.book.ports ≡ length x.plan.setup.generators
+
+-- ---- all lines
+
+-- all of the text was written, or a prefix of it
+abbrev pub BlameRun : Result Outcome SceneFault → List ℕ → Bytes → Bytes → Type 0
+BlameRun (Ok o) x old new = ((meaning_of x).refused ≡ None) × Appends old new (blame_text x)
+BlameRun (Err (fault.Refused line number)) x old new =
+    IsRefused (meaning_of x) line number × Appends old new (blame_text x)
+BlameRun (Err fault.Read) x old new = AppendsPart old new (blame_text x)
+BlameRun (Err fault.Write) x old new = AppendsPart old new (blame_text x)
+BlameRun (Err fault.Memory) x old new = AppendsPart old new (blame_text x)
+
+-- for the bytes of the input, and if it does not tell them, for some
+pub record RanBlame (r : Result Outcome SceneFault) (was left old new : Bytes) : Type 0 where
+  pub bytes : List ℕ
+  pub of_input : AreBytesOf was bytes
+  pub ran : BlameRun r bytes old new
+  -- and what was read, how many lines there are, and which were written whole before a failure
+  pub read : RunFor blame_texts r bytes was left old new

@@ -1,0 +1,22 @@
+-- What is kept to be written later is of UTC.
+use Rattle.std.specs.Prelude.{IfSome, Option}
+use Rattle.irig_vote.specs.Vote.{AreOfUtc}
+use Rattle.report_blame.specs.declared.account.Account.{Account}
+use Rattle.report_blame.specs.declared.stretch.Stretch.{Stretch}
+use Rattle.report_blame.specs.declared.tick.Tick.{Tick}
+
+-- what the ports claimed are seconds of UTC
+abbrev pub IsSoundTick : Tick → Type 0
+IsSoundTick t = AreOfUtc t.told.told
+
+-- so of the first tick of an open stretch
+abbrev pub IsSoundOpen : Option Stretch → Type 0
+IsSoundOpen stretch = IfSome stretch (λ s. IsSoundTick s.first)
+
+-- so of each port
+pub record IsSoundAccount (x : Account) : Type 0 where
+  pub a : IsSoundOpen x.a.stretch
+  pub b : IsSoundOpen x.b.stretch
+  pub c : IsSoundOpen x.c.stretch
+  pub d : IsSoundOpen x.d.stretch
+  pub e : IsSoundOpen x.e.stretch

@@ -1,0 +1,132 @@
+//! What a reader's ticks come to.
+
+ghost use Rattle.std.specs.Prelude.{◌≡◌, ◌+◌, ◌<◌, ℕ, List, [], ◌∷◌, length};
+ghost use Rattle.report_blame.specs.declared.tick.Tick.{Tick as TickOf};
+ghost use Rattle.report_blame.specs.Accounts.{port_account, account_of, port_of};
+ghost use Rattle.report_blame.specs.Soundness.{IsSoundTick, IsSoundOpen, IsSoundAccount};
+
+use crate::kind::Kind;
+use crate::stretch::{Silence, Stretch, counted, silence_after, stretch_after};
+use crate::tick::Tick;
+
+/// How often a port told each kind, and its open stretch.
+#[derive(Clone, Copy)]
+pub(crate) struct PortAccount {
+    pub(crate) agreed: u64,
+    pub(crate) silent: u64,
+    pub(crate) faulty: u64,
+    pub(crate) poor: u64,
+    pub(crate) another_second: u64,
+    pub(crate) another_mark: u64,
+    pub(crate) stretch: Option<Stretch>,
+}
+
+impl PortAccount {
+    fn new() -> PortAccount
+        ensures exact { (port : ℕ) → result ≡ port_account port [] }
+        ensures sound { IsSoundOpen result.stretch }
+    {
+        PortAccount {
+            agreed: 0,
+            silent: 0,
+            faulty: 0,
+            poor: 0,
+            another_second: 0,
+            another_mark: 0,
+            stretch: None,
+        }
+    }
+
+    fn after(&self, port: u8, tick: &Tick) -> PortAccount
+        requires stretch { IsSoundOpen self.now.stretch }
+        requires tick { IsSoundTick tick.now }
+        ensures exact { (ts : List TickOf) → self.now ≡ port_account port ts
+            → length ts < tick.now.entry.edge → result ≡ port_account port (tick.now ∷ ts) }
+        ensures sound { IsSoundOpen result.stretch }
+    {
+        let kind = tick.kind(port);
+        let edge = tick.entry.edge;
+        PortAccount {
+            agreed: counted(self.agreed, kind.is(Kind::Agreed), edge),
+            silent: counted(self.silent, kind.is(Kind::Silent), edge),
+            faulty: counted(self.faulty, kind.is(Kind::Faulty), edge),
+            poor: counted(self.poor, kind.is(Kind::Poor), edge),
+            another_second: counted(self.another_second, kind.is(Kind::AnotherSecond), edge),
+            another_mark: counted(self.another_mark, kind.is(Kind::AnotherMark), edge),
+            stretch: stretch_after(self.stretch, kind, tick),
+        }
+    }
+}
+
+/// The accounts of a reader's ports, and what it announced itself.
+#[derive(Clone, Copy)]
+pub(crate) struct Account {
+    pub(crate) a: PortAccount,
+    pub(crate) b: PortAccount,
+    pub(crate) c: PortAccount,
+    pub(crate) d: PortAccount,
+    pub(crate) e: PortAccount,
+    /// How often it ticked.
+    pub(crate) edges: u64,
+    pub(crate) announced: u64,
+    pub(crate) untrue: u64,
+    pub(crate) silence: Option<Silence>,
+}
+
+impl Account {
+    /// The account of a reader that has not ticked.
+    pub(crate) fn new() -> Account
+        ensures exact { result ≡ account_of [] }
+        ensures sound { IsSoundAccount result }
+    {
+        let port = PortAccount::new();
+        Account {
+            a: port,
+            b: port,
+            c: port,
+            d: port,
+            e: port,
+            edges: 0,
+            announced: 0,
+            untrue: 0,
+            silence: None,
+        }
+    }
+
+    /// The account after one tick more.
+    pub(crate) fn after(&self, tick: &Tick) -> Account
+        requires account { IsSoundAccount self.now }
+        requires tick { IsSoundTick tick.now }
+        ensures exact { (ts : List TickOf) → self.now ≡ account_of ts
+            → length ts + 1 ≡ tick.now.entry.edge → result ≡ account_of (tick.now ∷ ts) }
+        ensures sound { IsSoundAccount result }
+    {
+        let edge = tick.entry.edge;
+        Account {
+            a: self.a.after(0, tick),
+            b: self.b.after(1, tick),
+            c: self.c.after(2, tick),
+            d: self.d.after(3, tick),
+            e: self.e.after(4, tick),
+            edges: edge,
+            announced: counted(self.announced, tick.is_announced(), edge),
+            untrue: counted(self.untrue, tick.is_untrue(), edge),
+            silence: silence_after(self.silence, tick),
+        }
+    }
+
+    /// The account of a port, 0 to 4.
+    pub(crate) fn port(&self, port: u8) -> &PortAccount
+        requires { IsSoundAccount self.now }
+        ensures exact { result.now ≡ port_of port self.now }
+        ensures sound { IsSoundOpen result.now.stretch }
+    {
+        match port {
+            0 => &self.a,
+            1 => &self.b,
+            2 => &self.c,
+            3 => &self.d,
+            _ => &self.e,
+        }
+    }
+}

@@ -1,0 +1,101 @@
+//! Who lied, and what it cost, as a listener tells it.
+
+ghost use Rattle.std.specs.Prelude.{◌≡◌, true, IfSome};
+ghost use Rattle.irig_plant.specs.History.{ForHistory};
+ghost use Rattle.report_blame.specs.Blaming.{LastTick};
+ghost use Rattle.report_blame.specs.Soundness.{IsSoundTick};
+
+use crate::book::Book;
+use crate::tick::Tick;
+use indexmap::IndexSet;
+use irig_plant::{Event, Plant};
+use irig_port::Port;
+use irig_scene::Listener;
+use report_log::push_audit;
+use std::alloc::{AllocError, Global};
+
+/// Keeps the accounts of a plant's readers.
+#[derive(Drop)]
+pub(crate) struct Observer {
+    book: Book,
+}
+
+impl Listener for Observer {
+    ghost use Rattle.report_blame.specs.BlameText.{blame_texts};
+    ghost use Rattle.report_blame.specs.Blaming.{IsObserverAt};
+
+    type Asked = ();
+
+    ghost texts = { λ asked. blame_texts };
+
+    ghost keeps_told = { λ asked. true };
+
+    ghost stands_for = { λ asked observer x. IsObserverAt observer x };
+
+    fn wants_told(_asked: ()) -> bool {
+        true
+    }
+
+    fn new(
+        alloc: Global,
+        _asked: (),
+        names: &IndexSet<String>,
+        ports: u8,
+    ) -> Result<Observer, AllocError> {
+        let book = Book::new(alloc, names.len(), ports)?;
+        Ok(Observer { book })
+    }
+
+    fn echoes_plant_line(_asked: ()) -> bool {
+        false
+    }
+
+    fn push_event<P: Port>(
+        &mut self,
+        _asked: (),
+        plant: &Plant<P>,
+        names: &IndexSet<String>,
+        _event: &Event,
+        text: &mut String,
+    ) -> Result<(), AllocError> {
+        let Some(tick) = last_tick(plant) else {
+            return Ok(());
+        };
+        self.book.push_ended(text, names, &tick)?;
+        self.book.add(&tick);
+        Ok(())
+    }
+
+    fn push_last<P: Port>(
+        &self,
+        _asked: (),
+        plant: &Plant<P>,
+        names: &IndexSet<String>,
+        refused: bool,
+        text: &mut String,
+    ) -> Result<(), AllocError> {
+        self.book.push_open(text, names)?;
+        self.book.push_totals(text, names)?;
+        if refused {
+            return Ok(());
+        }
+        push_audit(text, names, plant.audit())
+    }
+}
+
+// The first tick of the plant's log, if it has any.
+fn last_tick<P: Port>(plant: &Plant<P>) -> Option<Tick>
+    ensures tick { ForHistory plant.now (LastTick result) }
+    ensures sound { IfSome result IsSoundTick }
+{
+    let [entry, ..] = plant.log() else {
+        return None;
+    };
+    let [told, ..] = plant.told() else {
+        return None;
+    };
+    Some(Tick {
+        entry: *entry,
+        told: *told,
+    })
+}

@@ -1,0 +1,42 @@
+//! A scenario from its first line to its last.
+
+ghost use Rattle.std.specs.Prelude.{◌≡◌, ◌↔◌, Err, false, true};
+ghost use Rattle.irig_device.specs.Watched.{has_failed};
+ghost use Rattle.irig_scene.specs.WholeRun.{left, written};
+ghost use Rattle.report_blame.specs.Blaming.{RanBlame};
+
+use crate::observer::Observer;
+use irig_device::Watched;
+use irig_port::FlowPort;
+use irig_scene::{Outcome, RefusedLine, SceneFault, run_to};
+use std::alloc::Global;
+use std::io::{BufRead, Write};
+
+/// Plays the lines of the input as a run does, and writes, in place of the log, who lied and what it
+/// cost.
+///
+/// A line for each stretch of ticks at which a port of a reader told one kind of wrong, and for each
+/// silence of a reader, as soon as it ends; after the last line of the input those that are open,
+/// the totals of each reader and port, and the last line of the run's log. What each line ends is
+/// written before the next is read, and no more is kept than the open stretches and the counts.
+///
+/// Neither device may have failed before. `Refused` if a line is refused, as a run refuses it;
+/// `refused` is then what explains it, else it is left as it was. `Read` if the input failed,
+/// `Write` if the output did; `Memory` if there was none. What was written until then stands, and
+/// after `Read`, `Write` or `Memory` nothing more is written. A writer that holds bytes back is the
+/// caller's to flush.
+pub fn blame<R: BufRead, W: Write>(
+    alloc: Global,
+    input: &mut Watched<R>,
+    output: &mut Watched<W>,
+    refused: &mut Option<RefusedLine>,
+) -> Result<Outcome, SceneFault>
+    requires input_whole { has_failed input.old ≡ false }
+    requires output_whole { has_failed output.old ≡ false }
+    ensures ran { RanBlame result (left R.remaining input.old) (left R.remaining input.new)
+        (written W.contents output.old) (written W.contents output.new) }
+    ensures read { (result ≡ Err SceneFault.Read) ↔ (has_failed input.new ≡ true) }
+    ensures write { (result ≡ Err SceneFault.Write) ↔ (has_failed output.new ≡ true) }
+{
+    run_to::<Observer, FlowPort, R, W>(alloc, (), input, output, refused)
+}

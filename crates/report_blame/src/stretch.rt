@@ -1,0 +1,144 @@
+//! Stretches of ticks at which a port told one kind of wrong, and silences of a reader.
+
+ghost use Rattle.std.specs.Prelude.{◌≡◌, ◌+◌, ◌<◌, IfSome};
+ghost use Rattle.report_blame.specs.Stretches.{one_if, begun, more, IsBelow, stretch_after, ended_by, same_cause, silence_at, goes_on, silence_after, ended_silence};
+ghost use Rattle.report_blame.specs.Soundness.{IsSoundTick, IsSoundOpen};
+
+use crate::kind::Kind;
+use crate::tick::Tick;
+use irig_reader::Cause;
+
+/// Ticks of a reader, one after another, at which a port told one kind.
+#[derive(Clone, Copy)]
+pub(crate) struct Stretch {
+    pub(crate) kind: Kind,
+    pub(crate) first: Tick,
+    /// The edge of the last one.
+    pub(crate) last: u64,
+    /// How often the reader announced a second meanwhile.
+    pub(crate) announced: u64,
+    /// How many of those were untrue.
+    pub(crate) untrue: u64,
+}
+
+impl Stretch {
+    fn begun(kind: Kind, tick: &Tick) -> Stretch
+        ensures { result ≡ begun kind tick.now }
+    {
+        Stretch {
+            kind,
+            first: *tick,
+            last: tick.entry.edge,
+            announced: u64::from(tick.is_announced()),
+            untrue: u64::from(tick.is_untrue()),
+        }
+    }
+
+    fn more(&self, tick: &Tick) -> Stretch
+        ensures exact { IsBelow tick.now.entry.edge self.now → result ≡ more self.now tick.now }
+        ensures first { result.first ≡ self.now.first }
+    {
+        let edge = tick.entry.edge;
+        Stretch {
+            kind: self.kind,
+            first: self.first,
+            last: edge,
+            announced: counted(self.announced, tick.is_announced(), edge),
+            untrue: counted(self.untrue, tick.is_untrue(), edge),
+        }
+    }
+}
+
+/// One more, if it is counted. No count passes the edge, which is the number of ticks.
+pub(crate) fn counted(count: u64, is_counted: bool, edge: u64) -> u64
+    ensures { count < edge → result ≡ count + one_if is_counted }
+{
+    count.saturating_add(u64::from(is_counted)).min(edge)
+}
+
+/// The stretch that is open after a tick of this kind.
+pub(crate) fn stretch_after(before: Option<Stretch>, kind: Kind, tick: &Tick) -> Option<Stretch>
+    requires before { IsSoundOpen before }
+    requires tick { IsSoundTick tick.now }
+    ensures exact { IfSome before (IsBelow tick.now.entry.edge)
+        → result ≡ stretch_after before kind tick.now }
+    ensures sound { IsSoundOpen result }
+{
+    if kind.is(Kind::Agreed) {
+        return None;
+    }
+    match before {
+        Some(stretch) if stretch.kind.is(kind) => Some(stretch.more(tick)),
+        _ => Some(Stretch::begun(kind, tick)),
+    }
+}
+
+/// The stretch that a tick of this kind ends.
+pub(crate) fn ended_by(before: Option<Stretch>, kind: Kind) -> Option<Stretch>
+    requires { IsSoundOpen before }
+    ensures exact { result ≡ ended_by before kind }
+    ensures sound { IsSoundOpen result }
+{
+    match before {
+        Some(stretch) if stretch.kind.is(kind) => None,
+        _ => before,
+    }
+}
+
+/// Ticks of a reader, one after another, at which it announced nothing, for one cause.
+#[derive(Clone, Copy)]
+pub(crate) struct Silence {
+    pub(crate) cause: Cause,
+    /// The edge of the first one.
+    pub(crate) first: u64,
+    /// The edge of the last one.
+    pub(crate) last: u64,
+}
+
+impl Silence {
+    fn at(tick: &Tick) -> Silence
+        ensures { result ≡ silence_at tick.now }
+    {
+        Silence {
+            cause: tick.entry.report.cause,
+            first: tick.entry.edge,
+            last: tick.entry.edge,
+        }
+    }
+
+    fn goes_on(&self, tick: &Tick) -> bool
+        ensures { result ≡ goes_on self.now tick.now }
+    {
+        !tick.is_announced() && same_cause(self.cause, tick.entry.report.cause)
+    }
+}
+
+fn same_cause(cause: Cause, other: Cause) -> bool
+    ensures { result ≡ same_cause cause other }
+{
+    cause == other
+}
+
+/// The silence that is open after a tick.
+pub(crate) fn silence_after(silence: Option<Silence>, tick: &Tick) -> Option<Silence>
+    ensures { result ≡ silence_after silence tick.now }
+{
+    match silence {
+        Some(silence) if silence.goes_on(tick) => Some(Silence {
+            last: tick.entry.edge,
+            ..silence
+        }),
+        _ if tick.is_announced() => None,
+        _ => Some(Silence::at(tick)),
+    }
+}
+
+/// The silence that a tick ends.
+pub(crate) fn ended_silence(silence: Option<Silence>, tick: &Tick) -> Option<Silence>
+    ensures { result ≡ ended_silence silence tick.now }
+{
+    match silence {
+        Some(silence) if silence.goes_on(tick) => None,
+        _ => silence,
+    }
+}

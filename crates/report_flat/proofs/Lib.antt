@@ -1,0 +1,14 @@
+pub mod BroughtLaws
+pub mod EventFacts
+pub mod LineLaws
+pub mod LineValues
+pub mod NameLaws
+pub mod PushLaws
+pub mod RangeLaws
+pub mod ReadLaws
+pub mod RecordingLaws
+pub mod RunLaws
+pub mod StandardFacts
+pub mod TakenLaws
+pub mod TextLaws
+pub mod WidthLaws

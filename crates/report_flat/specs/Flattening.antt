@@ -1,0 +1,37 @@
+-- What a run writes that writes what readers hear.
+use Rattle.std.specs.Prelude.{◌≡◌, ℕ, ◌≤◌, List, length, None, Result, Ok, Err}
+use Rattle.std.specs.Io.KnownBytes.{Appends}
+use Rattle.irig_device.specs.Lines.{Bytes}
+use Rattle.irig_device.specs.Watched.{AppendsPart}
+use Rattle.report_log.specs.declared.shown.Shown.{Shown}
+use Rattle.irig_scene.specs.declared.fault.SceneFault.{SceneFault}
+use Rattle.irig_scene.specs.declared.fault.SceneFault.TheVariants as fault
+use Rattle.irig_scene.specs.Lines.{lines, max_lines}
+use Rattle.irig_scene.specs.Run.{IsRefused, AreBytesOf}
+use Rattle.irig_scene.specs.Scene.{meaning_of, output_shown}
+use Rattle.irig_scene.specs.declared.outcome.Outcome.{Outcome}
+use Rattle.irig_scene.specs.ListenerRuns.{RunFor}
+use Rattle.report_flat.specs.FlatText.{flat_text, flat_texts}
+
+-- all of the text was written, or a prefix of it
+abbrev pub FlatRun : Result Outcome SceneFault → List ℕ → Bytes → Bytes → Type 0
+FlatRun (Ok o) x old new = ((meaning_of x).refused ≡ None) × Appends old new (flat_text x)
+FlatRun (Err (fault.Refused line number)) x old new =
+    IsRefused (meaning_of x) line number × Appends old new (flat_text x)
+FlatRun (Err fault.Read) x old new = AppendsPart old new (flat_text x)
+FlatRun (Err fault.Write) x old new = AppendsPart old new (flat_text x)
+FlatRun (Err fault.Memory) x old new = AppendsPart old new (flat_text x)
+
+-- for the bytes of the input, and if it does not tell them, for some
+pub record RanFlat (r : Result Outcome SceneFault) (was left old new : Bytes) : Type 0 where
+  pub bytes : List ℕ
+  pub of_input : AreBytesOf was bytes
+  pub ran : FlatRun r bytes old new
+  -- and what was read, how many lines there are, and which were written whole before a failure
+  pub read : RunFor flat_texts r bytes was left old new
+
+-- after Ok the log of what was written is the log of the scenario, if it has few enough lines
+abbrev pub HasTheLog : Result Outcome SceneFault → List ℕ → List ℕ → Type 0
+HasTheLog r x written =
+    (o : Outcome) → r ≡ Ok o → length (lines written) ≤ max_lines → (shown : Shown)
+    → output_shown written shown ≡ output_shown x shown

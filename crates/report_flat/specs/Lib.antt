@@ -1,0 +1,4 @@
+pub mod EventText
+pub mod Recording
+pub mod FlatText
+pub mod Flattening
