@@ -132,7 +132,8 @@ fn is_written(entry: &Entry, shown: Shown) -> bool
     shown.all || entry.report.announce.is_some()
 }
 
-/// Adds the line of one entry.
+/// Adds the line of one entry. It stands apart, so that an event without one costs no call.
+#[inline(never)]
 #[tactic(auto, unfolding(crate::specs::Text::entry_text))]
 fn push_entry(
     text: &mut String,

@@ -7,4 +7,5 @@ pub mod StandardFacts
 pub mod NamesAndTimes
 pub mod RawNumbers
 pub mod RawLoops
+pub mod PlainLaws
 pub mod RawLaws

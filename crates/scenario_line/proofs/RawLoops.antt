@@ -2,7 +2,7 @@
 use Rattle.std.proofs.Common.{◌≡◌, ℕ, List, [], ◌∷◌, ◌++◌, Option, Some, None, option_map, refl, sym, ap, ◌∙◌, ◌+◌, ◌<◌, length, take, slice_set, append-nil}
 use Rattle.std.proofs.lemmas.List.{append_assoc, take_more_set}
 use Rattle.json.specs.Token.{Token}
-use Rattle.scenario_line.specs.RawLine.{width_of, with_width, plain_widths}
+use Rattle.scenario_line.specs.PlainLine.{width_of, with_width, plain_widths}
 
 -- widths before others, and what follows these
 abbrev pub after : List ℕ → Option (List ℕ × List Token) → Option (List ℕ × List Token)

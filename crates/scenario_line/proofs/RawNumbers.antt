@@ -11,7 +11,7 @@ use Rattle.std.specs.Float.Numeral.{Parts, IsWellFormed}
 use Rattle.std.specs.Str.Parse.{AllDigits, IsNumeral, digits_value, without_leading_plus}
 use Rattle.serde_json.specs.Data.{Num, unsigned, negative, float}
 use Rattle.serde_json.specs.Read.{number_of, number_from}
-use Rattle.scenario_line.specs.RawLine.{plain_number, width_of}
+use Rattle.scenario_line.specs.PlainLine.{plain_number, width_of}
 
 no_minus : (ds rest : List ℕ) → AllDigits 10 ds → 0 < length ds → get_or (ds ++ rest) 0 0 ≡ 45 → ⊥
 no_minus [] rest h some e = omega arith

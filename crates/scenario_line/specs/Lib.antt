@@ -2,4 +2,4 @@ pub mod EventLine
 pub mod PlantLine
 pub mod NamesAndTimes
 pub mod KnownLines
-pub mod RawLine
+pub mod PlainLine

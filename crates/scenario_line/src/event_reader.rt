@@ -8,7 +8,7 @@ ghost use Rattle.scenario_line.specs.EventLine.{command_in_line};
 ghost use Rattle.scenario_line.specs.KnownLines.{IsKnown};
 
 use crate::event_line::{Command, event_of_line};
-use crate::raw_line::RawReader;
+use crate::plain_line::PlainReader;
 use arrayvec::ArrayVec;
 use indexmap::IndexSet;
 use irig_plant::Event;
@@ -16,9 +16,14 @@ use std::alloc::{AllocError, Global};
 use text_faults::LineFault;
 
 // How many lines are known at a time, and the longest of them in bytes.
-const PLACES: usize = 128;
+const PLACES: usize = 512;
 
 const LONGEST: usize = 64;
+
+// Odd, so that no line is lost in the product, whose upper bits depend on all bytes of a line.
+const MIXER: u64 = 0x9E37_79B9_7F4A_7C15;
+
+const SHIFT: u32 = 55;
 
 /// A line that was read, and what it asks for.
 #[derive(Drop)]
@@ -28,13 +33,13 @@ pub struct KnownLine {
 }
 
 /// Reads lines after the plant line. It knows some short ones that came before, as those of steps
-/// and ticks come again and again, and reads these no second time. Plain lines of raw widths, which
-/// are the longest, it reads without a tree of their values.
+/// and ticks come again and again, and reads these no second time. Others that are written plainly
+/// it reads without a tree of their values.
 #[derive(Drop)]
 pub struct EventReader {
     names: IndexSet<String>,
     known: Vec<Option<KnownLine>>,
-    raw: Box<RawReader>,
+    plain: Box<PlainReader>,
     ghost few: { length names.keys ≤ 16 },
     ghost right: { All (λ line. ForSome line (IsKnown (texts_of names.keys))) known.items },
 }
@@ -47,8 +52,12 @@ impl EventReader {
         ensures { IfOk result (λ reader. reader.names ≡ names) }
     {
         let known = no_lines(alloc)?;
-        let raw = RawReader::new(alloc)?;
-        Ok(EventReader { names, known, raw })
+        let plain = PlainReader::new(alloc)?;
+        Ok(EventReader {
+            names,
+            known,
+            plain,
+        })
     }
 
     /// The names of the plant's readers, in order.
@@ -72,16 +81,13 @@ impl EventReader {
             (command_in_line (texts_of self.old.names.keys) line.now) result }
         ensures names { self.new.names ≡ self.old.names }
     {
-        if line.len() > LONGEST {
-            return match self.raw.event_of_line(alloc, &self.names, line) {
-                Some(event) => Ok(Command::Event(event)),
-                None => event_of_line(alloc, &self.names, line),
-            };
-        }
         if let Some(command) = self.known(line) {
             return Ok(command);
         }
-        let command = event_of_line(alloc, &self.names, line)?;
+        let command = match self.plain.command_of_line(alloc, &self.names, line) {
+            Some(command) => command,
+            None => event_of_line(alloc, &self.names, line)?,
+        };
         self.keep(line, &command);
         Ok(command)
     }
@@ -90,6 +96,9 @@ impl EventReader {
         ensures { IfSome result (λ command.
             command_in_line (texts_of self.now.names.keys) line.now ≡ Ok command) }
     {
+        if line.len() > LONGEST {
+            return None;
+        }
         match self.known.get(place_of(line)) {
             Some(Some(known)) if known.line.as_slice() == line => copy_of(&known.command),
             _ => None,
@@ -130,13 +139,24 @@ fn no_lines(alloc: Global) -> Result<Vec<Option<KnownLine>>, AllocError>
 
 // Where a line is kept if it is known: of lines that differ mostly another place.
 fn place_of(line: &[u8]) -> usize
-    ensures { result < 128 }
+    ensures { result < 512 }
 {
-    let mut sum = 0_u32;
-    for byte in line {
-        sum = sum.wrapping_mul(31).wrapping_add(u32::from(*byte));
+    let mut mix = 0;
+    for part in line.chunks_exact(8) {
+        mix = mixed(mix, part);
     }
-    sum as usize % PLACES
+    let last = &line[line.len().saturating_sub(8)..];
+    (mixed(mix, last) >> SHIFT) as usize % PLACES
+}
+
+fn mixed(mix: u64, part: &[u8]) -> u64 {
+    match part {
+        [a, b, c, d, e, f, g, h] => {
+            let word = u64::from_le_bytes([*a, *b, *c, *d, *e, *f, *g, *h]);
+            (mix ^ word).wrapping_mul(MIXER)
+        }
+        _ => mix,
+    }
 }
 
 // Of a command that comes often and takes no memory.
@@ -147,6 +167,8 @@ fn copy_of(command: &Command) -> Option<Command>
         Command::Seconds(count) => Some(Command::Seconds(*count)),
         Command::Event(Event::GenEdge(g)) => Some(Command::Event(Event::GenEdge(*g))),
         Command::Event(Event::Tick(r)) => Some(Command::Event(Event::Tick(*r))),
+        Command::Event(Event::Repair(g)) => Some(Command::Event(Event::Repair(*g))),
+        Command::Event(Event::Restart(r)) => Some(Command::Event(Event::Restart(*r))),
         Command::Event(Event::Carry { g, r }) => {
             Some(Command::Event(Event::Carry { g: *g, r: *r }))
         }

@@ -4,9 +4,11 @@
 
 mod event_line;
 mod event_reader;
+mod plain_line;
+mod plain_tokens;
 mod plant_line;
-mod raw_line;
 mod whole_second;
+mod widths;
 
 pub use event_line::{Command, event_of_line};
 pub use event_reader::EventReader;

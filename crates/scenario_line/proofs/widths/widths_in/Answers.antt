@@ -1,9 +1,9 @@
 use Rattle.std.proofs.Common.{rules, ◌≡◌, ◌∷◌, ℕ, take, Some, subst, arith}
 use Rattle.json.specs.Token.{end_array}
 use Rattle.json.proofs.Grammar.{closed_array}
-use Rattle.scenario_line.specs.RawLine.{plain_widths}
+use Rattle.scenario_line.specs.PlainLine.{plain_widths}
 use Rattle.scenario_line.proofs.RawLoops.{ended}
-use Rattle.scenario_line.proofs.raw_line.widths_in.Goals as goal
+use Rattle.scenario_line.proofs.widths.widths_in.Goals as goal
 
 pub returns-in-Some-EndArray-clause-value : goal.returns-in-Some-EndArray-clause-value
 returns-in-Some-EndArray-clause-value c =
