@@ -35,7 +35,9 @@ pub(crate) struct Stage<L, P: Port> {
 }
 
 impl<L: Listener, P: Port> Stage<L, P> {
-    // Plays an event, and adds what is said of it to the text.
+    // Plays an event, and adds what is said of it to the text. A second has many, so it stands in
+    // their loop.
+    #[inline(always)]
     fn play(&mut self, asked: L::Asked, event: &Event) -> Result<(), Stop>
         ensures { Adds (IsStageAt (L.stands_for asked) (L.keeps_told asked)) (L.texts asked)
             self.old (event.now ∷ []) result self.new (text_in self.old) (text_in self.new) }

@@ -6,12 +6,12 @@
 #![tactic(auto)]
 
 mod laws;
-mod line_laws;
+mod laws_of_lines;
 mod line_text;
 mod record;
 mod run;
 
 pub use laws::{flat_scenarios_have_their_log, recordings_have_their_log};
-pub use line_laws::event_lines_are_read_back;
+pub use laws_of_lines::event_lines_are_read_back;
 pub use line_text::{push_pulses, push_restart, push_tick};
 pub use run::flatten;
