@@ -13,7 +13,7 @@ use Rattle.text_faults.specs.declared.refusal.Refusal.TheVariants.{Json}
 use Rattle.text_faults.specs.Refusals.{◌>>=◌, or_else}
 use Rattle.scenario_json.specs.Keys.{KeyValue}
 use Rattle.scenario_json.specs.Fields.{natural_of}
-use Rattle.scenario_values.specs.Forms.{r}
+use Rattle.scenario_values.specs.Forms.{g, r, widths}
 use Rattle.scenario_line.specs.declared.event_line.Command.{Command}
 use Rattle.scenario_line.specs.EventLine.{command_in_object}
 
@@ -66,6 +66,15 @@ pub record IsReader (names : List (List ℕ)) (old : List Token) (place : ℕ) (
   pub name : List ℕ
   pub is : old ≡ Token.key r.name ∷ Token.string name ∷ new
   pub placed : position (λ n. bytes_eq name n) names ≡ Some place
+
+-- what stands before the widths of a line of these
+pub record IsRawHead (names : List (List ℕ)) (old : List Token) (n place : ℕ) (new : List Token)
+    : Type 0 where
+  pub at_reader : List Token
+  pub at_list : List Token
+  pub generator : IsNatural g old n at_reader
+  pub reader : IsReader names at_reader place at_list
+  pub list : at_list ≡ Token.key widths.name ∷ Token.begin_array ∷ new
 
 -- ---- lines
 

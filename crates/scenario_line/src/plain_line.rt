@@ -8,14 +8,14 @@ ghost use Rattle.scenario_line.specs.PlainLine.{Gives, command_of_tokens, do_and
 
 use crate::event_line::Command;
 use crate::plain_tokens::{
-    generator_in, is_end, is_list_at, kind_in, natural_in, reader_in, word_in,
+    generator_in, is_end, kind_in, natural_in, raw_head_in, reader_in, word_in,
 };
 use crate::widths::{MOST, widths_in};
 use indexmap::IndexSet;
 use irig_gen::GenFault;
 use irig_plant::{Event, Widths};
 use json::{Reader, Scratch};
-use scenario_values::{AT, EDGE, N, Q, WIDTH, WIDTHS};
+use scenario_values::{AT, EDGE, N, Q, WIDTH};
 use std::alloc::{AllocError, Global};
 
 // How many bytes a line has at most that is read here, so that little memory is kept.
@@ -62,11 +62,7 @@ impl PlainReader {
             return Some(raw_in(alloc, names, reader, &mut self.widths)?);
         }
         let command = command_in(&mut reader, names, word)?;
-        if is_end(&mut reader) {
-            Some(command)
-        } else {
-            None
-        }
+        if is_end(reader) { Some(command) } else { None }
     }
 }
 
@@ -149,6 +145,7 @@ fn fault_in(reader: &mut Reader<'_>) -> Option<Command>
 }
 
 // What a line of raw widths asks for.
+#[inline(never)]
 fn raw_in(
     alloc: Global,
     names: &IndexSet<String>,
@@ -159,14 +156,9 @@ fn raw_in(
     ensures { IfSome result (λ command. command_of_tokens
         (texts_of names.now.keys) (do_and (codes "raw") reader.entry) ≡ Ok command) }
 {
-    let mut reader = reader;
-    let g = generator_in(&mut reader)?;
-    let r = reader_in(&mut reader, names)?;
-    if !is_list_at(&mut reader, WIDTHS.name) {
-        return None;
-    }
-    let (count, mut rest) = widths_in(reader, widths)?;
-    if !is_end(&mut rest) {
+    let (g, r, list) = raw_head_in(names, reader)?;
+    let (count, rest) = widths_in(list, widths)?;
+    if !is_end(rest) {
         return None;
     }
     let widths = Widths::of(alloc, &widths[..count]).ok()?;

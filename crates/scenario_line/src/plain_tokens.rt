@@ -9,13 +9,13 @@ ghost use Rattle.json.specs.Token.{begin_array, end_object, key, number, string}
 ghost use Rattle.scenario_json.specs.Fields.{natural_most};
 ghost use Rattle.scenario_json.specs.Keys.{key_value, texts_of};
 ghost use Rattle.scenario_values.specs.Forms.{g};
-ghost use Rattle.scenario_line.specs.PlainLine.{IsKind, IsNatural, IsReader, do_and};
+ghost use Rattle.scenario_line.specs.PlainLine.{IsKind, IsNatural, IsRawHead, IsReader, do_and};
 
 use crate::widths::width_in;
 use indexmap::IndexSet;
 use json::{Reader, Token};
 use scenario_json::{Key, Kind};
-use scenario_values::{G, R};
+use scenario_values::{G, R, WIDTHS};
 
 fn next<'a>(reader: &mut Reader<'a>) -> Option<Token<'a>>
     ensures { MatchOption result ((reader.old ≡ []) × (reader.new ≡ []))
@@ -57,18 +57,19 @@ fn number_at<'a>(reader: &mut Reader<'a>, name: &str) -> Option<&'a str>
     }
 }
 
-/// Whether a list begins at this key.
-pub fn is_list_at(reader: &mut Reader<'_>, name: &str) -> bool
+fn is_list_at(reader: &mut Reader<'_>, name: &str) -> bool
     ensures { IsTrue result → reader.old ≡ key name.now ∷ begin_array ∷ reader.new }
 {
     is_key(reader, name) && matches!(next(reader), Some(Token::BeginArray))
 }
 
 /// Whether the line ends here.
-pub fn is_end(reader: &mut Reader<'_>) -> bool
-    ensures { IsTrue result → reader.old ≡ end_object ∷ [] }
+#[inline(never)]
+pub fn is_end(reader: Reader<'_>) -> bool
+    ensures { IsTrue result → reader.entry ≡ end_object ∷ [] }
 {
-    matches!(next(reader), Some(Token::EndObject)) && next(reader).is_none()
+    let mut rest = reader;
+    matches!(next(&mut rest), Some(Token::EndObject)) && next(&mut rest).is_none()
 }
 
 /// The word of `do`, with which a line begins.
@@ -118,6 +119,24 @@ pub fn reader_in(reader: &mut Reader<'_>, names: &IndexSet<String>) -> Option<u8
 {
     let name = text_at(reader, R.name)?;
     Some(place_of(names, name)? as u8)
+}
+
+/// What stands before the widths of a `raw` line, and what follows. The reader comes and goes by
+/// value, since so its fields stay in registers while the widths are read.
+#[inline(never)]
+pub fn raw_head_in<'a>(names: &IndexSet<String>, reader: Reader<'a>) -> Option<(u8, u8, Reader<'a>)>
+    requires { length names.now.keys ≤ 16 }
+    ensures { IfSome result (λ head.
+        IsRawHead (texts_of names.now.keys) reader.entry head.0 head.1 head.2) }
+{
+    let mut rest = reader;
+    let g = generator_in(&mut rest)?;
+    let r = reader_in(&mut rest, names)?;
+    if is_list_at(&mut rest, WIDTHS.name) {
+        Some((g, r, rest))
+    } else {
+        None
+    }
 }
 
 fn place_of(names: &IndexSet<String>, name: &str) -> Option<usize>

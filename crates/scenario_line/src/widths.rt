@@ -9,8 +9,7 @@ use json::{Reader, Token};
 pub const MOST: usize = 1000;
 
 /// Takes the widths to the end of their list: how many there are, and what follows. The reader
-/// comes by value, and the loop stands apart, since so its fields stay in registers.
-#[inline(never)]
+/// comes by value, since so its fields stay in registers.
 #[tactic(auto, using(crate::proofs::RawLoops::taken))]
 pub fn widths_in<'a>(reader: Reader<'a>, widths: &mut [u32; MOST]) -> Option<(usize, Reader<'a>)>
     ensures value { IfSome result (λ found.
@@ -56,6 +55,7 @@ fn four_digits(a: u8, b: u8, c: u8, d: u8) -> Option<u32>
     }
 }
 
+#[inline(never)]
 #[tactic(auto, using(crate::proofs::RawNumbers::parsed))]
 fn any_digits(text: &str) -> Option<u32>
     ensures { IfSome result (λ n. width_of text.now ≡ Some n) }
