@@ -55,6 +55,7 @@ impl Listener for Log {
         false
     }
 
+    #[inline(always)]
     fn push_event<P: Port>(
         &mut self,
         shown: Shown,

@@ -35,8 +35,8 @@ pub(crate) struct Stage<L, P: Port> {
 }
 
 impl<L: Listener, P: Port> Stage<L, P> {
-    // Plays an event, and adds what is said of it to the text. A second has many, so it stands in
-    // their loop.
+    // Plays an event, and adds what is said of it to the text. It stands in the loop over a second's
+    // events, and so do the calls that it makes.
     #[inline(always)]
     fn play(&mut self, asked: L::Asked, event: &Event) -> Result<(), Stop>
         ensures { Adds (IsStageAt (L.stands_for asked) (L.keeps_told asked)) (L.texts asked)
@@ -79,6 +79,7 @@ impl<L: Listener, P: Port> Stage<L, P> {
 }
 
 // Plays the events of a second one after another, up to one that is refused.
+#[inline(never)]
 fn play_all<L: Listener, P: Port>(
     stage: &mut Stage<L, P>,
     asked: L::Asked,

@@ -28,6 +28,7 @@ impl<P: Port> SteppedPlant<P> {
 
     /// Lets the log go, and takes an event, or refuses it and stands as it stood. `Memory` if there
     /// was none for its entry.
+    #[inline(always)]
     pub(crate) fn step(&mut self, event: &Event) -> Result<(), Stop>
         ensures { Steps self.old.plant event.now result self.new.plant }
     {
@@ -42,6 +43,7 @@ impl<P: Port> SteppedPlant<P> {
     }
 }
 
+#[inline(always)]
 fn step_alone<P: Port>(plant: &mut Plant<P>, event: &Event) -> Result<(), Stop>
     ensures steps { Steps plant.old event.now result plant.new }
     ensures alone { HasSomeHistory plant.old → HasStepped plant.new }
