@@ -15,6 +15,8 @@ from typing import Dict, List
 HERE = Path(__file__).resolve().parent
 ROOT = HERE.parent
 LIBRARIES = ("irig", "irig_scene")
+# The crates whose archives they are made of.
+CRATES = ("c_reader", "c_scenario")
 
 
 def version() -> str:
@@ -33,8 +35,8 @@ def version() -> str:
 def shared_libraries() -> List[Path]:
     """The shared libraries, made anew if a static one is newer."""
     made = [ROOT / f"c/out/lib{name}.so.{version().split('.')[0]}" for name in LIBRARIES]
-    for name in LIBRARIES:
-        static = f"crates/{name}_c/out/lib{name}_c.a"
+    for name in CRATES:
+        static = f"crates/{name}/out/lib{name}.a"
         if not (ROOT / static).exists():
             sys.exit(
                 f"{static} is missing. `make -C c` at the top of the repository proves and builds"
