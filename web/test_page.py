@@ -288,7 +288,7 @@ class InBrowser(browser.Driven):
         self.press("canvas", "0")
         self.set("cause", "expired")
         self.push("next")
-        self.assertTrue(self.text("line").startswith("19 relay - unlocked expired\nno vote for more than"))
+        self.assertTrue(self.text("line").startswith("19 relay - unlocked expired\nthere was no vote for more than"))
         chosen = "document.querySelector('#log [aria-selected=true]').dataset.number"
         self.assertEqual(self.page.ask(chosen), "18")
         self.page.mouse("mouseMoved", *self.on_edge(2000, 0))
