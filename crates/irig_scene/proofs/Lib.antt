@@ -10,6 +10,7 @@ pub mod NameLaws
 pub mod TakenLaws
 pub mod RestLaws
 pub mod RunLaws
+pub mod StartLaws
 pub mod LogLaws
 pub mod TrueLines
 pub mod PlantLines

@@ -1,6 +1,6 @@
 -- What the loop over the lines has done so far, and what each way out of it tells.
 use Rattle.std.proofs.Common.{◌≡◌, ℕ, ◌+◌, ◌<◌, Bool, true, false, not, cond, ◌-◌, ◌≤◌, List, [], ◌∷◌, ◌++◌, length, length-append, All, inl, inr, Option, Some, None, Result, Ok, Err, refl, ap, sym, subst, ◌∙◌, append_assoc, append-nil, arith, rules, nat_lt}
-use Rattle.std.specs.Prelude.{⊤, IfSome, is_some, unwrap_or}
+use Rattle.std.specs.Prelude.{⊤, ◌⊎◌, IfSome, is_some, unwrap_or}
 use Rattle.std.specs.List.{find}
 use Rattle.std.specs.Io.KnownBytes.{Appends, Consumes}
 use Rattle.std.proofs.KnownBytes.{Consumes-trans, Consumes-nil, Appends-trans, Appends-nil}
@@ -28,9 +28,11 @@ use Rattle.irig_scene.proofs.LineLaws.{line_first, no_line, lines_after, one_lin
 use Rattle.irig_scene.proofs.ReadLaws.{shown_with_newline, shown_too_long, shown_at_end, refused_later}
 use Rattle.irig_scene.proofs.StepLaws.{meaning_goes, meaning_stops, meaning_ends, step_many, step_long}
 use Rattle.irig_scene.specs.Texts.{Texts, text_of, first_of, closing_of, meaning_text, whole_text}
-use Rattle.irig_scene.specs.ListenerRuns.{IsAt, TextMore, TookTo, IsFirst, WroteStop, WrotePart, RunsLine, EndsFor, RestFor, StoppedInLine, RunFor, RanFor}
+use Rattle.irig_scene.specs.ListenerRuns.{IsAt, TextMore, TookTo, IsFirst, WroteStop, WrotePart, RunsLine, EndsFor, LeavesFor, RestFor, StoppedInLine, HasHeard, HeardFor, RunFor, RanFor, RanTo}
+use Rattle.irig_scene.specs.Starts.{noted_at, starts_from}
 use Rattle.irig_scene.proofs.TakenLaws.{TextFront, front_of_meaning, nothing_more, more_on}
 use Rattle.irig_scene.proofs.RestLaws.{rest_on, refused_rest}
+use Rattle.irig_scene.proofs.StartLaws.{starts_goes, heard_refused, leaves_at}
 
 -- ---- a line that was read
 
@@ -195,7 +197,7 @@ module _ (texts : Texts) where
 -- ---- the loop
 
 -- it stands before line n: these whole lines were played, and what is said of them was written
-pub record HasRun {A : Type 0} (stands_for : A → Scene → Type 0) (texts : Texts) (r : Option A) (in0 in1 out0 out1 : Option (List ℕ)) (n : ℕ) : Type 0 where
+pub record HasRun {A : Type 0} (stands_for : A → Scene → Type 0) (counts : Bool) (texts : Texts) (r : Option A) (notes : List ℕ) (in0 in1 out0 out1 : Option (List ℕ)) (n : ℕ) : Type 0 where
   pub at : Option Scene
   pub stands : IsAt stands_for r at
   pub past : List (List ℕ)
@@ -206,10 +208,11 @@ pub record HasRun {A : Type 0} (stands_for : A → Scene → Type 0) (texts : Te
   pub means : (rest : List (List ℕ)) → meaning_from (past ++ rest) 1 None ≡ meaning_from rest n at
   pub planted : IsPlanted at past
   pub grew : TextMore texts (first_of past) None at out0 out1
+  pub noted : (rest : List (List ℕ)) → starts_from counts (past ++ rest) 1 None ≡ notes ++ starts_from counts rest n at
 
-module _ {A : Type 0} (stands_for : A → Scene → Type 0) (texts : Texts) where
-  pub has_begun : (in0 out0 : Option (List ℕ)) → HasRun stands_for texts None in0 in0 out0 out0 1
-  has_begun in0 out0 = record {
+module _ {A : Type 0} (stands_for : A → Scene → Type 0) (counts : Bool) (texts : Texts) where
+  pub has_begun : (in0 out0 : Option (List ℕ)) (notes : List ℕ) → notes ≡ [] → HasRun stands_for counts texts None notes in0 in0 out0 out0 1
+  has_begun in0 out0 notes none = record {
     at = None;
     stands = tt;
     past = [];
@@ -220,11 +223,13 @@ module _ {A : Type 0} (stands_for : A → Scene → Type 0) (texts : Texts) wher
     means = λ rest. refl;
     planted = refl;
     grew = nothing_more texts [] None out0;
+    noted = λ rest. ap (λ (t : List ℕ). t ++ starts_from counts rest 1 None) (sym none);
   }
 
-  pub line_done : (was is : Option A) (in0 in1 in2 out0 out1 out2 : Option (List ℕ)) (n limit : ℕ) (l line : List ℕ) (end : LineEnd) (run : HasRun stands_for texts was in0 in1 out0 out1 n)
-      → GivesLine end limit line in1 in2 → end ≡ Newline → l ≡ line → RunsLine stands_for texts was n l (Ok _) is out1 out2 → HasRun stands_for texts is in0 in2 out0 out2 (n + 1)
-  line_done was is in0 in1 in2 out0 out1 out2 n limit l line end run got ends same runs =
+  pub line_done : (was is : Option A) (notes more : List ℕ) (in0 in1 in2 out0 out1 out2 : Option (List ℕ)) (n limit : ℕ) (l line : List ℕ) (end : LineEnd) (run : HasRun stands_for counts texts was notes in0 in1 out0 out1 n)
+      → more ≡ notes ++ noted_at counts run.at
+      → GivesLine end limit line in1 in2 → end ≡ Newline → l ≡ line → RunsLine stands_for texts was n l (Ok _) is out1 out2 → HasRun stands_for counts texts is more in0 in2 out0 out2 (n + 1)
+  line_done was is notes more in0 in1 in2 out0 out1 out2 n limit l line end run noted got ends same runs =
       let h : HasNoNewline l = subst HasNoNewline (sym same) got.whole in
       let read : Consumes in1 in2 (l ++ 10 ∷ []) = subst (λ l. Consumes in1 in2 (l ++ 10 ∷ [])) (sym same) (as_newline end line in1 in2 ends got.taken) in
       let first = first_of (run.past ++ l ∷ []) in
@@ -242,11 +247,14 @@ module _ {A : Type 0} (stands_for : A → Scene → Type 0) (texts : Texts) wher
         means = λ rest. ap (λ ls. meaning_from ls 1 None) (append_assoc run.past (l ∷ []) rest) ∙ run.means (l ∷ rest) ∙ meaning_goes l rest n run.at took.refused;
         planted = planted_next n run.at run.past l run.planted took.refused;
         grew = more_on texts first None run.at (step n run.at l).scene out0 out1 out2 (grew_to texts run.at run.past (l ∷ []) out0 out1 run.planted run.grew) took.grew;
+        noted = λ rest. ap (λ ls. starts_from counts ls 1 None) (append_assoc run.past (l ∷ []) rest) ∙ run.noted (l ∷ rest) ∙ ap (λ (t : List ℕ). notes ++ t) (starts_goes counts l rest n run.at took.refused)
+            ∙ sym (append_assoc notes (noted_at counts run.at) (starts_from counts rest (n + 1) (step n run.at l).scene)) ∙ ap (λ (t : List ℕ). t ++ starts_from counts rest (n + 1) (step n run.at l).scene) (sym noted);
       }
 
 -- ---- the ways out
 
-module _ {A : Type 0} (stands_for : A → Scene → Type 0) (texts : Texts) (f : Option A) (in0 in1 out0 out1 : Option (List ℕ)) (n : ℕ) (run : HasRun stands_for texts f in0 in1 out0 out1 n) where
+module _ {A : Type 0} (stands_for : A → Scene → Type 0) (counts : Bool) (texts : Texts) (f : Option A) (notes : List ℕ) (in0 in1 out0 out1 : Option (List ℕ)) (n : ℕ) (run : HasRun stands_for counts texts f notes in0 in1 out0 out1 n) (more : List ℕ)
+    (noted : more ≡ notes ++ noted_at counts run.at) where
   -- the next line is the first, if none was yet
   pub line_first_is : (l : List ℕ) → IsFirst run.at l (first_of (run.past ++ l ∷ []))
   line_first_is l = first_is run.at run.past l [] run.planted
@@ -274,10 +282,30 @@ module _ {A : Type 0} (stands_for : A → Scene → Type 0) (texts : Texts) (f :
   of_parts : (spelled rest y : List ℕ) → y ≡ spelled ++ rest → unlines run.past ++ y ≡ (unlines run.past ++ spelled) ++ rest
   of_parts spelled rest y begins = ap (λ y. unlines run.past ++ y) begins ∙ sym (append_assoc (unlines run.past) spelled rest)
 
+  -- what was heard of the lines that are left was heard of all
+  has_heard : (p : Option A) (all ls : List (List ℕ)) → all ≡ run.past ++ ls → HasHeard stands_for counts p (noted_at counts run.at) ls n run.at → HasHeard stands_for counts p more all 1 None
+  has_heard p all ls are h =
+      let means : meaning_from all 1 None ≡ meaning_from ls n run.at = ap (λ ls. meaning_from ls 1 None) are ∙ run.means ls in
+      let begun : starts_from counts all 1 None ≡ notes ++ starts_from counts ls n run.at = ap (λ ls. starts_from counts ls 1 None) are ∙ run.noted ls in
+      record {
+        stands = subst (λ (m : Meaning). IsAt stands_for p m.scene) (sym means) h.stands;
+        more = h.more;
+        noted = noted ∙ ap (λ (t : List ℕ). notes ++ t) h.noted ∙ sym (append_assoc notes (starts_from counts ls n run.at) h.more) ∙ ap (λ (t : List ℕ). t ++ h.more) (sym begun);
+        last = subst (λ (m : Meaning). (h.more ≡ []) ⊎ (h.more ≡ noted_at counts m.scene)) (sym means) h.last;
+      }
+
+  heard_of_all : (r : Result Outcome SceneFault) (p : Option A) (all ls : List (List ℕ)) → all ≡ run.past ++ ls → HeardFor stands_for counts r p (noted_at counts run.at) ls n run.at → HeardFor stands_for counts r p more all 1 None
+  heard_of_all (Ok o) p all ls are h = has_heard p all ls are h
+  heard_of_all (Err (Refused line number)) p all ls are h = has_heard p all ls are h
+  heard_of_all (Err Read) p all ls are h = tt
+  heard_of_all (Err Write) p all ls are h = tt
+  heard_of_all (Err Memory) p all ls are h = tt
+
   -- y is left, of which a part is read
-  exit : (r : Result Outcome SceneFault) (in2 out2 : Option (List ℕ)) (spelled rest y : List ℕ) (ls : List (List ℕ)) → y ≡ spelled ++ rest → Consumes in1 in2 spelled → AreBytesOf in1 y → lines y ≡ ls
-      → RestFor texts r (meaning_from ls n run.at) (n - 1 + length ls) (first_of (run.past ++ ls)) run.at out1 out2 → ReadsFor r (unlines run.past ++ y) (unlines run.past ++ spelled) spelled → RanFor texts r in0 in2 out0 out2
-  exit r in2 out2 spelled rest y ls begins took of_y is tells reads =
+  exit : (r : Result Outcome SceneFault) (p : Option A) (in2 out2 : Option (List ℕ)) (spelled rest y : List ℕ) (ls : List (List ℕ)) → y ≡ spelled ++ rest → Consumes in1 in2 spelled → AreBytesOf in1 y → lines y ≡ ls
+      → RestFor texts r (meaning_from ls n run.at) (n - 1 + length ls) (first_of (run.past ++ ls)) run.at out1 out2 → ReadsFor r (unlines run.past ++ y) (unlines run.past ++ spelled) spelled
+      → HeardFor stands_for counts r p (noted_at counts run.at) ls n run.at → RanTo stands_for counts texts r p more in0 in2 out0 out2
+  exit r p in2 out2 spelled rest y ls begins took of_y is tells reads heard =
       let x = unlines run.past ++ y in
       let first = first_of (run.past ++ ls) in
       let counted : n - 1 + length ls ≡ length (lines x) = ap (λ ls. n - 1 + length ls) (sym is) ∙ left_count y in
@@ -289,6 +317,7 @@ module _ {A : Type 0} (stands_for : A → Scene → Type 0) (texts : Texts) (f :
         of_input = all_bytes in0 in1 (unlines run.past) y run.took of_y;
         ran = conclude texts r x rest first in0 in2 out0 out1 out2 run.past spelled run.at run.whole past_taken (of_parts spelled rest y begins) (Consumes-trans in0 in1 in2 _ _ run.took took)
             run.grew (grew_to texts run.at run.past ls out0 out1 run.planted run.grew) (ap first_of (sym (lines_after run.past y run.whole ∙ ap (λ ls. run.past ++ ls) is))) past_scene here reads;
+        heard = heard_of_all r p (lines x) ls (lines_after run.past y run.whole ∙ ap (λ ls. run.past ++ ls) is) heard;
       }
 
   -- line n is refused: what shows that
@@ -307,8 +336,9 @@ module _ {A : Type 0} (stands_for : A → Scene → Type 0) (texts : Texts) (f :
   -- ---- a line with its newline
 
   pub left_ended : (e : SceneFault) (is : Option A) (in2 out2 : Option (List ℕ)) (limit : ℕ) (l line : List ℕ) (end : LineEnd)
-      → GivesLine end limit line in1 in2 → end ≡ Newline → l ≡ line → limit ≡ limit_of n → RunsLine stands_for texts f n l (Err e) is out1 out2 → RanFor texts (Err e) in0 in2 out0 out2
-  left_ended e is in2 out2 limit l line end got ends same limited runs =
+      → GivesLine end limit line in1 in2 → end ≡ Newline → l ≡ line → limit ≡ limit_of n → RunsLine stands_for texts f n l (Err e) is out1 out2
+      → ((at : Option Scene) → IsAt stands_for f at → LeavesFor stands_for e is (step n at l)) → RanTo stands_for counts texts (Err e) is more in0 in2 out0 out2
+  left_ended e is in2 out2 limit l line end got ends same limited runs leaves =
       let h : HasNoNewline l = subst HasNoNewline (sym same) got.whole in
       let read : Consumes in1 in2 (l ++ 10 ∷ []) = subst (λ l. Consumes in1 in2 (l ++ 10 ∷ [])) (sym same) (as_newline end line in1 in2 ends got.taken) in
       let short : length l ≤ limit_of n = omega (arith, ap length same, limited, subst (λ end. HasLength end limit line) ends got.has_length) in
@@ -318,15 +348,16 @@ module _ {A : Type 0} (stands_for : A → Scene → Type 0) (texts : Texts) (f :
       let first = first_of (run.past ++ l ∷ ls) in
       let count = n - 1 + length (l ∷ ls) in
       let ended : EndsFor texts e n l first run.at out1 out2 = runs run.at first run.stands (first_is run.at run.past l ls run.planted) in
-      exit (Err e) in2 out2 (l ++ 10 ∷ []) known.0 y (l ∷ ls) refl read known.1 (line_first l known.0 h)
+      exit (Err e) is in2 out2 (l ++ 10 ∷ []) known.0 y (l ∷ ls) refl read known.1 (line_first l known.0 h)
       (ended.ran ls count)
       (reads_ended e y l first ls count out2 _ _ (line_first l known.0 h) ended.numbered (ended.ran ls count)
       (shown_with_newline run.past n l known.0 run.whole run.count h short) (record { line = l; unlined = h; is = inr refl }))
+      (heard_refused stands_for counts e is l ls n run.at (leaves run.at run.stands))
 
   -- ---- a line that is too long
 
   pub left_too_long : (e : SceneFault) (in2 out2 : Option (List ℕ)) (limit : ℕ) (line : List ℕ) (end : LineEnd) (k : Refusal)
-      → GivesLine end limit line in1 in2 → end ≡ TooLong → limit ≡ limit_of n → k ≡ too_long n → ((at : Option Scene) → IsAt stands_for f at → WroteStop e n k (closing_of texts at) out1 out2) → RanFor texts (Err e) in0 in2 out0 out2
+      → GivesLine end limit line in1 in2 → end ≡ TooLong → limit ≡ limit_of n → k ≡ too_long n → ((at : Option Scene) → IsAt stands_for f at → WroteStop e n k (closing_of texts at) out1 out2) → RanTo stands_for counts texts (Err e) f more in0 in2 out0 out2
   left_too_long e in2 out2 limit line end k got ends limited is tells =
       let beyond : length line ≡ limit + 1 = subst (λ end. HasLength end limit line) ends got.has_length in
       let long : limit_of n < length line = omega (arith, beyond, limited) in
@@ -338,10 +369,11 @@ module _ {A : Type 0} (stands_for : A → Scene → Type 0) (texts : Texts) (f :
       let stop : step n run.at l ≡ step_to run.at (Some k) = stops_long n run.at line first.more long ∙ ap (λ k. step_to run.at (Some k)) (sym is) in
       let means : meaning_from (l ∷ first.others) n run.at ≡ meaning run.at (Some (refusal_at n k)) =
       meaning_stops l first.others n run.at k (ap (λ (s : Step). s.refusal) stop) ∙ ap (λ (s : Step). meaning s.scene (Some (refusal_at n k))) stop in
-      exit (Err e) in2 out2 line known.0 y (l ∷ first.others) refl read known.1 first.is
+      exit (Err e) f in2 out2 line known.0 y (l ∷ first.others) refl read known.1 first.is
       (refused_rest texts e (first_of (run.past ++ l ∷ first.others)) run.at (meaning_from (l ∷ first.others) n run.at) (n - 1 + length (l ∷ first.others)) n k out1 out2 means (tells run.at run.stands))
       (reads_refused e (unlines run.past ++ y) _ _ n k (refused_at y l first.others k first.is (ap (λ (s : Step). s.refusal) stop))
       (shown_too_long run.past n line known.0 run.whole run.count got.whole (omega (arith, beyond, limited))) (record { line = line; unlined = got.whole; is = inl refl }))
+      (heard_refused stands_for counts e f l first.others n run.at (leaves_at stands_for e f (step n run.at l) k (ap (λ (s : Step). s.refusal) stop) (subst (λ (s : Step). IsAt stands_for f s.scene) (sym stop) run.stands)))
 
   -- ---- the end of the input
 
@@ -360,20 +392,21 @@ module _ {A : Type 0} (stands_for : A → Scene → Type 0) (texts : Texts) (f :
     | Some left ↦ λ at_end. same ∙ sym at_end
   ] at_end
 
-  pub left_last : (r : Result Outcome SceneFault) (in2 out2 : Option (List ℕ)) (limit : ℕ) (l line : List ℕ) (end : LineEnd)
+  pub left_last : (r : Result Outcome SceneFault) (is : Option A) (in2 out2 : Option (List ℕ)) (limit : ℕ) (l line : List ℕ) (end : LineEnd)
       → GivesLine end limit line in1 in2 → end ≡ EndOfInput → l ≡ line → limit ≡ limit_of n
-      → ((at : Option Scene) (first : List ℕ) → IsAt stands_for f at → IsFirst at l first → RestFor texts r (meaning_from (lines l) n at) (n - 1 + length (lines l)) first at out1 out2) → RanFor texts r in0 in2 out0 out2
-  left_last r in2 out2 limit l line end got ends same limited tells =
+      → ((at : Option Scene) (first : List ℕ) → IsAt stands_for f at → IsFirst at l first → RestFor texts r (meaning_from (lines l) n at) (n - 1 + length (lines l)) first at out1 out2)
+      → ((at : Option Scene) → IsAt stands_for f at → HeardFor stands_for counts r is (noted_at counts at) (lines l) n at) → RanTo stands_for counts texts r is more in0 in2 out0 out2
+  left_last r is in2 out2 limit l line end got ends same limited tells heard =
       let first = first_of (run.past ++ lines l) in
       let h : HasNoNewline l = subst HasNoNewline (sym same) got.whole in
       let read : Consumes in1 in2 l = subst (Consumes in1 in2) (sym same) (subst (λ end. Consumes in1 in2 (spelling end line)) ends got.taken) in
       let short : length l ≤ limit_of n = omega (arith, ap length same, limited, subst (λ end. HasLength end limit line) ends got.has_length) in
       let here = tells run.at first run.stands (first_last run.at run.past l h run.planted) in
-      exit r in2 out2 l [] l (lines l) (sym (append-nil l)) read (ended_bytes l line same (got.at_end ends)) refl here (reads_last r l first (n - 1 + length (lines l)) out2 h short here)
+      exit r is in2 out2 l [] l (lines l) (sym (append-nil l)) read (ended_bytes l line same (got.at_end ends)) refl here (reads_last r l first (n - 1 + length (lines l)) out2 h short here) (heard run.at run.stands)
 
   -- ---- a failed read
 
-  pub left_read : (e : SceneFault) (in2 : Option (List ℕ)) → IsFaultOfReading e → GivesPart in1 in2 → RanFor texts (Err e) in0 in2 out0 out1
+  pub left_read : (e : SceneFault) (in2 : Option (List ℕ)) → IsFaultOfReading e → GivesPart in1 in2 → RanTo stands_for counts texts (Err e) f more in0 in2 out0 out1
   left_read (Refused line number) in2 kind got = absurd kind
   left_read Read in2 kind got =
       let known = known_rest in1 in2 got.part got.taken in
@@ -399,6 +432,7 @@ module _ {A : Type 0} (stands_for : A → Scene → Type 0) (texts : Texts) (f :
             wrote = subst (Appends out0 out1) (sym (ap (text_of texts (first_of run.past)) past_scene ∙ run.grew.more)) run.grew.wrote;
           },
         );
+        heard = tt;
       }
   left_read Write in2 kind got = absurd kind
   left_read Memory in2 kind got =
@@ -406,6 +440,34 @@ module _ {A : Type 0} (stands_for : A → Scene → Type 0) (texts : Texts) (f :
       let y = got.part ++ known.0 in
       let first = first_of (run.past ++ lines y) in
       let front = front_of_meaning texts first (lines y) n run.at in
-      exit (Err Memory) in2 out1 got.part known.0 y (lines y) refl got.taken known.1 refl
+      exit (Err Memory) f in2 out1 got.part known.0 y (lines y) refl got.taken known.1 refl
       (record { rest = front.rest; is = front.is; wrote = record { front = []; rest = front.rest; whole = refl; wrote = Appends-nil out1 } })
       (record { line = got.part; unlined = got.whole; is = inl refl })
+      tt
+
+-- there was no memory to note that a line begins
+pub left_unnoted : {A : Type 0} (stands_for : A → Scene → Type 0) (counts : Bool) (texts : Texts) (f : Option A) (notes : List ℕ) (in0 in1 out0 out1 : Option (List ℕ)) (n : ℕ) (run : HasRun stands_for counts texts f notes in0 in1 out0 out1 n) (more : List ℕ) → RanTo stands_for counts texts (Err Memory) f more in0 in1 out0 out1
+left_unnoted stands_for counts texts f notes in0 in1 out0 out1 n run more =
+    let h = left_read stands_for counts texts f notes in0 in1 out0 out1 n run (notes ++ noted_at counts run.at) refl Memory in1 tt (record { part = []; whole = search rules; taken = Consumes-nil in1 }) in
+    record { bytes = h.bytes; of_input = h.of_input; ran = h.ran; heard = tt }
+
+-- ---- whoever asks no listener
+
+pub to_ran : {A : Type 0} (stands_for : A → Scene → Type 0) (counts : Bool) (texts : Texts) (r : Result Outcome SceneFault) (p : Option A) (notes : List ℕ) (was left old new : Option (List ℕ)) → RanTo stands_for counts texts r p notes was left old new → RanFor texts r was left old new
+to_ran stands_for counts texts r p notes was left old new h = record { bytes = h.bytes; of_input = h.of_input; ran = h.ran }
+
+-- ---- who listened to a player
+
+module _ {A B : Type 0} (stands_for : A → Scene → Type 0) (heard_by : B → Scene → Type 0) (p : Option A) (l : Option B) (of_player : (at : Option Scene) → IsAt stands_for p at → IsAt heard_by l at) where
+  of_listener : (counts : Bool) (notes : List ℕ) (ls : List (List ℕ)) (n : ℕ) (at : Option Scene) → HasHeard stands_for counts p notes ls n at → HasHeard heard_by counts l notes ls n at
+  of_listener counts notes ls n at h = record { stands = of_player (meaning_from ls n at).scene h.stands; more = h.more; noted = h.noted; last = h.last }
+
+  heard_by_it : (counts : Bool) (r : Result Outcome SceneFault) (notes : List ℕ) (ls : List (List ℕ)) (n : ℕ) (at : Option Scene) → HeardFor stands_for counts r p notes ls n at → HeardFor heard_by counts r l notes ls n at
+  heard_by_it counts (Ok o) notes ls n at h = of_listener counts notes ls n at h
+  heard_by_it counts (Err (Refused line number)) notes ls n at h = of_listener counts notes ls n at h
+  heard_by_it counts (Err Read) notes ls n at h = tt
+  heard_by_it counts (Err Write) notes ls n at h = tt
+  heard_by_it counts (Err Memory) notes ls n at h = tt
+
+  pub ran_to : (counts : Bool) (texts : Texts) (r : Result Outcome SceneFault) (notes : List ℕ) (was left old new : Option (List ℕ)) → RanTo stands_for counts texts r p notes was left old new → RanTo heard_by counts texts r l notes was left old new
+  ran_to counts texts r notes was left old new h = record { bytes = h.bytes; of_input = h.of_input; ran = h.ran; heard = heard_by_it counts r notes (lines h.bytes) 1 None h.heard }

@@ -9,6 +9,7 @@ pub mod BrokenLogs
 pub mod VouchedByPorts
 pub mod WholeRun
 pub mod Texts
+pub mod Starts
 pub mod Listening
 pub mod ListenerRuns
 pub mod LogTexts

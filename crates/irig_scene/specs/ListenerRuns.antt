@@ -26,6 +26,7 @@ use Rattle.irig_scene.specs.Scene.{after_events, second_in}
 use Rattle.irig_scene.specs.declared.player.Player.{Player}
 use Rattle.irig_scene.specs.declared.player.Stage.{Stage}
 use Rattle.irig_scene.specs.Listening.{history_past}
+use Rattle.irig_scene.specs.Starts.{noted_at, starts_from}
 use Rattle.irig_scene.specs.Texts.{Texts, first_of, said_in, text_of, meaning_text, whole_text}
 
 -- ---- events
@@ -233,6 +234,40 @@ pub record EndsFor (t : Texts) (e : SceneFault) (n : ℕ) (line first : List ℕ
   pub ran : (ls : List (List ℕ)) (count : ℕ)
       → RestFor t (Err e) (meaning_from (line ∷ ls) n at) count first at old new
 
+-- a run of lines from number n on, after some scene, came to its end: what its listener heard, and
+-- what was noted of them, and at most once more behind them
+pub record HasHeard {A : Type 0} (stands_for : A → Scene → Type 0) (counts : Bool)
+    (r : Option A) (notes : List ℕ) (ls : List (List ℕ)) (n : ℕ) (at : Option Scene)
+    : Type 0 where
+  pub stands : IsAt stands_for r (meaning_from ls n at).scene
+  pub more : List ℕ
+  pub noted : notes ≡ starts_from counts ls n at ++ more
+  pub last : (more ≡ []) ⊎ (more ≡ noted_at counts (meaning_from ls n at).scene)
+
+-- so unless something failed
+abbrev pub HeardFor : {A : Type 0} → (A → Scene → Type 0) → Bool → Result Outcome SceneFault
+    → Option A → List ℕ → List (List ℕ) → ℕ → Option Scene → Type 0
+HeardFor stands_for counts (Ok o) r notes ls n at = HasHeard stands_for counts r notes ls n at
+HeardFor stands_for counts (Err (fault.Refused line number)) r notes ls n at =
+    HasHeard stands_for counts r notes ls n at
+HeardFor stands_for counts (Err fault.Read) r notes ls n at = ⊤
+HeardFor stands_for counts (Err fault.Write) r notes ls n at = ⊤
+HeardFor stands_for counts (Err fault.Memory) r notes ls n at = ⊤
+
+-- what stands after a line that was refused
+pub record LeftBy {A : Type 0} (stands_for : A → Scene → Type 0) (r : Option A) (step : Step)
+    : Type 0 where
+  pub refusal : Refusal
+  pub refused : step.refusal ≡ Some refusal
+  pub stands : IsAt stands_for r step.scene
+
+-- so if a refusal ended the run
+abbrev pub LeavesFor : {A : Type 0} → (A → Scene → Type 0) → SceneFault → Option A → Step → Type 0
+LeavesFor stands_for (fault.Refused line number) r step = LeftBy stands_for r step
+LeavesFor stands_for fault.Read r step = ⊤
+LeavesFor stands_for fault.Write r step = ⊤
+LeavesFor stands_for fault.Memory r step = ⊤
+
 -- a line was taken, or it ended the run
 abbrev pub RunsLine : {A : Type 0} → (A → Scene → Type 0) → Texts → Option A → ℕ
     → List ℕ → Result (Unit {0}) SceneFault → Option A → Bytes → Bytes → Type 0
@@ -291,6 +326,16 @@ RunFor t (Err fault.Write) x was left old new =
     AppendsPart old new (whole_text t x) × StoppedInLine t x was left old new
 RunFor t (Err fault.Memory) x was left old new =
     AppendsPart old new (whole_text t x) × StoppedInLine t x was left old new
+
+-- for the bytes of the input, and if it does not tell them, for some; and what its listener heard of
+-- them
+pub record RanTo {A : Type 0} (stands_for : A → Scene → Type 0) (counts : Bool) (t : Texts)
+    (r : Result Outcome SceneFault) (listener : Option A) (notes : List ℕ) (was left old new : Bytes)
+    : Type 0 where
+  pub bytes : List ℕ
+  pub of_input : AreBytesOf was bytes
+  pub ran : RunFor t r bytes was left old new
+  pub heard : HeardFor stands_for counts r listener notes (lines bytes) 1 None
 
 -- for the bytes of the input, and if it does not tell them, for some
 pub record RanFor (t : Texts) (r : Result Outcome SceneFault) (was left old new : Bytes)

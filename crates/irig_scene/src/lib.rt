@@ -26,4 +26,4 @@ pub use outcome::Outcome;
 pub use read::{MAX_LINES, is_blank, limit_of, read_line, too_long};
 pub use refused_line::RefusedLine;
 pub use report_log::Shown;
-pub use run::run_to;
+pub use run::{Run, run_listening, run_to};

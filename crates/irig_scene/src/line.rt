@@ -1,17 +1,20 @@
 //! One line of a scenario: it is played, and what is said of it is written.
 
-ghost use Rattle.std.specs.Prelude.{◌≡◌, ◌≤◌, ◌+◌, ◌-◌, ℕ, List, Option, IfOk, length, ◌||◌};
+ghost use Rattle.std.specs.Prelude.{◌≡◌, ◌≤◌, ◌+◌, ◌-◌, ℕ, List, Option, IfOk, IfErr, length, ◌||◌};
 ghost use Rattle.irig_device.specs.Lines.{HasNoNewline};
 ghost use Rattle.irig_device.specs.Watched.{device_of, has_failed};
 ghost use Rattle.irig_scene.specs.Lines.{lines, max_line, max_lines};
 ghost use Rattle.irig_scene.specs.Faults.{WroteText, failed_write, is_write_fault, says_write, stopped_write};
-ghost use Rattle.irig_scene.specs.Scene.{Scene, meaning_at_end, meaning_from};
+ghost use Rattle.irig_scene.specs.Scene.{Scene, meaning_at_end, meaning_from, step};
+ghost use Rattle.irig_scene.specs.Starts.{noted_at};
 ghost use Rattle.irig_scene.specs.Texts.{closing_of};
 ghost use Rattle.irig_scene.specs.ListenerRuns.{
   Begins,
+  HeardFor,
   IsAt,
   IsFirst,
   IsPlayerAt,
+  LeavesFor,
   RestFor,
   RunsLine,
   TakesEventLine,
@@ -47,6 +50,10 @@ pub(crate) fn run_line<L: Listener, P: Port, W: Write>(
     ensures runs { RunsLine (IsPlayerAt (L.stands_for asked) (L.keeps_told asked))
         (L.texts asked) player.old number line.now result player.new
         (W.contents (device_of output.old)) (W.contents (device_of output.new)) }
+    ensures leaves { IfErr result (λ fault. (at : Option Scene)
+        → IsAt (IsPlayerAt (L.stands_for asked) (L.keeps_told asked)) player.old at
+        → LeavesFor (IsPlayerAt (L.stands_for asked) (L.keeps_told asked)) fault player.new
+        (step number at line.now)) }
     ensures number { IfOk result (λ done. number ≤ max_lines) }
     ensures note { has_failed output.new ≡ (has_failed output.old || says_write result) }
 {
@@ -186,6 +193,10 @@ pub(crate) fn run_last<L: Listener, P: Port, W: Write>(
         → RestFor (L.texts asked) result (meaning_from (lines line.now) number at)
         (number - 1 + length (lines line.now)) first at
         (W.contents (device_of output.old)) (W.contents (device_of output.new)) }
+    ensures heard { (at : Option Scene)
+        → IsAt (IsPlayerAt (L.stands_for asked) (L.keeps_told asked)) player.old at
+        → HeardFor (IsPlayerAt (L.stands_for asked) (L.keeps_told asked)) L.counts result player.new
+        (noted_at L.counts at) (lines line.now) number at }
     ensures note { has_failed output.new ≡ (has_failed output.old || says_write result) }
 {
     if line.is_empty() {

@@ -1,8 +1,9 @@
 //! What every listener does.
 
-ghost use Rattle.std.specs.Prelude.{◌≡◌, ◌++◌, [], ◌∷◌, ◌≤◌, ℕ, Bool, if◌then◌else◌, List, IfOk, OnOk, codes, length, string_bytes};
+ghost use Rattle.std.specs.Prelude.{◌≡◌, ◌++◌, [], ◌∷◌, ◌≤◌, ℕ, Bool, true, Some, if◌then◌else◌, List, IfOk, OnOk, codes, length, string_bytes};
 ghost use Rattle.report_log.specs.Text.{texts_of};
 ghost use Rattle.irig_scene.specs.Scene.{Scene, scene};
+ghost use Rattle.irig_scene.specs.Starts.{entry_count};
 ghost use Rattle.irig_scene.specs.Texts.{Texts, last_of};
 ghost use Rattle.irig_scene.specs.Listening.{HasTaken, IsPlantOf, Names};
 
@@ -24,6 +25,18 @@ pub trait Listener: Drop {
 
     // It stands as this scene leaves it.
     ghost stands_for: { Self.Asked → Self → Scene → Type 0 };
+
+    // It counts entries.
+    ghost counts: { Bool };
+
+    /// Whether it counts entries.
+    fn counts() -> bool
+        ensures { result ≡ counts };
+
+    /// How many entries there were so far, if it counts them.
+    fn count(&self) -> u64
+        ensures { (asked : Self.Asked) (x : Scene) → counts ≡ true → stands_for asked self.now x
+            → result ≡ entry_count (Some x) };
 
     /// Whether it wants to know what ports told.
     fn wants_told(asked: Self::Asked) -> bool

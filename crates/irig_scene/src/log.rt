@@ -9,7 +9,7 @@ use crate::fault::SceneFault;
 use crate::listener::Listener;
 use crate::outcome::Outcome;
 use crate::refused_line::RefusedLine;
-use crate::run::{run_over, run_to};
+use crate::run::run_to;
 use indexmap::IndexSet;
 use irig_device::Watched;
 use irig_plant::{Event, Plant};
@@ -35,6 +35,16 @@ impl Listener for Log {
     ghost keeps_told = { λ shown. shown.ports };
 
     ghost stands_for = { λ shown log x. ⊤ };
+
+    ghost counts = { false };
+
+    fn counts() -> bool {
+        false
+    }
+
+    fn count(&self) -> u64 {
+        0
+    }
 
     fn wants_told(shown: Shown) -> bool {
         shown.ports
@@ -121,7 +131,7 @@ pub fn run_scene_over<P: Port, R: BufRead, W: Write>(
         input.old input.new output.old output.new }
 {
     let shown = Shown { all, ports: false };
-    run_over::<Log, P, R, W>(alloc, shown, input, output)
+    run_to::<Log, P, R, W>(alloc, shown, input, output, &mut None)
 }
 
 /// What [`run_scene`] does, and with `ports` it is written after each tick what its ports told.

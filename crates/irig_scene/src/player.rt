@@ -1,6 +1,6 @@
 //! A plant that plays the events of lines, its listener, and the text that is yet to be written.
 
-ghost use Rattle.std.specs.Prelude.{◌≡◌, ◌↔◌, ◌<◌, ◌≤◌, ◌∷◌, [], false, IfOk, IfErr, OnOk, length, string_bytes, ◌||◌, vec_len};
+ghost use Rattle.std.specs.Prelude.{◌≡◌, ◌↔◌, ◌<◌, ◌≤◌, ◌∷◌, [], false, true, Some, IfOk, IfErr, OnOk, length, string_bytes, ◌||◌, vec_len};
 ghost use Rattle.irig_device.specs.Watched.{device_of, has_failed};
 ghost use Rattle.irig_scene.specs.declared.stop.Failure.TheVariants.{Memory};
 ghost use Rattle.irig_scene.specs.Faults.{WroteText, failed_write, stopped_write};
@@ -111,6 +111,7 @@ impl<L: Listener, P: Port> Player<L, P> {
     ghost use Rattle.irig_scene.specs.Scene.{scene, audit_in, events_of};
     ghost use Rattle.irig_scene.specs.Scene.{second_in};
     ghost use Rattle.irig_scene.specs.ListenerRuns.{IsPlayerAt, PlaysAsked, held_by};
+    ghost use Rattle.irig_scene.specs.Starts.{entry_count};
 
     /// The player of a plant to which nothing has happened.
     pub(crate) fn new(
@@ -208,17 +209,37 @@ impl<L: Listener, P: Port> Player<L, P> {
         self.stage.plant.plant().audit()
     }
 
-    /// What explains the refusal of this line.
-    pub(crate) fn refused(self, alloc: Global, refusal: Refusal, line: Vec<u8>) -> RefusedLine {
+    /// How many entries there were so far, if the listener counts them.
+    pub(crate) fn count(&self) -> u64
+        ensures { (asked : L.Asked) (x : Scene) → L.counts ≡ true
+            → IsPlayerAt (L.stands_for asked) (L.keeps_told asked) self.now x
+            → result ≡ entry_count (Some x) }
+    {
+        self.stage.listener.count()
+    }
+
+    /// The listener, and what explains the refusal of this line, if it was refused.
+    pub(crate) fn end(
+        self,
+        alloc: Global,
+        refusal: Option<Refusal>,
+        line: Vec<u8>,
+    ) -> (L, Option<RefusedLine>)
+        ensures { result.0 ≡ self.stage.listener }
+    {
         let Player { stage, .. } = self;
-        let Stage { plant, lines, .. } = stage;
-        RefusedLine::of_plant(
-            alloc,
-            refusal,
-            line,
-            lines.into_names(),
-            plant.plant().generators(),
-        )
+        let Stage {
+            listener,
+            plant,
+            lines,
+            ..
+        } = stage;
+        let Some(refusal) = refusal else {
+            return (listener, None);
+        };
+        let generators = plant.plant().generators();
+        let refused = RefusedLine::of_plant(alloc, refusal, line, lines.into_names(), generators);
+        (listener, Some(refused))
     }
 
     /// Plays what a line asks for, up to an event that is refused, and writes what is said of it.

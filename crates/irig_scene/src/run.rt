@@ -1,9 +1,12 @@
 //! A scenario from its first line to its last.
 
-ghost use Rattle.std.specs.Prelude.{◌≡◌, ◌↔◌, Err, None, false, true};
+ghost use Rattle.std.specs.Prelude.{◌≡◌, ◌↔◌, ◌++◌, [], Err, IfErr, None, OnOk, Option, false, true};
 ghost use Rattle.irig_device.specs.Watched.{has_failed};
+ghost use Rattle.irig_scene.specs.declared.stop.Failure.TheVariants.{Memory};
+ghost use Rattle.irig_scene.specs.Scene.{Scene};
+ghost use Rattle.irig_scene.specs.Starts.{noted_at};
 ghost use Rattle.irig_scene.specs.WholeRun.{left, written};
-ghost use Rattle.irig_scene.specs.ListenerRuns.{RanFor};
+ghost use Rattle.irig_scene.specs.ListenerRuns.{IsAt, IsPlayerAt, RanFor, RanTo};
 
 use crate::fault::SceneFault;
 use crate::line::{run_last, run_line, stop};
@@ -12,14 +15,29 @@ use crate::outcome::Outcome;
 use crate::player::Player;
 use crate::read::{limit_of, read_line, too_long};
 use crate::refused_line::RefusedLine;
+use crate::stop::Failure;
 use irig_device::{LineEnd, Watched};
 use irig_port::Port;
 use std::alloc::Global;
 use std::io::{BufRead, Write};
 use text_faults::Refusal;
 
-/// Plays the lines of the input as a run does, and writes a report of this kind in place of the log.
-/// What is said of each line is written before the next is read.
+/// A run that came to its end.
+#[derive(Drop)]
+pub struct Run<L> {
+    /// How it ended, as of [`run_to`].
+    pub answer: Result<Outcome, SceneFault>,
+    /// Who listened; none before the plant line.
+    pub listener: Option<L>,
+    /// If the listener counts entries: how many there were where each line began, and perhaps once
+    /// more behind the last line.
+    pub starts: Vec<u64>,
+    /// What explains the refusal, if a line is refused.
+    pub refused: Option<RefusedLine>,
+}
+
+/// Plays the lines of the input as a run does, and writes what this kind of listener says in place
+/// of the log. What is said of each line is written before the next is read.
 ///
 /// Neither device may have failed before. `Refused` if a line is refused, as a run refuses it;
 /// `refused` is then what explains it, else it is left as it was. `Read` if the input failed,
@@ -41,35 +59,82 @@ pub fn run_to<L: Listener, P: Port, R: BufRead, W: Write>(
     ensures read { (result ≡ Err SceneFault.Read) ↔ (has_failed input.new ≡ true) }
     ensures write { (result ≡ Err SceneFault.Write) ↔ (has_failed output.new ≡ true) }
 {
-    let mut line = Vec::new(alloc);
-    let mut player: Option<Player<L, P>> = None;
-    let result = run_lines(alloc, asked, &mut line, &mut player, input, output);
-    if let Err(SceneFault::Refused { number, .. }) = result
-        && let Some(refusal) = Refusal::of_number(number)
-    {
-        *refused = Some(refused_line(alloc, refusal, line, player));
+    let Run {
+        answer,
+        refused: explained,
+        ..
+    } = run_listening::<L, P, R, W>(alloc, asked, input, output);
+    if explained.is_some() {
+        *refused = explained;
     }
-    result
+    answer
 }
 
-/// What [`run_to`] does, without a word of what explains a refusal.
-pub fn run_over<L: Listener, P: Port, R: BufRead, W: Write>(
+/// What [`run_to`] does, for a listener that is asked what it heard.
+pub fn run_listening<L: Listener, P: Port, R: BufRead, W: Write>(
     alloc: Global,
     asked: L::Asked,
     input: &mut Watched<R>,
     output: &mut Watched<W>,
-) -> Result<Outcome, SceneFault>
+) -> Run<L>
     requires input_whole { has_failed input.old ≡ false }
     requires output_whole { has_failed output.old ≡ false }
-    ensures ran { RanFor (L.texts asked) result
+    ensures ran { RanTo (L.stands_for asked) L.counts (L.texts asked) result.answer result.listener
+        result.starts.items
         (left R.remaining input.old) (left R.remaining input.new)
         (written W.contents output.old) (written W.contents output.new) }
-    ensures read { (result ≡ Err SceneFault.Read) ↔ (has_failed input.new ≡ true) }
-    ensures write { (result ≡ Err SceneFault.Write) ↔ (has_failed output.new ≡ true) }
+    ensures read { (result.answer ≡ Err SceneFault.Read) ↔ (has_failed input.new ≡ true) }
+    ensures write { (result.answer ≡ Err SceneFault.Write) ↔ (has_failed output.new ≡ true) }
 {
     let mut line = Vec::new(alloc);
+    let mut starts = Vec::new(alloc);
     let mut player: Option<Player<L, P>> = None;
-    run_lines(alloc, asked, &mut line, &mut player, input, output)
+    let answer = run_lines(
+        alloc,
+        asked,
+        &mut line,
+        &mut player,
+        &mut starts,
+        input,
+        output,
+    );
+    let (listener, refused) = end_player(alloc, refusal_of(&answer), line, player);
+    Run {
+        answer,
+        listener,
+        starts,
+        refused,
+    }
+}
+
+fn refusal_of(answer: &Result<Outcome, SceneFault>) -> Option<Refusal> {
+    match answer {
+        Err(SceneFault::Refused { number, .. }) => Refusal::of_number(*number),
+        _ => None,
+    }
+}
+
+// Who listened to a player, and what explains the refusal of this line, if it was refused.
+fn end_player<L: Listener, P: Port>(
+    alloc: Global,
+    refusal: Option<Refusal>,
+    line: Vec<u8>,
+    player: Option<Player<L, P>>,
+) -> (Option<L>, Option<RefusedLine>)
+    ensures { (asked : L.Asked) (at : Option Scene)
+        → IsAt (IsPlayerAt (L.stands_for asked) (L.keeps_told asked)) player at
+        → IsAt (L.stands_for asked) result.0 at }
+{
+    match player {
+        Some(player) => {
+            let (listener, refused) = player.end(alloc, refusal, line);
+            (Some(listener), refused)
+        }
+        None => match refusal {
+            Some(refusal) => (None, Some(RefusedLine::before_plant(alloc, refusal, line))),
+            None => (None, None),
+        },
+    }
 }
 
 fn run_lines<L: Listener, P: Port, R: BufRead, W: Write>(
@@ -77,13 +142,16 @@ fn run_lines<L: Listener, P: Port, R: BufRead, W: Write>(
     asked: L::Asked,
     line: &mut Vec<u8>,
     player: &mut Option<Player<L, P>>,
+    starts: &mut Vec<u64>,
     input: &mut Watched<R>,
     output: &mut Watched<W>,
 ) -> Result<Outcome, SceneFault>
     requires none { player.old ≡ None }
+    requires new { starts.old.items ≡ [] }
     requires input_whole { has_failed input.old ≡ false }
     requires output_whole { has_failed output.old ≡ false }
-    ensures ran { RanFor (L.texts asked) result
+    ensures ran { RanTo (IsPlayerAt (L.stands_for asked) (L.keeps_told asked)) L.counts
+        (L.texts asked) result player.new starts.new.items
         (left R.remaining input.old) (left R.remaining input.new)
         (written W.contents output.old) (written W.contents output.new) }
     ensures read { (result ≡ Err SceneFault.Read) ↔ (has_failed input.new ≡ true) }
@@ -91,6 +159,7 @@ fn run_lines<L: Listener, P: Port, R: BufRead, W: Write>(
 {
     let mut number = 1;
     loop {
+        note_start(player, starts)?;
         match read_line(input, limit_of(number), line)? {
             LineEnd::Newline => {
                 run_line(alloc, asked, player, number, line, output)?;
@@ -104,14 +173,25 @@ fn run_lines<L: Listener, P: Port, R: BufRead, W: Write>(
     }
 }
 
-fn refused_line<L: Listener, P: Port>(
-    alloc: Global,
-    refusal: Refusal,
-    line: Vec<u8>,
-    player: Option<Player<L, P>>,
-) -> RefusedLine {
-    match player {
-        Some(player) => player.refused(alloc, refusal, line),
-        None => RefusedLine::before_plant(alloc, refusal, line),
+// Takes note that a line begins.
+fn note_start<L: Listener, P: Port>(
+    player: &Option<Player<L, P>>,
+    starts: &mut Vec<u64>,
+) -> Result<(), Failure>
+    ensures noted { OnOk result ((asked : L.Asked) (at : Option Scene)
+        → IsAt (IsPlayerAt (L.stands_for asked) (L.keeps_told asked)) player.now at
+        → starts.new.items ≡ starts.old.items ++ noted_at L.counts at) }
+    ensures memory { IfErr result (λ failure. failure ≡ Memory) }
+{
+    if !L::counts() {
+        return Ok(());
+    }
+    let count = match player {
+        Some(player) => player.count(),
+        None => 0,
+    };
+    match starts.push(count) {
+        Ok(()) => Ok(()),
+        Err(_) => Err(Failure::Memory),
     }
 }

@@ -1,6 +1,6 @@
 //! Who lied, and what it cost, as a listener tells it.
 
-ghost use Rattle.std.specs.Prelude.{◌≡◌, true, IfSome};
+ghost use Rattle.std.specs.Prelude.{◌≡◌, false, true, IfSome};
 ghost use Rattle.irig_plant.specs.History.{ForHistory};
 ghost use Rattle.report_blame.specs.Blaming.{LastTick};
 ghost use Rattle.report_blame.specs.Soundness.{IsSoundTick};
@@ -31,6 +31,16 @@ impl Listener for Observer {
     ghost keeps_told = { λ asked. true };
 
     ghost stands_for = { λ asked observer x. IsObserverAt observer x };
+
+    ghost counts = { false };
+
+    fn counts() -> bool {
+        false
+    }
+
+    fn count(&self) -> u64 {
+        0
+    }
 
     fn wants_told(_asked: ()) -> bool {
         true

@@ -30,6 +30,16 @@ impl Listener for Recorder {
 
     ghost stands_for = { λ asked recorder x. ⊤ };
 
+    ghost counts = { false };
+
+    fn counts() -> bool {
+        false
+    }
+
+    fn count(&self) -> u64 {
+        0
+    }
+
     fn wants_told(_asked: ()) -> bool {
         false
     }

@@ -3,42 +3,42 @@ use Rattle.std.proofs.Common.{rules, arith, [], None}
 use Rattle.std.proofs.lemmas.Result.{err_from_is_err_and}
 use Rattle.std.proofs.lemmas.Grind.{common_steps}
 use Rattle.irig_scene.proofs.RestLaws.{no_read_failed}
-use Rattle.irig_scene.proofs.RunLaws.{has_begun, line_done, line_first_is, left_read, left_ended, left_too_long, left_last, last_first_is}
+use Rattle.irig_scene.proofs.RunLaws.{has_begun, line_done, line_first_is, left_read, left_ended, left_too_long, left_last, left_unnoted, last_first_is}
 use Rattle.irig_scene.proofs.run.run_lines.Goals as goal
 
-pub loop-player-init : goal.loop-player-init
-loop-player-init g c = (omega arith, omega arith, c.requires.output_whole, c.requires.input_whole, rw c.requires.none (has_begun (IsPlayerAt {g = g.P.Port} (g.L.Listener.stands_for c.args.asked) (g.L.Listener.keeps_told c.args.asked)) (g.L.Listener.texts c.args.asked) _ _))
+pub loop-input-init : goal.loop-input-init
+loop-input-init g c = (omega arith, omega arith, c.requires.output_whole, c.requires.input_whole, rw c.requires.none (has_begun (IsPlayerAt {g = g.P.Port} (g.L.Listener.stands_for c.args.asked) (g.L.Listener.keeps_told c.args.asked)) g.L.Listener.counts (g.L.Listener.texts c.args.asked) _ _ _ c.requires.new))
 
 pub returns-in_err-read_line-clause-ran : goal.returns-in_err-read_line-clause-ran
 returns-in_err-read_line-clause-ran g c =
-    let p = err_from_is_err_and c.from_residual.result c.from_residual.ensures.1 in
-    rw (p.1, p.2) (left_read (IsPlayerAt {g = g.P.Port} (g.L.Listener.stands_for c.args.asked) (g.L.Listener.keeps_told c.args.asked)) (g.L.Listener.texts c.args.asked) _ _ _ _ _ _ c.loop-player.invariant.4 _ _ c.in_err-read_line.ensures.fault c.in_err-read_line.ensures.part)
+    let p = err_from_is_err_and c.from_residual-in_err-read_line.result c.from_residual-in_err-read_line.ensures.1 in
+    rw (p.1, p.2) (left_read (IsPlayerAt {g = g.P.Port} (g.L.Listener.stands_for c.args.asked) (g.L.Listener.keeps_told c.args.asked)) g.L.Listener.counts (g.L.Listener.texts c.args.asked) _ _ _ _ _ _ _ c.loop-input.invariant.4 _ (c.in_ok-note_start.ensures.noted c.args.asked c.loop-input.invariant.4.at c.loop-input.invariant.4.stands) _ _ c.in_err-read_line.ensures.fault c.in_err-read_line.ensures.part)
 
 pub returns-in_err-run_line-in-Newline-clause-ran : goal.returns-in_err-run_line-in-Newline-clause-ran
 returns-in_err-run_line-in-Newline-clause-ran g c =
     let p = err_from_is_err_and c.from_residual-in_err-run_line-in-Newline.result c.from_residual-in_err-run_line-in-Newline.ensures.1 in
-    rw (p.1, p.2) (left_ended (IsPlayerAt {g = g.P.Port} (g.L.Listener.stands_for c.args.asked) (g.L.Listener.keeps_told c.args.asked)) (g.L.Listener.texts c.args.asked) _ _ _ _ _ _ c.loop-player.invariant.4 _ None _ _ _ _ _ _ c.in_ok-read_line.ensures.line c.in-Newline.is c.deref.ensures.value c.limit_of.ensures
-    c.in_err-run_line-in-Newline.ensures.runs)
+    rw (p.1, p.2) (left_ended (IsPlayerAt {g = g.P.Port} (g.L.Listener.stands_for c.args.asked) (g.L.Listener.keeps_told c.args.asked)) g.L.Listener.counts (g.L.Listener.texts c.args.asked) _ _ _ _ _ _ _ c.loop-input.invariant.4 _ (c.in_ok-note_start.ensures.noted c.args.asked c.loop-input.invariant.4.at c.loop-input.invariant.4.stands) _ _ _ _ _ _ _ _ c.in_ok-read_line.ensures.line c.in-Newline.is c.deref.ensures.value c.limit_of.ensures
+    c.in_err-run_line-in-Newline.ensures.runs c.in_err-run_line-in-Newline.ensures.leaves)
 
-pub loop-player-preserved : goal.loop-player-preserved
-loop-player-preserved g c = (
+pub loop-input-preserved : goal.loop-input-preserved
+loop-input-preserved g c = (
   omega arith,
   search rules,
   search rules,
   search rules,
-  line_done (IsPlayerAt {g = g.P.Port} (g.L.Listener.stands_for c.args.asked) (g.L.Listener.keeps_told c.args.asked)) (g.L.Listener.texts c.args.asked) _ _ _ _ _ _ _ _ _ _ _ _ _ c.loop-player.invariant.4 c.in_ok-read_line.ensures.line c.in-Newline.is c.deref.ensures.value
+  line_done (IsPlayerAt {g = g.P.Port} (g.L.Listener.stands_for c.args.asked) (g.L.Listener.keeps_told c.args.asked)) g.L.Listener.counts (g.L.Listener.texts c.args.asked) _ _ _ _ _ _ _ _ _ _ _ _ _ _ _ c.loop-input.invariant.4 (c.in_ok-note_start.ensures.noted c.args.asked c.loop-input.invariant.4.at c.loop-input.invariant.4.stands) c.in_ok-read_line.ensures.line c.in-Newline.is c.deref.ensures.value
       c.in_ok-run_line-in-Newline.ensures.runs,
 )
 
 pub returns-in-TooLong-clause-ran : goal.returns-in-TooLong-clause-ran
 returns-in-TooLong-clause-ran g c =
-    left_too_long (IsPlayerAt {g = g.P.Port} (g.L.Listener.stands_for c.args.asked) (g.L.Listener.keeps_told c.args.asked)) (g.L.Listener.texts c.args.asked) _ _ _ _ _ _ c.loop-player.invariant.4 _ _ _ _ _ _ _ c.in_ok-read_line.ensures.line c.in-TooLong.is c.limit_of.ensures
+    left_too_long (IsPlayerAt {g = g.P.Port} (g.L.Listener.stands_for c.args.asked) (g.L.Listener.keeps_told c.args.asked)) g.L.Listener.counts (g.L.Listener.texts c.args.asked) _ _ _ _ _ _ _ c.loop-input.invariant.4 _ (c.in_ok-note_start.ensures.noted c.args.asked c.loop-input.invariant.4.at c.loop-input.invariant.4.stands) _ _ _ _ _ _ _ c.in_ok-read_line.ensures.line c.in-TooLong.is c.limit_of.ensures
     c.too_long.ensures c.stop.ensures.wrote
 
 pub returns-in-EndOfInput-clause-ran : goal.returns-in-EndOfInput-clause-ran
 returns-in-EndOfInput-clause-ran g c =
-    left_last (IsPlayerAt {g = g.P.Port} (g.L.Listener.stands_for c.args.asked) (g.L.Listener.keeps_told c.args.asked)) (g.L.Listener.texts c.args.asked) _ _ _ _ _ _ c.loop-player.invariant.4 _ _ _ _ _ _ _ c.in_ok-read_line.ensures.line c.in-EndOfInput.is c.deref-in-EndOfInput.ensures.value c.limit_of.ensures
-    c.run_last.ensures.runs
+    left_last (IsPlayerAt {g = g.P.Port} (g.L.Listener.stands_for c.args.asked) (g.L.Listener.keeps_told c.args.asked)) g.L.Listener.counts (g.L.Listener.texts c.args.asked) _ _ _ _ _ _ _ c.loop-input.invariant.4 _ (c.in_ok-note_start.ensures.noted c.args.asked c.loop-input.invariant.4.at c.loop-input.invariant.4.stands) _ _ _ _ _ _ _ _ c.in_ok-read_line.ensures.line c.in-EndOfInput.is c.deref-in-EndOfInput.ensures.value c.limit_of.ensures
+    c.run_last.ensures.runs c.run_last.ensures.heard
 
 pub returns-in-TooLong-clause-read : goal.returns-in-TooLong-clause-read
 returns-in-TooLong-clause-read g c = grind (arith, common_steps)
@@ -48,8 +48,8 @@ returns-in-TooLong-clause-write g c = grind (arith, common_steps)
 
 pub returns-in-EndOfInput-clause-read : goal.returns-in-EndOfInput-clause-read
 returns-in-EndOfInput-clause-read g c =
-    let run = c.loop-player.invariant.4 in
-    no_read_failed (g.L.Listener.texts c.args.asked) _ _ _ _ run.at _ _ _ (c.run_last.ensures.runs run.at _ run.stands (last_first_is (IsPlayerAt {g = g.P.Port} (g.L.Listener.stands_for c.args.asked) (g.L.Listener.keeps_told c.args.asked)) (g.L.Listener.texts c.args.asked) _ _ _ _ _ _ run _ _ _ _ _ c.in_ok-read_line.ensures.line c.deref-in-EndOfInput.ensures.value)) (search rules)
+    let run = c.loop-input.invariant.4 in
+    no_read_failed (g.L.Listener.texts c.args.asked) _ _ _ _ run.at _ _ _ (c.run_last.ensures.runs run.at _ run.stands (last_first_is (IsPlayerAt {g = g.P.Port} (g.L.Listener.stands_for c.args.asked) (g.L.Listener.keeps_told c.args.asked)) g.L.Listener.counts (g.L.Listener.texts c.args.asked) _ _ _ _ _ _ _ run _ (c.in_ok-note_start.ensures.noted c.args.asked c.loop-input.invariant.4.at c.loop-input.invariant.4.stands) _ _ _ _ _ c.in_ok-read_line.ensures.line c.deref-in-EndOfInput.ensures.value)) (search rules)
 
 pub returns-in-EndOfInput-clause-write : goal.returns-in-EndOfInput-clause-write
 returns-in-EndOfInput-clause-write g c = grind (arith, common_steps)
@@ -63,8 +63,23 @@ returns-in_err-read_line-clause-write g c = grind (arith, common_steps)
 pub returns-in_err-run_line-in-Newline-clause-read : goal.returns-in_err-run_line-in-Newline-clause-read
 returns-in_err-run_line-in-Newline-clause-read g c =
     let p = err_from_is_err_and c.from_residual-in_err-run_line-in-Newline.result c.from_residual-in_err-run_line-in-Newline.ensures.1 in
-    let run = c.loop-player.invariant.4 in
-    rw (p.1, p.2) (no_read_failed (g.L.Listener.texts c.args.asked) _ _ 0 _ run.at _ _ _ ((c.in_err-run_line-in-Newline.ensures.runs run.at _ run.stands (line_first_is (IsPlayerAt {g = g.P.Port} (g.L.Listener.stands_for c.args.asked) (g.L.Listener.keeps_told c.args.asked)) (g.L.Listener.texts c.args.asked) _ _ _ _ _ _ run _)).ran [] 0) (search rules))
+    let run = c.loop-input.invariant.4 in
+    rw (p.1, p.2) (no_read_failed (g.L.Listener.texts c.args.asked) _ _ 0 _ run.at _ _ _ ((c.in_err-run_line-in-Newline.ensures.runs run.at _ run.stands (line_first_is (IsPlayerAt {g = g.P.Port} (g.L.Listener.stands_for c.args.asked) (g.L.Listener.keeps_told c.args.asked)) g.L.Listener.counts (g.L.Listener.texts c.args.asked) _ _ _ _ _ _ _ run _ (c.in_ok-note_start.ensures.noted c.args.asked c.loop-input.invariant.4.at c.loop-input.invariant.4.stands) _)).ran [] 0) (search rules))
 
 pub returns-in_err-run_line-in-Newline-clause-write : goal.returns-in_err-run_line-in-Newline-clause-write
 returns-in_err-run_line-in-Newline-clause-write g c = grind (arith, common_steps)
+
+pub returns-in_err-note_start-clause-ran : goal.returns-in_err-note_start-clause-ran
+returns-in_err-note_start-clause-ran g c =
+    let p = err_from_is_err_and c.from_residual.result c.from_residual.ensures.1 in
+    rw (p.1, p.2, c.in_err-note_start.ensures.memory) (left_unnoted (IsPlayerAt {g = g.P.Port} (g.L.Listener.stands_for c.args.asked) (g.L.Listener.keeps_told c.args.asked)) g.L.Listener.counts (g.L.Listener.texts c.args.asked) _ _ _ _ _ _ _ c.loop-input.invariant.4 _)
+
+pub returns-in_err-note_start-clause-read : goal.returns-in_err-note_start-clause-read
+returns-in_err-note_start-clause-read g c =
+    let p = err_from_is_err_and c.from_residual.result c.from_residual.ensures.1 in
+    rw (p.1, p.2, c.in_err-note_start.ensures.memory) (grind (arith, common_steps))
+
+pub returns-in_err-note_start-clause-write : goal.returns-in_err-note_start-clause-write
+returns-in_err-note_start-clause-write g c =
+    let p = err_from_is_err_and c.from_residual.result c.from_residual.ensures.1 in
+    rw (p.1, p.2, c.in_err-note_start.ensures.memory) (grind (arith, common_steps))
