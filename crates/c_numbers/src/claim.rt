@@ -18,7 +18,7 @@ pub struct IrigClaim {
 }
 
 /// A claim of nothing, in zeros.
-pub(crate) const NO_CLAIM: IrigClaim = IrigClaim {
+pub const NO_CLAIM: IrigClaim = IrigClaim {
     at: UtcSecond { day: 0, sod: 0 },
     mark: 0,
 };

@@ -22,12 +22,14 @@ mod voices;
 mod zone;
 
 pub use check_word::{changing_sum, check_of, fixed_sum, state_sum, tally_change};
-pub use claim::{IrigClaim, claim_for_c};
+pub use claim::{IrigClaim, NO_CLAIM, claim_for_c};
 pub use control::{IrigControl, control_for_c, control_of_c};
 pub use fault::{OUT_OF_RANGE, fault_code};
 pub use laws::another_number_is_told;
 pub use reader::IrigReader;
-pub use report::{IrigReport, IrigTold, report_for_c, told_for_c};
+pub use report::{
+    IrigReport, IrigTold, cause_number, lock_count, lock_number, report_for_c, told_for_c,
+};
 pub use setup::{
     IrigSetup, is_port, is_setup, parity_of, reader_rules_of, redundancy_of, rules_of, sense_of,
 };

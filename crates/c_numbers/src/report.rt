@@ -96,7 +96,8 @@ const NO_ZONE: Zone = Zone {
     dst: false,
 };
 
-fn lock_number(lock: Lock) -> u8
+/// The number of a lock.
+pub fn lock_number(lock: Lock) -> u8
     ensures { result ≡ number_of_lock lock }
 {
     match lock {
@@ -107,7 +108,8 @@ fn lock_number(lock: Lock) -> u8
     }
 }
 
-fn lock_count(lock: Lock) -> u32
+/// The votes or edges that a lock has, or 0.
+pub fn lock_count(lock: Lock) -> u32
     ensures { result ≡ count_of_lock lock }
 {
     match lock {
@@ -117,7 +119,8 @@ fn lock_count(lock: Lock) -> u32
     }
 }
 
-fn cause_number(cause: Cause) -> u8
+/// The number of a cause.
+pub fn cause_number(cause: Cause) -> u8
     ensures { result ≡ number_of_cause cause }
 {
     match cause {

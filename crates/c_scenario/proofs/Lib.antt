@@ -1,3 +1,3 @@
 pub mod RunLaws
-pub mod EdgeLaws
+pub mod EntryLaws
 pub mod StandardFacts

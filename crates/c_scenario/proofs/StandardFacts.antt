@@ -1,36 +1,23 @@
--- Known entries of lines, from the table of docs/SCENARIOS.md, and the limits on both sides.
-use Rattle.std.proofs.Common.{◌≡◌, true, false, [], ◌∷◌, Err, refl}
-use Rattle.irig_plant.specs.declared.event.Event.TheVariants.{GenEdge, Tick, Carry, Restart}
-use Rattle.text_faults.specs.declared.refusal.Refusal.TheVariants.{NoSuchReader}
-use Rattle.scenario_line.specs.declared.event_line.Command.TheVariants.{Event, Seconds}
-use Rattle.c_scenario.specs.Edges.{edges_of, edges_if_taken, edges_at, is_beyond, no_edges}
+-- Known lines of entries, from the page on scenarios: a plant line, an empty line, two seconds of one
+-- reader, a fault, and a tick.
+use Rattle.std.proofs.Common.{◌≡◌, [], ◌∷◌, refl}
+use Rattle.c_scenario.specs.Entries.{begun, lined, verdict_by}
+use Rattle.irig_plant.specs.declared.audit.Audit.TheVariants.{Broken, FalseTable}
 
-own_tick : edges_at 2 (edges_of (Event (Tick 2))) ≡ 1
-own_tick = refl
-
-tick_of_another : edges_at 1 (edges_of (Event (Tick 2))) ≡ 0
-tick_of_another = refl
-
-first_of_seconds : edges_at 0 (edges_of (Seconds 100000)) ≡ 100000
+first_of_seconds : begun (0 ∷ 0 ∷ 0 ∷ 2 ∷ 2 ∷ []) 0 ≡ 3
+unfolding begun
 first_of_seconds = refl
 
-last_of_seconds : edges_at 15 (edges_of (Seconds 7)) ≡ 7
-last_of_seconds = refl
+second_of_seconds : begun (0 ∷ 0 ∷ 0 ∷ 2 ∷ 2 ∷ []) 1 ≡ 3
+unfolding begun
+second_of_seconds = refl
 
-no_tick_of_a_carry : edges_of (Event (Carry 0 0)) ≡ no_edges
-no_tick_of_a_carry = refl
+tick_after_a_fault : begun (0 ∷ 0 ∷ 0 ∷ 2 ∷ 2 ∷ []) 2 ≡ 5
+unfolding begun
+tick_after_a_fault = refl
 
-no_tick_of_a_step : edges_of (Event (GenEdge 0)) ≡ no_edges
-no_tick_of_a_step = refl
+broken_edge : verdict_by (Broken 1 7) ≡ record { edge = 7; kind = 2; reader = 1 }
+broken_edge = refl
 
-no_tick_of_a_restart : edges_of (Event (Restart 0)) ≡ no_edges
-no_tick_of_a_restart = refl
-
-none_if_refused : edges_if_taken (Err NoSuchReader) ≡ no_edges
-none_if_refused = refl
-
-last_line : is_beyond 1000000 (32 ∷ []) ≡ false
-last_line = refl
-
-line_after_the_last : is_beyond 1000001 [] ≡ true
-line_after_the_last = refl
+false_table : verdict_by (FalseTable 3) ≡ record { edge = 0; kind = 3; reader = 3 }
+false_table = refl

@@ -5,43 +5,40 @@
 //! C library for memory, gives all of it back, and keeps nothing between calls.
 #![tactic(auto)]
 
-ghost use Rattle.std.specs.Prelude.{◌≡◌, ◌≢◌, ◌≤◌, ◌⊎◌, ℕ, List, IsSome, None, Ok, length, take, true};
+ghost use Rattle.std.specs.Prelude.{◌≡◌, ◌≢◌, ◌≤◌, ◌⊎◌, ℕ, List, IsSome, None, Some, length, take, true};
 ghost use Rattle.text_frame.specs.Frame.{ShowsFrameOf};
 ghost use Rattle.text_frame.specs.Reading.{IsReadingOf};
 ghost use Rattle.report_log.specs.declared.shown.Shown.{Shown};
 ghost use Rattle.irig_scene.specs.BrokenLogs.{VouchesUntilBroken};
 ghost use Rattle.irig_scene.specs.LogLines.{TellsTruth, VouchesForItself};
 ghost use Rattle.irig_scene.specs.PortLines.{without_port_lines};
-ghost use Rattle.irig_scene.specs.Scene.{meaning_of, output, output_shown};
+ghost use Rattle.irig_scene.specs.Scene.{Scene, audit_in, meaning_of, output, output_shown};
 ghost use Rattle.irig_scene.specs.VouchedByPorts.{VouchesByPorts};
-ghost use Rattle.c_scenario.specs.Edges.{CountsTicks, line_edges};
+ghost use Rattle.c_scenario.specs.Entries.{entries_of, verdict_by};
 ghost use Rattle.c_scenario.specs.Frames.{are_options, are_rules, options_in, rules_in};
 ghost use Rattle.c_scenario.specs.Runs.{HasWholeLog, IsRefusalOf, IsStatus, shown_of, written_over};
 
-mod edges;
+mod entry;
+mod entry_log;
 mod frame;
-mod laws;
 mod refusal;
 mod run;
 
-pub use edges::IrigEdges;
+use entry::verdict_for_c;
+pub use entry::{IrigEntry, IrigVerdict};
+use entry_log::{hear_text, write_entries};
 pub use frame::IrigFrameOptions;
 use irig_scene::Shown;
-pub use laws::line_edges_are_ticks;
 pub use refusal::{IrigRefusal, IrigSpan};
 use std::alloc::Global;
 use std::str;
-use text_faults::LineFault;
 use text_frame::{FrameText, ReadingFault, frame_lines, frame_text};
-use text_refusal::Parts;
 
-// Of edges and of the texts of frames: written; and not, for a text that is none of a second or of a
-// frame, or a number without a meaning; for want of a plant; and for lack of memory.
+// Of the texts of frames: written; and not, for a text that is none of a second or of a frame, or a
+// number without a meaning; and for lack of memory.
 const DONE: u8 = 0;
 
 const BAD_TEXT: u8 = 1;
-
-const REFUSED: u8 = 3;
 
 const NO_MEMORY: u8 = 6;
 
@@ -112,51 +109,46 @@ pub extern "C" fn irig_scene_c_run_shown(
     let ended = run::run_text(alloc, text, Shown { all, ports });
     run::write_over(log, &ended.log);
     *whole = ended.log.len();
-    let line = run::line_of(&ended.answer);
-    let number = run::number_of(&ended.answer);
-    *refusal = match run::why(alloc, &ended.refused) {
-        Ok(Some(why)) => {
-            run::write_over(reason, why.text.as_str().as_bytes());
-            IrigRefusal::new(line, number, why.text.len(), why.parts)
-        }
-        _ => IrigRefusal::new(line, number, 0, Parts::NONE),
-    };
+    *refusal = run::explain(alloc, &ended.answer, &ended.refused, reason);
     run::status_of(&ended.answer)
 }
 
-/// Tells for each line of a scenario how many edges of which reader it asks for, by itself: none is
-/// told for the plant line, for one that is skipped or refused, and for events without a tick. As
-/// much is written into `edges` as that has room for, and `whole` is how many lines there are.
+/// The same run, whose log is written into `entries` as numbers, silent ones too, as many as it has
+/// room for, each with the line that asked for it. `whole` is then how many entries the log has, and
+/// `verdict` says whether the premises held.
 ///
-/// 0 if it was told. 3 if there is no plant line or it is refused, and 6 if there was no memory:
-/// nothing is written then, and `whole` is 0.
+/// 0 if the run was done, and 3 if a line is refused, as `refusal` and `reason` say. 6 if there was no
+/// memory for the run, and 5 if there was none to say what is refused: nothing is written into
+/// `entries` then, and `whole` is 0.
 #[unsafe(no_mangle)]
-pub extern "C" fn irig_scene_c_line_edges(
+pub extern "C" fn irig_scene_c_run_entries(
     alloc: Global,
     text: &[u8],
-    edges: &mut [IrigEdges],
+    entries: &mut [IrigEntry],
     whole: &mut usize,
+    verdict: &mut IrigVerdict,
+    reason: &mut [u8],
+    refusal: &mut IrigRefusal,
 ) -> u8
-    ensures status { (result ≡ 0) ⊎ ((result ≡ 3) ⊎ (result ≡ 6)) }
-    ensures edges { result ≡ 0 → (told : List IrigEdges) × (line_edges text.now ≡ Ok told)
-        × (whole.new ≡ length told) × (edges.new ≡ written_over edges.old told) }
-    ensures done { result ≡ 0 → IsSome (meaning_of text.now).scene }
-    ensures refused { result ≡ 3 → (meaning_of text.now).scene ≡ None }
-    ensures unchanged { result ≢ 0 → edges.new ≡ edges.old }
-    ensures none { result ≢ 0 → whole.new ≡ 0 }
-    // the entries up to a line say how often each reader has ticked then
-    ensures counts { result ≡ 0 → CountsTicks text.now (take whole.new edges.new) }
+    ensures status { IsStatus result }
+    ensures done { result ≡ 0 → (meaning_of text.now).refused ≡ None }
+    ensures refused { result ≡ 3 → IsSome (meaning_of text.now).refused }
+    ensures refusal { HasWholeLog result
+        → IsRefusalOf (meaning_of text.now).refused refusal.new.line refusal.new.number }
+    // each entry of the log, in its order, with the line that asked for it, as far as there is room
+    ensures entries { HasWholeLog result
+        → entries.new ≡ written_over entries.old (entries_of text.now) }
+    ensures whole { HasWholeLog result → whole.new ≡ length (entries_of text.now) }
+    ensures unchanged { 4 ≤ result → entries.new ≡ entries.old }
+    ensures verdict { result ≡ 0 → (at : Scene) → (meaning_of text.now).scene ≡ Some at
+        → verdict.new ≡ verdict_by (audit_in at) }
+    ensures no_verdict { result ≢ 0 → verdict.new.kind ≡ 0 }
 {
-    *whole = 0;
-    match edges::line_edges(alloc, text) {
-        Ok(told) => {
-            run::write_over(edges, &told);
-            *whole = told.len();
-            DONE
-        }
-        Err(LineFault::Refused(_)) => REFUSED,
-        Err(LineFault::Memory) => NO_MEMORY,
-    }
+    let run = hear_text(alloc, text);
+    *verdict = verdict_for_c(&run.answer);
+    *whole = write_entries(entries, &run);
+    *refusal = run::explain(alloc, &run.answer, &run.refused, reason);
+    run::status_of(&run.answer)
 }
 
 /// Writes the frame of the UTC second whose text this is, as `irig frame` prints it: ten groups of

@@ -3,10 +3,11 @@
 ghost use Rattle.std.specs.Prelude.{◌≡◌};
 ghost use Rattle.c_scenario.specs.Runs.{IsRun, line_of, number_of, status_of, written_over};
 
+use crate::refusal::IrigRefusal;
 use irig_device::Watched;
 use irig_scene::{Outcome, RefusedLine, SceneFault, Shown, run_scene_shown};
 use std::alloc::{AllocError, Global};
-use text_refusal::{PlantContext, Reason, why_refused};
+use text_refusal::{Parts, PlantContext, Reason, why_refused};
 
 /// How a run ended, and what it wrote.
 #[derive(Drop)]
@@ -40,8 +41,8 @@ pub(crate) fn status_of(answer: &Result<Outcome, SceneFault>) -> u8
     }
 }
 
-/// The number of the line that is refused, from 1, or 0.
-pub(crate) fn line_of(answer: &Result<Outcome, SceneFault>) -> u64
+// The number of the line that is refused, from 1, or 0.
+fn line_of(answer: &Result<Outcome, SceneFault>) -> u64
     ensures { result ≡ line_of answer.now }
 {
     match answer {
@@ -50,8 +51,8 @@ pub(crate) fn line_of(answer: &Result<Outcome, SceneFault>) -> u64
     }
 }
 
-/// The number of the refusal, or 0.
-pub(crate) fn number_of(answer: &Result<Outcome, SceneFault>) -> u8
+// The number of the refusal, or 0.
+fn number_of(answer: &Result<Outcome, SceneFault>) -> u8
     ensures { result ≡ number_of answer.now }
 {
     match answer {
@@ -60,11 +61,30 @@ pub(crate) fn number_of(answer: &Result<Outcome, SceneFault>) -> u8
     }
 }
 
-/// Why a line is refused, if one is.
-pub(crate) fn why(
+/// What is refused, if a line is, and as much of the reason is written over the beginning of `reason`
+/// as that has room for.
+pub(crate) fn explain(
     alloc: Global,
+    answer: &Result<Outcome, SceneFault>,
     refused: &Option<RefusedLine>,
-) -> Result<Option<Reason>, AllocError> {
+    reason: &mut [u8],
+) -> IrigRefusal
+    ensures line { result.line ≡ line_of answer.now }
+    ensures number { result.number ≡ number_of answer.now }
+{
+    let line = line_of(answer);
+    let number = number_of(answer);
+    match why(alloc, refused) {
+        Ok(Some(why)) => {
+            write_over(reason, why.text.as_str().as_bytes());
+            IrigRefusal::new(line, number, why.text.len(), why.parts)
+        }
+        _ => IrigRefusal::new(line, number, 0, Parts::NONE),
+    }
+}
+
+// Why a line is refused, if one is.
+fn why(alloc: Global, refused: &Option<RefusedLine>) -> Result<Option<Reason>, AllocError> {
     let Some(refused) = refused else {
         return Ok(None);
     };
