@@ -5,9 +5,11 @@
 //! C library for memory, gives all of it back, and keeps nothing between calls.
 #![tactic(auto)]
 
-ghost use Rattle.std.specs.Prelude.{◌≡◌, ◌≢◌, ◌≤◌, ◌⊎◌, ℕ, List, IsSome, None, Some, length, take, true};
+ghost use Rattle.std.specs.Prelude.{All, ◌≡◌, ◌≢◌, ◌≤◌, ◌⊎◌, ℕ, List, IsSome, None, Some, length, take, true};
 ghost use Rattle.text_frame.specs.Frame.{ShowsFrameOf};
 ghost use Rattle.text_frame.specs.Reading.{IsReadingOf};
+ghost use Rattle.irig_plant.specs.Schedule.{log_of};
+ghost use Rattle.irig_plant.specs.Truth.{IsTruthful};
 ghost use Rattle.report_log.specs.declared.shown.Shown.{Shown};
 ghost use Rattle.irig_scene.specs.BrokenLogs.{VouchesUntilBroken};
 ghost use Rattle.irig_scene.specs.LogLines.{TellsTruth, VouchesForItself};
@@ -143,6 +145,10 @@ pub extern "C" fn irig_scene_c_run_entries(
     ensures verdict { result ≡ 0 → (at : Scene) → (meaning_of text.now).scene ≡ Some at
         → verdict.new ≡ verdict_by (audit_in at) }
     ensures no_verdict { result ≢ 0 → verdict.new.kind ≡ 0 }
+    // if the premises held, each entry of the log shows the true second of its edge, or none
+    ensures truth { result ≡ 0 → verdict.new.kind ≡ 1
+        → (at : Scene) → (meaning_of text.now).scene ≡ Some at
+        → All (IsTruthful at.plan.setup.times) (log_of at.plan.setup at.events) }
 {
     let run = hear_text(alloc, text);
     *verdict = verdict_for_c(&run.answer);
