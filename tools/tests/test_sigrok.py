@@ -154,7 +154,7 @@ def closed(pulses: Sequence[Pulse]) -> list[Pulse]:
 
 def program() -> str:
     """The path of the program that ./irig runs."""
-    words = [ROOT / "tools/repo/program"]
+    words = [ROOT / "toolchain/program"]
     return subprocess.run(words, stdout=subprocess.PIPE, text=True, check=True).stdout.strip()
 
 
