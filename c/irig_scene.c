@@ -9,8 +9,9 @@ uint8_t irig_scene_c_run_shown(const uint8_t *text, size_t count, bool all, bool
                                uint8_t *log, size_t room, size_t *whole, uint8_t *reason,
                                size_t reason_room, irig_refusal *refusal);
 
-uint8_t irig_scene_c_line_edges(const uint8_t *text, size_t count, irig_edges *edges, size_t room,
-                                size_t *whole);
+uint8_t irig_scene_c_run_entries(const uint8_t *text, size_t count, irig_entry *entries,
+                                 size_t room, size_t *whole, irig_verdict *verdict,
+                                 uint8_t *reason, size_t reason_room, irig_refusal *refusal);
 
 uint8_t irig_scene_c_frame_text(const char *time, size_t count, const irig_frame_options *options,
                                 char text[110]);
@@ -50,15 +51,20 @@ uint8_t irig_run_shown(const uint8_t *text, size_t count, bool all, bool ports, 
                     : refused;
 }
 
-uint8_t irig_line_edges(const uint8_t *text, size_t count, irig_edges *edges, size_t room,
-                        size_t *whole) {
+uint8_t irig_run_entries(const uint8_t *text, size_t count, irig_entry *entries, size_t room,
+                         size_t *whole, irig_verdict *verdict, uint8_t *reason, size_t reason_room,
+                         irig_refusal *refusal) {
     static const uint8_t refused = IRIG_RUN_NULL;
     const uint8_t no_text = 0U;
-    irig_edges no_edges = {0U, 0U};
-    bool is_there =
-        (whole != NULL) && leads(text, count) && ((edges != NULL) || (room == 0U));
-    return is_there ? irig_scene_c_line_edges((text != NULL) ? text : &no_text, count,
-                                              (edges != NULL) ? edges : &no_edges, room, whole)
+    irig_entry no_entry = {0};
+    uint8_t no_reason = 0U;
+    bool is_there = (whole != NULL) && (verdict != NULL) && (refusal != NULL) &&
+                    leads(text, count) && leads(entries, room) && leads(reason, reason_room);
+    return is_there ? irig_scene_c_run_entries((text != NULL) ? text : &no_text, count,
+                                               (entries != NULL) ? entries : &no_entry, room,
+                                               whole, verdict,
+                                               (reason != NULL) ? reason : &no_reason,
+                                               reason_room, refusal)
                     : refused;
 }
 

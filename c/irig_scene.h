@@ -7,8 +7,8 @@
  * `memcpy`, `memmove` and `memset` of the C library and `__udivti3`, which compilers bring along.
  *
  * Pointers. `text` leads to `count` bytes that no other call writes meanwhile, `log` to `room`
- * bytes, `edges` to `room` entries, `reason` to `reason_room` bytes, `whole` and `refusal` each to
- * one object; no other call reads or writes these meanwhile, and none of them overlap. Of no bytes a
+ * bytes, `entries` to `room` entries, `reason` to `reason_room` bytes, `whole`, `verdict` and
+ * `refusal` each to one object; no other call reads or writes these meanwhile, and none of them overlap. Of no bytes a
  * pointer may be null; any other null pointer is answered with IRIG_RUN_NULL. What the text says is
  * no duty of the caller: any bytes are a scenario, or are refused.
  *
@@ -17,6 +17,8 @@
  */
 #ifndef IRIG_SCENE_H
 #define IRIG_SCENE_H
+
+#include "irig.h"
 
 #include <stdbool.h>
 #include <stddef.h>
@@ -71,25 +73,44 @@ uint8_t irig_run_shown(const uint8_t *text, size_t count, bool all, bool ports, 
                        size_t room, size_t *whole, uint8_t *reason, size_t reason_room,
                        irig_refusal *refusal);
 
-/* Edges that a line of a scenario asks for: zeros if it asks for none. */
-typedef struct irig_edges {
-    uint32_t count; /* of each reader that is meant, 0 to 100,000 */
-    uint8_t reader; /* its place among the readers of the plant line, 0 to 15, or IRIG_EACH_READER */
-} irig_edges;
+/* An entry of a log: what a reader says at a tick, and what its ports told. */
+typedef struct irig_entry {
+    uint64_t edge;       /* a reader's n-th tick is at edge n */
+    uint64_t line;       /* the line of the scenario that asked for the tick, from 1 */
+    irig_claim truth;    /* what a port tells there of a true frame, or zeros */
+    irig_told told[5];   /* what its ports told; zeros of those that are not there */
+    uint32_t lock_count; /* votes while acquiring, edges in holdover, else 0 */
+    uint32_t day;        /* the second that it announces, or zeros */
+    uint32_t sod;
+    uint8_t reader;      /* its place in the plant line, 0 to 15 */
+    uint8_t announces;   /* 1, or 0 if it is silent */
+    uint8_t lock;        /* IRIG_LOCK_UNLOCKED .. */
+    uint8_t cause;       /* IRIG_CAUSE_VOTED .. */
+    uint8_t ports;       /* how many ports it has, 3 or 5 */
+    uint8_t has_truth;   /* 0 if the timeline has no second there */
+} irig_entry;
 
-enum { IRIG_EACH_READER = 255 };
+enum {
+    IRIG_VERDICT_NONE = 0,       /* the run did not end */
+    IRIG_VERDICT_KEPT = 1,       /* the premises were kept */
+    IRIG_VERDICT_BROKEN = 2,     /* a reader got more false claims than it can outvote */
+    IRIG_VERDICT_FALSE_TABLE = 3 /* a reader's leap table is not true */
+};
 
-/* Tells for each line of a scenario of `count` bytes how many edges of which reader it asks for, by
- * itself: zeros for the plant line, a line that is skipped, one that a run refuses whatever came
- * before, and an event without a tick. So up to the end of a line each reader has as many edges as
- * the entries so far say, if a run refuses none of these lines.
- *
- * As much is written to `edges` as `room` entries hold; the entries after that stay as they were.
- * `*whole` is how many lines there are, which may be more. A `room` of 0 only asks how many. After
- * IRIG_RUN_REFUSED, that there is no plant line or it is refused, and after IRIG_RUN_NO_MEMORY
- * `*whole` is 0, and nothing is written. */
-uint8_t irig_line_edges(const uint8_t *text, size_t count, irig_edges *edges, size_t room,
-                        size_t *whole);
+/* What the last line of a log says. */
+typedef struct irig_verdict {
+    uint64_t edge;  /* of IRIG_VERDICT_BROKEN, else 0 */
+    uint8_t kind;
+    uint8_t reader; /* of IRIG_VERDICT_BROKEN and IRIG_VERDICT_FALSE_TABLE, else 0 */
+} irig_verdict;
+
+/* The same run, told in numbers: an entry for each tick, silent ones too, in the order of the log,
+ * and the verdict. As many are written to `entries` as `room` has, and those behind them stay as they
+ * were; `*whole` is how many there are. Statuses, `reason` and `refusal` are those of irig_run_shown,
+ * and so is what is there after IRIG_RUN_NO_LOG and IRIG_RUN_NO_MEMORY. */
+uint8_t irig_run_entries(const uint8_t *text, size_t count, irig_entry *entries, size_t room,
+                         size_t *whole, irig_verdict *verdict, uint8_t *reason, size_t reason_room,
+                         irig_refusal *refusal);
 
 /* ---- the texts of frames */
 

@@ -1,6 +1,6 @@
 #!/usr/bin/env python3
-"""Compares the calls of irig_scene.h with the program, `test_scene.py LIBRARY PROGRAM`: logs and reasons,
-whatever room there is for them, and frames. A call writes the front of what the program prints, and what
+"""Compares the calls of irig_scene.h with the program, `test_scene.py LIBRARY PROGRAM`: logs, reasons and
+entries, whatever room there is for them, and frames. A call writes the front of what the program prints, and what
 lies behind the room stays; null pointers are answered."""
 from __future__ import annotations
 
@@ -18,13 +18,21 @@ ROOT = Path(__file__).resolve().parent.parent
 sys.path[:0] = [str(ROOT / "tests"), str(ROOT / "python")]
 
 from case_files import scenarios  # noqa: E402
-from irig._library import Refusal  # noqa: E402
+import irig  # noqa: E402
+from irig import _library, scenes  # noqa: E402
+from irig._library import Entry, Refusal, Verdict  # noqa: E402
+from irig.scenarios import made_edges, plant_in  # noqa: E402
 
 LIBRARY, PROGRAM = ctypes.CDLL(sys.argv[1]), sys.argv[2]
 DONE, BAD, NULL, REFUSED = 0, 1, 2, 3
 UNTOUCHED = b"\xa5"
 RULES = ("even", "odd"), ("add", "subtract"), ("check", "ignore")  # by their numbers
 TIMES = "2016-12-31T23:59:59Z", "2024-07-01T12:00:00Z"
+
+
+_, *SIGNATURE = _library.CALLS["run_entries"]
+LIBRARY.irig_run_entries.restype, LIBRARY.irig_run_entries.argtypes = SIGNATURE[0], SIGNATURE[1:]
+_library.run_entries = LIBRARY.irig_run_entries  # which the package calls then
 
 
 class FrameOptions(ctypes.Structure):
@@ -91,6 +99,42 @@ class Runs(unittest.TestCase):
             self.assertTrue(part.start <= part.end <= len(reason))
 
 
+class Entries(unittest.TestCase):
+    def test_logs(self) -> None:
+        """Of all cases and examples, as the package writes them."""
+        for name, text in scenarios().items():
+            with self.subTest(name):
+                try:
+                    ran = irig.run(text, all=True, ports=True).text
+                except irig.Refused as why:
+                    ran = f"{why.log.text}refused: line {why.line}: {why.number} {why.name}\n"
+                self.assertEqual(ran.encode(), printed("run", "-", "--all", "--ports", given=text)[1])
+
+    def test_lines(self) -> None:
+        """Which line of a scenario that runs to its end asked for which edges."""
+        for name, text in scenarios((0,)).items():
+            ran, readers = scenes._run(text, scenes.ROOM, 0), plant_in(text).readers
+            made: dict[str, list[list[int]]] = {reader: [] for reader in readers}
+            for held in ran.entries[: ran.whole]:
+                found = made[readers[held.reader]]
+                if found and found[-1][1] == held.line:
+                    found.pop()
+                found.append([held.edge, held.line])
+            with self.subTest(name):
+                self.assertEqual(made, made_edges(text.decode().split("\n"), readers))
+
+    def test_room(self) -> None:
+        text, size = (ROOT / "examples/one_liar.jsonl").read_bytes(), ctypes.sizeof(Entry)
+        every = scenes._run(text, scenes.ROOM, 0)
+        wanted = b"".join(bytes(held) for held in every.entries[: every.whole])
+        for count in (0, 1, every.whole - 1, every.whole, every.whole + 1):
+            room, whole, verdict, refusal = Room(count * size), c_size_t(), Verdict(), Refusal()
+            entries = ctypes.cast(room.bytes, ctypes.POINTER(Entry))
+            answer = scenes.c.run_entries(text, len(text), entries, count, whole, verdict, None, 0, refusal)
+            self.assertEqual((answer, whole.value, verdict.kind), (DONE, every.whole, every.verdict.kind))
+            self.assertTrue(room.has(wanted), f"{count} entries of room")
+
+
 class Frames(unittest.TestCase):
     def made(self, time: str, *options: int) -> bytes | None:
         room = Room(110)
@@ -144,11 +188,12 @@ class Null(unittest.TestCase):
     def test_each_pointer(self) -> None:
         """One of them null: nothing is done."""
         room, reason, refusal = Room(1), Room(1), Refusal(line=7)
-        options, one = FrameOptions(), c_size_t(1)
+        options, one, whole = FrameOptions(), c_size_t(1), c_size_t(7)
         log, why = room.words, (*reason.words[:2], ctypes.byref(refusal))
         for name, *words in (
             ("run", b"x", one, c_bool(), *log),
             ("run_shown", b"x", one, c_bool(), c_bool(), *log, *why),
+            ("run_entries", b"x", one, Entry(), one, ctypes.byref(whole), Verdict(), (c_uint8 * 1)(), one, refusal),
             ("frame_text", b"x", one, ctypes.byref(options), room.bytes),
             ("frame_lines", b"P", one, c_uint8(), c_uint8(), c_uint8(), *log),
         ):
@@ -157,7 +202,7 @@ class Null(unittest.TestCase):
                     with self.subTest(name, place=place):
                         self.assertEqual(called(name, *words[:place], None, *words[place + 1 :]), NULL)
         self.assertTrue(room.has(b"") and reason.has(b""))
-        self.assertEqual((room.whole.value, refusal.line), (0xA5, 7))
+        self.assertEqual((room.whole.value, whole.value, refusal.line), (0xA5, 7, 7))
 
     def test_nothing_at_all(self) -> None:
         room = Room(0)

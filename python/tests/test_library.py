@@ -16,7 +16,7 @@ STRUCTURES = {
     f"irig_{name.lower()}": kind for name, kind in vars(_library).items()
     if isinstance(kind, type) and issubclass(kind, ctypes.Structure) and kind is not ctypes.Structure
 }
-UNUSED = {"irig_edges", "irig_frame_options"}
+UNUSED = {"irig_frame_options"}
 
 
 def laid_out_by_c() -> list[str]:
