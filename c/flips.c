@@ -1,161 +1,63 @@
-/* Each single bit of a reader, flipped by something else than a call: no second that is announced
- * after it may be another than without it. Readers in many states go on over four edges, with
- * frames or with silence. A flipped number must be refused at each of them. A flipped bit of padding
- * must change nothing. Each bit is tried once more between two pulses.
+/* Each single bit of a reader and of a timekeeper, flipped by something else than a call: fresh, with
+ * half a frame, with frames before their edge, in holdover. A flipped number must be refused at each
+ * tick behind it, whatever pulses come, and behind a restart; by waits and by stamps too. A flipped
+ * bit of padding must change nothing that is told. That a changed number is told in any state is
+ * proved; this is about the layout of the structures.
  *
  * The word, if there is one, is to try each so-many-th bit alone. It prints how many were tried. */
 #include "irig.h"
 
 #include <stdio.h>
 #include <stdlib.h>
-#include <string.h>
 
-enum { READER_BITS = 8 * sizeof(irig_reader), ELEMENTS = 100, TICK = ELEMENTS, AHEAD = 4 };
+enum { ELEMENTS = 100, SECONDS = 6, MOST = sizeof(irig_timekeeper) };
 
-/* How a reader is set up, what it hears, and when a bit flips: at an edge, counted from 0, before
- * the pulse of an element; TICK is behind the last pulse. */
-typedef struct story {
-    const char *name;
-    irig_setup setup;
-    irig_table table;
-    irig_utc first; /* its first frame is of this second */
-    uint8_t mark;   /* what comes at the end of its day, and is told in the last minute */
-    int lost_from;  /* the first edge without frames, until the flip; 0 none */
-    int edge;       /* the flip */
-    int element;
-    bool by_lines; /* pulses come by irig_reader_hear */
-} story;
-
-#define NOON {9696, 43198}
-
-static const story stories[] = {
-    {.name = "fresh", .setup = {.lock_after = 1, .holdover = 9}, .first = NOON},
-    {.name = "acquiring", .setup = {.lock_after = 3, .holdover = 9}, .first = NOON, .edge = 1},
-    {.name = "locked, ports empty", .setup = {.lock_after = 2, .holdover = 2},
-     .first = {9498, 86396}, .mark = IRIG_MARK_NO_LEAP, .edge = 3},
-    {.name = "locked, half a frame",
-     .setup = {.lock_after = 2, .holdover = 9, .parity = IRIG_PARITY_ODD}, .first = NOON,
-     .edge = 3, .element = 50, .by_lines = true},
-    {.name = "locked, before the tick", .setup = {.lock_after = 2, .holdover = 9}, .first = NOON,
-     .edge = 3, .element = TICK},
-    {.name = "in holdover", .setup = {.lock_after = 1, .holdover = 4}, .first = NOON,
-     .lost_from = 2, .edge = 4},
-    {.name = "a leap that was heard", .setup = {.lock_after = 2, .holdover = 9},
-     .first = {6209, 86395}, .mark = IRIG_MARK_INSERT, .edge = 3, .element = 20},
-    {.name = "a deletion in holdover", .setup = {.lock_after = 2, .holdover = 9},
-     .first = {6209, 86394}, .mark = IRIG_MARK_DELETE, .lost_from = 2, .edge = 3},
-    {.name = "over a leap by a table",
-     .setup = {.lock_after = 2, .holdover = 99, .sbs = IRIG_SBS_IGNORE},
-     .table = {.until = 6300, .len = 2, .leaps = {{5659, 0}, {6209, 0}}}, .first = {6209, 86336},
-     .mark = IRIG_MARK_INSERT, .lost_from = 4, .edge = 62},
-    {.name = "five ports",
-     .setup = {.lock_after = 2, .holdover = 9, .redundancy = IRIG_PORTS_FIVE}, .first = NOON,
-     .edge = 2, .element = 70},
-    {.name = "one port", .setup = {.lock_after = 2, .holdover = 9, .redundancy = IRIG_PORTS_ONE},
-     .first = NOON, .edge = 3, .element = 50, .by_lines = true},
-};
-enum { STORIES = sizeof stories / sizeof *stories };
-
-/* A reader with its lines, and where they are. */
-typedef struct device {
+typedef union device {
     irig_reader reader;
-    irig_sync lines[5];
-    irig_utc second; /* of the frame that comes */
-    int edge;
-    int element;
+    irig_timekeeper timekeeper;
+    unsigned char bytes[MOST];
 } device;
 
-/* What a tick says. */
-typedef struct said {
-    uint32_t answer;
-    irig_report report;
-} said;
+typedef struct kind {
+    const char *name;
+    size_t size;
+    int every, ahead; /* elements from tick to tick, and those that are played behind a flip */
+    void (*hear)(device *d, uint8_t line, uint32_t rise_us, uint32_t width_us);
+    bool (*tick)(device *d, uint32_t now_us, uint64_t *told); /* whether it is refused */
+    void (*restart)(device *d);
+    bool (*is_padding)(size_t byte);
+} kind;
 
-static const story *now; /* that which is played */
-static bool goes_on;     /* frames come behind the flip */
-static uint8_t frames[AHEAD][ELEMENTS]; /* those that come behind the flip */
+static const struct {
+    const char *name;
+    int element; /* before which the bit flips, counted from the first second on */
+} stories[] = {{"fresh", 0}, {"half a frame", 350}, {"frames before their edge", 400},
+               {"in holdover", 950}};
+enum { STORIES = sizeof stories / sizeof *stories };
+
+static const irig_setup setup = {.lock_after = 2, .holdover = 9};
+static const irig_table none;
+static uint32_t widths_us[SECONDS][ELEMENTS];
 static long tried, refused;
 
-static void fail(const char *what, int bit) {
-    printf("%s: %s: bit %d of byte %d\n", now->name, what, bit % 8, bit / 8);
-    exit(1);
+/* ---- readers */
+
+static void hear_reader(device *d, uint8_t port, uint32_t rise_us, uint32_t width_us) {
+    (void)rise_us;
+    irig_reader_pulse(&d->reader, port, width_us);
 }
 
-static uint8_t ports(void) {
-    static const uint8_t count[] = {3, 5, 1};
-    return count[now->setup.redundancy];
+static bool tick_reader(device *d, uint32_t now_us, uint64_t *told) {
+    irig_report report = {0};
+    (void)now_us;
+    if (irig_reader_tick(&d->reader, &report) == IRIG_FAULT_VALUE) return true;
+    *told = *told * 31 + report.announces + report.sod + report.cause + report.lock;
+    return false;
 }
 
-static void make_frame(const irig_utc *second, uint8_t symbols[ELEMENTS]) {
-    bool is_told = now->mark >= IRIG_MARK_INSERT && second->sod >= 86340 && second->day == 6209;
-    irig_control control = {.leap_pending = is_told,
-                            .leap_delete = is_told && now->mark == IRIG_MARK_DELETE};
-    if (irig_frame_of(second, 0, &control, now->setup.parity, symbols)) exit(2);
-}
+static void restart_reader(device *d) { irig_reader_restart(&d->reader); }
 
-static void pulse(device *d, uint8_t port, uint8_t symbol) {
-    uint32_t rise_us = (uint32_t)(d->edge * 1000000 + d->element * 10000);
-    if (now->by_lines)
-        irig_reader_hear(&d->reader, &d->lines[port], port, rise_us, irig_width_us(symbol));
-    else irig_reader_pulse(&d->reader, port, irig_width_us(symbol));
-}
-
-/* One pulse at each port, if any comes. */
-static void step(device *d, const uint8_t symbols[ELEMENTS]) {
-    if (symbols)
-        for (uint8_t port = 0; port < ports(); port++) pulse(d, port, symbols[d->element]);
-    d->element++;
-}
-
-static said tick(device *d) {
-    said says = {0};
-    says.answer = irig_reader_tick(&d->reader, &says.report);
-    if (irig_second_next(&d->second, now->mark, &d->second)) exit(2);
-    d->edge++;
-    d->element = 0;
-    return says;
-}
-
-/* Up to the flip. */
-static void begin(device *d) {
-    *d = (device){.second = now->first};
-    for (int line = 0; line < 5; line++) irig_sync_init(&d->lines[line]);
-    if (irig_reader_init(&d->reader, &now->setup, &now->table)) exit(2);
-    while (d->edge < now->edge || d->element < now->element) {
-        uint8_t symbols[ELEMENTS];
-        bool is_heard = now->lost_from == 0 || d->edge < now->lost_from;
-        int end = d->edge < now->edge ? TICK : now->element;
-        make_frame(&d->second, symbols);
-        while (d->element < end) step(d, is_heard ? symbols : NULL);
-        if (d->edge < now->edge) tick(d);
-    }
-}
-
-/* The frames of the edges behind the flip. */
-static void make_frames(const device *d) {
-    irig_utc second = d->second;
-    for (int ahead = 0; ahead < AHEAD; ahead++) {
-        make_frame(&second, frames[ahead]);
-        if (irig_second_next(&second, now->mark, &second)) exit(2);
-    }
-}
-
-/* Over an edge behind the flip. A frame that has begun goes on in any case. */
-static said over(device *d) {
-    int ahead = d->edge - now->edge;
-    bool has_begun = ahead == 0 && now->element > 0;
-    while (d->element < TICK) step(d, goes_on || has_begun ? frames[ahead] : NULL);
-    return tick(d);
-}
-
-/* But for the last byte, which belongs to no number. */
-static bool is_alike(const said *a, const said *b) {
-    return a->answer == b->answer &&
-           memcmp(&a->report, &b->report, offsetof(irig_report, dst) + 1) == 0;
-}
-
-/* Whether a byte of a reader belongs to no number. */
-static bool is_padding(size_t byte) {
+static bool is_padding_of_reader(size_t byte) {
     size_t state_at = offsetof(irig_reader, state), ports_at = offsetof(irig_reader, ports);
     size_t of_port = (byte - ports_at) % sizeof(irig_tally);
     if (byte < state_at) return byte >= 5 && byte < 8;
@@ -163,57 +65,109 @@ static bool is_padding(size_t byte) {
     return byte < offsetof(irig_reader, check) && (of_port == 6 || of_port == 7);
 }
 
-static void flip(irig_reader *reader, int bit) {
-    ((unsigned char *)reader)[bit / 8] ^= (unsigned char)(1 << bit % 8);
+/* ---- timekeepers */
+
+static void hear_timekeeper(device *d, uint8_t line, uint32_t rise_us, uint32_t width_us) {
+    irig_timekeeper_hear(&d->timekeeper, line, rise_us, width_us);
 }
 
-/* Goes on with a flipped bit, beside what is said without it. */
-static void go_on(device d, int bit, const said undisturbed[AHEAD]) {
-    bool is_number = !is_padding((size_t)bit / 8);
+static bool tick_timekeeper(device *d, uint32_t now_us, uint64_t *told) {
+    irig_second second = {0};
+    irig_stamp stamp;
+    if (irig_timekeeper_tick(&d->timekeeper, now_us, &second) == IRIG_FAULT_VALUE)
+        return irig_timekeeper_wait(&d->timekeeper, now_us) == 0 &&
+               irig_timekeeper_stamp(&d->timekeeper, now_us, &stamp) == IRIG_FAULT_VALUE;
+    *told = *told * 31 + second.is_told + second.edge_us + second.report.sod + second.report.cause;
+    return false;
+}
+
+static void restart_timekeeper(device *d) { irig_timekeeper_restart(&d->timekeeper); }
+
+static bool is_padding_of_timekeeper(size_t byte) {
+    static const size_t state_at = offsetof(irig_timekeeper, state);
+    static const size_t lines_at = offsetof(irig_timekeeper, lines);
+    static const size_t last_at = offsetof(irig_timekeeper, last);
+    size_t of_line = (byte - lines_at) % sizeof(irig_line);
+    size_t of_second = (byte - last_at) % sizeof(irig_announced);
+    if (byte < state_at) return byte >= 5 && byte < 8;
+    if (byte < lines_at) return byte == state_at + 3 || byte >= state_at + sizeof(irig_state);
+    if (byte < offsetof(irig_timekeeper, drift_us))
+        return of_line == 6 || of_line == 7 || of_line == 14 || of_line == 15 || of_line == 38 ||
+               of_line == 39 || of_line > 60;
+    if (byte < last_at) return byte > offsetof(irig_timekeeper, has_edge);
+    return byte < offsetof(irig_timekeeper, check) && of_second > 16;
+}
+
+static const kind kinds[] = {
+    {"reader", sizeof(irig_reader), ELEMENTS, 4 * ELEMENTS, hear_reader, tick_reader,
+     restart_reader, is_padding_of_reader},
+    {"timekeeper", sizeof(irig_timekeeper), 5, 120, hear_timekeeper, tick_timekeeper,
+     restart_timekeeper, is_padding_of_timekeeper},
+};
+enum { KINDS = sizeof kinds / sizeof *kinds };
+
+/* ---- flips */
+
+static void fail(const kind *of, int story, const char *what, int bit) {
+    printf("%s, %s: %s: bit %d of byte %d\n", of->name, stories[story].name, what, bit % 8, bit / 8);
+    exit(1);
+}
+
+/* Plays elements: one pulse on two of three lines, while they send, and a tick now and then. Answers
+ * how many ticks are refused. */
+static int play(const kind *of, device *d, int first, int end, uint64_t *told) {
+    int count = 0;
+    for (int element = first; element < end; element++) {
+        uint32_t rise_us = (uint32_t)(element * 10000);
+        for (uint8_t line = 0; line < 2 && element < SECONDS * ELEMENTS; line++)
+            of->hear(d, line, rise_us, widths_us[element / ELEMENTS][element % ELEMENTS]);
+        if (element % of->every == of->every - 1) count += of->tick(d, rise_us + 8000, told);
+    }
+    return count;
+}
+
+static void try_bit(const kind *of, int story, device d, int bit, uint64_t undisturbed) {
+    int first = stories[story].element, ticks = of->ahead / of->every;
+    uint64_t told = 0;
+    d.bytes[bit / 8] ^= (unsigned char)(1 << bit % 8);
+    int count = play(of, &d, first, first + of->ahead, &told);
     tried++;
-    refused += is_number;
-    for (int ahead = 0; ahead < AHEAD; ahead++) {
-        said says = over(&d);
-        const irig_report *is = &says.report, *was = &undisturbed[ahead].report;
-        if (is->announces && (!was->announces || is->day != was->day || is->sod != was->sod))
-            fail("another second", bit);
-        if (is_number && says.answer != IRIG_FAULT_VALUE) fail("not refused", bit);
-        if (!is_number && !is_alike(&says, &undisturbed[ahead])) fail("padding counts", bit);
+    if (of->is_padding((size_t)bit / 8)) {
+        if (count != 0 || told != undisturbed) fail(of, story, "padding counts", bit);
+        return;
     }
+    if (count != ticks) fail(of, story, "not refused", bit);
+    of->restart(&d);
+    if (!of->tick(&d, (uint32_t)(first + of->ahead) * 10000, &told))
+        fail(of, story, "healed by a restart", bit);
+    refused++;
 }
 
-static void try_story(int every) {
-    said undisturbed[AHEAD];
-    device at, d;
-    begin(&at);
-    make_frames(&at);
-    d = at;
-    for (int ahead = 0; ahead < AHEAD; ahead++) undisturbed[ahead] = over(&d);
-    for (int bit = 0; bit < READER_BITS; bit += every) {
-        d = at;
-        flip(&d.reader, bit);
-        go_on(d, bit, undisturbed);
-    }
-    /* Between two pulses of a frame that is heard behind the flip, if one is. */
-    for (int bit = 0; bit < READER_BITS; bit += every) {
-        int element = at.element + bit / every % (TICK - at.element + 1);
-        d = at;
-        while (d.element < element) step(&d, goes_on || at.element > 0 ? frames[0] : NULL);
-        flip(&d.reader, bit);
-        go_on(d, bit, undisturbed);
-    }
+static void try_story(const kind *of, int story, device at, int every) {
+    int first = stories[story].element;
+    uint64_t before = 0, undisturbed = 0;
+    if (play(of, &at, 0, first, &before)) exit(2);
+    device d = at;
+    if (play(of, &d, first, first + of->ahead, &undisturbed)) exit(2);
+    for (int bit = 0; bit < (int)(8 * of->size); bit += every)
+        try_bit(of, story, at, bit, undisturbed);
 }
 
 int main(int count, char **words) {
     int every = count > 1 ? atoi(words[1]) : 1;
+    irig_control control = {0};
+    device fresh[KINDS] = {0};
     if (every < 1) return 2;
-    for (int i = 0; i < STORIES; i++) {
-        now = &stories[i];
-        goes_on = false;
-        try_story(every);
-        goes_on = true;
-        try_story(every);
+    for (uint32_t second = 0; second < SECONDS; second++) {
+        irig_utc utc = {9696, 100 + second};
+        uint8_t symbols[ELEMENTS];
+        if (irig_frame_of(&utc, 0, &control, IRIG_PARITY_EVEN, symbols)) return 2;
+        irig_widths_us(symbols, widths_us[second]);
     }
+    if (irig_reader_init(&fresh[0].reader, &setup, &none)) return 2;
+    if (irig_timekeeper_init(&fresh[1].timekeeper, &setup, &none, 10)) return 2;
+    for (int story = 0; story < STORIES; story++)
+        for (int of = 0; of < KINDS; of++) try_story(&kinds[of], story, fresh[of], every);
     printf("%ld flipped bits tried, %ld of them in numbers and refused\n", tried, refused);
     return 0;
 }

@@ -52,18 +52,18 @@ uint8_t irig_run_shown(const uint8_t *text, size_t count, bool all, bool ports, 
 }
 
 uint8_t irig_run_entries(const uint8_t *text, size_t count, irig_entry *entries, size_t room,
-                         size_t *whole, irig_verdict *verdict, uint8_t *reason,
-                         size_t reason_room, irig_refusal *refusal) {
+                         size_t *whole, irig_verdict *verdict, uint8_t *reason, size_t reason_room,
+                         irig_refusal *refusal) {
     static const uint8_t refused = IRIG_RUN_NULL;
-    static irig_entry no_entries; /* never written */
     const uint8_t no_text = 0U;
+    irig_entry no_entry = {0};
     uint8_t no_reason = 0U;
     bool is_there = (whole != NULL) && (verdict != NULL) && (refusal != NULL) &&
-                    leads(text, count) && ((entries != NULL) || (room == 0U)) &&
-                    leads(reason, reason_room);
+                    leads(text, count) && leads(entries, room) && leads(reason, reason_room);
     return is_there ? irig_scene_c_run_entries((text != NULL) ? text : &no_text, count,
-                                               (entries != NULL) ? entries : &no_entries, room,
-                                               whole, verdict, (reason != NULL) ? reason : &no_reason,
+                                               (entries != NULL) ? entries : &no_entry, room,
+                                               whole, verdict,
+                                               (reason != NULL) ? reason : &no_reason,
                                                reason_room, refusal)
                     : refused;
 }

@@ -7,10 +7,10 @@
  * `memcpy`, `memmove` and `memset` of the C library and `__udivti3`, which compilers bring along.
  *
  * Pointers. `text` leads to `count` bytes that no other call writes meanwhile, `log` to `room`
- * bytes or `entries` to `room` entries, `reason` to `reason_room` bytes, `whole`, `verdict` and
- * `refusal` each to one object; no other call reads or writes these meanwhile, and none of them overlap. Of no bytes a
- * pointer may be null; any other null pointer is answered with IRIG_RUN_NULL. What the text says is
- * no duty of the caller: any bytes are a scenario, or are refused.
+ * bytes, `entries` to `room` entries, `reason` to `reason_room` bytes, `whole`, `verdict` and
+ * `refusal` each to one object; no other call reads or writes these meanwhile, and none of them
+ * overlap. Of no bytes a pointer may be null; any other null pointer is answered with IRIG_RUN_NULL.
+ * What the text says is no duty of the caller: any bytes are a scenario, or are refused.
  *
  * Threads. Calls on different objects may run at the same time, as `malloc` lets them. A line whose
  * JSON is nested as deep as is read, 127, takes up to 170 KB of stack: give a thread 256 KB.

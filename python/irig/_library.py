@@ -123,6 +123,18 @@ class Refusal(Structure):
     ]
 
 
+class Entry(Structure):
+    _fields_ = [
+        *_of(c_uint64, "edge line"), ("truth", Claim), ("told", Told * 5),
+        *_of(c_uint32, "lock_count day sod"),
+        *_of(c_uint8, "reader announces lock cause ports has_truth"),
+    ]
+
+
+class Verdict(Structure):
+    _fields_ = [("edge", c_uint64), *_of(c_uint8, "kind reader")]
+
+
 Symbols = c_uint8 * 100
 Text = ctypes.c_char * 20
 
@@ -179,8 +191,8 @@ CALLS: Dict[str, Tuple[Any, ...]] = {
     "timekeeper_wait": (IRIG, c_uint32, _to(Timekeeper), c_uint32),
     "timekeeper_stamp": (IRIG, c_uint32, _to(Timekeeper), c_uint32, _to(Stamp)),
     "timekeeper_restart": (IRIG, None, _to(Timekeeper)),
-    "run_shown": (
-        SCENE, c_uint8, c_char_p, c_size_t, c_bool, c_bool, _to(c_uint8), c_size_t, _to(c_size_t),
+    "run_entries": (
+        SCENE, c_uint8, c_char_p, c_size_t, _to(Entry), c_size_t, _to(c_size_t), _to(Verdict),
         _to(c_uint8), c_size_t, _to(Refusal),
     ),
 }

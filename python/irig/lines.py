@@ -2,22 +2,48 @@
 from __future__ import annotations
 
 import ctypes
-from typing import Tuple
+from typing import Any, Tuple
 
 from . import _library as c
 from .faults import Fault, VALUE, whole, within
 from .frames import MOST
 
-# What the state of a line begins with: another form of its numbers is another word.
-FORM = "irig sync 1"
+class Held:
+    """What is its numbers and no more: it can be copied and pickled, and goes on from there. A copy is
+    equal to it, until one of them hears something."""
+
+    _what: str  # as messages call it
+    _form: str  # what its state begins with: another form of its numbers is another word
+    _kind: Any
+    _held: Any
+
+    def _refuse(self, held: Any) -> None:
+        """Refuses numbers that something else has changed; they are a copy."""
+
+    def __eq__(self, other: object) -> bool:
+        """Whether it has the same numbers, and so goes on alike."""
+        if not isinstance(other, type(self)):
+            return NotImplemented
+        return c.same(self._held, other._held)
+
+    def __getstate__(self) -> Tuple[str, bytes]:
+        return self._form, bytes(self._held)
+
+    def __setstate__(self, state: Tuple[str, bytes]) -> None:
+        form, numbers = state
+        if form != self._form or len(numbers) != ctypes.sizeof(self._kind):
+            raise Fault(VALUE, reason=f"these are the numbers of a {self._what} of another version")
+        self._refuse(self._kind.from_buffer_copy(numbers))
+        self._held = self._kind.from_buffer_copy(numbers)
 
 
-class Sync:
-    """Where a line stands in its frame (docs/WIRES.md). It is its numbers and no more: it can be
-    copied and pickled, and goes on from there.
+class Sync(Held):
+    """Where a line stands in its frame (docs/WIRES.md).
 
     place: of the last pulse in its frame, 1 to 100, or 0 out of step
     """
+
+    _what, _form, _kind = "line", "irig sync 1", c.Sync
 
     def __init__(self) -> None:
         self._held = c.Sync()
@@ -42,18 +68,3 @@ class Sync:
 
     def __repr__(self) -> str:
         return f"Sync(place={self.place})"
-
-    def __eq__(self, other: object) -> bool:
-        """Whether it is a line with the same numbers, which goes on alike."""
-        if not isinstance(other, Sync):
-            return NotImplemented
-        return c.same(self._held, other._held)
-
-    def __getstate__(self) -> Tuple[str, bytes]:
-        return FORM, bytes(self._held)
-
-    def __setstate__(self, state: Tuple[str, bytes]) -> None:
-        form, numbers = state
-        if form != FORM or len(numbers) != ctypes.sizeof(c.Sync):
-            raise Fault(VALUE, reason="these are the numbers of a line of another version")
-        self._held = c.Sync.from_buffer_copy(numbers)

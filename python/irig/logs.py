@@ -113,6 +113,7 @@ class Ports(Said):
 
 
 Entry = Union[Announced, Silent, Ports]
+ENTRIES = Announced, Silent, Ports
 
 
 @dataclass(frozen=True)
@@ -348,14 +349,14 @@ def ticks_of(lines: Iterable[Union[Entry, LastLine]]) -> Iterator[Tick]:
 
 @dataclass(frozen=True, repr=False)
 class Log(Sequence[Entry]):
-    """The log of a scenario: its entries, in order.
+    """The log of a scenario.
 
-    text: its lines, as the program prints them; of a run that was refused all but the last
+    entries: its lines but the last, in order: `Announced`, `Silent` and `Ports`
     verdict: what its last line says; None of a run that was refused
     scenario: the scenario's bytes, if they are known
     """
 
-    text: str
+    entries: Tuple[Entry, ...]
     verdict: Optional[Verdict]
     scenario: Optional[bytes] = field(default=None, compare=False)
 
@@ -365,11 +366,10 @@ class Log(Sequence[Entry]):
         return self.verdict is not None and self.verdict.kept
 
     @cached_property
-    def entries(self) -> Tuple[Entry, ...]:
-        """Its lines but the last, in order: `Announced`, `Silent` and `Ports`. A ValueError if one
-        is none."""
-        lines = read_lines(self.text.split("\n"))
-        return tuple(line for line in lines if isinstance(line, (Announced, Silent, Ports)))
+    def text(self) -> str:
+        """Its lines, as the program prints them; of a run that was refused all but the last."""
+        lines = (*self.entries, self.verdict) if self.verdict else self.entries
+        return "".join(f"{line}\n" for line in lines)
 
     @property
     def ports(self) -> Tuple[Ports, ...]:
@@ -418,8 +418,7 @@ class Log(Sequence[Entry]):
         return iter(self.entries)
 
     def __repr__(self) -> str:
-        count = self.text.count("\n") - (self.verdict is not None)
-        return f"<Log: {count} entries, {self.verdict or 'refused'}>"
+        return f"<Log: {len(self)} entries, {self.verdict or 'refused'}>"
 
 
 def _rows(ticks: Iterable[Tick]) -> Iterator[Dict[str, Any]]:
@@ -509,14 +508,11 @@ def read_log(text: str, scenario: Union[str, bytes, None] = None) -> Log:
 
     scenario: the text of its scenario, if it is at hand; `Log.blame` then knows what is true
     """
-    if not text.endswith("\n"):
-        raise ValueError("this is no whole log: its last line has no end")
+    *entries, last = [None, *read_lines(text.split("\n"))] if text.endswith("\n") else [None]
+    if last is None or isinstance(last, ENTRIES):
+        raise ValueError("this is no whole log: it has no last line, or that has no end")
     held = scenario.encode(errors="surrogatepass") if isinstance(scenario, str) else scenario
-    before, _, last = text[:-1].rpartition("\n")
-    said = last_line(last)
-    if said is None:
-        raise ValueError(f"this is no last line of a log, did the run end? {last!r}")
-    if isinstance(said, RefusedLine):
-        log = Log(before + "\n" if before else "", None, held)
-        raise Refused(said.line, said.number, said.name, log)
-    return Log(text, said, held)
+    said = tuple(entry for entry in entries if isinstance(entry, ENTRIES))
+    if isinstance(last, RefusedLine):
+        raise Refused(last.line, last.number, last.name, Log(said, None, held))
+    return Log(said, last, held)

@@ -4,17 +4,15 @@ from __future__ import annotations
 import ctypes
 from array import array
 from dataclasses import dataclass
-from typing import Any, Iterable, Literal, Optional, Tuple, Union, overload
+from typing import Iterable, Literal, Optional, Tuple, Union, overload
 
 from . import _library as c
 from .faults import MEANINGS, VALUE, Detail, Fault, check, detail_of, whole, within, words_of
 from .frames import MOST, Frame, claim_held, widths
+from .lines import Held
 from .logs import lock_text
 from .seconds import Claim, Day, Leap, Second, day_number
 from .words import CAUSES, LOCKS, Cause, Kind, Lock, Parity, Sbs, Sense, number_of
-
-# What a reader's state begins with: another form of its numbers is another word.
-FORM = "irig reader 3"
 
 PORTS = (3, 5, 1)  # how many ports, by the number that C has for it
 
@@ -174,20 +172,15 @@ def table_of(until: Optional[Day], leaps: Iterable[Leap]) -> c.Table:
     return table
 
 
-def _fresh_lines() -> "ctypes.Array[c.Sync]":
-    """Where each of five lines stands on which nothing came."""
-    lines = (c.Sync * 5)()
-    for line in lines:
-        c.sync_init(line)
-    return lines
+class Hearing(ctypes.Structure):
+    """A reader, and where each of five lines stands."""
+
+    _anonymous_ = ("reader",)
+    _fields_ = [("reader", c.Reader), ("lines", c.Sync * 5)]
 
 
-class Ruled:
-    """A device that goes by the reader's rule. It is its numbers and no more: it can be copied and
-    pickled, and goes on from there; a copy is equal to it, until one of them hears something."""
-
-    _what = "reader"  # as messages call it
-    _held: Any
+class Ruled(Held):
+    """A device that goes by the reader's rule."""
 
     @property
     def lock_after(self) -> int:
@@ -227,6 +220,8 @@ class Reader(Ruled):
     leaps: the leap seconds that it knows beforehand, 64 at most
     """
 
+    _what, _form, _kind = "reader", "irig reader 3", Hearing
+
     def __init__(
         self,
         lock_after: int = 2,
@@ -240,15 +235,16 @@ class Reader(Ruled):
         leaps: Iterable[Leap] = (),
     ) -> None:
         setup = setup_of(lock_after, holdover, ports, parity, sense, sbs)
-        self._held = c.Reader()
-        self._lines = _fresh_lines()
-        check(c.reader_init(self._held, setup, table_of(until, leaps)))
+        self._held = Hearing()
+        for line in self._held.lines:
+            c.sync_init(line)
+        check(c.reader_init(self._held.reader, setup, table_of(until, leaps)))
 
     def pulse(self, port: int, width_us: int) -> None:
         """A pulse at a port, 0 to 2 of three, 0 to 4 of five, 0 of one, so many microseconds
         wide."""
         width = within("width_us", width_us, 0, MOST)
-        check(c.reader_pulse(self._held, self._port(port), width))
+        check(c.reader_pulse(self._held.reader, self._port(port), width))
 
     def pulses(self, port: int, widths_us: Iterable[int]) -> None:
         """Pulses at a port, one after another: the same as `pulse` for each, and faster."""
@@ -262,7 +258,7 @@ class Reader(Ruled):
             raise
         count = len(held)
         first = (ctypes.c_uint32 * count).from_buffer(held) if count else (ctypes.c_uint32 * 1)()
-        check(c.reader_pulses(self._held, number, first, count))
+        check(c.reader_pulses(self._held.reader, number, first, count))
 
     @overload
     def hear(self, port: int, frame: Frame) -> None: ...
@@ -296,27 +292,27 @@ class Reader(Ruled):
         if width_us is None or not isinstance(rise, int):
             raise TypeError("hear takes a port, rise_us and width_us, all of them whole numbers")
         number, width = self._port(port), within("width_us", width_us, 0, MOST)
-        line = self._lines[number]
-        return int(c.reader_hear(self._held, line, number, rise & MOST, width))
+        line = self._held.lines[number]
+        return int(c.reader_hear(self._held.reader, line, number, rise & MOST, width))
 
     def idle(self, now_us: int) -> None:
         """Puts each line out of step whose last pulse rose a second ago or earlier. To be called at
         each edge if pulses come by `hear(port, rise_us, width_us)`, and at least once in half an
         hour."""
         now = whole("now_us", now_us) & MOST
-        for line in self._lines:
+        for line in self._held.lines:
             c.sync_idle(line, now)
 
     def tick(self) -> Report:
         """The edge: what the reader says by what its ports heard since the last. They are then
         empty. A reader whose numbers something else has changed is refused, at this edge and at
         each later one."""
-        return report_held(_tick(self._held))
+        return report_held(_tick(self._held.reader))
 
     def port(self, port: int) -> Told:
         """What a port would tell if the edge came now."""
         held = c.Told()
-        check(c.reader_port(self._held, self._port(port), held))
+        check(c.reader_port(self._held.reader, self._port(port), held))
         return _told_held(held)
 
     def _port(self, port: int) -> int:
@@ -324,28 +320,13 @@ class Reader(Ruled):
 
     def restart(self) -> None:
         """Empties the ports, and forgets what was voted. A reader that a tick refuses stays so."""
-        c.reader_restart(self._held)
+        c.reader_restart(self._held.reader)
 
-    def __eq__(self, other: object) -> bool:
-        """Whether it is a reader with the same numbers, which goes on alike."""
-        if not isinstance(other, Reader):
-            return NotImplemented
-        return c.same(self._held, other._held) and c.same(self._lines, other._lines)
+    def _refuse(self, held: Hearing) -> None:
+        _tick(held.reader)
 
     def __repr__(self) -> str:
         return f"Reader(lock_after={self.lock_after}, holdover={self.holdover}, ports={self.ports})"
-
-    def __getstate__(self) -> Tuple[str, bytes]:
-        return FORM, bytes(self._held) + bytes(self._lines)
-
-    def __setstate__(self, state: Tuple[str, bytes]) -> None:
-        form, numbers = state
-        lines, size = c.Sync * 5, ctypes.sizeof(c.Reader)
-        if form != FORM or len(numbers) != size + ctypes.sizeof(lines):
-            raise Fault(VALUE, reason="these are the numbers of a reader of another version")
-        _tick(c.Reader.from_buffer_copy(numbers))  # so that it is refused here, if at all
-        self._held = c.Reader.from_buffer_copy(numbers)
-        self._lines = lines.from_buffer_copy(numbers, size)
 
 
 def read(

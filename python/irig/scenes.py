@@ -4,15 +4,20 @@ from __future__ import annotations
 import ctypes
 import mmap
 import os
+from itertools import islice
 from pathlib import Path
-from typing import NamedTuple, Optional, Union
+from typing import Iterator, NamedTuple, Optional, Sequence, Union
 
 from . import _library as c
-from .logs import Log, Refused, read_log
-from .scenarios import Scenario
+from .faults import MEANINGS, detail_of, words_of
+from .logs import Announced, Entry, Log, Ports, PremiseBroken, PremisesKept, Refused, Silent
+from .logs import TableBroken, Verdict
+from .scenarios import Scenario, plant_in
+from .seconds import Second
+from .words import CAUSES, LOCKS, MARKS
 
-# Room for the log at first: pages that are not written cost nothing.
-ROOM = 1 << 24
+# Room for entries at first: pages that are not written cost nothing.
+ROOM = 1 << 18
 REASON_ROOM = 1 << 12
 
 DONE, REFUSED = 0, 3
@@ -21,27 +26,26 @@ Source = Union[str, bytes, "os.PathLike[str]", Scenario]
 
 
 class _Ran(NamedTuple):
-    """What a run answers: its status, the length of its log, as much of it as there was room for, and
-    of a refused line the program's words and where in them is what."""
+    """What a run answers: its status, how many entries it has, as many of them as there was room for,
+    and its verdict; of a refused line the program's words and where in them is what."""
 
     status: int
     whole: int
-    log: bytes
+    entries: "ctypes.Array[c.Entry]"
+    verdict: c.Verdict
     reason: bytes
     refusal: c.Refusal
 
 
-def _run(text: bytes, all: bool, ports: bool, room: int, reason_room: int) -> _Ran:
+def _run(text: bytes, room: int, reason_room: int) -> _Ran:
     """One call of the library."""
-    memory, whole = mmap.mmap(-1, room), ctypes.c_size_t()
-    log = ctypes.c_uint8.from_buffer(memory)
+    memory, whole = mmap.mmap(-1, room * ctypes.sizeof(c.Entry)), ctypes.c_size_t()
+    entries, verdict = (c.Entry * room).from_buffer(memory), c.Verdict()
     reason, refusal = (ctypes.c_uint8 * reason_room)(), c.Refusal()
-    status = c.run_shown(
-        text, len(text), all, ports, log, room, whole, reason, len(reason), refusal
+    status = c.run_entries(
+        text, len(text), entries, room, whole, verdict, reason, len(reason), refusal
     )
-    return _Ran(
-        status, whole.value, memory[: whole.value], bytes(reason[: refusal.whole]), refusal
-    )
+    return _Ran(status, whole.value, entries, verdict, bytes(reason[: refusal.whole]), refusal)
 
 
 def run(source: Source, all: bool = False, ports: bool = False) -> Log:
@@ -56,17 +60,51 @@ def run(source: Source, all: bool = False, ports: bool = False) -> Log:
     is out.
     """
     text = _text_of(source)
-    ran = _run(text, all, ports, ROOM, REASON_ROOM)
+    ran = _run(text, ROOM, REASON_ROOM)
     is_cut = ran.whole > ROOM or ran.refusal.whole > REASON_ROOM
     if ran.status in (DONE, REFUSED) and is_cut:
-        rooms = max(ran.whole, ROOM), max(ran.refusal.whole, REASON_ROOM)
-        ran = _run(text, all, ports, *rooms)
+        ran = _run(text, max(ran.whole, ROOM), max(ran.refusal.whole, REASON_ROOM))
     if ran.status not in (DONE, REFUSED):
         raise MemoryError("no memory for the run of a scenario")
-    try:
-        return read_log(ran.log.decode(), text)
-    except Refused as refused:
-        raise _explained(refused, ran) from None
+    plant = plant_in(text)
+    names = plant.readers if plant else ()
+    log = Log(tuple(_entries(ran, names, all, ports)), _verdict(ran.verdict, names), text)
+    if ran.status == REFUSED:
+        raise _explained(ran, log)
+    return log
+
+
+def _entries(ran: _Ran, names: Sequence[str], all: bool, ports: bool) -> Iterator[Entry]:
+    """What a log says."""
+    for held in islice(ran.entries, ran.whole):
+        at = held.edge, names[held.reader]
+        stood = LOCKS[held.lock], held.lock_count, CAUSES[held.cause]
+        if held.announces:
+            yield Announced(*at, Second(held.day, held.sod), *stood)
+        elif all:
+            yield Silent(*at, *stood)
+        if ports:
+            truth = held.truth if held.has_truth else None
+            yield Ports(*at, tuple(_word(told, truth) for told in held.told[: held.ports]))
+
+
+def _word(told: c.Told, truth: Optional[c.Claim]) -> str:
+    """What a port told beside a true claim, as a log has it."""
+    if told.kind < 2:
+        return f"fault:{words_of(*detail_of(told.fault)).replace(' ', ':')}" if told.kind else "silence"
+    if told.kind == 2:
+        return f"poor:{told.quality}"
+    if not truth or not c.same(told.claim.at, truth.at):
+        return str(Second(told.claim.at.day, told.claim.at.sod))
+    return "ok" if told.claim.mark == truth.mark else str(MARKS[told.claim.mark])
+
+
+def _verdict(held: c.Verdict, names: Sequence[str]) -> Optional[Verdict]:
+    """The last line of a log, if it is no refusal."""
+    if held.kind < 2:
+        return PremisesKept() if held.kind else None
+    name = names[held.reader]
+    return PremiseBroken(held.edge, name) if held.kind == 2 else TableBroken(name)
 
 
 def _text_of(source: Source) -> bytes:
@@ -82,15 +120,14 @@ def _text_of(source: Source) -> bytes:
     return bytes(memoryview(source))
 
 
-def _explained(refused: Refused, ran: _Ran) -> Refused:
+def _explained(ran: _Ran, log: Log) -> Refused:
     """A refusal with the program's words, and what they say stands where."""
 
     def part(span: c.Span) -> Optional[str]:
         return ran.reason[span.start : span.end].decode(errors="replace") or None
 
-    spans = ran.refusal
+    why = ran.refusal
     return Refused(
-        refused.line, refused.number, refused.name, refused.log,
-        ran.reason.decode(errors="replace") or None,
-        part(spans.place), part(spans.key), part(spans.value), part(spans.allowed),
+        why.line, why.number, MEANINGS[why.number].name, log, ran.reason.decode(errors="replace") or None,
+        part(why.place), part(why.key), part(why.value), part(why.allowed),
     )

@@ -1,19 +1,15 @@
 """Timekeepers: devices that keep time by lines and by a counter of their own."""
 from __future__ import annotations
 
-import ctypes
 from dataclasses import dataclass
-from typing import Iterable, Literal, Optional, Tuple
+from typing import Iterable, Literal, Optional
 
 from . import _library as c
-from .faults import VALUE, Fault, check, whole, within
+from .faults import check, whole, within
 from .frames import MOST
 from .readers import Report, Ruled, changed, report_held, setup_of, table_of
 from .seconds import Day, Leap, Second
 from .words import Parity, Sbs, Sense
-
-# What a timekeeper's state begins with: another form of its numbers is another word.
-FORM = "irig timekeeper 1"
 
 
 @dataclass(frozen=True)
@@ -62,11 +58,6 @@ def _tick(held: c.Timekeeper, now_us: int) -> c.Second:
     return second
 
 
-def _refuse_changed(held: c.Timekeeper) -> None:
-    """Refuses what a tick would refuse, and changes nothing."""
-    _tick(c.Timekeeper.from_buffer_copy(held), 0)
-
-
 class Timekeeper(Ruled):
     """A device that hears lines by its own free-running counter of microseconds, and says which UTC
     second begins at which count (docs/WIRES.md). Of each time that it is told the lowest 32 bits
@@ -85,7 +76,7 @@ class Timekeeper(Ruled):
     What else it takes is what a `Reader` takes, and a port is a line.
     """
 
-    _what = "timekeeper"
+    _what, _form, _kind = "timekeeper", "irig timekeeper 1", c.Timekeeper
 
     def __init__(
         self,
@@ -135,7 +126,7 @@ class Timekeeper(Ruled):
         more than a second and the error of the edge. What a tick would refuse is refused."""
         held = c.Stamp()
         if c.timekeeper_stamp(self._held, _time("time_us", time_us), held):
-            _refuse_changed(self._held)
+            self._refuse(c.Timekeeper.from_buffer_copy(self._held))
             return None
         return Stamp(Second(held.day, held.sod), held.offset_us, held.bound_us)
 
@@ -148,25 +139,11 @@ class Timekeeper(Ruled):
         """The most by which its counter is wrong, in microseconds a second."""
         return int(self._held.drift_us)
 
-    def __eq__(self, other: object) -> bool:
-        """Whether it is a timekeeper with the same numbers, which goes on alike."""
-        if not isinstance(other, Timekeeper):
-            return NotImplemented
-        return c.same(self._held, other._held)
+    def _refuse(self, held: c.Timekeeper) -> None:
+        _tick(held, 0)
 
     def __repr__(self) -> str:
         return (
             f"Timekeeper(lock_after={self.lock_after}, holdover={self.holdover}, "
             f"drift_us={self.drift_us}, ports={self.ports})"
         )
-
-    def __getstate__(self) -> Tuple[str, bytes]:
-        return FORM, bytes(self._held)
-
-    def __setstate__(self, state: Tuple[str, bytes]) -> None:
-        form, numbers = state
-        if form != FORM or len(numbers) != ctypes.sizeof(c.Timekeeper):
-            raise Fault(VALUE, reason="these are the numbers of a timekeeper of another version")
-        held = c.Timekeeper.from_buffer_copy(numbers)
-        _refuse_changed(held)
-        self._held = held

@@ -7,6 +7,7 @@ import subprocess
 import tempfile
 import unittest
 from pathlib import Path
+from typing import Any
 
 from irig import _library
 from program import ROOT
@@ -15,7 +16,7 @@ STRUCTURES = {
     f"irig_{name.lower()}": kind for name, kind in vars(_library).items()
     if isinstance(kind, type) and issubclass(kind, ctypes.Structure) and kind is not ctypes.Structure
 }
-UNUSED = {"irig_edges", "irig_frame_options"}
+UNUSED = {"irig_frame_options"}
 
 
 def laid_out_by_c() -> list[str]:
@@ -59,6 +60,38 @@ class Layout(unittest.TestCase):
         }
         here = {name: [field for field, *_ in one._fields_] for name, one in STRUCTURES.items()}
         self.assertEqual({name: fields[name] for name in fields.keys() - UNUSED}, here)
+
+
+POINTER = ctypes.c_void_p
+
+
+def as_passed(kind: Any) -> Any:
+    """A number as itself, all else as a pointer."""
+    is_number = issubclass(kind, ctypes._SimpleCData) and kind is not ctypes.c_char_p
+    return kind if is_number else POINTER
+
+
+def address_of(library: str, name: str) -> int | None:
+    call = getattr(_library._loaded(library), f"irig_{name}")
+    return ctypes.cast(call, POINTER).value
+
+
+# What a call answers to a null pointer, if it is no fault.
+ANSWERS = {"has_parity": 0, "sync_pulse": 0, "timekeeper_wait": 0, "reader_hear": 255, "timekeeper_hear": 255}
+
+
+class Null(unittest.TestCase):
+    def test_each_pointer(self) -> None:
+        """One of them null: it is answered, or nothing happens. The others lead to zeros."""
+        for name, (library, answer, *kinds) in _library.CALLS.items():
+            call = ctypes.CFUNCTYPE(answer, *map(as_passed, kinds))(address_of(library, name))
+            words = [ctypes.create_string_buffer(2000) if as_passed(kind) is POINTER else 1 for kind in kinds]
+            addresses = [ctypes.addressof(word) if isinstance(word, ctypes.Array) else word for word in words]
+            for place in (n for n, kind in enumerate(kinds) if as_passed(kind) is POINTER):
+                with self.subTest(name, place=place):
+                    answered = call(*addresses[:place], None, *addresses[place + 1 :])
+                    fault = None if answer is None else 2 if library == _library.SCENE else 26
+                    self.assertEqual(answered, ANSWERS.get(name, fault))
 
 
 if __name__ == "__main__":

@@ -7,7 +7,7 @@ import unittest
 from typing import Iterator
 
 import irig
-from irig import Reader, Sync
+from irig import Reader, Sync, Timekeeper
 
 ELEMENT_US = 10_000
 WRAP = 1 << 32
@@ -37,17 +37,6 @@ class Lines(unittest.TestCase):
             for now_us in idles:
                 sync.idle(now_us)
             self.assertEqual(sync.pulse(WRAP + ELEMENT_US, 2000), place)
-
-    def test_copies_go_on_alone(self) -> None:
-        sync = Sync()
-        sync.pulse(0, 8000)
-        for twin in (copy.copy(sync), copy.deepcopy(sync), pickle.loads(pickle.dumps(sync))):
-            self.assertEqual(twin, sync)
-            self.assertEqual(twin.pulse(ELEMENT_US, 2000), 2)
-            self.assertEqual(repr(sync), "Sync(place=1)")
-        form, numbers = sync.__getstate__()
-        self.assertRaises(irig.Fault, sync.__setstate__, ("another", numbers))
-        self.assertRaises(irig.Fault, sync.__setstate__, (form, numbers[:-1]))
 
     def test_what_is_no_number(self) -> None:
         self.assertRaisesRegex(TypeError, "rise_us is '5'; a whole number", Sync().pulse, "5", 2000)
@@ -84,19 +73,36 @@ class Hearing(unittest.TestCase):
         self.assertRaises(TypeError, Sync().pulse, 0.5, 8000)
         self.assertEqual(Reader().hear(0, rise_us=5, width_us=8000), 1)
 
-    def test_copies_keep_their_lines(self) -> None:
-        reader = Reader()
-        for pulse in list(pulses(FRAME, 0))[:60]:
-            reader.hear(1, *pulse)
-        for twin in (copy.copy(reader), pickle.loads(pickle.dumps(reader))):
-            self.assertEqual(twin.hear(1, 60 * ELEMENT_US, 2000), 61)
-
     def test_one_line(self) -> None:
         reader = Reader(lock_after=1, ports=1)
         for pulse in pulses(FRAME, 0):
             reader.hear(0, *pulse)
         self.assertRaises(irig.Fault, reader.hear, 1, 0, 8000)
         self.assertEqual(str(reader.tick()), "2017-01-01T00:00:00Z locked voted")
+
+
+class Copies(unittest.TestCase):
+    """A reader, a timekeeper and a line are their numbers, and go on alone."""
+
+    def test_each(self) -> None:
+        for made in (lambda: Reader(ports=1), lambda: Timekeeper(drift_us=10), Sync):
+            held = made()
+            hear = Sync.pulse if isinstance(held, Sync) else lambda of, *pulse: of.hear(0, *pulse)
+            for pulse in list(pulses(FRAME, 0))[:60]:
+                hear(held, *pulse)
+            form, numbers = held.__getstate__()
+            twins = [copy.copy(held), copy.deepcopy(held), pickle.loads(pickle.dumps(held))]
+            for twin in twins:
+                self.assertEqual((twin, repr(twin)), (held, repr(held)))
+                self.assertEqual(hear(twin, 60 * ELEMENT_US, 2000), 61)
+                self.assertNotEqual(twin, held)
+            self.assertNotEqual(held, "another")
+            for state in (("another", numbers), (form, numbers[:-1])):
+                self.assertRaises(irig.Fault, held.__setstate__, state)
+            if not isinstance(held, Sync):
+                for wrong in (bytes([255]) * len(numbers), bytes([numbers[0] ^ 1]) + numbers[1:]):
+                    self.assertRaises(irig.Fault, held.__setstate__, (form, wrong))
+            self.assertEqual(held.__getstate__(), (form, numbers))
 
 
 if __name__ == "__main__":

@@ -3,7 +3,6 @@ from __future__ import annotations
 
 import copy
 import json
-import pickle
 import random
 import unittest
 from datetime import date
@@ -270,46 +269,10 @@ class Calls(unittest.TestCase):
 
 
 class Copies(unittest.TestCase):
-    """A reader is its numbers."""
-
-    def locked(self) -> Reader:
-        """A reader that announced 12:00:02, and heard two ports since."""
-        reader = Reader()
-        for second in seconds_from(Second.read("2020-02-29T12:00:00Z"), 3):
-            for port in range(3):
-                reader.hear(port, irig.frame(second))
-            if second.sod < 43_202:
-                reader.tick()
-        return reader
-
-    def test_copies_go_on_alone(self) -> None:
-        reader = self.locked()
-        twins = [copy.copy(reader), copy.deepcopy(reader), pickle.loads(pickle.dumps(reader))]
-        self.assertEqual(twins, [reader] * 3)
-        reader.restart()
-        for twin in twins:
-            self.assertNotEqual(twin, reader)
-        self.assertNotEqual(Reader(2), Reader(3))
-        self.assertNotEqual(Reader(), "a reader")
-        self.assertIsNone(reader.tick().second)
-        for twin in twins:
-            self.assertEqual(str(twin.tick()), "2020-02-29T12:00:03Z locked voted")
-            self.assertEqual(repr(twin), repr(reader))
-
-    def test_numbers_of_no_reader(self) -> None:
-        form, numbers = self.locked().__getstate__()
-        reader = Reader()
-        for state in (
-            ("another", numbers), ("irig reader 2", numbers),
-            (form, numbers[:-1]),
-            (form, bytes([255]) * len(numbers)),
-            (form, bytes([numbers[0] ^ 1]) + numbers[1:]),
-        ):
-            self.assertRaises(irig.Fault, reader.__setstate__, state)
-        self.assertEqual(reader.__getstate__(), Reader().__getstate__())
+    """A reader is its numbers; test_lines.py has the rest."""
 
     def test_a_number_that_something_else_changed(self) -> None:
-        reader = self.locked()
+        reader = Reader()
         reader._held.state.age += 1
         for _ in range(2):
             self.assertRaisesRegex(irig.Fault, "something else", reader.tick)

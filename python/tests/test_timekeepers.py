@@ -2,7 +2,6 @@
 from __future__ import annotations
 
 import copy
-import pickle
 import unittest
 from dataclasses import replace
 
@@ -214,30 +213,6 @@ class Copies(unittest.TestCase):
             for line in range(3):
                 keeper.hear(line, 10_000 * element, width)
         return keeper
-
-    def test_copies_go_on_alone(self) -> None:
-        keeper = self.halfway()
-        twins = [copy.copy(keeper), copy.deepcopy(keeper), pickle.loads(pickle.dumps(keeper))]
-        self.assertEqual(twins, [keeper] * 3)
-        keeper.hear(0, 600_000, 2000)
-        for twin in twins:
-            self.assertNotEqual(twin, keeper)
-            self.assertEqual(repr(twin), repr(keeper))
-            self.assertEqual(twin.hear(1, 600_000, 2000), 61)
-        self.assertNotEqual(Timekeeper(drift_us=1), Timekeeper(drift_us=2))
-        self.assertNotEqual(Timekeeper(drift_us=1), irig.Reader())
-
-    def test_numbers_of_no_timekeeper(self) -> None:
-        form, numbers = self.halfway().__getstate__()
-        keeper = Timekeeper(drift_us=10)
-        for state in (
-            ("irig reader 3", numbers),
-            (form, numbers[:-1]),
-            (form, bytes([255]) * len(numbers)),
-            (form, bytes([numbers[0] ^ 1]) + numbers[1:]),
-        ):
-            self.assertRaises(irig.Fault, keeper.__setstate__, state)
-        self.assertEqual(keeper.__getstate__(), Timekeeper(drift_us=10).__getstate__())
 
     def test_a_number_that_something_else_changed(self) -> None:
         keeper = self.halfway()

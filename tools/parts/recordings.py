@@ -1,21 +1,21 @@
 """Recordings of lines, read as they stream: the names of the channels, and each change of a level.
 
     .vcd       value change dump: PulseView, sigrok-cli, GTKWave, logic analysers
-    .sr        a session of PulseView and sigrok-cli
     .csv       sigrok's own, a row a sample; with times in its first column, a row a change or a
                sample, of levels or of volts; or pulses, with the columns port, rise_us, width_us
-    .wav       a sound card's recording
+
+sigrok-cli makes a value change dump of a session of its own (.sr), and a table of volts of a sound
+(.wav). It reads tables too, but takes each row for a sample.
 """
 from __future__ import annotations
 
-import configparser
 import heapq
 import re
-import sys
+import subprocess
 import wave
-import zipfile
-from array import array
+from contextlib import contextmanager
 from dataclasses import dataclass
+from io import TextIOWrapper
 from itertools import chain
 from pathlib import Path
 from typing import Callable, Dict, Iterable, Iterator, List, Optional, Sequence, TextIO, Tuple
@@ -27,7 +27,7 @@ END = -1
 
 UNITS_US = {"s": 1e6, "ms": 1e3, "us": 1.0, "ns": 1e-3, "ps": 1e-6, "fs": 1e-9}
 HERTZ = {"hz": 1.0, "khz": 1e3, "mhz": 1e6, "ghz": 1e9}
-CHUNK = 1 << 20
+MADE = {".sr": "vcd", ".wav": "csv"}  # what sigrok-cli makes of others
 WORD = 1 << 32  # at which the times of a list of pulses wrap
 LONGEST_US = 1_000_000  # a pulse of a list stands within so much behind another that ended before
 PULSE = ["port", "rise_us", "width_us"]  # the columns of a list of pulses
@@ -44,20 +44,47 @@ class Recording:
 
 def open_recording(path: Path, threshold: Optional[float]) -> Recording:
     """Reads the head of a recording. The threshold, in volts, is for one of voltages."""
-    forms = {".vcd": _dump, ".sr": _session}
     ending = path.suffix.lower()
-    if ending in forms:
-        return forms[ending](path)
+    if ending in (".vcd", ".sr"):
+        return _dump(path)
     if ending == ".csv":
         return _table(path, threshold)
     if ending == ".wav":
-        return _sound(path, threshold or 0.0)
+        return _table(path, _of_sound(path, threshold or 0.0))
     raise ValueError("it ends with none of .vcd, .sr, .csv, .wav")
 
 
-def _opened(path: Path) -> TextIO:
-    """A text, whatever stands in its remarks."""
-    return open(path, encoding="utf-8-sig", errors="replace")
+def _of_sound(path: Path, threshold: float) -> float:
+    """The threshold by sigrok's numbers: of samples of 8 bits these are 0 to 1."""
+    try:
+        with wave.open(str(path)) as sound:
+            return (threshold + 1) / 2 if sound.getsampwidth() == 1 else threshold
+    except (wave.Error, EOFError) as error:
+        raise ValueError(f"it is no sound as whole numbers: {error}") from None
+
+
+@contextmanager
+def _opened(path: Path) -> Iterator[TextIO]:
+    """A text, whatever stands in its remarks. Of what is none sigrok-cli makes one."""
+    form = MADE.get(path.suffix.lower())
+    with open(path, encoding="utf-8-sig", errors="replace") as file:
+        if not form:
+            yield file
+            return
+    words = ["sigrok-cli", "-i", str(path.absolute()), "-O", form]
+    try:
+        made = subprocess.Popen(words, stdout=subprocess.PIPE, stderr=subprocess.DEVNULL)
+    except FileNotFoundError:
+        raise ValueError("sigrok-cli is missing, which reads it: apt-get install sigrok-cli") from None
+    with made, TextIOWrapper(made.stdout, errors="replace") as text:
+        try:
+            if not made.stdout.peek(1):
+                raise ValueError("sigrok-cli does not read it")
+            yield text
+            if not text.read(1) and made.wait():
+                raise ValueError("sigrok-cli broke off")
+        finally:
+            made.kill()
 
 
 def _rate_of(text: str) -> float:
@@ -121,96 +148,6 @@ def _dumped(path: Path, places: Dict[str, int], unit: float) -> Iterator[Change]
                 place, level = words[word]
                 yield time, place, level
     yield time, END, 0
-
-
-# ---- sessions of sigrok
-
-
-def _session(path: Path) -> Recording:
-    settings = configparser.ConfigParser(interpolation=None)
-    try:
-        with zipfile.ZipFile(path) as archive:
-            settings.read_string(archive.read("metadata").decode())
-    except (zipfile.BadZipFile, KeyError, configparser.Error):
-        raise ValueError("it is no session of sigrok") from None
-    device = dict(settings["device 1"]) if settings.has_section("device 1") else {}
-    if "unitsize" not in device or "samplerate" not in device:
-        raise ValueError("it has no logic channels with a rate of samples")
-    rate, size = _rate_of(device["samplerate"]), int(device["unitsize"])
-    found = {int(key[5:]): name for key, name in device.items() if re.fullmatch(r"probe\d+", key)}
-    bits = sorted(found)
-    stem = device.get("capturefile", "logic-1")
-
-    def changes(wanted: Sequence[int]) -> Iterator[Change]:
-        return _sampled(path, stem, size, rate, [bits[of] - 1 for of in wanted])
-
-    return Recording([found[bit] for bit in bits], changes)
-
-
-def _parts_of(archive: zipfile.ZipFile, stem: str) -> List[str]:
-    """The files of a session's samples in order: one, or some that are numbered."""
-    numbers = {}
-    for name in archive.namelist():
-        found = re.fullmatch(re.escape(stem) + r"(?:-(\d+))?", name)
-        if found:
-            numbers[int(found[1] or 0)] = name
-    return [numbers[number] for number in sorted(numbers)]
-
-
-def _chunks(path: Path, stem: str, size: int) -> Iterator[bytes]:
-    """The bytes of a session's samples, always of whole samples."""
-    rest = b""
-    with zipfile.ZipFile(path) as archive:
-        for name in _parts_of(archive, stem):
-            with archive.open(name) as part:
-                for read in iter(lambda: part.read(CHUNK), b""):
-                    chunk = rest + read if rest else read
-                    whole = len(chunk) - len(chunk) % size
-                    rest = chunk[whole:]
-                    yield chunk[:whole] if rest else chunk
-
-
-class _Runs:
-    """Where a byte of the samples changes, in what is looked at of it."""
-
-    def __init__(self, bits: Dict[int, int]) -> None:
-        self.bits = bits  # the place of a channel by its bit
-        mask = sum(1 << bit for bit in bits)
-        self.masked = bytes(value & mask for value in range(256))
-        # A literal that repeats is what the engine counts fastest.
-        self.runs = [re.compile(b"\\x%02x*" % value, re.DOTALL) for value in range(256)]
-        self.last: Optional[int] = None
-
-    def changes(self, samples: bytes) -> Iterator[Tuple[int, int, int]]:
-        """For each change in these samples its place among them, the channel's, and the level."""
-        data, at = samples.translate(self.masked), 0
-        while at < len(data):
-            value = data[at]
-            differs = 255 if self.last is None else value ^ self.last
-            for bit, place in self.bits.items():
-                if differs >> bit & 1:
-                    yield at, place, value >> bit & 1
-            self.last = value
-            match = self.runs[value].match(data, at)
-            assert match
-            at = match.end()
-
-
-def _sampled(
-    path: Path, stem: str, size: int, rate: float, bits: Sequence[int]
-) -> Iterator[Change]:
-    planes: Dict[int, Dict[int, int]] = {}
-    for place, bit in enumerate(bits):
-        planes.setdefault(bit // 8, {})[bit % 8] = place
-    runs = {plane: _Runs(of) for plane, of in planes.items()}
-    first = 0
-    for chunk in _chunks(path, stem, size):
-        found = (run.changes(chunk[plane::size] if size > 1 else chunk)
-                 for plane, run in runs.items())
-        for at, place, level in heapq.merge(*found):
-            yield (first + at) * 1e6 / rate, place, level
-        first += len(chunk) // size
-    yield first * 1e6 / rate, END, 0
 
 
 # ---- tables
@@ -397,49 +334,3 @@ def _pulses(path: Path, above: int, wanted: Sequence[int]) -> Iterator[Change]:
     while waiting:
         yield heapq.heappop(waiting)
     yield end or 0, END, 0
-
-
-# ---- sounds
-
-
-def _sound(path: Path, threshold: float) -> Recording:
-    try:
-        with wave.open(str(path)) as sound:
-            count, width = sound.getnchannels(), sound.getsampwidth()
-    except (wave.Error, EOFError) as error:
-        raise ValueError(f"it is no sound as whole numbers: {error}") from None
-    if width not in (1, 2):
-        raise ValueError(f"its samples have {8 * width} bits; 8 and 16 are read")
-    return Recording(
-        [f"sound{place}" for place in range(count)],
-        lambda wanted: _heard(path, threshold, wanted),
-    )
-
-
-def _heard(path: Path, threshold: float, wanted: Sequence[int]) -> Iterator[Change]:
-    """The changes of a sound, where the most that a sample may be is 1."""
-    levels = [Level(threshold) for _ in wanted]
-    with wave.open(str(path)) as sound:
-        count, width, rate = sound.getnchannels(), sound.getsampwidth(), sound.getframerate()
-        at = 0
-        for read in iter(lambda: sound.readframes(CHUNK // 16), b""):
-            frames = len(read) // (width * count)
-            samples = _numbers(read[: frames * width * count], width)
-            for number in range(frames):
-                for place, of in enumerate(wanted):
-                    level, before = levels[place], levels[place].now
-                    level.take(samples[number * count + of])
-                    if level.now != before:
-                        yield (at + number) * 1e6 / rate, place, level.now
-            at += frames
-    yield at * 1e6 / rate, END, 0
-
-
-def _numbers(read: bytes, width: int) -> List[float]:
-    """Samples as numbers from -1 to 1."""
-    if width == 1:
-        return [(value - 128) / 128 for value in read]
-    values = array("h", read)
-    if sys.byteorder == "big":
-        values.byteswap()
-    return [value / 32768 for value in values]

@@ -9,9 +9,9 @@ import json
 import random
 import shutil
 import subprocess
+import sys
 import tempfile
 import unittest
-import zipfile
 from collections.abc import Callable, Iterable, Iterator, Sequence
 from contextlib import redirect_stderr
 from dataclasses import dataclass, replace
@@ -167,26 +167,6 @@ def as_dump(lines: Wave, path: Path, unit_us: int = 1) -> None:
         print(f"#{lines.end // unit_us}", file=file)
 
 
-def as_session(lines: Wave, path: Path, every_us: int = 1, size: int = 1, first: int = 1) -> None:
-    """As sigrok-cli 0.7.2 writes it: samples of so many bytes, the lines from a channel on."""
-    probes = [f"probe{first + line}={name}" for line, name in enumerate(lines.names)]
-    head = ["[global]", "sigrok version=0.5.2", "", "[device 1]", "capturefile=logic-1",
-            f"total probes={lines.count}", f"samplerate={1000 // every_us} kHz", "total analog=0",
-            *probes, f"unitsize={size}", ""]
-    with zipfile.ZipFile(path, "w", zipfile.ZIP_DEFLATED, compresslevel=1) as archive:
-        archive.writestr("version", "2")
-        archive.writestr("metadata", "\n".join(head))
-        part, buffer = 1, bytearray()
-        for count, levels in lines.samples(every_us):
-            word = sum(level << first - 1 + line for line, level in enumerate(levels))
-            for begin in range(0, count, 1_000_000):
-                buffer += word.to_bytes(size, "little") * min(1_000_000, count - begin)
-                if len(buffer) > 4_000_003:  # a sample of two bytes goes on in the next part
-                    archive.writestr(f"logic-1-{part}", bytes(buffer[:4_000_003]))
-                    part, buffer = part + 1, buffer[4_000_003:]
-        archive.writestr(f"logic-1-{part}", bytes(buffer))
-
-
 def as_volts(lines: Wave, path: Path) -> None:
     """A row each 100 us, of 0 to 5 V with noise of 0.2 V, and edges that take some ms."""
     seed, volts, number = random.Random(1), [0.0] * lines.count, 0
@@ -216,7 +196,6 @@ def as_pulses(lines: Wave, path: Path) -> None:
 # Each with its ending, further words for the tool, and how many seconds it is tried with. Those that
 # tools/wave and sigrok-cli write are tried by test_roundtrip.py.
 FORMS: dict[str, tuple[Callable[[Wave, Path], None], str, list[str], int]] = {
-    "wide session": (lambda of, path: as_session(of, path, 10, 2, 8), ".sr", [], 200),
     "volts": (as_volts, ".csv", ["--threshold=2.5"], 13),
     "pulses": (as_pulses, ".csv", [], 10_000),
 }
@@ -728,7 +707,7 @@ class Words(InAFolder):
             ("a.txt", "", "it ends with none of .vcd, .sr, .csv, .wav"),
             ("a.vcd", "#0\n1!\n", "it has no $enddefinitions"),
             ("a.vcd", "$enddefinitions $end\n", "it has no $timescale"),
-            ("a.sr", "no zip", "it is no session of sigrok"),
+            ("a.sr", "no zip", "sigrok-cli "),  # is missing, or does not read it
             ("a.csv", "", "it has no line with the names of its columns"),
             ("a.csv", "a,b,c\n0,0,0\n", "its first column is no time"),
             ("a.csv", "Time [days],a\n0,0\n", "'days' is no unit of times"),
@@ -769,6 +748,12 @@ class Words(InAFolder):
         ran = subprocess.run([tool, "--help"], capture_output=True, text=True)
         self.assertEqual((ran.returncode, ran.stderr), (0, ""))
         self.assertTrue(ran.stdout.startswith("for example:\n"))
+
+    def test_without_sigrok(self) -> None:
+        shutil.copy(ROOT / "examples/one_clock_ahead.vcd", self.folder / "a.sr")
+        words = [sys.executable, ROOT / "tools/capture", self.folder / "a.sr"]
+        ran = subprocess.run(words, env={"PATH": str(self.folder)}, capture_output=True, text=True)
+        self.assertIn("a.sr: sigrok-cli is missing, which reads it", ran.stderr)
 
     def test_what_ports_tell_that_claim_nothing(self) -> None:
         with self.assertRaisesRegex(ValueError, "millisecond; at last fault 17 Parity$"):

@@ -37,35 +37,18 @@ def words(count: int, word: str = "word") -> str:
 
 
 class Sentences(unittest.TestCase):
-    def test_the_longest(self) -> None:
-        self.assertEqual(prose.long_sentences(words(35) + ". " + words(35) + ".\n"), [])
-        self.assertEqual(prose.long_sentences(words(36) + ". Short.\n"), [words(36) + "."])
-
-    def test_lines_of_a_paragraph_are_one_sentence(self) -> None:
-        self.assertEqual(len(prose.long_sentences(words(18) + "\n" + words(18) + ".\n")), 1)
-        self.assertEqual(len(prose.long_sentences("- " + words(18) + "\n  " + words(18) + ".\n")), 1)
-        self.assertEqual(prose.long_sentences("- " + words(18) + "\n- " + words(18) + "\n"), [])
-        self.assertEqual(prose.long_sentences("1. " + words(35) + ".\n"), [])
-        self.assertEqual(len(prose.long_sentences("60 " + words(35) + ".\n")), 1)
-        self.assertEqual(prose.long_sentences(words(18) + "\n\n" + words(18) + "\n"), [])
-
-    def test_cells_of_tables(self) -> None:
-        self.assertEqual(prose.long_sentences(f"| {words(20)} | {words(20)} |\n"), [])
-        self.assertEqual(len(prose.long_sentences(f"| a | {words(36)} |\n")), 1)
-
-    def test_code_is_one_word(self) -> None:
-        self.assertEqual(prose.long_sentences(words(34) + " `" + words(9) + "`.\n"), [])
-
-    def test_what_does_not_count(self) -> None:
-        many = words(40)
+    def test_long_ones(self) -> None:
+        most, many, half = words(35), words(40), words(18)
         made = f"<!-- list, made -->\n\n{many}\n\n<!-- list, end -->\n"
-        for text in (f"    {many}\n", f"```\n{many}\n```\n", f"# {many}\n", made):
-            self.assertEqual(prose.long_sentences(text), [], text)
-
-    def test_ends(self) -> None:
-        ended = words(20)
-        for end in (". ", "? ", "! ", ".** ", ".) ", '." '):
-            self.assertEqual(prose.long_sentences(ended + end + ended + "\n"), [], end)
+        for text, count in (
+            (f"{most}. {most}.\n", 0), (f"{words(36)}. Short.\n", 1), (f"{half}\n{half}.\n", 1),
+            (f"- {half}\n  {half}.\n", 1), (f"- {half}\n- {half}\n", 0), (f"1. {most}.\n", 0),
+            (f"60 {most}.\n", 1), (f"{half}\n\n{half}\n", 0), (f"| {half} | {half} |\n", 0),
+            (f"| a | {many} |\n", 1), (f"{words(34)} `{many}`.\n", 0), (f"    {many}\n", 0),
+            (f"```\n{many}\n```\n", 0), (f"# {many}\n", 0), (made, 0),
+            *((f"{half}{end}{half}\n", 0) for end in (". ", "? ", "! ", ".** ", ".) ", '." ')),
+        ):
+            self.assertEqual(len(prose.long_sentences(text)), count, text)
 
     def test_ten_may_be_long(self) -> None:
         long = words(36) + ".\n\n"
@@ -87,17 +70,8 @@ class SharedRuns(unittest.TestCase):
         self.assertEqual(shared(first + "\n" + first, "z\n"), [])
         self.assertEqual(len(shared(first, first, first)), 3)
 
-    def test_pages_are_named(self) -> None:
-        texts = {"one.md": "a b c d e f g\n", "two.md": "z\n", "three.md": "a b c d e f g\n"}
-        self.assertEqual(prose.shared_runs(texts), {"a b c d e f g": ["one.md", "three.md"]})
-
-    def test_capitals_stops_and_lines_do_not_matter(self) -> None:
         self.assertEqual(len(shared("A b, c\nd (e) **f** g.\n", "| a b c d e f g |\n")), 1)
-
-    def test_code_blocks_and_parts_that_are_made_do_not_count(self) -> None:
-        line = "a b c d e f g"
-        made = f"<!-- list, made -->\n\n{line}\n\n<!-- list, end -->\n"
-        self.assertEqual(shared(f"{line}\n", f"    {line}\n", made), [])
+        self.assertEqual(shared(first, "    a b c d e f g\n"), [])
 
 
 class Crates(unittest.TestCase):
@@ -124,38 +98,18 @@ class Crates(unittest.TestCase):
 
 
 class TheNumberThatMayFall(InAFolder):
-    def setUp(self) -> None:
-        super().setUp()
-        self.shared = self.folder / "shared_runs"
-        self.pages = [self.folder / "a.md", self.folder / "b.md"]
-        for page in self.pages:
-            page.write_text("a b c d e f g h\n")
-        for name, value in (("SHARED", self.shared), ("BY_HAND", self.pages), ("ROOT", self.folder)):
-            patch = mock.patch.object(pages, name, value)
-            patch.start()
-            self.addCleanup(patch.stop)
-
-    def wrong(self) -> list[str]:
-        return list(pages.faults_of_repetition({page.name: page.read_text() for page in self.pages}))
-
-    def test_more_fails(self) -> None:
-        self.shared.write_text("2\n")
-        self.assertEqual(self.wrong(), [])
-        self.shared.write_text("1\n")
-        self.assertEqual(
-            self.wrong(),
-            [
-                "pages share 2 runs of 7 words, 1 may be:",
-                "a b c d e f g: a.md, b.md",
-                "b c d e f g h: a.md, b.md",
-            ],
-        )
-
     def test_it_falls_and_never_rises(self) -> None:
-        for before, after in (("5", "2\n"), ("1", "1\n")):
-            self.shared.write_text(before)
-            pages.lay_out()
-            self.assertEqual(self.shared.read_text(), after)
+        kept, page = self.folder / "shared_runs", self.folder / "a.md"
+        page.write_text("a b c d e f g h\n")
+        with mock.patch.multiple(pages, SHARED=kept, BY_HAND=[page], ROOT=self.folder):
+            for before, after in (("5", "0\n"), ("0", "0\n")):
+                kept.write_text(before)
+                pages.lay_out()
+                self.assertEqual(kept.read_text(), after)
+            texts = dict.fromkeys(("a", "b"), page.read_text())
+            self.assertEqual(list(pages.faults_of_repetition(texts)), [
+                "pages share 2 runs of 7 words, 0 may be:", "a b c d e f g: a, b", "b c d e f g h: a, b",
+            ])
 
 
 class Layout(unittest.TestCase):

@@ -5,8 +5,8 @@ port's word.
 
 All examples and cases that run to their end are tried, with each of their readers, by a value
 change dump that becomes a session of sigrok; those of at most 16 seconds by all forms that the tools
-and sigrok-cli have. Without sigrok-cli each wave is captured as it is. Which trips cannot be
-alike stands in a table, with the reason. Needs the libraries of `make -C c`."""
+and sigrok-cli have. Which trips cannot be alike stands in a table, with the reason. Needs the
+libraries of `make -C c`, and sigrok-cli."""
 from __future__ import annotations
 
 import json
@@ -37,8 +37,6 @@ from test_capture import (
 
 os.environ["IRIG"] = str(PROGRAM)
 TOOL = ROOT / "tools/wave"
-SIGROK = shutil.which("sigrok-cli")
-MISSING = "skipped: round trips through sigrok-cli; Debian's package sigrok-cli is missing"
 
 # Trips that can't end where they began, by scenario and reader, with the reason.
 UNLIKE = {
@@ -58,8 +56,7 @@ TABLE = ["-I", "csv:column_formats=t,*l"]
 TIMED = ["-O", "csv:time=true:dedup=true:label=channel"]
 WAVES: list[tuple[str, list[str], list[Passage]]] = [
     ("a.vcd", [], [
-        ("a.vcd", [], "b.sr", []), ("a.vcd", ["-O", "vcd"], "b.vcd", []),
-        ("a.vcd", ["-O", "csv"], "b.csv", []), ("b.sr", TIMED, "c.csv", []),
+        ("a.vcd", [], "b.sr", []), ("a.vcd", ["-O", "csv"], "b.csv", []), ("b.sr", TIMED, "c.csv", []),
     ]),
     ("a.csv", [], [
         ("a.csv", TABLE, "b.sr", []), ("a.csv", [*TABLE, "-O", "vcd"], "b.vcd", []),
@@ -70,6 +67,12 @@ WAVES: list[tuple[str, list[str], list[Passage]]] = [
     ("a.wav", [], []),
     ("a.wav", ["--rate=8000"], [("a.wav", ["-O", "csv"], "b.csv", ["--threshold=0"])]),
 ]
+
+
+def setUpModule() -> None:
+    if not shutil.which("sigrok-cli"):
+        print("skipped: round trips through sigrok-cli; Debian's package sigrok-cli is missing")
+        raise unittest.SkipTest("no sigrok-cli")
 
 
 @contextmanager
@@ -119,7 +122,7 @@ def by_each_form(name: str) -> list[Outcome]:
                 cwd=folder, capture_output=True, check=True,
             )
             outcomes.append(Outcome(name, wave_file, words, trip.outcome(folder / wave_file)))
-            for source, options, made, more in passages if SIGROK else []:
+            for source, options, made, more in passages:
                 sigrok("-i", folder / source, *options, "-o", folder / made)
                 log = trip.outcome(folder / made, *more)
                 outcomes.append(Outcome(name, made, options, log))
@@ -212,7 +215,7 @@ def recorders(seed: int, name: str) -> dict[str, Recorder]:
 
 class Trips(InAFolder):
     def test_each(self) -> None:
-        """By a value change dump, and by sigrok-cli if it is there, as a session of it."""
+        """By a session that sigrok-cli makes of a value change dump."""
         alike = 0
         for name, trip in trips().items():
             with self.subTest(name):
@@ -225,15 +228,11 @@ class Trips(InAFolder):
                     alike += 1
         self.assertEqual(set(UNLIKE) - set(trips()), set())
         print(f"round trips: {alike} alike, {len(UNLIKE)} can't be")
-        if not SIGROK:
-            print(MISSING)
 
     def recording(self, lines: Lines) -> Path:
         dump, session = self.folder / "lines.vcd", self.folder / "lines.sr"
         with dump.open("w") as out:
             write_dump(out, lines)
-        if not SIGROK:
-            return dump
         sigrok("-i", dump, "-o", session)
         return session
 
@@ -296,7 +295,7 @@ class Memory(InAFolder):
 
     def test_a_long_recording(self) -> None:
         """Three lines at 1 MHz: four minutes take no more memory than one."""
-        for ending in (".vcd", *([".sr"] if SIGROK else [])):
+        for ending in (".vcd", ".sr"):
             with self.subTest(ending):
                 least, most = (self.peak(seconds, ending) for seconds in (60, 240))
                 self.assertLess(most, least + self.MORE)

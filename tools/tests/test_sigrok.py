@@ -154,7 +154,7 @@ def closed(pulses: Sequence[Pulse]) -> list[Pulse]:
 
 def program() -> str:
     """The path of the program that ./irig runs."""
-    words = [ROOT / "tools/repo/program"]
+    words = [ROOT / "toolchain/program"]
     return subprocess.run(words, stdout=subprocess.PIPE, text=True, check=True).stdout.strip()
 
 
@@ -395,7 +395,7 @@ class Frames(unittest.TestCase):
 
     def frames(self) -> list[str]:
         """Those that a line can carry, once each."""
-        ran = subprocess.run([ROOT / "tests/list_runs", "--frames"], capture_output=True, text=True)
+        ran = subprocess.run([ROOT / "tests/list_frames"], capture_output=True, text=True)
         self.assertEqual(ran.returncode, 0)
         found = {line.replace(" ", "") for line in ran.stdout.splitlines()}
         ports = itertools.chain.from_iterable(run.ports for run in runs())

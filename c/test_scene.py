@@ -1,0 +1,214 @@
+#!/usr/bin/env python3
+"""Compares the calls of irig_scene.h with the program, `test_scene.py LIBRARY PROGRAM`: logs, reasons and
+entries, whatever room there is for them, and frames. A call writes the front of what the program prints, and what
+lies behind the room stays; null pointers are answered."""
+from __future__ import annotations
+
+import ctypes
+import re
+import subprocess
+import sys
+import unittest
+from collections.abc import Iterator, Sequence
+from ctypes import c_bool, c_char_p, c_int8, c_size_t, c_uint8
+from itertools import product
+from pathlib import Path
+
+ROOT = Path(__file__).resolve().parent.parent
+sys.path[:0] = [str(ROOT / "tests"), str(ROOT / "python")]
+
+from case_files import scenarios  # noqa: E402
+import irig  # noqa: E402
+from irig import _library, scenes  # noqa: E402
+from irig._library import Entry, Refusal, Verdict  # noqa: E402
+from irig.scenarios import made_edges, plant_in  # noqa: E402
+
+LIBRARY, PROGRAM = ctypes.CDLL(sys.argv[1]), sys.argv[2]
+DONE, BAD, NULL, REFUSED = 0, 1, 2, 3
+UNTOUCHED = b"\xa5"
+RULES = ("even", "odd"), ("add", "subtract"), ("check", "ignore")  # by their numbers
+TIMES = "2016-12-31T23:59:59Z", "2024-07-01T12:00:00Z"
+
+
+_, *SIGNATURE = _library.CALLS["run_entries"]
+LIBRARY.irig_run_entries.restype, LIBRARY.irig_run_entries.argtypes = SIGNATURE[0], SIGNATURE[1:]
+_library.run_entries = LIBRARY.irig_run_entries  # which the package calls then
+
+
+class FrameOptions(ctypes.Structure):
+    _fields_ = [("local", c_int8)] + [
+        (name, c_uint8) for name in ("pending", "dst", "quality", "parity", "sense")
+    ]
+
+
+def printed(*words: str, given: bytes = b"") -> tuple[int, bytes, str]:
+    """The status of the program, and what it writes."""
+    ran = subprocess.run([PROGRAM, *words], input=given, capture_output=True)
+    return ran.returncode, ran.stdout, ran.stderr.decode()
+
+
+class Room:
+    """Memory of a size for what a call writes, with more behind it, and how much the call says there is."""
+
+    def __init__(self, size: int) -> None:
+        self.size, self.whole = size, c_size_t(0xA5)
+        self.bytes = ctypes.create_string_buffer(UNTOUCHED * (size + 100), size + 100)
+        self.words = self.bytes if size else None, c_size_t(size), ctypes.byref(self.whole)
+
+    def has(self, text: bytes) -> bool:
+        """Whether the front of this stands there, and nothing else."""
+        front = text[: self.size]
+        return self.bytes.raw == front + UNTOUCHED * (len(self.bytes) - len(front))
+
+
+def rooms(size: int) -> Iterator[Room]:
+    return map(Room, {0, 1, size // 2, max(size - 1, 0), size, size + 50})
+
+
+def called(name: str, *words: object) -> int:
+    call = getattr(LIBRARY, f"irig_{name}")
+    call.restype = c_uint8
+    return int(call(*words))
+
+
+class Runs(unittest.TestCase):
+    def test_logs(self) -> None:
+        """Of all cases and examples."""
+        for (name, text), (has_all, has_ports) in product(scenarios().items(), product((False, True), repeat=2)):
+            words = ["--all"] * has_all + ["--ports"] * has_ports
+            status, log, told = printed("run", "-", *words, given=text)
+            refused = re.match(r"line (\d+): (\d+) \w+: (.*)", told) or ["", "0", "0", ""]
+            with self.subTest(name, words=words):
+                for room in [] if has_ports else rooms(len(log)):
+                    answer = called("run", text, c_size_t(len(text)), c_bool(has_all), *room.words)
+                    self.assertEqual((answer, room.whole.value), (status, len(log)))
+                    self.assertTrue(room.has(log), f"{room.size} bytes of room")
+                for of_reason in rooms(len(refused[3])):
+                    shows = c_bool(has_all), c_bool(has_ports)
+                    self.shown(text, shows, Room(len(log)), of_reason, status, log, refused)
+
+    def shown(self, text: bytes, shows: tuple[c_bool, c_bool], room: Room, of_reason: Room, status: int,
+              log: bytes, refused: Sequence[str]) -> None:
+        refusal, reason = Refusal(line=7, number=7), refused[3].encode()
+        answer = called("run_shown", text, c_size_t(len(text)), *shows, *room.words, *of_reason.words[:2],
+                        ctypes.byref(refusal))
+        self.assertEqual((answer, room.whole.value, refusal.whole), (status, len(log), len(reason)))
+        self.assertTrue(room.has(log) and of_reason.has(reason), f"{of_reason.size} bytes of room")
+        self.assertEqual((refusal.line, refusal.number), (int(refused[1]), int(refused[2])))
+        for part in (refusal.place, refusal.key, refusal.value, refusal.allowed):
+            self.assertTrue(part.start <= part.end <= len(reason))
+
+
+class Entries(unittest.TestCase):
+    def test_logs(self) -> None:
+        """Of all cases and examples, as the package writes them."""
+        for name, text in scenarios().items():
+            with self.subTest(name):
+                try:
+                    ran = irig.run(text, all=True, ports=True).text
+                except irig.Refused as why:
+                    ran = f"{why.log.text}refused: line {why.line}: {why.number} {why.name}\n"
+                self.assertEqual(ran.encode(), printed("run", "-", "--all", "--ports", given=text)[1])
+
+    def test_lines(self) -> None:
+        """Which line of a scenario that runs to its end asked for which edges."""
+        for name, text in scenarios((0,)).items():
+            ran, readers = scenes._run(text, scenes.ROOM, 0), plant_in(text).readers
+            made: dict[str, list[list[int]]] = {reader: [] for reader in readers}
+            for held in ran.entries[: ran.whole]:
+                found = made[readers[held.reader]]
+                if found and found[-1][1] == held.line:
+                    found.pop()
+                found.append([held.edge, held.line])
+            with self.subTest(name):
+                self.assertEqual(made, made_edges(text.decode().split("\n"), readers))
+
+    def test_room(self) -> None:
+        text, size = (ROOT / "examples/one_liar.jsonl").read_bytes(), ctypes.sizeof(Entry)
+        every = scenes._run(text, scenes.ROOM, 0)
+        wanted = b"".join(bytes(held) for held in every.entries[: every.whole])
+        for count in (0, 1, every.whole - 1, every.whole, every.whole + 1):
+            room, whole, verdict, refusal = Room(count * size), c_size_t(), Verdict(), Refusal()
+            entries = ctypes.cast(room.bytes, ctypes.POINTER(Entry))
+            answer = scenes.c.run_entries(text, len(text), entries, count, whole, verdict, None, 0, refusal)
+            self.assertEqual((answer, whole.value, verdict.kind), (DONE, every.whole, every.verdict.kind))
+            self.assertTrue(room.has(wanted), f"{count} entries of room")
+
+
+class Frames(unittest.TestCase):
+    def made(self, time: str, *options: int) -> bytes | None:
+        room = Room(110)
+        text = time.encode()
+        words = text, c_size_t(len(text)), ctypes.byref(FrameOptions(*options)), room.bytes
+        status = called("frame_text", *words)
+        self.assertTrue(status == DONE or status == BAD and room.has(b""))
+        return room.bytes.raw[:110] if status == DONE else None
+
+    def test_made(self) -> None:
+        for time, local, pending, dst, quality, parity, sense in product(
+            (*TIMES, "2016-12-30T23:59:60Z"), (-31, 0, 11), range(3), range(2), (0, 15), range(2), range(2)
+        ):
+            words = [time, f"--local={local}", *["--dst"] * dst, f"--quality={quality}"]
+            words += [f"--pending={('insert', 'delete')[pending - 1]}"] if pending else []
+            words += [f"--parity={RULES[0][parity]}", f"--sense={RULES[1][sense]}"]
+            status, text, _ = printed("frame", *words)
+            made = self.made(time, local, pending, dst, quality, parity, sense)
+            self.assertEqual(made, text if status == 0 else None, words)
+
+    def test_options_without_a_meaning(self) -> None:
+        for place, most in enumerate((31, 2, 1, 15, 1, 1)):
+            self.assertIsNone(self.made(TIMES[0], *[0] * place, most + 1))
+
+    def lines(self, text: bytes, rules: tuple[int, ...], room: Room) -> int:
+        numbers = map(c_uint8, rules)
+        return called("frame_lines", text, c_size_t(len(text)), *numbers, *room.words)
+
+    def test_read(self) -> None:
+        frame, odd = (self.made(TIMES[0], 11, 1), self.made(TIMES[1], 4, 0, 0, 9, 1, 1))
+        assert frame and odd
+        for text, rules in product(
+            (frame[:-1], odd[:-1], b"P1", b"", frame.replace(b"P1", b"P?")[:-1], frame.replace(b" P", b" 0")[:-1]),
+            product(range(2), repeat=3),
+        ):
+            options = zip(("parity", "sense", "sbs"), RULES, rules)
+            words = [f"--{name}={kinds[rule]}" for name, kinds, rule in options]
+            _, wanted, _ = printed("read", text.decode(), *words)
+            for room in map(Room, range(201)):
+                self.assertEqual((self.lines(text, rules, room), room.whole.value), (DONE, len(wanted)))
+                self.assertTrue(room.has(wanted), f"{room.size} bytes of room")
+
+    def test_what_is_not_read(self) -> None:
+        for text, rules in ((b"PX", (0, 0, 0)), (b"P", (2, 0, 0)), (b"P", (0, 2, 0)), (b"P", (0, 0, 2))):
+            room = Room(200)
+            self.assertEqual((self.lines(text, rules, room), room.whole.value), (BAD, 0))
+            self.assertTrue(room.has(b""))
+
+
+class Null(unittest.TestCase):
+    def test_each_pointer(self) -> None:
+        """One of them null: nothing is done."""
+        room, reason, refusal = Room(1), Room(1), Refusal(line=7)
+        options, one, whole = FrameOptions(), c_size_t(1), c_size_t(7)
+        log, why = room.words, (*reason.words[:2], ctypes.byref(refusal))
+        for name, *words in (
+            ("run", b"x", one, c_bool(), *log),
+            ("run_shown", b"x", one, c_bool(), c_bool(), *log, *why),
+            ("run_entries", b"x", one, Entry(), one, ctypes.byref(whole), Verdict(), (c_uint8 * 1)(), one, refusal),
+            ("frame_text", b"x", one, ctypes.byref(options), room.bytes),
+            ("frame_lines", b"P", one, c_uint8(), c_uint8(), c_uint8(), *log),
+        ):
+            for place, word in enumerate(words):
+                if not isinstance(word, (c_size_t, c_bool, c_uint8)):
+                    with self.subTest(name, place=place):
+                        self.assertEqual(called(name, *words[:place], None, *words[place + 1 :]), NULL)
+        self.assertTrue(room.has(b"") and reason.has(b""))
+        self.assertEqual((room.whole.value, whole.value, refusal.line), (0xA5, 7, 7))
+
+    def test_nothing_at_all(self) -> None:
+        room = Room(0)
+        self.assertEqual(called("run", None, c_size_t(0), c_bool(), *room.words), REFUSED)
+        self.assertEqual(called("frame_text", None, c_size_t(0), ctypes.byref(FrameOptions()), Room(110).bytes), BAD)
+
+
+if __name__ == "__main__":
+    unittest.main(argv=sys.argv[:1])
