@@ -32,13 +32,7 @@ impl Listener for Log {
 
     ghost texts = { log_texts };
 
-    ghost keeps_told = { λ shown. shown.ports };
-
     ghost stands_for = { λ shown log x. ⊤ };
-
-    fn wants_told(shown: Shown) -> bool {
-        shown.ports
-    }
 
     fn new(
         alloc: Global,
@@ -65,14 +59,7 @@ impl Listener for Log {
         text: &mut String,
     ) -> Result<(), AllocError> {
         if shown.ports {
-            push_ticks(
-                text,
-                &mut self.last,
-                names,
-                plant.log(),
-                plant.told(),
-                shown,
-            )
+            push_ticks(text, &mut self.last, names, plant.log(), shown)
         } else {
             push_entries(text, &mut self.last, names, plant.log(), shown)
         }

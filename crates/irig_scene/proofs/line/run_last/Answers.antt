@@ -17,4 +17,4 @@ returns-in_err-run_line-clause-runs g c =
 pub returns-clause-runs : goal.returns-clause-runs
 returns-clause-runs g c = λ at first stands here.
     let took = c.in_ok-run_line.ensures.runs at first stands here in
-    last_goes (IsPlayerAt {g = g.P.Port} (g.L.Listener.stands_for c.args.asked) (g.L.Listener.keeps_told c.args.asked)) (g.L.Listener.texts c.args.asked) _ _ _ first at _ _ _ _ (search rules) c.requires.whole c.requires.number took (c.end-2.ensures.ends _ first took.stands)
+    last_goes (IsPlayerAt {g = g.P.Port} (g.L.Listener.stands_for c.args.asked)) (g.L.Listener.texts c.args.asked) _ _ _ first at _ _ _ _ (search rules) c.requires.whole c.requires.number took (c.end-2.ensures.ends _ first took.stands)
