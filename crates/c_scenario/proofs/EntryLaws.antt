@@ -1,20 +1,18 @@
 -- The entries that a run keeps are those of its log, and each has the line that asked for it.
-use Rattle.std.proofs.Common.{All, ◌≡◌, ℕ, zero, suc, ◌+◌, ◌-◌, ◌<◌, ◌≤◌, Bool, true, false, cond, List, [], ◌∷◌, ◌++◌, length, take, drop, get_or, length-append, inl, inr, Option, Some, None, Result, Ok, Err, refl, ap, sym, subst, ◌∙◌, append_assoc, append-nil, arith, rules, nat_le, slice_set, slice_index_or, min}
+use Rattle.std.proofs.Common.{All, ◌≡◌, ℕ, zero, suc, ◌+◌, ◌-◌, ◌<◌, ◌≤◌, Bool, true, false, cond, List, [], ◌∷◌, ◌++◌, map, length, take, drop, get_or, length-append, inl, inr, Option, Some, None, Result, Ok, Err, refl, ap, sym, subst, ◌∙◌, append_assoc, append-nil, arith, rules, nat_le, slice_set, slice_index_or, min}
 use Rattle.std.specs.Prelude.{option_to_list, ◌⊎◌, ⊤}
 use Rattle.std.proofs.lemmas.Bool.{cases_lt}
 use Rattle.std.proofs.Math.Seq.{drop-append_seam, drop-cons, set-append_seam, take-append_seam}
 use Rattle.std.proofs.Math.ListN.{drop_of_length-le}
-use Rattle.std.proofs.lemmas.List.{take_all, length-take}
+use Rattle.std.proofs.lemmas.List.{take_all, length-take, length-map, map-append}
 use Rattle.irig_plant.specs.declared.event.Event.{Event}
 use Rattle.irig_plant.specs.declared.event.Event.TheVariants.{GenEdge, Tick, Carry, Damage, Replay, Raw, Fault, Repair, Restart}
 use Rattle.irig_plant.specs.declared.entry.Entry.{Entry}
-use Rattle.irig_plant.specs.declared.told_log.ToldEntry.{ToldEntry}
-use Rattle.irig_plant.specs.Schedule.{Setup, log_of, told_log_of}
+use Rattle.irig_plant.specs.Schedule.{Setup, log_of}
 use Rattle.irig_plant.specs.declared.audit.Audit.{Audit}
 use Rattle.irig_plant.specs.declared.audit.Audit.TheVariants.{Kept, Broken, FalseTable}
 use Rattle.irig_plant.specs.Truth.{IsTruthful}
 use Rattle.irig_plant.proofs.AuditLaws.{kept_is}
-use Rattle.irig_plant.proofs.ToldLaws.{told_length}
 use Rattle.irig_scene.proofs.TrueLines.{lines_true}
 use Rattle.c_scenario.specs.declared.entry.IrigVerdict.{IrigVerdict}
 use Rattle.irig_scene.specs.declared.outcome.Outcome.{Outcome}
@@ -22,33 +20,21 @@ use Rattle.irig_scene.specs.declared.fault.SceneFault.{SceneFault}
 use Rattle.irig_scene.specs.declared.fault.SceneFault.TheVariants.{Refused, Read, Write, Memory}
 use Rattle.irig_scene.specs.declared.run.Run.{Run}
 use Rattle.irig_scene.specs.Lines.{lines}
-use Rattle.irig_scene.specs.LogTexts.{entries_by, told_by}
+use Rattle.irig_scene.specs.LogTexts.{entries_by}
 use Rattle.irig_scene.specs.Scene.{Scene, scene, audit_in, meaning_of, meaning_from}
 use Rattle.irig_scene.specs.Starts.{entry_count, noted_at, starts_from}
 use Rattle.irig_scene.specs.ListenerRuns.{IsAt, HasHeard, HeardFor}
-use Rattle.irig_scene.proofs.LogLaws.{grows, told_grows}
+use Rattle.irig_scene.proofs.LogLaws.{grows}
 use Rattle.c_numbers.specs.Reports.{no_claim}
 use Rattle.c_scenario.specs.declared.entry.IrigEntry.{IrigEntry}
 use Rattle.c_scenario.specs.declared.entry_log.EntryLog.{EntryLog}
-use Rattle.c_scenario.specs.Entries.{entry_for, heard_of, heard_in, begun, lined, entries_of, verdict_by}
+use Rattle.c_scenario.specs.Entries.{entry_for, heard_in, begun, lined, entries_of, verdict_by}
 use Rattle.c_scenario.specs.EntryRuns.{first_of, HoldsEntries, HasHeardEntries}
 use Rattle.c_scenario.specs.Runs.{HasWholeLog, status_of, written_over}
 
 -- ---- an event more
 
-heard_length : (es : List Entry) (ts : List ToldEntry) → length ts ≡ length es → length (heard_of es ts) ≡ length es
-heard_length [] [] same = refl
-heard_length [] (t ∷ ts) same = refl
-heard_length (e ∷ es) [] same = absurd (omega (arith, same))
-heard_length (e ∷ es) (t ∷ ts) same = ap suc (heard_length es ts (omega (arith, same)))
-
-heard_both : (es more : List Entry) (ts rest : List ToldEntry) → length ts ≡ length es → heard_of (es ++ more) (ts ++ rest) ≡ heard_of es ts ++ heard_of more rest
-heard_both [] more [] rest same = refl
-heard_both [] more (t ∷ ts) rest same = absurd (omega (arith, same))
-heard_both (e ∷ es) more [] rest same = absurd (omega (arith, same))
-heard_both (e ∷ es) more (t ∷ ts) rest same = ap (λ l. entry_for e t ∷ l) (heard_both es more ts rest (omega (arith, same)))
-
-one_at_most : (s : Setup) (e : Event) (ev : List Event) → heard_of (entries_by s e ev) (told_by s e ev) ≡ option_to_list (first_of (entries_by s e ev) (told_by s e ev))
+one_at_most : (s : Setup) (e : Event) (ev : List Event) → map entry_for (entries_by s e ev) ≡ option_to_list (first_of (entries_by s e ev))
 one_at_most s (Tick r) ev = refl
 one_at_most s (GenEdge g) ev = refl
 one_at_most s (Carry g r) ev = refl
@@ -59,27 +45,20 @@ one_at_most s (Fault g kind) ev = refl
 one_at_most s (Repair g) ev = refl
 one_at_most s (Restart r) ev = refl
 
--- the first that stands past the log so far
-first_past : (s : Setup) (e : Event) (ev : List Event) → first_of (drop (length (log_of s ev)) (log_of s (e ∷ ev))) (drop (length (log_of s ev)) (told_log_of s (e ∷ ev))) ≡ first_of (entries_by s e ev) (told_by s e ev)
-first_past s e ev =
-    let es : drop (length (log_of s ev)) (log_of s (e ∷ ev)) ≡ entries_by s e ev = ap (drop (length (log_of s ev))) (grows s e ev) ∙ drop-append_seam (log_of s ev) (entries_by s e ev) in
-    let ts : drop (length (log_of s ev)) (told_log_of s (e ∷ ev)) ≡ told_by s e ev =
-    ap (λ n. drop n (told_log_of s (e ∷ ev))) (sym (told_length s ev)) ∙ ap (drop (length (told_log_of s ev))) (told_grows s e ev) ∙ drop-append_seam (told_log_of s ev) (told_by s e ev) in
-    ap (λ l. first_of l (drop (length (log_of s ev)) (told_log_of s (e ∷ ev)))) es ∙ ap (first_of (entries_by s e ev)) ts
-
 -- what is kept after an event
 pub kept_after : (old new : List IrigEntry) (x : Scene) (e : Event) (entry : Option IrigEntry) → old ≡ heard_in (Some x)
-    → entry ≡ first_of (drop (length (log_of x.plan.setup x.events)) (log_of x.plan.setup (e ∷ x.events))) (drop (length (log_of x.plan.setup x.events)) (told_log_of x.plan.setup (e ∷ x.events)))
+    → entry ≡ first_of (drop (length (log_of x.plan.setup x.events)) (log_of x.plan.setup (e ∷ x.events)))
     → new ≡ old ++ option_to_list entry → new ≡ heard_in (Some (scene x.plan (e ∷ x.events)))
 kept_after old new x e entry at is pushed =
-    let s = x.plan.setup in
-    let ev = x.events in
-    let one : option_to_list entry ≡ heard_of (entries_by s e ev) (told_by s e ev) = ap option_to_list (is ∙ first_past s e ev) ∙ sym (one_at_most s e ev) in
-    pushed ∙ ap (λ l. l ++ option_to_list entry) at ∙ ap (λ l. heard_in (Some x) ++ l) one
-    ∙ sym (ap (λ l. heard_of l (told_log_of s (e ∷ ev))) (grows s e ev) ∙ ap (heard_of (log_of s ev ++ entries_by s e ev)) (told_grows s e ev) ∙ heard_both (log_of s ev) (entries_by s e ev) (told_log_of s ev) (told_by s e ev) (told_length s ev))
+    let log = log_of x.plan.setup x.events in
+    let by = entries_by x.plan.setup e x.events in
+    let past : drop (length log) (log_of x.plan.setup (e ∷ x.events)) ≡ by = ap (drop (length log)) (grows x.plan.setup e x.events) ∙ drop-append_seam log by in
+    let one : option_to_list entry ≡ map entry_for by = ap option_to_list (is ∙ ap first_of past) ∙ sym (one_at_most x.plan.setup e x.events) in
+    pushed ∙ ap (λ l. l ++ option_to_list entry) at ∙ ap (λ l. map entry_for log ++ l) one
+    ∙ sym (ap (map entry_for) (grows x.plan.setup e x.events) ∙ map-append entry_for log by)
 
 pub count_kept : (items : List IrigEntry) (x : Scene) → items ≡ heard_in (Some x) → length items ≡ entry_count (Some x)
-count_kept items x at = ap length at ∙ heard_length (log_of x.plan.setup x.events) (told_log_of x.plan.setup x.events) (told_length x.plan.setup x.events)
+count_kept items x at = ap length at ∙ length-map (log_of x.plan.setup x.events) entry_for
 
 count_in : (items : List IrigEntry) (at : Option Scene) → items ≡ heard_in at → length items ≡ entry_count at
 count_in items None at = ap length at

@@ -1,15 +1,14 @@
 -- The entries of a run for C: what each reader said at each edge, by numbers, with what its ports told
 -- and the line of the scenario that asked for it.
 -- Source: docs/OUTPUT.md, docs/SCENARIOS.md, docs/C.md.
-use Rattle.std.specs.Prelude.{ℕ, ◌+◌, true, List, [], ◌∷◌, if◌then◌else◌, nat_le, Option, Some, None, Result, Ok, Err}
+use Rattle.std.specs.Prelude.{ℕ, ◌+◌, true, List, [], ◌∷◌, map, if◌then◌else◌, nat_le, Option, Some, None, Result, Ok, Err}
 use Rattle.irig_time.specs.declared.claim.Claim.{Claim}
 use Rattle.irig_time.specs.declared.second.UtcSecond.{UtcSecond}
 use Rattle.irig_vote.specs.Vote.{ports_in}
 use Rattle.irig_plant.specs.declared.audit.Audit.{Audit}
 use Rattle.irig_plant.specs.declared.audit.Audit.TheVariants.{Kept, Broken, FalseTable}
 use Rattle.irig_plant.specs.declared.entry.Entry.{Entry}
-use Rattle.irig_plant.specs.declared.told_log.ToldEntry.{ToldEntry}
-use Rattle.irig_plant.specs.Schedule.{log_of, told_log_of}
+use Rattle.irig_plant.specs.Schedule.{log_of}
 use Rattle.c_numbers.specs.declared.claim.IrigClaim.{IrigClaim}
 use Rattle.c_numbers.specs.Numbers.{claim_for}
 use Rattle.c_numbers.specs.Reports.{no_claim, told_in, number_of_lock, count_of_lock, number_of_cause}
@@ -38,14 +37,14 @@ abbrev pub one_if_some : {A : Type 0} → Option A → ℕ
 one_if_some (Some x) = 1
 one_if_some None = 0
 
--- an entry and what its ports told, without its line
-abbrev pub entry_for : Entry → ToldEntry → IrigEntry
-entry_for e t = record {
+-- an entry, without its line
+abbrev pub entry_for : Entry → IrigEntry
+entry_for e = record {
   edge = e.edge;
   line = 0;
-  truth = claim_or_zeros t.truth;
+  truth = claim_or_zeros e.truth;
   told =
-      told_in t.told.a ∷ told_in t.told.b ∷ told_in t.told.c ∷ told_in t.told.d ∷ told_in t.told.e
+      told_in e.told.a ∷ told_in e.told.b ∷ told_in e.told.c ∷ told_in e.told.d ∷ told_in e.told.e
       ∷ [];
   lock_count = count_of_lock e.report.lock;
   day = (second_or_zeros e.report.announce).day;
@@ -54,23 +53,16 @@ entry_for e t = record {
   announces = one_if_some e.report.announce;
   lock = number_of_lock e.report.lock;
   cause = number_of_cause e.report.cause;
-  ports = ports_in t.redundancy;
-  has_truth = one_if_some t.truth;
+  ports = ports_in e.redundancy;
+  has_truth = one_if_some e.truth;
 }
 
 -- ---- the entries of a log
 
--- each, without its line
-abbrev pub heard_of : List Entry → List ToldEntry → List IrigEntry
-heard_of (e ∷ es) (t ∷ ts) = entry_for e t ∷ heard_of es ts
-heard_of (e ∷ es) [] = []
-heard_of [] ts = []
-
--- those of the log of a scene
+-- those of the log of a scene, without their lines
 abbrev pub heard_in : Option Scene → List IrigEntry
 heard_in None = []
-heard_in (Some x) =
-    heard_of (log_of x.plan.setup x.events) (told_log_of x.plan.setup x.events)
+heard_in (Some x) = map entry_for (log_of x.plan.setup x.events)
 
 -- how many lines, from the first on, began with at most so many entries
 unfoldable pub begun : List ℕ → ℕ → ℕ

@@ -2,9 +2,8 @@
 -- Source: docs/OUTPUT.md, docs/C.md; this project's profile.
 use Rattle.std.specs.Prelude.{◌≡◌, ℕ, true, drop, List, [], ◌∷◌, Option, Some, None}
 use Rattle.irig_plant.specs.declared.entry.Entry.{Entry}
-use Rattle.irig_plant.specs.declared.told_log.ToldEntry.{ToldEntry}
 use Rattle.irig_plant.specs.History.{PlantHistory}
-use Rattle.irig_plant.specs.Schedule.{log_of, told_log_of}
+use Rattle.irig_plant.specs.Schedule.{log_of}
 use Rattle.irig_scene.specs.declared.run.Run.{Run}
 use Rattle.irig_scene.specs.Scene.{Scene}
 use Rattle.irig_scene.specs.Texts.{Texts}
@@ -13,18 +12,14 @@ use Rattle.c_scenario.specs.declared.entry.IrigEntry.{IrigEntry}
 use Rattle.c_scenario.specs.declared.entry_log.EntryLog.{EntryLog}
 use Rattle.c_scenario.specs.Entries.{entry_for, heard_in}
 
--- the first of a log
-abbrev pub first_of : List Entry → List ToldEntry → Option IrigEntry
-first_of (e ∷ es) (t ∷ ts) = Some (entry_for e t)
-first_of (e ∷ es) [] = None
-first_of [] ts = None
+-- the first of some entries
+abbrev pub first_of : List Entry → Option IrigEntry
+first_of (e ∷ es) = Some (entry_for e)
+first_of [] = None
 
--- the first that a plant's log still has, if what ports told is kept
+-- the first that a plant's log still has
 abbrev pub IsFirstEntry : Option IrigEntry → PlantHistory → Type 0
-IsFirstEntry entry h =
-    h.keeps_told ≡ true
-    → entry ≡ first_of (drop h.shown (log_of h.setup h.events))
-    (drop h.shown (told_log_of h.setup h.events))
+IsFirstEntry entry h = entry ≡ first_of (drop h.shown (log_of h.setup h.events))
 
 -- it says nothing
 abbrev pub no_texts : Texts

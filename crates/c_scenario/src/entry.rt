@@ -6,7 +6,7 @@ ghost use Rattle.c_scenario.specs.Entries.{claim_or_zeros, entry_for, verdict_of
 use c_numbers::{
     IrigClaim, IrigTold, NO_CLAIM, cause_number, claim_for_c, lock_count, lock_number, told_for_c,
 };
-use irig_plant::{Audit, Entry, ToldEntry};
+use irig_plant::{Audit, Entry};
 use irig_scene::{Outcome, SceneFault};
 use irig_time::{Claim, UtcSecond};
 
@@ -55,18 +55,18 @@ pub struct IrigVerdict {
 }
 
 /// An entry as C is given it, without its line.
-pub(crate) fn entry_for_c(entry: &Entry, told: &ToldEntry) -> IrigEntry
-    ensures { result ≡ entry_for entry.now told.now }
+pub(crate) fn entry_for_c(entry: &Entry) -> IrigEntry
+    ensures { result ≡ entry_for entry.now }
 {
     let second = match entry.report.announce {
         Some(second) => second,
         None => UtcSecond { day: 0, sod: 0 },
     };
-    let ports = &told.told;
+    let ports = &entry.told;
     IrigEntry {
         edge: entry.edge,
         line: 0,
-        truth: claim_or_zeros(&told.truth),
+        truth: claim_or_zeros(&entry.truth),
         told: [
             told_for_c(&ports.a),
             told_for_c(&ports.b),
@@ -81,8 +81,8 @@ pub(crate) fn entry_for_c(entry: &Entry, told: &ToldEntry) -> IrigEntry
         announces: u8::from(entry.report.announce.is_some()),
         lock: lock_number(entry.report.lock),
         cause: cause_number(entry.report.cause),
-        ports: told.redundancy.ports(),
-        has_truth: u8::from(told.truth.is_some()),
+        ports: entry.redundancy.ports(),
+        has_truth: u8::from(entry.truth.is_some()),
     }
 }
 

@@ -29,8 +29,6 @@ impl Listener for EntryLog {
 
     ghost texts = { λ asked. no_texts };
 
-    ghost keeps_told = { λ asked. true };
-
     ghost stands_for = { λ asked log x. HoldsEntries log x };
 
     ghost counts = { true };
@@ -41,10 +39,6 @@ impl Listener for EntryLog {
 
     fn count(&self) -> u64 {
         self.entries.len() as u64
-    }
-
-    fn wants_told(_asked: ()) -> bool {
-        true
     }
 
     fn new(
@@ -95,10 +89,7 @@ fn first_entry<P: Port>(plant: &Plant<P>) -> Option<IrigEntry>
     let [entry, ..] = plant.log() else {
         return None;
     };
-    let [told, ..] = plant.told() else {
-        return None;
-    };
-    Some(entry_for_c(entry, told))
+    Some(entry_for_c(entry))
 }
 
 /// A run of the text, which keeps its entries.

@@ -4,7 +4,6 @@ use Rattle.std.proofs.Common.{◌≡◌, ℕ, ◌+◌, ◌<◌, ◌≤◌, ◌==
 use Rattle.std.specs.List.{AllByRecursion}
 use Rattle.std.specs.Option.{option_or}
 use Rattle.std.proofs.lemmas.Bool.{cases_Bool}
-use Rattle.std.proofs.lemmas.List.{length-append}
 use Rattle.std.proofs.lemmas.List.Elements.{recursion_from_All}
 use Rattle.irig_time.specs.declared.second.UtcSecond.{UtcSecond}
 use Rattle.irig_time.specs.Timelines.{second_at}
@@ -13,8 +12,7 @@ use Rattle.irig_plant.specs.declared.audit.Audit.TheVariants.{Kept, Broken}
 use Rattle.irig_plant.specs.declared.entry.Entry.{Entry}
 use Rattle.irig_plant.specs.declared.event.Event.{Event}
 use Rattle.irig_plant.specs.declared.event.Event.TheVariants.{GenEdge, Tick, Carry, Damage, Replay, Raw, Fault, Repair, Restart}
-use Rattle.irig_plant.specs.declared.told_log.ToldEntry.{ToldEntry}
-use Rattle.irig_plant.specs.Schedule.{Setup, ticks_of, log_of, entry_of, told_log_of, told_entry_of}
+use Rattle.irig_plant.specs.Schedule.{Setup, ticks_of, log_of, entry_of}
 use Rattle.irig_plant.specs.Audits.{first_false, is_broken_now, TickOfReader, tick_of_reader, first_broken, verdict, audit_of}
 use Rattle.irig_plant.specs.Premises.{IsKeptUpTo, IsKept}
 use Rattle.irig_plant.specs.Truth.{AnnouncesTruth, IsTruthful}
@@ -22,7 +20,6 @@ use Rattle.irig_plant.proofs.AuditLaws.{kept_is}
 use Rattle.irig_plant.proofs.CourseLaws.{ticks_grow}
 use Rattle.irig_plant.proofs.Headline.{harmless}
 use Rattle.irig_plant.proofs.KeptLaws.{starts_late, table_true, kept_log_is_true}
-use Rattle.irig_plant.proofs.ToldLaws.{told_length}
 
 -- ---- where the premises first break
 
@@ -88,10 +85,7 @@ ticks_more r x ev = elim (cases_Bool (x == r)) [
 -- the log of these events is the one of fewer, and entries of later edges
 pub record Grows (s : Setup) (fewer ev : List Event) : Type 0 where
   pub entries : List Entry
-  pub tolds : List ToldEntry
   pub log : log_of s ev ≡ log_of s fewer ++ entries
-  pub told_log : told_log_of s ev ≡ told_log_of s fewer ++ tolds
-  pub same : length entries ≡ length tolds
   pub late : AllByRecursion (λ (e : Entry). ticks_of e.reader fewer < e.edge) entries
 
 one_pushed : {X : Type 0} (P : X → Type 0) (xs : List X) (x : X) → AllByRecursion P xs → P x → AllByRecursion P (xs ++ x ∷ [])
@@ -103,27 +97,24 @@ tick_grows s fewer later x h =
     let ev = later ++ fewer in
     record {
       entries = h.entries ++ entry_of s x ev ∷ [];
-      tolds = h.tolds ++ told_entry_of s x ev ∷ [];
       log = ap (λ es. es ++ entry_of s x ev ∷ []) h.log ∙ append_assoc (log_of s fewer) h.entries (entry_of s x ev ∷ []);
-      told_log = ap (λ ts. ts ++ told_entry_of s x ev ∷ []) h.told_log ∙ append_assoc (told_log_of s fewer) h.tolds (told_entry_of s x ev ∷ []);
-      same = omega (arith, h.same, length-append h.entries (entry_of s x ev ∷ []), length-append h.tolds (told_entry_of s x ev ∷ []));
       late = one_pushed (λ (e : Entry). ticks_of e.reader fewer < e.edge) h.entries (entry_of s x ev) h.late (omega (arith, ticks_grow x later fewer));
     }
 
-silent_grows : (s : Setup) (fewer : List Event) (e : Event) (ev : List Event) → log_of s (e ∷ ev) ≡ log_of s ev → told_log_of s (e ∷ ev) ≡ told_log_of s ev → Grows s fewer ev → Grows s fewer (e ∷ ev)
-silent_grows s fewer e ev log told h = record { entries = h.entries; tolds = h.tolds; log = log ∙ h.log; told_log = told ∙ h.told_log; same = h.same; late = h.late }
+silent_grows : (s : Setup) (fewer : List Event) (e : Event) (ev : List Event) → log_of s (e ∷ ev) ≡ log_of s ev → Grows s fewer ev → Grows s fewer (e ∷ ev)
+silent_grows s fewer e ev log h = record { entries = h.entries; log = log ∙ h.log; late = h.late }
 
 pub log_grows : (s : Setup) (later fewer : List Event) → Grows s fewer (later ++ fewer)
-log_grows s [] fewer = record { entries = []; tolds = []; log = sym (append-nil (log_of s fewer)); told_log = sym (append-nil (told_log_of s fewer)); same = refl; late = tt }
+log_grows s [] fewer = record { entries = []; log = sym (append-nil (log_of s fewer)); late = tt }
 log_grows s (Tick x ∷ later) fewer = tick_grows s fewer later x (log_grows s later fewer)
-log_grows s (GenEdge g ∷ later) fewer = silent_grows s fewer (GenEdge g) (later ++ fewer) refl refl (log_grows s later fewer)
-log_grows s (Carry g x ∷ later) fewer = silent_grows s fewer (Carry g x) (later ++ fewer) refl refl (log_grows s later fewer)
-log_grows s (Damage g x i width ∷ later) fewer = silent_grows s fewer (Damage g x i width) (later ++ fewer) refl refl (log_grows s later fewer)
-log_grows s (Replay g x edge ∷ later) fewer = silent_grows s fewer (Replay g x edge) (later ++ fewer) refl refl (log_grows s later fewer)
-log_grows s (Raw g x widths ∷ later) fewer = silent_grows s fewer (Raw g x widths) (later ++ fewer) refl refl (log_grows s later fewer)
-log_grows s (Fault g kind ∷ later) fewer = silent_grows s fewer (Fault g kind) (later ++ fewer) refl refl (log_grows s later fewer)
-log_grows s (Repair g ∷ later) fewer = silent_grows s fewer (Repair g) (later ++ fewer) refl refl (log_grows s later fewer)
-log_grows s (Restart x ∷ later) fewer = silent_grows s fewer (Restart x) (later ++ fewer) refl refl (log_grows s later fewer)
+log_grows s (GenEdge g ∷ later) fewer = silent_grows s fewer (GenEdge g) (later ++ fewer) refl (log_grows s later fewer)
+log_grows s (Carry g x ∷ later) fewer = silent_grows s fewer (Carry g x) (later ++ fewer) refl (log_grows s later fewer)
+log_grows s (Damage g x i width ∷ later) fewer = silent_grows s fewer (Damage g x i width) (later ++ fewer) refl (log_grows s later fewer)
+log_grows s (Replay g x edge ∷ later) fewer = silent_grows s fewer (Replay g x edge) (later ++ fewer) refl (log_grows s later fewer)
+log_grows s (Raw g x widths ∷ later) fewer = silent_grows s fewer (Raw g x widths) (later ++ fewer) refl (log_grows s later fewer)
+log_grows s (Fault g kind ∷ later) fewer = silent_grows s fewer (Fault g kind) (later ++ fewer) refl (log_grows s later fewer)
+log_grows s (Repair g ∷ later) fewer = silent_grows s fewer (Repair g) (later ++ fewer) refl (log_grows s later fewer)
+log_grows s (Restart x ∷ later) fewer = silent_grows s fewer (Restart x) (later ++ fewer) refl (log_grows s later fewer)
 
 -- no entry is of an edge to come
 early : (s : Setup) (ev more : List Event) → ((r : ℕ) → ticks_of r ev ≤ ticks_of r more) → AllByRecursion (λ (e : Entry). e.edge ≤ ticks_of e.reader ev) (log_of s ev) → AllByRecursion (λ (e : Entry). e.edge ≤ ticks_of e.reader more) (log_of s ev)
@@ -178,14 +169,9 @@ true_below s ev r n e sound h truth = record {
 -- after it of a later one
 pub record SplitsLog (s : Setup) (ev : List Event) (r n : ℕ) : Type 0 where
   pub first : List Entry
-  pub first_tolds : List ToldEntry
   pub entry : Entry
-  pub told : ToldEntry
   pub rest : List Entry
-  pub rest_tolds : List ToldEntry
   pub log : log_of s ev ≡ first ++ entry ∷ rest
-  pub told_log : told_log_of s ev ≡ first_tolds ++ told ∷ rest_tolds
-  pub same : length first ≡ length first_tolds
   pub edge : entry.edge ≡ n
   pub true_first : AllByRecursion (IsTruthful s.times) first
   pub early : AllByRecursion (λ (e : Entry). e.reader ≡ r → e.edge < n) first
@@ -201,14 +187,9 @@ splits_log s ev r n sound h =
     let grown = log_grows s h.later (Tick r ∷ before) in
     record {
       first = log_of s before;
-      first_tolds = told_log_of s before;
       entry = entry_of s r before;
-      told = told_entry_of s r before;
       rest = grown.entries;
-      rest_tolds = grown.tolds;
       log = ap (log_of s) h.is ∙ grown.log ∙ append_assoc (log_of s before) (entry_of s r before ∷ []) grown.entries;
-      told_log = ap (told_log_of s) h.is ∙ grown.told_log ∙ append_assoc (told_log_of s before) (told_entry_of s r before ∷ []) grown.tolds;
-      same = sym (told_length s before);
       edge = h.edge;
       true_first = recursion_from_All (IsTruthful s.times) (log_of s before) (kept_log_is_true s before sound h.kept);
       early = each_by (λ (e : Entry). e.edge ≤ ticks_of e.reader before) (λ (e : Entry). e.reader ≡ r → e.edge < n)

@@ -10,6 +10,7 @@ use Rattle.irig_time.proofs.StandardFacts.{known_month_end, known_first_end}
 use Rattle.irig_time.specs.Timelines.{TimelineValue, times, second_at}
 use Rattle.irig_time.specs.Tables.{TableValue, table}
 use Rattle.irig_hold.specs.Truth.{IsTrueTable}
+use Rattle.irig_vote.specs.declared.redundancy.Redundancy.TheVariants.{Three}
 use Rattle.irig_reader.specs.declared.report.Lock.TheVariants as lock
 use Rattle.irig_reader.specs.declared.report.Cause.TheVariants as cause
 use Rattle.irig_reader.specs.declared.report.Report.{Report}
@@ -27,7 +28,7 @@ use Rattle.irig_plant.specs.Headline.{KeepsHeadline}
 use Rattle.irig_plant.proofs.CourseLaws.{voted_by_test, test_by_voted, test_by_restarted}
 use Rattle.irig_plant.proofs.Headline.{kept_now, harmless}
 use Rattle.irig_plant.proofs.KeptLaws.{empty_true}
-use Rattle.irig_plant.proofs.NoonPlants.{at, noon, plant, told_0, told_nothing, kept_none, kept_tick, kept_replay, two_stale, kept_first_of_3}
+use Rattle.irig_plant.proofs.NoonPlants.{at, noon, plant, told_0, told_nothing, kept_none, kept_tick, kept_replay, two_stale, kept_first_of_3, silent_ports}
 
 -- ---- how many numbers are such
 
@@ -90,7 +91,7 @@ not_kept kept = broken_up_to_2 (kept.ticks 0 2)
 
 -- so an entry of edge 1 has its premises, and one of edge 2 has not
 abbrev entry : ℕ → Report → Entry
-entry edge report = record { reader = 0; edge = edge; report = report }
+entry edge report = record { reader = 0; edge = edge; report = report; redundancy = Three; told = silent_ports; truth = None }
 
 premises_at_1 : (said : Report) → HasPremises (plant 3) (Tick 0 ∷ two_stale) (entry 1 said)
 premises_at_1 said = record { true_table = empty_true noon (omega arith); kept = kept_up_to_1 }

@@ -15,6 +15,7 @@ use Rattle.irig_port.specs.Heard.{symbols_of}
 use Rattle.irig_port.proofs.CarriesLaws.{carries_is_told}
 use Rattle.irig_port.specs.Told.{told_of_widths}
 use Rattle.irig_time.specs.Claims.{same_claim}
+use Rattle.irig_vote.specs.declared.redundancy.Redundancy.TheVariants.{Three}
 use Rattle.irig_vote.specs.Vote.{carriers}
 use Rattle.irig_vote.proofs.CountLaws.{same_is}
 use Rattle.irig_reader.specs.declared.report.Lock.{Lock}
@@ -40,7 +41,7 @@ use Rattle.irig_plant.specs.OwnEdge.{IsCleanNow, IsCleanAt, IsTrueByItsEdge, Has
 use Rattle.irig_plant.specs.Healing.{HasVoteAt, RestsOn, RestsOnAVote, RestsOnItsMajority, IsCleanBetween, IsCleanSince, IsTrueIfClean, IsFalseToTheEnd, IsFalseEdge}
 use Rattle.irig_plant.proofs.KeptLaws.{empty_true}
 use Rattle.irig_plant.proofs.CourseLaws.{ticks_grow, ticks_now}
-use Rattle.irig_plant.proofs.NoonPlants.{at, noon, rules, plant, three_generators, claim_0, told_0, told_nothing, two_stale}
+use Rattle.irig_plant.proofs.NoonPlants.{at, noon, rules, plant, three_generators, claim_0, told_0, told_nothing, two_stale, silent_ports}
 use Rattle.irig_plant.proofs.HealingPlant.{holder, holding, is_timeline, misled, held_once, held_twice, claim_of, truth_1, told_2, first_vote, stale_vote, silent_vote, says_2, says_3, says_4}
 use Rattle.irig_plant.proofs.OwnEdge.{clean_by_ports}
 use Rattle.irig_plant.proofs.PortLaws.{broken_by_ports}
@@ -48,7 +49,7 @@ use Rattle.irig_plant.proofs.ExactLaws.{log_at}
 
 -- an entry of the reader
 abbrev entry : ℕ → ℕ → Lock → Cause → Entry
-entry edge sod l c = record { reader = 0; edge = edge; report = announcement (at sod) l c }
+entry edge sod l c = record { reader = 0; edge = edge; report = announcement (at sod) l c; redundancy = Three; told = silent_ports; truth = None }
 
 abbrev first_tick : List Event
 first_tick = Tick 0 ∷ []
@@ -279,7 +280,7 @@ not_over_restart e reader edge h =
     let broken : is_restarted e.reader (Tick 0 ∷ Restart 0 ∷ misled) 2 ≡ true = rw reader refl in
     false≢true (sym (h.unbroken 2 (omega arith) (omega (arith, edge))) ∙ broken)
 
-not_past_holdover : (said : Report) → ¬ RestsOn (plant 3) held_once (record { reader = 0; edge = 3; report = said }) 2
+not_past_holdover : (said : Report) → ¬ RestsOn (plant 3) held_once (record (entry 3 43202 lock.Locked cause.Held) { report = said }) 2
 not_past_holdover said h = omega (arith, h.near, h.back)
 
 rests : RestsOnAVote holding held_once (entry 3 43202 (lock.Holdover 1) cause.Held)

@@ -1,15 +1,19 @@
 -- A healthy plant worked by hand from noon of 2000-01-31 on, with a reader that locks after one
 -- vote and one that locks after two; and plants that are not healthy.
 use Rattle.std.specs.Prelude.{is_some}
-use Rattle.std.proofs.Common.{◌≡◌, ℕ, ◌≤◌, inl, inr, true, false, List, [], ◌∷◌, Option, Some, None, refl, sym, ap, ◌∙◌, arith}
+use Rattle.std.proofs.Common.{◌≡◌, ℕ, ◌+◌, ◌≤◌, inl, inr, true, false, List, [], ◌∷◌, Option, Some, None, refl, sym, ap, ◌∙◌, arith}
 use Rattle.std.proofs.lemmas.Bool.{false≢true}
 use Rattle.std.proofs.lemmas.List.Elements.{All-nil, All-cons, All-head}
 use Rattle.irig_time.specs.declared.second.UtcSecond.{UtcSecond}
 use Rattle.irig_time.specs.declared.leap.Leap.TheVariants as leap
+use Rattle.irig_time.specs.declared.claim.Claim.{Claim}
+use Rattle.irig_time.specs.declared.mark.Mark.TheVariants.{Unspoken}
 use Rattle.irig_time.specs.Timelines.{TimelineValue, times, second_at}
 use Rattle.irig_time.specs.Tables.{table}
 use Rattle.irig_time.specs.TimelineFaults.{IsTimeline}
 use Rattle.irig_time.proofs.StandardFacts.{known_first_end}
+use Rattle.irig_port.specs.declared.told.Told.TheVariants as tells
+use Rattle.irig_vote.specs.declared.redundancy.Redundancy.TheVariants.{Three}
 use Rattle.irig_reader.specs.declared.report.Lock.TheVariants as lock
 use Rattle.irig_reader.specs.declared.report.Cause.TheVariants as cause
 use Rattle.irig_reader.specs.declared.report.Report.{Report}
@@ -66,8 +70,19 @@ one_second = refl
 
 -- ---- its log of two seconds
 
+-- all three ports tell the second before
+abbrev claim : ℕ → Claim
+claim edge = record { at = at (43199 + edge); mark = Unspoken }
+
 abbrev entry : ℕ → ℕ → Report → Entry
-entry r edge said = record { reader = r; edge = edge; report = said }
+entry r edge said = record {
+  reader = r;
+  edge = edge;
+  report = said;
+  redundancy = Three;
+  told = record { a = tells.Claim (claim edge); b = tells.Claim (claim edge); c = tells.Claim (claim edge); d = tells.Silence; e = tells.Silence };
+  truth = Some (claim edge);
+}
 
 abbrev tells_second : ℕ → Report
 tells_second sod = announcement (at sod) lock.Locked cause.Voted
@@ -78,7 +93,7 @@ right_log = entry 0 1 (tells_second 43201) ∷ entry 1 1 (silence (lock.Acquirin
 
 known_log : healthy_log two_readers 2 ≡ right_log
 unfolding second_at
-known_log = refl
+known_log = rw known_first_end refl
 
 no_log : healthy_log two_readers 0 ≡ []
 no_log = refl

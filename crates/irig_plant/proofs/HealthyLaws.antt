@@ -4,7 +4,7 @@ use Rattle.std.specs.Prelude.{◌↔◌, nat_lt, is_some, map, cond}
 use Rattle.std.specs.List.{flat_map, range_with_len}
 use Rattle.std.specs.Option.{option_map}
 use Rattle.std.proofs.Common.{◌≡◌, ℕ, zero, suc, ◌+◌, ◌-◌, ◌<◌, ◌≤◌, Bool, true, false, List, [], ◌∷◌, ◌++◌, length, Option, Some, None, inl, inr, refl, sym, ap, subst, ◌∙◌, arith, append-nil, append_assoc}
-use Rattle.std.proofs.lemmas.Bool.{lt-ltb, ltb-true, ltb-false}
+use Rattle.std.proofs.lemmas.Bool.{cases_lt, lt-ltb, le-ltb, ltb-true, ltb-false}
 use Rattle.irig_time.specs.declared.second.UtcSecond.{UtcSecond}
 use Rattle.irig_time.specs.declared.claim.Claim.{Claim}
 use Rattle.irig_time.specs.Timelines.{TimelineValue, IsSecond, day_length, seconds_in, true_claim, second_at, truth_at}
@@ -15,24 +15,30 @@ use Rattle.irig_time.proofs.SecondAt.{second_is}
 use Rattle.irig_time.proofs.NoGaps.{seconds_before}
 use Rattle.irig_gen.specs.Frames.{GeneratorValue}
 use Rattle.irig_gen.specs.Sent.{frame_of}
+use Rattle.irig_port.specs.declared.told.Told.TheVariants as tells
+use Rattle.irig_port.specs.Told.{told_of_widths}
+use Rattle.irig_port.proofs.ToldLaws.{none_told}
+use Rattle.irig_vote.specs.declared.votes.Tells.{Tells}
+use Rattle.irig_vote.specs.Vote.{redundancy_of}
 use Rattle.irig_reader.specs.declared.report.Report.{Report}
+use Rattle.irig_reader.specs.History.{told_at_tick}
 use Rattle.irig_plant.specs.declared.event.Event.{Event}
 use Rattle.irig_plant.specs.declared.event.Event.TheVariants.{GenEdge, Tick, Carry}
 use Rattle.irig_plant.specs.declared.entry.Entry.{Entry}
 use Rattle.irig_plant.specs.declared.audit.Audit.TheVariants.{Kept}
 use Rattle.irig_plant.specs.declared.fault.PlantFault.{PlantFault}
 use Rattle.irig_plant.specs.Widths.{widths_of}
-use Rattle.irig_plant.specs.Schedule.{Setup, no_generator, generator_at, heard_at, pulses_sent, pulses_sent_at, ticks_of, entry_of, log_of}
+use Rattle.irig_plant.specs.Schedule.{Setup, no_generator, generator_at, heard_at, pulses_sent, pulses_sent_at, ticks_of, setup_at, history_of, entry_of, log_of}
 use Rattle.irig_plant.specs.Refusals.{unless_second}
 use Rattle.irig_plant.specs.Runs.{events_after, AreAccepted}
 use Rattle.irig_plant.specs.Audits.{audit_of}
 use Rattle.irig_plant.specs.History.{IsNew}
 use Rattle.irig_plant.specs.Health.{HasGenerators}
 use Rattle.irig_plant.specs.WholeSecond.{second_of, times}
-use Rattle.irig_plant.specs.HealthyPlant.{seconds_of, IsHealthyPlant, healthy_entry, healthy_log}
+use Rattle.irig_plant.specs.HealthyPlant.{seconds_of, IsHealthyPlant, healthy_report, told_of_truth, tells_if_there, all_tell, healthy_entry, healthy_log}
 use Rattle.irig_plant.proofs.AuditLaws.{kept_is}
-use Rattle.irig_plant.proofs.HealthLaws.{ports_are_generators, frame_kept, sent_plain}
-use Rattle.irig_plant.proofs.SecondEvents.{after_both, carried, carried_to_all, ticked, stepped, Stays, all_carried_stays, heard_by_all, ticked_generator, other_ticks, other_heard, ticks_by_all, emptied, stepped_ticks, stepped_heard, stepped_log, other_step, stepped_by_all}
+use Rattle.irig_plant.proofs.HealthLaws.{ports_are_generators, healthy_tells, frame_kept, sent_plain}
+use Rattle.irig_plant.proofs.SecondEvents.{after_both, carried, carried_to_all, ticked, stepped, Stays, all_carried_stays, heard_beyond, heard_by_all, ticked_generator, other_ticks, other_heard, ticks_by_all, emptied, stepped_ticks, stepped_heard, stepped_log, other_step, stepped_by_all}
 use Rattle.irig_plant.proofs.HealthyTicks.{IsHealthyTick, AllHealthy, kept_by_health, says_healthy}
 
 -- ---- the seconds of a timeline
@@ -253,6 +259,7 @@ module _ (s : Setup) where
   record IsReady (k : ℕ) (ev : List Event) (r : ℕ) : Type 0 where
     ticks : ticks_of r ev ≡ k
     heard : (p : ℕ) → p < generators → heard_at s r p ev ≡ pulses_sent_at s p k []
+    silent : (p : ℕ) → generators ≤ p → heard_at s r p ev ≡ []
 
   record IsHealthySince (ev after : List Event) (more : List Entry) : Type 0 where
     healthy : AllHealthy s after
@@ -266,6 +273,7 @@ module _ (s : Setup) where
           let sent : pulses_sent s p ev ≡ pulses_sent_at s p k [] =
           ap widths_of (sent_plain (generator_at s p ev) s.times (at.plain p port) ∙ ap (frame_of None (generator_at s p ev) s.times) (at.edges p port) ∙ frame_kept s p ev k) in
           heard_by_all s generators r p 0 readers ev port (omega arith) (omega (arith, low)) ∙ ap (λ (w : List ℕ). w ++ pulses_sent s p ev) (at.empty r p low) ∙ sent;
+      silent = λ p beyond. heard_beyond s generators r p 0 readers ev beyond ∙ at.empty r p low;
     }
 
     ready_tick : (k r : ℕ) (ev : List Event) (c : Claim) → truth_at s.times k ≡ Some c → IsReady k ev r → IsHealthyTick s r ev
@@ -278,13 +286,36 @@ module _ (s : Setup) where
       };
     }
 
-    entry_there : (k r : ℕ) (ev : List Event) (v : UtcSecond) → second_at s.times (k + 1) ≡ Some v → ticks_of r ev ≡ k → AllHealthy s (Tick r ∷ ev) → entry_of s r ev ≡ healthy_entry s (k + 1) r
-    entry_there k r ev v second ticks h =
+    tells_it : (k r : ℕ) (ev : List Event) (c : Claim) → truth_at s.times k ≡ Some c → IsReady k ev r → (p : ℕ) → told_of_widths s.rules (heard_at s r p ev) ≡ tells_if_there generators (tells.Claim c) p
+    unfolding ready_tick
+    tells_it k r ev c truth ready p =
+        let tick = ready_tick k r ev c truth ready in
+        elim (cases_lt p generators) [
+          | inl low ↦ rw (lt-ltb p generators low) (healthy_tells s r p ev c plant.timeline plant.generators tick.truth (tick.ports p (omega (arith, low, ports_are_generators s plant.generators))))
+          | inr high ↦ rw (le-ltb p generators high, ready.silent p high) (none_told s.rules [] refl)
+        ]
+
+    all_tell_it : (k r : ℕ) (ev : List Event) (c : Claim) → truth_at s.times k ≡ Some c → IsReady k ev r → told_at_tick (history_of s r ev) ≡ all_tell generators (tells.Claim c)
+    all_tell_it k r ev c truth ready =
+        let tells = tells_it k r ev c truth ready in rw (tells 0, tells 1, tells 2, tells 3, tells 4) refl
+
+    abbrev logged : ℕ → ℕ → Report → Tells → Option Claim → Entry
+    logged r n said told truth = record { reader = r; edge = n; report = said; redundancy = redundancy_of generators; told = told; truth = truth }
+
+    entry_there : (k r : ℕ) (ev : List Event) (c : Claim) (v : UtcSecond) → truth_at s.times k ≡ Some c → second_at s.times (k + 1) ≡ Some v → IsReady k ev r → AllHealthy s (Tick r ∷ ev) → entry_of s r ev ≡ healthy_entry s (k + 1) r
+    entry_there k r ev c v truth second ready h =
+        let ticks = ready.ticks in
         let says = says_healthy s plant r ev h v (ap (λ (m : ℕ). second_at s.times (m + 1)) ticks ∙ second) in
-        ap (λ (said : Report). let e : Entry = record { reader = r; edge = ticks_of r ev + 1; report = said } in e) says ∙ ap (λ (m : ℕ). healthy_entry s (m + 1) r) ticks
+        let said : ℕ → Report = healthy_report s.times (setup_at s.readers r).rules in
+        let before : k ≡ k + 1 - 1 = omega arith in
+        ap (λ (x : Report). logged r (ticks_of r ev + 1) x (told_at_tick (history_of s r ev)) (truth_at s.times (ticks_of r ev))) says
+        ∙ ap (λ (x : Tells). logged r (ticks_of r ev + 1) (said (ticks_of r ev + 1)) x (truth_at s.times (ticks_of r ev))) (all_tell_it k r ev c truth ready)
+        ∙ ap (λ (m : ℕ). logged r (m + 1) (said (m + 1)) (all_tell generators (tells.Claim c)) (truth_at s.times m)) ticks
+        ∙ ap (λ (o : Option Claim). logged r (k + 1) (said (k + 1)) (all_tell generators (told_of_truth o)) (truth_at s.times k)) (sym truth)
+        ∙ ap (λ (m : ℕ). logged r (k + 1) (said (k + 1)) (all_tell generators (told_of_truth (truth_at s.times m))) (truth_at s.times m)) before
 
     other_ready : (k r q : ℕ) (ev : List Event) → ¬ (r ≡ q) → IsReady k ev q → IsReady k (Tick r ∷ ev) q
-    other_ready k r q ev other ready = record { ticks = other_ticks s q r ev other ∙ ready.ticks; heard = λ p port. other_heard s q p r ev other ∙ ready.heard p port }
+    other_ready k r q ev other ready = record { ticks = other_ticks s q r ev other ∙ ready.ticks; heard = λ p port. other_heard s q p r ev other ∙ ready.heard p port; silent = λ p beyond. other_heard s q p r ev other ∙ ready.silent p beyond }
 
     ticks_log : (k r n : ℕ) (ev : List Event) (c : Claim) (v : UtcSecond) → truth_at s.times k ≡ Some c → second_at s.times (k + 1) ≡ Some v → ((q : ℕ) → r ≤ q → q < r + n → IsReady k ev q) → AllHealthy s ev
         → IsHealthySince ev (events_after (ticked r n) ev) (map (healthy_entry s (k + 1)) (range_with_len r n))
@@ -297,7 +328,7 @@ module _ (s : Setup) where
         let others = map (healthy_entry s (k + 1)) (range_with_len (r + 1) n) in
         record {
           healthy = rest.healthy;
-          log = rest.log ∙ append_assoc (log_of s ev) (entry_of s r ev ∷ []) others ∙ ap (λ (e : Entry). log_of s ev ++ e ∷ others) (entry_there k r ev v second here.ticks now);
+          log = rest.log ∙ append_assoc (log_of s ev) (entry_of s r ev ∷ []) others ∙ ap (λ (e : Entry). log_of s ev ++ e ∷ others) (entry_there k r ev c v truth second here now);
         }
 
     pub record HasHealthyLog (k : ℕ) (ev : List Event) : Type 0 where

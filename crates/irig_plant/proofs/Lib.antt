@@ -4,7 +4,6 @@ pub mod StepLaws
 pub mod NothingLaws
 pub mod RunLaws
 pub mod SoundLaws
-pub mod ToldLaws
 pub mod TableLaws
 pub mod TableEnds
 pub mod HeadlineVotes

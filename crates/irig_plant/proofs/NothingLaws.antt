@@ -55,7 +55,5 @@ module _ {P : Type 0} {g : Ghosts P} where
         readers = λ r d lt. reader_stays s ev k i r _ given (x.readers r d lt);
         log = x.log;
         few = x.few;
-        is_kept = x.is_kept;
-        told = x.told;
         audit = x.audit;
       }

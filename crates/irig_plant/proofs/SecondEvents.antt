@@ -62,6 +62,10 @@ module _ (s : Setup) where
   heard_below r p g zero ev low = refl
   heard_below r p g (suc n) ev low = heard_below r p (g + 1) n (Carry g r ∷ ev) (omega arith) ∙ not_from r r p g ev (λ e. omega (arith, e, low))
 
+  heard_above : (r q p g n : ℕ) (ev : List Event) → g + n ≤ p → heard_at s q p (events_after (carried r g n) ev) ≡ heard_at s q p ev
+  heard_above r q p g zero ev high = refl
+  heard_above r q p g (suc n) ev high = heard_above r q p (g + 1) n (Carry g r ∷ ev) (omega (arith, high)) ∙ not_from r q p g ev (λ e. omega (arith, e, high))
+
   from_it : (r p : ℕ) (ev : List Event) → heard_at s r p (Carry p r ∷ ev) ≡ heard_at s r p ev ++ pulses_sent s p ev
   from_it r p ev = rw (eq-eqb r r refl, eq-eqb p p refl) refl
 
@@ -95,6 +99,14 @@ module _ (s : Setup) where
   heard_earlier generators q p r (suc n) ev low =
       ap (heard_at s q p) (first_then generators r n ev) ∙ heard_earlier generators q p (r + 1) n (events_after (carried r 0 generators) ev) (omega arith)
       ∙ heard_apart r q p 0 generators ev (λ e. omega (arith, e, low))
+
+  -- a port without a generator has heard nothing more
+  pub heard_beyond : (generators q p r n : ℕ) (ev : List Event) → generators ≤ p
+      → heard_at s q p (events_after (carried_to_all generators r n) ev) ≡ heard_at s q p ev
+  heard_beyond generators q p r zero ev high = refl
+  heard_beyond generators q p r (suc n) ev high =
+      ap (heard_at s q p) (first_then generators r n ev) ∙ heard_beyond generators q p (r + 1) n (events_after (carried r 0 generators) ev) high
+      ∙ heard_above r q p 0 generators ev (omega (arith, high))
 
   -- each port has heard one frame more
   pub heard_by_all : (generators q p r n : ℕ) (ev : List Event) → p < generators → r ≤ q → q < r + n

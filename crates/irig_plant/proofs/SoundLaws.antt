@@ -9,7 +9,6 @@ use Rattle.irig_port.specs.declared.told.Told.{Told}
 use Rattle.irig_port.specs.declared.told.Told.TheVariants as tells
 use Rattle.irig_vote.specs.Vote.{IsOfUtc}
 use Rattle.irig_plant.specs.declared.entry.Entry.{Entry}
-use Rattle.irig_plant.specs.declared.told_log.ToldEntry.{ToldEntry}
 use Rattle.irig_plant.specs.Sound.{IsSound, IsToldSoundly}
 
 valid_if : (o : Option UtcSecond) → ¬ ¬ IfSome o IsValid → IfSome o IsValid
@@ -26,7 +25,7 @@ of_utc_if tells.Silence h = tt
 of_utc_if (tells.Fault f) h = tt
 of_utc_if (tells.Poor q) h = tt
 
-pub all_told_soundly : (entries : List ToldEntry) → ∥ All IsToldSoundly entries ∥₁ → All IsToldSoundly entries
+pub all_told_soundly : (entries : List Entry) → ∥ All IsToldSoundly entries ∥₁ → All IsToldSoundly entries
 all_told_soundly entries kept i d lt =
     let e = get_or entries i d in
     record {

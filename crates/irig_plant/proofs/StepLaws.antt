@@ -19,7 +19,7 @@ use Rattle.irig_plant.specs.declared.event.Event.TheVariants.{GenEdge, Tick, Car
 use Rattle.irig_plant.specs.declared.fault.PlantFault.{PlantFault}
 use Rattle.irig_plant.specs.declared.fault.PlantFault.TheVariants.{NoSuchReader, NoSuchGenerator, EndOfYears}
 use Rattle.irig_plant.specs.declared.plant.TickedReader.{TickedReader}
-use Rattle.irig_plant.specs.Schedule.{Setup, generator_at_next_edge, generator_with_fault, generator_without_fault, generator_at, Delivery, delivery, delivery_of, empties, with_delivery, heard_at, fed_at, ticks_of, votes_of, history_of, log_of, told_log_of}
+use Rattle.irig_plant.specs.Schedule.{Setup, generator_at_next_edge, generator_with_fault, generator_without_fault, generator_at, Delivery, delivery, delivery_of, empties, with_delivery, heard_at, fed_at, ticks_of, votes_of, history_of, log_of}
 use Rattle.irig_plant.specs.Widths.{widths_of}
 use Rattle.irig_plant.specs.Refusals.{unless_reader, unless_generator, unless_second}
 use Rattle.irig_plant.specs.Audits.{TickOfReader, first_broken, verdict, audit_after}
@@ -62,14 +62,13 @@ pub record IsPlain (s : Setup) (e : Event) (ev : List Event) : Type 0 where
   pub votes : (r : ℕ) → votes_of s r (e ∷ ev) ≡ votes_of s r ev
   pub generators : (g : ℕ) → generator_at s g (e ∷ ev) ≡ generator_at s g ev
   pub log : log_of s (e ∷ ev) ≡ log_of s ev
-  pub told : told_log_of s (e ∷ ev) ≡ told_log_of s ev
   pub broken : first_broken s (e ∷ ev) ≡ first_broken s ev
 
 pub delivers : (s : Setup) (e : Event) (ev : List Event) (d : Delivery) → delivery_of s e ev ≡ Some d → IsPlain s e ev
-delivers s (Carry g r) ev d h = record { keeps = λ _. refl; ticks = λ _. refl; votes = λ _. refl; generators = λ _. refl; log = refl; told = refl; broken = refl }
-delivers s (Damage g r at width) ev d h = record { keeps = λ _. refl; ticks = λ _. refl; votes = λ _. refl; generators = λ _. refl; log = refl; told = refl; broken = refl }
-delivers s (Replay g r edge) ev d h = record { keeps = λ _. refl; ticks = λ _. refl; votes = λ _. refl; generators = λ _. refl; log = refl; told = refl; broken = refl }
-delivers s (Raw g r widths) ev d h = record { keeps = λ _. refl; ticks = λ _. refl; votes = λ _. refl; generators = λ _. refl; log = refl; told = refl; broken = refl }
+delivers s (Carry g r) ev d h = record { keeps = λ _. refl; ticks = λ _. refl; votes = λ _. refl; generators = λ _. refl; log = refl; broken = refl }
+delivers s (Damage g r at width) ev d h = record { keeps = λ _. refl; ticks = λ _. refl; votes = λ _. refl; generators = λ _. refl; log = refl; broken = refl }
+delivers s (Replay g r edge) ev d h = record { keeps = λ _. refl; ticks = λ _. refl; votes = λ _. refl; generators = λ _. refl; log = refl; broken = refl }
+delivers s (Raw g r widths) ev d h = record { keeps = λ _. refl; ticks = λ _. refl; votes = λ _. refl; generators = λ _. refl; log = refl; broken = refl }
 delivers s (GenEdge g) ev d h = absurd cc
 delivers s (Tick r) ev d h = absurd cc
 delivers s (Fault g kind) ev d h = absurd cc

@@ -1,9 +1,14 @@
 -- A plant without faults that goes by whole seconds from its start, and what its log then shows.
 -- Source: docs/EXACTLY_WHEN.md.
-use Rattle.std.specs.Prelude.{ℕ, nat_lt, if◌then◌else◌, List, length, All, map}
+use Rattle.std.specs.Prelude.{ℕ, ◌-◌, nat_lt, if◌then◌else◌, List, length, All, map, Option, Some, None}
 use Rattle.std.specs.List.{flat_map, range_with_len}
-use Rattle.irig_time.specs.Timelines.{TimelineValue, second_at}
+use Rattle.irig_time.specs.Timelines.{TimelineValue, second_at, truth_at}
 use Rattle.irig_time.specs.TimelineFaults.{IsTimeline}
+use Rattle.irig_time.specs.declared.claim.Claim.{Claim}
+use Rattle.irig_port.specs.declared.told.Told.{Told}
+use Rattle.irig_port.specs.declared.told.Told.TheVariants as tells
+use Rattle.irig_vote.specs.declared.votes.Tells.{Tells}
+use Rattle.irig_vote.specs.Vote.{redundancy_of}
 use Rattle.irig_reader.specs.declared.report.Lock.TheVariants as lock
 use Rattle.irig_reader.specs.declared.report.Cause.TheVariants as cause
 use Rattle.irig_reader.specs.declared.report.Report.{Report}
@@ -35,10 +40,36 @@ healthy_report t reader_rules n =
     if nat_lt n reader_rules.lock_after then silence (lock.Acquiring n) cause.Acquiring
     else record { announce = second_at t n; lock = lock.Locked; cause = cause.Voted }
 
--- what is logged of reader r at edge n
+-- what a port tells of a true frame with this claim, if there is one
+abbrev pub told_of_truth : Option Claim → Told
+told_of_truth None = tells.Silence
+told_of_truth (Some claim) = tells.Claim claim
+
+-- port p of so many tells this, and what is not there is silent
+abbrev pub tells_if_there : ℕ → Told → ℕ → Told
+tells_if_there ports told p = if nat_lt p ports then told else tells.Silence
+
+-- so many ports all tell this
+abbrev pub all_tell : ℕ → Told → Tells
+all_tell ports told = record {
+  a = tells_if_there ports told 0;
+  b = tells_if_there ports told 1;
+  c = tells_if_there ports told 2;
+  d = tells_if_there ports told 3;
+  e = tells_if_there ports told 4;
+}
+
+-- what is logged of reader r at edge n: what it says, and that all its ports tell the truth
 abbrev pub healthy_entry : Setup → ℕ → ℕ → Entry
 healthy_entry s n r =
-    record { reader = r; edge = n; report = healthy_report s.times (setup_at s.readers r).rules n }
+    let truth = truth_at s.times (n - 1) in record {
+      reader = r;
+      edge = n;
+      report = healthy_report s.times (setup_at s.readers r).rules n;
+      redundancy = redundancy_of (length s.generators);
+      told = all_tell (length s.generators) (told_of_truth truth);
+      truth = truth;
+    }
 
 -- the log of n seconds: at each edge from 1 on, of each reader in order
 abbrev pub healthy_log : Setup → ℕ → List Entry

@@ -1,5 +1,5 @@
 -- What it is for a plant to have a history.
-use Rattle.std.specs.Prelude.{◌≡◌, Bool, true, false, if◌then◌else◌, ℕ, ◌<◌, ◌≤◌, ◌⊎◌, drop, All, List, [], ◌∷◌, length, Option, None, Some, ⊤, slice_index_or, vec_len, Result, OnOk, OnErr, IfErr}
+use Rattle.std.specs.Prelude.{◌≡◌, ℕ, ◌<◌, ◌≤◌, ◌⊎◌, drop, All, List, [], ◌∷◌, length, Option, None, Some, ⊤, slice_index_or, vec_len, Result, OnOk, OnErr, IfErr}
 use Rattle.irig_time.specs.declared.rules.Rules.{Rules}
 use Rattle.irig_gen.specs.Frames.{GeneratorValue}
 use Rattle.irig_port.specs.declared.port.Port.{Ghosts}
@@ -12,10 +12,9 @@ use Rattle.irig_plant.specs.declared.event.Event.{Event}
 use Rattle.irig_plant.specs.declared.entry.Entry.{Entry}
 use Rattle.irig_plant.specs.declared.setup.ReaderSetup.{ReaderSetup}
 use Rattle.irig_plant.specs.declared.plant.TickedReader.{TickedReader}
-use Rattle.irig_plant.specs.declared.told_log.ToldEntry.{ToldEntry}
 use Rattle.irig_plant.specs.declared.plant.Plant.{Plant}
 use Rattle.irig_vote.specs.Vote.{redundancy_of}
-use Rattle.irig_plant.specs.Schedule.{Setup, setup_at, generator_at, pulses_sent, ticks_of, history_of, log_of, told_log_of}
+use Rattle.irig_plant.specs.Schedule.{Setup, setup_at, generator_at, pulses_sent, ticks_of, history_of, log_of}
 use Rattle.irig_plant.specs.Audits.{audit_of}
 use Rattle.irig_plant.specs.declared.fault.PlantFault.{PlantFault}
 use Rattle.irig_plant.specs.Refusals.{refusal}
@@ -58,17 +57,16 @@ abbrev pub IsTickedReaderAt : {P : Type 0} {g : Ghosts P} → Setup → List Eve
     → TickedReader P g → Type 0
 IsTickedReaderAt s ev r x = IsTickedReader (history_of s r ev) (ticks_of r ev) x
 
--- what a plant is made of, the events that came, the newest first, how many entries of its log were
--- let go, and whether what the ports told is kept beside the entries
+-- what a plant is made of, the events that came, the newest first, and how many entries of its log
+-- were let go
 pub record PlantHistory : Type 0 where
   pub setup : Setup
   pub events : List Event
   pub shown : ℕ
-  pub keeps_told : Bool
 
 -- no event has come
 abbrev pub beginning : Setup → PlantHistory
-beginning s = record { setup = s; events = []; shown = 0; keeps_told = false }
+beginning s = record { setup = s; events = []; shown = 0 }
 
 -- one more event
 abbrev pub with_event : Event → PlantHistory → PlantHistory
@@ -81,14 +79,6 @@ with_events es h = record h { events = events_after es h.events }
 -- all entries so far were let go
 abbrev pub with_cleared_log : PlantHistory → PlantHistory
 with_cleared_log h = record h { shown = length (log_of h.setup h.events) }
-
--- so, and what the ports tell is kept from then on
-abbrev pub with_told_kept : PlantHistory → PlantHistory
-with_told_kept h = record (with_cleared_log h) { keeps_told = true }
-
--- what is kept of what the ports told: beside each entry of the log, or nothing
-abbrev pub told_kept : PlantHistory → List ToldEntry
-told_kept h = if h.keeps_told then drop h.shown (told_log_of h.setup h.events) else []
 
 -- a cached port of generator k, if there is one: a port that heard just what the generator now
 -- sends
@@ -112,8 +102,6 @@ pub record HasPlantHistory {P : Type 0} {g : Ghosts P} (p : Plant P g)
       → IsTickedReaderAt h.setup h.events r (slice_index_or p.readers.items r d)
   pub log : p.log.items ≡ drop h.shown (log_of h.setup h.events)
   pub few : h.shown ≤ length (log_of h.setup h.events)
-  pub is_kept : p.told.is_kept ≡ h.keeps_told
-  pub told : p.told.entries.items ≡ told_kept h
   pub audit : p.audit ≡ audit_of h.setup h.events
 
 -- a fact of each history that the plant may have

@@ -1,7 +1,6 @@
 pub mod Widths
 pub mod Sound
 pub mod Schedule
-pub mod Room
 pub mod Refusals
 pub mod Runs
 pub mod Audits

@@ -22,7 +22,6 @@ use Rattle.irig_plant.specs.declared.event.Event.{Event}
 use Rattle.irig_plant.specs.declared.event.Event.TheVariants.{GenEdge, Tick, Carry, Damage, Replay, Raw, Fault, Repair, Restart}
 use Rattle.irig_plant.specs.declared.entry.Entry.{Entry}
 use Rattle.irig_plant.specs.declared.setup.ReaderSetup.{ReaderSetup}
-use Rattle.irig_plant.specs.declared.told_log.ToldEntry.{ToldEntry}
 use Rattle.irig_plant.specs.Widths.{widths_of, with_damage}
 
 -- what a plant is made of
@@ -189,30 +188,20 @@ history_of s r ev = history_with s r (fed_at s r ev) (votes_of s r ev)
 
 -- ---- the log
 
--- what is logged of a tick of r that comes now: its edge, and what the reader's rule says of its
--- votes
+-- what is logged of a tick of r that comes now: its edge, what the reader's rule says of its votes,
+-- what its ports tell, and what they tell of a true frame
 abbrev pub entry_of : Setup → ℕ → List Event → Entry
-entry_of s r ev =
-    record { reader = r; edge = ticks_of r ev + 1; report = report_at_tick (history_of s r ev) }
+entry_of s r ev = record {
+  reader = r;
+  edge = ticks_of r ev + 1;
+  report = report_at_tick (history_of s r ev);
+  redundancy = redundancy_of (length s.generators);
+  told = told_at_tick (history_of s r ev);
+  truth = truth_at s.times (ticks_of r ev);
+}
 
 -- one entry for each tick, the oldest first
 abbrev pub log_of : Setup → List Event → List Entry
 log_of s [] = []
 log_of s (Tick r ∷ ev) = log_of s ev ++ entry_of s r ev ∷ []
 log_of s (_ ∷ ev) = log_of s ev
-
--- ---- what ports told
-
--- what the ports of r tell at a tick that comes now, and what they tell of a true frame
-abbrev pub told_entry_of : Setup → ℕ → List Event → ToldEntry
-told_entry_of s r ev = record {
-  redundancy = redundancy_of (length s.generators);
-  told = told_at_tick (history_of s r ev);
-  truth = truth_at s.times (ticks_of r ev);
-}
-
--- so for each tick, the oldest first
-abbrev pub told_log_of : Setup → List Event → List ToldEntry
-told_log_of s [] = []
-told_log_of s (Tick r ∷ ev) = told_log_of s ev ++ told_entry_of s r ev ∷ []
-told_log_of s (_ ∷ ev) = told_log_of s ev

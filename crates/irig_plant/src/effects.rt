@@ -8,7 +8,6 @@ use crate::event::{Event, Widths};
 use crate::fault::PlantFault;
 use crate::plant::Plant;
 use crate::pulses::{pulses, with_damage};
-use crate::told_log::ToldEntry;
 use irig_gen::GenFault;
 use irig_port::Port;
 
@@ -31,7 +30,7 @@ impl<P: Port> Plant<P> {
         Ok(())
     }
 
-    // The room for what is kept comes before the effect: a tick that wants memory changes nothing.
+    // The room for its entry comes before the effect: a tick that wants memory changes nothing.
     pub(crate) fn tick(&mut self, r: u8) -> Result<(), PlantFault>
         ensures accepted { OnOk result (Accepts self.old (Event.Tick r)) }
         ensures stands { OnOk result (Follows self.old (Event.Tick r) self.new) }
@@ -44,18 +43,14 @@ impl<P: Port> Plant<P> {
             return Err(PlantFault::EndOfYears);
         };
         self.log.reserve(1)?;
-        self.told.reserve()?;
         let edge = ticks + 1;
         let ticked_reader = &mut self.readers[r as usize];
         ticked_reader.ticks = edge;
         let ticked = ticked_reader.reader.tick();
-        let report = ticked.report;
         self.log.push_reserved(Entry {
             reader: r,
             edge,
-            report,
-        });
-        self.told.push(ToldEntry {
+            report: ticked.report,
             redundancy: self.redundancy,
             told: ticked.told,
             truth: Some(truth),

@@ -18,7 +18,6 @@ mod laws_of_edges;
 mod plant;
 mod pulses;
 mod setup;
-mod told_log;
 mod truth;
 
 pub use audit::Audit;
@@ -43,4 +42,3 @@ pub use laws_of_edges::{
 };
 pub use plant::Plant;
 pub use setup::ReaderSetup;
-pub use told_log::ToldEntry;

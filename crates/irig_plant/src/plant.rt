@@ -11,7 +11,6 @@ use crate::entry::Entry;
 use crate::event::Event;
 use crate::fault::{PlantFault, Refused};
 use crate::setup::ReaderSetup;
-use crate::told_log::{ToldEntry, ToldLog};
 use crate::truth::Truth;
 use irig_gen::Generator;
 use irig_port::Port;
@@ -40,7 +39,6 @@ pub struct Plant<P: Port> {
     pub(crate) cached_ports: Vec<Option<P>>,
     pub(crate) readers: Vec<TickedReader<P>>,
     pub(crate) log: Vec<Entry>,
-    pub(crate) told: ToldLog,
     pub(crate) audit: Audit,
     ghost fed: { vec_len generators ≡ ports_in redundancy },
     ghost carried: { vec_len cached_ports ≡ vec_len generators },
@@ -48,18 +46,18 @@ pub struct Plant<P: Port> {
     ghost timed: { timeline_fault timeline.start timeline.leaps ≡ None },
     ghost true_there: { truth.claim ≡ truth_at timeline truth.number },
     ghost sound: { ∥ All IsSound log.items ∥₁ },
-    ghost claimed: { ∥ All IsToldSoundly told.entries.items ∥₁ },
+    ghost claimed: { ∥ All IsToldSoundly log.items ∥₁ },
     ghost known: { All (λ e. e.reader < vec_len readers) log.items },
 }
 
 impl<P: Port> Plant<P> {
     ghost use Rattle.irig_gen.specs.Frames.{GeneratorValue};
-    ghost use Rattle.irig_plant.specs.Schedule.{setup, generator_at, log_of, told_log_of};
+    ghost use Rattle.irig_plant.specs.Schedule.{setup, generator_at, log_of};
     ghost use Rattle.irig_plant.specs.Runs.{events_after, AreAccepted, IsRefused};
     ghost use Rattle.irig_plant.specs.Audits.{audit_of};
     ghost use Rattle.irig_plant.specs.Truth.{AnnouncesTruth, GivesNoFalseAlarm};
     ghost use Rattle.irig_plant.specs.Exactly.{AnnouncesWhenHeld, HasItsLock, HasItsCause};
-    ghost use Rattle.irig_plant.specs.History.{AreGenerators, AreReaders, AreNew, beginning, with_events, with_cleared_log, with_told_kept, HasPlantHistory, ForHistory, ForEntries, Becomes, Accepts, Follows, RefusesAtLast, Keeps};
+    ghost use Rattle.irig_plant.specs.History.{AreGenerators, AreReaders, AreNew, beginning, with_events, with_cleared_log, HasPlantHistory, ForHistory, ForEntries, Becomes, Accepts, Follows, RefusesAtLast, Keeps};
 
     /// A plant over this timeline, with these generators, all of whose readers read by the same
     /// rules.
@@ -94,7 +92,6 @@ impl<P: Port> Plant<P> {
             cached_ports,
             readers: ticked,
             log: Vec::new(alloc),
-            told: ToldLog::new(alloc),
             audit,
         })
     }
@@ -175,8 +172,9 @@ impl<P: Port> Plant<P> {
         Ok(())
     }
 
-    /// What the readers said, in order, since the log was last cleared. What they announced are
-    /// [`valid`](irig_time::valid) seconds, and those of their edges if the premises held. Then
+    /// What the readers said and their ports told, in order, since the log was last cleared. What
+    /// they announced are [`valid`](irig_time::valid) seconds, as is what ports claimed, and those
+    /// of their edges if the premises held. Then
     /// none gives a false alarm, each announces exactly if its edge is held, and its lock and its
     /// cause are those that the events give.
     pub fn log(&self) -> &[Entry]
@@ -192,40 +190,20 @@ impl<P: Port> Plant<P> {
         ensures exactly { ForEntries self.now result.now AnnouncesWhenHeld }
         ensures lock { ForEntries self.now result.now HasItsLock }
         ensures cause { ForEntries self.now result.now HasItsCause }
-        // whatever happened, its second is valid and its reader exists
+        // whatever happened, its second is valid, what ports claimed too, and its reader exists
         ensures valid { All IsSound result.now }
+        ensures claims { All IsToldSoundly result.now }
         ensures readers { ForHistory self.now (λ h.
             All (λ e. e.reader < length h.setup.readers) result.now) }
     {
         self.log.as_slice()
     }
 
-    /// Empties the log, and from now on keeps beside each of its entries what the ports told.
-    pub fn keep_told(&mut self)
-        ensures { Becomes self.old self.new with_told_kept }
-    {
-        self.clear_log();
-        self.told.is_kept = true;
-    }
-
-    /// What the ports told at the tick of each entry of the log, once [`Plant::keep_told`] asked
-    /// for it; until then nothing. What they claimed are [`valid`](irig_time::valid) seconds.
-    pub fn told(&self) -> &[ToldEntry]
-        ensures told { ForHistory self.now (λ h. result.now
-            ≡ if h.keeps_told then drop h.shown (told_log_of h.setup h.events) else []) }
-        ensures count { ForHistory self.now (λ h. h.keeps_told ≡ true
-            → length result.now ≡ length (drop h.shown (log_of h.setup h.events))) }
-        ensures valid { All IsToldSoundly result.now }
-    {
-        self.told.entries.as_slice()
-    }
-
-    /// Empties the log, and what was kept beside it, and changes nothing else.
+    /// Empties the log, and changes nothing else.
     pub fn clear_log(&mut self)
         ensures { Becomes self.old self.new with_cleared_log }
     {
         self.log.clear();
-        self.told.entries.clear();
     }
 
     /// The generators, as the events left them.

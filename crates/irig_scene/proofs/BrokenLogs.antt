@@ -11,8 +11,7 @@ use Rattle.irig_plant.specs.declared.entry.Entry.{Entry}
 use Rattle.irig_plant.specs.declared.event.Event.{Event}
 use Rattle.irig_plant.specs.declared.event.Event.TheVariants.{Tick}
 use Rattle.irig_plant.specs.declared.fault.PlantFault.TheVariants as plant
-use Rattle.irig_plant.specs.declared.told_log.ToldEntry.{ToldEntry}
-use Rattle.irig_plant.specs.Schedule.{Setup, ticks_of, log_of, told_log_of}
+use Rattle.irig_plant.specs.Schedule.{Setup, ticks_of, log_of}
 use Rattle.irig_plant.specs.Audits.{audit_of}
 use Rattle.irig_time.specs.TimelineFaults.{IsTimeline}
 use Rattle.irig_plant.specs.Truth.{AnnouncesTruth, IsTruthful}
@@ -54,15 +53,12 @@ module _ (x : Scene) (names : AreNames x.plan.names) where
   abbrev log : List Entry
   log = log_of x.plan.setup x.events
 
-  abbrev told : List ToldEntry
-  told = told_log_of x.plan.setup x.events
-
   -- of the entries' lines, of port lines and of the last
   pub each_line_and_last : (shown : Shown) (Fact : List ℕ → Type 0) (EntryFact : Entry → Type 0) (k : Option Refused) → ((e : Entry) → EntryFact e → Fact (entry_line x.plan.names e)) → ((l : List ℕ) → Fact (32 ∷ l))
       → AllByRecursion Fact (whole_lines (ending_text k (Some x))) → AllByRecursion EntryFact log → AllByRecursion Fact (whole_lines (log_text shown (Some x) ++ ending_text k (Some x)))
   each_line_and_last shown Fact EntryFact k entry port last h =
-      subst (AllByRecursion Fact) (sym (lines_of_rows x.plan.names shown log told (ending_text k (Some x)) names))
-      (all_join Fact (rows x.plan.names shown log told) (whole_lines (ending_text k (Some x))) (each_row x.plan.names shown Fact EntryFact entry port log told h) last)
+      subst (AllByRecursion Fact) (sym (lines_of_rows x.plan.names shown log (ending_text k (Some x)) names))
+      (all_join Fact (rows x.plan.names shown log) (whole_lines (ending_text k (Some x))) (each_row x.plan.names shown Fact EntryFact entry port log h) last)
 
   -- a last line that names an edge is of an audit that does
   last_says : (edge : ℕ) (name : List ℕ) (k : Option Refused) → edge < 2 ^ 64 → HasFewEdge (audit_in x)
@@ -88,7 +84,7 @@ after_first_join P [] [] h k = tt
 after_first_join P [] (y ∷ ys) h k = k.1
 after_first_join P (x ∷ xs) ys h k = all_join P xs ys h k
 
-each_both : {X : Type 0} (P Q : X → Type 0) (xs : List X) → AllByRecursion P xs → AllByRecursion Q xs → AllByRecursion (λ x. P x × Q x) xs
+pub each_both : {X : Type 0} (P Q : X → Type 0) (xs : List X) → AllByRecursion P xs → AllByRecursion Q xs → AllByRecursion (λ x. P x × Q x) xs
 each_both P Q [] h k = tt
 each_both P Q (x ∷ xs) h k = ((h.0, k.0), each_both P Q xs h.1 k.1)
 
@@ -116,12 +112,11 @@ module _ (x : Scene) (names : AreNames x.plan.names) (r n : ℕ) (sound : IsTime
       let ns = x.plan.names in
       let cut = splits_log s x.events r n sound breaks in
       let last = whole_lines (ending_text k (Some x)) in
-      let a = rows ns shown cut.first cut.first_tolds in
-      let b = rows ns shown (cut.entry ∷ cut.rest) (cut.told ∷ cut.rest_tolds) in
+      let a = rows ns shown cut.first in
+      let b = rows ns shown (cut.entry ∷ cut.rest) in
       let lines : a ++ (b ++ last) ≡ earlier ++ line ∷ later =
-      sym (lines_of_rows ns shown (log_of s x.events) (told_log_of s x.events) (ending_text k (Some x)) names
-      ∙ ap (λ es. rows ns shown es (told_log_of s x.events) ++ last) cut.log ∙ ap (λ ts. rows ns shown (cut.first ++ cut.entry ∷ cut.rest) ts ++ last) cut.told_log
-      ∙ ap (λ ls. ls ++ last) (rows_join ns shown cut.first (cut.entry ∷ cut.rest) cut.first_tolds (cut.told ∷ cut.rest_tolds) cut.same) ∙ append_assoc a b last) ∙ is in
+      sym (lines_of_rows ns shown (log_of s x.events) (ending_text k (Some x)) names
+      ∙ ap (λ es. rows ns shown es ++ last) cut.log ∙ ap (λ ls. ls ++ last) (rows_join ns shown cut.first (cut.entry ∷ cut.rest)) ∙ append_assoc a b last) ∙ is in
       let few_cut : HasFewEdges (cut.first ++ cut.entry ∷ cut.rest) = subst HasFewEdges cut.log few in
       let few_rest : HasFewEdges cut.rest = (all_right (λ e. e.edge < 2 ^ 64) cut.first (cut.entry ∷ cut.rest) few_cut).1 in
       let few_first : HasFewEdges cut.first = all_left (λ e. e.edge < 2 ^ 64) cut.first (cut.entry ∷ cut.rest) few_cut in
@@ -136,13 +131,13 @@ module _ (x : Scene) (names : AreNames x.plan.names) (r n : ℕ) (sound : IsTime
       let same = entry_shows ns e q m t names h.0 shows in
       time_of s.times m e.report.announce t same.time_is full (λ u announces. subst (λ m. second_at s.times m ≡ Some u) (sym same.edge) (h.1.second u announces)) in
       let true_rows : AllByRecursion (ShowsTruth ns s.times) a =
-      each_row ns shown (ShowsTruth ns s.times) (λ e. (e.edge < 2 ^ 64) × IsTruthful s.times e) true_entry (λ l q m t shows. absurd (port_row_shows_nothing ns l q m t shows)) cut.first cut.first_tolds
+      each_row ns shown (ShowsTruth ns s.times) (λ e. (e.edge < 2 ^ 64) × IsTruthful s.times e) true_entry (λ l q m t shows. absurd (port_row_shows_nothing ns l q m t shows)) cut.first
       (each_both (λ e. e.edge < 2 ^ 64) (IsTruthful s.times) cut.first few_first cut.true_first) in
       let others : AllByRecursion IsOther a =
-      each_row ns shown IsOther (λ e. (e.edge < 2 ^ 64) × (e.reader ≡ r → e.edge < n)) other_early other_port cut.first cut.first_tolds
+      each_row ns shown IsOther (λ e. (e.edge < 2 ^ 64) × (e.reader ≡ r → e.edge < n)) other_early other_port cut.first
       (each_both (λ e. e.edge < 2 ^ 64) (λ e. e.reader ≡ r → e.edge < n) cut.first few_first cut.early) in
       let others_later : AllAfterFirst IsOther b =
-      rows_after_first ns shown IsOther (λ e. (e.edge < 2 ^ 64) × (e.reader ≡ r → n < e.edge)) other_late other_port cut.entry cut.rest cut.told cut.rest_tolds
+      rows_after_first ns shown IsOther (λ e. (e.edge < 2 ^ 64) × (e.reader ≡ r → n < e.edge)) other_late other_port cut.entry cut.rest
       (each_both (λ e. e.edge < 2 ^ 64) (λ e. e.reader ≡ r → n < e.edge) cut.rest few_rest cut.late) in
       let others_last : AllByRecursion IsOther last = each_of_last (ShowsNothing ns) IsOther (λ l nothing t shows. nothing r n t shows) last (recursion_from_All _ _ (last_shows_nothing x names k)) in
       front_has (ShowsTruth ns s.times) IsOther a (b ++ last) earlier later line true_rows others (after_first_join IsOther b last others_later others_last) lines (λ other. other time shows)

@@ -2,15 +2,13 @@
 use Rattle.std.proofs.Common.{◌≡◌, ℕ, true, false, cond, List, [], ◌∷◌, ◌++◌, length, drop, Option, Some, None, Result, Ok, Err, refl, ap, sym, subst, ◌∙◌, append-nil}
 use Rattle.irig_plant.specs.declared.event.Event.{Event}
 use Rattle.irig_plant.specs.declared.event.Event.TheVariants.{GenEdge, Tick, Carry, Damage, Replay, Raw, Fault, Repair, Restart}
-use Rattle.irig_plant.specs.Schedule.{Setup, log_of, told_log_of}
+use Rattle.irig_plant.specs.Schedule.{Setup, log_of}
 use Rattle.scenario_line.specs.PlantLine.{Plan}
 use Rattle.irig_device.specs.Watched.{AppendsPart}
 use Rattle.std.specs.Io.KnownBytes.{Appends}
 use Rattle.report_log.specs.declared.shown.Shown.{Shown}
 use Rattle.report_log.specs.Text.{lines_text, entries_text, ticks_text}
 use Rattle.irig_plant.specs.declared.entry.Entry.{Entry}
-use Rattle.irig_plant.specs.declared.told_log.ToldEntry.{ToldEntry}
-use Rattle.irig_plant.proofs.ToldLaws.{told_length}
 use Rattle.std.specs.Prelude.{OnOk}
 use Rattle.std.proofs.Math.Seq.{drop-append_seam}
 use Rattle.report_log.proofs.TextLaws.{no_lines}
@@ -24,7 +22,7 @@ use Rattle.irig_scene.specs.Run as run
 use Rattle.irig_scene.proofs.PlayLaws.{LogGrows, lines_grow}
 use Rattle.irig_scene.specs.Texts as by
 use Rattle.irig_scene.specs.Texts.{said, ending_of, meaning_text, whole_text}
-use Rattle.irig_scene.specs.LogTexts.{entries_by, told_by, log_texts}
+use Rattle.irig_scene.specs.LogTexts.{entries_by, log_texts}
 use Rattle.irig_scene.specs.ListenerRuns.{StoppedReading, StoppedInLine, RunFor, RanFor}
 
 -- ---- an entry more
@@ -40,17 +38,6 @@ grows s (Fault g kind) ev = sym (append-nil (log_of s ev))
 grows s (Repair g) ev = sym (append-nil (log_of s ev))
 grows s (Restart r) ev = sym (append-nil (log_of s ev))
 
-pub told_grows : (s : Setup) (e : Event) (ev : List Event) → told_log_of s (e ∷ ev) ≡ told_log_of s ev ++ told_by s e ev
-told_grows s (Tick r) ev = refl
-told_grows s (GenEdge g) ev = sym (append-nil (told_log_of s ev))
-told_grows s (Carry g r) ev = sym (append-nil (told_log_of s ev))
-told_grows s (Damage g r at width) ev = sym (append-nil (told_log_of s ev))
-told_grows s (Replay g r edge) ev = sym (append-nil (told_log_of s ev))
-told_grows s (Raw g r widths) ev = sym (append-nil (told_log_of s ev))
-told_grows s (Fault g kind) ev = sym (append-nil (told_log_of s ev))
-told_grows s (Repair g) ev = sym (append-nil (told_log_of s ev))
-told_grows s (Restart r) ev = sym (append-nil (told_log_of s ev))
-
 -- ---- what is said is the log
 
 module _ (shown : Shown) where
@@ -58,8 +45,7 @@ module _ (shown : Shown) where
   said_is_log plan [] = sym (no_lines plan.names shown)
   said_is_log plan (e ∷ ev) =
       let s = plan.setup in
-      ap (λ t. t ++ lines_text plan.names shown (entries_by s e ev) (told_by s e ev)) (said_is_log plan ev)
-      ∙ sym (lines_grow (scene plan ev) (e ∷ ev) shown (record { more = entries_by s e ev; is = grows s e ev; told = told_by s e ev; told_is = told_grows s e ev }))
+      ap (λ t. t ++ lines_text plan.names shown (entries_by s e ev)) (said_is_log plan ev) ∙ sym (lines_grow (scene plan ev) (e ∷ ev) shown (record { more = entries_by s e ev; is = grows s e ev }))
 
   text_is : (first : List ℕ) (at : Option Scene) → by.text_of (log_texts shown) first at ≡ log_text shown at
   text_is first None = refl
@@ -122,17 +108,14 @@ left_is : {X : Type 0} (a b more : List X) → b ≡ a ++ more → drop (length 
 left_is a b more e = ap (drop (length a)) e ∙ drop-append_seam a more
 
 -- the entry of a tick, and what its ports told
-pub tick_is_lines : (shown : Shown) (x : Scene) (e : Event) (names : List (List ℕ)) (entries : List Entry) (tolds : List ToldEntry) → shown.ports ≡ true → names ≡ x.plan.names
+pub tick_is_lines : (shown : Shown) (x : Scene) (e : Event) (names : List (List ℕ)) (entries : List Entry) → shown.ports ≡ true → names ≡ x.plan.names
     → entries ≡ drop (length (log_of x.plan.setup x.events)) (log_of x.plan.setup (e ∷ x.events))
-    → tolds ≡ cond shown.ports (drop (length (log_of x.plan.setup x.events)) (told_log_of x.plan.setup (e ∷ x.events))) []
-    → ticks_text names shown.all entries tolds ≡ (log_texts shown).event x.plan e x.events
-tick_is_lines shown x e names entries tolds ports named are told =
+    → ticks_text names shown.all entries ≡ (log_texts shown).event x.plan e x.events
+tick_is_lines shown x e names entries ports named are =
     let s = x.plan.setup in
     let ev = x.events in
     let same = are ∙ left_is (log_of s ev) (log_of s (e ∷ ev)) (entries_by s e ev) (grows s e ev) in
-    let told_same = told ∙ ap (λ b. cond b (drop (length (log_of s ev)) (told_log_of s (e ∷ ev))) []) ports
-    ∙ ap (λ n. drop n (told_log_of s (e ∷ ev))) (sym (told_length s ev)) ∙ left_is (told_log_of s ev) (told_log_of s (e ∷ ev)) (told_by s e ev) (told_grows s e ev) in
-    rw (ports, named, same, told_same) refl
+    rw (ports, named, same) refl
 
 -- the entry alone
 pub entry_is_lines : (shown : Shown) (x : Scene) (e : Event) (names : List (List ℕ)) (entries : List Entry) → shown.ports ≡ false → names ≡ x.plan.names

@@ -5,11 +5,9 @@ use Rattle.std.proofs.Math.Seq.{drop-append_seam}
 use Rattle.irig_plant.specs.declared.event.Event.{Event}
 use Rattle.irig_plant.specs.declared.event.Event.TheVariants.{GenEdge, Tick, Carry, Damage, Replay, Raw, Fault, Repair, Restart}
 use Rattle.irig_plant.specs.declared.entry.Entry.{Entry}
-use Rattle.irig_plant.specs.declared.told_log.ToldEntry.{ToldEntry}
 use Rattle.irig_plant.specs.declared.fault.PlantFault.{PlantFault}
-use Rattle.irig_plant.specs.Schedule.{Setup, log_of, entry_of, told_log_of, told_entry_of}
+use Rattle.irig_plant.specs.Schedule.{Setup, log_of, entry_of}
 use Rattle.irig_plant.specs.Refusals.{refusal}
-use Rattle.irig_plant.proofs.ToldLaws.{told_length}
 use Rattle.irig_plant.specs.Runs.{events_after, AreAccepted, IsRefused}
 use Rattle.text_faults.specs.declared.refusal.Refusal.{Refusal}
 use Rattle.report_log.specs.declared.shown.Shown.{Shown}
@@ -42,36 +40,32 @@ play_until s (suc i) (e ∷ es) ev fault k lt h stop named = one_accepted s e (e
 
 -- ---- the log grows
 
--- the log of what has come is in front of the log of what has come later, and so is what ports told
+-- the log of what has come is in front of the log of what has come later
 pub record LogGrows (s : Setup) (ev later : List Event) : Type 0 where
   pub more : List Entry
   pub is : log_of s later ≡ log_of s ev ++ more
-  pub told : List ToldEntry
-  pub told_is : told_log_of s later ≡ told_log_of s ev ++ told
 
 pub log_keeps : (s : Setup) (ev : List Event) → LogGrows s ev ev
-log_keeps s ev = record { more = []; is = sym (append-nil (log_of s ev)); told = []; told_is = sym (append-nil (told_log_of s ev)) }
+log_keeps s ev = record { more = []; is = sym (append-nil (log_of s ev)) }
 
-no_tick : (s : Setup) (ev later : List Event) → log_of s later ≡ log_of s ev → told_log_of s later ≡ told_log_of s ev → LogGrows s ev later
-no_tick s ev later e t = record { more = []; is = e ∙ sym (append-nil (log_of s ev)); told = []; told_is = t ∙ sym (append-nil (told_log_of s ev)) }
+no_tick : (s : Setup) (ev later : List Event) → log_of s later ≡ log_of s ev → LogGrows s ev later
+no_tick s ev later e = record { more = []; is = e ∙ sym (append-nil (log_of s ev)) }
 
 grows_by : (s : Setup) (e : Event) (ev : List Event) → LogGrows s ev (e ∷ ev)
-grows_by s (Tick r) ev = record { more = entry_of s r ev ∷ []; is = refl; told = told_entry_of s r ev ∷ []; told_is = refl }
-grows_by s (GenEdge g) ev = no_tick s ev (GenEdge g ∷ ev) refl refl
-grows_by s (Carry g r) ev = no_tick s ev (Carry g r ∷ ev) refl refl
-grows_by s (Damage g r at width) ev = no_tick s ev (Damage g r at width ∷ ev) refl refl
-grows_by s (Replay g r edge) ev = no_tick s ev (Replay g r edge ∷ ev) refl refl
-grows_by s (Raw g r widths) ev = no_tick s ev (Raw g r widths ∷ ev) refl refl
-grows_by s (Fault g kind) ev = no_tick s ev (Fault g kind ∷ ev) refl refl
-grows_by s (Repair g) ev = no_tick s ev (Repair g ∷ ev) refl refl
-grows_by s (Restart r) ev = no_tick s ev (Restart r ∷ ev) refl refl
+grows_by s (Tick r) ev = record { more = entry_of s r ev ∷ []; is = refl }
+grows_by s (GenEdge g) ev = no_tick s ev (GenEdge g ∷ ev) refl
+grows_by s (Carry g r) ev = no_tick s ev (Carry g r ∷ ev) refl
+grows_by s (Damage g r at width) ev = no_tick s ev (Damage g r at width ∷ ev) refl
+grows_by s (Replay g r edge) ev = no_tick s ev (Replay g r edge ∷ ev) refl
+grows_by s (Raw g r widths) ev = no_tick s ev (Raw g r widths ∷ ev) refl
+grows_by s (Fault g kind) ev = no_tick s ev (Fault g kind ∷ ev) refl
+grows_by s (Repair g) ev = no_tick s ev (Repair g ∷ ev) refl
+grows_by s (Restart r) ev = no_tick s ev (Restart r ∷ ev) refl
 
 grows_on : (s : Setup) (a b c : List Event) → LogGrows s a b → LogGrows s b c → LogGrows s a c
 grows_on s a b c h k = record {
   more = h.more ++ k.more;
   is = k.is ∙ ap (λ l. l ++ k.more) h.is ∙ append_assoc (log_of s a) h.more k.more;
-  told = h.told ++ k.told;
-  told_is = k.told_is ∙ ap (λ l. l ++ k.told) h.told_is ∙ append_assoc (told_log_of s a) h.told k.told;
 }
 
 grows_unless : (s : Setup) (k : Option Refusal) (ev : List Event) (rest : Play) → LogGrows s ev rest.events → LogGrows s ev (unless_refused k ev rest).events
@@ -88,12 +82,11 @@ grows_by_play s (e ∷ es) ev =
 
 -- the text grows by that of what came since
 pub lines_grow : (x : Scene) (later : List Event) (shown : Shown) (grown : LogGrows x.plan.setup x.events later)
-    → log_text shown (Some (scene x.plan later)) ≡ log_text shown (Some x) ++ lines_text x.plan.names shown grown.more grown.told
+    → log_text shown (Some (scene x.plan later)) ≡ log_text shown (Some x) ++ lines_text x.plan.names shown grown.more
 lines_grow x later shown grown =
     let s = x.plan.setup in
     let names = x.plan.names in
-    ap (λ es. lines_text names shown es (told_log_of s later)) grown.is ∙ ap (λ ts. lines_text names shown (log_of s x.events ++ grown.more) ts) grown.told_is
-    ∙ lines_join names shown (log_of s x.events) grown.more (told_log_of s x.events) grown.told (sym (told_length s x.events))
+    ap (lines_text names shown) grown.is ∙ lines_join names shown (log_of s x.events) grown.more
 
 -- ---- lists of events
 

@@ -40,56 +40,56 @@ module _ {A : Type 0} (stands : A → Scene → Type 0) (texts : Texts) where
       → (x : Scene) → stands was x → PlayedFor stands texts x es is (Some k) (Some t0) (Some t1)
   refused_adds s k was is es t0 t1 e h = subst (λ (s : Stop). Adds stands texts was es (Err s) is t0 t1) e h
 
-module _ {L P : Type 0} {g : Ghosts P} (stands_for : L → Scene → Type 0) (keeps : Bool) where
+module _ {L P : Type 0} {g : Ghosts P} (stands_for : L → Scene → Type 0) where
   -- one with other text stands where it stood
-  pub other_text : (x : Scene) (s q : Stage L P g) → q.listener ≡ s.listener → q.plant ≡ s.plant → q.lines ≡ s.lines → IsStageAt stands_for keeps s x → IsStageAt stands_for keeps q x
+  pub other_text : (x : Scene) (s q : Stage L P g) → q.listener ≡ s.listener → q.plant ≡ s.plant → q.lines ≡ s.lines → IsStageAt stands_for s x → IsStageAt stands_for q x
   other_text x s q of_listener of_plant of_lines at = record {
     listener = subst (λ l. stands_for l x) (sym of_listener) at.listener;
     gone = at.gone;
-    plant = subst (λ (p : SteppedPlant P g). HasPlantHistory p.plant (history_past at.gone keeps x)) (sym of_plant) at.plant;
+    plant = subst (λ (p : SteppedPlant P g). HasPlantHistory p.plant (history_past at.gone x)) (sym of_plant) at.plant;
     named = ap (λ (r : EventReader). texts_of r.names.keys) of_lines ∙ at.named;
   }
 
   -- ---- an event
 
   taken : (s : Stage L P g) (plant : SteppedPlant P g) (seen : Plant P g) (names : List (List ℕ)) (e : Event) (x : Scene) → seen ≡ plant.plant → names ≡ texts_of s.lines.names.keys → Steps s.plant.plant e (Ok tt) plant.plant
-      → IsStageAt stands_for keeps s x → HasTaken seen keeps names e x
+      → IsStageAt stands_for s x → HasTaken seen names e x
   taken s plant seen names e x same of_names steps at =
-      let both = steps (history_past at.gone keeps x) at.plant in
+      let both = steps (history_past at.gone x) at.plant in
       record { accepted = both.0; stands = rw same both.1; named = of_names ∙ at.named }
 
   -- it was taken, and what is said of it was pushed
   pub step_takes : (texts : Texts) (s : Stage L P g) (plant : SteppedPlant P g) (seen : Plant P g) (names : List (List ℕ)) (listener : L) (text : String Global) (e : Event)
       → seen ≡ plant.plant → names ≡ texts_of s.lines.names.keys → Steps s.plant.plant e (Ok tt) plant.plant
-      → ((x : Scene) → stands_for s.listener x → HasTaken seen keeps names e x → string_bytes text ≡ string_bytes s.text ++ texts.event x.plan e x.events)
-      → ((x : Scene) → stands_for s.listener x → HasTaken seen keeps names e x → stands_for listener (scene x.plan (e ∷ x.events)))
-      → Adds (IsStageAt stands_for keeps) texts s (e ∷ []) (Ok tt) (record s { listener = listener; plant = plant; text = text }) (text_in s) (string_bytes text)
+      → ((x : Scene) → stands_for s.listener x → HasTaken seen names e x → string_bytes text ≡ string_bytes s.text ++ texts.event x.plan e x.events)
+      → ((x : Scene) → stands_for s.listener x → HasTaken seen names e x → stands_for listener (scene x.plan (e ∷ x.events)))
+      → Adds (IsStageAt stands_for) texts s (e ∷ []) (Ok tt) (record s { listener = listener; plant = plant; text = text }) (text_in s) (string_bytes text)
   step_takes texts s plant seen names listener text e same of_names steps said stands = λ x at.
       let h = taken s plant seen names e x same of_names steps at in
-      let both = steps (history_past at.gone keeps x) at.plant in
-      takes_one (IsStageAt stands_for keeps) texts x e (record s { listener = listener; plant = plant; text = text }) (Some (text_in s)) (Some (string_bytes text)) both.0
+      let both = steps (history_past at.gone x) at.plant in
+      takes_one (IsStageAt stands_for) texts x e (record s { listener = listener; plant = plant; text = text }) (Some (text_in s)) (Some (string_bytes text)) both.0
       (record { listener = stands x at.listener h; gone = length (log_of x.plan.setup x.events); plant = both.1; named = at.named })
       (said x at.listener h)
 
   -- it was refused, or there was no memory
   pub step_stops : (texts : Texts) (s : Stage L P g) (plant : SteppedPlant P g) (e : Event) (stop : Stop) → Steps s.plant.plant e (Err stop) plant.plant
-      → Adds (IsStageAt stands_for keeps) texts s (e ∷ []) (Err stop) (record s { plant = plant }) (text_in s) (text_in s)
+      → Adds (IsStageAt stands_for) texts s (e ∷ []) (Err stop) (record s { plant = plant }) (text_in s) (text_in s)
   step_stops texts s plant e (Refused k) steps = λ x at.
-      let both = steps (history_past at.gone keeps x) at.plant in
-      stops_one (IsStageAt stands_for keeps) texts x e (record s { plant = plant }) (Some (text_in s)) k both.0
+      let both = steps (history_past at.gone x) at.plant in
+      stops_one (IsStageAt stands_for) texts x e (record s { plant = plant }) (Some (text_in s)) k both.0
       (record { listener = at.listener; gone = length (log_of x.plan.setup x.events); plant = both.1; named = at.named })
   step_stops texts s plant e (Failed f) steps = steps
 
   -- ---- a player
 
-  pub other_player : (q p : Player L P g) → q.second ≡ p.second → q.stage.listener ≡ p.stage.listener → q.stage.plant ≡ p.stage.plant → q.stage.lines ≡ p.stage.lines → (y : Scene) → IsPlayerAt stands_for keeps p y → IsPlayerAt stands_for keeps q y
+  pub other_player : (q p : Player L P g) → q.second ≡ p.second → q.stage.listener ≡ p.stage.listener → q.stage.plant ≡ p.stage.plant → q.stage.lines ≡ p.stage.lines → (y : Scene) → IsPlayerAt stands_for p y → IsPlayerAt stands_for q y
   other_player q p same of_listener of_plant of_lines y at = record {
     stage = other_text y p.stage q.stage of_listener of_plant of_lines at.stage;
     second = ap (λ (v : Vec Event Global). v.items) same ∙ at.second;
   }
 
   pub of_stage : (texts : Texts) (x : Scene) (es : List Event) (p q : Player L P g) (k : Option Refusal) (old new : Option (List ℕ)) → q.second ≡ p.second → p.second.items ≡ second_in x.plan
-      → PlayedFor (IsStageAt stands_for keeps) texts x es q.stage k old new → PlayedFor (IsPlayerAt stands_for keeps) texts x es q k old new
+      → PlayedFor (IsStageAt stands_for) texts x es q.stage k old new → PlayedFor (IsPlayerAt stands_for) texts x es q k old new
   of_stage texts x es p q k old new same second h = record {
     refused = h.refused;
     stands = record { stage = h.stands; second = ap (λ (v : Vec Event Global). v.items) same ∙ second };
@@ -98,25 +98,22 @@ module _ {L P : Type 0} {g : Ghosts P} (stands_for : L → Scene → Type 0) (ke
 
   -- a second after others
   pub second_plays : (texts : Texts) (x : Scene) (i : ℕ) (b c : Player L P g) (k : Option Refusal) (o0 o1 : Option (List ℕ)) (es : List Event) → c.second ≡ b.second → es ≡ b.second.items
-      → HoldsTextOf (IsPlayerAt stands_for keeps) texts x (times i (second_in x.plan)) b (held_by b) o0 o1
-      → ((y : Scene) → IsStageAt stands_for keeps b.stage y → PlayedFor (IsStageAt stands_for keeps) texts y es c.stage k (Some (text_in b.stage)) (Some (text_in c.stage)))
-      → PlayedFor (IsPlayerAt stands_for keeps) texts (after_events x (times i (second_in x.plan))) (second_in x.plan) c k (Some (held_by b)) (Some (held_by c))
+      → HoldsTextOf (IsPlayerAt stands_for) texts x (times i (second_in x.plan)) b (held_by b) o0 o1
+      → ((y : Scene) → IsStageAt stands_for b.stage y → PlayedFor (IsStageAt stands_for) texts y es c.stage k (Some (text_in b.stage)) (Some (text_in c.stage)))
+      → PlayedFor (IsPlayerAt stands_for) texts (after_events x (times i (second_in x.plan))) (second_in x.plan) c k (Some (held_by b)) (Some (held_by c))
   second_plays texts x i b c k o0 o1 es kept same was adds =
       let y = after_events x (times i (second_in x.plan)) in
       of_stage texts y (second_in x.plan) b c k (Some (held_by b)) (Some (held_by c)) kept was.plays.stands.second
-      (subst (λ (es : List Event). PlayedFor (IsStageAt stands_for keeps) texts y es c.stage k (Some (text_in b.stage)) (Some (text_in c.stage))) (same ∙ was.plays.stands.second) (adds y was.plays.stands.stage))
+      (subst (λ (es : List Event). PlayedFor (IsStageAt stands_for) texts y es c.stage k (Some (text_in b.stage)) (Some (text_in c.stage))) (same ∙ was.plays.stands.second) (adds y was.plays.stands.stage))
 
 -- ---- what was made
 
 pub made : {A E : Type 0} (r : Result A E) (a : A) (C : A → Type 0) → r ≡ Ok a → IfOk r C → C a
 made r a C e h = subst (λ r. IfOk r C) e h
 
-pub keeping : {P : Type 0} {g : Ghosts P} (p : Plant P g) (plan : Plan) (keeps b : Bool) → keeps ≡ b → HasPlantHistory p (history_past 0 b (scene plan [])) → HasPlantHistory p (history_past 0 keeps (scene plan []))
-keeping p plan keeps b is h = subst (λ b. HasPlantHistory p (history_past 0 b (scene plan []))) (sym is) h
-
 -- and no entry of it stands
-pub begun : {P : Type 0} {g : Ghosts P} (p : Plant P g) (plan : Plan) (keeps : Bool) → HasPlantHistory p (history_past 0 keeps (scene plan [])) → HasStepped p
-begun p plan keeps h = record {
-  happened = record { history = history_past 0 keeps (scene plan []); stands = h };
+pub begun : {P : Type 0} {g : Ghosts P} (p : Plant P g) (plan : Plan) → HasPlantHistory p (history_past 0 (scene plan [])) → HasStepped p
+begun p plan h = record {
+  happened = record { history = history_past 0 (scene plan []); stands = h };
   few = omega (arith, p.log.ok.0, ap length h.log);
 }

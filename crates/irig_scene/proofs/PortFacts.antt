@@ -21,9 +21,9 @@ use Rattle.irig_port.specs.Told.{told_of_widths}
 use Rattle.irig_vote.specs.declared.redundancy.Redundancy.TheVariants.{Three}
 use Rattle.irig_plant.specs.declared.event.Event.{Event}
 use Rattle.irig_plant.specs.declared.event.Event.TheVariants.{Tick, Raw}
-use Rattle.irig_plant.specs.declared.told_log.ToldEntry.{ToldEntry}
+use Rattle.irig_plant.specs.declared.entry.Entry.{Entry}
 use Rattle.irig_plant.specs.Widths.{widths_of}
-use Rattle.irig_plant.specs.Schedule.{generator_at, entry_of, told_entry_of}
+use Rattle.irig_plant.specs.Schedule.{generator_at, entry_of}
 use Rattle.irig_plant.proofs.FrameLaws.{true_frame_told}
 use Rattle.scenario_line.proofs.PlainLines.{plan}
 use Rattle.report_log.specs.Text.{port_word, port_line}
@@ -83,8 +83,8 @@ told_2 = true_frame_told generator plan.setup.times 2 (claim 43202 Unspoken) is_
 told_3 : told_of_widths plan.setup.rules (sent 3) ≡ tells.Claim (claim 43203 Unspoken)
 told_3 = true_frame_told generator plan.setup.times 3 (claim 43203 Unspoken) is_generator is_timeline truth_3
 
-abbrev told : Option Claim → Told → Told → Told → ToldEntry
-told truth a b c = record {
+abbrev told : Option Claim → Told → Told → Told → Entry
+told truth a b c = record (entry_of plan.setup 0 fed) {
   redundancy = Three;
   told = record { a = a; b = b; c = c; d = told_of_widths plan.setup.rules []; e = told_of_widths plan.setup.rules [] };
   truth = truth;
@@ -96,15 +96,15 @@ claim_2 = claim 43202 Unspoken
 abbrev claim_3 : Claim
 claim_3 = claim 43203 Unspoken
 
-known_told : told_entry_of plan.setup 0 fed ≡ told (Some claim_3) (tells.Claim claim_3) (tells.Claim claim_3) (tells.Claim claim_2)
+known_told : entry_of plan.setup 0 fed ≡ told (Some claim_3) (tells.Claim claim_3) (tells.Claim claim_3) (tells.Claim claim_2)
 known_told =
     ap (λ o. told o (told_of_widths plan.setup.rules (sent 3)) (told_of_widths plan.setup.rules (sent 3)) (told_of_widths plan.setup.rules (sent 2))) truth_3
     ∙ ap (λ t. told (Some claim_3) t t (told_of_widths plan.setup.rules (sent 2))) told_3
     ∙ ap (λ t. told (Some claim_3) (tells.Claim claim_3) (tells.Claim claim_3) t) told_2
 
-known_text : port_line plan.names (entry_of plan.setup 0 fed) (told (Some claim_3) (tells.Claim claim_3) (tells.Claim claim_3) (tells.Claim claim_2)) ≡ codes " 4 r1 ok ok 2016-12-31T12:00:02Z\n"
+known_text : port_line plan.names (told (Some claim_3) (tells.Claim claim_3) (tells.Claim claim_3) (tells.Claim claim_2)) ≡ codes " 4 r1 ok ok 2016-12-31T12:00:02Z\n"
 unfolding port_line digits
 known_text = ap (λ t. codes " 4 r1 ok ok " ++ ((t ++ []) ++ codes "\n")) (sym text_2)
 
-pub known_line : port_line plan.names (entry_of plan.setup 0 fed) (told_entry_of plan.setup 0 fed) ≡ codes " 4 r1 ok ok 2016-12-31T12:00:02Z\n"
-known_line = ap (λ t. port_line plan.names (entry_of plan.setup 0 fed) t) known_told ∙ known_text
+pub known_line : port_line plan.names (entry_of plan.setup 0 fed) ≡ codes " 4 r1 ok ok 2016-12-31T12:00:02Z\n"
+known_line = ap (port_line plan.names) known_told ∙ known_text

@@ -11,9 +11,7 @@ use Rattle.text_faults.specs.declared.refusal.Refusal.{Refusal}
 use Rattle.irig_plant.specs.declared.audit.Audit.{Audit}
 use Rattle.irig_plant.specs.declared.audit.Audit.TheVariants.{Kept, Broken, FalseTable}
 use Rattle.irig_plant.specs.declared.entry.Entry.{Entry}
-use Rattle.irig_plant.specs.declared.told_log.ToldEntry.{ToldEntry}
-use Rattle.irig_plant.specs.Schedule.{log_of, told_log_of}
-use Rattle.irig_plant.proofs.ToldLaws.{told_length}
+use Rattle.irig_plant.specs.Schedule.{log_of}
 use Rattle.irig_scene.specs.Lines.{unlines}
 use Rattle.irig_scene.specs.Scene.{Scene, Refused, meaning_of, ending_text, output_shown, output}
 use Rattle.report_log.specs.Text.{entry_text, entries_text, entries_alone, port_line, refusal_text}
@@ -39,12 +37,11 @@ pub entry_is_none : (names : List (List ℕ)) (e : Entry) → e.edge < 2 ^ 64 �
 entry_is_none names e few = digit_first (decimal e.edge) _ (decimal_nonempty e.edge few) (decimal_number e.edge)
 
 -- all that is left of the lines of ticks
-rows_kept : (names : List (List ℕ)) (all : Bool) (es : List Entry) (ts : List ToldEntry) → HasFewEdges es → length es ≡ length ts → filter keep (tick_rows names all es ts) ≡ entry_rows names all es
-rows_kept names all [] ts few same = refl
-rows_kept names all (e ∷ es) [] few same = absurd (omega (arith, same))
-rows_kept names all (e ∷ es) (t ∷ ts) few same =
-    filter-append keep (entry_rows names all (e ∷ [])) (port_row names e t ∷ tick_rows names all es ts)
-    ∙ ap (λ ls. filter keep (entry_rows names all (e ∷ [])) ++ ls) (rows_kept names all es ts few.1 (omega (arith, same)))
+rows_kept : (names : List (List ℕ)) (all : Bool) (es : List Entry) → HasFewEdges es → filter keep (tick_rows names all es) ≡ entry_rows names all es
+rows_kept names all [] few = refl
+rows_kept names all (e ∷ es) few =
+    filter-append keep (entry_rows names all (e ∷ [])) (port_row names e ∷ tick_rows names all es)
+    ∙ ap (λ ls. filter keep (entry_rows names all (e ∷ [])) ++ ls) (rows_kept names all es few.1)
     ∙ go (all || is_some e.report.announce)
   where
     go : (b : Bool) → filter keep (map (entry_line names) (cond b (e ∷ []) [])) ++ entry_rows names all es ≡ map (entry_line names) (cond b (e ∷ filter (λ e. all || is_some e.report.announce) es) (filter (λ e. all || is_some e.report.announce) es))
@@ -105,12 +102,12 @@ last_is_none x None names = rw (audit_lines x.plan.names _ names) (only (audit_l
 
 -- ---- a line of ports
 
-pub ports_are_one : (names : List (List ℕ)) (e : Entry) (t : ToldEntry) → AreNames names
-    → (line : List ℕ) × (whole_lines (port_line names e t) ≡ line ∷ []) × (is_port_line line ≡ true) × ShowsNothing names line
-ports_are_one names e t h =
-    let row = port_row names e t in
-    let is : port_line names e t ≡ row ++ 10 ∷ [] = sym (append-nil (port_line names e t)) ∙ row_of_ports names e t [] in
-    (row, ap whole_lines is ∙ one_whole row (port_row_whole names e t h), refl, λ r n time. port_row_shows_nothing names _ r n time)
+pub ports_are_one : (names : List (List ℕ)) (e : Entry) → AreNames names
+    → (line : List ℕ) × (whole_lines (port_line names e) ≡ line ∷ []) × (is_port_line line ≡ true) × ShowsNothing names line
+ports_are_one names e h =
+    let row = port_row names e in
+    let is : port_line names e ≡ row ++ 10 ∷ [] = sym (append-nil (port_line names e)) ∙ row_of_ports names e [] in
+    (row, ap whole_lines is ∙ one_whole row (port_row_whole names e h), refl, λ r n time. port_row_shows_nothing names _ r n time)
 
 -- ---- all that is written
 
@@ -123,13 +120,12 @@ without x all (Some at) means =
     let sound = scene_sound x at means in
     let names = are_names_named at.plan.names sound.plan.names in
     let es = log_of at.plan.setup at.events in
-    let ts = told_log_of at.plan.setup at.events in
     let last = ending_text k (Some at) in
-    let lines = tick_rows at.plan.names all es ts in
+    let lines = tick_rows at.plan.names all es in
     let few = edges_few at.plan.setup at.events sound.played in
     ap without_port_lines (output_of (ports_too all) x (Some at) means)
-    ∙ ap (λ ls. unlines (filter keep ls)) (lines_of_rows at.plan.names (ports_too all) es ts last names)
-    ∙ ap unlines (filter-append keep lines (whole_lines last) ∙ ap (λ ls. ls ++ filter keep (whole_lines last)) (rows_kept at.plan.names all es ts few (sym (told_length at.plan.setup at.events))))
+    ∙ ap (λ ls. unlines (filter keep ls)) (lines_of_rows at.plan.names (ports_too all) es last names)
+    ∙ ap unlines (filter-append keep lines (whole_lines last) ∙ ap (λ ls. ls ++ filter keep (whole_lines last)) (rows_kept at.plan.names all es few))
     ∙ flat_map-append (λ l. l ++ 10 ∷ []) (entry_rows at.plan.names all es) (filter keep (whole_lines last))
     ∙ ap (λ t. t ++ without_port_lines last) (text_of_entry_rows at.plan.names all es)
     ∙ ap (λ t. entries_text at.plan.names all es ++ t) (ending_kept k (Some at) names)

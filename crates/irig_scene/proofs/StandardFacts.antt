@@ -16,6 +16,8 @@ use Rattle.irig_reader.specs.declared.report.Lock.TheVariants as lock
 use Rattle.irig_reader.specs.declared.report.Cause.{Cause}
 use Rattle.irig_reader.specs.declared.report.Cause.TheVariants as cause
 use Rattle.irig_port.specs.declared.port.Port.{Ghosts}
+use Rattle.irig_port.specs.declared.told.Told.TheVariants as tells
+use Rattle.irig_vote.specs.declared.redundancy.Redundancy.TheVariants.{One}
 use Rattle.irig_plant.specs.declared.entry.Entry.{Entry}
 use Rattle.irig_plant.specs.declared.event.Event.{Event}
 use Rattle.irig_plant.specs.declared.plant.Plant.{Plant}
@@ -81,7 +83,14 @@ abbrev inserted : UtcSecond
 inserted = record { day = 6209; sod = 86400 }
 
 abbrev entry : ℕ → ℕ → Option UtcSecond → Lock → Cause → Entry
-entry reader edge announce lock cause = record { reader = reader; edge = edge; report = record { announce = announce; lock = lock; cause = cause } }
+entry reader edge announce lock cause = record {
+  reader = reader;
+  edge = edge;
+  report = record { announce = announce; lock = lock; cause = cause };
+  redundancy = One;
+  told = record { a = tells.Silence; b = tells.Silence; c = tells.Silence; d = tells.Silence; e = tells.Silence };
+  truth = None;
+}
 
 -- with an announcement
 pub known_entries : (entry_text names (entry 0 2 (Some inserted) lock.Locked cause.Voted) ≡ codes "2 r1 2016-12-31T23:59:60Z locked voted\n")

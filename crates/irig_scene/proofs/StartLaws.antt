@@ -132,9 +132,9 @@ pub noted : (counts : Bool) (at : Option Scene) (count : ℕ) (old new : List �
 noted counts at count old new is counted pushed = pushed ∙ ap (λ n. old ++ n ∷ []) counted ∙ ap (λ b. old ++ noted_at b at) (sym is)
 
 -- who listened to a player stands as it
-pub listener_stands : {L P : Type 0} {g : Ghosts P} (stands_for : L → Scene → Type 0) (keeps : Bool) (r : Option (Player L P g)) (p : Player L P g) (l : L) (at : Option Scene)
-    → r ≡ Some p → l ≡ p.stage.listener → IsAt (IsPlayerAt stands_for keeps) r at → IsAt stands_for (Some l) at
-listener_stands stands_for keeps r p l None is same stands = absurd (subst (λ r. IsAt (IsPlayerAt stands_for keeps) r None) is stands)
-listener_stands stands_for keeps r p l (Some x) is same stands =
-    let at = subst (λ r. IsAt (IsPlayerAt stands_for keeps) r (Some x)) is stands in
+pub listener_stands : {L P : Type 0} {g : Ghosts P} (stands_for : L → Scene → Type 0) (r : Option (Player L P g)) (p : Player L P g) (l : L) (at : Option Scene)
+    → r ≡ Some p → l ≡ p.stage.listener → IsAt (IsPlayerAt stands_for) r at → IsAt stands_for (Some l) at
+listener_stands stands_for r p l None is same stands = absurd (subst (λ r. IsAt (IsPlayerAt stands_for) r None) is stands)
+listener_stands stands_for r p l (Some x) is same stands =
+    let at = subst (λ r. IsAt (IsPlayerAt stands_for) r (Some x)) is stands in
     subst (λ l. stands_for l x) (sym same) at.stage.listener

@@ -10,13 +10,12 @@ use Rattle.irig_time.proofs.SecondAt.{second_is}
 use Rattle.text_faults.specs.declared.refusal.Refusal.{Refusal}
 use Rattle.irig_plant.specs.declared.audit.Audit.TheVariants.{Kept}
 use Rattle.irig_plant.specs.declared.entry.Entry.{Entry}
-use Rattle.irig_plant.specs.declared.told_log.ToldEntry.{ToldEntry}
 use Rattle.irig_plant.specs.declared.event.Event.{Event}
 use Rattle.irig_plant.specs.declared.event.Event.TheVariants.{GenEdge, Tick, Carry, Damage, Replay, Raw, Fault, Repair, Restart}
 use Rattle.irig_plant.specs.declared.fault.PlantFault.TheVariants as plant
 use Rattle.irig_plant.specs.Refusals.{refusal}
 use Rattle.irig_hold.specs.Truth.{IsTrueTable}
-use Rattle.irig_plant.specs.Schedule.{Setup, setup_at, ticks_of, log_of, told_log_of}
+use Rattle.irig_plant.specs.Schedule.{Setup, setup_at, ticks_of, log_of}
 use Rattle.irig_plant.specs.Premises.{IsKeptUpTo, IsKept}
 use Rattle.irig_plant.specs.Truth.{AnnouncesTruth, IsTruthful}
 use Rattle.scenario_line.specs.declared.event_line.Command.{Command}
@@ -144,11 +143,8 @@ module _ (x : Scene) (names : AreNames x.plan.names) where
   abbrev log : List Entry
   log = log_of x.plan.setup x.events
 
-  abbrev told : List ToldEntry
-  told = told_log_of x.plan.setup x.events
-
-  log_lines : (shown : Shown) (rest : List ℕ) → whole_lines (log_text shown (Some x) ++ rest) ≡ rows x.plan.names shown log told ++ whole_lines rest
-  log_lines shown rest = lines_of_rows x.plan.names shown log told rest names
+  log_lines : (shown : Shown) (rest : List ℕ) → whole_lines (log_text shown (Some x) ++ rest) ≡ rows x.plan.names shown log ++ whole_lines rest
+  log_lines shown rest = lines_of_rows x.plan.names shown log rest names
 
   last_is_last : (k : Option Refused) → AllByRecursion (IsLastLine x.plan.names (audit_in x ≡ Kept)) (whole_lines (ending_text k (Some x)))
   last_is_last (Some k) = refusal_last x.plan.names k.line k.refusal (audit_in x ≡ Kept)
@@ -159,8 +155,8 @@ module _ (x : Scene) (names : AreNames x.plan.names) where
       → AllByRecursion EntryFact log → AllByRecursion Fact (whole_lines (log_text shown (Some x) ++ ending_text k (Some x)))
   each_line shown Fact EntryFact k entry port last h =
       subst (AllByRecursion Fact) (sym (log_lines shown (ending_text k (Some x))))
-      (all_join Fact (rows x.plan.names shown log told) (whole_lines (ending_text k (Some x)))
-      (each_row x.plan.names shown Fact EntryFact entry port log told h)
+      (all_join Fact (rows x.plan.names shown log) (whole_lines (ending_text k (Some x)))
+      (each_row x.plan.names shown Fact EntryFact entry port log h)
       (each_last (whole_lines (ending_text k (Some x))) (last_is_last k)))
     where
       each_last : (ls : List (List ℕ)) → AllByRecursion (IsLastLine x.plan.names (audit_in x ≡ Kept)) ls → AllByRecursion Fact ls

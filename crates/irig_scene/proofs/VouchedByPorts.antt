@@ -7,8 +7,7 @@ use Rattle.std.proofs.lemmas.List.Elements.{recursion_from_All}
 use Rattle.irig_time.specs.Timelines.{second_at}
 use Rattle.irig_time.specs.TimelineFaults.{IsTimeline}
 use Rattle.irig_plant.specs.declared.entry.Entry.{Entry}
-use Rattle.irig_plant.specs.declared.told_log.ToldEntry.{ToldEntry}
-use Rattle.irig_plant.specs.Schedule.{log_of, told_log_of}
+use Rattle.irig_plant.specs.Schedule.{log_of}
 use Rattle.report_log.specs.declared.shown.Shown.{Shown}
 use Rattle.report_log.specs.Text.{time_shown_text}
 use Rattle.report_log.specs.LogLines.{whole_lines}
@@ -18,7 +17,8 @@ use Rattle.report_log.proofs.LogLaws.{all_join, all_map, all_filter, whole_front
 use Rattle.report_log.proofs.RowLaws.{port_row, entry_rows, tick_rows, rows, lines_of_rows, port_row_shows_nothing}
 use Rattle.report_log.proofs.LastLines.{refusal_lines}
 use Rattle.report_log.proofs.PortWordLaws.{row_words}
-use Rattle.report_log.proofs.VotedTicks.{IsTrueByWords, log_true_by_words, ticks_with}
+use Rattle.report_log.proofs.VotedTicks.{IsTrueByWords, log_true_by_words}
+use Rattle.irig_scene.proofs.BrokenLogs.{each_both}
 use Rattle.report_log.proofs.NextLines.{AllNext, next_at, next_by_second, next_of_ticks, line_voted}
 use Rattle.irig_scene.specs.Scene.{Scene, Refused, meaning_of, ending_text, output_shown}
 use Rattle.irig_scene.specs.PortLines.{is_port_line}
@@ -42,10 +42,10 @@ module _ (x : Scene) (named : AreNames x.plan.names) (sound : IsTimeline x.plan.
   before_none : (line next : List ℕ) → IsNone next → ByPorts line next
   before_none line next other r n time words voted told none = absurd (both_ways (is_port_line next) other (ap is_port_line told.is))
 
-  entry_true : (e : Entry) (t : ToldEntry) → (e.edge < 2 ^ 64) × IsTrueByWords x.plan.setup.times e t → ByPorts (entry_line x.plan.names e) (port_row x.plan.names e t)
-  entry_true e t h r n time words line told none =
+  entry_true : (e : Entry) → (e.edge < 2 ^ 64) × IsTrueByWords x.plan.setup.times e → ByPorts (entry_line x.plan.names e) (port_row x.plan.names e)
+  entry_true e h r n time words line told none =
       let same = entry_shows x.plan.names e r n time named h.0 line.shows in
-      let shown = row_words x.plan.names e t r n words named h.0 told in
+      let shown = row_words x.plan.names e r n words named h.0 told in
       let says = h.1 (line_voted x.plan.names e r n time named line) (subst (λ ws. has_false_majority ws ≡ false) shown.words_are none) in
       record {
         second = says.0;
@@ -53,19 +53,18 @@ module _ (x : Scene) (named : AreNames x.plan.names) (sound : IsTimeline x.plan.
         written = same.time_is ∙ ap time_shown_text says.1;
       }
 
-  each_next : (shown : Shown) (k : Option Refused) → AllNext ByPorts (rows x.plan.names shown (log_of x.plan.setup x.events) (told_log_of x.plan.setup x.events) ++ whole_lines (ending_text k (Some x)))
+  each_next : (shown : Shown) (k : Option Refused) → AllNext ByPorts (rows x.plan.names shown (log_of x.plan.setup x.events) ++ whole_lines (ending_text k (Some x)))
   each_next shown k =
       let s = x.plan.setup in
       let all = shown.all in
       let log = log_of s x.events in
-      let told = told_log_of s x.events in
       let last = whole_lines (ending_text k (Some x)) in
       let none : AllByRecursion IsNone last = recursion_from_All IsNone last (last_is_none x k named) in
       let passes : Entry → Bool = λ e. all || is_some e.report.announce in
-      elim (shown.ports) as (λ p. AllNext ByPorts (cond p (tick_rows x.plan.names all log told) (entry_rows x.plan.names all log) ++ last)) [
+      elim (shown.ports) as (λ p. AllNext ByPorts (cond p (tick_rows x.plan.names all log) (entry_rows x.plan.names all log) ++ last)) [
         | true ↦
-            next_of_ticks x.plan.names all ByPorts (λ e t. (e.edge < 2 ^ 64) × IsTrueByWords s.times e t) after_port entry_true log told last
-            (ticks_with (λ e. e.edge < 2 ^ 64) (IsTrueByWords s.times) log told few (log_true_by_words s x.events sound))
+            next_of_ticks x.plan.names all ByPorts (λ e. (e.edge < 2 ^ 64) × IsTrueByWords s.times e) after_port entry_true log last
+            (each_both (λ e. e.edge < 2 ^ 64) (IsTrueByWords s.times) log few (log_true_by_words s x.events sound))
             (next_by_second IsNone ByPorts before_none last none)
         | false ↦
             next_by_second IsNone ByPorts before_none (entry_rows x.plan.names all log ++ last)
@@ -94,7 +93,7 @@ vouched shown x above more line words (Some at) means is =
     let s = at.plan.setup in
     let k = (meaning_of x).refused in
     let By : List ℕ → List ℕ → Type 0 = ShowsTruthByPorts at.plan.names s.times in
-    let lines_are = sym (lines_of_rows at.plan.names shown (log_of s at.events) (told_log_of s at.events) (ending_text k (Some at)) named) ∙ sym (ap whole_lines (output_of shown x (Some at) means)) ∙ is in
+    let lines_are = sym (lines_of_rows at.plan.names shown (log_of s at.events) (ending_text k (Some at)) named) ∙ sym (ap whole_lines (output_of shown x (Some at) means)) ∙ is in
     let every : AllNext By (above ++ line ∷ (32 ∷ words) ∷ more) = subst (AllNext By) lines_are (each_next at named sound.plan.timeline (edges_few s at.events sound.played) shown k) in
     record { names = at.plan.names; times = s.times; plant = plant_line x at means; shown = next_at By above line (32 ∷ words) more every }
 

@@ -86,17 +86,17 @@ abbrev pub held_by : {L P : Type 0} {g : Ghosts P} → Player L P g → List ℕ
 held_by p = string_bytes p.stage.text
 
 -- it stands as a scene leaves it; entries that were said may stand until the next event
-pub record IsStageAt {L P : Type 0} {g : Ghosts P} (stands_for : L → Scene → Type 0) (keeps : Bool)
+pub record IsStageAt {L P : Type 0} {g : Ghosts P} (stands_for : L → Scene → Type 0)
     (s : Stage L P g) (x : Scene) : Type 0 where
   pub listener : stands_for s.listener x
   pub gone : ℕ
-  pub plant : HasPlantHistory s.plant.plant (history_past gone keeps x)
+  pub plant : HasPlantHistory s.plant.plant (history_past gone x)
   pub named : texts_of s.lines.names.keys ≡ x.plan.names
 
 -- and with it the events of a whole second
-pub record IsPlayerAt {L P : Type 0} {g : Ghosts P} (stands_for : L → Scene → Type 0) (keeps : Bool)
+pub record IsPlayerAt {L P : Type 0} {g : Ghosts P} (stands_for : L → Scene → Type 0)
     (p : Player L P g) (x : Scene) : Type 0 where
-  pub stage : IsStageAt stands_for keeps p.stage x
+  pub stage : IsStageAt stands_for p.stage x
   pub second : p.second.items ≡ second_in x.plan
 
 -- what stands so played events, up to a refusal if there is one, and what is said of them was added

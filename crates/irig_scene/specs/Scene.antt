@@ -6,7 +6,7 @@ use Rattle.irig_plant.specs.declared.audit.Audit.{Audit}
 use Rattle.irig_plant.specs.declared.event.Event.{Event}
 use Rattle.irig_plant.specs.declared.fault.PlantFault.{PlantFault}
 use Rattle.irig_plant.specs.declared.fault.PlantFault.TheVariants as plant
-use Rattle.irig_plant.specs.Schedule.{Setup, log_of, told_log_of}
+use Rattle.irig_plant.specs.Schedule.{Setup, log_of}
 use Rattle.irig_plant.specs.Refusals.{refusal}
 use Rattle.irig_plant.specs.Audits.{audit_of}
 use Rattle.scenario_line.specs.declared.event_line.Command.{Command}
@@ -154,12 +154,11 @@ meaning_of x = meaning_from (lines x) 1 None
 
 -- ---- the text
 
--- the log of a scene, and what its ports told if that is shown
+-- the log of a scene, with what its ports told if that is shown
 abbrev pub log_text : Shown → Option Scene → List ℕ
 log_text shown None = []
 log_text shown (Some x) =
     lines_text x.plan.names shown (log_of x.plan.setup x.events)
-    (told_log_of x.plan.setup x.events)
 
 -- the audit of a scene's events
 abbrev pub audit_in : Scene → Audit

@@ -23,7 +23,7 @@ ghost use Rattle.irig_scene.specs.BrokenLogs.{VouchesUntilBroken};
 ghost use Rattle.irig_scene.specs.VouchedByPorts.{VouchesByPorts};
 ghost use Rattle.irig_scene.specs.VouchedLines.{IsPlantLineOf, VouchesByPlantLine};
 
-use irig_plant::{Entry, ToldEntry};
+use irig_plant::Entry;
 use report_log::Shown;
 
 /// If the premises hold for all readers and ticks of the events that the bytes give, each entry of
@@ -70,11 +70,11 @@ pub fn lines_read_one_way()
     ensures one_way { (names : List (List ℕ)) (line : List ℕ) (r n q m : ℕ) (time other : List ℕ)
         → are_names names ≡ true → Shows names line r n time → Shows names line q m other
         → (r ≡ q) × (n ≡ m) × (time ≡ other) }
-    ensures words { (names : List (List ℕ)) (e : Entry) (t : ToldEntry) → are_names names ≡ true
+    ensures words { (names : List (List ℕ)) (e : Entry) → are_names names ≡ true
         → e.edge < 2 ^ 64 → e.reader < length names
-        → (line : List ℕ) × (port_line names e t ≡ line ++ codes "\n")
+        → (line : List ℕ) × (port_line names e ≡ line ++ codes "\n")
         × ShowsWords names line e.reader e.edge
-        (map (port_word t.truth) (ports_of t.told t.redundancy)) }
+        (map (port_word e.truth) (ports_of e.told e.redundancy)) }
     ensures words_one_way { (names : List (List ℕ)) (line : List ℕ) (r n q m : ℕ)
         (words others : List (List ℕ)) → are_names names ≡ true
         → ShowsWords names line r n words → ShowsWords names line q m others
@@ -90,8 +90,8 @@ pub fn port_lines_stand_apart()
     ensures without { (x : List ℕ) (all : Bool)
         → without_port_lines (output_shown x (ports_too all)) ≡ output x all }
     // At a tick there is one, and it is no entry line.
-    ensures one { (names : List (List ℕ)) (e : Entry) (t : ToldEntry) → are_names names ≡ true
-        → (line : List ℕ) × (whole_lines (port_line names e t) ≡ line ∷ [])
+    ensures one { (names : List (List ℕ)) (e : Entry) → are_names names ≡ true
+        → (line : List ℕ) × (whole_lines (port_line names e) ≡ line ∷ [])
         × (is_port_line line ≡ true) × ShowsNothing names line }
     // A last line is none.
     ensures last { (x : Scene) (refused : Option Refused) → are_names x.plan.names ≡ true

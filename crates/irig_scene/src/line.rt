@@ -47,12 +47,12 @@ pub(crate) fn run_line<L: Listener, P: Port, W: Write>(
     output: &mut Watched<W>,
 ) -> Result<(), SceneFault>
     requires { length line.now ≤ max_line }
-    ensures runs { RunsLine (IsPlayerAt (L.stands_for asked) (L.keeps_told asked))
+    ensures runs { RunsLine (IsPlayerAt (L.stands_for asked))
         (L.texts asked) player.old number line.now result player.new
         (W.contents (device_of output.old)) (W.contents (device_of output.new)) }
     ensures leaves { IfErr result (λ fault. (at : Option Scene)
-        → IsAt (IsPlayerAt (L.stands_for asked) (L.keeps_told asked)) player.old at
-        → LeavesFor (IsPlayerAt (L.stands_for asked) (L.keeps_told asked)) fault player.new
+        → IsAt (IsPlayerAt (L.stands_for asked)) player.old at
+        → LeavesFor (IsPlayerAt (L.stands_for asked)) fault player.new
         (step number at line.now)) }
     ensures number { IfOk result (λ done. number ≤ max_lines) }
     ensures note { has_failed output.new ≡ (has_failed output.old || says_write result) }
@@ -74,7 +74,7 @@ fn take_line<L: Listener, P: Port, W: Write>(
     output: &mut Watched<W>,
 ) -> Result<(), Stop>
     requires { length line.now ≤ max_line }
-    ensures takes { TakesLine (IsPlayerAt (L.stands_for asked) (L.keeps_told asked))
+    ensures takes { TakesLine (IsPlayerAt (L.stands_for asked))
         (L.texts asked) player.old number line.now result player.new
         (W.contents (device_of output.old)) (W.contents (device_of output.new)) }
     ensures number { IfOk result (λ done. number ≤ max_lines) }
@@ -103,7 +103,7 @@ fn take_event_line<L: Listener, P: Port, W: Write>(
     line: &[u8],
     output: &mut Watched<W>,
 ) -> Result<(), Stop>
-    ensures takes { TakesEventLine (IsPlayerAt (L.stands_for asked) (L.keeps_told asked))
+    ensures takes { TakesEventLine (IsPlayerAt (L.stands_for asked))
         (L.texts asked) player.old line.now result player.new
         (W.contents (device_of output.old)) (W.contents (device_of output.new)) }
     ensures note { has_failed output.new ≡ (has_failed output.old || stopped_write result) }
@@ -119,7 +119,7 @@ fn begin<L: Listener, P: Port, W: Write>(
     line: &[u8],
     output: &mut Watched<W>,
 ) -> Result<Player<L, P>, Stop>
-    ensures begins { Begins (IsPlayerAt (L.stands_for asked) (L.keeps_told asked))
+    ensures begins { Begins (IsPlayerAt (L.stands_for asked))
         (L.texts asked) line.now result
         (W.contents (device_of output.old)) (W.contents (device_of output.new)) }
     ensures note { has_failed output.new ≡ (has_failed output.old || stopped_write result) }
@@ -160,7 +160,7 @@ pub(crate) fn stop<L: Listener, P: Port, W: Write>(
     output: &mut Watched<W>,
 ) -> SceneFault
     ensures wrote { (at : Option Scene)
-        → IsAt (IsPlayerAt (L.stands_for asked) (L.keeps_told asked)) player.now at
+        → IsAt (IsPlayerAt (L.stands_for asked)) player.now at
         → WroteStop result number refusal (closing_of (L.texts asked) at)
         (W.contents (device_of output.old)) (W.contents (device_of output.new)) }
     ensures note { has_failed output.new ≡ (has_failed output.old || is_write_fault result) }
@@ -188,14 +188,14 @@ pub(crate) fn run_last<L: Listener, P: Port, W: Write>(
     requires number { 1 ≤ number }
     requires few { number ≤ max_lines + 1 }
     ensures runs { (at : Option Scene) (first : List ℕ)
-        → IsAt (IsPlayerAt (L.stands_for asked) (L.keeps_told asked)) player.old at
+        → IsAt (IsPlayerAt (L.stands_for asked)) player.old at
         → IsFirst at line.now first
         → RestFor (L.texts asked) result (meaning_from (lines line.now) number at)
         (number - 1 + length (lines line.now)) first at
         (W.contents (device_of output.old)) (W.contents (device_of output.new)) }
     ensures heard { (at : Option Scene)
-        → IsAt (IsPlayerAt (L.stands_for asked) (L.keeps_told asked)) player.old at
-        → HeardFor (IsPlayerAt (L.stands_for asked) (L.keeps_told asked)) L.counts result player.new
+        → IsAt (IsPlayerAt (L.stands_for asked)) player.old at
+        → HeardFor (IsPlayerAt (L.stands_for asked)) L.counts result player.new
         (noted_at L.counts at) (lines line.now) number at }
     ensures note { has_failed output.new ≡ (has_failed output.old || says_write result) }
 {
@@ -216,7 +216,7 @@ fn end<L: Listener, P: Port, W: Write>(
 ) -> Result<Outcome, SceneFault>
     requires number { 1 ≤ number }
     ensures ends { (at : Option Scene) (first : List ℕ)
-        → IsAt (IsPlayerAt (L.stands_for asked) (L.keeps_told asked)) player.now at
+        → IsAt (IsPlayerAt (L.stands_for asked)) player.now at
         → RestFor (L.texts asked) result (meaning_at_end number at) (number - 1) first at
         (W.contents (device_of output.old)) (W.contents (device_of output.new)) }
     ensures note { has_failed output.new ≡ (has_failed output.old || says_write result) }

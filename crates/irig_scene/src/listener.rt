@@ -20,9 +20,6 @@ pub trait Listener: Drop {
     // What it says.
     ghost texts: { Self.Asked → Texts };
 
-    // The plant keeps what ports told.
-    ghost keeps_told: { Self.Asked → Bool };
-
     // It stands as this scene leaves it.
     ghost stands_for: { Self.Asked → Self → Scene → Type 0 };
 
@@ -37,10 +34,6 @@ pub trait Listener: Drop {
     fn count(&self) -> u64
         ensures { (asked : Self.Asked) (x : Scene) → counts ≡ true → stands_for asked self.now x
             → result ≡ entry_count (Some x) };
-
-    /// Whether it wants to know what ports told.
-    fn wants_told(asked: Self::Asked) -> bool
-        ensures { result ≡ keeps_told asked };
 
     /// The listener of a plant to which nothing has happened, whose readers have these names, 16 at
     /// most, and so many ports each.
@@ -70,11 +63,11 @@ pub trait Listener: Drop {
     ) -> Result<(), AllocError>
         requires { length names.now.keys ≤ 16 }
         ensures said { OnOk result ((x : Scene) → stands_for asked self.old x
-            → HasTaken plant.now (keeps_told asked) (texts_of names.now.keys) event.now x
+            → HasTaken plant.now (texts_of names.now.keys) event.now x
             → string_bytes text.new
             ≡ string_bytes text.old ++ (texts asked).event x.plan event.now x.events) }
         ensures stands { OnOk result ((x : Scene) → stands_for asked self.old x
-            → HasTaken plant.now (keeps_told asked) (texts_of names.now.keys) event.now x
+            → HasTaken plant.now (texts_of names.now.keys) event.now x
             → stands_for asked self.new (scene x.plan (event.now ∷ x.events))) };
 
     /// Adds what comes last: what is open, if a line is refused, and else what ends the text.

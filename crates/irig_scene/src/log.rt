@@ -32,8 +32,6 @@ impl Listener for Log {
 
     ghost texts = { log_texts };
 
-    ghost keeps_told = { λ shown. shown.ports };
-
     ghost stands_for = { λ shown log x. ⊤ };
 
     ghost counts = { false };
@@ -44,10 +42,6 @@ impl Listener for Log {
 
     fn count(&self) -> u64 {
         0
-    }
-
-    fn wants_told(shown: Shown) -> bool {
-        shown.ports
     }
 
     fn new(
@@ -75,14 +69,7 @@ impl Listener for Log {
         text: &mut String,
     ) -> Result<(), AllocError> {
         if shown.ports {
-            push_ticks(
-                text,
-                &mut self.last,
-                names,
-                plant.log(),
-                plant.told(),
-                shown,
-            )
+            push_ticks(text, &mut self.last, names, plant.log(), shown)
         } else {
             push_entries(text, &mut self.last, names, plant.log(), shown)
         }

@@ -39,7 +39,7 @@ impl<L: Listener, P: Port> Stage<L, P> {
     // events, and so do the calls that it makes.
     #[inline(always)]
     fn play(&mut self, asked: L::Asked, event: &Event) -> Result<(), Stop>
-        ensures { Adds (IsStageAt (L.stands_for asked) (L.keeps_told asked)) (L.texts asked)
+        ensures { Adds (IsStageAt (L.stands_for asked)) (L.texts asked)
             self.old (event.now ∷ []) result self.new (text_in self.old) (text_in self.new) }
     {
         self.plant.step(event)?;
@@ -86,7 +86,7 @@ fn play_all<L: Listener, P: Port>(
     events: &[Event],
 ) -> Result<(), Stop>
     requires room { length (text_in stage.old) < max_held }
-    ensures { Adds (IsStageAt (L.stands_for asked) (L.keeps_told asked)) (L.texts asked)
+    ensures { Adds (IsStageAt (L.stands_for asked)) (L.texts asked)
         stage.old events.now result stage.new (text_in stage.old) (text_in stage.new) }
 {
     for event in events {
@@ -123,7 +123,7 @@ impl<L: Listener, P: Port> Player<L, P> {
         requires readers { AreReaders line.readers.items }
         requires names { length line.names.keys ≡ vec_len line.readers }
         ensures stands { IfOk result (λ player.
-            IsPlayerAt (L.stands_for asked) (L.keeps_told asked) player
+            IsPlayerAt (L.stands_for asked) player
             (scene (plan_of line) [])) }
         ensures empty { IfOk result (λ player. held_by player ≡ []) }
         ensures memory { IfErr result (λ failure. failure ≡ Memory) }
@@ -139,15 +139,12 @@ impl<L: Listener, P: Port> Player<L, P> {
         let second = second_of(alloc, ports, readers.len() as u8);
         let plant = Plant::new(alloc, timeline, generators, rules, &readers);
         let listener = L::new(alloc, asked, &names, ports);
-        let (Ok(mut plant), Ok(second), Ok(listener)) = (plant, second, listener) else {
+        let (Ok(plant), Ok(second), Ok(listener)) = (plant, second, listener) else {
             return Err(Failure::Memory);
         };
         let Ok(lines) = EventReader::new(alloc, names) else {
             return Err(Failure::Memory);
         };
-        if L::wants_told(asked) {
-            plant.keep_told();
-        }
         let stage = Stage {
             listener,
             plant: SteppedPlant::new(plant),
@@ -160,11 +157,11 @@ impl<L: Listener, P: Port> Player<L, P> {
     /// What a line after the plant line asks for.
     pub(crate) fn event_of_line(&mut self, alloc: Global, line: &[u8]) -> Result<Command, LineFault>
         ensures said { (asked : L.Asked) (x : Scene)
-            → IsPlayerAt (L.stands_for asked) (L.keeps_told asked) self.old x
+            → IsPlayerAt (L.stands_for asked) self.old x
             → IsUnlessMemory (λ c. c) (command_in_line x.plan.names line.now) result }
         ensures stands { (asked : L.Asked) (x : Scene)
-            → IsPlayerAt (L.stands_for asked) (L.keeps_told asked) self.old x
-            → IsPlayerAt (L.stands_for asked) (L.keeps_told asked) self.new x }
+            → IsPlayerAt (L.stands_for asked) self.old x
+            → IsPlayerAt (L.stands_for asked) self.new x }
     {
         self.stage.lines.event_of_line(alloc, line)
     }
@@ -178,7 +175,7 @@ impl<L: Listener, P: Port> Player<L, P> {
         output: &mut Watched<W>,
     ) -> Result<(), Failure>
         ensures wrote { (x : Scene)
-            → IsPlayerAt (L.stands_for asked) (L.keeps_told asked) self.now x
+            → IsPlayerAt (L.stands_for asked) self.now x
             → WroteText result
             (W.contents (device_of output.old)) (W.contents (device_of output.new))
             (last_of (L.texts asked) refused x) }
@@ -203,7 +200,7 @@ impl<L: Listener, P: Port> Player<L, P> {
     /// The audit so far.
     pub(crate) fn audit(&self) -> Audit
         ensures { (asked : L.Asked) (x : Scene)
-            → IsPlayerAt (L.stands_for asked) (L.keeps_told asked) self.now x
+            → IsPlayerAt (L.stands_for asked) self.now x
             → result ≡ audit_in x }
     {
         self.stage.plant.plant().audit()
@@ -212,7 +209,7 @@ impl<L: Listener, P: Port> Player<L, P> {
     /// How many entries there were so far, if the listener counts them.
     pub(crate) fn count(&self) -> u64
         ensures { (asked : L.Asked) (x : Scene) → L.counts ≡ true
-            → IsPlayerAt (L.stands_for asked) (L.keeps_told asked) self.now x
+            → IsPlayerAt (L.stands_for asked) self.now x
             → result ≡ entry_count (Some x) }
     {
         self.stage.listener.count()
@@ -249,7 +246,7 @@ impl<L: Listener, P: Port> Player<L, P> {
         command: Command,
         output: &mut Watched<W>,
     ) -> Result<(), Stop>
-        ensures plays { PlaysAsked (IsPlayerAt (L.stands_for asked) (L.keeps_told asked))
+        ensures plays { PlaysAsked (IsPlayerAt (L.stands_for asked))
             (L.texts asked) self.old (λ plan. events_of plan command) result self.new
             (W.contents (device_of output.old)) (W.contents (device_of output.new)) }
         ensures note { has_failed output.new ≡ (has_failed output.old || stopped_write result) }
@@ -267,7 +264,7 @@ impl<L: Listener, P: Port> Player<L, P> {
         event: Event,
         output: &mut Watched<W>,
     ) -> Result<(), Stop>
-        ensures plays { PlaysAsked (IsPlayerAt (L.stands_for asked) (L.keeps_told asked))
+        ensures plays { PlaysAsked (IsPlayerAt (L.stands_for asked))
             (L.texts asked) self.old (λ plan. event ∷ []) result self.new
             (W.contents (device_of output.old)) (W.contents (device_of output.new)) }
         ensures note { has_failed output.new ≡ (has_failed output.old || stopped_write result) }
@@ -292,7 +289,7 @@ impl<L: Listener, P: Port> Player<L, P> {
         count: u32,
         output: &mut Watched<W>,
     ) -> Result<(), Stop>
-        ensures plays { PlaysAsked (IsPlayerAt (L.stands_for asked) (L.keeps_told asked))
+        ensures plays { PlaysAsked (IsPlayerAt (L.stands_for asked))
             (L.texts asked) self.old (λ plan. times count (second_in plan)) result self.new
             (W.contents (device_of output.old)) (W.contents (device_of output.new)) }
         ensures note { has_failed output.new ≡ (has_failed output.old || stopped_write result) }

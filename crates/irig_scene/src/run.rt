@@ -122,7 +122,7 @@ fn end_player<L: Listener, P: Port>(
     player: Option<Player<L, P>>,
 ) -> (Option<L>, Option<RefusedLine>)
     ensures { (asked : L.Asked) (at : Option Scene)
-        → IsAt (IsPlayerAt (L.stands_for asked) (L.keeps_told asked)) player at
+        → IsAt (IsPlayerAt (L.stands_for asked)) player at
         → IsAt (L.stands_for asked) result.0 at }
 {
     match player {
@@ -150,7 +150,7 @@ fn run_lines<L: Listener, P: Port, R: BufRead, W: Write>(
     requires new { starts.old.items ≡ [] }
     requires input_whole { has_failed input.old ≡ false }
     requires output_whole { has_failed output.old ≡ false }
-    ensures ran { RanTo (IsPlayerAt (L.stands_for asked) (L.keeps_told asked)) L.counts
+    ensures ran { RanTo (IsPlayerAt (L.stands_for asked)) L.counts
         (L.texts asked) result player.new starts.new.items
         (left R.remaining input.old) (left R.remaining input.new)
         (written W.contents output.old) (written W.contents output.new) }
@@ -179,7 +179,7 @@ fn note_start<L: Listener, P: Port>(
     starts: &mut Vec<u64>,
 ) -> Result<(), Failure>
     ensures noted { OnOk result ((asked : L.Asked) (at : Option Scene)
-        → IsAt (IsPlayerAt (L.stands_for asked) (L.keeps_told asked)) player.now at
+        → IsAt (IsPlayerAt (L.stands_for asked)) player.now at
         → starts.new.items ≡ starts.old.items ++ noted_at L.counts at) }
     ensures memory { IfErr result (λ failure. failure ≡ Memory) }
 {

@@ -1,7 +1,6 @@
 //! A plant that takes one event at a time.
 
 ghost use Rattle.std.specs.Prelude.{◌≡◌, ◌≤◌, vec_len};
-ghost use Rattle.irig_plant.specs.History.{Becomes, with_told_kept};
 ghost use Rattle.irig_scene.specs.Stepping.{HasSomeHistory, HasStepped, Steps};
 
 use crate::stop::Stop;

@@ -42,10 +42,6 @@ impl Listener for Observer {
         0
     }
 
-    fn wants_told(_asked: ()) -> bool {
-        true
-    }
-
     fn new(
         alloc: Global,
         _asked: (),

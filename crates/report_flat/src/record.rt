@@ -40,10 +40,6 @@ impl Listener for Recorder {
         0
     }
 
-    fn wants_told(_asked: ()) -> bool {
-        false
-    }
-
     fn new(
         _alloc: Global,
         _asked: (),

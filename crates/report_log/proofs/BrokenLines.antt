@@ -10,7 +10,6 @@ use Rattle.text_faults.specs.declared.refusal.Refusal.{Refusal}
 use Rattle.irig_plant.specs.declared.audit.Audit.{Audit}
 use Rattle.irig_plant.specs.declared.audit.Audit.TheVariants.{Kept, Broken, FalseTable}
 use Rattle.irig_plant.specs.declared.entry.Entry.{Entry}
-use Rattle.irig_plant.specs.declared.told_log.ToldEntry.{ToldEntry}
 use Rattle.report_log.specs.declared.shown.Shown.{Shown}
 use Rattle.report_log.specs.Text.{name_at}
 use Rattle.report_log.specs.LogLines.{broken_line}
@@ -56,22 +55,17 @@ entry_rows_join names all a b =
     let passes : Entry → Bool = λ e. all || is_some e.report.announce in
     ap (map (entry_line names)) (filter-append passes a b) ∙ map_join (entry_line names) (filter passes a) (filter passes b)
 
-tick_rows_join : (names : List (List ℕ)) (all : Bool) (a b : List Entry) (c d : List ToldEntry) → length a ≡ length c
-    → tick_rows names all (a ++ b) (c ++ d) ≡ tick_rows names all a c ++ tick_rows names all b d
-tick_rows_join names all [] b [] d h = refl
-tick_rows_join names all [] b (t ∷ c) d h = absurd (omega (arith, h))
-tick_rows_join names all (e ∷ a) b [] d h = absurd (omega (arith, h))
-tick_rows_join names all (e ∷ a) b (t ∷ c) d h =
+tick_rows_join : (names : List (List ℕ)) (all : Bool) (a b : List Entry) → tick_rows names all (a ++ b) ≡ tick_rows names all a ++ tick_rows names all b
+tick_rows_join names all [] b = refl
+tick_rows_join names all (e ∷ a) b =
     let first = entry_rows names all (e ∷ []) in
-    ap (λ ls. first ++ port_row names e t ∷ ls) (tick_rows_join names all a b c d (omega (arith, h)))
-    ∙ sym (append_assoc first (port_row names e t ∷ tick_rows names all a c) (tick_rows names all b d))
+    ap (λ ls. first ++ port_row names e ∷ ls) (tick_rows_join names all a b) ∙ sym (append_assoc first (port_row names e ∷ tick_rows names all a) (tick_rows names all b))
 
-pub rows_join : (names : List (List ℕ)) (shown : Shown) (a b : List Entry) (c d : List ToldEntry) → length a ≡ length c
-    → rows names shown (a ++ b) (c ++ d) ≡ rows names shown a c ++ rows names shown b d
-rows_join names shown a b c d h =
+pub rows_join : (names : List (List ℕ)) (shown : Shown) (a b : List Entry) → rows names shown (a ++ b) ≡ rows names shown a ++ rows names shown b
+rows_join names shown a b =
     let all = shown.all in
-    elim (shown.ports) as (λ p. cond p (tick_rows names all (a ++ b) (c ++ d)) (entry_rows names all (a ++ b)) ≡ cond p (tick_rows names all a c) (entry_rows names all a) ++ cond p (tick_rows names all b d) (entry_rows names all b)) [
-      | true ↦ tick_rows_join names all a b c d h
+    elim (shown.ports) as (λ p. cond p (tick_rows names all (a ++ b)) (entry_rows names all (a ++ b)) ≡ cond p (tick_rows names all a) (entry_rows names all a) ++ cond p (tick_rows names all b) (entry_rows names all b)) [
+      | true ↦ tick_rows_join names all a b
       | false ↦ entry_rows_join names all a b
     ]
 
@@ -86,13 +80,13 @@ after_first P [] h = tt
 after_first P (x ∷ xs) h = h.1
 
 pub rows_after_first : (names : List (List ℕ)) (shown : Shown) (Fact : List ℕ → Type 0) (EntryFact : Entry → Type 0) → ((e : Entry) → EntryFact e → Fact (entry_line names e)) → ((bs : List ℕ) → Fact (32 ∷ bs))
-    → (e : Entry) (es : List Entry) (t : ToldEntry) (ts : List ToldEntry) → AllByRecursion EntryFact es → AllAfterFirst Fact (rows names shown (e ∷ es) (t ∷ ts))
-rows_after_first names shown Fact EntryFact entry port e es t ts h =
+    → (e : Entry) (es : List Entry) → AllByRecursion EntryFact es → AllAfterFirst Fact (rows names shown (e ∷ es))
+rows_after_first names shown Fact EntryFact entry port e es h =
     let all = shown.all in
-    let rest : AllByRecursion Fact (tick_rows names all es ts) = each_row names (record { all = all; ports = true }) Fact EntryFact entry port es ts h in
-    let entries : AllByRecursion Fact (entry_rows names all es) = each_row names (record { all = all; ports = false }) Fact EntryFact entry port es ts h in
-    elim (shown.ports) as (λ p. AllAfterFirst Fact (cond p (tick_rows names all (e ∷ es) (t ∷ ts)) (entry_rows names all (e ∷ es)))) [
-      | true ↦ elim (all || is_some e.report.announce) as (λ b. AllAfterFirst Fact (map (entry_line names) (cond b (e ∷ []) []) ++ port_row names e t ∷ tick_rows names all es ts)) [
+    let rest : AllByRecursion Fact (tick_rows names all es) = each_row names (record { all = all; ports = true }) Fact EntryFact entry port es h in
+    let entries : AllByRecursion Fact (entry_rows names all es) = each_row names (record { all = all; ports = false }) Fact EntryFact entry port es h in
+    elim (shown.ports) as (λ p. AllAfterFirst Fact (cond p (tick_rows names all (e ∷ es)) (entry_rows names all (e ∷ es)))) [
+      | true ↦ elim (all || is_some e.report.announce) as (λ b. AllAfterFirst Fact (map (entry_line names) (cond b (e ∷ []) []) ++ port_row names e ∷ tick_rows names all es)) [
         | true ↦ (port _, rest)
         | false ↦ rest
       ]

@@ -7,13 +7,11 @@ use Rattle.std.proofs.lemmas.List.Elements.{recursion_from_All}
 use Rattle.irig_reader.specs.declared.report.Cause.{Cause}
 use Rattle.irig_reader.specs.declared.report.Cause.TheVariants as cause
 use Rattle.irig_plant.specs.declared.entry.Entry.{Entry}
-use Rattle.irig_plant.specs.declared.told_log.ToldEntry.{ToldEntry}
 use Rattle.report_log.specs.Text.{lock_text, cause_text, time_shown_text, name_at}
 use Rattle.report_log.specs.PortWords.{ShowsVoted}
 use Rattle.report_log.proofs.WordLaws.{AreNames, decimal_word, lock_word, name_is_word, word_by_test}
 use Rattle.report_log.proofs.LogLaws.{word_no_blank, split, entry_line, time_no_blank}
 use Rattle.report_log.proofs.RowLaws.{port_row, tick_rows}
-use Rattle.report_log.proofs.VotedTicks.{EachTick}
 
 -- ---- an element and the one behind it
 
@@ -43,16 +41,15 @@ next_by_second P R f [] h = tt
 next_by_second P R f (x ∷ xs) h = (before_by_second P R f x xs h.1, next_by_second P R f xs h.1)
 
 -- in a log with port lines the one of its tick stands behind an entry's line
-pub next_of_ticks : (names : List (List ℕ)) (all : Bool) (R : List ℕ → List ℕ → Type 0) (P : Entry → ToldEntry → Type 0) → ((bs y : List ℕ) → R (32 ∷ bs) y) → ((e : Entry) (t : ToldEntry) → P e t → R (entry_line names e) (port_row names e t))
-    → (es : List Entry) (ts : List ToldEntry) (last : List (List ℕ)) → EachTick P es ts → AllNext R last → AllNext R (tick_rows names all es ts ++ last)
-next_of_ticks names all R P port entry [] ts last h k = k
-next_of_ticks names all R P port entry (e ∷ es) [] last h k = k
-next_of_ticks names all R P port entry (e ∷ es) (t ∷ ts) last h k =
-    let row = port_row names e t in
-    let rows = tick_rows names all es ts in
-    let rest : AllNext R (row ∷ (rows ++ last)) = (before_any R row (rows ++ last) (port _), next_of_ticks names all R P port entry es ts last h.1 k) in
+pub next_of_ticks : (names : List (List ℕ)) (all : Bool) (R : List ℕ → List ℕ → Type 0) (P : Entry → Type 0) → ((bs y : List ℕ) → R (32 ∷ bs) y) → ((e : Entry) → P e → R (entry_line names e) (port_row names e))
+    → (es : List Entry) (last : List (List ℕ)) → AllByRecursion P es → AllNext R last → AllNext R (tick_rows names all es ++ last)
+next_of_ticks names all R P port entry [] last h k = k
+next_of_ticks names all R P port entry (e ∷ es) last h k =
+    let row = port_row names e in
+    let rows = tick_rows names all es in
+    let rest : AllNext R (row ∷ (rows ++ last)) = (before_any R row (rows ++ last) (port _), next_of_ticks names all R P port entry es last h.1 k) in
     elim (all || is_some e.report.announce) as (λ b. AllNext R ((map (entry_line names) (cond b (e ∷ []) []) ++ row ∷ rows) ++ last)) [
-      | true ↦ (entry e t h.0, rest)
+      | true ↦ (entry e h.0, rest)
       | false ↦ rest
     ]
 

@@ -34,9 +34,8 @@ use Rattle.irig_vote.specs.Vote.{f_of, ports_of, is_told, carriers, IsOfUtc, Are
 use Rattle.irig_vote.proofs.CountLaws.{carriers-cons, none_of, told_is, same_is, same_itself}
 use Rattle.irig_reader.specs.Clean.{IsClean}
 use Rattle.irig_plant.specs.declared.event.Event.{Event}
-use Rattle.irig_plant.specs.Schedule.{Setup, ticks_of, told_entry_of}
+use Rattle.irig_plant.specs.Schedule.{Setup, ticks_of, entry_of}
 use Rattle.irig_plant.specs.declared.entry.Entry.{Entry}
-use Rattle.irig_plant.specs.declared.told_log.ToldEntry.{ToldEntry}
 use Rattle.report_log.specs.Text.{name_at, claim_word, port_word, port_line}
 use Rattle.report_log.specs.PortWords.{after_blanks, ShowsWords, begins_with_digit, mark_words, is_second_or_mark, has_false_majority}
 use Rattle.report_log.proofs.WordLaws.{AreNames, decimal_word, name_is_word, name_of_one}
@@ -143,7 +142,7 @@ ok_is_truth truth told = (ok_told truth told, λ h. ap (port_word truth) h.1 ∙
 
 -- so at a tick: it is the true claim of its edge
 pub ok_is_truth_there : (s : Setup) (r : ℕ) (ev : List Event) (told : Told)
-    → (port_word (told_entry_of s r ev).truth told ≡ codes "ok") ↔ ((c : Claim) × (told ≡ tells.Claim c) × IsTrueClaim s.times (ticks_of r ev + 1) c)
+    → (port_word (entry_of s r ev).truth told ≡ codes "ok") ↔ ((c : Claim) × (told ≡ tells.Claim c) × IsTrueClaim s.times (ticks_of r ev + 1) c)
 ok_is_truth_there s r ev told = (
   λ is. let h = ok_told (truth_at s.times (ticks_of r ev)) told is in (h.0, h.1, (claim_is s.times (ticks_of r ev) h.0).0 h.2),
   λ h. (ok_is_truth (truth_at s.times (ticks_of r ev)) told).1 (h.0, h.1, (claim_is s.times (ticks_of r ev) h.0).1 h.2),
@@ -151,8 +150,8 @@ ok_is_truth_there s r ev told = (
 
 -- ---- as many words as claims
 
-abbrev pub port_words : ToldEntry → List (List ℕ)
-port_words t = map (port_word t.truth) (ports_of t.told t.redundancy)
+abbrev pub port_words : Entry → List (List ℕ)
+port_words e = map (port_word e.truth) (ports_of e.told e.redundancy)
 
 equal_word : (word : List ℕ) → bytes_eq word word ≡ true
 equal_word word = (bytes_eq-Decides word word).1 refl
@@ -296,23 +295,23 @@ told_apart : (truth : Option Claim) (ports : List Told) → AllByRecursion NoBla
 told_apart truth [] = tt
 told_apart truth (told ∷ ports) = (word_no_blank (port_word truth told) (told_word truth told), told_apart truth ports)
 
-row_is : (names : List (List ℕ)) (e : Entry) (t : ToldEntry) → port_row names e t ≡ 32 ∷ (decimal e.edge ++ (32 ∷ (name_at names e.reader ++ after_blanks (port_words t))))
-row_is names e t =
-    ap (λ text. 32 ∷ (decimal e.edge ++ (32 ∷ (name_at names e.reader ++ text)))) (sym (flat_map-map (λ word. 32 ∷ word) (port_word t.truth) (ports_of t.told t.redundancy)))
+row_is : (names : List (List ℕ)) (e : Entry) → port_row names e ≡ 32 ∷ (decimal e.edge ++ (32 ∷ (name_at names e.reader ++ after_blanks (port_words e))))
+row_is names e =
+    ap (λ text. 32 ∷ (decimal e.edge ++ (32 ∷ (name_at names e.reader ++ text)))) (sym (flat_map-map (λ word. 32 ∷ word) (port_word e.truth) (ports_of e.told e.redundancy)))
 
 -- it shows what its ports told, and nothing else
-row_shows : (names : List (List ℕ)) (e : Entry) (t : ToldEntry) → e.edge < 2 ^ 64 → e.reader < length names → ShowsWords names (port_row names e t) e.reader e.edge (port_words t)
-row_shows names e t few known = record {
+row_shows : (names : List (List ℕ)) (e : Entry) → e.edge < 2 ^ 64 → e.reader < length names → ShowsWords names (port_row names e) e.reader e.edge (port_words e)
+row_shows names e few known = record {
   number = few;
   named = known;
-  apart = all_no_blanks (port_words t) (told_apart t.truth (ports_of t.told t.redundancy));
-  is = row_is names e t;
+  apart = all_no_blanks (port_words e) (told_apart e.truth (ports_of e.told e.redundancy));
+  is = row_is names e;
 }
 
-pub port_is_shown : (names : List (List ℕ)) (e : Entry) (t : ToldEntry) → e.edge < 2 ^ 64 → e.reader < length names
-    → (line : List ℕ) × (port_line names e t ≡ line ++ 10 ∷ []) × ShowsWords names line e.reader e.edge (port_words t)
-port_is_shown names e t few known = (port_row names e t, sym (append-nil (port_line names e t)) ∙ row_of_ports names e t [], row_shows names e t few known)
+pub port_is_shown : (names : List (List ℕ)) (e : Entry) → e.edge < 2 ^ 64 → e.reader < length names
+    → (line : List ℕ) × (port_line names e ≡ line ++ 10 ∷ []) × ShowsWords names line e.reader e.edge (port_words e)
+port_is_shown names e few known = (port_row names e, sym (append-nil (port_line names e)) ∙ row_of_ports names e [], row_shows names e few known)
 
-pub row_words : (names : List (List ℕ)) (e : Entry) (t : ToldEntry) (r n : ℕ) (words : List (List ℕ)) → AreNames names → e.edge < 2 ^ 64 → ShowsWords names (port_row names e t) r n words
-    → ShowsSameWords r n words e.reader e.edge (port_words t)
-row_words names e t r n words h few shows = words_of_line names (port_row names e t) r n e.reader e.edge words (port_words t) h shows few (told_apart t.truth (ports_of t.told t.redundancy)) (row_is names e t)
+pub row_words : (names : List (List ℕ)) (e : Entry) (r n : ℕ) (words : List (List ℕ)) → AreNames names → e.edge < 2 ^ 64 → ShowsWords names (port_row names e) r n words
+    → ShowsSameWords r n words e.reader e.edge (port_words e)
+row_words names e r n words h few shows = words_of_line names (port_row names e) r n e.reader e.edge words (port_words e) h shows few (told_apart e.truth (ports_of e.told e.redundancy)) (row_is names e)

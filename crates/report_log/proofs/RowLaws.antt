@@ -26,7 +26,6 @@ use Rattle.irig_time.specs.MarkWords.{mark_word}
 use Rattle.text_faults.specs.PortFaults.{number_of, name_of, detail_of, field_word, detail_text, fault_text}
 use Rattle.irig_vote.specs.Vote.{ports_of}
 use Rattle.irig_plant.specs.declared.entry.Entry.{Entry}
-use Rattle.irig_plant.specs.declared.told_log.ToldEntry.{ToldEntry}
 use Rattle.report_log.specs.declared.shown.Shown.{Shown}
 use Rattle.report_log.specs.Text.{name_at, entries_text, claim_word, port_word, words_text, port_line, tick_text, ticks_text, lines_text}
 use Rattle.report_log.specs.LogLines.{whole_lines, Shows}
@@ -99,18 +98,18 @@ words_line truth (told ∷ ports) =
 -- ---- the line of what ports told
 
 -- it, without its newline
-abbrev pub port_row : List (List ℕ) → Entry → ToldEntry → List ℕ
-port_row names e t = 32 ∷ (decimal e.edge ++ (32 ∷ (name_at names e.reader ++ words_text t.truth (ports_of t.told t.redundancy))))
+abbrev pub port_row : List (List ℕ) → Entry → List ℕ
+port_row names e = 32 ∷ (decimal e.edge ++ (32 ∷ (name_at names e.reader ++ words_text e.truth (ports_of e.told e.redundancy))))
 
-pub row_of_ports : (names : List (List ℕ)) (e : Entry) (t : ToldEntry) (rest : List ℕ) → port_line names e t ++ rest ≡ port_row names e t ++ (10 ∷ rest)
+pub row_of_ports : (names : List (List ℕ)) (e : Entry) (rest : List ℕ) → port_line names e ++ rest ≡ port_row names e ++ (10 ∷ rest)
 unfolding port_line
-row_of_ports names e t rest = simp append_assoc
+row_of_ports names e rest = simp append_assoc
 
-pub port_row_whole : (names : List (List ℕ)) (e : Entry) (t : ToldEntry) → AreNames names → NoNewline (port_row names e t)
-port_row_whole names e t h = (
+pub port_row_whole : (names : List (List ℕ)) (e : Entry) → AreNames names → NoNewline (port_row names e)
+port_row_whole names e h = (
   λ b. omega (arith, b),
   line_with (decimal e.edge) _ (decimal_word e.edge)
-      (all_join _ (name_at names e.reader) _ (word_line (name_at names e.reader) (name_is_word names e.reader h)) (words_line t.truth (ports_of t.told t.redundancy))),
+      (all_join _ (name_at names e.reader) _ (word_line (name_at names e.reader) (name_is_word names e.reader h)) (words_line e.truth (ports_of e.told e.redundancy))),
 )
 
 first_digit : (l rest : List ℕ) (b : ℕ) (bs : List ℕ) → 0 < length l → IsNumber l → b ∷ bs ≡ l ++ rest → 47 < b
@@ -127,38 +126,36 @@ port_row_shows_nothing names bs r n time shows =
 abbrev pub entry_rows : List (List ℕ) → Bool → List Entry → List (List ℕ)
 entry_rows names all es = map (entry_line names) (filter (λ e. all || is_some e.report.announce) es)
 
-abbrev pub tick_rows : List (List ℕ) → Bool → List Entry → List ToldEntry → List (List ℕ)
-tick_rows names all [] ts = []
-tick_rows names all (e ∷ es) [] = []
-tick_rows names all (e ∷ es) (t ∷ ts) = entry_rows names all (e ∷ []) ++ port_row names e t ∷ tick_rows names all es ts
+abbrev pub tick_rows : List (List ℕ) → Bool → List Entry → List (List ℕ)
+tick_rows names all [] = []
+tick_rows names all (e ∷ es) = entry_rows names all (e ∷ []) ++ port_row names e ∷ tick_rows names all es
 
-abbrev pub rows : List (List ℕ) → Shown → List Entry → List ToldEntry → List (List ℕ)
-rows names shown es ts = cond shown.ports (tick_rows names shown.all es ts) (entry_rows names shown.all es)
+abbrev pub rows : List (List ℕ) → Shown → List Entry → List (List ℕ)
+rows names shown es = cond shown.ports (tick_rows names shown.all es) (entry_rows names shown.all es)
 
 lines_of_entry_rows : (names : List (List ℕ)) (all : Bool) (es : List Entry) (rest : List ℕ) → AreNames names → whole_lines (entries_text names all es ++ rest) ≡ entry_rows names all es ++ whole_lines rest
 unfolding entries_text
 lines_of_entry_rows names all es rest h = lines_of_entries names (filter (λ e. all || is_some e.report.announce) es) rest h
 
-lines_of_ticks : (names : List (List ℕ)) (all : Bool) (es : List Entry) (ts : List ToldEntry) (rest : List ℕ) → AreNames names → whole_lines (ticks_text names all es ts ++ rest) ≡ tick_rows names all es ts ++ whole_lines rest
+lines_of_ticks : (names : List (List ℕ)) (all : Bool) (es : List Entry) (rest : List ℕ) → AreNames names → whole_lines (ticks_text names all es ++ rest) ≡ tick_rows names all es ++ whole_lines rest
 unfolding ticks_text
-lines_of_ticks names all [] ts rest h = refl
-lines_of_ticks names all (e ∷ es) [] rest h = refl
-lines_of_ticks names all (e ∷ es) (t ∷ ts) rest h =
+lines_of_ticks names all [] rest h = refl
+lines_of_ticks names all (e ∷ es) rest h =
     let entry = entries_text names all (e ∷ []) in
-    let port = port_line names e t in
-    let more = ticks_text names all es ts in
+    let port = port_line names e in
+    let more = ticks_text names all es in
     let reader_rules = entry_rows names all (e ∷ []) in
-    let row = port_row names e t in
+    let row = port_row names e in
     ap whole_lines (append_assoc (entry ++ port) more rest ∙ append_assoc entry port (more ++ rest))
     ∙ lines_of_entry_rows names all (e ∷ []) (port ++ (more ++ rest)) h
-    ∙ ap (λ ls. reader_rules ++ ls) (ap whole_lines (row_of_ports names e t (more ++ rest)) ∙ whole_along row (more ++ rest) (port_row_whole names e t h) ∙ ap (λ ls. row ∷ ls) (lines_of_ticks names all es ts rest h))
-    ∙ sym (append_assoc reader_rules (row ∷ tick_rows names all es ts) (whole_lines rest))
+    ∙ ap (λ ls. reader_rules ++ ls) (ap whole_lines (row_of_ports names e (more ++ rest)) ∙ whole_along row (more ++ rest) (port_row_whole names e h) ∙ ap (λ ls. row ∷ ls) (lines_of_ticks names all es rest h))
+    ∙ sym (append_assoc reader_rules (row ∷ tick_rows names all es) (whole_lines rest))
 
-pub lines_of_rows : (names : List (List ℕ)) (shown : Shown) (es : List Entry) (ts : List ToldEntry) (rest : List ℕ) → AreNames names → whole_lines (lines_text names shown es ts ++ rest) ≡ rows names shown es ts ++ whole_lines rest
-lines_of_rows names shown es ts rest h =
+pub lines_of_rows : (names : List (List ℕ)) (shown : Shown) (es : List Entry) (rest : List ℕ) → AreNames names → whole_lines (lines_text names shown es ++ rest) ≡ rows names shown es ++ whole_lines rest
+lines_of_rows names shown es rest h =
     let all = shown.all in
-    elim (shown.ports) as (λ p. whole_lines (cond p (ticks_text names all es ts) (entries_text names all es) ++ rest) ≡ cond p (tick_rows names all es ts) (entry_rows names all es) ++ whole_lines rest) [
-      | true ↦ lines_of_ticks names all es ts rest h
+    elim (shown.ports) as (λ p. whole_lines (cond p (ticks_text names all es) (entries_text names all es) ++ rest) ≡ cond p (tick_rows names all es) (entry_rows names all es) ++ whole_lines rest) [
+      | true ↦ lines_of_ticks names all es rest h
       | false ↦ lines_of_entry_rows names all es rest h
     ]
 
@@ -170,54 +167,37 @@ module _ (names : List (List ℕ)) (all : Bool) (Fact : List ℕ → Type 0) (En
       let passes : Entry → Bool = λ e. all || is_some e.report.announce in
       all_map EntryFact Fact (entry_line names) entry (filter passes es) (all_filter EntryFact passes es h)
 
-  each_tick_row : (es : List Entry) (ts : List ToldEntry) → AllByRecursion EntryFact es → AllByRecursion Fact (tick_rows names all es ts)
-  each_tick_row [] ts h = tt
-  each_tick_row (e ∷ es) [] h = tt
-  each_tick_row (e ∷ es) (t ∷ ts) h = all_join Fact (entry_rows names all (e ∷ [])) _ (each_entry_row (e ∷ []) (h.0, tt)) (port _, each_tick_row es ts h.1)
+  each_tick_row : (es : List Entry) → AllByRecursion EntryFact es → AllByRecursion Fact (tick_rows names all es)
+  each_tick_row [] h = tt
+  each_tick_row (e ∷ es) h = all_join Fact (entry_rows names all (e ∷ [])) _ (each_entry_row (e ∷ []) (h.0, tt)) (port _, each_tick_row es h.1)
 
 pub each_row : (names : List (List ℕ)) (shown : Shown) (Fact : List ℕ → Type 0) (EntryFact : Entry → Type 0) → ((e : Entry) → EntryFact e → Fact (entry_line names e)) → ((bs : List ℕ) → Fact (32 ∷ bs))
-    → (es : List Entry) (ts : List ToldEntry) → AllByRecursion EntryFact es → AllByRecursion Fact (rows names shown es ts)
-each_row names shown Fact EntryFact entry port es ts h =
+    → (es : List Entry) → AllByRecursion EntryFact es → AllByRecursion Fact (rows names shown es)
+each_row names shown Fact EntryFact entry port es h =
     let all = shown.all in
-    elim (shown.ports) as (λ p. AllByRecursion Fact (cond p (tick_rows names all es ts) (entry_rows names all es))) [
-      | true ↦ each_tick_row names all Fact EntryFact entry port es ts h
+    elim (shown.ports) as (λ p. AllByRecursion Fact (cond p (tick_rows names all es) (entry_rows names all es))) [
+      | true ↦ each_tick_row names all Fact EntryFact entry port es h
       | false ↦ each_entry_row names all Fact EntryFact entry port es h
     ]
 
 -- ---- a text to which ticks are added
 
 -- what is added so far, with the ticks that are left, is what is to be added
-pub record HasTicks (names : List (List ℕ)) (all : Bool) (before now : List ℕ) (left es : List Entry) (told_left ts : List ToldEntry) : Type 0 where
-  pub is : now ++ ticks_text names all left told_left ≡ before ++ ticks_text names all es ts
+pub record HasTicks (names : List (List ℕ)) (all : Bool) (before now : List ℕ) (left es : List Entry) : Type 0 where
+  pub is : now ++ ticks_text names all left ≡ before ++ ticks_text names all es
 
-one_tick : (names : List (List ℕ)) (all : Bool) (e : Entry) (es : List Entry) (t : ToldEntry) (ts : List ToldEntry) → ticks_text names all (e ∷ es) (t ∷ ts) ≡ tick_text names all e t ++ ticks_text names all es ts
+pub tick_added : (names : List (List ℕ)) (all : Bool) (before now next : List ℕ) (es : List Entry) (i : ℕ) (d : Entry) → i < length es
+    → HasTicks names all before now (drop i es) es → next ≡ now ++ tick_text names all (get_or es i d)
+    → HasTicks names all before next (drop (i + 1) es) es
 unfolding ticks_text
-one_tick names all e es t ts = refl
-
-no_tick : (names : List (List ℕ)) (all : Bool) (es : List Entry) → ticks_text names all es [] ≡ []
-unfolding ticks_text
-no_tick names all [] = refl
-no_tick names all (e ∷ es) = refl
-
-pub tick_added : (names : List (List ℕ)) (all : Bool) (before now next : List ℕ) (es : List Entry) (ts : List ToldEntry) (i : ℕ) (d : Entry) (u : ToldEntry) → i < length es → i < length ts
-    → HasTicks names all before now (drop i es) es (drop i ts) ts → next ≡ now ++ tick_text names all (get_or es i d) (get_or ts i u)
-    → HasTicks names all before next (drop (i + 1) es) es (drop (i + 1) ts) ts
-tick_added names all before now next es ts i d u lt lu so_far added =
-    let tick = tick_text names all (get_or es i d) (get_or ts i u) in
-    let rest = ticks_text names all (drop (i + 1) es) (drop (i + 1) ts) in
-    let first : ticks_text names all (drop i es) (drop i ts) ≡ tick ++ rest =
-    ap (λ l. ticks_text names all l (drop i ts)) (drop_more es i d lt) ∙ ap (λ l. ticks_text names all (get_or es i d ∷ drop (i + 1) es) l) (drop_more ts i u lu)
-    ∙ one_tick names all (get_or es i d) (drop (i + 1) es) (get_or ts i u) (drop (i + 1) ts) in
+tick_added names all before now next es i d lt so_far added =
+    let tick = tick_text names all (get_or es i d) in
+    let rest = ticks_text names all (drop (i + 1) es) in
+    let first : ticks_text names all (drop i es) ≡ tick ++ rest = ap (ticks_text names all) (drop_more es i d lt) in
     record { is = ap (λ t. t ++ rest) added ∙ append_assoc now tick rest ∙ ap (λ t. now ++ t) (sym first) ∙ so_far.is }
 
-pub tick_without_ports : (names : List (List ℕ)) (all : Bool) (before now : List ℕ) (es : List Entry) (ts : List ToldEntry) (i : ℕ) → length ts ≤ i
-    → HasTicks names all before now (drop i es) es (drop i ts) ts → HasTicks names all before now (drop (i + 1) es) es (drop (i + 1) ts) ts
-tick_without_ports names all before now es ts i few so_far =
-    let none : (n : ℕ) (l : List Entry) → length ts ≤ n → ticks_text names all l (drop n ts) ≡ [] = λ n l le. ap (ticks_text names all l) (drop_of_length-le ts le) ∙ no_tick names all l in
-    record { is = ap (λ t. now ++ t) (none (i + 1) (drop (i + 1) es) (omega (arith, few)) ∙ sym (none i (drop i es) few)) ∙ so_far.is }
-
-pub all_ticks_added : (names : List (List ℕ)) (all : Bool) (before now : List ℕ) (es : List Entry) (ts : List ToldEntry) (i : ℕ) → length es ≤ i
-    → HasTicks names all before now (drop i es) es (drop i ts) ts → now ≡ before ++ ticks_text names all es ts
+pub all_ticks_added : (names : List (List ℕ)) (all : Bool) (before now : List ℕ) (es : List Entry) (i : ℕ) → length es ≤ i
+    → HasTicks names all before now (drop i es) es → now ≡ before ++ ticks_text names all es
 unfolding ticks_text
-all_ticks_added names all before now es ts i few so_far =
-    sym (append-nil now) ∙ ap (λ es. now ++ ticks_text names all es (drop i ts)) (sym (drop_of_length-le es few)) ∙ so_far.is
+all_ticks_added names all before now es i few so_far =
+    sym (append-nil now) ∙ ap (λ es. now ++ ticks_text names all es) (sym (drop_of_length-le es few)) ∙ so_far.is

@@ -9,7 +9,6 @@ use Rattle.std.proofs.Math.ListN.{drop_of_length-le}
 use Rattle.std.proofs.lemmas.Option.{slice_get-map}
 use Rattle.std.specs.declared.alloc.Global.{Global}
 use Rattle.irig_plant.specs.declared.entry.Entry.{Entry}
-use Rattle.irig_plant.specs.declared.told_log.ToldEntry.{ToldEntry}
 use Rattle.report_log.specs.declared.shown.Shown.{Shown}
 use Rattle.report_log.specs.Text.{entry_text, entries_text, tick_text, ticks_text, lines_text}
 
@@ -68,38 +67,21 @@ entries_join names all a b =
     let written : Entry → Bool = λ entry. all || is_some entry.report.announce in
     ap (flat_map (entry_text names)) (filter-append written a b) ∙ flat_map-append (entry_text names) (filter written a) (filter written b)
 
-ticks_join : (names : List (List ℕ)) (all : Bool) (a b : List Entry) (c d : List ToldEntry) → length a ≡ length c
-    → ticks_text names all (a ++ b) (c ++ d) ≡ ticks_text names all a c ++ ticks_text names all b d
+ticks_join : (names : List (List ℕ)) (all : Bool) (a b : List Entry) → ticks_text names all (a ++ b) ≡ ticks_text names all a ++ ticks_text names all b
 unfolding ticks_text
-ticks_join names all [] b [] d h = refl
-ticks_join names all [] b (t ∷ c) d h = absurd (omega (arith, h))
-ticks_join names all (e ∷ a) b [] d h = absurd (omega (arith, h))
-ticks_join names all (e ∷ a) b (t ∷ c) d h =
-    let line = tick_text names all e t in
-    ap (λ r. line ++ r) (ticks_join names all a b c d (omega (arith, h))) ∙ sym (append_assoc line (ticks_text names all a c) (ticks_text names all b d))
+ticks_join names all a b = flat_map-append (tick_text names all) a b
 
-pub lines_join : (names : List (List ℕ)) (shown : Shown) (a b : List Entry) (c d : List ToldEntry) → length a ≡ length c
-    → lines_text names shown (a ++ b) (c ++ d) ≡ lines_text names shown a c ++ lines_text names shown b d
-lines_join names shown a b c d h =
+pub lines_join : (names : List (List ℕ)) (shown : Shown) (a b : List Entry) → lines_text names shown (a ++ b) ≡ lines_text names shown a ++ lines_text names shown b
+lines_join names shown a b =
     let all = shown.all in
-    elim (shown.ports) as (λ p. cond p (ticks_text names all (a ++ b) (c ++ d)) (entries_text names all (a ++ b)) ≡ cond p (ticks_text names all a c) (entries_text names all a) ++ cond p (ticks_text names all b d) (entries_text names all b)) [
-      | true ↦ ticks_join names all a b c d h
+    elim (shown.ports) as (λ p. cond p (ticks_text names all (a ++ b)) (entries_text names all (a ++ b)) ≡ cond p (ticks_text names all a) (entries_text names all a) ++ cond p (ticks_text names all b) (entries_text names all b)) [
+      | true ↦ ticks_join names all a b
       | false ↦ entries_join names all a b
     ]
 
-pub no_lines : (names : List (List ℕ)) (shown : Shown) → lines_text names shown [] [] ≡ []
+pub no_lines : (names : List (List ℕ)) (shown : Shown) → lines_text names shown [] ≡ []
 unfolding entries_text ticks_text
-no_lines names shown = elim (shown.ports) as (λ p. cond p (ticks_text names shown.all [] []) (entries_text names shown.all []) ≡ []) [
+no_lines names shown = elim (shown.ports) as (λ p. cond p (ticks_text names shown.all []) (entries_text names shown.all []) ≡ []) [
   | true ↦ refl
   | false ↦ refl
 ]
-
--- what is kept of what ports told matters only if that is shown
-pub same_lines : (names : List (List ℕ)) (shown : Shown) (a b : List Entry) (c left d : List ToldEntry) → a ≡ b → c ≡ cond shown.ports left [] → left ≡ d
-    → lines_text names shown b d ≡ lines_text names shown a c
-same_lines names shown a b c left d h k l =
-    same_by shown.ports k
-  where
-    same_by : (ports : Bool) → c ≡ cond ports left [] → cond ports (ticks_text names shown.all b d) (entries_text names shown.all b) ≡ cond ports (ticks_text names shown.all a c) (entries_text names shown.all a)
-    same_by true k = ap (λ es. ticks_text names shown.all es d) (sym h) ∙ ap (λ ts. ticks_text names shown.all a ts) (sym (k ∙ l))
-    same_by false k = ap (λ es. entries_text names shown.all es) (sym h)

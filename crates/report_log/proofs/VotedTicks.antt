@@ -2,6 +2,7 @@
 use Rattle.std.proofs.Common.{◌≡◌, ◌==◌, ℕ, ◌+◌, Bool, true, false, cond, List, [], ◌∷◌, ◌++◌, length, Option, Some, None, Result, Ok, Err, refl, sym, arith}
 use Rattle.std.specs.Prelude.{⊤}
 use Rattle.std.specs.List.{AllByRecursion}
+use Rattle.std.proofs.lemmas.List.Elements.{recursion_from_All}
 use Rattle.irig_frame.specs.declared.layout.Field.TheVariants.{Second}
 use Rattle.irig_control.specs.Control.{control_of}
 use Rattle.irig_time.specs.declared.second.UtcSecond.{UtcSecond}
@@ -33,11 +34,9 @@ use Rattle.irig_reader.specs.Rule.{announce_step, count_step, first_vote_step, l
 use Rattle.irig_reader.specs.History.{told_at_tick, vote_at_tick}
 use Rattle.irig_reader.proofs.OneEdge.{voted_seconds}
 use Rattle.irig_plant.specs.declared.event.Event.{Event}
-use Rattle.irig_plant.specs.declared.event.Event.TheVariants.{GenEdge, Tick, Carry, Damage, Replay, Raw, Fault, Repair, Restart}
 use Rattle.irig_plant.specs.declared.entry.Entry.{Entry}
-use Rattle.irig_plant.specs.declared.told_log.ToldEntry.{ToldEntry}
-use Rattle.irig_plant.specs.Schedule.{Setup, setup_at, heard_at, ticks_of, votes_of, history_of, entry_of, log_of, told_entry_of, told_log_of}
-use Rattle.irig_plant.proofs.ToldLaws.{told_length}
+use Rattle.irig_plant.specs.Schedule.{Setup, setup_at, heard_at, ticks_of, votes_of, history_of, entry_of, log_of}
+use Rattle.irig_plant.proofs.ExactLaws.{log_at}
 use Rattle.report_log.specs.PortWords.{has_false_majority}
 use Rattle.report_log.proofs.PortWordLaws.{port_words, clean_by_words}
 
@@ -111,10 +110,10 @@ are_of_utc s r ev = record {
 -- ---- a tick
 
 -- what the entry announces by a vote is T of its edge, unless the words have a false majority
-abbrev pub IsTrueByWords : TimelineValue → Entry → ToldEntry → Type 0
-IsTrueByWords times e t = e.report.cause ≡ cause.Voted → has_false_majority (port_words t) ≡ false → (u : UtcSecond) × (e.report.announce ≡ Some u) × (second_at times e.edge ≡ Some u)
+abbrev pub IsTrueByWords : TimelineValue → Entry → Type 0
+IsTrueByWords times e = e.report.cause ≡ cause.Voted → has_false_majority (port_words e) ≡ false → (u : UtcSecond) × (e.report.announce ≡ Some u) × (second_at times e.edge ≡ Some u)
 
-true_by_words : (s : Setup) (r : ℕ) (ev : List Event) → IsTimeline s.times → IsTrueByWords s.times (entry_of s r ev) (told_entry_of s r ev)
+true_by_words : (s : Setup) (r : ℕ) (ev : List Event) → IsTimeline s.times → IsTrueByWords s.times (entry_of s r ev)
 true_by_words s r ev sound = λ voted none.
     let rules = (setup_at s.readers r).rules in
     let table = (setup_at s.readers r).table in
@@ -125,36 +124,6 @@ true_by_words s r ev sound = λ voted none.
     let clean = clean_by_words s.times (ticks_of r ev) told redundancy (are_of_utc s r ev) none in
     (says.0, says.1, (second_is s.times (ticks_of r ev + 1) says.0).1 (voted_seconds s.times (ticks_of r ev) rules table state told redundancy says.0 sound clean voted says.1))
 
--- ---- each tick of a log
-
-abbrev pub EachTick : (Entry → ToldEntry → Type 0) → List Entry → List ToldEntry → Type 0
-EachTick P [] ts = ⊤
-EachTick P (e ∷ es) [] = ⊤
-EachTick P (e ∷ es) (t ∷ ts) = P e t × EachTick P es ts
-
-one_more : (P : Entry → ToldEntry → Type 0) (es : List Entry) (ts : List ToldEntry) (e : Entry) (t : ToldEntry) → length es ≡ length ts → EachTick P es ts → P e t → EachTick P (es ++ e ∷ []) (ts ++ t ∷ [])
-one_more P [] [] e t same h k = (k, tt)
-one_more P [] (u ∷ ts) e t same h k = absurd (omega (arith, same))
-one_more P (f ∷ es) [] e t same h k = absurd (omega (arith, same))
-one_more P (f ∷ es) (u ∷ ts) e t same h k = (h.0, one_more P es ts e t (omega (arith, same)) h.1 k)
-
-each_of_log : (s : Setup) (P : Entry → ToldEntry → Type 0) → ((r : ℕ) (ev : List Event) → P (entry_of s r ev) (told_entry_of s r ev)) → (ev : List Event) → EachTick P (log_of s ev) (told_log_of s ev)
-each_of_log s P f [] = tt
-each_of_log s P f (Tick r ∷ ev) = one_more P (log_of s ev) (told_log_of s ev) (entry_of s r ev) (told_entry_of s r ev) (sym (told_length s ev)) (each_of_log s P f ev) (f r ev)
-each_of_log s P f (GenEdge g ∷ ev) = each_of_log s P f ev
-each_of_log s P f (Carry g r ∷ ev) = each_of_log s P f ev
-each_of_log s P f (Damage g r at width ∷ ev) = each_of_log s P f ev
-each_of_log s P f (Replay g r edge ∷ ev) = each_of_log s P f ev
-each_of_log s P f (Raw g r widths ∷ ev) = each_of_log s P f ev
-each_of_log s P f (Fault g kind ∷ ev) = each_of_log s P f ev
-each_of_log s P f (Repair g ∷ ev) = each_of_log s P f ev
-each_of_log s P f (Restart r ∷ ev) = each_of_log s P f ev
-
-pub log_true_by_words : (s : Setup) (ev : List Event) → IsTimeline s.times → EachTick (IsTrueByWords s.times) (log_of s ev) (told_log_of s ev)
-log_true_by_words s ev sound = each_of_log s (IsTrueByWords s.times) (λ r ev. true_by_words s r ev sound) ev
-
--- with a fact of each entry
-pub ticks_with : (Q : Entry → Type 0) (P : Entry → ToldEntry → Type 0) (es : List Entry) (ts : List ToldEntry) → AllByRecursion Q es → EachTick P es ts → EachTick (λ e t. Q e × P e t) es ts
-ticks_with Q P [] ts h k = tt
-ticks_with Q P (e ∷ es) [] h k = tt
-ticks_with Q P (e ∷ es) (t ∷ ts) h k = ((h.0, k.0), ticks_with Q P es ts h.1 k.1)
+pub log_true_by_words : (s : Setup) (ev : List Event) → IsTimeline s.times → AllByRecursion (IsTrueByWords s.times) (log_of s ev)
+log_true_by_words s ev sound =
+    recursion_from_All (IsTrueByWords s.times) (log_of s ev) (log_at s ev (IsTrueByWords s.times) (λ r later earlier is. true_by_words s r earlier sound) [] ev refl)

@@ -20,7 +20,6 @@ use Rattle.irig_reader.specs.declared.report.Cause.{Cause}
 use Rattle.irig_reader.specs.declared.report.Cause.TheVariants as cause
 use Rattle.irig_reader.specs.declared.report.Report.{Report}
 use Rattle.irig_plant.specs.declared.entry.Entry.{Entry}
-use Rattle.irig_plant.specs.declared.told_log.ToldEntry.{ToldEntry}
 use Rattle.irig_plant.specs.declared.audit.Audit.{Audit}
 use Rattle.irig_plant.specs.declared.audit.Audit.TheVariants.{Kept, Broken, FalseTable}
 use Rattle.text_faults.specs.declared.refusal.Refusal.{Refusal}
@@ -101,30 +100,27 @@ abbrev pub words_text : Option Claim → List Told → List ℕ
 words_text truth ports = flat_map (λ told. codes " " ++ port_word truth told) ports
 
 -- EDGE READER WORD WORD WORD, after a blank; five words of five ports
-unfoldable pub port_line : List (List ℕ) → Entry → ToldEntry → List ℕ
-port_line names entry told =
+unfoldable pub port_line : List (List ℕ) → Entry → List ℕ
+port_line names entry =
     codes " " ++ (decimal entry.edge ++ (codes " " ++ (name_at names entry.reader
-    ++ (words_text told.truth (ports_of told.told told.redundancy) ++ codes "\n"))))
+    ++ (words_text entry.truth (ports_of entry.told entry.redundancy) ++ codes "\n"))))
 
 -- of a tick the line of its entry, if it has one, and then that of its ports
-abbrev pub tick_text : List (List ℕ) → Bool → Entry → ToldEntry → List ℕ
-tick_text names all entry told = entries_text names all (entry ∷ []) ++ port_line names entry told
+abbrev pub tick_text : List (List ℕ) → Bool → Entry → List ℕ
+tick_text names all entry = entries_text names all (entry ∷ []) ++ port_line names entry
 
 -- so of each tick
-unfoldable pub ticks_text : List (List ℕ) → Bool → List Entry → List ToldEntry → List ℕ
-ticks_text names all [] tolds = []
-ticks_text names all (entry ∷ entries) [] = []
-ticks_text names all (entry ∷ entries) (told ∷ tolds) =
-    tick_text names all entry told ++ ticks_text names all entries tolds
+unfoldable pub ticks_text : List (List ℕ) → Bool → List Entry → List ℕ
+ticks_text names all entries = flat_map (tick_text names all) entries
 
 -- entries alone, the silent ones too if `all`
 abbrev pub entries_alone : Bool → Shown
 entries_alone all = record { all = all; ports = false }
 
--- the lines of entries, and of what ports told beside them if that is shown
-abbrev pub lines_text : List (List ℕ) → Shown → List Entry → List ToldEntry → List ℕ
-lines_text names shown entries tolds =
-    if shown.ports then ticks_text names shown.all entries tolds
+-- the lines of entries, and of what ports told there if that is shown
+abbrev pub lines_text : List (List ℕ) → Shown → List Entry → List ℕ
+lines_text names shown entries =
+    if shown.ports then ticks_text names shown.all entries
     else entries_text names shown.all entries
 
 -- ---- the last line

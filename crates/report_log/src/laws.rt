@@ -4,7 +4,7 @@ ghost use Rattle.std.specs.Prelude.{◌≡◌, ◌↔◌, ◌+◌, ℕ, false, L
 ghost use Rattle.irig_time.specs.Timelines.{TimelineValue, IsTrueClaim, truth_at};
 ghost use Rattle.irig_vote.specs.Vote.{AreOfUtc, ports_of};
 ghost use Rattle.irig_reader.specs.Clean.{IsClean};
-ghost use Rattle.irig_plant.specs.Schedule.{Setup, ticks_of, told_entry_of};
+ghost use Rattle.irig_plant.specs.Schedule.{Setup, ticks_of, entry_of};
 ghost use Rattle.report_log.specs.Text.{port_word};
 ghost use Rattle.report_log.specs.PortWords.{has_false_majority};
 
@@ -19,7 +19,7 @@ pub fn ok_words_are_true_claims()
         ↔ ((claim : Claim) × (told ≡ Told.Claim claim) × (truth ≡ Some claim)) }
     // In the port line of a tick it is the true claim of its edge.
     ensures tick { (s : Setup) (r : ℕ) (ev : List Event) (told : Told)
-        → (port_word (told_entry_of s r ev).truth told ≡ codes "ok")
+        → (port_word (entry_of s r ev).truth told ≡ codes "ok")
         ↔ ((claim : Claim) × (told ≡ Told.Claim claim)
         × IsTrueClaim s.times (ticks_of r ev + 1) claim) }
 {}

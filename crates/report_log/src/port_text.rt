@@ -16,7 +16,7 @@ ghost use Rattle.report_log.specs.Text.{
 use crate::shown::Shown;
 use crate::text::{ReportText, name_at, push_entries, push_number};
 use indexmap::IndexSet;
-use irig_plant::{Entry, ToldEntry};
+use irig_plant::Entry;
 use irig_port::Told;
 use irig_time::{Claim, push_text};
 use irig_vote::Redundancy;
@@ -29,18 +29,15 @@ pub fn push_ticks(
     last: &mut ReportText,
     names: &IndexSet<String>,
     entries: &[Entry],
-    tolds: &[ToldEntry],
     shown: Shown,
 ) -> Result<(), AllocError>
-    requires entries { All (λ entry. IfSome entry.report.announce IsValid) entries.now }
-    requires tolds { All (λ entry. AreOfUtc entry.told) tolds.now }
+    requires announced { All (λ entry. IfSome entry.report.announce IsValid) entries.now }
+    requires told { All (λ entry. AreOfUtc entry.told) entries.now }
     ensures { OnOk result (string_bytes text.new ≡ string_bytes text.old
-        ++ ticks_text (texts_of names.now.keys) shown.all entries.now tolds.now) }
+        ++ ticks_text (texts_of names.now.keys) shown.all entries.now) }
 {
-    for (index, entry) in entries.iter().enumerate() {
-        if let Some(told) = tolds.get(index) {
-            push_tick(text, last, names, entry, told, shown)?;
-        }
+    for entry in entries {
+        push_tick(text, last, names, entry, shown)?;
     }
     Ok(())
 }
@@ -50,16 +47,15 @@ fn push_tick(
     last: &mut ReportText,
     names: &IndexSet<String>,
     entry: &Entry,
-    told: &ToldEntry,
     shown: Shown,
 ) -> Result<(), AllocError>
-    requires entry { IfSome entry.now.report.announce IsValid }
-    requires told { AreOfUtc told.now.told }
+    requires announced { IfSome entry.now.report.announce IsValid }
+    requires told { AreOfUtc entry.now.told }
     ensures { OnOk result (string_bytes text.new ≡ string_bytes text.old
-        ++ tick_text (texts_of names.now.keys) shown.all entry.now told.now) }
+        ++ tick_text (texts_of names.now.keys) shown.all entry.now) }
 {
     push_entries(text, last, names, &[*entry], shown)?;
-    push_port_line(text, names, entry, told)
+    push_port_line(text, names, entry)
 }
 
 #[tactic(auto, unfolding(crate::specs::Text::port_line))]
@@ -67,21 +63,20 @@ fn push_port_line(
     text: &mut String,
     names: &IndexSet<String>,
     entry: &Entry,
-    told: &ToldEntry,
 ) -> Result<(), AllocError>
-    requires { AreOfUtc told.now.told }
+    requires { AreOfUtc entry.now.told }
     ensures { OnOk result (string_bytes text.new
-        ≡ string_bytes text.old ++ port_line (texts_of names.now.keys) entry.now told.now) }
+        ≡ string_bytes text.old ++ port_line (texts_of names.now.keys) entry.now) }
 {
     text.push_str(" ")?;
     push_number(text, entry.edge)?;
     text.push_str(" ")?;
     text.push_str(name_at(names, entry.reader))?;
-    push_ports(text, told)?;
+    push_ports(text, entry)?;
     text.push_str("\n")
 }
 
-fn push_ports(text: &mut String, entry: &ToldEntry) -> Result<(), AllocError>
+fn push_ports(text: &mut String, entry: &Entry) -> Result<(), AllocError>
     requires { AreOfUtc entry.now.told }
     ensures { OnOk result (string_bytes text.new ≡ string_bytes text.old
         ++ words_text entry.now.truth (ports_of entry.now.told entry.now.redundancy)) }

@@ -13,7 +13,7 @@ returns-clause-one_way _ = λ names line r n q m time other named one two.
     (same.reader, same.edge, same.time_is)
 
 pub returns-clause-words : goal.returns-clause-words
-returns-clause-words _ = λ names e t named few known. port_is_shown names e t few known
+returns-clause-words _ = λ names e named few known. port_is_shown names e few known
 
 pub returns-clause-words_one_way : goal.returns-clause-words_one_way
 returns-clause-words_one_way _ = λ names line r n q m words others named one two.

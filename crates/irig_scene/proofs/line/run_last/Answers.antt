@@ -19,18 +19,18 @@ returns-in_err-run_line-clause-runs g c =
 pub returns-clause-runs : goal.returns-clause-runs
 returns-clause-runs g c = λ at first stands here.
     let took = c.in_ok-run_line.ensures.runs at first stands here in
-    last_goes (IsPlayerAt {g = g.P.Port} (g.L.Listener.stands_for c.args.asked) (g.L.Listener.keeps_told c.args.asked)) (g.L.Listener.texts c.args.asked) _ _ _ first at _ _ _ _ (search rules) c.requires.whole c.requires.number took (c.end-2.ensures.ends _ first took.stands)
+    last_goes (IsPlayerAt {g = g.P.Port} (g.L.Listener.stands_for c.args.asked)) (g.L.Listener.texts c.args.asked) _ _ _ first at _ _ _ _ (search rules) c.requires.whole c.requires.number took (c.end-2.ensures.ends _ first took.stands)
 
 pub returns-then-is_empty-clause-heard : goal.returns-then-is_empty-clause-heard
 returns-then-is_empty-clause-heard g c = λ at stands.
-    heard_none (IsPlayerAt {g = g.P.Port} (g.L.Listener.stands_for c.args.asked) (g.L.Listener.keeps_told c.args.asked)) g.L.Listener.counts _ _ _ _ at (nil_from_length _ (search rules)) stands
+    heard_none (IsPlayerAt {g = g.P.Port} (g.L.Listener.stands_for c.args.asked)) g.L.Listener.counts _ _ _ _ at (nil_from_length _ (search rules)) stands
 
 pub returns-in_err-run_line-clause-heard : goal.returns-in_err-run_line-clause-heard
 returns-in_err-run_line-clause-heard g c =
     let p = err_from_is_err_and c.from_residual.result c.from_residual.ensures.1 in
-    rw (p.1, p.2) (λ at stands. heard_last_refused (IsPlayerAt {g = g.P.Port} (g.L.Listener.stands_for c.args.asked) (g.L.Listener.keeps_told c.args.asked)) g.L.Listener.counts _ _ _ _ at (one_line _ c.requires.whole (search rules)) (c.in_err-run_line.ensures.leaves at stands))
+    rw (p.1, p.2) (λ at stands. heard_last_refused (IsPlayerAt {g = g.P.Port} (g.L.Listener.stands_for c.args.asked)) g.L.Listener.counts _ _ _ _ at (one_line _ c.requires.whole (search rules)) (c.in_err-run_line.ensures.leaves at stands))
 
 pub returns-clause-heard : goal.returns-clause-heard
 returns-clause-heard g c = λ at stands.
     let took = c.in_ok-run_line.ensures.runs at _ stands (any_first at _) in
-    heard_last (IsPlayerAt {g = g.P.Port} (g.L.Listener.stands_for c.args.asked) (g.L.Listener.keeps_told c.args.asked)) g.L.Listener.counts _ _ _ _ at (one_line _ c.requires.whole (search rules)) took.refused took.stands
+    heard_last (IsPlayerAt {g = g.P.Port} (g.L.Listener.stands_for c.args.asked)) g.L.Listener.counts _ _ _ _ at (one_line _ c.requires.whole (search rules)) took.refused took.stands

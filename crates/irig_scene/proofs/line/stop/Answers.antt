@@ -5,8 +5,8 @@ use Rattle.irig_scene.proofs.line.stop.Goals as goal
 
 pub returns-in-Ok-clause-wrote : goal.returns-in-Ok-clause-wrote
 returns-in-Ok-clause-wrote g c = λ at stands.
-    stops_with (IsPlayerAt {g = g.P.Port} (g.L.Listener.stands_for c.args.asked) (g.L.Listener.keeps_told c.args.asked)) (g.L.Listener.texts c.args.asked) _ _ _ _ at _ _ _ (subst (λ r. IsAt (IsPlayerAt {g = g.P.Port} (g.L.Listener.stands_for c.args.asked) (g.L.Listener.keeps_told c.args.asked)) r at) c.in-Some.is stands) c.in-Ok.ensures.wrote c.refuse-in-Ok.ensures.wrote
+    stops_with (IsPlayerAt {g = g.P.Port} (g.L.Listener.stands_for c.args.asked)) (g.L.Listener.texts c.args.asked) _ _ _ _ at _ _ _ (subst (λ r. IsAt (IsPlayerAt {g = g.P.Port} (g.L.Listener.stands_for c.args.asked)) r at) c.in-Some.is stands) c.in-Ok.ensures.wrote c.refuse-in-Ok.ensures.wrote
 
 pub returns-in-Err-clause-wrote : goal.returns-in-Err-clause-wrote
 returns-in-Err-clause-wrote g c =
-    rw c.from.ensures (λ at stands. fails_with (IsPlayerAt {g = g.P.Port} (g.L.Listener.stands_for c.args.asked) (g.L.Listener.keeps_told c.args.asked)) (g.L.Listener.texts c.args.asked) _ _ _ _ at _ _ (subst (λ r. IsAt (IsPlayerAt {g = g.P.Port} (g.L.Listener.stands_for c.args.asked) (g.L.Listener.keeps_told c.args.asked)) r at) c.in-Some.is stands) c.in-Err.ensures.wrote)
+    rw c.from.ensures (λ at stands. fails_with (IsPlayerAt {g = g.P.Port} (g.L.Listener.stands_for c.args.asked)) (g.L.Listener.texts c.args.asked) _ _ _ _ at _ _ (subst (λ r. IsAt (IsPlayerAt {g = g.P.Port} (g.L.Listener.stands_for c.args.asked)) r at) c.in-Some.is stands) c.in-Err.ensures.wrote)

@@ -6,13 +6,13 @@ use Rattle.irig_scene.proofs.line.take_line.Goals as goal
 
 pub returns-in-Some-clause-takes : goal.returns-in-Some-clause-takes
 returns-in-Some-clause-takes g c =
-    following_takes (IsPlayerAt {g = g.P.Port} (g.L.Listener.stands_for c.args.asked) (g.L.Listener.keeps_told c.args.asked)) (g.L.Listener.texts c.args.asked) _ _ _ _ _ _ _ _ c.in-Some.is (search rules) c.requires (sym c.is_blank.ensures ∙ c.if-is_blank.false) c.take_event_line.ensures.takes
+    following_takes (IsPlayerAt {g = g.P.Port} (g.L.Listener.stands_for c.args.asked)) (g.L.Listener.texts c.args.asked) _ _ _ _ _ _ _ _ c.in-Some.is (search rules) c.requires (sym c.is_blank.ensures ∙ c.if-is_blank.false) c.take_event_line.ensures.takes
 
 pub returns-in_err-begun-in-None-clause-takes : goal.returns-in_err-begun-in-None-clause-takes
 returns-in_err-begun-in-None-clause-takes g c =
     let p = err_from_is_err_and c.from_residual.result c.from_residual.ensures.1 in
-    rw (p.1, p.2) (beginning_stops (IsPlayerAt {g = g.P.Port} (g.L.Listener.stands_for c.args.asked) (g.L.Listener.keeps_told c.args.asked)) (g.L.Listener.texts c.args.asked) _ _ _ _ _ _ c.in-None.is (search rules) c.requires (sym c.is_blank.ensures ∙ c.if-is_blank.false) c.in_err-begun-in-None.ensures.begins)
+    rw (p.1, p.2) (beginning_stops (IsPlayerAt {g = g.P.Port} (g.L.Listener.stands_for c.args.asked)) (g.L.Listener.texts c.args.asked) _ _ _ _ _ _ c.in-None.is (search rules) c.requires (sym c.is_blank.ensures ∙ c.if-is_blank.false) c.in_err-begun-in-None.ensures.begins)
 
 pub returns-in_ok-begun-in-None-clause-takes : goal.returns-in_ok-begun-in-None-clause-takes
 returns-in_ok-begun-in-None-clause-takes g c =
-    beginning_takes (IsPlayerAt {g = g.P.Port} (g.L.Listener.stands_for c.args.asked) (g.L.Listener.keeps_told c.args.asked)) (g.L.Listener.texts c.args.asked) _ _ _ _ _ _ c.in-None.is (search rules) c.requires (sym c.is_blank.ensures ∙ c.if-is_blank.false) c.in_ok-begun-in-None.ensures.begins
+    beginning_takes (IsPlayerAt {g = g.P.Port} (g.L.Listener.stands_for c.args.asked)) (g.L.Listener.texts c.args.asked) _ _ _ _ _ _ c.in-None.is (search rules) c.requires (sym c.is_blank.ensures ∙ c.if-is_blank.false) c.in_ok-begun-in-None.ensures.begins

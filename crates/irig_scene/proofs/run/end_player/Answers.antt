@@ -3,4 +3,4 @@ use Rattle.irig_scene.proofs.run.end_player.Goals as goal
 
 pub returns-in-Some : goal.returns-in-Some
 returns-in-Some g c = λ asked at stands.
-    listener_stands (g.L.Listener.stands_for asked) (g.L.Listener.keeps_told asked) _ _ _ at c.in-Some.is c.end-listener.ensures stands
+    listener_stands (g.L.Listener.stands_for asked) _ _ _ at c.in-Some.is c.end-listener.ensures stands

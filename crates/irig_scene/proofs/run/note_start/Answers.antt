@@ -8,6 +8,6 @@ pub returns-in-Ok-clause-noted : goal.returns-in-Ok-clause-noted
 returns-in-Ok-clause-noted g c = λ asked at stands.
     let counts : g.L.Listener.counts ≡ true = search rules in
     noted g.L.Listener.counts at c.match-player.count _ _ counts (elim c.match-player.branch [
-      | in-Some w ↦ counted (IsPlayerAt {g = g.P.Port} (g.L.Listener.stands_for asked) (g.L.Listener.keeps_told asked)) _ _ at _ w.in-Some.is stands (λ x here. w.count-is ∙ w.count-count.ensures asked x counts here)
-      | in-None w ↦ uncounted (IsPlayerAt {g = g.P.Port} (g.L.Listener.stands_for asked) (g.L.Listener.keeps_told asked)) _ at _ w.in-None.is stands w.count-is
+      | in-Some w ↦ counted (IsPlayerAt {g = g.P.Port} (g.L.Listener.stands_for asked)) _ _ at _ w.in-Some.is stands (λ x here. w.count-is ∙ w.count-count.ensures asked x counts here)
+      | in-None w ↦ uncounted (IsPlayerAt {g = g.P.Port} (g.L.Listener.stands_for asked)) _ at _ w.in-None.is stands w.count-is
     ]) (search rules)

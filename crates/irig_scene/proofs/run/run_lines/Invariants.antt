@@ -10,7 +10,7 @@ invariant-loop-input g l =
     × (l.number ≤ 1000001)
     × (has_failed l.output ≡ false)
     × (has_failed l.input ≡ false)
-    × HasRun (IsPlayerAt {g = g.P.Port} (g.L.Listener.stands_for l.asked) (g.L.Listener.keeps_told l.asked)) g.L.Listener.counts (g.L.Listener.texts l.asked) l.player l.starts.items (g.R.Read.remaining (device_of l.initial.input)) (g.R.Read.remaining (device_of l.input)) (g.W.Write.contents (device_of l.initial.output)) (g.W.Write.contents (device_of l.output)) l.number
+    × HasRun (IsPlayerAt {g = g.P.Port} (g.L.Listener.stands_for l.asked)) g.L.Listener.counts (g.L.Listener.texts l.asked) l.player l.starts.items (g.R.Read.remaining (device_of l.initial.input)) (g.R.Read.remaining (device_of l.input)) (g.W.Write.contents (device_of l.initial.output)) (g.W.Write.contents (device_of l.output)) l.number
 
 abbrev pub decreases-loop-input : goal.decreases-loop-input
 decreases-loop-input g l = 1000002 - l.number

@@ -46,8 +46,6 @@ returns-clause-carried g c = λ empty h p.
           (λ old. feed_here s e ev k r (pulses_sent s k ev) x _ port refl (c.take_over.ensures.fed empty s.rules (pulses_sent s k ev) stands (history_of s r ev) old.reader) refl old);
       log = q.log;
       few = q.few;
-      is_kept = q.is_kept;
-      told = q.told;
       audit = q.audit;
     }
 
@@ -81,7 +79,5 @@ returns-clause-unchanged g c = λ full h p.
           (λ old. record { reader = c.take_over.ensures.unchanged full (history_of s r ev) old.reader; ticked = old.ticked });
       log = q.log;
       few = q.few;
-      is_kept = q.is_kept;
-      told = q.told;
       audit = q.audit;
     }

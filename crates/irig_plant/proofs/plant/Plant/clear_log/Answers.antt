@@ -1,7 +1,6 @@
 use Rattle.std.proofs.Common.{sym, ◌∙◌, arith}
 use Rattle.std.proofs.Math.ListN.{drop_of_length-le}
 use Rattle.irig_plant.specs.Schedule.{log_of}
-use Rattle.irig_plant.proofs.ToldLaws.{none_kept}
 use Rattle.irig_plant.proofs.plant.Plant.clear_log.Goals as goal
 
 pub returns : goal.returns
@@ -16,7 +15,5 @@ returns g c = λ h p. record {
   readers = p.readers;
   log = c.clear.ensures.items ∙ sym (drop_of_length-le (log_of h.setup h.events) (omega arith));
   few = omega arith;
-  is_kept = p.is_kept;
-  told = c.clear-2.ensures.items ∙ sym (none_kept h.keeps_told h.setup h.events);
   audit = p.audit;
 }

@@ -1,9 +1,7 @@
-use Rattle.std.proofs.Common.{◌<◌, ◌≤◌, List, [], ◌∷◌, length, drop, refl, sym, ◌∙◌, ap, arith}
-use Rattle.std.specs.Prelude.{if◌then◌else◌}
+use Rattle.std.proofs.Common.{◌<◌, ◌≤◌, ◌∷◌, length, drop, refl, sym, ◌∙◌, ap, arith}
 use Rattle.irig_vote.specs.Vote.{ports_in}
 use Rattle.irig_vote.specs.declared.redundancy.Redundancy.{Redundancy}
 use Rattle.irig_vote.specs.declared.redundancy.Redundancy.TheVariants.{One, Three, Five}
-use Rattle.irig_plant.specs.declared.told_log.ToldEntry.{ToldEntry}
 use Rattle.irig_plant.specs.Schedule.{delivery, history_of}
 use Rattle.irig_plant.specs.Audits.{first_false, verdict}
 use Rattle.irig_plant.proofs.StepLaws.{set_reader, cached_port_after, delivers, feed_other, feed_here}
@@ -39,7 +37,5 @@ returns g c = λ h e p given.
           (λ old. feed_here s e ev k r ws x _ port given (c.pulses.ensures.fed (history_of s r ev) old.reader) refl old);
       log = p.log ∙ sym (ap (drop h.shown) plain.log);
       few = omega (arith, p.few, ap length plain.log);
-      is_kept = p.is_kept;
-      told = p.told ∙ sym (ap (λ (es : List ToldEntry). if h.keeps_told then drop h.shown es else []) plain.told);
       audit = p.audit ∙ sym (ap (verdict (first_false s.times 0 s.readers)) plain.broken);
     }

@@ -29,8 +29,6 @@ returns-clause-same g c h p =
       readers = p.readers;
       log = p.log;
       few = p.few;
-      is_kept = p.is_kept;
-      told = p.told;
       audit = p.audit;
     }
 

@@ -8,11 +8,14 @@ use Rattle.irig_plant.specs.Exactly.{AnnouncesWhenHeld, HasItsLock, HasItsCause}
 use Rattle.irig_plant.proofs.Headline.{log_is_true}
 use Rattle.irig_plant.proofs.ExactLaws.{log_is_calm, log_when_held, log_tells_lock, log_tells_cause}
 use Rattle.irig_plant.proofs.RangeLaws.{all_can_lock}
-use Rattle.irig_plant.proofs.SoundLaws.{all_sound}
+use Rattle.irig_plant.proofs.SoundLaws.{all_sound, all_told_soundly}
 use Rattle.irig_plant.proofs.plant.Plant.log.Goals as goal
 
 pub returns-clause-valid : goal.returns-clause-valid
 returns-clause-valid g c = rw c.as_slice.ensures.value (all_sound _ c.args.self.now.sound)
+
+pub returns-clause-claims : goal.returns-clause-claims
+returns-clause-claims g c = rw c.as_slice.ensures.value (all_told_soundly _ c.args.self.now.claimed)
 
 pub returns-clause-truth : goal.returns-clause-truth
 returns-clause-truth g c = λ h p.

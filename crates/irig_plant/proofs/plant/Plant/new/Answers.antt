@@ -22,7 +22,5 @@ returns-clause-stands g c =
       readers = λ r d lt. rw (← redundancy) (c.in_ok-ticked.ensures.new r d lt);
       log = c.new.ensures.items;
       few = omega arith;
-      is_kept = c.new-2.ensures.kept;
-      told = c.new-2.ensures.empty;
       audit = c.first_audit-audit.ensures.value;
     }

@@ -27,8 +27,6 @@ returns g c = record {
             (λ old. restart_here s ev r x _ (c.restart.ensures.forgotten (history_of s r ev) old.reader) refl old);
         log = p.log;
         few = p.few;
-        is_kept = p.is_kept;
-        told = p.told;
         audit = p.audit;
       };
   refused = search rules;

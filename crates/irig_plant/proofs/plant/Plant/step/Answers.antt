@@ -50,8 +50,6 @@ returns g c = record {
         readers = p.readers;
         log = p.log;
         few = p.few;
-        is_kept = p.is_kept;
-        told = p.told;
         audit = p.audit;
       };
   refused = search rules;

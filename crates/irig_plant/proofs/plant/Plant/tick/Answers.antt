@@ -6,13 +6,12 @@ use Rattle.irig_time.specs.Timelines.{TimelineValue, truth_at}
 use Rattle.irig_reader.specs.History.{told_at_tick, report_at_tick}
 use Rattle.irig_plant.specs.declared.event.Event.TheVariants.{Tick}
 use Rattle.irig_plant.specs.declared.entry.Entry.{Entry}
-use Rattle.irig_plant.specs.Sound.{IsSound}
-use Rattle.irig_plant.specs.Schedule.{ticks_of, history_of, entry_of, log_of, told_log_of, told_entry_of}
+use Rattle.irig_plant.specs.Sound.{IsSound, IsToldSoundly}
+use Rattle.irig_plant.specs.Schedule.{ticks_of, history_of, entry_of, log_of}
 use Rattle.irig_plant.specs.Audits.{tick_of_reader, is_broken_now, first_false, first_broken}
 use Rattle.irig_plant.specs.History.{IsTickedReaderAt}
 use Rattle.irig_plant.proofs.HeadlineVotes.{ports_told}
 use Rattle.irig_plant.proofs.ListLaws.{drop-push}
-use Rattle.irig_plant.proofs.ToldLaws.{told_length, one_kept, claimed_after}
 use Rattle.irig_plant.proofs.StepLaws.{set_reader, cached_port_after, tick_other, tick_here, audit_tick}
 use Rattle.irig_plant.proofs.plant.Plant.tick.Goals as goal
 
@@ -39,19 +38,7 @@ invariant_of-self-in-Break-branch-2 g c = record {
   timed = c.args.self.now.timed;
   true_there = c.at.ensures.stands;
   sound = rw c.reserve.ensures.items c.args.self.now.sound;
-  claimed = c.args.self.now.claimed;
-  known = rw c.reserve.ensures.items c.args.self.now.known;
-}
-
-pub invariant_of-self-in-Break-branch-3 : goal.invariant_of-self-in-Break-branch-3
-invariant_of-self-in-Break-branch-3 g c = record {
-  fed = c.args.self.now.fed;
-  carried = c.args.self.now.carried;
-  wired = c.args.self.now.wired;
-  timed = c.args.self.now.timed;
-  true_there = c.at.ensures.stands;
-  sound = rw c.reserve.ensures.items c.args.self.now.sound;
-  claimed = rw c.reserve-2.ensures.same c.args.self.now.claimed;
+  claimed = rw c.reserve.ensures.items c.args.self.now.claimed;
   known = rw c.reserve.ensures.items c.args.self.now.known;
 }
 
@@ -69,7 +56,7 @@ invariant_of-self-2-clause-sound g c =
 
 pub invariant_of-self-2-clause-claimed : goal.invariant_of-self-2-clause-claimed
 invariant_of-self-2-clause-claimed g c =
-    ∥∥₁_map c.args.self.now.claimed (λ claimed. rw (c.push.ensures.pushed, c.reserve-2.ensures.same) (claimed_after _ c.args.self.now.told.entries.items _ claimed c.tick-ticked.ensures.claims))
+    ∥∥₁_map c.args.self.now.claimed (λ claimed. rw (c.push_reserved.ensures.items, c.reserve.ensures.items) (All-push IsToldSoundly c.args.self.now.log.items _ claimed c.tick-ticked.ensures.claims))
 
 pub invariant_of-self-2-clause-known : goal.invariant_of-self-2-clause-known
 invariant_of-self-2-clause-known g c =
@@ -101,9 +88,7 @@ returns-clause-stands g c = λ h p.
       readers = set_reader s ev (Tick r ∷ ev) xs.items r x _ (sym xs.ok.0 ∙ p.reader_count) low p.readers c.index_mut-ticked_reader.ensures.value
           (tick_other s ev r)
           (λ o. tick_here s ev r x _ (c.tick-ticked.ensures.after (history_of s r ev) o.reader) (ap (λ n. n + 1) (first.ticked ∙ sym old.ticked)) o);
-      log = c.push_reserved.ensures.items ∙ rw (c.reserve.ensures.items, p.log, report, first.ticked) (sym (drop-push h.shown (log_of s ev) (entry_of s r ev) p.few));
+      log = c.push_reserved.ensures.items ∙ rw (c.reserve.ensures.items, p.log, report, truth, told, p.redundancy, first.ticked) (sym (drop-push h.shown (log_of s ev) (entry_of s r ev) p.few));
       few = omega (arith, p.few, length-append (log_of s ev) (entry_of s r ev ∷ []));
-      is_kept = c.push.ensures.kept ∙ c.reserve-2.ensures.kept ∙ p.is_kept;
-      told = c.push.ensures.pushed ∙ rw (c.reserve-2.ensures.kept, c.reserve-2.ensures.same, p.is_kept, p.told, truth, told, p.redundancy) (one_kept h.keeps_told h.shown (told_log_of s ev) (told_entry_of s r ev) (omega (arith, p.few, told_length s ev)));
       audit = c.audit_after-self.ensures ∙ rw (p.audit, truth, told, p.redundancy, first.ticked, ports_told s r ev) (audit_tick (first_false s.times 0 s.readers) (first_broken s ev) (tick_of_reader r (ticks_of r ev + 1)) (is_broken_now s r ev));
     }

@@ -9,6 +9,6 @@ use Rattle.irig_scene.proofs.player.Player.play_seconds.Given as goal
 abbrev pub invariant-loop : goal.invariant-loop
 invariant-loop g l =
     (has_failed l.output ≡ has_failed l.initial.output)
-    × ((x : Scene) → IsPlayerAt (g.L.Listener.stands_for l.asked) (g.L.Listener.keeps_told l.asked) l.initial.self x
-    → HoldsTextOf (IsPlayerAt (g.L.Listener.stands_for l.asked) (g.L.Listener.keeps_told l.asked)) (g.L.Listener.texts l.asked) x (times l.counter (second_in x.plan)) l.self (held_by l.self) (g.W.Write.contents (device_of l.initial.output)) (g.W.Write.contents (device_of l.output)))
+    × ((x : Scene) → IsPlayerAt (g.L.Listener.stands_for l.asked) l.initial.self x
+    → HoldsTextOf (IsPlayerAt (g.L.Listener.stands_for l.asked)) (g.L.Listener.texts l.asked) x (times l.counter (second_in x.plan)) l.self (held_by l.self) (g.W.Write.contents (device_of l.initial.output)) (g.W.Write.contents (device_of l.output)))
     × (length (held_by l.self) < max_held)
