@@ -1,6 +1,6 @@
 //! Who lied, and what it cost, as a listener tells it.
 
-ghost use Rattle.std.specs.Prelude.{◌≡◌, true, IfSome};
+ghost use Rattle.std.specs.Prelude.{◌≡◌, IfSome};
 ghost use Rattle.irig_plant.specs.History.{ForHistory};
 ghost use Rattle.report_blame.specs.Blaming.{LastTick};
 ghost use Rattle.report_blame.specs.Soundness.{IsSoundTick};
@@ -28,13 +28,7 @@ impl Listener for Observer {
 
     ghost texts = { λ asked. blame_texts };
 
-    ghost keeps_told = { λ asked. true };
-
     ghost stands_for = { λ asked observer x. IsObserverAt observer x };
-
-    fn wants_told(_asked: ()) -> bool {
-        true
-    }
 
     fn new(
         alloc: Global,
@@ -91,11 +85,5 @@ fn last_tick<P: Port>(plant: &Plant<P>) -> Option<Tick>
     let [entry, ..] = plant.log() else {
         return None;
     };
-    let [told, ..] = plant.told() else {
-        return None;
-    };
-    Some(Tick {
-        entry: *entry,
-        told: *told,
-    })
+    Some(Tick { entry: *entry })
 }
