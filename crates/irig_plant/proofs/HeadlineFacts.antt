@@ -25,10 +25,11 @@ use Rattle.irig_plant.specs.Premises.{IsKeptUpTo, HasPremises, IsKept}
 use Rattle.irig_plant.specs.Truth.{AnnouncesTruth, GivesNoFalseAlarm, IsTruthful, IsBefore}
 use Rattle.irig_plant.specs.Exactly.{announcement, silence, IsServed, AnnouncesWhenHeld, IsAnnouncement, HasItsLock, HasAnnounced, WasHeld, IsSilence, HasItsCause}
 use Rattle.irig_plant.specs.Headline.{KeepsHeadline}
+use Rattle.irig_plant.specs.SilentTicks.{silent_ports}
 use Rattle.irig_plant.proofs.CourseLaws.{voted_by_test, test_by_voted, test_by_restarted}
 use Rattle.irig_plant.proofs.Headline.{kept_now, harmless}
 use Rattle.irig_plant.proofs.KeptLaws.{empty_true}
-use Rattle.irig_plant.proofs.NoonPlants.{at, noon, plant, told_0, told_nothing, kept_none, kept_tick, kept_replay, two_stale, kept_first_of_3, silent_ports}
+use Rattle.irig_plant.proofs.NoonPlants.{at, noon, plant, told_0, told_nothing, kept_none, kept_tick, kept_replay, two_stale, kept_first_of_3}
 
 -- ---- how many numbers are such
 

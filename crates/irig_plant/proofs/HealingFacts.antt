@@ -39,9 +39,10 @@ use Rattle.irig_plant.specs.Ports.{HasHeard, IsUntruePort}
 use Rattle.irig_plant.specs.Truth.{IsTruthful}
 use Rattle.irig_plant.specs.OwnEdge.{IsCleanNow, IsCleanAt, IsTrueByItsEdge, HasFalseMajority, HasItsMajority}
 use Rattle.irig_plant.specs.Healing.{HasVoteAt, RestsOn, RestsOnAVote, RestsOnItsMajority, IsCleanBetween, IsCleanSince, IsTrueIfClean, IsFalseToTheEnd, IsFalseEdge}
+use Rattle.irig_plant.specs.SilentTicks.{silent_ports}
 use Rattle.irig_plant.proofs.KeptLaws.{empty_true}
 use Rattle.irig_plant.proofs.CourseLaws.{ticks_grow, ticks_now}
-use Rattle.irig_plant.proofs.NoonPlants.{at, noon, rules, plant, three_generators, claim_0, told_0, told_nothing, two_stale, silent_ports}
+use Rattle.irig_plant.proofs.NoonPlants.{at, noon, rules, plant, three_generators, claim_0, told_0, told_nothing, two_stale}
 use Rattle.irig_plant.proofs.HealingPlant.{holder, holding, is_timeline, misled, held_once, held_twice, claim_of, truth_1, told_2, first_vote, stale_vote, silent_vote, says_2, says_3, says_4}
 use Rattle.irig_plant.proofs.OwnEdge.{clean_by_ports}
 use Rattle.irig_plant.proofs.PortLaws.{broken_by_ports}

@@ -42,3 +42,4 @@ pub mod HealthyLaws
 mod HealthyFacts
 mod HealthFacts
 pub mod BrokenLogs
+pub mod SilentLaws

@@ -20,7 +20,6 @@ use Rattle.irig_gen.specs.Sent.{frame_of}
 use Rattle.irig_port.specs.declared.told.Told.TheVariants as tells
 use Rattle.irig_port.specs.Told.{told_of_widths}
 use Rattle.irig_port.proofs.ToldLaws.{none_told}
-use Rattle.irig_vote.specs.declared.votes.Tells.{Tells}
 use Rattle.irig_vote.specs.Vote.{vote_of}
 use Rattle.irig_reader.specs.declared.report.Lock.TheVariants as lock
 use Rattle.irig_reader.specs.declared.report.Cause.TheVariants as cause
@@ -87,10 +86,6 @@ told_0 = true_frame_told no_generator noon 0 claim_0 is_generator is_timeline tr
 
 pub told_nothing : told_of_widths rules [] ≡ tells.Silence
 told_nothing = none_told rules [] refl
-
--- so of all five
-abbrev pub silent_ports : Tells
-silent_ports = record { a = tells.Silence; b = tells.Silence; c = tells.Silence; d = tells.Silence; e = tells.Silence }
 
 -- ---- the premise, an event later
 

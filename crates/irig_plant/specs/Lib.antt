@@ -21,3 +21,4 @@ pub mod HealthyPlant
 pub mod OwnEdge
 pub mod Healing
 pub mod WholeCarry
+pub mod SilentTicks

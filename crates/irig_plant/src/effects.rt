@@ -1,6 +1,7 @@
 //! What a plant does with each kind of event.
 
 ghost use Rattle.std.specs.Prelude.{◌≡◌, ◌<◌, ◌≤◌, ◌+◌, [], IfErr, OnOk, OnErr, unwrap_or, vec_len, Some, None, true};
+ghost use Rattle.irig_plant.specs.SilentTicks.{silent_ports};
 
 use crate::audit::{TickOfReader, audit_after};
 use crate::entry::Entry;
@@ -9,7 +10,10 @@ use crate::fault::PlantFault;
 use crate::plant::Plant;
 use crate::pulses::{pulses, with_damage};
 use irig_gen::GenFault;
-use irig_port::Port;
+use irig_port::{Port, Told};
+use irig_reader::{Report, Ticked};
+use irig_time::Claim;
+use irig_vote::{Redundancy, Tells};
 
 impl<P: Port> Plant<P> {
     ghost use Rattle.irig_plant.specs.Refusals.{unless_reader, unless_generator};
@@ -44,19 +48,25 @@ impl<P: Port> Plant<P> {
         };
         self.log.reserve(1)?;
         let edge = ticks + 1;
+        let tick = TickOfReader { reader: r, edge };
         let ticked_reader = &mut self.readers[r as usize];
         ticked_reader.ticks = edge;
-        let ticked = ticked_reader.reader.tick();
+        if ticked_reader.reader.heard_nothing() {
+            let report = ticked_reader.reader.tick_silent();
+            let entry = silent_entry(tick, report, self.redundancy, truth);
+            self.log.push_reserved(entry);
+            return Ok(());
+        }
+        let Ticked { report, told } = ticked_reader.reader.tick();
+        self.audit = audit_after(self.audit, tick, truth, &told, self.redundancy);
         self.log.push_reserved(Entry {
             reader: r,
             edge,
-            report: ticked.report,
+            report,
             redundancy: self.redundancy,
-            told: ticked.told,
+            told,
             truth: Some(truth),
         });
-        let tick = TickOfReader { reader: r, edge };
-        self.audit = audit_after(self.audit, tick, truth, &ticked.told, self.redundancy);
         Ok(())
     }
 
@@ -185,5 +195,32 @@ impl<P: Port> Plant<P> {
     {
         self.has_reader(r)?;
         self.has_generator(g)
+    }
+}
+
+// What is logged of a tick at which every port is silent.
+fn silent_entry(tick: TickOfReader, report: Report, redundancy: Redundancy, truth: Claim) -> Entry
+    ensures { result ≡ record {
+      reader = tick.reader;
+      edge = tick.edge;
+      report = report;
+      redundancy = redundancy;
+      told = silent_ports;
+      truth = Some truth;
+    } }
+{
+    Entry {
+        reader: tick.reader,
+        edge: tick.edge,
+        report,
+        redundancy,
+        told: Tells {
+            a: Told::Silence,
+            b: Told::Silence,
+            c: Told::Silence,
+            d: Told::Silence,
+            e: Told::Silence,
+        },
+        truth: Some(truth),
     }
 }

@@ -19,7 +19,7 @@ ghost use Rattle.irig_reader.specs.declared.report.Cause.TheVariants as Cause;
 use crate::report::Report;
 use crate::rule::{State, step_of};
 use crate::rules::ReaderRules;
-use irig_port::{Port, Told, hear};
+use irig_port::{Port, hear};
 use irig_sync::Sync;
 use irig_time::{Claim, LeapTable, Rules};
 use irig_vote::{Redundancy, Tells, vote};
@@ -189,19 +189,6 @@ impl<P: Port> Reader<P> {
             → IsClean t n result.told self.old.redundancy → result.report.cause ≡ Cause.Voted
             → result.report.announce ≡ Some u → IsSecond t (n + 1) u }
     {
-        if self.heard_nothing() {
-            let report = self.go_on(None);
-            return Ticked {
-                report,
-                told: Tells {
-                    a: Told::Silence,
-                    b: Told::Silence,
-                    c: Told::Silence,
-                    d: Told::Silence,
-                    e: Told::Silence,
-                },
-            };
-        }
         let told = Tells {
             a: self.a.edge(),
             b: self.b.edge(),
@@ -214,8 +201,20 @@ impl<P: Port> Reader<P> {
         Ticked { report, told }
     }
 
-    // Whether all ports are empty: they then tell silence, and there is no vote.
-    fn heard_nothing(&self) -> bool
+    /// What [`Reader::tick`] does if all ports are empty, which then tell silence: what the reader
+    /// says. It spares a caller who knows what they tell the copies of it.
+    pub fn tick_silent(&mut self) -> Report
+        requires { ForReaderHistory self.old (λ h. h.fed ≡ no_pulses) }
+        ensures report { ForReaderHistory self.old (λ h. result ≡ report_at_tick h) }
+        ensures after { Advances self.old self.new after_tick }
+        ensures ports { self.new.redundancy ≡ self.old.redundancy }
+        ensures valid { IfSome result.announce IsValid }
+    {
+        self.go_on(None)
+    }
+
+    /// Whether all ports are empty: they then tell silence, and there is no vote.
+    pub fn heard_nothing(&self) -> bool
         ensures { result ≡ true → ForReaderHistory self.now (λ h. h.fed ≡ no_pulses) }
     {
         self.a.is_empty()

@@ -8,10 +8,9 @@ use Rattle.irig_plant.specs.declared.event.Event.TheVariants.{GenEdge, Tick, Car
 use Rattle.irig_plant.specs.declared.fault.PlantFault.{PlantFault}
 use Rattle.irig_plant.specs.declared.fault.PlantFault.TheVariants.{NoSuchReader}
 use Rattle.irig_plant.specs.Refusals.{unless_second, refusal}
-use Rattle.irig_plant.specs.Schedule.{Setup, ticks_of, entry_of, told_entry_of, log_of, told_log_of}
+use Rattle.irig_plant.specs.Schedule.{Setup, ticks_of, entry_of, log_of}
 use Rattle.irig_plant.proofs.ListLaws.{apart, each_set, drop-push}
 use Rattle.irig_plant.proofs.StepLaws.{no_reader}
-use Rattle.irig_plant.proofs.ToldLaws.{told_length}
 use Rattle.report_blame.specs.declared.account.Account.{Account}
 use Rattle.report_blame.specs.declared.tick.Tick.{Tick as TickOf}
 use Rattle.report_blame.specs.Accounts.{account_of}
@@ -64,7 +63,7 @@ known_reader s r ev h =
 
 -- the first tick of the log, if all entries before the event were let go
 abbrev pub latest : Setup → Event → List Event → Option TickOf
-latest s e ev = first_tick (drop (length (log_of s ev)) (log_of s (e ∷ ev))) (drop (length (log_of s ev)) (told_log_of s (e ∷ ev)))
+latest s e ev = first_tick (drop (length (log_of s ev)) (log_of s (e ∷ ev)))
 
 gone : {X : Type 0} (xs : List X) → drop (length xs) xs ≡ []
 gone xs = drop_of_length-le xs (omega arith)
@@ -72,14 +71,11 @@ gone xs = drop_of_length-le xs (omega arith)
 latest_tick : (s : Setup) (r : ℕ) (ev : List Event) → latest s (Tick r) ev ≡ Some (tick_of s r ev)
 latest_tick s r ev =
     let n = length (log_of s ev) in
-    let same : n ≡ length (told_log_of s ev) = sym (told_length s ev) in
     let entries : drop n (log_of s ev ++ entry_of s r ev ∷ []) ≡ entry_of s r ev ∷ [] = drop-push n (log_of s ev) (entry_of s r ev) (omega arith) ∙ ap (λ xs. xs ++ entry_of s r ev ∷ []) (gone (log_of s ev)) in
-    let tolds : drop n (told_log_of s ev ++ told_entry_of s r ev ∷ []) ≡ told_entry_of s r ev ∷ [] =
-    drop-push n (told_log_of s ev) (told_entry_of s r ev) (omega (arith, same)) ∙ ap (λ xs. xs ++ told_entry_of s r ev ∷ []) (drop_of_length-le (told_log_of s ev) (omega (arith, same))) in
-    ap (λ xs. first_tick xs (drop n (told_log_of s ev ++ told_entry_of s r ev ∷ []))) entries ∙ ap (first_tick (entry_of s r ev ∷ [])) tolds
+    ap first_tick entries
 
-no_latest : (s : Setup) (ev : List Event) → first_tick (drop (length (log_of s ev)) (log_of s ev)) (drop (length (log_of s ev)) (told_log_of s ev)) ≡ None
-no_latest s ev = ap (λ xs. first_tick xs (drop (length (log_of s ev)) (told_log_of s ev))) (gone (log_of s ev))
+no_latest : (s : Setup) (ev : List Event) → first_tick (drop (length (log_of s ev)) (log_of s ev)) ≡ None
+no_latest s ev = ap first_tick (gone (log_of s ev))
 
 -- an event is a tick, or changes no reader's ticks
 pub record IsTick (s : Setup) (e : Event) (ev : List Event) (t : TickOf) : Type 0 where
@@ -87,7 +83,7 @@ pub record IsTick (s : Setup) (e : Event) (ev : List Event) (t : TickOf) : Type 
   pub is : e ≡ Tick reader
   pub same : t ≡ tick_of s reader ev
 
-is_none : (s : Setup) (e : Event) (ev : List Event) (t : TickOf) → Some t ≡ first_tick (drop (length (log_of s ev)) (log_of s ev)) (drop (length (log_of s ev)) (told_log_of s ev)) → IsTick s e ev t
+is_none : (s : Setup) (e : Event) (ev : List Event) (t : TickOf) → Some t ≡ first_tick (drop (length (log_of s ev)) (log_of s ev)) → IsTick s e ev t
 is_none s e ev t h = let none : ◌≡◌ {A = Option TickOf} (Some t) None = h ∙ no_latest s ev in absurd cc
 
 pub the_tick : (s : Setup) (e : Event) (ev : List Event) (t : TickOf) → Some t ≡ latest s e ev → IsTick s e ev t

@@ -36,10 +36,10 @@ begins_at o x begun count new ports = record {
 -- ---- what the plant's log has
 
 -- its first tick is what the event was
-pub latest_of : {P : Type 0} {g : Ghosts P} (plant : Plant P g) (names : List (List ℕ)) (x : Scene) (e : Event) (tick : Option TickOf) → ForHistory plant (LastTick tick) → HasTaken plant true names e x
+pub latest_of : {P : Type 0} {g : Ghosts P} (plant : Plant P g) (names : List (List ℕ)) (x : Scene) (e : Event) (tick : Option TickOf) → ForHistory plant (LastTick tick) → HasTaken plant names e x
     → tick ≡ latest x.plan.setup e x.events
 latest_of plant names x e tick h taken =
-    h (record { setup = x.plan.setup; events = e ∷ x.events; shown = length (log_of x.plan.setup x.events); keeps_told = true }) taken.stands refl
+    h (record { setup = x.plan.setup; events = e ∷ x.events; shown = length (log_of x.plan.setup x.events) }) taken.stands
 
 -- the book stays, and nothing has ended
 record IsQuiet (o : Observer) (x : Scene) (e : Event) : Type 0 where

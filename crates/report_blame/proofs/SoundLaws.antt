@@ -18,11 +18,11 @@ of_utc_if (tells.Poor q) h = tt
 
 tick_if : (t : Tick) → ¬ ¬ IsSoundTick t → IsSoundTick t
 tick_if t h = record {
-  a = of_utc_if t.told.told.a (λ no. h (λ s. no s.a));
-  b = of_utc_if t.told.told.b (λ no. h (λ s. no s.b));
-  c = of_utc_if t.told.told.c (λ no. h (λ s. no s.c));
-  d = of_utc_if t.told.told.d (λ no. h (λ s. no s.d));
-  e = of_utc_if t.told.told.e (λ no. h (λ s. no s.e));
+  a = of_utc_if t.entry.told.a (λ no. h (λ s. no s.a));
+  b = of_utc_if t.entry.told.b (λ no. h (λ s. no s.b));
+  c = of_utc_if t.entry.told.c (λ no. h (λ s. no s.c));
+  d = of_utc_if t.entry.told.d (λ no. h (λ s. no s.d));
+  e = of_utc_if t.entry.told.e (λ no. h (λ s. no s.e));
 }
 
 open_if : (o : Option Stretch) → ¬ ¬ IsSoundOpen o → IsSoundOpen o

@@ -46,8 +46,14 @@ noon = record { day = 6209; sod = 43200 }
 
 abbrev at : ℕ → Told → Tick
 at edge told = record {
-  entry = record { reader = 0; edge = edge; report = record { announce = Some noon; lock = Locked; cause = Voted } };
-  told = record { redundancy = Three; told = record { a = tells.Silence; b = told; c = tells.Silence; d = tells.Silence; e = tells.Silence }; truth = None };
+  entry = record {
+    reader = 0;
+    edge = edge;
+    report = record { announce = Some noon; lock = Locked; cause = Voted };
+    redundancy = Three;
+    told = record { a = tells.Silence; b = told; c = tells.Silence; d = tells.Silence; e = tells.Silence };
+    truth = None;
+  };
 }
 
 abbrev poor_twice : Stretch

@@ -1,7 +1,7 @@
 -- A book of readers' ticks: what stands after an event, and what a run writes.
-use Rattle.std.specs.Prelude.{◌≡◌, ℕ, true, List, length, drop, Option, None, Result, Ok, Err}
+use Rattle.std.specs.Prelude.{◌≡◌, ℕ, List, length, drop, Option, None, Result, Ok, Err}
 use Rattle.std.specs.Io.KnownBytes.{Appends}
-use Rattle.irig_plant.specs.Schedule.{log_of, told_log_of}
+use Rattle.irig_plant.specs.Schedule.{log_of}
 use Rattle.irig_plant.specs.History.{PlantHistory}
 use Rattle.irig_device.specs.Lines.{Bytes}
 use Rattle.irig_device.specs.Watched.{AppendsPart}
@@ -18,10 +18,7 @@ use Rattle.report_blame.specs.BlameText.{blame_text, blame_texts}
 
 -- the first tick that a plant's log still has
 abbrev pub LastTick : Option Tick → PlantHistory → Type 0
-LastTick tick h =
-    h.keeps_told ≡ true
-    → tick ≡ first_tick (drop h.shown (log_of h.setup h.events))
-    (drop h.shown (told_log_of h.setup h.events))
+LastTick tick h = tick ≡ first_tick (drop h.shown (log_of h.setup h.events))
 
 -- an observer stands as a scene leaves it: its book has the ticks of the scene's readers
 pub record IsObserverAt (o : Observer) (x : Scene) : Type 0 where

@@ -3,20 +3,19 @@ use Rattle.std.specs.Prelude.{◌≡◌, ℕ, ◌<◌, ◌==◌, if◌then◌els
 use Rattle.irig_plant.specs.declared.entry.Entry.{Entry}
 use Rattle.irig_plant.specs.declared.event.Event.{Event}
 use Rattle.irig_plant.specs.declared.event.Event.TheVariants as event
-use Rattle.irig_plant.specs.declared.told_log.ToldEntry.{ToldEntry}
-use Rattle.irig_plant.specs.Schedule.{Setup, entry_of, told_entry_of}
+use Rattle.irig_plant.specs.Schedule.{Setup, entry_of}
 use Rattle.report_blame.specs.declared.account.Account.{Account}
 use Rattle.report_blame.specs.declared.book.Book.{Book}
 use Rattle.report_blame.specs.declared.tick.Tick.{Tick}
 use Rattle.report_blame.specs.Accounts.{account_of}
 
--- an entry of the log, and what the ports told there
-abbrev pub tick : Entry → ToldEntry → Tick
-tick entry told = record { entry = entry; told = told }
+-- by an entry of the log
+abbrev pub tick : Entry → Tick
+tick entry = record { entry = entry }
 
 -- a tick of reader r that comes now
 abbrev pub tick_of : Setup → ℕ → List Event → Tick
-tick_of s r ev = tick (entry_of s r ev) (told_entry_of s r ev)
+tick_of s r ev = tick (entry_of s r ev)
 
 -- the ticks of reader r, the newest first
 abbrev pub ticks_at : Setup → ℕ → List Event → List Tick
@@ -35,8 +34,7 @@ pub record IsBookOf (book : Book) (s : Setup) (ev : List Event) : Type 0 where
   pub each : (r : ℕ) (d : Account) → r < length s.readers
       → slice_index_or book.accounts.items r d ≡ account_at s ev r
 
--- the first of some entries, with what the ports told there
-abbrev pub first_tick : List Entry → List ToldEntry → Option Tick
-first_tick [] tolds = None
-first_tick (e ∷ es) [] = None
-first_tick (e ∷ es) (t ∷ ts) = Some (tick e t)
+-- by the first of some entries
+abbrev pub first_tick : List Entry → Option Tick
+first_tick [] = None
+first_tick (e ∷ es) = Some (tick e)

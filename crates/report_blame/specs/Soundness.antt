@@ -7,7 +7,7 @@ use Rattle.report_blame.specs.declared.tick.Tick.{Tick}
 
 -- what the ports claimed are seconds of UTC
 abbrev pub IsSoundTick : Tick → Type 0
-IsSoundTick t = AreOfUtc t.told.told
+IsSoundTick t = AreOfUtc t.entry.told
 
 -- so of the first tick of an open stretch
 abbrev pub IsSoundOpen : Option Stretch → Type 0

@@ -38,7 +38,7 @@ kind_text AnotherMark = codes "told another mark"
 abbrev pub first_text : ℕ → Stretch → List ℕ
 first_text port s =
     if same_kind s.kind Silent then []
-    else codes ", first " ++ port_word s.first.told.truth (told_by port s.first)
+    else codes ", first " ++ port_word s.first.entry.truth (told_by port s.first)
 
 -- how many seconds were announced, and how many of them were untrue
 unfoldable pub seconds_text : ℕ → ℕ → List ℕ

@@ -15,14 +15,14 @@ use Rattle.report_blame.specs.Kinds.{kind_of}
 -- what a port told, 0 to 4
 abbrev pub told_by : ℕ → Tick → Told
 told_by port t =
-    if port == 0 then t.told.told.a
-    else (if port == 1 then t.told.told.b
-    else (if port == 2 then t.told.told.c
-    else (if port == 3 then t.told.told.d else t.told.told.e)))
+    if port == 0 then t.entry.told.a
+    else (if port == 1 then t.entry.told.b
+    else (if port == 2 then t.entry.told.c
+    else (if port == 3 then t.entry.told.d else t.entry.told.e)))
 
 -- its kind
 abbrev pub kind_at : ℕ → Tick → Kind
-kind_at port t = kind_of t.told.truth (told_by port t)
+kind_at port t = kind_of t.entry.truth (told_by port t)
 
 -- whether the reader announced a second
 abbrev pub is_announced : Tick → Bool
@@ -47,4 +47,4 @@ is_another (Some announced) (Some second) = not (same_second announced second)
 
 -- whether the reader announced another second than the one that begins at the edge
 abbrev pub is_untrue : Tick → Bool
-is_untrue t = is_another t.entry.report.announce (second_after t.told.truth)
+is_untrue t = is_another t.entry.report.announce (second_after t.entry.truth)

@@ -1,6 +1,6 @@
 //! Who lied, and what it cost, as a listener tells it.
 
-ghost use Rattle.std.specs.Prelude.{◌≡◌, false, true, IfSome};
+ghost use Rattle.std.specs.Prelude.{◌≡◌, false, IfSome};
 ghost use Rattle.irig_plant.specs.History.{ForHistory};
 ghost use Rattle.report_blame.specs.Blaming.{LastTick};
 ghost use Rattle.report_blame.specs.Soundness.{IsSoundTick};
@@ -27,8 +27,6 @@ impl Listener for Observer {
     type Asked = ();
 
     ghost texts = { λ asked. blame_texts };
-
-    ghost keeps_told = { λ asked. true };
 
     ghost stands_for = { λ asked observer x. IsObserverAt observer x };
 
@@ -97,11 +95,5 @@ fn last_tick<P: Port>(plant: &Plant<P>) -> Option<Tick>
     let [entry, ..] = plant.log() else {
         return None;
     };
-    let [told, ..] = plant.told() else {
-        return None;
-    };
-    Some(Tick {
-        entry: *entry,
-        told: *told,
-    })
+    Some(Tick { entry: *entry })
 }

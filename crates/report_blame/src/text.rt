@@ -213,7 +213,7 @@ fn push_first(text: &mut String, port: u8, stretch: &Stretch) -> Result<(), Allo
     }
     text.push_str(", first ")?;
     let first = stretch.first;
-    push_word(text, first.told.truth, first.told_by(port))
+    push_word(text, first.entry.truth, first.told_by(port))
 }
 
 // How many seconds were announced, and how many of them were untrue.

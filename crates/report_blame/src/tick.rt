@@ -4,15 +4,14 @@ ghost use Rattle.std.specs.Prelude.{◌≡◌};
 ghost use Rattle.report_blame.specs.Ticks.{told_by, kind_at, is_announced, second_after, is_untrue};
 
 use crate::kind::Kind;
-use irig_plant::{Entry, ToldEntry};
+use irig_plant::Entry;
 use irig_port::Told;
 use irig_time::{Claim, UtcSecond, next, valid};
 
-/// What a reader said at a tick, and what its ports told.
+/// What was logged of a tick.
 #[derive(Clone, Copy)]
 pub(crate) struct Tick {
     pub(crate) entry: Entry,
-    pub(crate) told: ToldEntry,
 }
 
 impl Tick {
@@ -20,7 +19,7 @@ impl Tick {
     pub(crate) fn told_by(&self, port: u8) -> Told
         ensures { result ≡ told_by port self.now }
     {
-        let told = self.told.told;
+        let told = self.entry.told;
         match port {
             0 => told.a,
             1 => told.b,
@@ -34,7 +33,7 @@ impl Tick {
     pub(crate) fn kind(&self, port: u8) -> Kind
         ensures { result ≡ kind_at port self.now }
     {
-        Kind::of(self.told.truth, self.told_by(port))
+        Kind::of(self.entry.truth, self.told_by(port))
     }
 
     /// Whether the reader announced a second.
@@ -48,7 +47,7 @@ impl Tick {
     pub(crate) fn is_untrue(&self) -> bool
         ensures { result ≡ is_untrue self.now }
     {
-        match (self.entry.report.announce, second_after(self.told.truth)) {
+        match (self.entry.report.announce, second_after(self.entry.truth)) {
             (None, _) => false,
             (Some(_), None) => true,
             (Some(announced), Some(second)) => announced != second,

@@ -5,10 +5,11 @@ use Rattle.std.specs.List.{range_with_len}
 use Rattle.std.specs.Prelude.{option_to_list}
 use Rattle.irig_port.specs.declared.told.Told.{Told}
 use Rattle.irig_vote.specs.Vote.{ports_in, redundancy_of, f_of}
-use Rattle.irig_reader.specs.History.{Fed, vote_at_tick, told_at_tick}
+use Rattle.irig_reader.specs.History.{Fed, ReaderHistory, vote_at_tick, told_at_tick, report_at_tick}
+use Rattle.irig_plant.specs.declared.entry.Entry.{Entry}
 use Rattle.irig_plant.specs.declared.event.Event.{Event}
 use Rattle.irig_plant.specs.declared.event.Event.TheVariants.{GenEdge, Tick, Carry, Damage, Replay, Raw, Fault, Repair, Restart}
-use Rattle.irig_plant.specs.Schedule.{Setup, Delivery, delivery, delivery_of, with_delivery, heard_at, fed_at, told_now, ports_now, ticks_of, history_with, history_of, votes_of, entry_of, log_of, told_entry_of, told_log_of}
+use Rattle.irig_plant.specs.Schedule.{Setup, Delivery, delivery, delivery_of, with_delivery, heard_at, fed_at, told_now, ports_now, ticks_of, history_with, history_of, votes_of, entry_of, log_of}
 use Rattle.irig_plant.specs.Audits.{untrue_ports, is_broken_now, tick_of_reader, TickOfReader, first_broken, first_false, verdict, audit_of}
 use Rattle.irig_time.specs.Timelines.{truth_at}
 use Rattle.report_flat.specs.Recording.{pulses_at, pulses_of, recorded}
@@ -118,13 +119,8 @@ same_history s r ev = ap (λ f. history_with s r f (votes_of s r (recorded s ev)
 
 same_entry : (s : Setup) (r : ℕ) (ev : List Event) → entry_of s r (recorded s ev) ≡ entry_of s r ev
 same_entry s r ev =
-    ap (λ n. record { reader = r; edge = n + 1; report = Rattle.irig_reader.specs.History.report_at_tick (history_of s r (recorded s ev)) }) (same_ticks s r ev)
-    ∙ ap (λ h. record { reader = r; edge = ticks_of r ev + 1; report = Rattle.irig_reader.specs.History.report_at_tick h }) (same_history s r ev)
-
-same_told_entry : (s : Setup) (r : ℕ) (ev : List Event) → told_entry_of s r (recorded s ev) ≡ told_entry_of s r ev
-same_told_entry s r ev =
-    ap (λ n. record { redundancy = redundancy_of (length s.generators); told = told_at_tick (history_of s r (recorded s ev)); truth = truth_at s.times n }) (same_ticks s r ev)
-    ∙ ap (λ h. record { redundancy = redundancy_of (length s.generators); told = told_at_tick h; truth = truth_at s.times (ticks_of r ev) }) (same_history s r ev)
+    let logged : ℕ → ReaderHistory → Entry = λ n h. record { reader = r; edge = n + 1; report = report_at_tick h; redundancy = redundancy_of (length s.generators); told = told_at_tick h; truth = truth_at s.times n } in
+    ap (λ n. logged n (history_of s r (recorded s ev))) (same_ticks s r ev) ∙ ap (logged (ticks_of r ev)) (same_history s r ev)
 
 log_kept : (s : Setup) (d : Option Delivery) (ev : List Event) → log_of s (kept d ++ ev) ≡ log_of s ev
 log_kept s None ev = refl
@@ -145,26 +141,6 @@ same_log s (Carry g q ∷ ev) = log_kept s (delivery_of s (Carry g q) ev) (recor
 same_log s (Damage g q at w ∷ ev) = log_kept s (delivery_of s (Damage g q at w) ev) (recorded s ev) ∙ same_log s ev
 same_log s (Replay g q edge ∷ ev) = log_kept s (delivery_of s (Replay g q edge) ev) (recorded s ev) ∙ same_log s ev
 same_log s (Raw g q ws ∷ ev) = log_kept s (delivery_of s (Raw g q ws) ev) (recorded s ev) ∙ same_log s ev
-
-told_kept : (s : Setup) (d : Option Delivery) (ev : List Event) → told_log_of s (kept d ++ ev) ≡ told_log_of s ev
-told_kept s None ev = refl
-told_kept s (Some d) ev = of_pulses d.generator d.reader d.widths
-  where
-    of_pulses : (g q : ℕ) (ws : List ℕ) → told_log_of s (option_to_list (pulses_at g q ws) ++ ev) ≡ told_log_of s ev
-    of_pulses g q [] = refl
-    of_pulses g q (w ∷ ws) = refl
-
-pub same_told : (s : Setup) (ev : List Event) → told_log_of s (recorded s ev) ≡ told_log_of s ev
-same_told s [] = refl
-same_told s (Tick r ∷ ev) = ap (λ l. l ++ told_entry_of s r (recorded s ev) ∷ []) (same_told s ev) ∙ ap (λ e. told_log_of s ev ++ e ∷ []) (same_told_entry s r ev)
-same_told s (Restart r ∷ ev) = same_told s ev
-same_told s (GenEdge g ∷ ev) = same_told s ev
-same_told s (Fault g kind ∷ ev) = same_told s ev
-same_told s (Repair g ∷ ev) = same_told s ev
-same_told s (Carry g q ∷ ev) = told_kept s (delivery_of s (Carry g q) ev) (recorded s ev) ∙ same_told s ev
-same_told s (Damage g q at w ∷ ev) = told_kept s (delivery_of s (Damage g q at w) ev) (recorded s ev) ∙ same_told s ev
-same_told s (Replay g q edge ∷ ev) = told_kept s (delivery_of s (Replay g q edge) ev) (recorded s ev) ∙ same_told s ev
-same_told s (Raw g q ws ∷ ev) = told_kept s (delivery_of s (Raw g q ws) ev) (recorded s ev) ∙ same_told s ev
 
 -- ---- the audit
 

@@ -9,7 +9,7 @@ use Rattle.irig_plant.specs.declared.event.Event.{Event}
 use Rattle.irig_plant.specs.declared.event.Event.TheVariants.{GenEdge, Tick, Carry, Damage, Replay, Raw, Fault, Repair, Restart}
 use Rattle.irig_plant.specs.declared.fault.PlantFault.{PlantFault}
 use Rattle.irig_plant.specs.declared.fault.PlantFault.TheVariants as plant
-use Rattle.irig_plant.specs.Schedule.{Setup, ticks_of, log_of, told_log_of, pulses_sent, pulses_sent_at}
+use Rattle.irig_plant.specs.Schedule.{Setup, ticks_of, log_of, pulses_sent, pulses_sent_at}
 use Rattle.irig_plant.specs.Refusals.{unless_reader, unless_generator, unless_second, refusal}
 use Rattle.report_log.specs.declared.shown.Shown.{Shown}
 use Rattle.report_log.specs.Text.{lines_text, audit_text}
@@ -30,7 +30,7 @@ use Rattle.report_flat.proofs.ReadLaws.{event_read}
 use Rattle.irig_scene.specs.Texts.{first_of}
 use Rattle.report_flat.specs.Recording.{pulses_at, heard_of, recorded, CanBeWritten, AreTaken}
 use Rattle.report_flat.specs.FlatText.{heard_line, heard_lines, flat_lines, flat_of, flat_text}
-use Rattle.report_flat.proofs.RecordingLaws.{same_ticks, same_log, same_told, same_audit}
+use Rattle.report_flat.proofs.RecordingLaws.{same_ticks, same_log, same_audit}
 use Rattle.report_flat.proofs.TakenLaws.{IsTaken, meaning_taken, leaves_scene}
 use Rattle.report_flat.proofs.WidthLaws.{pulses_can, pulses_at_can, damaged_can}
 
@@ -202,9 +202,8 @@ module _ (first : List ℕ) (plan : Plan) (planted : IsPlanted first plan) where
 same_text : (plan : Plan) (ev : List Event) (shown : Shown) → text_of shown (meaning (Some (scene plan (recorded plan.setup ev))) None) ≡ text_of shown (meaning (Some (scene plan ev)) None)
 same_text plan ev shown =
     let s = plan.setup in
-    ap (λ l. lines_text plan.names shown l (told_log_of s (recorded s ev)) ++ audit_text plan.names (audit_in (scene plan (recorded s ev)))) (same_log s ev)
-    ∙ ap (λ l. lines_text plan.names shown (log_of s ev) l ++ audit_text plan.names (audit_in (scene plan (recorded s ev)))) (same_told s ev)
-    ∙ ap (λ a. lines_text plan.names shown (log_of s ev) (told_log_of s ev) ++ audit_text plan.names a) (same_audit s ev)
+    ap (λ l. lines_text plan.names shown l ++ audit_text plan.names (audit_in (scene plan (recorded s ev)))) (same_log s ev)
+    ∙ ap (λ a. lines_text plan.names shown (log_of s ev) ++ audit_text plan.names a) (same_audit s ev)
 
 -- ---- the plant line of some bytes
 

@@ -1,7 +1,7 @@
 //! What is proved of the definitions. It has no code.
 
 ghost use Rattle.std.specs.Prelude.{◌≡◌, ◌≤◌, ℕ, None, List, length};
-ghost use Rattle.irig_plant.specs.Schedule.{Setup, log_of, told_log_of};
+ghost use Rattle.irig_plant.specs.Schedule.{Setup, log_of};
 ghost use Rattle.irig_plant.specs.declared.event.Event.{Event};
 ghost use Rattle.irig_plant.specs.Audits.{audit_of};
 ghost use Rattle.report_log.specs.declared.shown.Shown.{Shown};
@@ -14,8 +14,6 @@ ghost use Rattle.report_flat.specs.FlatText.{flat_text};
 /// the same, their ports tell the same, and the audit is the same.
 pub fn recordings_have_their_log()
     ensures log { (s : Setup) (ev : List Event) → log_of s (recorded s ev) ≡ log_of s ev }
-    ensures told { (s : Setup) (ev : List Event)
-        → told_log_of s (recorded s ev) ≡ told_log_of s ev }
     ensures audit { (s : Setup) (ev : List Event) → audit_of s (recorded s ev) ≡ audit_of s ev }
 {}
 

@@ -1,6 +1,6 @@
 //! What readers hear of events, as lines.
 
-ghost use Rattle.std.specs.Prelude.{◌≡◌, ◌++◌, false, OnOk, string_bytes};
+ghost use Rattle.std.specs.Prelude.{◌≡◌, ◌++◌, OnOk, string_bytes};
 ghost use Rattle.report_log.specs.Text.{texts_of};
 ghost use Rattle.irig_scene.specs.Listening.{HasTaken};
 ghost use Rattle.irig_scene.specs.Scene.{Scene};
@@ -25,8 +25,6 @@ impl Listener for Recorder {
     type Asked = ();
 
     ghost texts = { λ asked. flat_texts };
-
-    ghost keeps_told = { λ asked. false };
 
     ghost stands_for = { λ asked recorder x. ⊤ };
 
@@ -84,7 +82,7 @@ fn push_heard<P: Port>(
     event: &Event,
 ) -> Result<(), AllocError>
     ensures { OnOk result ((x : Scene)
-        → HasTaken plant.now false (texts_of names.now.keys) event.now x
+        → HasTaken plant.now (texts_of names.now.keys) event.now x
         → string_bytes text.new
         ≡ string_bytes text.old ++ heard_text x.plan.names x.plan.setup event.now x.events) }
 {

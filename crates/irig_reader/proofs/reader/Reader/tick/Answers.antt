@@ -8,33 +8,10 @@ use Rattle.irig_reader.specs.declared.report.Report.{Report}
 use Rattle.irig_reader.specs.declared.report.Cause.TheVariants.{Voted}
 use Rattle.irig_reader.proofs.VoteLaws.{vote_valid}
 use Rattle.irig_reader.proofs.OneEdge.{voted_seconds}
-use Rattle.irig_reader.proofs.SilentLaws.{silent, told_silent, silent_vote, no_vote}
 use Rattle.irig_reader.proofs.reader.Reader.tick.Goals as goal
 
--- ---- nothing was heard
-
-pub returns-then-heard_nothing-clause-told : goal.returns-then-heard_nothing-clause-told
-returns-then-heard_nothing-clause-told g c history s = sym (told_silent history (c.heard_nothing.ensures c.if-heard_nothing.true history s))
-
-pub returns-then-heard_nothing-clause-report : goal.returns-then-heard_nothing-clause-report
-returns-then-heard_nothing-clause-report g c history s =
-    c.go_on-report.ensures.report ∙ rw (s.reader_rules, s.table, s.state, silent_vote history (c.heard_nothing.ensures c.if-heard_nothing.true history s)) refl
-
-pub returns-then-heard_nothing-clause-after : goal.returns-then-heard_nothing-clause-after
-returns-then-heard_nothing-clause-after g c history s =
-    let empty = c.heard_nothing.ensures c.if-heard_nothing.true history s in
-    rw (silent_vote history empty, ← empty) (c.go_on-report.ensures.votes history s)
-
-pub returns-then-heard_nothing-clause-truth : goal.returns-then-heard_nothing-clause-truth
-returns-then-heard_nothing-clause-truth g c t n u sound clean voted says =
-    let self = c.args.self.now in
-    let report = c.go_on-report.ensures.report ∙ ap (λ v. (step_of self.reader_rules self.table self.state v).report) (sym (no_vote self.redundancy)) in
-    voted_seconds t n _ _ _ silent self.redundancy u sound clean (subst (λ (r : Report). r.cause ≡ Voted) report voted) (subst (λ (r : Report). r.announce ≡ Some u) report says)
-
--- ---- else
-
-pub go_on-report-requires-2 : goal.go_on-report-requires-2
-go_on-report-requires-2 g c =
+pub go_on-report-requires : goal.go_on-report-requires
+go_on-report-requires g c =
     vote_valid _ _ c.vote-vote.result
     c.edge.ensures.valid c.edge-2.ensures.valid c.edge-3.ensures.valid c.edge-4.ensures.valid c.edge-5.ensures.valid c.vote-vote.ensures.value
 
@@ -47,7 +24,7 @@ pub returns-clause-report : goal.returns-clause-report
 returns-clause-report g c history s =
     let told = returns-clause-told g c history s in
     let vote = c.vote-vote.ensures.value in
-    let report = c.go_on-report-2.ensures.report in
+    let report = c.go_on-report.ensures.report in
     cc
 
 pub returns-clause-after : goal.returns-clause-after
@@ -55,7 +32,7 @@ returns-clause-after g c history s =
     let read : ReaderHistory = record history { fed = no_pulses } in
     let told = returns-clause-told g c history s in
     let vote : c.vote-vote.result ≡ vote_at_tick history = c.vote-vote.ensures.value ∙ rw (told, s.redundancy) refl in
-    let empty = c.go_on-report-2.ensures.votes read (record {
+    let empty = c.go_on-report.ensures.votes read (record {
       a = c.edge.ensures.empty _ _ s.a;
       b = c.edge-2.ensures.empty _ _ s.b;
       c = c.edge-3.ensures.empty _ _ s.c;
@@ -66,10 +43,10 @@ returns-clause-after g c history s =
       redundancy = s.redundancy;
       state = s.state;
     }) in
-    subst (λ v. HasReaderHistory c.go_on-report-2.new.self (record read { votes = v ∷ history.votes })) vote empty
+    subst (λ v. HasReaderHistory c.go_on-report.new.self (record read { votes = v ∷ history.votes })) vote empty
 
 pub returns-clause-truth : goal.returns-clause-truth
 returns-clause-truth g c t n u sound clean voted says =
     let self = c.args.self.now in
-    let report = c.go_on-report-2.ensures.report ∙ ap (λ v. (step_of self.reader_rules self.table self.state v).report) c.vote-vote.ensures.value in
+    let report = c.go_on-report.ensures.report ∙ ap (λ v. (step_of self.reader_rules self.table self.state v).report) c.vote-vote.ensures.value in
     voted_seconds t n _ _ _ _ self.redundancy u sound clean (subst (λ (r : Report). r.cause ≡ Voted) report voted) (subst (λ (r : Report). r.announce ≡ Some u) report says)
