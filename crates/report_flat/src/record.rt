@@ -1,6 +1,6 @@
 //! What readers hear of events, as lines.
 
-ghost use Rattle.std.specs.Prelude.{◌≡◌, ◌++◌, OnOk, string_bytes};
+ghost use Rattle.std.specs.Prelude.{◌≡◌, ◌++◌, false, OnOk, string_bytes};
 ghost use Rattle.report_log.specs.Text.{texts_of};
 ghost use Rattle.irig_scene.specs.Listening.{HasTaken};
 ghost use Rattle.irig_scene.specs.Scene.{Scene};
