@@ -7,6 +7,7 @@ ghost use Rattle.scenario_json.specs.Keys.{texts_of};
 ghost use Rattle.scenario_values.specs.Forms.{r};
 ghost use Rattle.text_refusal.specs.Lines.{has_event_form, has_event_values, has_generator, has_reached, is_event_refused};
 
+use crate::place::in_line;
 use crate::refused::PlantContext;
 use crate::shape::find_in_shape;
 use crate::value::find_in_values;
@@ -38,12 +39,6 @@ pub(crate) fn find_in_event<'a>(
     }
 }
 
-fn at<'a>(value: &'a Value, name: &'static str, expected: Expected<'a>) -> Misfit<'a>
-    ensures { result.place ≡ JsonPath.Line }
-{
-    Misfit::at(JsonPath::Line, name, value, expected)
-}
-
 #[tactic(auto, unfolding(crate::specs::Lines::has_event_form))]
 fn find_shape(value: &Value) -> Option<Misfit<'_>>
     ensures refused { IfSome result (λ misfit. has_event_form (view value.now) ≡ false) }
@@ -60,8 +55,8 @@ fn other_action(value: &Value) -> Misfit<'_>
     ensures { result.place ≡ JsonPath.Line }
 {
     match text_at(value, "do") {
-        Some("fault") => at(value, "kind", Expected::Words(&FAULT_WORDS)),
-        _ => at(value, "do", Expected::Words(&ACTION_WORDS)),
+        Some("fault") => in_line(value, "kind", Expected::Words(&FAULT_WORDS)),
+        _ => in_line(value, "do", Expected::Words(&ACTION_WORDS)),
     }
 }
 
@@ -81,7 +76,7 @@ fn find_reader<'a>(value: &'a Value, names: &'a IndexSet<String>) -> Option<Misf
 {
     match reader_at(names, R, value) {
         Some(_) => None,
-        None => Some(at(value, "r", Expected::Names(names))),
+        None => Some(in_line(value, "r", Expected::Names(names))),
     }
 }
 
@@ -95,7 +90,7 @@ fn find_generator<'a>(value: &'a Value, edges: &[u64]) -> Option<Misfit<'a>>
     };
     match natural_at(G, value) {
         Some(generator) if generator < edges.len() as u64 => None,
-        _ => Some(at(value, "g", Expected::Range(0, others.len() as i128))),
+        _ => Some(in_line(value, "g", Expected::Range(0, others.len() as i128))),
     }
 }
 
@@ -111,7 +106,7 @@ fn find_replay<'a>(value: &'a Value, edges: &[u64]) -> Option<Misfit<'a>>
         Some(wanted) if wanted <= edge => None,
         _ => {
             let past = Expected::Range(0, i128::from(edge));
-            Some(at(value, "edge", past).with(Note::Edge(generator, edge)))
+            Some(in_line(value, "edge", past).with(Note::Edge(generator, edge)))
         }
     }
 }

@@ -8,6 +8,7 @@ ghost use Rattle.serde_json.specs.View.{view};
 ghost use Rattle.scenario_values.specs.Names.{name_in};
 ghost use Rattle.text_refusal.specs.Places.{is_misnamed, is_unnamed};
 
+use crate::place::in_line;
 use scenario_values::{NAME, is_name, name_in, readers_in};
 use serde_json::Value;
 use text_words::{Expected, JsonPath, Misfit};
@@ -20,7 +21,7 @@ pub(crate) fn find_name(value: &Value) -> Option<Misfit<'_>>
 {
     let readers = readers_in(value);
     if !(1 <= readers.len() && readers.len() <= 16) {
-        return Some(Misfit::at(JsonPath::Line, "readers", value, Expected::Text("1 to 16")));
+        return Some(in_line(value, "readers", Expected::Text("1 to 16")));
     }
     misnamed_at(readers, first_other(readers).or(first_twice(readers))?)
 }

@@ -11,7 +11,7 @@ use scenario_values::{
     version_in,
 };
 use serde_json::Value;
-use text_words::JsonPath;
+use text_words::{Expected, JsonPath, Misfit};
 
 // An item, from 0, of the list at a key.
 #[tactic(auto, unfolding(crate::specs::Places::item_at), using(crate::proofs::PlaceLaws::viewed_item))]
@@ -65,4 +65,15 @@ pub(crate) fn version_of_line(value: &Value) -> Version
     ensures { result ≡ version_of_line (view value.now) }
 {
     version_in(value).unwrap_or(Version::Three)
+}
+
+/// What stands at a key of the line's own object, where something else may.
+pub(crate) fn in_line<'a>(
+    value: &'a Value,
+    name: &'static str,
+    expected: Expected<'a>,
+) -> Misfit<'a>
+    ensures { result.place ≡ JsonPath.Line }
+{
+    Misfit::at(JsonPath::Line, name, value, expected)
 }

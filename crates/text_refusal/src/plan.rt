@@ -4,7 +4,7 @@ ghost use Rattle.std.specs.Prelude.{◌≡◌, ◌≤◌, IfOk, IfSome, Some};
 ghost use Rattle.serde_json.specs.View.{view};
 ghost use Rattle.irig_time.specs.declared.second.TheConstants.{LAST_DAY};
 ghost use Rattle.text_refusal.specs.Lines.{AreRefusedAt};
-ghost use Rattle.text_refusal.specs.Refused.{change_refusal, change_refusal_at, entry_fault_at, entry_refusal, leap_refusal, minute_before, refusal_at, refusal_in, table_refusal, zone_refusal};
+ghost use Rattle.text_refusal.specs.Refused.{change_refusal_at, entry_fault_at, entry_refusal, leap_refusal, minute_before, refusal_at, refusal_in, table_refusal, zone_refusal};
 
 use crate::place::{object_at, version_of_line};
 use crate::walk::{Wrong, first_place};
@@ -62,16 +62,12 @@ fn zone_refusal(zone: Zone) -> Option<Refusal>
 fn change_refusal_at(generator: &GeneratorValues, at: usize) -> Option<Refusal>
     ensures { result ≡ change_refusal_at at generator.now }
 {
-    change_refusal(&generator.changes, at, *generator.changes.get(at)?)
-}
-
-fn change_refusal(changes: &[Change], at: usize, change: Change) -> Option<Refusal>
-    ensures { result ≡ change_refusal changes.now at change }
-{
+    let change = generator.changes.get(at)?;
     if change.zone.half_hours.unsigned_abs() > 31 {
         return Some(Refusal::Offset);
     }
-    if is_change_time(&change.at) && minute_before(changes, at) < minute_number(change.at) {
+    let before = minute_before(&generator.changes, at);
+    if is_change_time(&change.at) && before < minute_number(change.at) {
         None
     } else {
         Some(Refusal::Changes)
@@ -150,34 +146,32 @@ fn find_in_values<'a>(
     if refusal_at(values, place)? != refusal {
         return None;
     }
-    let expected = expected_for(refusal, values, place);
-    Some(Misfit::at(place, key_of(refusal), object_at(value, place)?, expected))
+    let (key, expected) = rule_of(refusal, values, place);
+    Some(Misfit::at(place, key, object_at(value, place)?, expected))
 }
 
-// The key whose value is refused so.
-fn key_of(refusal: Refusal) -> &'static str {
+// The key whose value is refused so, and what may stand there.
+fn rule_of(
+    refusal: Refusal,
+    values: &PlantValues,
+    place: JsonPath,
+) -> (&'static str, Expected<'static>) {
     match refusal {
-        Refusal::Offset => "local",
-        Refusal::Changes => "at",
-        Refusal::TableEnd => "until",
-        Refusal::TableLong => "leaps",
-        _ => "day",
-    }
-}
-
-fn expected_for(refusal: Refusal, values: &PlantValues, place: JsonPath) -> Expected<'static> {
-    match refusal {
-        Refusal::Offset => Expected::Ranged(LOCAL),
-        Refusal::Changes => {
-            Expected::Clause("the first second of a minute, later than the change before")
+        Refusal::Offset => ("local", Expected::Ranged(LOCAL)),
+        Refusal::Changes => (
+            "at",
+            Expected::Clause("the first second of a minute, later than the change before"),
+        ),
+        Refusal::OutOfYears => ("day", Expected::Text("2000-01-02 to 2099-12-30")),
+        Refusal::TableEnd => ("until", Expected::Text("a day up to 2099-12-30")),
+        Refusal::TableLong => ("leaps", Expected::Text("at most 64")),
+        Refusal::TableDay if is_late(values, place) => {
+            ("day", Expected::Text("a day up to \"until\""))
         }
-        Refusal::LeapNotMonthEnd => Expected::Text("the last day of a month"),
-        Refusal::OutOfYears => Expected::Text("2000-01-02 to 2099-12-30"),
-        Refusal::TableEnd => Expected::Text("a day up to 2099-12-30"),
-        Refusal::TableLong => Expected::Text("at most 64"),
-        Refusal::TableDay if is_late(values, place) => Expected::Text("a day up to \"until\""),
-        Refusal::TableDay => Expected::Text("the last day of a month"),
-        _ => Expected::Text("a day that no leap before it has"),
+        Refusal::LeapNotMonthEnd | Refusal::TableDay => {
+            ("day", Expected::Text("the last day of a month"))
+        }
+        _ => ("day", Expected::Text("a day that no leap before it has")),
     }
 }
 

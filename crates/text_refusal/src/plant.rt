@@ -6,7 +6,7 @@ ghost use Rattle.text_refusal.specs.Lines.{IsPlantRefusedAt};
 ghost use Rattle.text_refusal.specs.Places.{has_count, is_beyond, is_misformed, is_misvalued};
 
 use crate::names::find_name;
-use crate::place::{keys_at, object_at, version_of_line};
+use crate::place::{in_line, keys_at, object_at, version_of_line};
 use crate::plan::find_in_plan;
 use crate::shape::find_in_shape;
 use crate::value::find_in_values;
@@ -36,13 +36,6 @@ pub(crate) fn find_in_plant(
         Refusal::BadStart => Ok(Some(in_line(value, "start", Expected::Start))),
         _ => find_in_plan(alloc, refusal, value),
     }
-}
-
-// At a key of the line's own object.
-fn in_line<'a>(value: &'a Value, name: &'static str, expected: Expected<'a>) -> Misfit<'a>
-    ensures { result.place ≡ JsonPath.Line }
-{
-    Misfit::at(JsonPath::Line, name, value, expected)
 }
 
 fn find_misformed(version: Version, value: &Value) -> Option<Misfit<'_>>
