@@ -55,9 +55,10 @@ fn misnamed_at(readers: &[Value], at: usize) -> Option<Misfit<'_>>
     if !is_unnamed(readers, at, reader) {
         return None;
     }
-    let name = match is_name(name_in(reader)) {
-        true => Expected::Text("a name that no reader before it has"),
-        false => Expected::Ranged(NAME),
+    let name = if is_name(name_in(reader)) {
+        Expected::Text("a name that no reader before it has")
+    } else {
+        Expected::Ranged(NAME)
     };
     Some(Misfit::at(JsonPath::Reader(at), NAME.name, reader, name))
 }

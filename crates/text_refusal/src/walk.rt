@@ -29,7 +29,10 @@ pub(crate) fn first_place(wrong: Wrong<'_>, value: &Value) -> Option<JsonPath> {
         version: version_of_line(value),
         value,
     };
-    search.first()
+    search
+        .first_from(JsonPath::Line)
+        .or(search.first_in_generators())
+        .or(search.first_in_readers())
 }
 
 #[derive(Clone, Copy)]
@@ -40,12 +43,6 @@ struct Search<'a> {
 }
 
 impl Search<'_> {
-    fn first(self) -> Option<JsonPath> {
-        self.first_from(JsonPath::Line)
-            .or(self.first_in_generators())
-            .or(self.first_in_readers())
-    }
-
     fn first_in_generators(self) -> Option<JsonPath> {
         for at in 0..count(self.value, "generators") {
             let place = self.first_from(JsonPath::Generator(at));
@@ -117,10 +114,7 @@ impl Search<'_> {
 }
 
 fn count(object: &Value, list: &str) -> usize {
-    match items_at(object, list) {
-        Some(items) => items.len(),
-        None => 0,
-    }
+    items_at(object, list).unwrap_or(&[]).len()
 }
 
 fn item_of(above: JsonPath, at: usize) -> JsonPath {
