@@ -51,16 +51,20 @@ fn misnamed_at(readers: &[Value], at: usize) -> Option<Misfit<'_>>
         is_there (λ reader. is_unnamed (map view readers.now) at reader)
         (slice_get (map view readers.now) at) ≡ true) }
 {
-    let reader = readers.get(at)?;
-    if !is_unnamed(readers, at, reader) {
-        return None;
+    match readers.get(at) {
+        Some(reader) if is_unnamed(readers, at, reader) => {
+            Some(Misfit::at(JsonPath::Reader(at), NAME.name, reader, rule_for(reader)))
+        }
+        _ => None,
     }
-    let name = if is_name(name_in(reader)) {
+}
+
+fn rule_for(reader: &Value) -> Expected<'static> {
+    if is_name(name_in(reader)) {
         Expected::Text("a name that no reader before it has")
     } else {
         Expected::Ranged(NAME)
-    };
-    Some(Misfit::at(JsonPath::Reader(at), NAME.name, reader, name))
+    }
 }
 
 // ---- the test of one

@@ -26,10 +26,22 @@ pub(crate) fn refusal_at(values: &PlantValues, place: JsonPath) -> Option<Refusa
     match place {
         JsonPath::Line | JsonPath::Reader(_) => None,
         JsonPath::Leap(at) => leap_refusal(&values.leaps, at),
-        JsonPath::Generator(at) => zone_refusal(values.generators.get(at)?.zone),
-        JsonPath::Change(above, at) => change_refusal_at(values.generators.get(above)?, at),
-        JsonPath::Table(at) => table_refusal(values.readers.get(at)?),
-        JsonPath::TableLeap(above, at) => entry_refusal(at, values.readers.get(above)?),
+        JsonPath::Generator(at) => match values.generators.get(at) {
+            Some(generator) => zone_refusal(generator.zone),
+            None => None,
+        },
+        JsonPath::Change(above, at) => match values.generators.get(above) {
+            Some(generator) => change_refusal_at(generator, at),
+            None => None,
+        },
+        JsonPath::Table(at) => match values.readers.get(at) {
+            Some(reader) => table_refusal(reader),
+            None => None,
+        },
+        JsonPath::TableLeap(above, at) => match values.readers.get(above) {
+            Some(reader) => entry_refusal(at, reader),
+            None => None,
+        },
     }
 }
 
@@ -142,12 +154,16 @@ fn find_in_values<'a>(
 ) -> Option<Misfit<'a>>
     ensures { IfSome result (λ misfit. refusal_at values.now misfit.place ≡ Some refusal) }
 {
-    let place = first_place(Wrong::Values(refusal, values), value)?;
-    if refusal_at(values, place)? != refusal {
-        return None;
+    if let Some(place) = first_place(Wrong::Values(refusal, values), value)
+        && let Some(found) = refusal_at(values, place)
+        && found == refusal
+        && let Some(object) = object_at(value, place)
+    {
+        let (key, expected) = rule_of(refusal, values, place);
+        Some(Misfit::at(place, key, object, expected))
+    } else {
+        None
     }
-    let (key, expected) = rule_of(refusal, values, place);
-    Some(Misfit::at(place, key, object_at(value, place)?, expected))
 }
 
 // The key whose value is refused so, and what may stand there.
