@@ -15,16 +15,12 @@ use clap::error::ErrorKind;
 use clap::{Arg, ArgAction, ArgMatches, Command, Error};
 use irig_control::Parity;
 use irig_time::{Leap, Rules, SbsUse, Sense};
+use scenario_json::{
+    LEAP_WORDS, PARITY_WORDS, SBS_USE_WORDS, SENSE_WORDS, leap_named, parity_of, sbs_use_of,
+    sense_of,
+};
 use std::alloc::{AllocError, Global};
 use text_frame::FrameOptions;
-
-static PENDING: [&str; 2] = ["insert", "delete"];
-
-static PARITY: [&str; 2] = ["even", "odd"];
-
-static SENSE: [&str; 2] = ["add", "subtract"];
-
-static SBS: [&str; 2] = ["check", "ignore"];
 
 /// What the words ask for, of which the first is the program's name: without a second word it is
 /// `Request::Plain`, and else what a command names. `Help` where they ask for it, `Fault` where no
@@ -69,8 +65,8 @@ fn request_by<'a>(name: &str, matches: &ArgMatches<'a>) -> Option<Request<'a>>
         "run" => Some(play_of(log_of(matches), matches)),
         "flatten" => Some(play_of(Wanted::Flat, matches)),
         "blame" => Some(play_of(Wanted::Blame, matches)),
-        "frame" => Some(frame_of(matches)),
-        "read" => Some(read_of(matches)),
+        "frame" => frame_of(matches),
+        "read" => read_of(matches),
         "explain" => Some(explain_of(matches)),
         _ => None,
     }
@@ -95,41 +91,41 @@ fn play_of<'a>(wanted: Wanted, matches: &ArgMatches<'a>) -> Request<'a>
     Request::Play { wanted, source }
 }
 
-fn frame_of<'a>(matches: &ArgMatches<'a>) -> Request<'a>
-    ensures not_plain { result ≢ Request.Plain }
-    ensures in_range { IsRequest result }
+fn frame_of<'a>(matches: &ArgMatches<'a>) -> Option<Request<'a>>
+    ensures not_plain { result ≢ Some Request.Plain }
+    ensures in_range { IfSome result IsRequest }
 {
-    Request::Frame {
+    Some(Request::Frame {
         time: value(matches, "TIME"),
-        options: frame_options(matches),
-    }
+        options: frame_options(matches)?,
+    })
 }
 
-fn frame_options(matches: &ArgMatches<'_>) -> FrameOptions
-    ensures { IsFrameOptions result }
+fn frame_options(matches: &ArgMatches<'_>) -> Option<FrameOptions>
+    ensures { IfSome result IsFrameOptions }
 {
-    FrameOptions {
+    Some(FrameOptions {
         local: local(matches),
         pending: pending(matches),
         dst: matches.get_flag("dst"),
         quality: quality(matches),
-        parity: parity(matches),
-        sense: sense(matches),
-    }
+        parity: parity(matches)?,
+        sense: sense(matches)?,
+    })
 }
 
-fn read_of<'a>(matches: &ArgMatches<'a>) -> Request<'a>
-    ensures not_plain { result ≢ Request.Plain }
-    ensures in_range { IsRequest result }
+fn read_of<'a>(matches: &ArgMatches<'a>) -> Option<Request<'a>>
+    ensures not_plain { result ≢ Some Request.Plain }
+    ensures in_range { IfSome result IsRequest }
 {
-    Request::Read {
+    Some(Request::Read {
         frame: value(matches, "FRAME"),
         rules: Rules {
-            parity: parity(matches),
-            sense: sense(matches),
-            sbs: sbs(matches),
+            parity: parity(matches)?,
+            sense: sense(matches)?,
+            sbs: sbs(matches)?,
         },
-    }
+    })
 }
 
 fn explain_of<'a>(matches: &ArgMatches<'a>) -> Request<'a>
@@ -173,31 +169,19 @@ fn quality(matches: &ArgMatches<'_>) -> u8
 }
 
 fn pending(matches: &ArgMatches<'_>) -> Option<Leap> {
-    match matches.get_str("pending")? {
-        "insert" => Some(Leap::Insert),
-        _ => Some(Leap::Delete),
-    }
+    leap_named(matches.get_str("pending")?)
 }
 
-fn parity(matches: &ArgMatches<'_>) -> Parity {
-    match value(matches, "parity") {
-        "odd" => Parity::Odd,
-        _ => Parity::Even,
-    }
+fn parity(matches: &ArgMatches<'_>) -> Option<Parity> {
+    parity_of(matches.get_str("parity")?)
 }
 
-fn sense(matches: &ArgMatches<'_>) -> Sense {
-    match value(matches, "sense") {
-        "subtract" => Sense::Subtract,
-        _ => Sense::Add,
-    }
+fn sense(matches: &ArgMatches<'_>) -> Option<Sense> {
+    sense_of(matches.get_str("sense")?)
 }
 
-fn sbs(matches: &ArgMatches<'_>) -> SbsUse {
-    match value(matches, "sbs") {
-        "ignore" => SbsUse::Ignore,
-        _ => SbsUse::Check,
-    }
+fn sbs(matches: &ArgMatches<'_>) -> Option<SbsUse> {
+    sbs_use_of(matches.get_str("sbs")?)
 }
 
 fn program<'a>(alloc: Global) -> Result<Command<'a>, AllocError> {
@@ -306,7 +290,7 @@ fn pending_option<'a>(alloc: Global) -> Arg<'a> {
         .long("pending")
         .value_name("KIND")
         .help("The leap second that is pending at the end of the day")
-        .value_parser(PENDING.as_slice())
+        .value_parser(LEAP_WORDS.as_slice())
 }
 
 fn dst_option<'a>(alloc: Global) -> Arg<'a> {
@@ -330,8 +314,8 @@ fn parity_option<'a>(alloc: Global) -> Arg<'a> {
         .long("parity")
         .value_name("PARITY")
         .help("The parity of the frame")
-        .value_parser(PARITY.as_slice())
-        .default_value("even")
+        .value_parser(PARITY_WORDS.as_slice())
+        .default_value(PARITY_WORDS[0])
 }
 
 fn sense_option<'a>(alloc: Global) -> Arg<'a> {
@@ -339,8 +323,8 @@ fn sense_option<'a>(alloc: Global) -> Arg<'a> {
         .long("sense")
         .value_name("SENSE")
         .help("What is done with the offset in the frame to get UTC of the coded time")
-        .value_parser(SENSE.as_slice())
-        .default_value("add")
+        .value_parser(SENSE_WORDS.as_slice())
+        .default_value(SENSE_WORDS[0])
 }
 
 fn read_command<'a>(alloc: Global) -> Result<Command<'a>, AllocError> {
@@ -363,8 +347,8 @@ fn sbs_option<'a>(alloc: Global) -> Arg<'a> {
         .long("sbs")
         .value_name("SBS")
         .help("Whether the straight binary seconds are compared with the coded time")
-        .value_parser(SBS.as_slice())
-        .default_value("check")
+        .value_parser(SBS_USE_WORDS.as_slice())
+        .default_value(SBS_USE_WORDS[0])
 }
 
 fn explain_command<'a>(alloc: Global) -> Result<Command<'a>, AllocError> {

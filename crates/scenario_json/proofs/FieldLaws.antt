@@ -1,6 +1,7 @@
 -- What is asked at each key of a line.
-use Rattle.std.proofs.Common.{◌≡◌, ℕ, ◌&&◌, ◌||◌, List, [], ◌∷◌, String, string_bytes, map, refl, ap, sym, ◌∙◌}
+use Rattle.std.proofs.Common.{◌≡◌, ℕ, ◌&&◌, ◌||◌, List, [], ◌∷◌, String, string_bytes, map, refl, ap, ◌∙◌}
 use Rattle.std.specs.List.{list_all, list_any}
+use Rattle.std.proofs.lemmas.List.Folds.{list_all-map}
 use Rattle.std.specs.Str.{bytes_eq}
 use Rattle.std.specs.declared.alloc.Global.{Global}
 use Rattle.serde_json.specs.declared.value.Value.{Value}
@@ -25,12 +26,7 @@ only_keys keys (e ∷ es) =
     ap (λ b. list_any (λ n. bytes_eq n.name.now (string_bytes e.0)) keys && b) (only_keys keys es)
     ∙ ap (λ b. b && list_all (λ k. list_any (λ n. bytes_eq n k) (names_of (map key_value keys))) (keys_of (members_view es))) (any_named (string_bytes e.0) keys)
 
-fit_at : (d : Data) (keys : List Key)
-    → list_all (λ key. fits (key_value key) (get key.name.now d)) keys ≡ list_all (λ key. fits key (get key.name d)) (map key_value keys)
-fit_at d [] = refl
-fit_at d (k ∷ ks) = ap (λ b. fits (key_value k) (get k.name.now d) && b) (fit_at d ks)
-
 -- what fits at the code's keys, and at the definition's
 pub all_fit : (d : Data) (keys : List Key)
     → list_all (λ key. fits key (get key.name d)) (map key_value keys) ≡ list_all (λ key. fits (key_value key) (get key.name.now d)) keys
-all_fit d keys = sym (fit_at d keys)
+all_fit d keys = list_all-map (λ key. fits key (get key.name d)) key_value keys

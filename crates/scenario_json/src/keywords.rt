@@ -6,6 +6,9 @@ ghost use Rattle.scenario_json.specs.Keywords.{parity_of, sense_of, sbs_use_of, 
 use irig_control::Parity;
 use irig_time::{Leap, SbsUse, Sense};
 
+/// The words of [`parity_of`].
+pub static PARITY_WORDS: [&str; 2] = ["even", "odd"];
+
 /// `even` or `odd`; none of another word.
 #[tactic(auto, unfolding(crate::specs::Keywords::parity_of))]
 pub fn parity_of(word: &str) -> Option<Parity>
@@ -17,6 +20,9 @@ pub fn parity_of(word: &str) -> Option<Parity>
         _ => None,
     }
 }
+
+/// The words of [`sense_of`].
+pub static SENSE_WORDS: [&str; 2] = ["add", "subtract"];
 
 /// `add` or `subtract`; none of another word.
 #[tactic(auto, unfolding(crate::specs::Keywords::sense_of))]
@@ -30,6 +36,9 @@ pub fn sense_of(word: &str) -> Option<Sense>
     }
 }
 
+/// The words of [`sbs_use_of`].
+pub static SBS_USE_WORDS: [&str; 2] = ["check", "ignore"];
+
 /// `check` or `ignore`; none of another word.
 #[tactic(auto, unfolding(crate::specs::Keywords::sbs_use_of))]
 pub fn sbs_use_of(word: &str) -> Option<SbsUse>
@@ -41,6 +50,9 @@ pub fn sbs_use_of(word: &str) -> Option<SbsUse>
         _ => None,
     }
 }
+
+/// The words of [`leap_named`].
+pub static LEAP_WORDS: [&str; 2] = ["insert", "delete"];
 
 /// `insert` or `delete`; none of another word.
 #[tactic(auto, unfolding(crate::specs::Keywords::leap_named))]

@@ -11,4 +11,7 @@ pub use fields::{
 };
 pub use json::{at_most, items_at, text_at, whole_at, whole_of};
 pub use key::{Key, Kind, Text, has_type};
-pub use keywords::{leap_named, parity_of, sbs_use_of, sense_of};
+pub use keywords::{
+    LEAP_WORDS, PARITY_WORDS, SBS_USE_WORDS, SENSE_WORDS, leap_named, parity_of, sbs_use_of,
+    sense_of,
+};

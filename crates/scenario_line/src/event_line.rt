@@ -1,6 +1,6 @@
 //! Lines after the plant line.
 
-ghost use Rattle.std.specs.Prelude.{◌≡◌, ◌≤◌, ℕ, List, IfOk, length};
+ghost use Rattle.std.specs.Prelude.{◌≡◌, ◌≤◌, IfOk, length};
 ghost use Rattle.serde_json.specs.View.{view};
 ghost use Rattle.scenario_json.specs.Fields.{natural_most};
 ghost use Rattle.scenario_json.specs.Keys.{key_value, texts_of};
@@ -69,42 +69,6 @@ fn fault_of_form(kind: FaultKind, value: &Value) -> Result<GenFault, Refusal>
     Ok(fault)
 }
 
-fn carry_of_form(names: &IndexSet<String>, value: &Value) -> Result<Command, LineFault>
-    requires { length names.now.keys ≤ 16 }
-    ensures { IsUnlessMemory (λ c. c)
-        (command_of_form (texts_of names.now.keys) Action.Carry (view value.now)) result }
-{
-    Ok(Command::Event(Event::Carry {
-        g: generator_at(value)?,
-        r: reader_in(names, value)?,
-    }))
-}
-
-fn damage_of_form(names: &IndexSet<String>, value: &Value) -> Result<Command, LineFault>
-    requires { length names.now.keys ≤ 16 }
-    ensures { IsUnlessMemory (λ c. c)
-        (command_of_form (texts_of names.now.keys) Action.Damage (view value.now)) result }
-{
-    Ok(Command::Event(Event::Damage {
-        g: generator_at(value)?,
-        at: number_at(AT, value)? as u8,
-        width: number_at(WIDTH, value)? as u32,
-        r: reader_in(names, value)?,
-    }))
-}
-
-fn replay_of_form(names: &IndexSet<String>, value: &Value) -> Result<Command, LineFault>
-    requires { length names.now.keys ≤ 16 }
-    ensures { IsUnlessMemory (λ c. c)
-        (command_of_form (texts_of names.now.keys) Action.Replay (view value.now)) result }
-{
-    Ok(Command::Event(Event::Replay {
-        g: generator_at(value)?,
-        edge: number_at(EDGE, value)?,
-        r: reader_in(names, value)?,
-    }))
-}
-
 fn raw_of_form(alloc: Global, names: &IndexSet<String>, value: &Value) -> Result<Command, LineFault>
     requires { length names.now.keys ≤ 16 }
     ensures { IsUnlessMemory (λ c. c)
@@ -114,16 +78,6 @@ fn raw_of_form(alloc: Global, names: &IndexSet<String>, value: &Value) -> Result
         g: generator_at(value)?,
         widths: Widths::from_vec(naturals_at(alloc, WIDTHS, value)?),
         r: reader_in(names, value)?,
-    }))
-}
-
-fn fault_line_of_form(kind: FaultKind, value: &Value) -> Result<Command, LineFault>
-    ensures { (names : List (List ℕ)) → IsUnlessMemory (λ c. c)
-        (command_of_form names (Action.Fault kind) (view value.now)) result }
-{
-    Ok(Command::Event(Event::Fault {
-        g: generator_at(value)?,
-        kind: fault_of_form(kind, value)?,
     }))
 }
 
@@ -138,12 +92,27 @@ fn command_of_form(
         (command_of_form (texts_of names.now.keys) action (view value.now)) result }
 {
     let event = match action {
-        Action::Carry => return carry_of_form(names, value),
-        Action::Damage => return damage_of_form(names, value),
-        Action::Replay => return replay_of_form(names, value),
         Action::Raw => return raw_of_form(alloc, names, value),
-        Action::Fault(kind) => return fault_line_of_form(kind, value),
         Action::Seconds => return Ok(Command::Seconds(number_at(N, value)? as u32)),
+        Action::Carry => Event::Carry {
+            g: generator_at(value)?,
+            r: reader_in(names, value)?,
+        },
+        Action::Damage => Event::Damage {
+            g: generator_at(value)?,
+            at: number_at(AT, value)? as u8,
+            width: number_at(WIDTH, value)? as u32,
+            r: reader_in(names, value)?,
+        },
+        Action::Replay => Event::Replay {
+            g: generator_at(value)?,
+            edge: number_at(EDGE, value)?,
+            r: reader_in(names, value)?,
+        },
+        Action::Fault(kind) => Event::Fault {
+            g: generator_at(value)?,
+            kind: fault_of_form(kind, value)?,
+        },
         Action::Tick => Event::Tick(reader_in(names, value)?),
         Action::Step => Event::GenEdge(generator_at(value)?),
         Action::Repair => Event::Repair(generator_at(value)?),

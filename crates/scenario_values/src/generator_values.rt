@@ -48,7 +48,8 @@ pub(crate) fn generators_of(
     }
 }
 
-fn is_count(version: Version, generators: usize) -> bool
+/// Whether a plant line of this version may have so many generators.
+pub fn is_count(version: Version, generators: usize) -> bool
     ensures { result ≡ is_count version generators }
 {
     match version {

@@ -15,12 +15,12 @@ pub use form::{
     ACTION_WORDS, AT, Action, EDGE, EDGES_BY, FAULT_WORDS, FaultKind, G, HALF_HOURS_BY, LEAP, N, Q,
     R, WIDTH, WIDTHS, action_of, event_keys, keys_of,
 };
-pub use generator_values::GeneratorValues;
+pub use generator_values::{GeneratorValues, is_count};
 pub use line::{naturals_at, value_of};
-pub use names::{is_name, names_of};
+pub use names::{is_name, name_in, names_of};
 pub use plant_shape::{
-    LOCAL, VERSION, Version, change_keys, generator_keys, is_plant, leap_keys, plant_keys,
+    LOCAL, NAME, VERSION, Version, change_keys, generator_keys, is_plant, leap_keys, plant_keys,
     reader_keys, table_keys, version_in, version_of,
 };
-pub use plant_values::{PlantValues, values_of};
+pub use plant_values::{PlantValues, readers_in, values_of};
 pub use reader_values::ReaderValues;

@@ -43,8 +43,9 @@ pub fn is_name(text: &str) -> bool
     one_to_sixteen(text.len()) && are_name_bytes(text)
 }
 
+/// The name that a reader's object gives; empty, which is no name, if it gives none.
 #[tactic(auto, unfolding(crate::specs::Names::name_in))]
-fn name_in(reader: &Value) -> &str
+pub fn name_in(reader: &Value) -> &str
     ensures { result.now ≡ name_in (view reader.now) }
 {
     text_at(reader, NAME.name).unwrap_or("")

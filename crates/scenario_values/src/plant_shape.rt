@@ -4,9 +4,9 @@ ghost use Rattle.std.specs.Prelude.{◌≡◌, codes, map, option_and_then};
 ghost use Rattle.std.specs.List.{list_all};
 ghost use Rattle.serde_json.specs.View.{view};
 ghost use Rattle.scenario_json.specs.Keys.{key_value};
-ghost use Rattle.scenario_json.specs.Fields.{each_item};
+ghost use Rattle.scenario_json.specs.Fields.{each_item, has_form};
 ghost use Rattle.scenario_json.specs.Json.{whole_at};
-ghost use Rattle.scenario_values.specs.PlantShape.{version_of, plant_keys, leap_keys, generator_keys, change_keys, reader_keys, table_keys, is_leap, is_change, is_generator, is_table, is_reader, is_plant};
+ghost use Rattle.scenario_values.specs.PlantShape.{version_of, plant_keys, leap_keys, generator_keys, change_keys, reader_keys, table_keys, is_generator, is_table, is_reader, is_plant};
 
 use scenario_json::{Key, Kind, Text, has_form, items_at, key, optional_key, whole_at};
 use serde_json::Value;
@@ -74,7 +74,8 @@ pub(crate) const CHANGES: Key = optional_key!("changes": Kind::Few(400));
 
 pub(crate) const AT: Key = key!("at": Kind::Text(Text::Second));
 
-pub(crate) const NAME: Key = key!("name": Kind::Text(Text::Name));
+/// `name`: of a reader.
+pub const NAME: Key = key!("name": Kind::Text(Text::Name));
 
 pub(crate) const LOCK_AFTER: Key = key!("lock_after": Kind::Natural(1, 60));
 
@@ -133,49 +134,24 @@ pub fn table_keys() -> &'static [Key]
     &[UNTIL, TABLE_LEAPS]
 }
 
-fn is_leap(value: &Value) -> bool
-    ensures { result ≡ is_leap (view value.now) }
+fn have_form(keys: &[Key], values: &[Value]) -> bool
+    ensures { result ≡ list_all (λ v. has_form (map key_value keys.now) (view v)) values.now }
 {
-    has_form(leap_keys(), value)
+    values.iter().all(|value| has_form(keys, value))
 }
 
-#[tactic(auto, unfolding(scenario_json::specs::Fields::each_item), using(crate::proofs::ListLaws::all_leaps))]
-fn are_leaps(value: &Value) -> bool
-    ensures { result ≡ each_item (codes "leaps") is_leap (view value.now) }
+// Whether each item of the list at a key has the form of these keys.
+fn items_have_form(key: &str, keys: &[Key], value: &Value) -> bool
+    ensures { result ≡ each_item key.now (has_form (map key_value keys.now)) (view value.now) }
 {
-    all_leaps(items_at(value, LEAPS.name).unwrap_or(&[]))
-}
-
-fn all_leaps(values: &[Value]) -> bool
-    ensures { result ≡ list_all (λ v. is_leap (view v)) values.now }
-{
-    values.iter().all(is_leap)
-}
-
-fn is_change(value: &Value) -> bool
-    ensures { result ≡ is_change (view value.now) }
-{
-    has_form(change_keys(), value)
-}
-
-#[tactic(auto, unfolding(scenario_json::specs::Fields::each_item), using(crate::proofs::ListLaws::all_changes))]
-fn are_changes(value: &Value) -> bool
-    ensures { result ≡ each_item (codes "changes") is_change (view value.now) }
-{
-    all_changes(items_at(value, CHANGES.name).unwrap_or(&[]))
-}
-
-fn all_changes(values: &[Value]) -> bool
-    ensures { result ≡ list_all (λ v. is_change (view v)) values.now }
-{
-    values.iter().all(is_change)
+    have_form(keys, items_at(value, key).unwrap_or(&[]))
 }
 
 #[tactic(auto, unfolding(crate::specs::PlantShape::is_generator))]
 fn is_generator(value: &Value) -> bool
     ensures { result ≡ is_generator (view value.now) }
 {
-    has_form(generator_keys(), value) && are_changes(value)
+    has_form(generator_keys(), value) && items_have_form(CHANGES.name, change_keys(), value)
 }
 
 #[tactic(auto, unfolding(scenario_json::specs::Fields::each_item), using(crate::proofs::ListLaws::all_generators))]
@@ -195,7 +171,7 @@ fn all_generators(values: &[Value]) -> bool
 fn is_table(value: &Value) -> bool
     ensures { result ≡ is_table (view value.now) }
 {
-    has_form(table_keys(), value) && are_leaps(value)
+    has_form(table_keys(), value) && items_have_form(TABLE_LEAPS.name, leap_keys(), value)
 }
 
 #[tactic(auto, unfolding(crate::specs::PlantShape::is_reader))]
@@ -224,7 +200,7 @@ pub fn is_plant(version: Version, value: &Value) -> bool
     ensures { result ≡ is_plant version (view value.now) }
 {
     has_form(plant_keys(), value)
-        && are_leaps(value)
+        && items_have_form(LEAPS.name, leap_keys(), value)
         && are_generators(value)
         && are_readers(version, value)
 }

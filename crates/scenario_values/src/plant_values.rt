@@ -87,8 +87,9 @@ fn rules_of(value: &Value) -> Option<Rules>
     })
 }
 
+/// The objects of a plant line's readers; none if it has no list of them.
 #[tactic(auto, unfolding(crate::specs::PlantValues::readers_in))]
-pub(crate) fn readers_in(value: &Value) -> &[Value]
+pub fn readers_in(value: &Value) -> &[Value]
     ensures { map view result.now ≡ readers_in (view value.now) }
 {
     items_at(value, READERS.name).unwrap_or(&[])

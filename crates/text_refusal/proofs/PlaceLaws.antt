@@ -1,5 +1,5 @@
 -- The items of a list of values, and of their data.
-use Rattle.std.proofs.Common.{◌≡◌, ℕ, zero, suc, List, [], ◌∷◌, ◌||◌, map, option_map, take, refl, ap}
+use Rattle.std.proofs.Common.{◌≡◌, ℕ, zero, suc, List, [], ◌∷◌, ◌||◌, map, option_map, take, is_some, Option, Some, None, refl, ap}
 use Rattle.std.specs.List.{list_any, slice_get}
 use Rattle.std.specs.Str.{bytes_eq}
 use Rattle.scenario_values.specs.Names.{name_in}
@@ -14,3 +14,7 @@ pub named_before : (name : List ℕ) (vs : List Value) (i : ℕ) → list_any (�
 named_before name vs zero = refl
 named_before name [] (suc i) = refl
 named_before name (v ∷ vs) (suc i) = ap (λ b. bytes_eq (name_in (view v)) name || b) (named_before name vs i)
+
+pub is_some_map : {A B : Type 0} (f : A → B) (o : Option A) → is_some (option_map f o) ≡ is_some o
+is_some_map f None = refl
+is_some_map f (Some x) = refl

@@ -4,7 +4,6 @@
 
 mod event;
 mod names;
-mod objects;
 mod place;
 mod plan;
 mod plant;

@@ -1,50 +1,30 @@
-//! The objects of a plant line, by their places, and what is wrong with one.
+//! The objects of a plant line, by their places.
 
-ghost use Rattle.std.specs.Prelude.{◌≡◌, map, option_and_then, option_map};
+ghost use Rattle.std.specs.Prelude.{◌≡◌, map, option_map};
 ghost use Rattle.serde_json.specs.View.{view};
 ghost use Rattle.scenario_json.specs.Keys.{key_value};
-ghost use Rattle.scenario_values.specs.PlantValues.{is_count, readers_in};
-ghost use Rattle.scenario_values.specs.Names.{name_in};
-ghost use Rattle.text_refusal.specs.Places.{has_count, is_beyond, is_line, is_misformed, is_misvalued, is_misnamed, is_unnamed, item_at, keys_at, object_at, table_at, version_of_line};
+ghost use Rattle.text_refusal.specs.Places.{item_at, keys_at, object_at, table_at, version_of_line};
 
-use crate::range::have_values;
-use scenario_json::{Key, has_form, items_at};
+use scenario_json::{Key, items_at};
 use scenario_values::{
     Version, change_keys, generator_keys, leap_keys, plant_keys, reader_keys, table_keys,
     version_in,
 };
 use serde_json::Value;
-use text_words::JsonPath;
+use text_words::{Expected, JsonPath, Misfit};
 
-/// An item, from 0, of the list at a key.
+// An item, from 0, of the list at a key.
 #[tactic(auto, unfolding(crate::specs::Places::item_at), using(crate::proofs::PlaceLaws::viewed_item))]
-pub(crate) fn item_at<'a>(value: &'a Value, key: &str, at: usize) -> Option<&'a Value>
+fn item_at<'a>(value: &'a Value, key: &str, at: usize) -> Option<&'a Value>
     ensures { option_map (λ v. view v.now) result ≡ item_at key.now at (view value.now) }
 {
-    match items_at(value, key) {
-        Some(items) => items.get(at),
-        None => None,
-    }
+    items_at(value, key)?.get(at)
 }
 
-fn item_in<'a>(value: Option<&'a Value>, key: &str, at: usize) -> Option<&'a Value>
-    ensures { option_map (λ v. view v.now) result ≡ option_and_then (item_at key.now at)
-        (option_map (λ v. view v.now) value.entry) }
-{
-    match value {
-        Some(value) => item_at(value, key, at),
-        None => None,
-    }
-}
-
-/// The table of a reader, from 0.
-pub(crate) fn table_at(value: &Value, reader: usize) -> Option<&Value>
+fn table_at(value: &Value, reader: usize) -> Option<&Value>
     ensures { option_map (λ v. view v.now) result ≡ table_at reader (view value.now) }
 {
-    match item_at(value, "readers", reader) {
-        Some(reader) => reader.get("table"),
-        None => None,
-    }
+    item_at(value, "readers", reader)?.get("table")
 }
 
 /// The object at a place.
@@ -57,11 +37,11 @@ pub(crate) fn object_at(value: &Value, place: JsonPath) -> Option<&Value>
         JsonPath::Leap(at) => item_at(value, "leaps", at),
         JsonPath::Generator(at) => item_at(value, "generators", at),
         JsonPath::Change(above, at) => {
-            item_in(item_at(value, "generators", above), "changes", at)
+            item_at(item_at(value, "generators", above)?, "changes", at)
         }
         JsonPath::Reader(at) => item_at(value, "readers", at),
         JsonPath::Table(at) => table_at(value, at),
-        JsonPath::TableLeap(above, at) => item_in(table_at(value, above), "leaps", at),
+        JsonPath::TableLeap(above, at) => item_at(table_at(value, above)?, "leaps", at),
     }
 }
 
@@ -79,69 +59,21 @@ pub(crate) fn keys_at(version: Version, place: JsonPath) -> &'static [Key]
     }
 }
 
-/// Whether the object at a place has not its form.
-#[tactic(auto, unfolding(crate::specs::Places::is_misformed))]
-pub(crate) fn is_misformed(version: Version, place: JsonPath, value: &Value) -> bool
-    ensures { result ≡ is_misformed version place (view value.now) }
-{
-    match object_at(value, place) {
-        Some(object) => !has_form(keys_at(version, place), object),
-        None => false,
-    }
-}
-
-/// Whether a value in the object at a place is not in its range.
-#[tactic(auto, unfolding(crate::specs::Places::is_misvalued))]
-pub(crate) fn is_misvalued(version: Version, place: JsonPath, value: &Value) -> bool
-    ensures { result ≡ is_misvalued version place (view value.now) }
-{
-    match object_at(value, place) {
-        Some(object) => !have_values(keys_at(version, place), object),
-        None => false,
-    }
-}
-
 /// The version of a plant line; of one that tells none, the last.
 #[tactic(auto, unfolding(crate::specs::Places::version_of_line))]
 pub(crate) fn version_of_line(value: &Value) -> Version
     ensures { result ≡ version_of_line (view value.now) }
 {
-    match version_in(value) {
-        Some(version) => version,
-        None => Version::Three,
-    }
+    version_in(value).unwrap_or(Version::Three)
 }
 
-fn is_line(place: JsonPath) -> bool
-    ensures { result ≡ is_line place }
+/// What stands at a key of the line's own object, where something else may.
+pub(crate) fn in_line<'a>(
+    value: &'a Value,
+    name: &'static str,
+    expected: Expected<'a>,
+) -> Misfit<'a>
+    ensures { result.place ≡ JsonPath.Line }
 {
-    matches!(place, JsonPath::Line)
-}
-
-#[tactic(auto, unfolding(crate::specs::Places::has_count))]
-fn has_count(version: Version, value: &Value) -> bool
-    ensures { result ≡ has_count version (view value.now) }
-{
-    match items_at(value, "generators") {
-        Some(generators) => is_count(version, generators.len()),
-        None => false,
-    }
-}
-
-fn is_count(version: Version, generators: usize) -> bool
-    ensures { result ≡ is_count version generators }
-{
-    match version {
-        Version::One | Version::Two => generators == 3,
-        Version::Three => generators == 3 || generators == 5,
-    }
-}
-
-/// Whether a value in the object at a place is not in its range, or the line has too few generators
-/// or too many.
-#[tactic(auto, unfolding(crate::specs::Places::is_beyond))]
-pub(crate) fn is_beyond(version: Version, place: JsonPath, value: &Value) -> bool
-    ensures { result ≡ is_beyond version place (view value.now) }
-{
-    is_misvalued(version, place, value) || (is_line(place) && !has_count(version, value))
+    Misfit::at(JsonPath::Line, name, value, expected)
 }

@@ -1,15 +1,18 @@
 //! What is wrong with what a plant line says, if its form and its ranges are right.
 
-ghost use Rattle.std.specs.Prelude.{◌≡◌, ◌≤◌, IfSome, Some};
+ghost use Rattle.std.specs.Prelude.{◌≡◌, ◌≤◌, IfOk, IfSome, Some};
+ghost use Rattle.serde_json.specs.View.{view};
 ghost use Rattle.irig_time.specs.declared.second.TheConstants.{LAST_DAY};
-ghost use Rattle.text_refusal.specs.Refused.{change_refusal, change_refusal_at, entry_fault_at, entry_refusal, leap_refusal, minute_before, refusal_at, refusal_in, table_refusal, zone_refusal};
+ghost use Rattle.text_refusal.specs.Lines.{AreRefusedAt};
+ghost use Rattle.text_refusal.specs.Refused.{change_refusal_at, entry_fault_at, entry_refusal, leap_refusal, minute_before, refusal_at, refusal_in, table_refusal, zone_refusal};
 
-use crate::place::object_at;
+use crate::place::{object_at, version_of_line};
 use crate::walk::{Wrong, first_place};
 use irig_gen::{Change, Zone, is_change_time, minute_number};
 use irig_time::{LAST_DAY, LAST_NAMED_DAY, Leap, TableFault, entry_fault, leap_fault, month_end};
-use scenario_values::{GeneratorValues, PlantValues, ReaderValues};
+use scenario_values::{GeneratorValues, LOCAL, PlantValues, ReaderValues, values_of};
 use serde_json::Value;
+use std::alloc::{AllocError, Global};
 use text_faults::{LineFault, Refusal};
 use text_words::{Expected, JsonPath, Misfit};
 
@@ -24,7 +27,7 @@ pub(crate) fn refusal_at(values: &PlantValues, place: JsonPath) -> Option<Refusa
         JsonPath::Line | JsonPath::Reader(_) => None,
         JsonPath::Leap(at) => leap_refusal(&values.leaps, at),
         JsonPath::Generator(at) => match values.generators.get(at) {
-            Some(generator) => generator_refusal(generator),
+            Some(generator) => zone_refusal(generator.zone),
             None => None,
         },
         JsonPath::Change(above, at) => match values.generators.get(above) {
@@ -54,19 +57,8 @@ fn refusal_in(fault: LineFault) -> Option<Refusal>
 fn leap_refusal(leaps: &[(u32, Leap)], at: usize) -> Option<Refusal>
     ensures { result ≡ leap_refusal leaps.now at }
 {
-    if let Some((day, _)) = leaps.get(at)
-        && let Some(fault) = leap_fault(&leaps[..at], *day)
-    {
-        refusal_in(LineFault::from(fault))
-    } else {
-        None
-    }
-}
-
-fn generator_refusal(generator: &GeneratorValues) -> Option<Refusal>
-    ensures { result ≡ zone_refusal generator.now.zone }
-{
-    zone_refusal(generator.zone)
+    let (day, _) = leaps.get(at)?;
+    refusal_in(LineFault::from(leap_fault(&leaps[..at], *day)?))
 }
 
 fn zone_refusal(zone: Zone) -> Option<Refusal>
@@ -82,19 +74,12 @@ fn zone_refusal(zone: Zone) -> Option<Refusal>
 fn change_refusal_at(generator: &GeneratorValues, at: usize) -> Option<Refusal>
     ensures { result ≡ change_refusal_at at generator.now }
 {
-    match generator.changes.get(at) {
-        Some(change) => change_refusal(&generator.changes, at, *change),
-        None => None,
-    }
-}
-
-fn change_refusal(changes: &[Change], at: usize, change: Change) -> Option<Refusal>
-    ensures { result ≡ change_refusal changes.now at change }
-{
+    let change = generator.changes.get(at)?;
     if change.zone.half_hours.unsigned_abs() > 31 {
         return Some(Refusal::Offset);
     }
-    if is_change_time(&change.at) && minute_before(changes, at) < minute_number(change.at) {
+    let before = minute_before(&generator.changes, at);
+    if is_change_time(&change.at) && before < minute_number(change.at) {
         None
     } else {
         Some(Refusal::Changes)
@@ -132,97 +117,89 @@ fn entry_refusal(at: usize, reader: &ReaderValues) -> Option<Refusal>
     if reader.until > LAST_DAY {
         return None;
     }
-    match entry_fault_at(reader.until, &reader.leaps, at) {
-        Some(fault) => Some(Refusal::from(fault)),
-        None => None,
-    }
+    Some(Refusal::from(entry_fault_at(reader.until, &reader.leaps, at)?))
 }
 
 fn entry_fault_at(until: u32, leaps: &[(u32, Leap)], at: usize) -> Option<TableFault>
     requires { until ≤ LAST_DAY }
     ensures { result ≡ entry_fault_at until leaps.now at }
 {
-    match leaps.get(at) {
-        Some((day, _)) => entry_fault(until, &leaps[..at], *day),
-        None => None,
-    }
+    let (day, _) = leaps.get(at)?;
+    entry_fault(until, &leaps[..at], *day)
 }
 
 // ---- the first place at which it is refused so
 
-/// The first place at which the values of a plant line are refused so, and what may stand there.
-pub(crate) fn find_in_plan<'a>(
+/// The first place at which what a plant line says, with its form and its ranges right, is refused
+/// so, and what may stand there. Fails only if there is no memory.
+pub(crate) fn find_in_plan(
+    alloc: Global,
+    refusal: Refusal,
+    value: &Value,
+) -> Result<Option<Misfit<'_>>, AllocError>
+    ensures { IfOk result (λ found. IfSome found
+        (λ misfit. AreRefusedAt refusal (view value.now) misfit.place)) }
+{
+    match values_of(alloc, version_of_line(value), value) {
+        Ok(values) => Ok(find_in_values(refusal, &values, value)),
+        Err(LineFault::Refused(_)) => Ok(None),
+        Err(LineFault::Memory) => Err(AllocError),
+    }
+}
+
+fn find_in_values<'a>(
     refusal: Refusal,
     values: &PlantValues,
     value: &'a Value,
 ) -> Option<Misfit<'a>>
     ensures { IfSome result (λ misfit. refusal_at values.now misfit.place ≡ Some refusal) }
 {
-    if let Some(place) = refused_place(refusal, values, value)
-        && let Some(object) = object_at(value, place)
-    {
-        let expected = expected_for(refusal, values, place);
-        Some(Misfit::at(place, key_of(refusal), object, expected))
-    } else {
-        None
-    }
-}
-
-fn refused_place(refusal: Refusal, values: &PlantValues, value: &Value) -> Option<JsonPath>
-    ensures { IfSome result (λ place. refusal_at values.now place ≡ Some refusal) }
-{
     if let Some(place) = first_place(Wrong::Values(refusal, values), value)
         && let Some(found) = refusal_at(values, place)
         && found == refusal
+        && let Some(object) = object_at(value, place)
     {
-        Some(place)
+        let (key, expected) = rule_of(refusal, values, place);
+        Some(Misfit::at(place, key, object, expected))
     } else {
         None
     }
 }
 
-// The key whose value is refused so.
-fn key_of(refusal: Refusal) -> &'static str {
+// The key whose value is refused so, and what may stand there.
+fn rule_of(
+    refusal: Refusal,
+    values: &PlantValues,
+    place: JsonPath,
+) -> (&'static str, Expected<'static>) {
     match refusal {
-        Refusal::Offset => "local",
-        Refusal::Changes => "at",
-        Refusal::TableEnd => "until",
-        Refusal::TableLong => "leaps",
-        _ => "day",
-    }
-}
-
-fn expected_for(refusal: Refusal, values: &PlantValues, place: JsonPath) -> Expected<'static> {
-    match refusal {
-        Refusal::Offset => Expected::Offset,
-        Refusal::Changes => {
-            Expected::Clause("the first second of a minute, later than the change before")
+        Refusal::Offset => ("local", Expected::Ranged(LOCAL)),
+        Refusal::Changes => (
+            "at",
+            Expected::Clause("the first second of a minute, later than the change before"),
+        ),
+        Refusal::OutOfYears => ("day", Expected::Text("2000-01-02 to 2099-12-30")),
+        Refusal::TableEnd => ("until", Expected::Text("a day up to 2099-12-30")),
+        Refusal::TableLong => ("leaps", Expected::Text("at most 64")),
+        Refusal::TableDay if is_late(values, place) => {
+            ("day", Expected::Text("a day up to \"until\""))
         }
-        Refusal::LeapNotMonthEnd => Expected::Text("the last day of a month"),
-        Refusal::OutOfYears => Expected::Text("2000-01-02 to 2099-12-30"),
-        Refusal::TableEnd => Expected::Text("a day up to 2099-12-30"),
-        Refusal::TableLong => Expected::Text("at most 64"),
-        Refusal::TableDay if is_late(values, place) => Expected::Text("a day up to \"until\""),
-        Refusal::TableDay => Expected::Text("the last day of a month"),
-        _ => Expected::Text("a day that no leap before it has"),
+        Refusal::LeapNotMonthEnd | Refusal::TableDay => {
+            ("day", Expected::Text("the last day of a month"))
+        }
+        _ => ("day", Expected::Text("a day that no leap before it has")),
     }
 }
 
 // Whether the leap of a table is at the end of a month, so that only the table's own end is before
 // it.
 fn is_late(values: &PlantValues, place: JsonPath) -> bool {
-    let JsonPath::TableLeap(reader, at) = place else {
-        return false;
-    };
-    match values.readers.get(reader) {
-        Some(reader) => is_month_end_at(&reader.leaps, at),
-        None => false,
-    }
-}
-
-fn is_month_end_at(leaps: &[(u32, Leap)], at: usize) -> bool {
-    match leaps.get(at) {
-        Some((day, _)) => *day <= LAST_NAMED_DAY && month_end(*day),
-        None => false,
+    if let JsonPath::TableLeap(reader, at) = place
+        && let Some(reader) = values.readers.get(reader)
+        && let Some((day, _)) = reader.leaps.get(at)
+    {
+        *day <= LAST_NAMED_DAY && month_end(*day)
+    } else {
+        false
     }
 }

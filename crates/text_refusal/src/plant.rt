@@ -1,18 +1,22 @@
 //! What is wrong with a plant line.
 
-ghost use Rattle.std.specs.Prelude.{◌≡◌, IfOk, IfSome};
+ghost use Rattle.std.specs.Prelude.{◌≡◌, IfOk, IfSome, false, true};
 ghost use Rattle.serde_json.specs.View.{view};
-ghost use Rattle.text_refusal.specs.Lines.{AreRefusedAt, IsPlantRefusedAt};
+ghost use Rattle.text_refusal.specs.Lines.{IsPlantRefusedAt};
+ghost use Rattle.text_refusal.specs.Places.{has_count, is_beyond, is_misformed, is_misvalued};
 
 use crate::names::find_name;
-use crate::objects::{find_in_ranges, find_in_shapes};
-use crate::place::version_of_line;
+use crate::place::{in_line, keys_at, object_at, version_of_line};
 use crate::plan::find_in_plan;
-use scenario_values::values_of;
+use crate::shape::find_in_shape;
+use crate::value::find_in_values;
+use crate::walk::{Wrong, first_place};
+use scenario_json::items_at;
+use scenario_values::{Version, is_count};
 use serde_json::Value;
 use std::alloc::{AllocError, Global};
-use text_faults::{LineFault, Refusal};
-use text_words::{Expected, JsonPath, Misfit};
+use text_faults::Refusal;
+use text_words::{Expected, Found, JsonPath, Misfit};
 
 /// What in the plant line that has this value is refused so. Fails only if there is no memory.
 pub(crate) fn find_in_plant(
@@ -23,52 +27,75 @@ pub(crate) fn find_in_plant(
     ensures { IfOk result (λ found. IfSome found
         (λ misfit. IsPlantRefusedAt refusal (view value.now) misfit.place)) }
 {
+    let version = version_of_line(value);
     match refusal {
-        Refusal::Shape => Ok(find_in_shapes(value)),
-        Refusal::Value => Ok(find_in_ranges(value)),
+        Refusal::Shape => Ok(find_misformed(version, value)),
+        Refusal::Value => Ok(find_beyond(version, value)),
         Refusal::Names => Ok(find_name(value)),
-        Refusal::Version => Ok(Some(at(value, "version", Expected::Text("1, 2 or 3")))),
-        Refusal::BadStart => Ok(Some(at(value, "start", Expected::Start))),
-        Refusal::LeapNotMonthEnd
-        | Refusal::LeapTwice
-        | Refusal::OutOfYears
-        | Refusal::Offset
-        | Refusal::Changes
-        | Refusal::TableEnd
-        | Refusal::TableLong
-        | Refusal::TableDay
-        | Refusal::TableTwice => find_in_values(alloc, refusal, value),
-        // These are of other lines, or of no place in one.
-        Refusal::NoSuchReader
-        | Refusal::NoSuchGenerator
-        | Refusal::FutureReplay
-        | Refusal::EndOfYears
-        | Refusal::TooLong
-        | Refusal::Json
-        | Refusal::NoPlant
-        | Refusal::TooManyLines => Ok(None),
+        Refusal::Version => Ok(Some(in_line(value, "version", Expected::Text("1, 2 or 3")))),
+        Refusal::BadStart => Ok(Some(in_line(value, "start", Expected::Start))),
+        _ => find_in_plan(alloc, refusal, value),
     }
 }
 
-// At a key of the line's own object, of which there is one.
-fn at<'a>(value: &'a Value, name: &'static str, expected: Expected<'a>) -> Misfit<'a>
-    ensures { result.place ≡ JsonPath.Line }
+fn find_misformed(version: Version, value: &Value) -> Option<Misfit<'_>>
+    ensures { IfSome result (λ misfit.
+        is_misformed version misfit.place (view value.now) ≡ true) }
 {
-    Misfit::at(JsonPath::Line, name, value, expected)
+    misformed_at(version, first_place(Wrong::Form, value)?, value)
 }
 
-// What the line says has its form and its ranges, and no plant can be made of it.
-fn find_in_values(
-    alloc: Global,
-    refusal: Refusal,
-    value: &Value,
-) -> Result<Option<Misfit<'_>>, AllocError>
-    ensures { IfOk result (λ found. IfSome found
-        (λ misfit. AreRefusedAt refusal (view value.now) misfit.place)) }
+/// What keeps the object at a place from its form.
+#[tactic(auto, unfolding(crate::specs::Places::is_misformed))]
+pub(crate) fn misformed_at(version: Version, place: JsonPath, value: &Value) -> Option<Misfit<'_>>
+    ensures place { IfSome result (λ misfit. misfit.place ≡ place) }
+    ensures wrong { IfSome result (λ misfit. is_misformed version place (view value.now) ≡ true) }
 {
-    match values_of(alloc, version_of_line(value), value) {
-        Ok(values) => Ok(find_in_plan(refusal, &values, value)),
-        Err(LineFault::Refused(_)) => Ok(None),
-        Err(LineFault::Memory) => Err(AllocError),
+    let object = object_at(value, place)?;
+    let misfit = find_in_shape(place, keys_at(version, place), object)?;
+    if has_early_table(version, place, object) {
+        Some(Misfit::new(place, Found::EarlyTable, Expected::Nothing))
+    } else {
+        Some(misfit)
+    }
+}
+
+// Whether it is a reader's, with a table in version 1, which has none.
+fn has_early_table(version: Version, place: JsonPath, object: &Value) -> bool {
+    version == Version::One && matches!(place, JsonPath::Reader(_)) && object.get("table").is_some()
+}
+
+#[tactic(auto, unfolding(crate::specs::Places::is_beyond))]
+fn find_beyond(version: Version, value: &Value) -> Option<Misfit<'_>>
+    ensures { IfSome result (λ misfit.
+        is_beyond version misfit.place (view value.now) ≡ true) }
+{
+    match first_place(Wrong::Range, value) {
+        Some(place) => misvalued_at(version, place, value),
+        None => miscounted(version, value),
+    }
+}
+
+/// Which value of the object at a place is outside its range.
+#[tactic(auto, unfolding(crate::specs::Places::is_misvalued))]
+pub(crate) fn misvalued_at(version: Version, place: JsonPath, value: &Value) -> Option<Misfit<'_>>
+    ensures place { IfSome result (λ misfit. misfit.place ≡ place) }
+    ensures wrong { IfSome result (λ misfit. is_misvalued version place (view value.now) ≡ true) }
+{
+    find_in_values(place, keys_at(version, place), object_at(value, place)?)
+}
+
+#[tactic(auto, unfolding(crate::specs::Places::has_count))]
+fn miscounted(version: Version, value: &Value) -> Option<Misfit<'_>>
+    ensures place { IfSome result (λ misfit. misfit.place ≡ JsonPath.Line) }
+    ensures wrong { IfSome result (λ misfit. has_count version (view value.now) ≡ false) }
+{
+    let counts = match version {
+        Version::One | Version::Two => "3 (or, in version 3, 5)",
+        Version::Three => "3 or 5",
+    };
+    match items_at(value, "generators") {
+        Some(generators) if is_count(version, generators.len()) => None,
+        _ => Some(in_line(value, "generators", Expected::Text(counts))),
     }
 }

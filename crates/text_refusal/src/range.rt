@@ -15,7 +15,6 @@ use scenario_json::{
 use serde_json::Value;
 
 /// Whether at each of these keys nothing stands, or what is in its range.
-#[tactic(auto, unfolding(crate::specs::Values::have_values), using(crate::proofs::ValueLaws::all_valued))]
 pub(crate) fn have_values(keys: &[Key], value: &Value) -> bool
     ensures { result ≡ have_values (map key_value keys.now) (view value.now) }
 {
@@ -59,7 +58,6 @@ fn in_range(key: Key, value: &Value) -> bool
     }
 }
 
-#[tactic(auto, using(crate::proofs::ValueLaws::all_naturals))]
 fn are_naturals(count: usize, most: u32, items: &[Value]) -> bool
     ensures { result ≡ are_naturals count most (map view items.now) }
 {

@@ -11,7 +11,7 @@ use indexmap::IndexSet;
 use serde_json::Value;
 use std::alloc::{AllocError, Global};
 use text_faults::{Refusal, meaning_of};
-use text_words::{Misfit, Reason, reason_of_cause, reason_of_json};
+use text_words::{Reason, reason_of_cause, reason_of_json};
 
 /// Where a plant stands as a line is refused.
 #[derive(Clone, Copy)]
@@ -76,27 +76,14 @@ fn reason_in_value(
     ensures { IfOk result (λ reason. IfSome reason.place (IsRefusedAt refusal
         (texts_of context.now.names.now.keys) context.now.edges.now (view value.now))) }
 {
-    match find(alloc, refusal, value, context.names, context.edges) {
-        Ok(Some(misfit)) => misfit.reason(alloc),
-        Ok(None) => reason_of_cause(alloc, cause_of(refusal)),
-        Err(AllocError) => Err(AllocError),
-    }
-}
-
-fn find<'a>(
-    alloc: Global,
-    refusal: Refusal,
-    value: &'a Value,
-    names: &'a IndexSet<String>,
-    edges: &'a [u64],
-) -> Result<Option<Misfit<'a>>, AllocError>
-    ensures { IfOk result (λ found. IfSome found (λ misfit. IsRefusedAt refusal
-        (texts_of names.now.keys) edges.now (view value.now) misfit.place)) }
-{
-    match names.len() {
-        0 => find_in_plant(alloc, refusal, value),
-        1..=16 => Ok(find_in_event(refusal, value, &PlantContext { names, edges })),
+    let misfit = match context.names.len() {
+        0 => find_in_plant(alloc, refusal, value)?,
+        1..=16 => find_in_event(refusal, value, context),
         // No plant has more readers.
-        _ => Ok(None),
+        _ => None,
+    };
+    match misfit {
+        Some(misfit) => misfit.reason(alloc),
+        None => reason_of_cause(alloc, cause_of(refusal)),
     }
 }

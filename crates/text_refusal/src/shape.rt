@@ -1,9 +1,11 @@
 //! Where an object has not its form: another key, one that is missing, or a value of another type.
 
-ghost use Rattle.std.specs.Prelude.{◌≡◌, IfSome};
+ghost use Rattle.std.specs.Prelude.{◌≡◌, IfSome, false, map};
+ghost use Rattle.serde_json.specs.View.{view};
+ghost use Rattle.scenario_json.specs.Fields.{has_form};
+ghost use Rattle.scenario_json.specs.Keys.{key_value};
 
-use scenario_json::{Key, fits, is_named};
-use scenario_values::LOCAL;
+use scenario_json::{Key, fits, has_form, is_named};
 use serde_json::{Map, Value};
 use text_words::{Expected, Found, JsonPath, Misfit};
 
@@ -13,8 +15,13 @@ pub(crate) fn find_in_shape<'a>(
     keys: &'static [Key],
     value: &'a Value,
 ) -> Option<Misfit<'a>>
-    ensures { IfSome result (λ misfit. misfit.place ≡ place) }
+    ensures place { IfSome result (λ misfit. misfit.place ≡ place) }
+    ensures wrong { IfSome result (λ misfit.
+        has_form (map key_value keys.now) (view value.now) ≡ false) }
 {
+    if has_form(keys, value) {
+        return None;
+    }
     match value.as_object() {
         None => Some(Misfit::new(place, Found::NoObject(value), Expected::Object)),
         Some(members) => match other_key(keys, members) {
@@ -38,17 +45,8 @@ fn find_at_keys<'a>(place: JsonPath, keys: &[Key], value: &'a Value) -> Option<M
 {
     for key in keys {
         if !fits(key, value) {
-            return Some(Misfit::at(place, key.name, value, typed(*key)));
+            return Some(Misfit::at(place, key.name, value, Expected::Typed(*key)));
         }
     }
     None
-}
-
-// Of an offset what a generator takes, and not what a line can have.
-fn typed(key: Key) -> Expected<'static> {
-    if key.name == LOCAL.name {
-        Expected::TypedOffset
-    } else {
-        Expected::Typed(key)
-    }
 }

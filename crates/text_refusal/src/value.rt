@@ -1,10 +1,12 @@
 //! Where a value is of the right type, and outside its range or none of its words.
 
-ghost use Rattle.std.specs.Prelude.{◌≡◌, IfSome};
+ghost use Rattle.std.specs.Prelude.{◌≡◌, IfSome, false, map};
+ghost use Rattle.serde_json.specs.View.{view};
+ghost use Rattle.scenario_json.specs.Keys.{key_value};
+ghost use Rattle.text_refusal.specs.Values.{have_values};
 
-use crate::range::has_value;
-use scenario_json::{Key, Kind, Text, items_at, natural_in, text_at};
-use scenario_values::LOCAL;
+use crate::range::{has_value, have_values};
+use scenario_json::{Key, Kind, Text, at_most, items_at, natural_in, text_at};
 use serde_json::Value;
 use text_words::{Expected, Found, JsonPath, Misfit, Note, reason_of_day, reason_of_time};
 
@@ -14,8 +16,13 @@ pub(crate) fn find_in_values<'a>(
     keys: &[Key],
     value: &'a Value,
 ) -> Option<Misfit<'a>>
-    ensures { IfSome result (λ misfit. misfit.place ≡ place) }
+    ensures place { IfSome result (λ misfit. misfit.place ≡ place) }
+    ensures wrong { IfSome result (λ misfit.
+        have_values (map key_value keys.now) (view value.now) ≡ false) }
 {
+    if have_values(keys, value) {
+        return None;
+    }
     for key in keys {
         if !has_value(key, value) {
             return Some(misfit_at(place, *key, value));
@@ -33,30 +40,14 @@ fn misfit_at(place: JsonPath, key: Key, value: &Value) -> Misfit<'_>
         let found = Found::InList(key.name, at, natural);
         return Misfit::new(place, found, Expected::Range(0, i128::from(most)));
     }
-    Misfit::at(place, key.name, value, ranged(key)).with(why_no_date(key, value))
-}
-
-// Of an offset what a generator takes, and not what a line can have.
-fn ranged(key: Key) -> Expected<'static> {
-    if key.name == LOCAL.name {
-        Expected::Offset
-    } else {
-        Expected::Ranged(key)
-    }
+    Misfit::at(place, key.name, value, Expected::Ranged(key)).with(why_no_date(key, value))
 }
 
 fn why_no_date(key: Key, value: &Value) -> Note {
-    match key.kind {
-        Kind::Text(Text::Second) => Note::Why(reason_of_time(text(key, value))),
-        Kind::Text(Text::Day) => Note::Why(reason_of_day(text(key, value))),
+    match (key.kind, text_at(value, key.name)) {
+        (Kind::Text(Text::Second), Some(text)) => Note::Why(reason_of_time(text)),
+        (Kind::Text(Text::Day), Some(text)) => Note::Why(reason_of_day(text)),
         _ => Note::Nothing,
-    }
-}
-
-fn text(key: Key, value: &Value) -> &str {
-    match text_at(value, key.name) {
-        Some(text) => text,
-        None => "",
     }
 }
 
@@ -68,16 +59,10 @@ fn first_outside<'a>(
     key: &str,
     value: &'a Value,
 ) -> Option<(usize, &'a Value)> {
-    match items_at(value, key) {
-        Some(items) if items.len() <= count => first_unnatural(most, items),
-        _ => None,
-    }
-}
-
-fn first_unnatural(most: u32, items: &[Value]) -> Option<(usize, &Value)> {
-    for at in 0..items.len() {
-        if natural_in(most, &items[at]).is_none() {
-            return Some((at, &items[at]));
+    let items = at_most(count, items_at(value, key)?)?;
+    for (at, item) in items.iter().enumerate() {
+        if natural_in(most, item).is_none() {
+            return Some((at, item));
         }
     }
     None

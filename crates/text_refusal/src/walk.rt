@@ -1,7 +1,8 @@
 //! The first place of a plant line at which something is wrong, in the order of the line.
 
-use crate::place::{is_misformed, is_misvalued, item_at, table_at, version_of_line};
+use crate::place::{object_at, version_of_line};
 use crate::plan::refusal_at;
+use crate::plant::{misformed_at, misvalued_at};
 use scenario_json::items_at;
 use scenario_values::{PlantValues, Version};
 use serde_json::Value;
@@ -12,133 +13,114 @@ use text_words::JsonPath;
 #[derive(Clone, Copy)]
 pub(crate) enum Wrong<'a> {
     /// The object there has not its form.
-    Form(Version),
+    Form,
     /// A value in it is not in its range.
-    Range(Version),
+    Range,
     /// These values are refused so.
     Values(Refusal, &'a PlantValues),
 }
 
-fn is_wrong(wrong: Wrong<'_>, place: JsonPath, value: &Value) -> bool {
-    match wrong {
-        Wrong::Form(version) => is_misformed(version, place, value),
-        Wrong::Range(version) => is_misvalued(version, place, value),
-        Wrong::Values(refusal, values) => refusal_at(values, place) == Some(refusal),
-    }
-}
-
-/// The first such place: the line's own object, then those of its leaps, generators and readers.
-/// Behind a generator come its changes; before a reader come its table and the leaps of that.
+/// The first such place of the plant line that has this value: the line's own object, then those of
+/// its leaps, generators and readers. Behind a generator come its changes; before a reader come its
+/// table and the leaps of that.
 pub(crate) fn first_place(wrong: Wrong<'_>, value: &Value) -> Option<JsonPath> {
-    if is_wrong(wrong, JsonPath::Line, value) {
-        return Some(JsonPath::Line);
-    }
-    let place = first_leap(wrong, value);
-    if place.is_some() {
-        return place;
-    }
-    let place = first_in_generators(wrong, value);
-    if place.is_some() {
-        return place;
-    }
-    first_in_readers(wrong, value)
+    let search = Search {
+        wrong,
+        version: version_of_line(value),
+        value,
+    };
+    search
+        .first_from(JsonPath::Line)
+        .or(search.first_in_generators())
+        .or(search.first_in_readers())
 }
 
-fn count(value: &Value, key: &str) -> usize {
-    match items_at(value, key) {
-        Some(items) => items.len(),
-        None => 0,
-    }
+#[derive(Clone, Copy)]
+struct Search<'a> {
+    wrong: Wrong<'a>,
+    version: Version,
+    value: &'a Value,
 }
 
-fn first_leap(wrong: Wrong<'_>, value: &Value) -> Option<JsonPath> {
-    for at in 0..count(value, "leaps") {
-        if is_wrong(wrong, JsonPath::Leap(at), value) {
-            return Some(JsonPath::Leap(at));
+impl Search<'_> {
+    fn first_in_generators(self) -> Option<JsonPath> {
+        for at in 0..count(self.value, "generators") {
+            let place = self.first_from(JsonPath::Generator(at));
+            if place.is_some() {
+                return place;
+            }
         }
-    }
-    None
-}
-
-fn first_in_generators(wrong: Wrong<'_>, value: &Value) -> Option<JsonPath> {
-    for at in 0..count(value, "generators") {
-        let place = first_in_generator(wrong, at, value);
-        if place.is_some() {
-            return place;
-        }
-    }
-    None
-}
-
-fn first_in_generator(wrong: Wrong<'_>, at: usize, value: &Value) -> Option<JsonPath> {
-    if is_wrong(wrong, JsonPath::Generator(at), value) {
-        return Some(JsonPath::Generator(at));
-    }
-    match item_at(value, "generators", at) {
-        Some(generator) => first_change(wrong, at, count(generator, "changes"), value),
-        None => None,
-    }
-}
-
-fn first_change(
-    wrong: Wrong<'_>,
-    generator: usize,
-    count: usize,
-    value: &Value,
-) -> Option<JsonPath> {
-    for at in 0..count {
-        if is_wrong(wrong, JsonPath::Change(generator, at), value) {
-            return Some(JsonPath::Change(generator, at));
-        }
-    }
-    None
-}
-
-fn first_in_readers(wrong: Wrong<'_>, value: &Value) -> Option<JsonPath> {
-    for at in 0..count(value, "readers") {
-        let place = first_in_reader(wrong, at, value);
-        if place.is_some() {
-            return place;
-        }
-    }
-    None
-}
-
-// In version 1 a table is a key that the reader does not have.
-fn first_in_reader(wrong: Wrong<'_>, at: usize, value: &Value) -> Option<JsonPath> {
-    if version_of_line(value) != Version::One {
-        let place = first_in_table(wrong, at, value);
-        if place.is_some() {
-            return place;
-        }
-    }
-    if is_wrong(wrong, JsonPath::Reader(at), value) {
-        Some(JsonPath::Reader(at))
-    } else {
         None
     }
-}
 
-fn first_in_table(wrong: Wrong<'_>, reader: usize, value: &Value) -> Option<JsonPath> {
-    if is_wrong(wrong, JsonPath::Table(reader), value) {
-        return Some(JsonPath::Table(reader));
+    fn first_in_readers(self) -> Option<JsonPath> {
+        for at in 0..count(self.value, "readers") {
+            let place = self.first_in_reader(at);
+            if place.is_some() {
+                return place;
+            }
+        }
+        None
     }
-    match table_at(value, reader) {
-        Some(table) => first_table_leap(wrong, reader, count(table, "leaps"), value),
-        None => None,
-    }
-}
 
-fn first_table_leap(
-    wrong: Wrong<'_>,
-    reader: usize,
-    count: usize,
-    value: &Value,
-) -> Option<JsonPath> {
-    for at in 0..count {
-        if is_wrong(wrong, JsonPath::TableLeap(reader, at), value) {
-            return Some(JsonPath::TableLeap(reader, at));
+    // In version 1 a table is a key that the reader does not have.
+    fn first_in_reader(self, at: usize) -> Option<JsonPath> {
+        let reader = self.wrong_at(JsonPath::Reader(at));
+        match self.version {
+            Version::One => reader,
+            Version::Two | Version::Three => self.first_from(JsonPath::Table(at)).or(reader),
         }
     }
-    None
+
+    // Of an object and the items of its list.
+    fn first_from(self, above: JsonPath) -> Option<JsonPath> {
+        let place = self.wrong_at(above);
+        if place.is_some() {
+            return place;
+        }
+        for at in 0..self.count_below(above) {
+            let place = self.wrong_at(item_of(above, at));
+            if place.is_some() {
+                return place;
+            }
+        }
+        None
+    }
+
+    fn wrong_at(self, place: JsonPath) -> Option<JsonPath> {
+        let Search {
+            wrong,
+            version,
+            value,
+        } = self;
+        let is_wrong = match wrong {
+            Wrong::Form => misformed_at(version, place, value).is_some(),
+            Wrong::Range => misvalued_at(version, place, value).is_some(),
+            Wrong::Values(refusal, values) => refusal_at(values, place) == Some(refusal),
+        };
+        if is_wrong { Some(place) } else { None }
+    }
+
+    fn count_below(self, above: JsonPath) -> usize {
+        let list = match above {
+            JsonPath::Generator(_) => "changes",
+            _ => "leaps",
+        };
+        match object_at(self.value, above) {
+            Some(object) => count(object, list),
+            None => 0,
+        }
+    }
+}
+
+fn count(object: &Value, list: &str) -> usize {
+    items_at(object, list).unwrap_or(&[]).len()
+}
+
+fn item_of(above: JsonPath, at: usize) -> JsonPath {
+    match above {
+        JsonPath::Generator(generator) => JsonPath::Change(generator, at),
+        JsonPath::Table(reader) => JsonPath::TableLeap(reader, at),
+        _ => JsonPath::Leap(at),
+    }
 }

@@ -3,7 +3,7 @@
 use crate::draft::Draft;
 use crate::misfit::Expected;
 use indexmap::IndexSet;
-use scenario_json::{Key, Kind, Text};
+use scenario_json::{Key, Kind, LEAP_WORDS, PARITY_WORDS, SBS_USE_WORDS, SENSE_WORDS, Text};
 
 static START_RULE: &str =
     ": 23:59:60 needs an \"insert\" of that day, and a \"delete\" takes 23:59:59 away";
@@ -34,10 +34,8 @@ impl Draft {
             Expected::Keys(keys) => self.keys(keys),
             Expected::Words(words) => self.words(words),
             Expected::Names(names) => self.names(names),
-            Expected::Typed(key) => self.typed(key.kind),
-            Expected::Ranged(key) => self.kind(key.kind),
-            Expected::Offset => self.push("-31 to 31 half hours"),
-            Expected::TypedOffset => self.push("a whole number, -31 to 31 half hours"),
+            Expected::Typed(key) => self.typed(key),
+            Expected::Ranged(key) => self.ranged(key),
             Expected::Range(least, most) => self.range(least, most),
             Expected::Start => self.push("a second that \"leaps\" gives its day"),
             Expected::Text(text) | Expected::Clause(text) => self.push(text),
@@ -53,11 +51,19 @@ impl Draft {
         }
     }
 
-    fn typed(&mut self, kind: Kind) {
-        if is_number(kind) {
+    fn typed(&mut self, key: Key) {
+        if is_number(key.kind) {
             self.push("a whole number, ");
         }
-        self.kind(kind);
+        self.ranged(key);
+    }
+
+    // Of an offset what a generator takes, and not what a line can have.
+    fn ranged(&mut self, key: Key) {
+        match key.name {
+            "local" => self.push("-31 to 31 half hours"),
+            _ => self.kind(key.kind),
+        }
     }
 
     fn keys(&mut self, keys: &[Key]) {
@@ -82,12 +88,34 @@ impl Draft {
                 self.push(" whole numbers, each ");
                 self.range(0, i128::from(most));
             }
-            Kind::Text(text) => self.push(words_of(text)),
+            Kind::Text(text) => self.text(text),
             Kind::Whole => self.push("a whole number"),
             Kind::Truth => self.push("true or false"),
             Kind::List => self.push("a list"),
             Kind::Object => self.push("an object"),
         }
+    }
+
+    fn text(&mut self, text: Text) {
+        match text {
+            Text::Any => self.push("a text"),
+            Text::Reader => self.push("the name of a reader"),
+            Text::Name => self.push("1 to 16 of a to z, 0 to 9, _ and -"),
+            Text::Second => self.push(
+                "a UTC second, as \"2016-12-31T23:59:50Z\", from 2000-01-02 to 2099-12-30",
+            ),
+            Text::Day => self.push("a day, as \"2016-12-31\", from 2000-01-02 to 2099-12-30"),
+            Text::Parity => self.either(&PARITY_WORDS),
+            Text::Sense => self.either(&SENSE_WORDS),
+            Text::SbsUse => self.either(&SBS_USE_WORDS),
+            Text::Leap => self.either(&LEAP_WORDS),
+        }
+    }
+
+    fn either(&mut self, [one, other]: &[&str; 2]) {
+        self.next_word(true, one);
+        self.push(" or ");
+        self.next_word(true, other);
     }
 
     fn at_most(&mut self, count: usize) {
@@ -103,7 +131,7 @@ fn is_number(kind: Kind) -> bool {
 // Whether the words for it have a comma, so that one stands behind them too.
 fn has_comma(expected: Expected<'_>) -> bool {
     match expected {
-        Expected::Clause(_) | Expected::TypedOffset => true,
+        Expected::Clause(_) => true,
         Expected::Typed(key) => is_number(key.kind) || has_clause(key.kind),
         Expected::Ranged(key) => has_clause(key.kind),
         _ => false,
@@ -115,20 +143,4 @@ fn has_clause(kind: Kind) -> bool {
         kind,
         Kind::Naturals(..) | Kind::Text(Text::Second | Text::Day)
     )
-}
-
-fn words_of(text: Text) -> &'static str {
-    match text {
-        Text::Any => "a text",
-        Text::Reader => "the name of a reader",
-        Text::Name => "1 to 16 of a to z, 0 to 9, _ and -",
-        Text::Second => {
-            "a UTC second, as \"2016-12-31T23:59:50Z\", from 2000-01-02 to 2099-12-30"
-        }
-        Text::Day => "a day, as \"2016-12-31\", from 2000-01-02 to 2099-12-30",
-        Text::Parity => "\"even\" or \"odd\"",
-        Text::Sense => "\"add\" or \"subtract\"",
-        Text::SbsUse => "\"check\" or \"ignore\"",
-        Text::Leap => "\"insert\" or \"delete\"",
-    }
 }

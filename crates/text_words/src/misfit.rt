@@ -35,10 +35,6 @@ pub enum Expected<'a> {
     Typed(Key),
     /// A value of the range of a key.
     Ranged(Key),
-    /// An offset from UTC that a generator takes.
-    Offset,
-    /// The same, where what stands there is no whole number.
-    TypedOffset,
     /// One of these words.
     Words(&'static [&'static str]),
     /// One of these names.
