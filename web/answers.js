@@ -1,4 +1,4 @@
-// What web/compare.py asks of the page's modules, in node and in a browser. A request is a scenario, a second
+// What web/compare.py asks of the page's modules. A request is a scenario, a second
 // whose frame is to be made, or a frame to be read; of a scenario the answer is status, hash of its log, and
 // why it is refused.
 

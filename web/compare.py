@@ -1,7 +1,7 @@
 #!/usr/bin/env python3
-"""Compares the page with the program, `compare.py PAGE PROGRAM`: in node and in Chromium, status and bytes
-of each case and example, of 3,000 scenarios made at random, and frames that are made and read. What is
-drawn of the runs of cases and examples is compared with tools/parts/log_lanes.py."""
+"""Compares the page with the program in Chromium, `compare.py PAGE PROGRAM`: status and bytes of each
+case and example, of 3,000 scenarios made at random, and frames that are made and read. What is drawn of the
+runs of cases and examples is compared with tools/parts/log_lanes.py."""
 from __future__ import annotations
 
 import base64
@@ -144,12 +144,6 @@ def expected(program: Path) -> tuple[dict[str, list[dict]], dict[str, list]]:
 # ---- what the page answers
 
 
-def in_node(page: Path, requests: list[dict]) -> list:
-    words = ["node", WEB / "run.mjs", page]
-    done = subprocess.run(words, input=json.dumps(requests), capture_output=True, text=True, check=True)
-    return json.loads(done.stdout)
-
-
 IN_BROWSER = """
 const worker_of_check = new Worker(tab.runner.source);
 const calls_of_check = Promise.all([ready, modules.runner]).then(([[, [codec, texts]], module]) => ({
@@ -188,14 +182,13 @@ def main() -> None:
     page, program = Path(sys.argv[1]).resolve(), Path(sys.argv[2]).resolve()
     requests, wanted = expected(program)
     wrong = 0
-    for place, answers_of in (("node", in_node), ("Chromium", in_browser)):
-        for kind, asked in requests.items():
-            answers = answers_of(page, asked)
-            differ = [it for it in zip(asked, answers, wanted[kind], strict=True) if it[1] != it[2]]
-            wrong += len(differ)
-            print(f"{place}: {len(asked) - len(differ)} of {len(asked)} {kind} are as the program has them")
-            for request, answer, program_says in differ[:3]:
-                print(f"  {json.dumps(request)[:600]}\n  {answer}, and the program: {program_says}")
+    for kind, asked in requests.items():
+        answers = in_browser(page, asked)
+        differ = [it for it in zip(asked, answers, wanted[kind], strict=True) if it[1] != it[2]]
+        wrong += len(differ)
+        print(f"{len(asked) - len(differ)} of {len(asked)} {kind} are as the program has them")
+        for request, answer, program_says in differ[:3]:
+            print(f"  {json.dumps(request)[:600]}\n  {answer}, and the program: {program_says}")
     statuses = [answer[0] for answer in wanted["random runs"]]
     print(f"of the random ones {statuses.count(0)} are done, {statuses.count(3)} refused")
     sys.exit(wrong > 0)

@@ -259,6 +259,11 @@ class InBrowser(browser.Driven):
         self.page.ask("(() => { tab.runner.module = modules.runner; })()")
         self.assertTrue(self.run_text(plant({"do": "seconds", "n": 3})).startswith("done: 4 lines"))
 
+    def test_the_heap(self) -> None:
+        script = (WEB / "test_heap.js").read_text()
+        size = self.page.ask(f"modules.runner.then((module) => {{ {script} return test_heap(module); }})")
+        self.assertGreater(size, 1 << 20)
+
     def test_a_worker_that_ends(self) -> None:
         self.page.ask(
             "(() => { tab.runner.right = tab.runner.source;"
