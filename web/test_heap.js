@@ -1,7 +1,7 @@
 // Asks the heap of a page's module for random blocks: each is aligned, within the memory and apart from all
 // others, and keeps what was written in it when it grows; then refusals. web/test_page.py runs it in the page.
 
-const ROUNDS = 200_000, MOST_BLOCKS = 300, LARGEST = 1 << 20, HEAP_PAGES = 4096;
+const ROUNDS = 50_000, MOST_BLOCKS = 300, LARGEST = 1 << 20, HEAP_PAGES = 4096;
 
 let seed = 1;
 const chance = (below) => { // the numbers of a small generator, the same each time
