@@ -10,7 +10,7 @@ import subprocess
 import sys
 import unittest
 from collections.abc import Iterator, Sequence
-from ctypes import c_bool, c_char_p, c_int8, c_size_t, c_uint8
+from ctypes import c_bool, c_int8, c_size_t, c_uint8
 from itertools import product
 from pathlib import Path
 

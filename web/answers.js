@@ -1,4 +1,4 @@
-// What web/compare.py asks of the page's modules, in node and in a browser. A request is a scenario, a second
+// What web/compare.py asks of the page's modules. A request is a scenario, a second
 // whose frame is to be made, or a frame to be read; of a scenario the answer is status, hash of its log, and
 // why it is refused.
 
@@ -9,9 +9,11 @@ async function hash_of(bytes) {
   return Array.from(digest, (byte) => byte.toString(16).padStart(2, "0")).join("");
 }
 
-// Which lines made the edges of each reader.
-const edges_of = ({ lanes }) => Object.fromEntries(lanes.map(({ reader, ends, makers }) =>
-  [reader, Array.from(ends, (edge, place) => [edge, makers[place] + 1])]));
+// What is drawn, with lists in place of arrays of numbers.
+function drawn_of({ lanes, causes, first, last, verdict }) {
+  const plain = (key, value) => (ArrayBuffer.isView(value) ? [...value] : value);
+  return JSON.parse(JSON.stringify({ lanes, causes, first, last, verdict }, plain));
+}
 
 function frame_of({ time, ...wanted }, { codec, frame_text }) {
   const symbols = codec.frame(time, wanted);
@@ -30,7 +32,7 @@ async function answer_of(request, calls) {
   const result = await calls.run(bytes_of(request.text), request.shown), why = result.refusal;
   const reason = why && `line ${why.line}: ${why.number}: ${why.reason}`;
   const answer = [result.status, await hash_of(result.log), reason];
-  return request.edges ? [...answer, edges_of(result)] : answer;
+  return request.is_drawn ? [...answer, drawn_of(result)] : answer;
 }
 
 async function answers_of(requests, calls) {

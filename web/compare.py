@@ -1,7 +1,7 @@
 #!/usr/bin/env python3
-"""Compares the page with the program, `compare.py PAGE PROGRAM`: in node and in Chromium, status and bytes
-of each case and example, of 3,000 scenarios made at random, and frames that are made and read. Which
-lines made a reader's edges is compared with irig.scenarios; tools/tests/test_reading.py has the rest."""
+"""Compares the page with the program in Chromium, `compare.py PAGE PROGRAM`: status and bytes of each
+case and example, of 3,000 scenarios made at random, and frames that are made and read. What is drawn of the
+runs of cases and examples is compared with tools/parts/log_lanes.py."""
 from __future__ import annotations
 
 import base64
@@ -13,6 +13,7 @@ import subprocess
 import sys
 from collections.abc import Iterator
 from concurrent.futures import ThreadPoolExecutor
+from itertools import product
 from pathlib import Path
 
 WEB = Path(__file__).resolve().parent
@@ -21,7 +22,7 @@ sys.path.insert(0, str(WEB.parent / "tools/tests"))
 import browser  # noqa: E402
 from loading import ROOT, loaded  # noqa: E402
 from case_files import NOTHING, all_cases  # noqa: E402
-from irig.scenarios import made_edges  # noqa: E402
+from parts.log_lanes import drawn  # noqa: E402
 
 BY_CHANCE, FRAMES = 3000, 400
 MOST_SECONDS = 5_000  # of a scenario made at random, so that all end soon
@@ -42,9 +43,9 @@ def ran(program: Path, *words: str, text: bytes = b"") -> tuple[int, bytes, str]
     return done.returncode, done.stdout, done.stderr.decode()
 
 
-def scenario(text: bytes, has_all: bool, has_ports: bool, has_edges: bool) -> dict:
+def scenario(text: bytes, has_all: bool, has_ports: bool, is_drawn: bool) -> dict:
     shown = {"all": has_all, "ports": has_ports}
-    return {"text": base64.b64encode(text).decode(), "shown": shown, "edges": has_edges}
+    return {"text": base64.b64encode(text).decode(), "shown": shown, "is_drawn": is_drawn}
 
 
 def told_scenario(program: Path, request: dict) -> list:
@@ -53,24 +54,21 @@ def told_scenario(program: Path, request: dict) -> list:
     status, log, why = ran(program, "run", "-", *options, text=text)
     reason = re.sub(r"^(line \d+: \d+) \w+:", r"\1:", why.partition("\n")[0]) if status == REFUSED else None
     answer = [status, hashlib.sha256(log).hexdigest(), reason]
-    return [*answer, edges_of(text.decode(errors="replace"), log.decode())] if request["edges"] else answer
+    if not request["is_drawn"]:
+        return answer
+    return [*answer, drawn(log.decode().splitlines(), text.decode(errors="replace").split("\n"))]
 
 
-def edges_of(text: str, log: str) -> dict:
-    """Which lines made the edges of each reader in a log, by the Python package."""
-    lines = [line for line in log.splitlines() if not line[0].isalpha()]
-    return made_edges(text.split("\n"), dict.fromkeys(line.split()[1] for line in lines))
-
-
-def files() -> Iterator[bytes]:
-    """The scenario of each case that is a run, and of each example."""
+def files() -> Iterator[tuple[bytes, bool]]:
+    """The scenario of each case that is a run, and of each example; and whether no line is refused, of which
+    a part may have been run."""
     for case in all_cases():
         words = [word for word in case.texts() if word not in ("--all", "--ports")]
         path = case.input if words in FROM_INPUT else NOTHING
         if case.scenario and words == ["run", case.scenario]:
             path = case.scenario
         if path != NOTHING:
-            yield (ROOT / path).read_bytes()
+            yield (ROOT / path).read_bytes(), case.status == 0
 
 
 def by_chance() -> Iterator[bytes]:
@@ -127,8 +125,8 @@ def told_reading(program: Path, request: dict) -> str | None:
 def expected(program: Path) -> tuple[dict[str, list[dict]], dict[str, list]]:
     """The requests of each kind, and the answers of the program."""
     chance = random.Random("frames")
-    each = [(False, False, True), (True, False, True), (False, True, False), (True, True, False)]
-    found = [scenario(text, *asked) for text in files() for asked in each]
+    each = list(product((False, True), repeat=2))
+    found = [scenario(text, *shown, is_done) for text, is_done in files() for shown in each]
     made = [scenario(text, place % 2 == 0, place % 3 == 0, False) for place, text in enumerate(by_chance())]
     frames = [frame(chance) for _ in range(FRAMES)]
     with ThreadPoolExecutor(2) as pool:
@@ -144,12 +142,6 @@ def expected(program: Path) -> tuple[dict[str, list[dict]], dict[str, list]]:
 
 
 # ---- what the page answers
-
-
-def in_node(page: Path, requests: list[dict]) -> list:
-    words = ["node", WEB / "run.mjs", page]
-    done = subprocess.run(words, input=json.dumps(requests), capture_output=True, text=True, check=True)
-    return json.loads(done.stdout)
 
 
 IN_BROWSER = """
@@ -190,14 +182,13 @@ def main() -> None:
     page, program = Path(sys.argv[1]).resolve(), Path(sys.argv[2]).resolve()
     requests, wanted = expected(program)
     wrong = 0
-    for place, answers_of in (("node", in_node), ("Chromium", in_browser)):
-        for kind, asked in requests.items():
-            answers = answers_of(page, asked)
-            differ = [it for it in zip(asked, answers, wanted[kind], strict=True) if it[1] != it[2]]
-            wrong += len(differ)
-            print(f"{place}: {len(asked) - len(differ)} of {len(asked)} {kind} are as the program has them")
-            for request, answer, program_says in differ[:3]:
-                print(f"  {json.dumps(request)[:600]}\n  {answer}, and the program: {program_says}")
+    for kind, asked in requests.items():
+        answers = in_browser(page, asked)
+        differ = [it for it in zip(asked, answers, wanted[kind], strict=True) if it[1] != it[2]]
+        wrong += len(differ)
+        print(f"{len(asked) - len(differ)} of {len(asked)} {kind} are as the program has them")
+        for request, answer, program_says in differ[:3]:
+            print(f"  {json.dumps(request)[:600]}\n  {answer}, and the program: {program_says}")
     statuses = [answer[0] for answer in wanted["random runs"]]
     print(f"of the random ones {statuses.count(0)} are done, {statuses.count(3)} refused")
     sys.exit(wrong > 0)

@@ -16,9 +16,9 @@ sys.path.insert(0, str(ROOT / "tools"))
 from parts.log_lanes import PORT_STATES, STATES  # noqa: E402
 from parts.html_page import embedded, filled, hashed, joined, script_of  # noqa: E402
 
-SCRIPTS = (PARTS / "list.js", PARTS / "reading.js", WEB / "log.js", PARTS / "timeline.js", WEB / "codec.js",
+SCRIPTS = (PARTS / "list.js", PARTS / "kinds.js", WEB / "log.js", PARTS / "timeline.js", WEB / "codec.js",
            WEB / "frame.js", WEB / "editor.js", WEB / "scenario.js", WEB / "page.js")
-WORKER = PARTS / "reading.js", WEB / "worker.js"
+WORKER = PARTS / "kinds.js", WEB / "lanes.js", WEB / "worker.js"
 FIELDS = ("second", "minute", "hour", "day", "year")
 MODULES = ("c_scenario", "c_reader")
 LETTERS = {**dict(zip("smhdy", FIELDS)), "o": "offset", "q": "time quality", "b": "straight binary seconds"}
@@ -59,6 +59,10 @@ def numbers() -> dict[str, dict[str, str]]:
         number: dict(zip(keys, map(plain, cells)))
         for number, *cells in rows(ROOT / "docs/FAULTS.md", heads)
     }
+
+
+def fault_names() -> dict[str, object]:
+    return {number: meaning["name"].split(" ")[0] for number, meaning in numbers().items()}
 
 
 def causes() -> dict[str, list[str]]:
@@ -142,7 +146,7 @@ def page_of(data: dict[str, object]) -> str:
         "style": style,
         "timeline": (PARTS / "timeline.html").read_text(),
         "data": embedded(data),
-        "worker": script_of(WORKER),
+        "worker": f"const FAULT_NAMES = {embedded(fault_names())};\n{script_of(WORKER)}",
         "script": script,
     })
 

@@ -176,12 +176,12 @@ class ScenarioTab {
     let told = `for ${seconds(now)}`;
     if (progress && progress.is_read) {
       part("progress").value = 1;
-      told += `, reading ${bytes_text(progress.expected)} of log`;
+      told += `, writing the log of ${progress.expected.toLocaleString("en")} ticks`;
     } else if (progress) {
       const written = Math.min(progress.written * Math.min(now / progress.spent, 2), progress.expected);
       part("progress").value = Math.min(0.99, written / progress.expected);
-      const most = `${this.running.all ? "" : "at most "}${bytes_text(progress.expected)}`;
-      told += `, about ${bytes_text(written)} of ${most} of log`;
+      const [done, all] = [written, progress.expected].map((ticks) => Math.floor(ticks).toLocaleString("en"));
+      told += `, about ${done} of ${all} ticks`;
     }
     part("pace").textContent = told;
   }

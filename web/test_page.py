@@ -28,8 +28,6 @@ PLANT = {
     "readers": [{"name": "relay", "lock_after": 2, "holdover": 3600}],
 }
 
-REFUSED = 3  # a status
-
 SIXTEEN = [{"name": f"r{number}", "lock_after": 2, "holdover": 9} for number in range(16)]
 
 
@@ -38,8 +36,7 @@ def plant(*lines: dict, **changed: object) -> str:
 
 
 def trap_module() -> bytes:
-    """A module whose `irig_scene_c_run_shown` does nothing but trap, whose heap gives a place, and which
-    tells of no edges."""
+    """A module whose `irig_scene_c_run_entries` does nothing but trap, and whose heap gives a place."""
 
     def section(number: int, *parts: bytes) -> bytes:
         body = bytes([len(parts)]) + b"".join(parts)
@@ -52,17 +49,14 @@ def trap_module() -> bytes:
     types = section(
         1,
         bytes([0x60, 1, i64, 1, i64]),
-        bytes([0x60, 10, i64, i64, i32, i32, *[i64] * 6, 1, i32]),
-        bytes([0x60, 5, *[i64] * 5, 1, i32]),
+        bytes([0x60, 9, *[i64] * 9, 1, i32]),
     )
     imports = section(2, name("env") + name("memory") + bytes([2, 0, 1]))
-    functions = section(3, bytes([0]), bytes([1]), bytes([2]))
-    names = "heap_give", "irig_scene_c_run_shown", "irig_scene_c_line_edges"
+    functions = section(3, bytes([0]), bytes([1]))
+    names = "heap_give", "irig_scene_c_run_entries"
     exports = section(7, *(name(text) + bytes([0, place]) for place, text in enumerate(names)))
-    give, trap, refuse = (
-        bytes([5, 0, 0x42, 0x80, 0x08, 0x0B]), bytes([3, 0, 0x00, 0x0B]), bytes([4, 0, 0x41, REFUSED, 0x0B]),
-    )
-    return b"\0asm\1\0\0\0" + types + imports + functions + exports + section(10, give, trap, refuse)
+    give, trap = bytes([5, 0, 0x42, 0x80, 0x08, 0x0B]), bytes([3, 0, 0x00, 0x0B])
+    return b"\0asm\1\0\0\0" + types + imports + functions + exports + section(10, give, trap)
 
 
 class InBrowser(browser.Driven):
@@ -242,7 +236,7 @@ class InBrowser(browser.Driven):
         self.set("text", plant(*[{"do": "seconds", "n": 100_000}] * 2, readers=SIXTEEN))
         self.push("run")
         self.wait("tab.progress !== null && part('progress').hasAttribute('value')")
-        self.wait("part('pace').textContent.includes('of log')")
+        self.wait("part('pace').textContent.includes(' ticks')")
         self.picture("running")
         self.push("stop")
         self.assertTrue(self.text("state").startswith("stopped after "), self.text("state"))
@@ -264,6 +258,11 @@ class InBrowser(browser.Driven):
         self.assertTrue(state.startswith("the module stopped itself: unreachable"), state)
         self.page.ask("(() => { tab.runner.module = modules.runner; })()")
         self.assertTrue(self.run_text(plant({"do": "seconds", "n": 3})).startswith("done: 4 lines"))
+
+    def test_the_heap(self) -> None:
+        script = (WEB / "test_heap.js").read_text()
+        size = self.page.ask(f"modules.runner.then((module) => {{ {script} return test_heap(module); }})")
+        self.assertGreater(size, 1 << 20)
 
     def test_a_worker_that_ends(self) -> None:
         self.page.ask(

@@ -1,16 +1,26 @@
-// What the worker of a run does: it plays a scenario by the proved module, then reads the log into lines and
-// lanes for the page, by tools/parts/reading.js, which stands before this. Each run has a worker of its own,
-// as a module that trapped may not be called again.
+// What the worker of a run does: it plays a scenario by the proved module, and makes of the entries that this
+// tells the lines of the log, and lanes for the page (lanes.js). Each run has a worker of its own, as a module
+// that trapped may not be called again. The page tells it the names of faults, FAULT_NAMES.
 
 const PAGE = 65536, FIRST_PAGES = 64; // of the module's memory
-const LEAST_ROOM = 1 << 20, SPARE = 1 << 22; // bytes: for a log, and for all but the log
-const DONE = 0, NO_LOG = 5, NO_MEMORY = 6; // statuses, as c/irig_scene.h has them
-// The bytes of a line of the log without edge and name: one with a vote, and the longest.
-const USUAL_LINE = " 2000-01-01T00:00:00Z locked voted\n".length + 1;
-const LONGEST_LINE = " 2000-01-01T00:00:00Z holdover:1000000 leap-guard\n".length + 1;
-const LAST_LINE = 200;
-// And those of a line of what ports told: with three that agree, and the longest of five.
-const USUAL_PORTS = "   ok ok ok\n".length, LONGEST_PORTS = "  \n".length + 5 * " fault:10:DeletedSecond".length;
+const SPARE = 1 << 22, LEAST_ROOM = 1 << 12; // bytes for all but the entries; entries
+const DONE = 0, REFUSED = 3, NO_LOG = 5, NO_MEMORY = 6; // statuses, as c/irig_scene.h has them
+const NEWLINE = 10, BLANKS = [32, 9, 13, NEWLINE];
+
+// Where the parts of its structures stand, and how large they are.
+const ENTRY = {
+  EDGE: 0, LINE: 8, TRUTH: 16, TOLD: 28, COUNT: 128, DAY: 132, SOD: 136, READER: 140, ANNOUNCES: 141, LOCK: 142,
+  CAUSE: 143, PORTS: 144, HAS_TRUTH: 145, SIZE: 152,
+};
+const TOLD = { KIND: 0, QUALITY: 1, FAULT: 4, CLAIM: 8, SIZE: 20 }, CLAIM = { DAY: 0, SOD: 4, MARK: 8 };
+const VERDICT = { EDGE: 0, KIND: 8, READER: 9, SIZE: 16 };
+const REFUSAL = { LINE: 0, WHOLE: 8, NUMBER: 80, SIZE: 88 };
+const REASON_ROOM = 4096; // bytes: more than a reason has
+
+// Its words, by their numbers.
+const LOCKS = ["unlocked", "acquiring", "locked", "holdover"];
+const CAUSES = ["voted", "held", "acquiring", "no-vote", "expired", "leap-guard", "jump", "range-end"];
+const MARKS = ["unspoken", "no-leap", "insert", "delete"], FIELDS = ["second", "minute", "hour", "day", "year"];
 
 // ---- the module
 
@@ -24,17 +34,7 @@ function calls_of(module, most, on_growth) {
   return { memory, calls, give };
 }
 
-// ---- the scenario: which edges its lines make
-
-const NEWLINE = 10, BLANKS = [32, 9, 13, NEWLINE];
-const MOST_LINES = 1000000; // that a run takes
-const ENTRY = { COUNT: 0, READER: 4, SIZE: 8 }, EACH_READER = 255; // of a line, as c/irig_scene.h has it
-
-function lines_in(text) { // how many there are at most, of those that a run takes
-  let count = 1;
-  for (let at = text.indexOf(NEWLINE); at >= 0 && count < MOST_LINES; at = text.indexOf(NEWLINE, at + 1)) count++;
-  return count;
-}
+// ---- the run
 
 function names_in(text) { // of the readers, in a plant line that the module took
   const from = text.findIndex((byte) => !BLANKS.includes(byte)), end = text.indexOf(NEWLINE, from);
@@ -42,105 +42,167 @@ function names_in(text) { // of the readers, in a plant line that the module too
   return JSON.parse(line).readers.map(({ name }) => name);
 }
 
-const no_edges = () => ({ ends: new Numbers(Float64Array), makers: new Numbers(Uint32Array) });
-
-// For each reader the lines that gave it edges, by their place from 0, and the last edge of each: as the module
-// tells them. There are none if it refuses the plant line, or has no memory.
-function edges_of(module, text, most) {
-  const { memory, calls, give } = calls_of(module, most, () => {});
-  const room = lines_in(text);
-  const from = give(text.length), entries = give(room * ENTRY.SIZE), whole = give(8);
-  if (!from || !entries || !whole) return new Map();
-  new Uint8Array(memory.buffer).set(text, Number(from));
-  const status = calls.irig_scene_c_line_edges(from, BigInt(text.length), entries, BigInt(room), whole) & 255;
-  if (status !== DONE) return new Map();
-  const readers = names_in(text).map((name) => [name, no_edges()]);
-  const told = new DataView(memory.buffer, Number(entries), room * ENTRY.SIZE);
-  const count = Math.min(room, Number(new DataView(memory.buffer).getBigUint64(Number(whole), true)));
-  for (let line = 0; line < count; line++) add_edges(readers, told, line);
-  return new Map(readers);
+// How many entries a scenario asks for, at most.
+function entries_in(text) {
+  const lines = new TextDecoder().decode(text), seconds = [...lines.matchAll(/"n"\s*:\s*(\d{1,6})/g)];
+  const readers = lines.split('"name"', 17).length - 1;
+  return lines.split('"tick"').length + readers * seconds.reduce((sum, [, count]) => sum + Number(count), 0);
 }
-
-function add_edges(readers, told, line) {
-  const count = told.getUint32(line * ENTRY.SIZE + ENTRY.COUNT, true);
-  if (!count) return;
-  const place = told.getUint8(line * ENTRY.SIZE + ENTRY.READER);
-  for (const [, { ends, makers }] of place === EACH_READER ? readers : [readers[place]]) {
-    ends.push(ends.last + count);
-    makers.push(line);
-  }
-}
-
-// How many bytes the log has if each edge has lines of so many bytes beside edge and name.
-function bytes_of(edges, ...lines) {
-  let bytes = LAST_LINE;
-  for (const [name, { ends }] of edges) {
-    for (const line of lines) bytes += ends.last * (String(ends.last).length + name.length + line);
-  }
-  return bytes;
-}
-
-// ---- the run
-
-const REASON_ROOM = 4096; // bytes: more than a reason has
-const REFUSAL = { LINE: 0, WHOLE: 8, NUMBER: 80, SIZE: 88 }; // where its parts stand, as c/irig_scene.h has them
 
 // Why a scenario is refused: the line, the number and the reason in words; null if it is not.
-function refusal_in(memory, place, reason) {
-  const view = new DataView(memory.buffer, place, REFUSAL.SIZE);
-  const [line, whole] = [REFUSAL.LINE, REFUSAL.WHOLE].map((at) => Number(view.getBigUint64(at, true)));
+function refusal_in(view, place, reason) {
+  const [line, whole] = [REFUSAL.LINE, REFUSAL.WHOLE].map((at) => Number(view.getBigUint64(place + at, true)));
   if (!line) return null;
-  const text = new TextDecoder().decode(new Uint8Array(memory.buffer, reason, Math.min(whole, REASON_ROOM)));
-  return { line, number: view.getUint8(REFUSAL.NUMBER), reason: text };
+  const text = new TextDecoder().decode(new Uint8Array(view.buffer, reason, Math.min(whole, REASON_ROOM)));
+  return { line, number: view.getUint8(place + REFUSAL.NUMBER), reason: text };
 }
 
-// Runs a scenario of these bytes in at most so many bytes of memory, with this room for the log; if that
+// Runs a scenario of these bytes in at most so many bytes of memory, with room for so many entries; if that
 // is too little it runs once more, in a new memory.
-function run_of(module, text, shown, most, room, on_growth) {
+function run_of(module, text, most, room, on_growth) {
   const { memory, calls, give } = calls_of(module, most, on_growth);
-  const ended = (status, log, refusal = null) => ({ status, log, refusal, memory: memory.buffer.byteLength });
-  const from = give(text.length), whole = give(8), reason = give(REASON_ROOM), refusal = give(REFUSAL.SIZE);
-  const log = give(room);
-  if (!from || !whole || !reason || !refusal) return ended(NO_MEMORY, new Uint8Array(0));
-  if (!log) return ended(NO_LOG, new Uint8Array(0));
+  const sizes = [text.length, 8, VERDICT.SIZE, REASON_ROOM, REFUSAL.SIZE, room * ENTRY.SIZE];
+  const [from, whole, verdict, reason, refusal, entries] = sizes.map(give);
+  const failed = (status) => ({ status, count: 0, refusal: null, view: new DataView(memory.buffer) });
+  if (!from || !whole || !verdict || !reason || !refusal) return failed(NO_MEMORY);
+  if (!entries) return failed(NO_LOG);
   new Uint8Array(memory.buffer).set(text, Number(from));
-  const status = calls.irig_scene_c_run_shown(
-    from, BigInt(text.length), Number(shown.all), Number(shown.ports), log, BigInt(room), whole,
-    reason, BigInt(REASON_ROOM), refusal,
+  const status = calls.irig_scene_c_run_entries(
+    from, BigInt(text.length), entries, BigInt(room), whole, verdict, reason, BigInt(REASON_ROOM), refusal,
   ) & 255;
-  const length = Number(new DataView(memory.buffer).getBigUint64(Number(whole), true));
-  if (length > room) return run_of(module, text, shown, most, length, on_growth);
-  const why = refusal_in(memory, Number(refusal), Number(reason));
-  return ended(status, new Uint8Array(memory.buffer, Number(log), length).slice(), why);
+  const view = new DataView(memory.buffer), count = Number(view.getBigUint64(Number(whole), true));
+  if (count > room) return run_of(module, text, most, count, on_growth);
+  const why = refusal_in(view, Number(refusal), Number(reason));
+  return { status, count, refusal: why, view, entries: Number(entries), verdict: Number(verdict) };
+}
+
+// ---- the log, in words
+
+const day_texts = new Map();
+
+function second_text(view, at) { // of a day and a second of the day
+  const day = view.getUint32(at + CLAIM.DAY, true), sod = view.getUint32(at + CLAIM.SOD, true);
+  if (!day_texts.has(day)) day_texts.set(day, new Date(Date.UTC(2000, 0, 1 + day)).toISOString().slice(0, 11));
+  const minute = Math.min(Math.floor(sod / 60), 1439); // the last one may have 61 seconds
+  const parts = [Math.floor(minute / 60), minute % 60, sod - 60 * minute];
+  return `${day_texts.get(day)}${parts.map((part) => String(part).padStart(2, "0")).join(":")}Z`;
+}
+
+function fault_word(answer) {
+  const number = answer & 255, detail = answer >>> 8, word = `fault:${number}:${FAULT_NAMES[number]}`;
+  if (number === 5 || number === 6) return `${word}:${FIELDS[detail]}`;
+  return [1, 3, 4].includes(number) ? `${word}:${detail}` : word;
+}
+
+// The kind and the word of what a port told, beside the true claim, of which the place is 0 if there is none.
+function told_at(view, at, truth) {
+  const kind = view.getUint8(at + TOLD.KIND), claim = at + TOLD.CLAIM;
+  if (kind === 0) return [PORT.SILENT, "silence"];
+  if (kind === 1) return [PORT.FAULTY, fault_word(view.getUint32(at + TOLD.FAULT, true))];
+  if (kind === 2) return [PORT.POOR, `poor:${view.getUint8(at + TOLD.QUALITY)}`];
+  const is_same = truth && view.getBigUint64(claim, true) === view.getBigUint64(truth, true);
+  if (!is_same) return [PORT.ANOTHER_SECOND, second_text(view, claim)];
+  const mark = view.getUint8(claim + CLAIM.MARK);
+  return mark === view.getUint8(truth + CLAIM.MARK) ? [PORT.AGREED, "ok"] : [PORT.ANOTHER_MARK, MARKS[mark]];
+}
+
+class LogWriter { // lines become bytes, some megabytes at once
+  constructor() { Object.assign(this, { parts: [], size: 0, text: "", starts: new Numbers(Uint32Array) }); }
+
+  get length() { return this.starts.length; }
+
+  add(line) {
+    this.starts.push(this.size + this.text.length);
+    this.text += `${line}\n`;
+    if (this.text.length > SPARE) this.flush();
+  }
+
+  flush() {
+    this.parts.push(new TextEncoder().encode(this.text));
+    this.size += this.text.length;
+    this.text = "";
+  }
+
+  whole() {
+    this.flush();
+    const log = new Uint8Array(this.size);
+    this.parts.reduce((at, part) => (log.set(part, at), at + part.length), 0);
+    this.starts.push(this.size);
+    return { log, starts: this.starts.whole() };
+  }
+}
+
+function verdict_text({ status, refusal, view, verdict }, names) {
+  if (refusal) return `refused: line ${refusal.line}: ${refusal.number} ${FAULT_NAMES[refusal.number]}`;
+  if (status !== DONE) return null;
+  const [kind, reader] = [VERDICT.KIND, VERDICT.READER].map((at) => view.getUint8(verdict + at));
+  const broken = `edge ${view.getBigUint64(verdict + VERDICT.EDGE, true)} reader ${names[reader]}`;
+  return [null, "premises kept", `premises broken: ${broken}`, `premises broken: table of reader ${names[reader]}`][kind];
+}
+
+// The log of the entries of a run, and its lanes.
+function shown_of(ran, names, shown) {
+  const { view } = ran, writer = new LogWriter(), lanes = new Map(), drawn = new Set();
+  let has_silences = false;
+  for (let place = 0; place < ran.count; place++) {
+    const at = ran.entries + place * ENTRY.SIZE, [edge, line] = [ENTRY.EDGE, ENTRY.LINE].map((part) =>
+      Number(view.getBigUint64(at + part, true)));
+    const reader = names[view.getUint8(at + ENTRY.READER)], is_silent = !view.getUint8(at + ENTRY.ANNOUNCES);
+    if (!lanes.has(reader)) lanes.set(reader, new Lane(reader));
+    const lane = lanes.get(reader);
+    lane.make(edge, line - 1);
+    if (shown.all || shown.ports || !is_silent) drawn.add(lane);
+    if (shown.all || !is_silent) {
+      has_silences ||= is_silent;
+      add_entry(writer, lane, view, at, edge, is_silent);
+    }
+    if (shown.ports) add_ports(writer, lane, view, at, edge);
+  }
+  const told = [...drawn], verdict = verdict_text(ran, names);
+  if (verdict) writer.add(verdict);
+  const first = has_silences ? Math.min(...told.map((lane) => lane.first)) : 1;
+  const last = Math.max(1, ...told.map((lane) => lane.last));
+  const [, edge, reader] = /^premises broken: edge (\d+) reader (\S+)$/.exec(verdict || "") || [];
+  if (edge && drawn.has(lanes.get(reader))) lanes.get(reader).marks.push([Number(edge), "premise broken"]);
+  const ended = told.map((lane) => lane.end(first, last));
+  return { ...writer.whole(), lanes: ended, causes: [NO_REASON, ...CAUSES], verdict, first, last };
+}
+
+function add_entry(writer, lane, view, at, edge, is_silent) {
+  const lock = LOCKS[view.getUint8(at + ENTRY.LOCK)], cause = view.getUint8(at + ENTRY.CAUSE);
+  const count = view.getUint32(at + ENTRY.COUNT, true), time = is_silent ? "-" : second_text(view, at + ENTRY.DAY);
+  lane.add(edge, time, STATE_NAMES.indexOf(lock), cause + 1, writer.length);
+  writer.add(`${edge} ${lane.reader} ${time} ${lock}${count ? `:${count}` : ""} ${CAUSES[cause]}`);
+}
+
+function add_ports(writer, lane, view, at, edge) {
+  const truth = view.getUint8(at + ENTRY.HAS_TRUTH) ? at + ENTRY.TRUTH : 0, told = [];
+  for (let port = 0; port < view.getUint8(at + ENTRY.PORTS); port++) {
+    told.push(told_at(view, at + ENTRY.TOLD + port * TOLD.SIZE, truth));
+  }
+  lane.tell(edge, told.map(([kind]) => kind), writer.length);
+  writer.add(` ${edge} ${lane.reader} ${told.map(([, word]) => word).join(" ")}`);
 }
 
 // ---- the messages
 
 // What the page is given at the end, with how long the run took in milliseconds.
 function told_of({ module, text, shown, most }, tell) {
-  const edges = edges_of(module, text, most);
-  const usual = [USUAL_LINE, ...shown.ports ? [USUAL_PORTS] : []];
-  const longest = [LONGEST_LINE, ...shown.ports ? [LONGEST_PORTS] : []];
-  const expected = bytes_of(edges, ...usual);
-  // The run's own copy of the log may take twice as much as the log itself.
-  const most_room = Math.floor(most / 3) - SPARE;
-  const room = Math.min(Math.max(LEAST_ROOM, bytes_of(edges, ...longest)), most_room);
-  const begun = performance.now();
-  let largest = LEAST_ROOM;
+  const expected = entries_in(text), begun = performance.now();
+  // The run's own copy of the entries may take twice as much as these.
+  const room = Math.min(Math.max(LEAST_ROOM, expected), Math.floor((most / 3 - SPARE) / ENTRY.SIZE));
+  let largest = SPARE;
   const on_growth = (bytes) => {
     if (bytes <= largest) return;
     largest = bytes;
-    tell({ kind: "progress", spent: performance.now() - begun, written: bytes / 2, expected });
+    const written = Math.floor(bytes / 2 / ENTRY.SIZE);
+    tell({ kind: "progress", spent: performance.now() - begun, written, expected });
   };
-  const ended = run_of(module, text, shown, most, room, on_growth);
-  const spent = performance.now() - begun, { length } = ended.log;
-  tell({ kind: "progress", spent, written: length, expected: length, is_read: true });
-  const result = { kind: "done", ...ended, spent, ...read_log(ended.log) };
-  for (const lane of result.lanes) {
-    const { ends, makers } = edges.get(lane.reader) || no_edges();
-    Object.assign(lane, { ends: ends.whole(), makers: makers.whole() });
-  }
-  return result;
+  const ran = run_of(module, text, most, room, on_growth);
+  const spent = performance.now() - begun, { status, refusal, count } = ran;
+  tell({ kind: "progress", spent, written: count, expected: count, is_read: true });
+  const memory = ran.view.buffer.byteLength, names = count || status === DONE ? names_in(text) : [];
+  return { kind: "done", status, refusal, memory, spent, ...shown_of(ran, names, shown) };
 }
 
 function buffers_of(result) { // which go over without a copy

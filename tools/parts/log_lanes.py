@@ -1,6 +1,6 @@
 """What a log of irig shows as bars: for each reader runs of edges at which it stood alike, for each of
 its ports runs at which it told alike, and marks at leap seconds, month ends and where a premise broke.
-tools/plot draws them; tools/parts/reading.js makes the same of a log for pages."""
+tools/plot draws them, and the page of tools/view; web/worker.js makes the same of the entries of a run."""
 from __future__ import annotations
 
 from collections.abc import Iterable, Iterator
@@ -10,8 +10,11 @@ from typing import get_args
 
 from parts import package  # noqa: F401
 
-from irig.logs import Announced, LastLine, PremiseBroken, RefusedLine, Silent, Tick, read_lines, ticks_of
+from irig.logs import ENTRIES, Announced, LastLine, Ports, PremiseBroken, Reading, RefusedLine, Silent, Tick
+from irig.logs import read_lines, ticks_of
+from irig.scenarios import made_edges
 from irig.seconds import EPOCH, Second
+from irig.words import CAUSES
 
 
 @dataclass(frozen=True)
@@ -113,16 +116,21 @@ def _cut(runs: list[Run], first: int, last: int) -> list[Run]:
 def bars_of(lines: Iterable[str]) -> Bars:
     """What is drawn of a log; a ValueError if there is nothing to draw, or a line is none of a log."""
     said = list(read_lines(lines))
+    if not any(isinstance(line, ENTRIES) for line in said):
+        raise ValueError(f"no edges to draw: {_why_none(said[-1] if said else None)}")
+    return _bars_of(said)
+
+
+def _bars_of(said: list) -> Bars:
+    """What is drawn of these lines, perhaps nothing."""
     verdict = said.pop() if said and isinstance(said[-1], LAST_LINES) else None
     ticks = list(ticks_of(said))
-    if not ticks:
-        raise ValueError(f"no edges to draw: {_why_none(verdict)}")
     of_readers: dict[str, list[Tick]] = {}
     for tick in ticks:
         of_readers.setdefault(tick.reader, []).append(tick)
     has_silences = any(isinstance(tick.said, Silent) for tick in ticks)
     first = min(tick.edge for tick in ticks) if has_silences else 1
-    last = max(tick.edge for tick in ticks)
+    last = max((tick.edge for tick in ticks), default=1)
     lanes = [lane_of(reader, ticks, first, last) for reader, ticks in of_readers.items()]
     for lane in lanes:
         if isinstance(verdict, PremiseBroken) and lane.reader == verdict.reader:
@@ -198,3 +206,45 @@ def _seconds_of_month(second: Second) -> int:
     """How many seconds of its month are before this one: leap seconds come at its end alone."""
     day = EPOCH + timedelta(second.day)
     return 86_400 * (day.day - 1) + second.sod
+
+
+# ---- for pages
+
+
+def _columns(runs: list[Run], names: Iterable[str]) -> dict[str, list[int]]:
+    places = {name: place for place, name in enumerate(names)}
+    return {
+        "firsts": [run.first for run in runs],
+        "lasts": [run.last for run in runs],
+        "states": [places[run.state] for run in runs],
+    }
+
+
+def drawn(log: list[str], scenario: list[str]) -> dict:
+    """The bars of a log for a page, by numbers, with which lines of the log and of its scenario are of which
+    edges; a ValueError if a line is none."""
+    reading, said, places = Reading(), [], {}
+    for number, line in enumerate(log):
+        entry = reading.take(line)
+        said += [entry] if entry else []
+        if isinstance(entry, ENTRIES):
+            lane = places.setdefault(entry.reader, {"edges": [], "lines": [], "told_edges": [], "told_lines": []})
+            told = "told_" if isinstance(entry, Ports) else ""
+            lane[f"{told}edges"].append(entry.edge)
+            lane[f"{told}lines"].append(number)
+    end = said[-1].line if said and isinstance(said[-1], RefusedLine) else None
+    made, bars, causes = made_edges(scenario[:end], places), _bars_of(said), ["not announced", *CAUSES]
+    lanes = [
+        {
+            "reader": lane.reader,
+            "marks": [[mark.at, mark.kind] for mark in lane.marks],
+            **_columns(lane.runs, STATES),
+            "causes": [causes.index(run.cause) for run in lane.runs],
+            "ports": [_columns(runs, PORT_STATES) for runs in lane.ports],
+            **places[lane.reader],
+            "ends": [last for last, _ in made[lane.reader]],
+            "makers": [line - 1 for _, line in made[lane.reader]],
+        }
+        for lane in bars.lanes
+    ]
+    return {"lanes": lanes, "causes": causes, "first": bars.first, "last": bars.last, "verdict": bars.verdict}

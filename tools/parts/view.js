@@ -1,5 +1,4 @@
-// ---- the page of one scenario and its log. `data` has the lines of both, and which line of the scenario made
-// which edges (tools/view); tools/parts/reading.js reads the log.
+// ---- the page of one scenario and its log. `data` has the lines of both, and what is drawn of them (tools/view).
 
 class Lines {
   constructor(texts) { Object.assign(this, { texts, length: texts.length }); }
@@ -7,15 +6,10 @@ class Lines {
   at(number) { return this.texts[number]; }
 }
 
-function with_makers(lane) { // and which lines of the scenario made its edges
-  const ticks = data.ticks[lane.reader] || [];
-  return { ...lane, ends: ticks.map(([last]) => last), makers: ticks.map(([, line]) => line - 1) };
-}
-
 const timeline = new Timeline(on_choice);
 const log = new List(part("log"), on_line);
 const scenario = new List(part("scenario"), on_scenario_line);
-const reading = read_lines(data.log);
+const reading = data.drawn;
 
 const lane_named = (reader) => timeline.lanes.find((lane) => lane.reader === reader);
 
@@ -91,7 +85,7 @@ function to_verdict(text, go_there) {
 part("text").addEventListener("keydown", (event) => { if (event.key === "Enter") go_to_text(); });
 log.set(new Lines(data.log));
 scenario.set(new Lines(data.scenario));
-timeline.set({ ...reading, lanes: reading.lanes.map(with_makers) }, told_of);
+timeline.set(reading, told_of);
 add_verdict();
 if (reading.lanes.length) {
   timeline.choose(timeline.lanes[0], reading.first);

@@ -54,7 +54,7 @@ class Command(unittest.TestCase):
         self.assertEqual(len(made.splitlines()), 10)
 
     def test_help_of_all_tools_begins_with_an_example(self) -> None:
-        for tool in ("capture", "gallery", "leaps", "plot", "study", "view", "wave", "wires"):
+        for tool in ("capture", "gallery", "leaps", "plot", "study", "view", "wave"):
             with self.subTest(tool):
                 words = [ROOT / "tools" / tool, "--help"]
                 ran = subprocess.run(words, capture_output=True, text=True, check=True)

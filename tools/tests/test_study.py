@@ -3,8 +3,6 @@
 days; tables by hand; the committed tables played once more; and what is said of mistakes."""
 import shutil
 import subprocess
-import sys
-import tempfile
 import unittest
 from pathlib import Path
 
@@ -97,15 +95,6 @@ class RandomDays(unittest.TestCase):
             self.assertTrue(least <= min(lengths) < 2 * least and most / 2 < max(lengths) <= most)
         below = sum(spell.end - spell.begin < 100 for spell in dark) / len(dark)
         self.assertAlmostEqual(below, 0.5, delta=0.06)  # 100 s is as far from 10 s as from 1,000 s
-
-    def test_one_liar_a_day(self) -> None:
-        liars = [
-            {g for spell in random_day(Model(lies=50), seed).faults if spell.fault != SILENT
-             for g in spell.generators}
-            for seed in range(30)
-        ]
-        self.assertEqual({len(day) for day in liars}, {1})
-        self.assertEqual(set().union(*liars), {0, 1, 2})
 
     def test_a_rate_leaves_the_others(self) -> None:
         def parts(model: Model) -> dict[str, list]:
@@ -355,25 +344,6 @@ class Runs(unittest.TestCase):
         self.assertEqual(found.returncode, 2)
         self.assertIn("5,x is no list of whole numbers", found.stderr.splitlines()[-1])
         self.assertEqual(ran("table", "x.csv", "colour").returncode, 2)
-
-    def test_which_program(self) -> None:
-        """Beside tools and their package alone it is the installed one, and without any there is one
-        line."""
-        with tempfile.TemporaryDirectory() as folder:
-            for name in ("tools", "python"):
-                shutil.copytree(ROOT / name, Path(folder) / name)
-            bin_folder = Path(folder) / "bin"
-            bin_folder.mkdir()
-            words = [sys.executable, Path(folder) / "tools/study", "one", "--lock-after=2",
-                     "--holdover=0", "--seed=1", "--hours=0.01"]
-
-            def found() -> subprocess.CompletedProcess:
-                path = {"PATH": str(bin_folder)}
-                return subprocess.run(words, env=path, capture_output=True, text=True)
-
-            self.says(found(), "there is no program")
-            (bin_folder / "irig").symlink_to(study.BUILT)
-            self.assertEqual(found().stdout, ran(*words[2:]).stdout)
 
     def test_scenario(self) -> None:
         words = ["--lock-after", 2, "--holdover", 10, "--seed", 7, "--hours", 2]

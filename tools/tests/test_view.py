@@ -69,8 +69,8 @@ class Page(InAFolder):
         data = data_in(self.made(SCENARIO, LOG))
         self.assertEqual("\n".join(data["scenario"]) + "\n", SCENARIO)
         self.assertEqual("\n".join(data["log"]) + "\n", LOG)
-        ticks = {"relay": [[10, 2], [11, 4], [12, 7]], "meter": [[10, 2], [11, 3], [12, 7]]}
-        self.assertEqual(data["ticks"], ticks)
+        made = {lane["reader"]: (lane["ends"], lane["makers"]) for lane in data["drawn"]["lanes"]}
+        self.assertEqual(made, {"relay": ([10, 11, 12], [1, 3, 6]), "meter": ([10, 11, 12], [1, 2, 6])})
 
     def test_nothing_ends_the_data(self) -> None:
         text = self.made(SCENARIO + '{"x":"<!--<script></script>"}\n', LOG).read_text()

@@ -1,12 +1,7 @@
-// Asks the heap of a page's module for random blocks, `node test_heap.mjs PAGE`: each is aligned, within
-// the memory and apart from all others, and keeps what was written in it when it grows; then refusals.
-import { readFileSync } from "node:fs";
-import { argv } from "node:process";
+// Asks the heap of a page's module for random blocks: each is aligned, within the memory and apart from all
+// others, and keeps what was written in it when it grows; then refusals. web/test_page.py runs it in the page.
 
-const ROUNDS = 200_000, MOST_BLOCKS = 300, LARGEST = 1 << 20, PAGES = 4096;
-const page = readFileSync(argv[2], "utf8");
-const data = JSON.parse(page.split(' id="data">')[1].split("</script>")[0]);
-const module = new WebAssembly.Module(Buffer.from(data.modules.c_scenario, "base64"));
+const ROUNDS = 50_000, MOST_BLOCKS = 300, LARGEST = 1 << 20, HEAP_PAGES = 4096;
 
 let seed = 1;
 const chance = (below) => { // the numbers of a small generator, the same each time
@@ -14,7 +9,7 @@ const chance = (below) => { // the numbers of a small generator, the same each t
   return Math.floor(seed / 2 ** 32 * below);
 };
 
-function heap_of(most) {
+function heap_of(module, most) {
   const memory = new WebAssembly.Memory({ initial: 64, maximum: most });
   const calls = new WebAssembly.Instance(module, { env: { memory }, page: { grows: () => {} } }).exports;
   return { memory, calls, bytes: () => new Uint8Array(memory.buffer) };
@@ -67,8 +62,8 @@ function play(heap) {
   });
 }
 
-function check_refusals() { // what there is no memory for is refused, and the rest goes on
-  const { calls, memory } = heap_of(100);
+function check_refusals(module) { // what there is no memory for is refused, and the rest goes on
+  const { calls, memory } = heap_of(module, 100);
   const small = calls.heap_give(100n);
   for (const size of [1n << 23n, 1n << 32n, 1n << 41n, 1n << 63n, (1n << 64n) - 1n]) {
     require(calls.heap_give(size) === 0n, `${size} bytes are not refused`);
@@ -78,8 +73,9 @@ function check_refusals() { // what there is no memory for is refused, and the r
   require(memory.buffer.byteLength <= 100 * 65536, "more memory than was allowed");
 }
 
-const heap = heap_of(PAGES);
-play(heap);
-check_refusals();
-const size = `${heap.memory.buffer.byteLength >> 20} MiB`;
-console.log(`heap: ${ROUNDS.toLocaleString("en")} random requests are served well, in ${size}`);
+function test_heap(module) { // answers how many bytes of memory it took
+  const heap = heap_of(module, HEAP_PAGES);
+  play(heap);
+  check_refusals(module);
+  return heap.memory.buffer.byteLength;
+}

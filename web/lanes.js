@@ -1,0 +1,126 @@
+// ---- what is drawn of a reader: runs of edges at which it stood alike for one cause, or one of its ports told
+// alike, and marks at edges, as tools/parts/log_lanes.py makes them of a log
+
+const NOT_ANNOUNCED = STATE_NAMES.indexOf(NO_REASON);
+
+class Numbers { // as many as come
+  constructor(Kind) {
+    this.items = new Kind(16);
+    this.length = 0;
+  }
+
+  push(number) {
+    if (this.length === this.items.length) {
+      const wider = new this.items.constructor(2 * this.length);
+      wider.set(this.items);
+      this.items = wider;
+    }
+    this.items[this.length++] = number;
+  }
+
+  get last() { return this.length ? this.items[this.length - 1] : 0; }
+
+  whole() { return this.items.slice(0, this.length); }
+}
+
+class Runs { // of edges at which something stands alike
+  constructor(...kinds) {
+    this.firsts = new Numbers(Float64Array);
+    this.lasts = new Numbers(Float64Array);
+    this.kinds = kinds.map((Kind) => new Numbers(Kind));
+  }
+
+  add(edge, ...kinds) {
+    const is_next = this.firsts.length && this.lasts.last === edge - 1;
+    if (is_next && this.kinds.every((numbers, place) => numbers.last === kinds[place])) {
+      this.lasts.items[this.lasts.length - 1] = edge;
+    } else {
+      this.push(edge, edge, ...kinds);
+    }
+  }
+
+  push(first, last, ...kinds) {
+    this.firsts.push(first);
+    this.lasts.push(last);
+    this.kinds.forEach((numbers, place) => numbers.push(kinds[place]));
+  }
+
+  whole(from) { // without what is before an edge
+    let skipped = 0;
+    while (skipped < this.lasts.length && this.lasts.items[skipped] < from) skipped++;
+    const [firsts, lasts, ...kinds] = [this.firsts, this.lasts, ...this.kinds]
+      .map((numbers) => numbers.items.slice(skipped, numbers.length));
+    if (firsts.length) firsts[0] = Math.max(firsts[0], from);
+    return { firsts, lasts, kinds };
+  }
+}
+
+class Lane { // one reader
+  constructor(reader) {
+    Object.assign(this, { reader, marks: [], before_edge: 1, before: "", month: "", ports: [] });
+    this.runs = new Runs(Uint8Array, Uint8Array); // states and causes
+    for (const name of ["edges", "told_edges", "ends"]) this[name] = new Numbers(Float64Array);
+    for (const name of ["lines", "told_lines", "makers"]) this[name] = new Numbers(Uint32Array);
+  }
+
+  add(edge, time, state, cause, line) {
+    const { last } = this.runs.lasts;
+    if (edge > last + 1) this.runs.push(last + 1, edge - 1, NOT_ANNOUNCED, 0);
+    this.runs.add(edge, state, cause);
+    this.edges.push(edge);
+    this.lines.push(line);
+    if (time !== "-") this.announce(edge, time);
+  }
+
+  make(edge, line) { // which line of the scenario asked for the edge
+    if (this.makers.length && this.makers.last === line) this.ends.items[this.ends.length - 1] = edge;
+    else [[this.ends, edge], [this.makers, line]].forEach(([numbers, number]) => numbers.push(number));
+  }
+
+  tell(edge, kinds, line) { // what its ports told
+    while (this.ports.length < kinds.length) this.ports.push(new Runs(Uint8Array));
+    kinds.forEach((kind, port) => this.ports[port].add(edge, kind));
+    this.told_edges.push(edge);
+    this.told_lines.push(line);
+  }
+
+  announce(edge, time) { // marks leap seconds, and month ends since the second that was announced before
+    if (time.endsWith(":60Z")) this.marks.push([edge, "leap second"]);
+    if (!this.month || !time.startsWith(this.month)) {
+      this.month = time.slice(0, 7);
+      const is_next = edge === this.before_edge + 1 && this.before.endsWith("T23:59:58Z");
+      if (is_next && time.endsWith("T00:00:00Z")) this.marks.push([edge - 0.5, "deleted second"]);
+      const begins = edge - second_of_month(time);
+      if (this.before_edge < begins && begins <= edge) this.marks.push([begins - 0.5, "month end"]);
+    }
+    this.before_edge = edge;
+    this.before = time;
+  }
+
+  get last() { return Math.max(this.runs.lasts.last, this.told_edges.last); }
+
+  get first() { // the first edge that has a line
+    const begun = [this.edges, this.told_edges].filter(({ length }) => length);
+    return Math.min(...begun.map(({ items }) => items[0]));
+  }
+
+  end(first, last) {
+    const ended = this.runs.lasts.last;
+    if (ended < last) this.runs.push(ended + 1, last, NOT_ANNOUNCED, 0);
+    const { firsts, lasts, kinds: [states, causes] } = this.runs.whole(first);
+    const ports = this.ports.map((port) => {
+      const { kinds: [told], ...edges } = port.whole(first);
+      return { ...edges, states: told };
+    });
+    const names = ["edges", "lines", "told_edges", "told_lines", "ends", "makers"];
+    const numbers = Object.fromEntries(names.map((name) => [name, this[name].whole()]));
+    const marks = this.marks.filter(([at]) => at > first - 0.5);
+    return { reader: this.reader, marks, firsts, lasts, states, causes, ports, ...numbers };
+  }
+}
+
+function second_of_month(time) { // leap seconds come at its end alone
+  const number = (place) => Number(time.slice(place, place + 2));
+  const [days, hours, minutes, seconds] = [8, 11, 14, 17].map(number);
+  return 86400 * (days - 1) + 3600 * hours + 60 * minutes + seconds;
+}
