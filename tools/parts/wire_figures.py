@@ -1,0 +1,227 @@
+"""The pictures of docs/WIRES.md, for tools/wires."""
+from __future__ import annotations
+
+from collections.abc import Iterator
+from dataclasses import dataclass, field
+
+import irig
+import matplotlib
+from irig import Reader
+from matplotlib.axes import Axes
+from matplotlib.figure import Figure
+from matplotlib.patches import Rectangle
+
+matplotlib.rcdefaults()  # a picture is the same whatever the user's own settings are
+matplotlib.rcParams.update({"svg.hashsalt": "irig", "hatch.linewidth": 0.8})
+
+SMALL, NORMAL, LARGE = 8.0, 9.0, 12.0
+BLUE, ORANGE, GREY = "#0072B2", "#E69F00", "#888888"
+ELEMENT_US, SECOND_US, ELEMENTS = 10_000, 1_000_000, 100
+TIME = irig.Second.read("2016-12-31T23:59:57Z")
+Pulse = tuple[int, int]  # when it rises, and its width, in microseconds
+
+
+def frames(count: int) -> list[Pulse]:
+    """The pulses of so many seconds of a line, over the leap second."""
+    pulses, second = [], TIME
+    for number in range(count):
+        pending = "insert" if second.day == TIME.day else None
+        for element, width in enumerate(irig.widths(irig.frame(second, pending=pending))):
+            pulses.append((number * SECOND_US + element * ELEMENT_US, width))
+        second = second.next("insert")
+    return pulses
+
+
+def levels(pulses: list[Pulse], begin: int, end: int) -> tuple[list[float], list[float]]:
+    """A line as corners: times in milliseconds, and levels."""
+    times, heights = [begin / 1000], [0.0]
+    for rise, width in pulses:
+        if begin <= rise < end:
+            times += [rise / 1000] * 2 + [(rise + width) / 1000] * 2
+            heights += [0.0, 1.0, 1.0, 0.0]
+    return [*times, end / 1000], [*heights, 0.0]
+
+
+def plain(axes: Axes) -> None:
+    axes.set_yticks([])
+    for side in ("left", "right", "top"):
+        axes.spines[side].set_visible(False)
+    axes.tick_params(labelsize=SMALL)
+
+
+# ---- what a line carries
+
+
+def draw_stretch(axes: Axes, pulses: list[Pulse], begin: int, end: int) -> None:
+    times, heights = levels(pulses, begin, end)
+    axes.fill_between(times, heights, color=BLUE, alpha=0.25, lw=0)
+    axes.plot(times, heights, color=BLUE, lw=1.2)
+    for rise, width in pulses:
+        if begin <= rise < end:
+            element = rise // ELEMENT_US % ELEMENTS
+            symbol = {8000: "P", 5000: "1", 2000: "0"}[width]
+            middle = (rise + ELEMENT_US / 2) / 1000
+            axes.text(middle, 1.22, symbol, size=NORMAL, ha="center", weight="bold")
+            axes.text(middle, -0.22, str(element), size=SMALL, ha="center", color="#444444")
+    plain(axes)
+    axes.set_xlim(begin / 1000, end / 1000)
+    axes.set_ylim(-0.4, 1.9)
+
+
+def frame_figure() -> Figure:
+    """The first elements of a frame, its last, and the first of the next."""
+    figure = Figure(figsize=(9.0, 2.9))
+    pulses = frames(2)
+    first = figure.add_axes([0.03, 0.22, 0.60, 0.52])
+    draw_stretch(first, pulses, -5000, 120_000)
+    last = figure.add_axes([0.67, 0.22, 0.30, 0.52])
+    draw_stretch(last, pulses, 955_000, 1_030_000)
+    for axes, edge, side in ((first, 0, "left"), (last, 1000, "right")):
+        axes.axvline(edge, color="black", lw=1, ls=(0, (3, 2)))
+        name = "23:59:57" if edge == 0 else "23:59:58"
+        axes.text(edge, 1.62, f" edge: {name} begins ", size=SMALL, ha=side)
+    first.set_xlabel("ms from the edge", size=SMALL)
+    last.set_xlabel("ms", size=SMALL)
+    figure.text(0.03, 0.92, "What a line carries", size=LARGE, weight="bold")
+    figure.text(0.03, 0.84, "a pulse each 10 ms, its leading edge on the 10 ms grid: 2 ms is a 0, 5 ms a 1,"
+                " 8 ms a marker (P); below each its element", size=SMALL, color="#444444")
+    return figure
+
+
+# ---- where a tick belongs
+
+
+def edge_figure() -> Figure:
+    """Three lines apart, round an edge."""
+    figure = Figure(figsize=(9.0, 3.3))
+    axes = figure.add_axes([0.10, 0.17, 0.87, 0.60])
+    apart = (0, 300, 700)
+    for row, late in enumerate(apart):
+        pulses = [(rise + late - SECOND_US, width) for rise, width in frames(2)]
+        times, heights = levels(pulses, -25_000, 25_000)
+        foot = 2.6 - 1.1 * row
+        axes.fill_between(times, foot, [foot + 0.8 * height for height in heights], color=BLUE,
+                          alpha=0.25, lw=0)
+        axes.plot(times, [foot + 0.8 * height for height in heights], color=BLUE, lw=1.2)
+        axes.text(-25.4, foot + 0.4, f"line {row}\n+{late} us", size=SMALL, ha="right", va="center")
+    begin, end = (-ELEMENT_US + 8000 + max(apart)) / 1000, (8000 + min(apart)) / 1000
+    axes.add_patch(Rectangle((begin, 0.2), end - begin, 3.4, color="#009E73", alpha=0.15, lw=0))
+    axes.text((begin + end) / 2, 3.75, "a tick here is right", size=SMALL, ha="center", color="#00664B")
+    for time, name in ((0.0, "the edge"), (5.0, "own clock, only if\nlines do not agree")):
+        axes.axvline(time, ymax=0.83, color="black", lw=1, ls=(0, (3, 2)))
+        axes.text(time + 0.2, 0.02, name, size=SMALL, va="top")
+    axes.text(-6.0, 0.02, "element 99", size=SMALL, ha="center", va="top")
+    axes.text(17.0, 0.02, "element 1", size=SMALL, ha="center", va="top")
+    plain(axes)
+    axes.set_xlim(-25, 25)
+    axes.set_ylim(-0.6, 4.1)
+    axes.set_xlabel("ms from the edge", size=SMALL)
+    figure.text(0.03, 0.92, "Where a tick belongs", size=LARGE, weight="bold")
+    figure.text(0.03, 0.85, "behind the last pulse of each line's frame, and before the first pulse of the next"
+                " has ended on any", size=SMALL, color="#444444")
+    return figure
+
+
+# ---- what a fault does
+
+
+@dataclass
+class Strip:
+    """A line with a fault: what happens, its pulses, and where it is to be marked."""
+
+    name: str
+    pulses: list[Pulse]
+    at: int | None = None
+    places: list[int] = field(default_factory=list)
+    told: list[str] = field(default_factory=list)
+
+    def hear(self, edges: int) -> None:
+        reader = Reader(lock_after=1)
+        waiting = list(self.pulses)
+        for edge in range(1, edges + 1):
+            while waiting and sum(waiting[0]) < edge * SECOND_US:
+                self.places.append(reader.hear(0, *waiting.pop(0)))
+            told = reader.port(0)
+            words = str(told).split()
+            self.told.append("ok" if isinstance(told, irig.Claim) else " ".join(words[2:] or words))
+            reader.idle(edge * SECOND_US)
+            reader.tick()
+
+
+def strips() -> list[Strip]:
+    line = frames(4)
+
+    def changed(at: int, *instead: Pulse) -> list[Pulse]:
+        return [*line[:at], *instead, *line[at + 1 :]]
+
+    at = 134
+    rise, width = line[at]
+    last, _ = line[199]
+    first, _ = line[200]
+    return [
+        Strip("nothing", line),
+        Strip("a pulse is lost", changed(at), rise),
+        Strip("it is another symbol", changed(at, (rise, 7000 - width if width < 5000 else 2000)), rise),
+        Strip("it is 8 ms wide", changed(at, (rise, 8000)), rise),
+        Strip("it is cut in two", changed(at, (rise, 800), (rise + 1000, width - 1000)), rise),
+        Strip("a glitch behind it", [*line[: at + 1], (rise + 7000, 20), *line[at + 1 :]], rise + 7000),
+        Strip("it is 1.5 ms late", changed(at, (rise + 1500, width)), rise),
+        Strip("the last pulse is lost", changed(199), last),
+        Strip("the first pulse is lost", changed(200), first),
+        Strip("the cable is out for 0.8 s", [*line[:150], *line[230:]], line[150][0]),
+        Strip("and is plugged in 3 ms late",
+              [*line[:150], *((time + 3000, wide) for time, wide in line[230:])], line[150][0]),
+    ]
+
+
+def runs(strip: Strip) -> Iterator[tuple[bool, float, float]]:
+    """Pulses in a row that have places or have none: from when to when, in seconds."""
+    begin, end, is_counted = 0, 0, True
+    for place, (rise, width) in zip(strip.places, strip.pulses):
+        if rise > end + ELEMENT_US or (place > 0) != is_counted:
+            if end > begin:
+                yield is_counted, begin / SECOND_US, end / SECOND_US
+            begin, is_counted = rise, place > 0
+        end = rise + width
+    yield is_counted, begin / SECOND_US, end / SECOND_US
+
+
+def draw_strip(axes: Axes, strip: Strip, foot: float) -> None:
+    for is_counted, begin, end in runs(strip):
+        colour, height = (BLUE, 0.5) if is_counted else (ORANGE, 0.25)
+        axes.add_patch(Rectangle((begin, foot), end - begin, height, color=colour, lw=0))
+    if strip.at is not None:
+        axes.plot([strip.at / SECOND_US], [foot - 0.1], "^", ms=5, color="black")
+    for edge, told in enumerate(strip.told, 1):
+        is_right = told == "ok"
+        axes.text(edge - 0.02, foot + 0.66, told, size=SMALL, ha="right", va="center",
+                  color="#00664B" if is_right else "#B00020", weight="normal" if is_right else "bold")
+    axes.text(-0.03, foot + 0.3, strip.name, size=SMALL, ha="right", va="center")
+
+
+def faults_figure() -> Figure:
+    edges, rows = 4, strips()
+    figure = Figure(figsize=(9.0, 0.42 * len(rows) + 1.5))
+    height = figure.get_size_inches()[1]
+    axes = figure.add_axes([0.20, 0.55 / height, 0.77, 1 - 1.35 / height])
+    for row, strip in enumerate(rows):
+        strip.hear(edges)
+        draw_strip(axes, strip, float(len(rows) - 1 - row))
+    for edge in range(edges + 1):
+        axes.axvline(edge, color=GREY, lw=0.8, ls=(0, (3, 2)), zorder=0)
+    plain(axes)
+    axes.set_xlim(0, edges)
+    axes.set_ylim(-0.25, len(rows))
+    axes.set_xticks(range(edges + 1))
+    axes.set_xlabel("seconds; at each edge stands what the port then tells", size=SMALL)
+    figure.text(0.03, 1 - 0.3 / height, "What a fault does", size=LARGE, weight="bold")
+    figure.text(0.03, 1 - 0.55 / height, "blue bar: pulses that have a place in their frame; thin orange bar:"
+                " out of step; the triangle is the fault", size=SMALL, color="#444444")
+    return figure
+
+
+def figures() -> Iterator[tuple[str, Figure]]:
+    """Each picture with its name."""
+    yield "frame", frame_figure()
+    yield "edge", edge_figure()
+    yield "faults", faults_figure()
