@@ -70,6 +70,7 @@ impl<P: Port> Plant<P> {
         Ok(())
     }
 
+    #[inline(always)]
     pub(crate) fn carry(&mut self, g: u8, r: u8) -> Result<(), PlantFault>
         ensures { Does self.old (Event.Carry g r) self.new result }
     {

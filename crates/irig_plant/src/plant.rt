@@ -129,8 +129,10 @@ impl<P: Port> Plant<P> {
         Ok(ticked)
     }
 
+    // It stands in the loop over a second's events, with carries, which are the most of them.
     /// Takes one event, or answers the first refusal that applies and changes nothing. Refusals
     /// come in the order of [`PlantFault`]. Only a tick asks for memory, for its entry.
+    #[inline(always)]
     pub fn apply(&mut self, event: &Event) -> Result<(), PlantFault>
         ensures accepted { OnOk result (Accepts self.old event.now) }
         ensures stands { OnOk result (Follows self.old event.now self.new) }

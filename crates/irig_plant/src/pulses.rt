@@ -84,6 +84,7 @@ impl<P: Port> Plant<P> {
 
     // What a generator sends comes to a port at once, if that is empty, from a port that heard it.
     // The pulses are so taken once, and not by each reader. Answers whether the port was empty.
+    #[inline(always)]
     pub(crate) fn carry_cached_port(&mut self, g: u8, r: u8) -> bool
         requires generator { g < vec_len self.old.generators }
         requires reader { r < vec_len self.old.readers }
@@ -116,6 +117,7 @@ impl<P: Port> Plant<P> {
     }
 
     // A copy of the first generator's cached port, if this one sends the same.
+    #[inline(never)]
     fn first_cached_port(&mut self, g: u8) -> Option<P>
         requires { g < vec_len self.old.generators }
         ensures same { Keeps self.old self.new }
@@ -136,6 +138,7 @@ impl<P: Port> Plant<P> {
     }
 
     // A port that heard what a generator now sends.
+    #[inline(never)]
     fn new_cached_port(&self, g: u8) -> P
         requires { g < vec_len self.now.generators }
         ensures { ForHistory self.now (λ h.

@@ -152,6 +152,7 @@ impl<P: Port> Reader<P> {
     /// All the pulses that another port heard, at one of the reader's ports, if that is empty: it
     /// takes them over at once. Answers whether it was; if not, nothing happens. The other port
     /// still tells what it did.
+    #[inline(always)]
     pub fn take_over(&mut self, port: u8, heard: &mut P) -> bool
         requires { port < ports_in self.old.redundancy }
         ensures answer { ForReaderHistory self.old (λ h.
@@ -176,6 +177,7 @@ impl<P: Port> Reader<P> {
     /// One edge: the vote over what the ports tell, and what the rule makes of it. The ports are
     /// then empty. What is announced, and what any port claims, is a [`valid`](irig_time::valid)
     /// second.
+    #[inline(never)]
     pub fn tick(&mut self) -> Ticked
         ensures told { ForReaderHistory self.old (λ h. result.told ≡ told_at_tick h) }
         ensures report { ForReaderHistory self.old (λ h. result.report ≡ report_at_tick h) }
