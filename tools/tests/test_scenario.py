@@ -26,6 +26,9 @@ class Command(unittest.TestCase):
             "restart": "--reader relay,3,60 seconds:5 restart:relay seconds:5",
             "one_liar": "--start 2017-06-30T23:59:48Z seconds:4 fault:1:skew:5 seconds:4"
             " fault:1:false_pending:insert seconds:8",
+            "ignored_leap": "--start 2016-12-31T23:59:50Z --leap 2016-12-31 fault:1:no_pending"
+            " until:2016-12-31T23:59:60Z fault:1:skew:1 seconds:5",
+            "gps_time": "--start 2016-12-31T23:59:50Z --leap 2016-12-31 fault:2:skew:18 seconds:14",
             "month_end_guard": "--start 2017-03-31T23:58:58Z seconds:3 dark:61 seconds:4",
         }
         for name, words in made.items():
@@ -54,7 +57,7 @@ class Command(unittest.TestCase):
         self.assertEqual(len(made.splitlines()), 10)
 
     def test_help_of_all_tools_begins_with_an_example(self) -> None:
-        for tool in ("capture", "gallery", "leaps", "plot", "study", "view", "wave", "wires"):
+        for tool in ("capture", "gallery", "leaps", "plot", "study", "view", "wave"):
             with self.subTest(tool):
                 words = [ROOT / "tools" / tool, "--help"]
                 ran = subprocess.run(words, capture_output=True, text=True, check=True)
