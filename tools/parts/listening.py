@@ -8,7 +8,10 @@ from functools import lru_cache, partial
 from itertools import product
 from typing import Callable, Dict, Iterable, Iterator, List, Optional, Sequence, Set, Tuple
 
-from irig import Claim, Fault, Reader, Silence, Sync, Timekeeper, Told, classify, decode
+from irig import (
+    Claim, Coded, Control, Fault, Reader, Silence, Sync, Timekeeper, Told, claim, classify, decode,
+)
+from irig.words import Sense
 
 from parts.recordings import END, Change
 
@@ -148,6 +151,7 @@ class Line:
         self.changes = 0
         self.decoded = 0  # frames that are of a time
         self.bare = 0  # those of them whose year and control bits are all 0
+        self.shifted: Optional[Coded] = None  # the first of them that has an offset
         self._ear = ear
 
     @property
@@ -189,6 +193,8 @@ class Line:
             return
         self.decoded += 1
         self.bare += coded.year == 0 and coded.control == 0
+        if self.shifted is None and Control.unpack(coded.control).offset_half_hours:
+            self.shifted = coded
 
     def heard(self, now: int) -> Tuple[List[int], Told]:
         """The widths that its ports have at a tick, and what they tell: the frame that a timekeeper
@@ -266,8 +272,8 @@ class Device:
 # ---- what a line is
 
 
-def report(line: Line) -> Iterator[str]:
-    """What was found on a line."""
+def report(line: Line, sense: Sense) -> Iterator[str]:
+    """What was found on a line, whose offset is read by this sense."""
     view = line.view
     said = f"{view.pulses} pulses, {view.frames} frames, {view.out_of_step} pulses out of step"
     yield f"{line.name}: {said}{'' if view.high else ', inverted'}"
@@ -280,9 +286,27 @@ def report(line: Line) -> Iterator[str]:
         ppm = round((view.second / SECOND_US - 1) * 1e6, 1)
         word = "shorter" if ppm < 0 else "longer"
         yield f"    a second is {abs(ppm):.1f} ppm {word} than one of the recorder"
+    if line.shifted:
+        yield f"    {_offset(line.shifted, sense)}"
     oddity = _oddity(line)
     if oddity:
         yield f"    {oddity}"
+
+
+def _offset(coded: Coded, sense: Sense) -> str:
+    """What a frame with an offset says by this sense, and by the other one."""
+    half_hours = Control.unpack(coded.control).offset_half_hours
+    other: Sense = "subtract" if sense == "add" else "add"
+    offset = f"{'-' * (half_hours < 0)}{abs(half_hours) // 2}:{half_hours % 2 * 30:02}"
+    read = f"read by {sense!r} as {_second(coded, sense)}"
+    return f"it sends an offset of {offset}, {read}; by {other!r} it would be {_second(coded, other)}"
+
+
+def _second(coded: Coded, sense: Sense) -> str:
+    try:
+        return str(claim(coded, sense=sense).second)
+    except Fault as fault:
+        return f"fault {fault}"
 
 
 def _oddity(line: Line) -> Optional[str]:

@@ -677,6 +677,20 @@ class Lines(unittest.TestCase):
         said = self.said_of(wave_of("leap_inserted").line(1, cleared))
         self.assertRegex(said[-1], "^its year and control bits are all 0, as of a clock without ")
 
+    def test_an_offset_is_read_by_both_senses(self) -> None:
+        """Paris and India; London has none before 01:00:00."""
+        said = captured_wave(wave_of("zone_change"))[1]
+        said += captured_wave(wave_of("zone_change"), "--channels=G2", "--sense=subtract")[1]
+        for offset, sense, read, other, would in (
+            ("-1:00", "add", "00:59:54", "subtract", "02:59:54"),
+            ("-1:00", "add", "01:00:00", "subtract", "03:00:00"),
+            ("-5:30", "add", "00:59:54", "subtract", "11:59:54"),
+            ("-5:30", "subtract", "11:59:54", "add", "00:59:54"),
+        ):
+            read, would = f"{sense!r} as 2016-03-27T{read}Z", f"{other!r} it would be 2016-03-27T{would}Z"
+            self.assertIn(f"    it sends an offset of {offset}, read by {read}; by {would}\n", said)
+        self.assertEqual(said.count(" offset "), 4)
+
     def test_a_good_line_is_not_named(self) -> None:
         self.assertEqual(self.said_of(wave_of("leap_inserted")), [
             "G1: 1400 pulses, 14 frames, 0 pulses out of step",
