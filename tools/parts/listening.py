@@ -152,6 +152,8 @@ class Line:
         self.decoded = 0  # frames that are of a time
         self.bare = 0  # those of them whose year and control bits are all 0
         self.shifted: Optional[Coded] = None  # the first of them that has an offset
+        self.ahead: Counter[int] = Counter()  # ticks at which it was so many seconds ahead of most
+        self.since: Dict[int, Tuple[int, int]] = {}  # the first of them, and its time
         self._ear = ear
 
     @property
@@ -209,11 +211,12 @@ class Line:
 @dataclass(frozen=True)
 class Tick:
     """A second begins: at this time of the recording, by a claim on which ports agree or by the
-    counter; and the widths that each port heard."""
+    counter; how far from it their frames end, and the widths that each port heard."""
 
     edge: int
     claim: Optional[Claim]
     agreed: Tuple[int, ...]
+    away: float
     heard: List[List[int]]
 
 
@@ -263,9 +266,15 @@ class Device:
         claim = most if isinstance(most, Claim) and 2 * count > len(heard) else None
         if claim and not agreed:  # their frames end too far apart
             heard, claim = [([], told) if told == claim else (of, told) for of, told in heard], None
-        self.last = Tick(edge, claim, agreed, [widths for widths, _ in heard])
+        away = max((abs(self.ports[port].frame_end - edge) for port in agreed), default=0.0)
+        self.last = Tick(edge, claim, agreed, away, [widths for widths, _ in heard])
         self.first = self.first or self.last
         self.count += 1
+        for line, (_, told) in dict(zip(self.ports, heard)).items():
+            if claim and isinstance(told, Claim) and told.second != claim.second:
+                seconds = told.second - claim.second
+                line.ahead[seconds] += 1
+                line.since.setdefault(seconds, (self.count, edge))
         return self.last
 
 
