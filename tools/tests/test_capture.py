@@ -780,7 +780,7 @@ class Words(InAFolder):
         self.assertIn("no channel 'G7'; it has G0, G1, G2", self.refused(path, "--channels=G7"))
         two = "one, three or five of its channels, as two cannot outvote each other: G0, G1, G2"
         self.assertIn(two, self.refused(path, "--channels=G0,G1"))
-        self.assertIn("is not NAME,LOCK_AFTER,HOLDOVER", self.refused(path, "--reader=relay"))
+        self.assertIn("is not NAME[,LOCK_AFTER[,HOLDOVER]]", self.refused(path, "--reader=relay,x"))
         self.assertIn("is no second served", self.refused(path, "--start=2016"))
         for leap in "2016-12-31:never", "2017-01-01":
             self.assertIn("is not DAY or DAY:delete", self.refused(path, f"--leap={leap}"))
