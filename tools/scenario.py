@@ -8,58 +8,70 @@ from __future__ import annotations
 
 import argparse
 import sys
+from typing import Dict, List, Union
 
-from parts import package  # noqa: F401
 from parts.command import Command, fail
+from parts.plant import count, leap, one_of, reader
 
 from irig.scenarios import (  # noqa: F401; more than this needs, for scripts that take it from here
     Change, Damage, Generator, Leap, Lost, Raw, Reader, Replay, Scenario, Table, Timeline,
 )
 
-# How many parts a word has at least, behind its name.
-NEEDED = {"until": 1, "seconds": 1, "dark": 1, "lose": 1, "fault": 2, "repair": 1, "restart": 1}
+# How many parts stand behind a word's name, at least and at most; a time has three.
+PARTS = {"seconds": (1, 1), "until": (3, 3), "dark": (1, 6), "lose": (1, 3), "fault": (2, 3),
+         "repair": (1, 1), "restart": (1, 1)}
+# The kinds of a fault, each with the key of its value, if it has one.
+KINDS = {"silent": "", "stuck": "", "skew": "by", "no_pending": "", "false_pending": "leap",
+         "quality": "q", "wrong_offset": "by"}
 
 
-def _whole(text: str) -> int:
-    """A whole number, in the words of the program's own messages."""
-    try:
-        return int(text)
-    except ValueError:
-        raise ValueError(f"{text!r} is no whole number") from None
+def _value(kind: str, given: List[str]) -> Dict[str, Union[int, str]]:
+    """The value of a fault, by its key."""
+    key = KINDS[one_of(kind, KINDS)]
+    if len(given) != bool(key):
+        raise ValueError(f"{kind} takes {'a' if key else 'no'} value")
+    if key == "leap":
+        return {key: one_of(given[0], ("insert", "delete"))}
+    is_minus = key == "by" and given[0].startswith("-")
+    return {key: -count(given[0][1:]) if is_minus else count(given[0])} if key else {}
 
 
 def _step(scenario: Scenario, word: str) -> None:
     """Does what a word of the command line says."""
     name, *parts = word.split(":")
-    if len(parts) < NEEDED.get(name, 0):
-        raise ValueError("a part is missing; see scenario.py --help")
+    least, most = PARTS[one_of(name, PARTS)]
+    if not least <= len(parts) <= most:
+        missing = "missing" if len(parts) < least else "too much"
+        raise ValueError(f"a part is {missing}; see scenario.py --help")
+
+    def numbers(texts: List[str]) -> List[int]:
+        return [int(one_of(text, range(scenario.generators))) for text in texts]
+
     if name == "until":
         scenario.until(":".join(parts))
     elif name == "seconds":
-        scenario.seconds(_whole(":".join(parts)))
+        scenario.seconds(count(parts[0]))
     elif name == "dark":
-        scenario.dark(_whole(parts[0]), [_whole(part) for part in parts[1:]] or None)
+        scenario.dark(count(parts[0]), numbers(parts[1:]) or None)
     elif name == "lose":
-        generators = [_whole(part) for part in parts[1].split(",")] if len(parts) > 1 else None
-        scenario.lose(_whole(parts[0]), generators, parts[2].split(",") if len(parts) > 2 else None)
+        seconds, lost, deaf = (*parts, "", "")[:3]
+        generators = numbers(lost.split(",")) if lost else None
+        readers = [one_of(reader, scenario.readers) for reader in deaf.split(",")] if deaf else None
+        scenario.lose(count(seconds), generators, readers)
     elif name == "fault":
-        keys = {"skew": "by", "wrong_offset": "by", "quality": "q", "false_pending": "leap"}
-        generator, kind, *rest = parts
-        value = [part if kind == "false_pending" else _whole(part) for part in rest]
-        scenario.fault(_whole(generator), kind, **dict(zip([keys.get(kind, "")], value)))
+        generator, kind, *given = parts
+        scenario.fault(*numbers([generator]), kind, **_value(kind, given))
     elif name == "repair":
-        scenario.repair(_whole(parts[0]))
-    elif name == "restart":
-        scenario.restart(parts[0])
+        scenario.repair(*numbers(parts))
     else:
-        raise ValueError("it is none of seconds, until, dark, lose, fault, repair, restart")
+        scenario.restart(one_of(parts[0], scenario.readers))
 
 
 def _take_step(scenario: Scenario, word: str) -> None:
     """Does what a word says, or names the word that says nothing."""
     try:
         _step(scenario, word)
-    except (ValueError, TypeError) as error:
+    except ValueError as error:
         raise ValueError(f"{word}: {error}") from None
 
 
@@ -79,9 +91,9 @@ def _arguments() -> argparse.Namespace:
     parser = Command("scenario.py", example, f"Prints a scenario of irig.\n{STEPS}")
     parser.add_argument("--start", default="2016-06-15T12:00:00Z", help="the UTC second of edge 0")
     parser.add_argument("--generators", type=int, choices=(3, 5), default=3)
-    parser.add_argument("--leap", action="append", default=[], metavar="DAY[:KIND]",
+    parser.add_argument("--leap", action="append", default=[], metavar="DAY[:KIND]", type=leap,
                         help="a leap second at the end of a day, insert or delete")
-    parser.add_argument("--reader", action="append", default=[], metavar="NAME[,LOCK_AFTER[,HOLDOVER]]",
+    parser.add_argument("--reader", action="append", metavar="NAME[,LOCK_AFTER[,HOLDOVER]]", type=reader,
                         help="a reader; without one it is relay,2,3600")
     parser.add_argument("steps", nargs="*", metavar="STEP")
     return parser.parse_args()
@@ -89,17 +101,12 @@ def _arguments() -> argparse.Namespace:
 
 def main() -> None:
     words = _arguments()
-    readers = [text.split(",") for text in words.reader or ["relay"]]
     try:
-        scenario = Scenario(
-            words.start,
-            [Reader(name, *map(_whole, numbers)) for name, *numbers in readers],
-            words.generators,
-            [Leap(*leap.split(":")) for leap in words.leap],
-        )
+        readers = words.reader or [Reader("relay")]
+        scenario = Scenario(words.start, readers, words.generators, words.leap)
         for word in words.steps:
             _take_step(scenario, word)
-    except (ValueError, TypeError) as error:
+    except ValueError as error:
         fail("scenario.py", error)
     sys.stdout.write(scenario.text())
 

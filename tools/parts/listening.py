@@ -8,7 +8,10 @@ from functools import lru_cache, partial
 from itertools import product
 from typing import Callable, Dict, Iterable, Iterator, List, Optional, Sequence, Set, Tuple
 
-from irig import Claim, Fault, Reader, Silence, Sync, Timekeeper, Told, classify, decode
+from irig import (
+    Claim, Coded, Control, Fault, Reader, Silence, Sync, Timekeeper, Told, claim, classify, decode,
+)
+from irig.words import Sense
 
 from parts.recordings import END, Change
 
@@ -148,6 +151,9 @@ class Line:
         self.changes = 0
         self.decoded = 0  # frames that are of a time
         self.bare = 0  # those of them whose year and control bits are all 0
+        self.shifted: Optional[Coded] = None  # the first of them that has an offset
+        self.ahead: Counter[int] = Counter()  # ticks at which it was so many seconds ahead of most
+        self.since: Dict[int, Tuple[int, int]] = {}  # the first of them, and its time
         self._ear = ear
 
     @property
@@ -189,6 +195,8 @@ class Line:
             return
         self.decoded += 1
         self.bare += coded.year == 0 and coded.control == 0
+        if self.shifted is None and Control.unpack(coded.control).offset_half_hours:
+            self.shifted = coded
 
     def heard(self, now: int) -> Tuple[List[int], Told]:
         """The widths that its ports have at a tick, and what they tell: the frame that a timekeeper
@@ -203,11 +211,12 @@ class Line:
 @dataclass(frozen=True)
 class Tick:
     """A second begins: at this time of the recording, by a claim on which ports agree or by the
-    counter; and the widths that each port heard."""
+    counter; how far from it their frames end, and the widths that each port heard."""
 
     edge: int
     claim: Optional[Claim]
     agreed: Tuple[int, ...]
+    away: float
     heard: List[List[int]]
 
 
@@ -257,17 +266,23 @@ class Device:
         claim = most if isinstance(most, Claim) and 2 * count > len(heard) else None
         if claim and not agreed:  # their frames end too far apart
             heard, claim = [([], told) if told == claim else (of, told) for of, told in heard], None
-        self.last = Tick(edge, claim, agreed, [widths for widths, _ in heard])
+        away = max((abs(self.ports[port].frame_end - edge) for port in agreed), default=0.0)
+        self.last = Tick(edge, claim, agreed, away, [widths for widths, _ in heard])
         self.first = self.first or self.last
         self.count += 1
+        for line, (_, told) in dict(zip(self.ports, heard)).items():
+            if claim and isinstance(told, Claim) and told.second != claim.second:
+                seconds = told.second - claim.second
+                line.ahead[seconds] += 1
+                line.since.setdefault(seconds, (self.count, edge))
         return self.last
 
 
 # ---- what a line is
 
 
-def report(line: Line) -> Iterator[str]:
-    """What was found on a line."""
+def report(line: Line, sense: Sense) -> Iterator[str]:
+    """What was found on a line, whose offset is read by this sense."""
     view = line.view
     said = f"{view.pulses} pulses, {view.frames} frames, {view.out_of_step} pulses out of step"
     yield f"{line.name}: {said}{'' if view.high else ', inverted'}"
@@ -280,9 +295,27 @@ def report(line: Line) -> Iterator[str]:
         ppm = round((view.second / SECOND_US - 1) * 1e6, 1)
         word = "shorter" if ppm < 0 else "longer"
         yield f"    a second is {abs(ppm):.1f} ppm {word} than one of the recorder"
+    if line.shifted:
+        yield f"    {_offset(line.shifted, sense)}"
     oddity = _oddity(line)
     if oddity:
         yield f"    {oddity}"
+
+
+def _offset(coded: Coded, sense: Sense) -> str:
+    """What a frame with an offset says by this sense, and by the other one."""
+    half_hours = Control.unpack(coded.control).offset_half_hours
+    other: Sense = "subtract" if sense == "add" else "add"
+    offset = f"{'-' * (half_hours < 0)}{abs(half_hours) // 2}:{half_hours % 2 * 30:02}"
+    read = f"read by {sense!r} as {_second(coded, sense)}"
+    return f"it sends an offset of {offset}, {read}; by {other!r} it would be {_second(coded, other)}"
+
+
+def _second(coded: Coded, sense: Sense) -> str:
+    try:
+        return str(claim(coded, sense=sense).second)
+    except Fault as fault:
+        return f"fault {fault}"
 
 
 def _oddity(line: Line) -> Optional[str]:

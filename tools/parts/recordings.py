@@ -190,6 +190,8 @@ def _head_of(path: Path) -> _Head:
     if not has_times and rate is None and cells != PULSE:
         raise ValueError("its first column is no time, and no line says '; Samplerate: ..'")
     names = cells[1:] if has_times else cells
+    if not names:
+        raise ValueError("no ',' stands between its columns; export it with commas")
     if set(names) in ({"logic"}, {""}):  # sigrok's word for each, or none; the names stand above
         names = channels if len(channels) == len(names) else [f"D{of}" for of in range(len(names))]
     return _Head(names, number, has_times, _unit_of(cells[0]), rate)

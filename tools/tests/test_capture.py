@@ -353,11 +353,15 @@ class Forms(InAFolder):
         self.assertEqual([one["g"] for one in heard], [0, 1, 2])
         self.assertEqual(len({str(one["widths"]) for one in heard}), 1)
         self.assertEqual(said.count(" pulses, "), 1)
+        self.assertIn("G1 is on 3 of 3 ports: that is no vote of 3 clocks\n", said)
         self.assertIn("5 relay - unlocked jump", log_of(text))
 
     def test_channels_in_another_order(self) -> None:
-        text, _ = captured_wave(wave_of("one_liar"), "--channels=G1,G0,G2")
+        text, said = captured_wave(wave_of("one_liar"), "--channels=G1,G0,G2")
         self.assertIn(" 5 relay 2017-06-30T23:59:57Z ok ok", log_of(text))
+        self.assertNotIn(" no vote ", said)
+        _, said = captured_wave(wave_of("one_liar"), "--channels=G1,G0,G1")
+        self.assertEqual(said.split("\n")[0], "G1 is on 2 of 3 ports: that is no vote of 3 clocks")
 
 
 class Recorders(unittest.TestCase):
@@ -405,7 +409,9 @@ class Recorders(unittest.TestCase):
                 lambda change: [(change[0] * parts // 1_000_000, *change[1:])]
             )
             lines = replace(lines, end=lines.end * parts // 1_000_000)
-            self.assertIn(f"a second is {said_so} than one of the recorder", self.alike(lines))
+            said = self.alike(lines)
+            self.assertIn(f"a second is {said_so} than one of the recorder", said)
+            self.assertIn("0.000 s of the recording is 2016-12-31T23:59:49.950Z, by 3 of 3", said)
 
     def test_a_clock_that_mends_itself_between_frames(self) -> None:
         """Its pulses are 10 ms apart, but 50 us more lie between two frames: 50 in a million."""
@@ -429,7 +435,9 @@ class Recorders(unittest.TestCase):
         lines = wave_of("leap_inserted")
         lines = lines.of(lambda change: [(change[0] + 350 * change[1], *change[1:])])
         when = "tick 1 is at 1.050 s of the recording, tick 14 at 14.050 s"
-        self.assertIn(f"14 ticks: {when}; lines are up to 700 us apart\n", self.alike(lines))
+        said = self.alike(lines)
+        self.assertIn(f"14 ticks: {when}; lines are up to 700 us apart\n", said)
+        self.assertIn(" is 2016-12-31T23:59:49.950Z, by 3 of 3 lines, within 350 us\n", said)
 
     def test_a_pause_that_the_clock_does_not_show(self) -> None:
         """Half a frame, and the other half when a clock of 32 bits has come round."""
@@ -597,7 +605,9 @@ class Lines(unittest.TestCase):
         log = [line.split(" ", 2)[2] for line in log_of(text) if " locked" in line]
         self.assertEqual(log, wanted[3:])
         first = "2016-12-31T23:59:53Z"
-        self.assertIn(f"start {first}: G0, G1, G2 told {first} at tick 1\n", said)
+        ends = "that second ends at tick 1, where 2016-12-31T23:59:54Z begins"
+        zero = "0.000 s of the recording is 2016-12-31T23:59:52.304Z, by 3 of 3 lines, within 0 us"
+        self.assertIn(f"start {first}: by G0, G1, G2 {ends}\n{zero}\n", said)
 
     def test_ends_in_the_middle(self) -> None:
         lines = wave_of("leap_inserted")
@@ -633,6 +643,21 @@ class Lines(unittest.TestCase):
         self.assertEqual(log.count(" 5 relay ok fault:1:Short:50 ok"), 1)
         self.assertEqual(log_of(captured_wave(lines.inverted(1))[0]), log)
 
+    def test_a_line_that_stays_off(self) -> None:
+        """GPS time is 17 s ahead before 23:59:60, and 18 from it on: 10 frames, and 4. One frame that is
+        off is no such line."""
+        for name, more in (
+            ("gps_time", "G2 differs from most ports by +17 s in 10 frames; the first ended at tick 1, 1.050 s"),
+            ("ignored_leap", "G1 differs from most ports by +1 s in 5 frames; the first ended at tick 11, 11.050 s"),
+        ):
+            said = captured_wave(wave_of(name))[1]
+            self.assertEqual([line for line in said.splitlines() if " differs " in line], [more])
+        text = ONE_CLOCK_AHEAD.replace('"n":3', '"n":1')
+        lines = wave_of_seconds(3, list(waves.seconds_of(text.splitlines())))
+        text, said = captured_wave(lines)
+        self.assertIn(" 5 relay ok 2026-11-24T09:30:22Z ok", log_of(text))
+        self.assertNotIn(" differs ", said)
+
     def test_another_code(self) -> None:
         pulses = range(50_000, 14_000_000, 1_000)  # as of IRIG-A
         said = self.said_of(self.replaced(
@@ -664,18 +689,43 @@ class Lines(unittest.TestCase):
         self.assertEqual(said[0], "G1: 1400 pulses, 0 frames, 1400 pulses out of step")
         self.assertEqual(said[-1], "no frame begins: never do two markers follow each other")
 
-    def test_without_the_bits_of_ieee_1344(self) -> None:
-        bare = {element for element in (*range(50, 59), *range(60, 69), *range(70, 79))}
+    @staticmethod
+    def cleared(first: int, end: int) -> Callable[[Change], list[Change]]:
+        """The ones at these elements are zeros."""
 
-        def cleared(change: Change) -> list[Change]:
+        def changed(change: Change) -> list[Change]:
             time, line, level = change
             element = (time - waves.FIRST_EDGE_US) % waves.SECOND_US // waves.ELEMENT_US
             width = (time - waves.FIRST_EDGE_US) % waves.ELEMENT_US
-            is_one = level == 0 and element in bare and width == 5_000
+            is_one = level == 0 and first <= element < end and width == 5_000
             return [(time - 3_000, line, 0) if is_one else change]
 
-        said = self.said_of(wave_of("leap_inserted").line(1, cleared))
+        return changed
+
+    def test_without_the_bits_of_ieee_1344(self) -> None:
+        said = self.said_of(wave_of("leap_inserted").line(1, self.cleared(50, 79)))
         self.assertRegex(said[-1], "^its year and control bits are all 0, as of a clock without ")
+
+    def test_without_straight_binary_seconds(self) -> None:
+        lines = wave_of("plain_minute").of(self.cleared(80, 98))
+        reason = "at last fault 18 Sbs; --sbs=ignore reads clocks without straight binary seconds$"
+        with self.assertRaisesRegex(ValueError, reason):
+            captured_wave(lines)
+        self.assertEqual(log_of(captured_wave(lines, "--sbs=ignore")[0]), wanted_of("plain_minute"))
+
+    def test_an_offset_is_read_by_both_senses(self) -> None:
+        """Paris and India; London has none before 01:00:00."""
+        said = captured_wave(wave_of("zone_change"))[1]
+        said += captured_wave(wave_of("zone_change"), "--channels=G2", "--sense=subtract")[1]
+        for offset, sense, read, other, would in (
+            ("-1:00", "add", "00:59:54", "subtract", "02:59:54"),
+            ("-1:00", "add", "01:00:00", "subtract", "03:00:00"),
+            ("-5:30", "add", "00:59:54", "subtract", "11:59:54"),
+            ("-5:30", "subtract", "11:59:54", "add", "00:59:54"),
+        ):
+            read, would = f"{sense!r} as 2016-03-27T{read}Z", f"{other!r} it would be 2016-03-27T{would}Z"
+            self.assertIn(f"    it sends an offset of {offset}, read by {read}; by {would}\n", said)
+        self.assertEqual(said.count(" offset "), 4)
 
     def test_a_good_line_is_not_named(self) -> None:
         self.assertEqual(self.said_of(wave_of("leap_inserted")), [
@@ -710,6 +760,7 @@ class Words(InAFolder):
             ("a.sr", "no zip", "sigrok-cli "),  # is missing, or does not read it
             ("a.csv", "", "it has no line with the names of its columns"),
             ("a.csv", "a,b,c\n0,0,0\n", "its first column is no time"),
+            ("a.csv", "Time [s];a\n0,0;1\n", "no ',' stands between its columns"),
             ("a.csv", "Time [days],a\n0,0\n", "'days' is no unit of times"),
             ("a.csv", "Time [s],a\n0,0\n0.1,2.7\n", "'2.7' is no level, 0 or 1"),
             ("a.csv", "Time [s],a,b,c\n0,0\n", "its row 1 has fewer columns than names"),
@@ -727,10 +778,12 @@ class Words(InAFolder):
         path = self.folder / "lines.vcd"
         as_dump(wave_of("plain_minute"), path)
         self.assertIn("no channel 'G7'; it has G0, G1, G2", self.refused(path, "--channels=G7"))
-        self.assertIn("one, three or five of its", self.refused(path, "--channels=G0,G1"))
-        self.assertIn("is not NAME,LOCK_AFTER,HOLDOVER", self.refused(path, "--reader=relay"))
+        two = "one, three or five of its channels, as two cannot outvote each other: G0, G1, G2"
+        self.assertIn(two, self.refused(path, "--channels=G0,G1"))
+        self.assertIn("is not NAME[,LOCK_AFTER[,HOLDOVER]]", self.refused(path, "--reader=relay,x"))
         self.assertIn("is no second served", self.refused(path, "--start=2016"))
-        self.assertIn("is not DAY or DAY:delete", self.refused(path, "--leap=2016-12-31:never"))
+        for leap in "2016-12-31:never", "2017-01-01":
+            self.assertIn("is not DAY or DAY:delete", self.refused(path, f"--leap={leap}"))
         self.assertIn("No such file", self.refused(self.folder / "none.vcd"))
 
     def test_without_the_libraries(self) -> None:
@@ -756,7 +809,7 @@ class Words(InAFolder):
         self.assertIn("a.sr: sigrok-cli is missing, which reads it", ran.stderr)
 
     def test_what_ports_tell_that_claim_nothing(self) -> None:
-        with self.assertRaisesRegex(ValueError, "millisecond; at last fault 17 Parity$"):
+        with self.assertRaisesRegex(ValueError, "millisecond; at last fault 17 Parity; --parity=odd"):
             captured_wave(wave_of("odd_parity_and_subtract"))
 
     def test_frames_that_claim_nothing_at_first(self) -> None:
@@ -768,12 +821,13 @@ class Words(InAFolder):
             return [(time - time % waves.ELEMENT_US + 9_700, line, 0) if is_bad else change]
 
         lines, leap = wave_of("leap_inserted").of(damaged), {"day": "2016-12-31", "kind": "insert"}
-        for words, leaps in ([], []), (["--leap=2016-12-31"], [leap]):
+        for words, leaps, zero in ([], [], "48.950"), (["--leap=2016-12-31"], [leap], "49.950"):
             text, said = captured_wave(lines, *words)
+            self.assertIn(f"0.000 s of the recording is 2016-12-31T23:59:{zero}Z, by ", said)
             self.assertEqual(json.loads(text.split("\n")[0])["leaps"], leaps)
             self.assertEqual(said.count("leap 2016-12-31 insert: by --leap\n"), len(leaps))
         self.assertIn("3 ticks: tick 1 is at 12.050 s of the recording", said)
-        self.assertIn(": G0, G1, G2 told 2017-01-01T00:00:00Z at tick 1\n", said)
+        self.assertIn("start 2017-01-01T00:00:00Z: by G0, G1, G2 that second ends at tick 1", said)
 
 
 if __name__ == "__main__":

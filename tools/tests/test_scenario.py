@@ -26,25 +26,40 @@ class Command(unittest.TestCase):
             "restart": "--reader relay,3,60 seconds:5 restart:relay seconds:5",
             "one_liar": "--start 2017-06-30T23:59:48Z seconds:4 fault:1:skew:5 seconds:4"
             " fault:1:false_pending:insert seconds:8",
+            "ignored_leap": "--start 2016-12-31T23:59:50Z --leap 2016-12-31 fault:1:no_pending"
+            " until:2016-12-31T23:59:60Z fault:1:skew:1 seconds:5",
+            "gps_time": "--start 2016-12-31T23:59:50Z --leap 2016-12-31 fault:2:skew:18 seconds:14",
             "month_end_guard": "--start 2017-03-31T23:58:58Z seconds:3 dark:61 seconds:4",
         }
         for name, words in made.items():
             with self.subTest(name):
                 self.assertEqual(self.printed(*words.split()), example(f"{name}.jsonl"))
 
-    def test_a_word_that_is_none(self) -> None:
-        command = [sys.executable, ROOT / "tools/scenario.py", "hours:1"]
-        ran = subprocess.run(command, capture_output=True, text=True)
-        self.assertEqual((ran.returncode, ran.stdout), (2, ""))
-        self.assertIn("hours:1: it is none of", ran.stderr)
-
     def test_what_is_wrong_is_one_line_with_the_word(self) -> None:
-        for word in ("dark:90:0,2", "dark", "repair", "fault:0", "until:noon", "seconds:x", "lose:1:a"):
+        kinds = "silent, stuck, skew, no_pending, false_pending, quality, wrong_offset"
+        for word, reason in {
+            "hours:1": "'hours' is none of seconds, until, dark, lose, fault, repair, restart",
+            "dark:90:0,2": "'0,2' is none of 0, 1, 2",
+            "dark": "a part is missing; see scenario.py --help",
+            "restart:relay:0": "a part is too much; see scenario.py --help",
+            "restart:rely": "'rely' is none of relay",
+            "until:noon": "a part is missing; see scenario.py --help",
+            "until:2016-06-15T11:00:00Z": "[^\n]+ is no second of the timeline [^\n]+",
+            "seconds:-3": "'-3' is no whole number from 0 on",
+            "lose:1:3": "'3' is none of 0, 1, 2",
+            "lose:1:0:relay,rely": "'rely' is none of relay",
+            "fault:1:skw:18": f"'skw' is none of {kinds}",
+            "fault:1:skew": "skew takes a value",
+            "fault:1:skew:x": "'x' is no whole number from 0 on",
+            "fault:1:stuck:1": "stuck takes no value",
+            "fault:1:quality:-1": "'-1' is no whole number from 0 on",
+            "fault:1:false_pending:1": "'1' is none of insert, delete",
+        }.items():
             with self.subTest(word):
                 command = [sys.executable, ROOT / "tools/scenario.py", "seconds:1", word]
                 ran = subprocess.run(command, capture_output=True, text=True)
                 self.assertEqual((ran.returncode, ran.stdout), (2, ""))
-                self.assertRegex(ran.stderr, rf"\Ascenario.py: {word}: [^\n]+\n\Z")
+                self.assertRegex(ran.stderr, rf"\Ascenario.py: {word}: {reason}\n\Z")
 
     def test_help_begins_with_an_example(self) -> None:
         first, example = self.printed("--help").split("\n\n")[:2]
