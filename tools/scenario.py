@@ -12,9 +12,7 @@ import sys
 from parts import package  # noqa: F401
 from parts.command import Command, fail
 
-from irig.scenarios import (  # noqa: F401; more than this needs, for scripts that take it from here
-    Change, Damage, Generator, Leap, Lost, Raw, Reader, Replay, Scenario, Table, Timeline,
-)
+from irig.scenarios import Leap, Reader, Scenario
 
 # How many parts a word has at least, behind its name.
 NEEDED = {"until": 1, "seconds": 1, "dark": 1, "lose": 1, "fault": 2, "repair": 1, "restart": 1}
