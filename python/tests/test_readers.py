@@ -10,7 +10,7 @@ from typing import Optional
 
 import irig
 from irig import Claim, Control, Leap, Reader, Second, Zone
-from program import ROOT, printed
+from program import printed
 
 LEAPS = [{"day": "2016-12-31", "kind": "insert"}]
 
@@ -160,17 +160,6 @@ class BesideTheProgram(unittest.TestCase):
             "2029-06-30T23:59:58Z holdover:57 held", "2029-07-01T00:00:00Z holdover:58 held",
         ])
 
-    def test_the_example_in_c(self) -> None:
-        """c/examples/leap_second.c in Python."""
-        reader = Reader(lock_after=2, holdover=3600)
-        said = []
-        for edge, second in enumerate(seconds_from(Second.read("2016-12-31T23:59:56Z"), 6), 1):
-            for port in range(3 if edge <= 3 else 0):
-                reader.hear(port, irig.frame(second, pending="insert"))
-            said.append(f"{edge} relay {reader.tick()}\n")
-        log = printed("run", str(ROOT / "c/examples/leap_second.jsonl"), "--all")
-        self.assertEqual("".join(said), log.replace("premises kept\n", ""))
-        self.assertIn("4 relay 2016-12-31T23:59:60Z holdover:1 held\n", said)
 
 
 class Calls(unittest.TestCase):

@@ -365,14 +365,6 @@ class Recorders(unittest.TestCase):
         self.assertEqual(log_of(text), wanted_of("leap_inserted"))
         return said
 
-    def test_jitter(self) -> None:
-        for seed in range(5):
-            by = random.Random(seed)
-            said = self.alike(wave_of("leap_inserted").of(
-                lambda change: [(change[0] + by.randint(-450, 450), *change[1:])]
-            ))
-            self.assertIn("G0: 1400 pulses, 14 frames, 0 pulses out of step\n", said)
-
     def test_a_clock_that_is_off(self) -> None:
         for parts, said_so in ((1_005_000, "5000.0 ppm longer"), (999_900, "100.0 ppm shorter")):
             lines = wave_of("leap_inserted").of(
