@@ -188,14 +188,6 @@ def as_pulses(lines: Wave, path: Path) -> None:
                 print(f"{line},{rise},{time - rises[line]}", file=file)
 
 
-# Each with its ending, further words for the tool, and how many seconds it is tried with. Those that
-# tools/wave and sigrok-cli write are tried by test_roundtrip.py.
-FORMS: dict[str, tuple[Callable[[Wave, Path], None], str, list[str], int]] = {
-    "volts": (as_volts, ".csv", ["--threshold=2.5"], 13),
-    "pulses": (as_pulses, ".csv", [], 10_000),
-}
-
-
 # ---- runs
 
 
@@ -308,17 +300,15 @@ class Scenarios(InAFolder):
 
 
 class Forms(InAFolder):
-    def test_examples_in_each_form(self) -> None:
-        for form, (write, ending, words, most) in FORMS.items():
-            for name in examples():
-                lines = wave_of(name)
-                if name in UNLIKE or lines.end > most * waves.SECOND_US:
-                    continue
-                # A list of pulses does not say how long nothing comes behind the last.
-                if write is as_pulses and lines.end - lines.changes[-1][0] > waves.SECOND_US:
-                    continue
-                with self.subTest(form, example=name):
-                    path = self.folder / f"lines{ending}"
+    def test_examples(self) -> None:
+        """In the forms that test_roundtrip.py does not try. A list of pulses does not say how long nothing
+        comes behind the last."""
+        path = self.folder / "lines.csv"
+        for name in set(examples()) - set(UNLIKE):
+            lines = wave_of(name)
+            is_short, is_dark = lines.end < 13_000_000, lines.end - lines.changes[-1][0] > waves.SECOND_US
+            for write, words in [(as_volts, ["--threshold=2.5"])] * is_short + [(as_pulses, [])] * (not is_dark):
+                with self.subTest(write.__name__, example=name):
                     write(lines, path)
                     self.assertEqual(trips_of(name)[0].outcome(path, *words), wanted_of(name))
 
