@@ -102,13 +102,14 @@ class Runs(unittest.TestCase):
 class Entries(unittest.TestCase):
     def test_logs(self) -> None:
         """Of all cases and examples, as the package writes them."""
-        for name, text in scenarios().items():
-            with self.subTest(name):
+        for (name, text), (has_all, has_ports) in product(scenarios().items(), product((False, True), repeat=2)):
+            with self.subTest(name, all=has_all, ports=has_ports):
                 try:
-                    ran = irig.run(text, all=True, ports=True).text
+                    ran = irig.run(text, has_all, has_ports).text
                 except irig.Refused as why:
                     ran = f"{why.log.text}refused: line {why.line}: {why.number} {why.name}\n"
-                self.assertEqual(ran.encode(), printed("run", "-", "--all", "--ports", given=text)[1])
+                words = ["--all"] * has_all + ["--ports"] * has_ports
+                self.assertEqual(ran.encode(), printed("run", "-", *words, given=text)[1])
 
     def test_lines(self) -> None:
         """Which line of a scenario that runs to its end asked for which edges."""

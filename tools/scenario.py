@@ -13,9 +13,7 @@ from typing import Dict, List, Union
 from parts.command import Command, fail
 from parts.plant import count, leap, one_of, reader
 
-from irig.scenarios import (  # noqa: F401; more than this needs, for scripts that take it from here
-    Change, Damage, Generator, Leap, Lost, Raw, Reader, Replay, Scenario, Table, Timeline,
-)
+from irig.scenarios import Leap, Reader, Scenario
 
 # How many parts stand behind a word's name, at least and at most; a time has three.
 PARTS = {"seconds": (1, 1), "until": (3, 3), "dark": (1, 6), "lose": (1, 3), "fault": (2, 3),

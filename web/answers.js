@@ -15,7 +15,7 @@ function drawn_of({ lanes, causes, first, last, verdict }) {
   return JSON.parse(JSON.stringify({ lanes, causes, first, last, verdict }, plain));
 }
 
-function frame_of({ time, ...wanted }, { codec, frame_text }) {
+function frame_of({ time, ...wanted }, { codec }) {
   const symbols = codec.frame(time, wanted);
   return symbols && frame_text(symbols);
 }

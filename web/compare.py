@@ -147,7 +147,7 @@ def expected(program: Path) -> tuple[dict[str, list[dict]], dict[str, list]]:
 IN_BROWSER = """
 const worker_of_check = new Worker(tab.runner.source);
 const calls_of_check = Promise.all([ready, modules.runner]).then(([[, [codec, texts]], module]) => ({
-  codec, frame_text, texts,
+  codec, texts,
   run: (text, shown) => new Promise((told, failed) => {
     worker_of_check.onmessage = ({ data }) => {
       if (data.kind === "done") told(data);

@@ -5,7 +5,9 @@ from __future__ import annotations
 
 import base64
 import json
+import subprocess
 import sys
+import tempfile
 import time
 import unittest
 from pathlib import Path
@@ -35,28 +37,18 @@ def plant(*lines: dict, **changed: object) -> str:
     return "".join(f"{json.dumps(line, separators=(',', ':'))}\n" for line in ({**PLANT, **changed}, *lines))
 
 
+# Its heap gives a place, and its run does nothing but trap.
+TRAP = """(module (import "env" "memory" (memory 1))
+  (func (export "heap_give") (param i64) (result i64) (i64.const 1024))
+  (func (export "irig_scene_c_run_entries") (param i64 i64 i64 i64 i64 i64 i64 i64 i64) (result i32) (unreachable)))"""
+
+
 def trap_module() -> bytes:
-    """A module whose `irig_scene_c_run_entries` does nothing but trap, and whose heap gives a place."""
-
-    def section(number: int, *parts: bytes) -> bytes:
-        body = bytes([len(parts)]) + b"".join(parts)
-        return bytes([number, len(body)]) + body
-
-    def name(text: str) -> bytes:
-        return bytes([len(text)]) + text.encode()
-
-    i32, i64 = 0x7F, 0x7E
-    types = section(
-        1,
-        bytes([0x60, 1, i64, 1, i64]),
-        bytes([0x60, 9, *[i64] * 9, 1, i32]),
-    )
-    imports = section(2, name("env") + name("memory") + bytes([2, 0, 1]))
-    functions = section(3, bytes([0]), bytes([1]))
-    names = "heap_give", "irig_scene_c_run_entries"
-    exports = section(7, *(name(text) + bytes([0, place]) for place, text in enumerate(names)))
-    give, trap = bytes([5, 0, 0x42, 0x80, 0x08, 0x0B]), bytes([3, 0, 0x00, 0x0B])
-    return b"\0asm\1\0\0\0" + types + imports + functions + exports + section(10, give, trap)
+    with tempfile.TemporaryDirectory() as folder:
+        source, made = Path(folder, "trap.wat"), Path(folder, "trap.wasm")
+        source.write_text(TRAP)
+        subprocess.run(["wasm-as", source, "-o", made], check=True)
+        return made.read_bytes()
 
 
 class InBrowser(browser.Driven):

@@ -3,10 +3,12 @@ readers, by a log with the lines of `all` and `ports`."""
 from __future__ import annotations
 
 from dataclasses import dataclass
-from typing import Dict, Iterable, Iterator, List, Literal, Optional, Tuple, Union
+from itertools import groupby
+from math import inf
+from typing import Dict, Iterable, List, Literal, Optional, Tuple, Union
 
 from .faults import Fault
-from .logs import Announced, Log, PortWord, PremisesKept, Refused, Said, Silent, Tick
+from .logs import Announced, Log, PremisesKept, Refused, Said, Tick
 from .scenarios import Timeline, plant_in
 from .words import Cause, PortKind
 
@@ -88,7 +90,7 @@ def stretches_in(log: Log) -> List[Stretch]:
     plant = plant_in(whole.scenario) if whole.scenario else None
     truth = Truth(plant and plant.timeline, isinstance(whole.verdict, PremisesKept))
     readers = plant.readers if plant else whole.readers
-    return list(stretches_of(whole.ticks(), readers, truth))
+    return stretches_of(whole.ticks(), readers, truth)
 
 
 def _whole(log: Log) -> Log:
@@ -125,64 +127,44 @@ class Truth:
             return True
 
 
-class _Open:
-    """A stretch that has not ended yet."""
-
-    def __init__(self, tick: Tick, port: Optional[int], kind: StretchKind) -> None:
-        self.first, self.port, self.kind = tick.edge, port, kind
-        self.reader = tick.reader
-        self.cause = tick.said.cause if isinstance(tick.said, Silent) else None
-        self.word = tick.ports.words[port] if tick.ports and port is not None else None
-        self.last = self.announced = self.untrue = 0
-
-    def add(self, tick: Tick, is_untrue: bool) -> None:
-        self.last = tick.edge
-        self.announced += tick.second is not None
-        self.untrue += is_untrue
-
-    def ended(self, is_known: bool) -> Stretch:
-        return Stretch(
-            self.reader, self.port, self.kind, self.first, self.last, self.announced,
-            self.untrue if is_known else None, self.word, self.cause if self.port is None else None,
-        )
-
-
-# What a stretch is of: a port, or with None the reader; and what is the same all along.
+# What is the same all along a stretch.
 Same = Tuple[StretchKind, Optional[Cause]]
 
 
-def _standing(tick: Tick) -> Dict[Optional[int], Same]:
-    """What is amiss at a tick, ports first."""
-    told: Tuple[PortWord, ...] = tick.ports.told if tick.ports else ()
-    found: Dict[Optional[int], Same] = {
-        port: (word.kind, None) for port, word in enumerate(told) if word.kind != "agreed"
-    }
-    if tick.second is None:
-        found[None] = "announced nothing", tick.said.cause if tick.said else None
-    return found
+def _standing(tick: Tick, port: Optional[int]) -> Optional[Same]:
+    """What is amiss with a port at a tick, or with the reader."""
+    if port is None:
+        silence: Same = "announced nothing", tick.said.cause if tick.said else None
+        return silence if tick.second is None else None
+    told = tick.ports.told if tick.ports else ()
+    is_amiss = port < len(told) and told[port].kind != "agreed"
+    return (told[port].kind, None) if is_amiss else None
 
 
-def _in_order(ports: Iterable[Optional[int]]) -> List[Optional[int]]:
-    """Ports by their numbers, and the reader behind them."""
-    return sorted(ports, key=lambda port: (port is None, port or 0))
+def _stretch(ticks: List[Tick], port: Optional[int], same: Same, truth: Truth) -> Stretch:
+    first, said = ticks[0], sum(tick.second is not None for tick in ticks)
+    untrue = sum(map(truth.is_untrue, ticks)) if truth.is_known else None
+    word = first.ports.words[port] if first.ports and port is not None else None
+    return Stretch(
+        first.reader, port, same[0], first.edge, ticks[-1].edge, said, untrue, word, same[1]
+    )
 
 
-def stretches_of(
-    ticks: Iterable[Tick], readers: Iterable[str], truth: Truth
-) -> Iterator[Stretch]:
-    """The stretches of some ticks; at the end those that are open, by the order of the readers."""
-    open_of: Dict[str, Dict[Optional[int], Tuple[Same, _Open]]] = {}
-    for tick in ticks:
-        running, standing = open_of.setdefault(tick.reader, {}), _standing(tick)
-        for port in _in_order(running):
-            if running[port][0] != standing.get(port):
-                yield running.pop(port)[1].ended(truth.is_known)
-        is_untrue = truth.is_untrue(tick)
-        for port, same in standing.items():
-            if port not in running:
-                running[port] = same, _Open(tick, port, same[0])
-            running[port][1].add(tick, is_untrue)
-    for reader in dict.fromkeys((*readers, *open_of)):
-        running = open_of.get(reader, {})
-        for port in _in_order(running):
-            yield running[port][1].ended(truth.is_known)
+def stretches_of(ticks: Iterable[Tick], readers: Iterable[str], truth: Truth) -> List[Stretch]:
+    """The stretches of some ticks, each where the reader's next tick ends it; at the end those that are
+    open, by the order of the readers. Of one tick ports come first."""
+    of_readers: Dict[str, List[Tuple[int, Tick]]] = {reader: [] for reader in readers}
+    for number, tick in enumerate(ticks):
+        of_readers.setdefault(tick.reader, []).append((number, tick))
+    found = []
+    for place, own in enumerate(of_readers.values()):
+        ends: List[float] = [*(number for number, _ in own[1:]), inf]
+        ports = max((len(tick.ports.words) for _, tick in own if tick.ports), default=0)
+        for order, port in enumerate((*range(ports), None)):
+            at = 0
+            for same, group in groupby(own, lambda it: _standing(it[1], port)):
+                part = [tick for _, tick in group]
+                at += len(part)
+                if same:
+                    found.append((ends[at - 1], place, order, _stretch(part, port, same, truth)))
+    return [one[-1] for one in sorted(found, key=lambda one: one[:3])]

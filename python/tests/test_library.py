@@ -9,7 +9,10 @@ import unittest
 from pathlib import Path
 from typing import Any
 
+import irig
 from irig import _library
+from irig.faults import MEANINGS
+from irig.words import CAUSES, LOCKS
 from program import ROOT
 
 STRUCTURES = {
@@ -60,6 +63,27 @@ class Layout(unittest.TestCase):
         }
         here = {name: [field for field, *_ in one._fields_] for name, one in STRUCTURES.items()}
         self.assertEqual({name: fields[name] for name in fields.keys() - UNUSED}, here)
+
+
+class Texts(unittest.TestCase):
+    def test_names(self) -> None:
+        """By their numbers, each with a text; what stands beside a fault does not count, as 77 here."""
+        library = _library._loaded(_library.IRIG)
+        for kind, names in (
+            ("fault", {number: meaning.name for number, meaning in MEANINGS.items()}),
+            ("lock", dict(enumerate(LOCKS))), ("cause", dict(enumerate(CAUSES))),
+        ):
+            for number in range(256):
+                answer = number | 77 << 8 if kind == "fault" else number
+                name, text = (said(library, f"irig_{kind}_{what}", answer) for what in ("name", "text"))
+                self.assertEqual((name, bool(text)), (names.get(number, ""), number in names))
+        self.assertEqual(said(library, "irig_version"), irig.__version__)
+
+
+def said(library: ctypes.CDLL, name: str, *numbers: int) -> str:
+    call = getattr(library, name)
+    call.restype = ctypes.c_char_p
+    return call(*numbers).decode()
 
 
 POINTER = ctypes.c_void_p

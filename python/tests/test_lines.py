@@ -43,9 +43,6 @@ class Lines(unittest.TestCase):
         self.assertRaisesRegex(TypeError, "now_us is 2.5; a whole number", Sync().idle, 2.5)
         self.assertRaisesRegex(TypeError, "now_us is None; a whole number", Reader().idle, None)
 
-    def test_what_is_out_of_its_range(self) -> None:
-        self.assertRaises(irig.Fault, Sync().pulse, 0, -1)
-        self.assertRaises(irig.Fault, Sync().pulse, 0, WRAP)
 
 
 class Hearing(unittest.TestCase):

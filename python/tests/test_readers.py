@@ -10,7 +10,7 @@ from typing import Optional
 
 import irig
 from irig import Claim, Control, Leap, Reader, Second, Zone
-from program import ROOT, printed
+from program import printed
 
 LEAPS = [{"day": "2016-12-31", "kind": "insert"}]
 
@@ -160,17 +160,6 @@ class BesideTheProgram(unittest.TestCase):
             "2029-06-30T23:59:58Z holdover:57 held", "2029-07-01T00:00:00Z holdover:58 held",
         ])
 
-    def test_the_example_in_c(self) -> None:
-        """c/examples/leap_second.c in Python."""
-        reader = Reader(lock_after=2, holdover=3600)
-        said = []
-        for edge, second in enumerate(seconds_from(Second.read("2016-12-31T23:59:56Z"), 6), 1):
-            for port in range(3 if edge <= 3 else 0):
-                reader.hear(port, irig.frame(second, pending="insert"))
-            said.append(f"{edge} relay {reader.tick()}\n")
-        log = printed("run", str(ROOT / "c/examples/leap_second.jsonl"), "--all")
-        self.assertEqual("".join(said), log.replace("premises kept\n", ""))
-        self.assertIn("4 relay 2016-12-31T23:59:60Z holdover:1 held\n", said)
 
 
 class Calls(unittest.TestCase):
@@ -189,19 +178,6 @@ class Calls(unittest.TestCase):
         self.assertEqual(one.port(0), irig.Faulty(1, 4))
         one.restart()
         self.assertEqual(one.port(1), irig.Silence())
-
-    def test_what_is_out_of_range(self) -> None:
-        reader = Reader()
-        for port in (3, -1, 256):
-            with self.subTest(port):
-                self.assertRaises(irig.Fault, reader.pulse, port, 2000)
-                self.assertRaises(irig.Fault, reader.pulses, port, [2000])
-                self.assertRaises(irig.Fault, reader.pulses, port, [])
-                self.assertRaises(irig.Fault, reader.port, port)
-        for width in (-1, 1 << 32):
-            self.assertRaises(irig.Fault, reader.pulse, 0, width)
-            self.assertRaises(irig.Fault, reader.pulses, 0, [width])
-        self.assertEqual([reader.port(port) for port in range(3)], [irig.Silence()] * 3)
 
     def test_messages_name_the_argument(self) -> None:
         reader, most = Reader(), "0 to 4294967295 may stand here"

@@ -1,24 +1,22 @@
-"""Drives Chromium without a window, for tests of pages: by its protocol for debuggers, over a pipe; and
-what such tests have in common."""
+"""Drives Chromium without a window, for tests of pages: by its driver, and through that by its protocol for
+debuggers; and what such tests have in common."""
 from __future__ import annotations
 
 import base64
-import fcntl
 import hashlib
 import http.server
 import json
 import os
 import re
-import select
 import shutil
 import subprocess
-import tempfile
 import threading
-import time
 import unittest
+import urllib.request
 from collections.abc import Iterator
 from contextlib import contextmanager
 from pathlib import Path
+from typing import Any
 
 NAMES = ("chromium", "chromium-browser", "google-chrome")
 PATIENCE = 60.0  # seconds for one answer
@@ -31,11 +29,11 @@ def program() -> str | None:
 
 def missing() -> str | None:
     """Why no page can be opened, if none can."""
-    if not program():
-        return "chromium is missing, of Debian's package chromium"
+    if not program() or not shutil.which("chromedriver"):
+        return "chromium is missing, of Debian's packages chromium and chromium-driver"
     try:
         Browser().close()
-    except (OSError, RuntimeError, TimeoutError) as error:
+    except (OSError, StopIteration) as error:
         return f"{program()} does not start: {error}"
     return None
 
@@ -58,81 +56,50 @@ def listening() -> Iterator[tuple[str, list[str]]]:
 
 
 class Browser:
-    """One page in a browser of its own; `errors` are what its console says is wrong."""
+    """One page in a browser of its own."""
 
     def __init__(self) -> None:
-        self._folder = tempfile.TemporaryDirectory(ignore_cleanup_errors=True)
-        command_end, self._write = _pipe()
-        self._read, answer_end = _pipe(is_answer=True)
-        words = [
-            program(), "--headless", "--disable-gpu", "--disable-dev-shm-usage", "--no-first-run",
-            "--remote-debugging-pipe", f"--user-data-dir={self._folder.name}",
-        ]
+        self._driver = subprocess.Popen(["chromedriver", "--port=0"], stdout=subprocess.PIPE, text=True)
+        assert self._driver.stdout
+        found = (re.search(r"started successfully on port (\d+)", line) for line in self._driver.stdout)
+        self._url = f"http://127.0.0.1:{next(filter(None, found))[1]}/session"
+        words = ["--headless", "--disable-gpu", "--disable-dev-shm-usage", "--no-first-run"]
         if os.geteuid() == 0:
             words.append("--no-sandbox")  # Chromium asks for that of root
-        moved = f'exec "$@" 3<&{command_end} 4>&{answer_end}'
-        self._process = subprocess.Popen(
-            ["bash", "-c", moved, "bash", *words], pass_fds=(command_end, answer_end),
-            stdout=subprocess.DEVNULL, stderr=subprocess.DEVNULL,
-        )
-        os.close(command_end)
-        os.close(answer_end)
-        self._bytes, self._last, self._session = b"", 0, None
-        self.errors: list[str] = []
-        self._events: list[dict] = []
-        page = self.call("Target.createTarget", url="about:blank")["targetId"]
-        attached = self.call("Target.attachToTarget", targetId=page, flatten=True)
-        self._session = attached["sessionId"]
-        for domain in ("Page", "Runtime", "Log"):
-            self.call(f"{domain}.enable")
+        wanted = {
+            "goog:chromeOptions": {"binary": program(), "args": words},
+            "goog:loggingPrefs": {"browser": "SEVERE"},
+        }
+        made = self._post("", {"capabilities": {"alwaysMatch": wanted}})
+        self._url += f"/{made['sessionId']}"
+        self._errors: list[str] = []
+
+    def _post(self, path: str, body: object) -> Any:
+        """What the driver answers."""
+        head = {"Content-Type": "application/json"}
+        request = urllib.request.Request(self._url + path, json.dumps(body).encode(), head)
+        with urllib.request.urlopen(request, timeout=PATIENCE) as answer:
+            return json.load(answer)["value"]
 
     def close(self) -> None:
-        os.close(self._write)
-        self._process.terminate()
-        self._process.wait(30)
-        os.close(self._read)
-        self._folder.cleanup()
+        urllib.request.urlopen(urllib.request.Request(self._url, method="DELETE"), timeout=PATIENCE)
+        self._driver.terminate()
+        self._driver.communicate(timeout=30)
 
     def call(self, method: str, **params: object) -> dict:
-        """What the browser answers."""
-        self._last += 1
-        message = {"id": self._last, "method": method, "params": params}
-        if self._session:
-            message["sessionId"] = self._session
-        os.write(self._write, json.dumps(message).encode() + b"\0")
-        while True:
-            answer = self._next()
-            if answer.get("id") == self._last:
-                if "error" in answer:
-                    raise RuntimeError(f"{method}: {answer['error']}")
-                return answer["result"]
-            self._note(answer)
+        """What the browser answers to a word of its protocol for debuggers."""
+        return self._post("/goog/cdp/execute", {"cmd": method, "params": params})
 
-    def _next(self) -> dict:
-        end = time.monotonic() + PATIENCE
-        while b"\0" not in self._bytes:
-            if not select.select([self._read], [], [], max(0.0, end - time.monotonic()))[0]:
-                raise TimeoutError("the browser does not answer")
-            part = os.read(self._read, 1 << 16)
-            if not part:
-                raise RuntimeError("the browser has ended")
-            self._bytes += part
-        message, _, self._bytes = self._bytes.partition(b"\0")
-        return json.loads(message)
-
-    def _note(self, event: dict) -> None:
-        self._events.append(event)
-        if event.get("method") == "Runtime.exceptionThrown":
-            self.errors.append(event["params"]["exceptionDetails"]["exception"]["description"])
-        elif event.get("method") == "Log.entryAdded" and event["params"]["entry"]["level"] == "error":
-            self.errors.append(event["params"]["entry"]["text"])
+    @property
+    def errors(self) -> list[str]:
+        """What the console says is wrong since the page was opened."""
+        self._errors += [entry["message"] for entry in self._post("/se/log", {"type": "browser"})]
+        return self._errors
 
     def open(self, path: Path) -> None:
         """Opens a file, and waits until it has been loaded and drawn."""
-        self._events, self.errors = [], []
-        self.call("Page.navigate", url=path.as_uri())
-        while not any(event.get("method") == "Page.loadEventFired" for event in self._events):
-            self._note(self._next())
+        self.errors.clear()
+        self._post("/url", {"url": path.as_uri()})
         self.settle()
 
     def settle(self) -> None:
@@ -177,15 +144,6 @@ class Browser:
 
     def picture(self, path: Path) -> None:
         path.write_bytes(base64.b64decode(self.call("Page.captureScreenshot")["data"]))
-
-
-def _pipe(is_answer: bool = False) -> tuple[int, int]:
-    """A pipe's ends, reading and writing; that of the browser is none of 0 to 9, which bash moves."""
-    read, write = os.pipe()
-    theirs = write if is_answer else read
-    moved = fcntl.fcntl(theirs, fcntl.F_DUPFD, 10)
-    os.close(theirs)
-    return (read, moved) if is_answer else (moved, write)
 
 
 class Driven(unittest.TestCase):

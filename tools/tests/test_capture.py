@@ -16,13 +16,14 @@ from collections.abc import Callable, Iterable, Iterator, Sequence
 from contextlib import redirect_stderr
 from dataclasses import dataclass, replace
 from functools import cache, cached_property
-from itertools import dropwhile, groupby, product
+from itertools import dropwhile, product
 from pathlib import Path
 
 from loading import ROOT, InAFolder, loaded
 
 import waves
 from case_files import all_cases
+from parts.recordings import open_recording
 
 PROGRAM = ROOT / "crates/irig_main/out/irig_main"
 TOOL = loaded(ROOT / "tools/capture")
@@ -152,19 +153,13 @@ def wave_of(name: str) -> Wave:
 # ---- forms of a recording
 
 
-def as_dump(lines: Wave, path: Path, unit_us: int = 1) -> None:
-    """With changes that come together in one line, as sigrok-cli 0.7.2 writes them."""
-    wires = [chr(33 + line) for line in range(lines.count)]
+def as_table(lines: Wave, path: Path) -> None:
+    """A row for each change, and one at the end."""
+    rows = list(lines.rows())
     with path.open("w") as file:
-        print(f"$timescale {unit_us} us $end\n$scope module irig $end", file=file)
-        for wire, name in zip(wires, lines.names):
-            print(f"$var wire 1 {wire} {name} $end", file=file)
-        print("$upscope $end\n$enddefinitions $end\n#0", file=file)
-        print(*(f"0{wire}" for wire in wires), file=file)
-        for time, together in groupby(lines.changes, lambda change: change[0]):
-            words = [f"{level}{wires[line]}" for _, line, level in together]
-            print(f"#{time // unit_us}", *words, file=file)
-        print(f"#{lines.end // unit_us}", file=file)
+        print("Time [s]", *lines.names, sep=",", file=file)
+        for time, levels in [*rows, (lines.end, rows[-1][1])]:
+            print(f"{time / 1e6:.6f}", *levels, sep=",", file=file)
 
 
 def as_volts(lines: Wave, path: Path) -> None:
@@ -193,14 +188,6 @@ def as_pulses(lines: Wave, path: Path) -> None:
                 print(f"{line},{rise},{time - rises[line]}", file=file)
 
 
-# Each with its ending, further words for the tool, and how many seconds it is tried with. Those that
-# tools/wave and sigrok-cli write are tried by test_roundtrip.py.
-FORMS: dict[str, tuple[Callable[[Wave, Path], None], str, list[str], int]] = {
-    "volts": (as_volts, ".csv", ["--threshold=2.5"], 13),
-    "pulses": (as_pulses, ".csv", [], 10_000),
-}
-
-
 # ---- runs
 
 
@@ -214,8 +201,8 @@ def captured(path: Path, *words: str) -> tuple[str, str]:
 
 def captured_wave(lines: Wave, *words: str) -> tuple[str, str]:
     with tempfile.TemporaryDirectory() as folder:
-        path = Path(folder, "lines.vcd")
-        as_dump(lines, path)
+        path = Path(folder, "lines.csv")
+        as_table(lines, path)
         return captured(path, *words)
 
 
@@ -301,8 +288,8 @@ class Scenarios(InAFolder):
         """With what is true, test_roundtrip.py tries them."""
         for name in scenarios():
             with self.subTest(name):
-                as_dump(wave_of(name), self.folder / "lines.vcd")
-                log = trips_of(name)[0].outcome(self.folder / "lines.vcd", is_told=False)
+                as_table(wave_of(name), self.folder / "lines.csv")
+                log = trips_of(name)[0].outcome(self.folder / "lines.csv", is_told=False)
                 if name in UNLIKE_BY_THEIR_WORD:
                     self.assertNotEqual(log, wanted_of(name), "this is alike now")
                     if UNLIKE_BY_THEIR_WORD[name] == NO_VOTE:
@@ -313,26 +300,26 @@ class Scenarios(InAFolder):
 
 
 class Forms(InAFolder):
-    def test_examples_in_each_form(self) -> None:
-        for form, (write, ending, words, most) in FORMS.items():
-            for name in examples():
-                lines = wave_of(name)
-                if name in UNLIKE or lines.end > most * waves.SECOND_US:
-                    continue
-                # A list of pulses does not say how long nothing comes behind the last.
-                if write is as_pulses and lines.end - lines.changes[-1][0] > waves.SECOND_US:
-                    continue
-                with self.subTest(form, example=name):
-                    path = self.folder / f"lines{ending}"
+    def test_examples(self) -> None:
+        """In the forms that test_roundtrip.py does not try. A list of pulses does not say how long nothing
+        comes behind the last."""
+        path = self.folder / "lines.csv"
+        for name in set(examples()) - set(UNLIKE):
+            lines = wave_of(name)
+            is_short, is_dark = lines.end < 13_000_000, lines.end - lines.changes[-1][0] > waves.SECOND_US
+            for write, words in [(as_volts, ["--threshold=2.5"])] * is_short + [(as_pulses, [])] * (not is_dark):
+                with self.subTest(write.__name__, example=name):
                     write(lines, path)
                     self.assertEqual(trips_of(name)[0].outcome(path, *words), wanted_of(name))
 
     def test_the_recording_of_the_examples(self) -> None:
         lines = wave_of_seconds(3, list(waves.seconds_of(ONE_CLOCK_AHEAD.splitlines())))
         lines = lines.line(2, lambda change: [(change[0] + 300, *change[1:])]).inverted(2)
-        as_dump(lines, self.folder / "made.vcd", 100)
-        kept = (ROOT / "examples/one_clock_ahead.vcd").read_text()
-        self.assertTrue(kept == (self.folder / "made.vcd").read_text(), "another recording")
+        kept = open_recording(ROOT / "examples/one_clock_ahead.vcd", None)
+        found = [(round(time), line, level) for time, line, level in kept.changes(range(3))]
+        low = [(0, line, 0) for line in range(3)]
+        wanted = [(time // 100 * 100, line, level) for time, line, level in lines.changes]
+        self.assertEqual((kept.names, found[:-1]), (lines.names, [*low, *wanted]))
 
     def test_a_table_of_volts_without_names(self) -> None:
         """As sigrok-cli 0.7.2 makes it of a sound: the names stand above, and not over the columns."""
@@ -347,8 +334,8 @@ class Forms(InAFolder):
         self.assertIn("CH2: 1600 pulses, 16 frames, ", said)
 
     def test_one_line_is_heard_on_three_ports(self) -> None:
-        as_dump(wave_of("one_liar"), self.folder / "lines.vcd")
-        text, said = captured(self.folder / "lines.vcd", "--channels=G1")
+        as_table(wave_of("one_liar"), self.folder / "lines.csv")
+        text, said = captured(self.folder / "lines.csv", "--channels=G1")
         heard = [json.loads(line) for line in text.splitlines()[1:4]]
         self.assertEqual([one["g"] for one in heard], [0, 1, 2])
         self.assertEqual(len({str(one["widths"]) for one in heard}), 1)
@@ -371,37 +358,6 @@ class Recorders(unittest.TestCase):
         text, said = captured_wave(lines, "--reader=relay,2,3600")
         self.assertEqual(log_of(text), wanted_of("leap_inserted"))
         return said
-
-    def test_jitter(self) -> None:
-        for seed in range(5):
-            by = random.Random(seed)
-            said = self.alike(wave_of("leap_inserted").of(
-                lambda change: [(change[0] + by.randint(-450, 450), *change[1:])]
-            ))
-            self.assertIn("G0: 1400 pulses, 14 frames, 0 pulses out of step\n", said)
-
-    def test_glitches(self) -> None:
-        """Ten more crossings at each change, and a spike of 20 us behind half of them."""
-        by = random.Random(1)
-
-        def crossings(change: Change) -> list[Change]:
-            time, line, level = change
-            found = [(time + 4 * n, line, level ^ n & 1) for n in range(11)]
-            if by.random() < 0.5:
-                spike = time + by.randint(200, 1500)
-                found += [(spike, line, 1 - level), (spike + 20, line, level)]
-            return found
-
-        self.alike(wave_of("leap_inserted").of(crossings))
-
-    def test_glitches_are_let_through(self) -> None:
-        spike = [(507_000, 0, 1), (507_030, 0, 0)]
-        lines = wave_of("leap_inserted")
-        lines = replace(lines, changes=tuple(sorted([*lines.changes, *spike])))
-        before = [level for time, line, level in lines.changes if line == 0 and time < 507_000]
-        self.assertEqual(before[-1], 0, "the spike stands between two pulses")
-        self.assertIn("1400 pulses, 14 frames, 0 pulses out", captured_wave(lines)[1])
-        self.assertIn("G0: 1401 pulses, 13 frames", captured_wave(lines, "--glitch=0")[1])
 
     def test_a_clock_that_is_off(self) -> None:
         for parts, said_so in ((1_005_000, "5000.0 ppm longer"), (999_900, "100.0 ppm shorter")):
@@ -531,8 +487,8 @@ class Edges(InAFolder):
 
     def ticks(self, lines: Wave) -> list[tuple[int, bool]]:
         """The time of each tick, and whether lines agree on it."""
-        as_dump(lines, self.folder / "lines.vcd")
-        words = TOOL.command().parse_args([str(self.folder / "lines.vcd")])
+        as_table(lines, self.folder / "lines.csv")
+        words = TOOL.command().parse_args([str(self.folder / "lines.csv")])
         return [(tick.edge, tick.claim is not None) for tick in TOOL.listened(words)[1]]
 
     @staticmethod
@@ -586,13 +542,6 @@ class Lines(unittest.TestCase):
             self.assertEqual(said.count(", inverted\n"), 1)
             self.assertRegex(said, f"G{number}: .*, inverted\n")
 
-    def test_a_polarity_that_is_said(self) -> None:
-        lines = wave_of("leap_inserted")
-        with self.assertRaisesRegex(ValueError, "most ports never claim one second within a mill"):
-            captured_wave(lines, "--polarity=inverted")
-        text, _ = captured_wave(lines, "--polarity=normal")
-        self.assertEqual(log_of(text), wanted_of("leap_inserted"))
-
     def test_begins_in_the_middle(self) -> None:
         begin = 2_354_000  # within a pulse of element 30 of 23:59:52
         lines = wave_of("leap_inserted")
@@ -621,13 +570,6 @@ class Lines(unittest.TestCase):
         self.assertEqual(
             self.said_of(self.replaced([])),
             ["G1: 0 pulses, 0 frames, 0 pulses out of step", "nothing is on it"],
-        )
-
-    def test_one_pulse(self) -> None:
-        self.assertEqual(
-            self.said_of(self.replaced([(500_000, 1), (508_000, 0)])),
-            ["G1: 1 pulses, 0 frames, 0 pulses out of step",
-             f"P   {1:8}  8.000 to 8.000 ms, mean 8.000", "one pulse alone is on it"],
         )
 
     def test_each_frame_loses_a_pulse(self) -> None:
@@ -663,18 +605,6 @@ class Lines(unittest.TestCase):
         said = self.said_of(self.replaced(
             change for time in pulses for change in ((time, 1), (time + 500, 0))
         ))
-        self.assertEqual(said[-1], f"{ONE_MS}: another code, or a modulated one")
-
-    def test_a_modulated_one(self) -> None:
-        """A sine of 1 kHz through a comparator: pulses are wider while its amplitude is high."""
-        changes, is_high = [], dict(
-            (time, level) for time, line, level in wave_of("leap_inserted").changes if line == 1
-        )
-        level = 0
-        for time in range(50_000, 14_000_000, 1_000):
-            level = is_high.get(time, level)
-            changes += [(time, 1), (time + (400 if level else 250), 0)]
-        said = self.said_of(self.replaced(changes))
         self.assertEqual(said[-1], f"{ONE_MS}: another code, or a modulated one")
 
     def test_no_second_marker(self) -> None:
@@ -775,8 +705,8 @@ class Words(InAFolder):
                 self.assertIn(f"{name}: {reason}", self.refused(self.folder / name))
 
     def test_words(self) -> None:
-        path = self.folder / "lines.vcd"
-        as_dump(wave_of("plain_minute"), path)
+        path = self.folder / "lines.csv"
+        as_table(wave_of("plain_minute"), path)
         self.assertIn("no channel 'G7'; it has G0, G1, G2", self.refused(path, "--channels=G7"))
         two = "one, three or five of its channels, as two cannot outvote each other: G0, G1, G2"
         self.assertIn(two, self.refused(path, "--channels=G0,G1"))

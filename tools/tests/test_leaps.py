@@ -89,16 +89,6 @@ class Leaps(unittest.TestCase):
                 self.assertEqual((ran.returncode, ran.stdout), (2, ""))
                 self.assertIn("newer: ", ran.stderr)
 
-    def test_no_day(self) -> None:
-        ran = subprocess.run([ROOT / "tools/leaps", "--since", "June"], capture_output=True, text=True)
-        self.assertEqual((ran.returncode, ran.stdout), (2, ""))
-        self.assertIn("'June' is no day", ran.stderr)
-
-    def test_no_file(self) -> None:
-        ran = subprocess.run([ROOT / "tools/leaps", "no_such.list"], capture_output=True, text=True)
-        self.assertEqual(ran.returncode, 2)
-        self.assertIn("No such file", ran.stderr)
-
     def test_the_program_takes_them(self) -> None:
         made = values(LIST)
         leaps = [Leap(**leap) for leap in made["leaps"]]

@@ -381,13 +381,6 @@ class Refusals(unittest.TestCase):
             with self.subTest(says):
                 self.says(says, *plot(ONE_EDGE, *options))
 
-    def test_files(self) -> None:
-        for name, says in (("no_such.log", "No such file"), (str(ROOT), "Is a directory"),
-                           ("/bin/true", "it is no text")):
-            with self.subTest(name):
-                ran = subprocess.run([PLOT, name, "-o", "a.svg"], capture_output=True, text=True)
-                self.says(says, ran, "")
-
     def says(self, text: str, ran: subprocess.CompletedProcess, picture: str) -> None:
         self.assertEqual((ran.returncode, ran.stdout, picture), (2, "", ""))
         self.assertIn(text, ran.stderr)

@@ -77,12 +77,6 @@ class Command(unittest.TestCase):
                 self.assertEqual(first, "for example:")
                 self.assertIn(f"tools/{tool} ", example)
 
-    def test_the_builder_is_found_here_too(self) -> None:
-        """For scripts that take it from this folder."""
-        script = "from scenario import Reader, Scenario; print(Scenario('2016-06-15T12:00:00Z', [Reader('r')]).at)"
-        words = [sys.executable, "-c", script]
-        ran = subprocess.run(words, cwd=ROOT / "tools", capture_output=True, text=True)
-        self.assertEqual((ran.stdout, ran.stderr), ("2016-06-15T12:00:00Z\n", ""))
 
 
 if __name__ == "__main__":

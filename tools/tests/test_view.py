@@ -108,9 +108,6 @@ class Page(InAFolder):
             refused = f"line {scenario.count(chr(10)) + 1}: 25 Shape"
             self.assertTrue(ran.stderr.startswith(refused), ran.stderr)
             self.assertEqual(data_in(page)["log"][-1], f"refused: {refused}")
-        with self.subTest("--ports may stand there, and changes nothing"):
-            ran, again = run(self.folder, scenario + "[]\n", "--program", PROGRAM, "--ports")
-            self.assertEqual(data_in(again), data_in(page))
 
     def test_mistakes(self) -> None:
         for options, log, says in (

@@ -23,6 +23,7 @@ from loading import ROOT
 
 import waves
 from case_files import all_cases
+from parts.recordings import open_recording
 
 TOOL = ROOT / "tools/wave"
 ENVIRONMENT = {**os.environ, "IRIG": str(ROOT / "crates/irig_main/out/irig_main")}
@@ -86,19 +87,11 @@ def played(seconds: Sequence[list[list[int]]], late: Sequence[int] = (0,) * 5) -
 # ---- files
 
 
-def dumped(path: Path) -> tuple[list[Change], int]:
-    """The changes of a value change dump behind its beginning, and its end."""
-    head, _, body = path.read_text().partition("$enddefinitions $end\n")
-    words = head.split()
-    unit = int(words[words.index("$timescale") + 1])
-    codes = [words[n + 3] for n, word in enumerate(words) if word == "$var"]
-    time, changes = 0, []
-    for word in body.split():
-        if word[0] == "#":
-            time = unit * int(word[1:])
-        else:
-            changes.append((time, codes.index(word[1:]), int(word[0])))
-    return sorted(changes), time
+def recorded(path: Path) -> tuple[list[Change], int]:
+    """The changes of a recording, from its beginning on, and its end."""
+    recording = open_recording(path, None)
+    found = [(round(time), line, level) for time, line, level in recording.changes(range(len(recording.names)))]
+    return sorted(found[:-1]), found[-1][0]
 
 
 def changes_in(rows: Iterable[tuple[int, Sequence[int]]]) -> list[Change]:
@@ -110,18 +103,6 @@ def changes_in(rows: Iterable[tuple[int, Sequence[int]]]) -> list[Change]:
                 found.append((time, line, level))
         before = levels
     return found
-
-
-def rows_of(path: Path) -> list[tuple[int, list[int]]]:
-    """The rows of a table, by microseconds."""
-    head, *rows = (line.split(",") for line in path.read_text().splitlines())
-    assert head[0] == "Time [s]" and len({len(row) for row in (head, *rows)}) == 1
-    return [(round(1e6 * float(row[0])), list(map(int, row[1:]))) for row in rows]
-
-
-def tabled(path: Path) -> tuple[list[Change], int]:
-    rows = rows_of(path)
-    return changes_in(rows), rows[-1][0]
 
 
 def heard(path: Path) -> tuple[list[Change], int, int]:
@@ -163,7 +144,7 @@ class Waves(InAFolder):
             seconds = seconds_of(text)
             if is_carried(seconds):
                 with self.subTest(name):
-                    changes, end = dumped(self.made(text, said="(.*\n)*"))
+                    changes, end = recorded(self.made(text, said="(.*\n)*"))
                     self.assertEqual(changes, [*self.low(text), *played(seconds)])
                     self.assertEqual(end, 70_000 + 1_000_000 * len(seconds))
                     count += 1
@@ -185,19 +166,19 @@ class Waves(InAFolder):
             wanted = waves.pulled(played(seconds_of(text), late), line, *(1000 * end for end in ends))
             with self.subTest(words):
                 path = self.made(text, "lines.vcd", *words)
-                self.assertEqual(dumped(path), ([*self.low(text), *sorted(wanted)], 14_070_000 + max(late)))
+                self.assertEqual(recorded(path), ([*self.low(text), *sorted(wanted)], 14_070_000 + max(late)))
                 table = self.made(text, "lines.csv", "--changes", *words)
-                self.assertEqual(tabled(table), dumped(path))
+                self.assertEqual(recorded(table), recorded(path))
 
     def test_a_cable_that_is_pulled_out_of_a_pulse(self) -> None:
         text = scenario_of(raw(0, 8000), tick())
-        changes, _ = dumped(self.made(text, "lines.vcd", "--pull=0,52,54"))
+        changes, _ = recorded(self.made(text, "lines.vcd", "--pull=0,52,54"))
         self.assertEqual([time for time, *_ in changes[3:]], [50_000, 52_000, 54_000, 58_000])
 
     def test_the_reader_that_is_named(self) -> None:
         text = scenario_of(raw(0, 8000), raw(1, 2000, reader="meter"), tick("meter"), tick())
         for words, line, width in (([], 0, 8000), (["--reader=meter"], 1, 2000)):
-            changes, _ = dumped(self.made(text, "lines.vcd", *words))
+            changes, _ = recorded(self.made(text, "lines.vcd", *words))
             self.assertEqual(changes[3:], [(50_000, line, 1), (50_000 + width, line, 0)])
 
     def test_a_file_that_is_named(self) -> None:
@@ -211,7 +192,7 @@ class Waves(InAFolder):
         for width, unit in ((8000, 100), (8010, 10), (8001, 1)):
             path = self.made(scenario_of(raw(2, width), tick()))
             self.assertIn(f"$timescale {unit} us $end\n", path.read_text())
-            self.assertEqual(dumped(path)[0][3:], [(50_000, 2, 1), (50_000 + width, 2, 0)])
+            self.assertEqual(recorded(path)[0][3:], [(50_000, 2, 1), (50_000 + width, 2, 0)])
 
 
 class Forms(InAFolder):
@@ -220,15 +201,15 @@ class Forms(InAFolder):
             text = (ROOT / f"examples/{name}.jsonl").read_text()
             for words in ([], ["--invert"]):
                 with self.subTest(name, words=words):
-                    wanted, end = dumped(self.made(text, "a.vcd", *words))
-                    self.assertEqual(tabled(self.made(text, "a.csv", "--changes", *words)), (wanted, end))
+                    wanted, end = recorded(self.made(text, "a.vcd", *words))
+                    self.assertEqual(recorded(self.made(text, "a.csv", "--changes", *words)), (wanted, end))
                     self.compare_samples(text, wanted, end, words)
 
     def compare_samples(self, text: str, wanted: list[Change], end: int, words: list[str]) -> None:
         def sampled(rate: int) -> list[Change]:
             return [(nearest(time, rate), line, level) for time, line, level in wanted]
 
-        changes, last = tabled(self.made(text, "b.csv", *words))
+        changes, last = recorded(self.made(text, "b.csv", *words))
         period = 1_000_000 // CSV_RATE
         wanted_rows = [(time * period, line, level) for time, line, level in sampled(CSV_RATE)]
         self.assertEqual((changes, last), (wanted_rows, end - period))
@@ -239,7 +220,7 @@ class Forms(InAFolder):
 
     def test_inverted(self) -> None:
         text = scenario_of(raw(2, 8000), tick())
-        changes, _ = dumped(self.made(text, "lines.vcd", "--invert"))
+        changes, _ = recorded(self.made(text, "lines.vcd", "--invert"))
         idle = [(0, line, 1) for line in range(3)]
         self.assertEqual(changes, [*idle, (50_000, 2, 0), (58_000, 2, 1)])
 
@@ -285,7 +266,7 @@ class NotCarried(InAFolder):
 
     def test_a_hundred_pulses_are_carried(self) -> None:
         text = scenario_of(raw(1, *[2000] * 60), raw(1, *[5000] * 41), tick(), tick())
-        changes, _ = dumped(self.made(text, said="a line has room .*: tick 1\n"))
+        changes, _ = recorded(self.made(text, said="a line has room .*: tick 1\n"))
         self.assertEqual(changes[3:], played([[[], [2000] * 60 + [5000] * 40, []], [[]] * 3]))
 
     def test_pulses_that_run_on(self) -> None:
@@ -298,7 +279,7 @@ class NotCarried(InAFolder):
             ((12_000, 0, 2000), [(0, 12_000), (20_000, 22_000)], "a pulse of 0 us .*: tick 1\n"),
         ):
             with self.subTest(widths):
-                changes, end = dumped(self.made(scenario_of(raw(0, *widths), tick()), said=said))
+                changes, end = recorded(self.made(scenario_of(raw(0, *widths), tick()), said=said))
                 times = [(50_000 + time, 0, level) for pulse in high
                          for time, level in zip(pulse, (1, 0)) if time is not None]
                 self.assertEqual(changes[3:], times)
@@ -307,7 +288,7 @@ class NotCarried(InAFolder):
     def test_a_pulse_into_the_next_second(self) -> None:
         text = scenario_of(raw(0, *[0] * 99, 15_000), tick(), raw(0, 8000), tick())
         said = "a pulse of 0 us .*: tick 1\na pulse of 10 ms .*: tick 2\n"
-        changes, _ = dumped(self.made(text, said=said))
+        changes, _ = recorded(self.made(text, said=said))
         self.assertEqual(changes[3:], [(1_040_000, 0, 1), (1_058_000, 0, 0)])
 
 
@@ -371,7 +352,8 @@ class Sketch(InAFolder):
             [self.folder / "board"], input=path.read_text(), capture_output=True, text=True
         )
         written = [tuple(map(int, line.split())) for line in ran.stdout.splitlines()]
-        wanted = [(time, line, level) for time, levels in rows_of(path)
+        rows = (line.split(",") for line in path.read_text().splitlines()[1:])
+        wanted = [(round(1e6 * float(time)), line, int(level)) for time, *levels in rows
                   for line, level in enumerate(levels)]
         self.assertEqual([one[1:] for one in written], [one[1:] for one in wanted])
         late = [at - due for (at, *_), (due, *_) in zip(written, wanted)]
