@@ -179,6 +179,19 @@ class Calls(unittest.TestCase):
         one.restart()
         self.assertEqual(one.port(1), irig.Silence())
 
+    def test_what_is_out_of_range(self) -> None:
+        reader = Reader()
+        for port in (3, -1, 256):
+            with self.subTest(port):
+                self.assertRaises(irig.Fault, reader.pulse, port, 2000)
+                self.assertRaises(irig.Fault, reader.pulses, port, [2000])
+                self.assertRaises(irig.Fault, reader.pulses, port, [])
+                self.assertRaises(irig.Fault, reader.port, port)
+        for width in (-1, 1 << 32):
+            self.assertRaises(irig.Fault, reader.pulse, 0, width)
+            self.assertRaises(irig.Fault, reader.pulses, 0, [width])
+        self.assertEqual([reader.port(port) for port in range(3)], [irig.Silence()] * 3)
+
     def test_messages_name_the_argument(self) -> None:
         reader, most = Reader(), "0 to 4294967295 may stand here"
         for call, says in (

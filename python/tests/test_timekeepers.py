@@ -150,11 +150,16 @@ class Refusals(unittest.TestCase):
         self.assertEqual(str(caught.exception), says)
 
     def test_setups(self) -> None:
-        """What a reader refuses too is tried by test_readers.py."""
-        said = "Timekeeper(lock_after=60, holdover=1000000, drift_us=0, ports=5)"
-        self.assertEqual(repr(Timekeeper(60, 1_000_000, drift_us=0, ports=5)), said)
+        for ports in (1, 3, 5):
+            self.assertEqual(
+                repr(Timekeeper(60, 1_000_000, drift_us=0, ports=ports)),
+                f"Timekeeper(lock_after=60, holdover=1000000, drift_us=0, ports={ports})",
+            )
         for words, says in (
+            ({"lock_after": 0}, "lock_after is 0; 1 to 60 may stand here"),
+            ({"holdover": 1_000_001}, "holdover is 1000001; 0 to 1000000 may stand here"),
             ({"ports": 4}, "ports is 4; 1, 3 or 5 may stand here"),
+            ({"parity": "none"}, "parity is 'none'; even or odd may stand here"),
             ({"drift_us": -1}, "drift_us is -1; 0 to 100 may stand here"),
             ({"drift_us": 101}, "drift_us is 101; 0 to 100 may stand here"),
             ({"drift_us": WRAP + 1}, "drift_us is 4294967297; 0 to 100 may stand here"),
@@ -171,6 +176,16 @@ class Refusals(unittest.TestCase):
         for drift_us, most in ((100, 4_898), (40, 12_248), (10, 48_998), (1, 489_998)):
             self.assertEqual(Timekeeper(2, most, drift_us=drift_us).holdover, most)
             self.says(says, 35, holdover=most + 1, drift_us=drift_us)
+
+    def test_tables(self) -> None:
+        for number, until, leaps in (
+            (31, "2099-12-31", []),
+            (33, "2030-01-01", [irig.Leap("2016-12-30")]),
+            (34, "2030-01-01", [irig.Leap("2016-12-31"), irig.Leap("2016-12-31", "delete")]),
+        ):
+            with self.subTest(number), self.assertRaises(irig.Fault) as caught:
+                Timekeeper(drift_us=10, until=until, leaps=leaps)
+            self.assertEqual(caught.exception.number, number)
 
     def test_calls(self) -> None:
         keeper, most = Timekeeper(drift_us=10), "0 to 4294967295 may stand here"

@@ -359,6 +359,37 @@ class Recorders(unittest.TestCase):
         self.assertEqual(log_of(text), wanted_of("leap_inserted"))
         return said
 
+    def test_jitter(self) -> None:
+        for seed in range(5):
+            by = random.Random(seed)
+            said = self.alike(wave_of("leap_inserted").of(
+                lambda change: [(change[0] + by.randint(-450, 450), *change[1:])]
+            ))
+            self.assertIn("G0: 1400 pulses, 14 frames, 0 pulses out of step\n", said)
+
+    def test_glitches(self) -> None:
+        """Ten more crossings at each change, and a spike of 20 us behind half of them."""
+        by = random.Random(1)
+
+        def crossings(change: Change) -> list[Change]:
+            time, line, level = change
+            found = [(time + 4 * n, line, level ^ n & 1) for n in range(11)]
+            if by.random() < 0.5:
+                spike = time + by.randint(200, 1500)
+                found += [(spike, line, 1 - level), (spike + 20, line, level)]
+            return found
+
+        self.alike(wave_of("leap_inserted").of(crossings))
+
+    def test_glitches_are_let_through(self) -> None:
+        spike = [(507_000, 0, 1), (507_030, 0, 0)]
+        lines = wave_of("leap_inserted")
+        lines = replace(lines, changes=tuple(sorted([*lines.changes, *spike])))
+        before = [level for time, line, level in lines.changes if line == 0 and time < 507_000]
+        self.assertEqual(before[-1], 0, "the spike stands between two pulses")
+        self.assertIn("1400 pulses, 14 frames, 0 pulses out", captured_wave(lines)[1])
+        self.assertIn("G0: 1401 pulses, 13 frames", captured_wave(lines, "--glitch=0")[1])
+
     def test_a_clock_that_is_off(self) -> None:
         for parts, said_so in ((1_005_000, "5000.0 ppm longer"), (999_900, "100.0 ppm shorter")):
             lines = wave_of("leap_inserted").of(
@@ -542,6 +573,13 @@ class Lines(unittest.TestCase):
             self.assertEqual(said.count(", inverted\n"), 1)
             self.assertRegex(said, f"G{number}: .*, inverted\n")
 
+    def test_a_polarity_that_is_said(self) -> None:
+        lines = wave_of("leap_inserted")
+        with self.assertRaisesRegex(ValueError, "most ports never claim one second within a mill"):
+            captured_wave(lines, "--polarity=inverted")
+        text, _ = captured_wave(lines, "--polarity=normal")
+        self.assertEqual(log_of(text), wanted_of("leap_inserted"))
+
     def test_begins_in_the_middle(self) -> None:
         begin = 2_354_000  # within a pulse of element 30 of 23:59:52
         lines = wave_of("leap_inserted")
@@ -570,6 +608,13 @@ class Lines(unittest.TestCase):
         self.assertEqual(
             self.said_of(self.replaced([])),
             ["G1: 0 pulses, 0 frames, 0 pulses out of step", "nothing is on it"],
+        )
+
+    def test_one_pulse(self) -> None:
+        self.assertEqual(
+            self.said_of(self.replaced([(500_000, 1), (508_000, 0)])),
+            ["G1: 1 pulses, 0 frames, 0 pulses out of step",
+             f"P   {1:8}  8.000 to 8.000 ms, mean 8.000", "one pulse alone is on it"],
         )
 
     def test_each_frame_loses_a_pulse(self) -> None:
@@ -605,6 +650,18 @@ class Lines(unittest.TestCase):
         said = self.said_of(self.replaced(
             change for time in pulses for change in ((time, 1), (time + 500, 0))
         ))
+        self.assertEqual(said[-1], f"{ONE_MS}: another code, or a modulated one")
+
+    def test_a_modulated_one(self) -> None:
+        """A sine of 1 kHz through a comparator: pulses are wider while its amplitude is high."""
+        changes, is_high = [], dict(
+            (time, level) for time, line, level in wave_of("leap_inserted").changes if line == 1
+        )
+        level = 0
+        for time in range(50_000, 14_000_000, 1_000):
+            level = is_high.get(time, level)
+            changes += [(time, 1), (time + (400 if level else 250), 0)]
+        said = self.said_of(self.replaced(changes))
         self.assertEqual(said[-1], f"{ONE_MS}: another code, or a modulated one")
 
     def test_no_second_marker(self) -> None:

@@ -287,6 +287,8 @@ FAULTS = {
 }
 
 
+# What leaves its width to a pulse, and so makes no other frame that looks true.
+KEEP_WIDTHS = ("lost", "late", "early", "cut in two", "glitch behind")
 # What the first three frames of the line below claim.
 TRUE = ["UTC 2016-12-31T23:59:59Z (insert)", "UTC 2016-12-31T23:59:60Z", "UTC 2017-01-01T00:00:00Z"]
 
@@ -305,6 +307,18 @@ def with_single_faults() -> list[Pulse]:
     for make, element in itertools.product(FAULTS.values(), range(100, 200, 3)):
         frames = true_line(next_begin(line), 3)
         line += [*frames[:element], *make(*frames[element]), *frames[element + 1 :]]
+    return line
+
+
+def with_pairs(chance: random.Random, count: int) -> list[Pulse]:
+    """The same with two faults, of which one at most changes a width, in the second frame."""
+    line: list[Pulse] = []
+    for _ in range(count):
+        frames = true_line(next_begin(line), 3)
+        kinds = chance.choice(list(FAULTS)), chance.choice(KEEP_WIDTHS)
+        for element, kind in zip(sorted(chance.sample(range(100, 200), 2), reverse=True), kinds):
+            frames[element : element + 1] = FAULTS[kind](*frames[element])
+        line += frames
     return line
 
 
@@ -440,6 +454,13 @@ class Lines(unittest.TestCase):
         told = Counter(one.text for one in verdicts(said) if one.text.startswith("UTC"))
         count = len(FAULTS) * 34
         self.assertEqual((told[TRUE[0]], told[TRUE[2]], set(told) - set(TRUE)), (count, count, set()))
+
+    def test_pairs_of_faults(self) -> None:
+        """No claim is untrue, and a frame of three is left at least."""
+        said = self.compare(with_pairs(random.Random(3), 400))
+        told = Counter(one.text for one in verdicts(said) if one.text.startswith("UTC"))
+        self.assertEqual(set(told) - set(TRUE), set())
+        self.assertGreaterEqual(told.total(), 400)
 
     def test_random_faults(self) -> None:
         said = self.compare(with_random_faults(random.Random(1), 300))

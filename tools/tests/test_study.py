@@ -112,6 +112,11 @@ class RandomDays(unittest.TestCase):
             self.assertNotEqual(wild.pop(rate), usual[rate])
             self.assertEqual(wild, {name: part for name, part in usual.items() if name != rate})
 
+    def test_settings_leave_the_day(self) -> None:
+        one, other = (list(scenario_of(Model(), *some, 3).lines()) for some in ((1, 0), (60, 3600)))
+        self.assertEqual(one[1:], other[1:])
+        self.assertNotEqual(one[1:], list(scenario_of(Model(), 1, 0, 4).lines())[1:])
+
     def test_a_table(self) -> None:
         model = Model(start="2016-12-31T23:00:00Z", leap="2016-12-31", hours=1)
         readers = [
@@ -147,6 +152,10 @@ premises kept
                 "alone": 7,
             },
         )
+
+    def test_silent_throughout(self) -> None:
+        found = study.measured("1 relay - unlocked no-vote\n2 relay - unlocked no-vote\npremises kept\n")
+        self.assertEqual((found["announced"], found["first"], found["worst_silence"]), (0, 0, 2))
 
     def played(self, lock_after: int, holdover: int, day: Day, start: str = START) -> dict[str, int]:
         plant = Scenario(start, [Reader("relay", lock_after, holdover)])
@@ -287,6 +296,15 @@ class Runs(unittest.TestCase):
         values |= {"--lock-after": lock_after, "--holdover": holdover, "--seed": seed}
         return ran("one", *(word for pair in values.items() for word in pair)).stdout.rstrip("\n")
 
+    def test_list(self) -> None:
+        grid = ["--lock-after", "1,5", "--holdover", "0,60,600", "--seeds", 4]
+        found = ran("run", *grid, "--dark", 1, "--list")
+        commands = found.stdout.splitlines()
+        self.assertEqual(len(set(commands)), 24)
+        self.assertEqual(
+            commands[1], "tools/study one --dark=1.0 --lock-after=1 --holdover=0 --seed=2"
+        )
+
     def test_in_parallel(self) -> None:
         if not shutil.which("parallel"):
             skip(self, "runs side by side", "parallel")
@@ -327,6 +345,10 @@ class Runs(unittest.TestCase):
         self.assertIn("5,x is no list of whole numbers", found.stderr.splitlines()[-1])
         self.assertEqual(ran("table", "x.csv", "colour").returncode, 2)
 
+    def test_scenario(self) -> None:
+        words = ["--lock-after", 2, "--holdover", 10, "--seed", 7, "--hours", 2]
+        plant = scenario_of(Model(hours=2.0), 2, 10, 7)
+        self.assertEqual(ran("scenario", *words).stdout, plant.text())
 
 
 if __name__ == "__main__":
