@@ -141,7 +141,8 @@ static WORDS: [Meaning; 21] = [
 ];
 
 /// What a word means, in lines: the number of a fault or a refusal, a name of some, a word that a
-/// log shows, also with what stands behind its colon, or `premises`. None if it is no such word.
+/// log shows, also with what stands behind its colon, or the words of its last line, one or both.
+/// None if it is no such word.
 ///
 /// ASCII letters are the same in both cases. Of a name that two numbers have both are explained.
 pub fn explanation(alloc: Global, word: &str) -> Result<Option<String>, AllocError>
@@ -252,7 +253,7 @@ fn push_numbers_named(text: &mut String, name: &str) -> Result<(), AllocError> {
 
 fn push_words_named(text: &mut String, name: &str) -> Result<(), AllocError> {
     for meaning in words() {
-        if is_name(meaning, name) || is_last_word(meaning, name) {
+        if is_name(meaning, name) || is_last_word(meaning, name) || is_whole(meaning, name) {
             push_meaning(text, meaning)?;
         }
     }
@@ -262,6 +263,11 @@ fn push_words_named(text: &mut String, name: &str) -> Result<(), AllocError> {
 // Whether this is `kept` of `premises kept`.
 fn is_last_word(meaning: &Meaning, word: &str) -> bool {
     matches!(meaning.name.split_once(' '), Some((_, last)) if last.eq_ignore_ascii_case(word))
+}
+
+// Whether this is all of `premises kept`.
+fn is_whole(meaning: &Meaning, words: &str) -> bool {
+    meaning.name.eq_ignore_ascii_case(words)
 }
 
 fn push_number(text: &mut String, number: u8) -> Result<(), AllocError>
