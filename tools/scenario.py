@@ -65,14 +65,6 @@ def _step(scenario: Scenario, word: str) -> None:
         scenario.restart(one_of(parts[0], scenario.readers))
 
 
-def _take_step(scenario: Scenario, word: str) -> None:
-    """Does what a word says, or names the word that says nothing."""
-    try:
-        _step(scenario, word)
-    except ValueError as error:
-        raise ValueError(f"{word}: {error}") from None
-
-
 STEPS = """
 what happens, in order:
   seconds:N              N whole seconds
@@ -98,14 +90,14 @@ def _arguments() -> argparse.Namespace:
 
 
 def main() -> None:
-    words = _arguments()
+    words, word = _arguments(), ""
     try:
         readers = words.reader or [Reader("relay")]
         scenario = Scenario(words.start, readers, words.generators, words.leap)
         for word in words.steps:
-            _take_step(scenario, word)
+            _step(scenario, word)
     except ValueError as error:
-        fail("scenario.py", error)
+        fail("scenario.py", f"{word}: {error}" if word else error)
     sys.stdout.write(scenario.text())
 
 

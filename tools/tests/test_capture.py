@@ -321,18 +321,6 @@ class Forms(InAFolder):
         wanted = [(time // 100 * 100, line, level) for time, line, level in lines.changes]
         self.assertEqual((kept.names, found[:-1]), (lines.names, [*low, *wanted]))
 
-    def test_a_table_of_volts_without_names(self) -> None:
-        """As sigrok-cli 0.7.2 makes it of a sound: the names stand above, and not over the columns."""
-        lines, path = wave_of("one_liar"), self.folder / "lines.csv"
-        with path.open("w") as file:
-            print("; Channels (3/3): CH1, CH2, CH3\nMETA samplerate: 10000\n,,", file=file)
-            for count, levels in lines.samples(100):
-                row = ",".join(f"{0.7 * level - 0.35:.6f}" for level in levels)
-                file.write(f"{row}\n" * count)
-        text, said = captured(path, "--threshold=0")
-        self.assertEqual(log_of(text), wanted_of("one_liar"))
-        self.assertIn("CH2: 1600 pulses, 16 frames, ", said)
-
     def test_one_line_is_heard_on_three_ports(self) -> None:
         as_table(wave_of("one_liar"), self.folder / "lines.csv")
         text, said = captured(self.folder / "lines.csv", "--channels=G1")
@@ -358,28 +346,6 @@ class Recorders(unittest.TestCase):
         text, said = captured_wave(lines, "--reader=relay,2,3600")
         self.assertEqual(log_of(text), wanted_of("leap_inserted"))
         return said
-
-    def test_jitter(self) -> None:
-        for seed in range(5):
-            by = random.Random(seed)
-            said = self.alike(wave_of("leap_inserted").of(
-                lambda change: [(change[0] + by.randint(-450, 450), *change[1:])]
-            ))
-            self.assertIn("G0: 1400 pulses, 14 frames, 0 pulses out of step\n", said)
-
-    def test_glitches(self) -> None:
-        """Ten more crossings at each change, and a spike of 20 us behind half of them."""
-        by = random.Random(1)
-
-        def crossings(change: Change) -> list[Change]:
-            time, line, level = change
-            found = [(time + 4 * n, line, level ^ n & 1) for n in range(11)]
-            if by.random() < 0.5:
-                spike = time + by.randint(200, 1500)
-                found += [(spike, line, 1 - level), (spike + 20, line, level)]
-            return found
-
-        self.alike(wave_of("leap_inserted").of(crossings))
 
     def test_glitches_are_let_through(self) -> None:
         spike = [(507_000, 0, 1), (507_030, 0, 0)]
@@ -565,14 +531,6 @@ class Lines(unittest.TestCase):
         other = ((time, 1, level) for time, level in changes)
         return replace(lines, changes=tuple(sorted([*lines.changes, *other])))
 
-    def test_inverted(self) -> None:
-        for number in range(3):
-            lines = wave_of("leap_inserted").inverted(number)
-            text, said = captured_wave(lines)
-            self.assertEqual(log_of(text), wanted_of("leap_inserted"))
-            self.assertEqual(said.count(", inverted\n"), 1)
-            self.assertRegex(said, f"G{number}: .*, inverted\n")
-
     def test_a_polarity_that_is_said(self) -> None:
         lines = wave_of("leap_inserted")
         with self.assertRaisesRegex(ValueError, "most ports never claim one second within a mill"):
@@ -631,19 +589,17 @@ class Lines(unittest.TestCase):
         self.assertEqual(log_of(captured_wave(lines.inverted(1))[0]), log)
 
     def test_a_line_that_stays_off(self) -> None:
-        """GPS time is 17 s ahead before 23:59:60, and 18 from it on: 10 frames, and 4. One frame that is
-        off is no such line."""
-        for name, more in (
-            ("gps_time", "G2 differs from most ports by +17 s in 10 frames; the first ended at tick 1, 1.050 s"),
-            ("ignored_leap", "G1 differs from most ports by +1 s in 5 frames; the first ended at tick 11, 11.050 s"),
-        ):
-            said = captured_wave(wave_of(name))[1]
-            self.assertEqual([line for line in said.splitlines() if " differs " in line], [more])
+        """GPS time is 17 s ahead in 10 frames before 23:59:60, and 18 in 4. One frame that is off, in a
+        second of its own, is no such line."""
         text = ONE_CLOCK_AHEAD.replace('"n":3', '"n":1')
-        lines = wave_of_seconds(3, list(waves.seconds_of(text.splitlines())))
-        text, said = captured_wave(lines)
-        self.assertIn(" 5 relay ok 2026-11-24T09:30:22Z ok", log_of(text))
-        self.assertNotIn(" differs ", said)
+        once = wave_of_seconds(3, list(waves.seconds_of(text.splitlines())))
+        for lines, wanted in (
+            (wave_of("gps_time"), ["G2", "+17 s in 10 frames; the first ended at tick 1, 1.050 s"]),
+            (wave_of("ignored_leap"), ["G1", "+1 s in 5 frames; the first ended at tick 11, 11.050 s"]),
+            (once, []),
+        ):
+            found = [line for line in captured_wave(lines)[1].splitlines() if " differs " in line]
+            self.assertEqual(found, [" differs from most ports by ".join(wanted)] * bool(wanted))
 
     def test_another_code(self) -> None:
         pulses = range(50_000, 14_000_000, 1_000)  # as of IRIG-A
@@ -704,15 +660,13 @@ class Lines(unittest.TestCase):
         """Paris and India; London has none before 01:00:00."""
         said = captured_wave(wave_of("zone_change"))[1]
         said += captured_wave(wave_of("zone_change"), "--channels=G2", "--sense=subtract")[1]
-        for offset, sense, read, other, would in (
-            ("-1:00", "add", "00:59:54", "subtract", "02:59:54"),
-            ("-1:00", "add", "01:00:00", "subtract", "03:00:00"),
-            ("-5:30", "add", "00:59:54", "subtract", "11:59:54"),
-            ("-5:30", "subtract", "11:59:54", "add", "00:59:54"),
-        ):
-            read, would = f"{sense!r} as 2016-03-27T{read}Z", f"{other!r} it would be 2016-03-27T{would}Z"
-            self.assertIn(f"    it sends an offset of {offset}, read by {read}; by {would}\n", said)
-        self.assertEqual(said.count(" offset "), 4)
+        form, day = "    it sends an offset of {}, read by {!r} as {}; by {!r} it would be {}", "2016-03-27T"
+        self.assertEqual([line for line in said.splitlines() if " offset " in line], [
+            form.format("-1:00", "add", f"{day}00:59:54Z", "subtract", f"{day}02:59:54Z"),
+            form.format("-1:00", "add", f"{day}01:00:00Z", "subtract", f"{day}03:00:00Z"),
+            form.format("-5:30", "add", f"{day}00:59:54Z", "subtract", f"{day}11:59:54Z"),
+            form.format("-5:30", "subtract", f"{day}11:59:54Z", "add", f"{day}00:59:54Z"),
+        ])
 
     def test_a_good_line_is_not_named(self) -> None:
         self.assertEqual(self.said_of(wave_of("leap_inserted")), [

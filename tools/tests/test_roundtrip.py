@@ -203,9 +203,10 @@ def recorders(seed: int, name: str) -> dict[str, Recorder]:
     """Two of them. Where lines are dark for a minute a clock that is farther off ticks before a frame
     has ended."""
     by = random.Random(seed)
-    parts = by.choice((-1, 1)) * (40 if name.startswith("month_end") else by.randint(100, 500))
+    is_dark = name.startswith(("month_end", "misled_by_table"))
+    parts = by.choice((-1, 1)) * (40 if is_dark else by.randint(100, 500))
     return {
-        "jitter, glitches and its clock": Recorder(by, 400, parts, glitches=30),
+        "jitter, glitches and its clock": Recorder(by, 450, parts, glitches=30),
         "jitter, its clock and samples at 2 kHz": Recorder(by, 200, parts, every_us=500),
     }
 

@@ -29,9 +29,6 @@ use Rattle.irig_plant.proofs.FeedLaws.{fed_if, fed_ports}
 
 -- ---- refusals
 
-pub a_reader : (s : Setup) (r : ℕ) (rest : Option PlantFault) → r < length s.readers → unless_reader s r rest ≡ rest
-a_reader s r rest h = rw (lt-ltb r (length s.readers) h) refl
-
 pub no_reader : (s : Setup) (r : ℕ) (rest : Option PlantFault) → length s.readers ≤ r → unless_reader s r rest ≡ Some NoSuchReader
 no_reader s r rest h = rw (le-ltb r (length s.readers) h) refl
 

@@ -31,9 +31,6 @@ use Rattle.irig_port.proofs.BitLaws.{doubling, time-push, time-kept, control-pus
 added-room : (s : List Symbol) (x : Symbol) → length s < 101 → with_symbol s x ≡ s ++ x ∷ []
 added-room s x h = grind arith
 
-added-full : (s : List Symbol) (x : Symbol) → 101 ≤ length s → with_symbol s x ≡ s
-added-full s x h = grind arith
-
 length-push : (s : List Symbol) (x : Symbol) → length (s ++ x ∷ []) ≡ length s + 1
 length-push s x = length-append s (x ∷ [])
 
@@ -91,18 +88,6 @@ numbers-push count time control time_after control_after wrong after s x h in_fr
           let zero : 0 + length s ≡ length s = omega arith in
           let whole = first_wrong-push 0 s x in
           cc;
-    })
-
--- past the frame nothing counts but that there are too many
-pub numbers-past : (count time control : ℕ) (wrong : Option FrameFault) (s : List Symbol) (x : Symbol)
-    → IsOf count time control wrong s → 100 < count → IsOf 101 time control wrong (with_symbol s x)
-numbers-past count time control wrong s x h past =
-    rw (added-full s x (omega (arith, h.counted, past))) (record {
-      counted = omega (arith, h.counted, h.few, past);
-      few = h.few;
-      timed = h.timed;
-      controlled = h.controlled;
-      lowest = h.lowest;
     })
 
 -- ---- no symbol yet

@@ -128,12 +128,6 @@ module _ {A : Type 0} (stands_for : A → Scene → Type 0) (texts : Texts) wher
             (record { text = texts.event x.plan e x.events; more = refl; wrote = wrote });
       }
 
-  -- a part of it was written
-  pub takes_part : (x : Scene) (e : Event) (old new : Option (List ℕ))
-      → refusal x.plan.setup e x.events ≡ None → AppendsPart old new (texts.event x.plan e x.events) → SaidPart texts x (after_events x (e ∷ [])) old new
-  takes_part x e old new h wrote =
-      subst (λ (p : Play). SaidPart texts x (scene x.plan p.events) old new) (sym (taken x e h)) (record { text = texts.event x.plan e x.events; more = refl; wrote = wrote })
-
   -- one that is refused
   pub stops_one : (x : Scene) (e : Event) (o : A) (out : Option (List ℕ)) (k : Refusal)
       → play x.plan.setup (e ∷ []) x.events ≡ play_by x.events (Some k) → stands_for o x → PlayedFor stands_for texts x (e ∷ []) o (Some k) out out

@@ -180,11 +180,6 @@ module _ {A : Type 0} (stands_for : A → Scene → Type 0) (texts : Texts) wher
   fails_with f r n k None old new at_x wrote = absurd at_x
   fails_with f r n k (Some x) old new at_x wrote = stop_fails f n k (texts.closing x) old new (wrote x at_x)
 
-  -- without one
-  pub stops_without : (e : SceneFault) (n : ℕ) (k : Refusal) (at : Option Scene) (old new : Option (List ℕ)) → IsAt {A = A} stands_for None at → WroteRefusal e n k old new → WroteStop e n k (closing_of texts at) old new
-  stops_without e n k None old new at_x wrote = stop_alone e n k old new wrote
-  stops_without e n k (Some x) old new at_x wrote = absurd at_x
-
   -- ---- a line that is taken, or ends the run
 
   line_goes : (r : Result Outcome SceneFault) (l first : List ℕ) (ls : List (List ℕ)) (n count : ℕ) (at : Option Scene) (f : Option A) (o0 o1 o2 : Option (List ℕ))

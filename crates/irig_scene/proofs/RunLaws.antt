@@ -453,9 +453,6 @@ left_unnoted stands_for counts texts f notes in0 in1 out0 out1 n run more =
 
 -- ---- whoever asks no listener
 
-pub to_ran : {A : Type 0} (stands_for : A → Scene → Type 0) (counts : Bool) (texts : Texts) (r : Result Outcome SceneFault) (p : Option A) (notes : List ℕ) (was left old new : Option (List ℕ)) → RanTo stands_for counts texts r p notes was left old new → RanFor texts r was left old new
-to_ran stands_for counts texts r p notes was left old new h = record { bytes = h.bytes; of_input = h.of_input; ran = h.ran }
-
 -- ---- who listened to a player
 
 module _ {A B : Type 0} (stands_for : A → Scene → Type 0) (heard_by : B → Scene → Type 0) (p : Option A) (l : Option B) (of_player : (at : Option Scene) → IsAt stands_for p at → IsAt heard_by l at) where

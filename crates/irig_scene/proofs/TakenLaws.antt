@@ -89,9 +89,6 @@ module _ (texts : Texts) where
   none_written : (first : List ℕ) (from to : Option Scene) (out : Option (List ℕ)) → TextFront texts first from (text_of texts first to) → TextPart texts first from to out out
   none_written first from to out h = record { text = h.rest; more = h.is; wrote = record { front = []; rest = h.rest; whole = refl; wrote = Appends-nil out } }
 
-  pub memory_taking : (first : List ℕ) (n : ℕ) (at : Option Scene) (line : List ℕ) (out : Option (List ℕ)) → TextPart texts first at (step n at line).scene out out
-  memory_taking first n at line out = none_written first at (step n at line).scene out (front_of_step first n at line)
-
   text_more : (first : List ℕ) (x y : Scene) (old new : Option (List ℕ)) → SaidMore texts x y old new → TextMore texts first (Some x) (Some y) old new
   text_more first x y old new h = record { text = h.text; more = of_said first x y h.text h.more; wrote = h.wrote }
 
@@ -212,14 +209,6 @@ module _ {A : Type 0} (stands_for : A → Scene → Type 0) (texts : Texts) wher
       stops_at first (Some x) none here = absurd cc
 
 -- ---- the plant line is written as it stands
-
-pub line_part : (line : List ℕ) (old new : Option (List ℕ)) → AppendsPart old new line → AppendsPart old new (line ++ 10 ∷ [])
-line_part line old new h = record {
-  front = h.front;
-  rest = h.rest ++ 10 ∷ [];
-  whole = ap (λ l. l ++ 10 ∷ []) h.whole ∙ append_assoc h.front h.rest (10 ∷ []);
-  wrote = h.wrote;
-}
 
 pub then_newline : (r : Result (Unit {0}) Failure) (line : List ℕ) (o0 o1 o2 : Option (List ℕ)) → Appends o0 o1 line → WroteText r o1 o2 (10 ∷ []) → WroteText r o0 o2 (line ++ 10 ∷ [])
 then_newline (Ok done) line o0 o1 o2 h k = Appends-trans o0 o1 o2 _ _ h k

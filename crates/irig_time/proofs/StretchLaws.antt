@@ -62,18 +62,6 @@ pub record IsBuilt (leaps : List (ℕ × Leap)) (first : ℕ) (all : List Stretc
   pub placed : All (IsPlaced leaps first) all
   pub joined : AllAdjacentBelow (Joins leaps) all (length all)
 
-pub first_built : (leaps : List (ℕ × Leap)) (first : ℕ) → first ≤ 36523 → IsBuilt leaps first (record { day = first; seconds = 0; leap = None } ∷ [])
-first_built leaps first h =
-    let none : first - first ≡ 0 = omega arith in
-    let sum : seconds_in leaps first (first - first) ≡ 0 = ap (seconds_in leaps first) none in
-    let here : IsPlaced leaps first (record { day = first; seconds = 0; leap = None }) = record { from_on = omega arith; served = omega arith; seconds = sym sum } in
-    record {
-      some = omega arith;
-      start = λ d. refl;
-      placed = All-push (IsPlaced leaps first) [] _ (λ k d lt. absurd (omega arith)) here;
-      joined = λ k d lt. absurd (omega arith);
-    }
-
 pub next_built : (leaps : List (ℕ × Leap)) (first : ℕ) (front : List Stretch) (s next : Stretch) → IsBuilt leaps first (front ++ s ∷ []) → IsPlaced leaps first next → Joins leaps s next → IsBuilt leaps first ((front ++ s ∷ []) ++ next ∷ [])
 next_built leaps first front s next built placed joins =
     let all = front ++ s ∷ [] in
@@ -99,18 +87,6 @@ last_placed leaps first front s built =
 pub few_seconds : (leaps : List (ℕ × Leap)) (first : ℕ) (s : Stretch) → IsPlaced leaps first s → s.seconds < 2 ^ 32
 few_seconds leaps first s placed = omega (arith, placed.seconds, placed.served, (seconds_bounds leaps first (s.day - first)).1)
 
-pub all_built : (leaps : List (ℕ × Leap)) (first : ℕ) (front : List Stretch) (s : Stretch) → IsBuilt leaps first (front ++ s ∷ []) → HasNoLeapFrom leaps s.day → IsIndex leaps first (front ++ s ∷ [])
-all_built leaps first front s built none =
-    let all = front ++ s ∷ [] in
-    let last : length all - 1 ≡ length front = omega (arith, length-append front (s ∷ [])) in
-    record {
-      some = built.some;
-      start = built.start;
-      placed = built.placed;
-      joined = built.joined;
-      plain_after = λ d. rw (last, get_or-append_seam front s [] d) none;
-    }
-
 -- ---- the first leap from a day on
 
 -- of the first i leaps this is the first from a day on
@@ -118,53 +94,6 @@ abbrev pub IsFirstOf : List (ℕ × Leap) → ℕ → ℕ → Option (ℕ × Lea
 IsFirstOf leaps from i None = (k : ℕ) (x : ℕ × Leap) → k < i → slice_get leaps k ≡ Some x → x.0 < from
 IsFirstOf leaps from i (Some e) =
     (from ≤ e.0) × ((k : ℕ) × (slice_get leaps k ≡ Some e)) × ((k : ℕ) (x : ℕ × Leap) → k < i → slice_get leaps k ≡ Some x → (x.0 < from) ⊎ (e.0 ≤ x.0))
-
-visited : (leaps : List (ℕ × Leap)) (i k : ℕ) (x y : ℕ × Leap) → k < i + 1 → slice_get leaps i ≡ Some x → slice_get leaps k ≡ Some y → (k < i) ⊎ (y ≡ x)
-visited leaps i k x y lt here there =
-    elim (cases_lt k i) [
-      | inl before ↦ inl before
-      | inr ge ↦
-          let at : k ≡ i = omega arith in
-          let same : slice_get leaps i ≡ Some y = subst (λ (j : ℕ). slice_get leaps j ≡ Some y) at there in
-          inr cc
-    ]
-
-pub none_visited : (leaps : List (ℕ × Leap)) (from : ℕ) → IsFirstOf leaps from 0 None
-none_visited leaps from k x lt e = absurd (omega arith)
-
--- a leap that is earlier than the one found so far
-pub earlier_taken : (leaps : List (ℕ × Leap)) (from i : ℕ) (next : Option (ℕ × Leap)) (x : ℕ × Leap) → IsFirstOf leaps from i next → slice_get leaps i ≡ Some x → from ≤ x.0 → comes_before x.0 next ≡ true → IsFirstOf leaps from (i + 1) (Some x)
-earlier_taken leaps from i None x h here low before = (
-  low,
-  (i, here),
-  λ k y lt e. elim (visited leaps i k x y lt here e) [ inl old ↦ inl (h k y old e) | inr same ↦ inr (omega (arith, ap (λ (z : ℕ × Leap). z.0) same)) ],
-)
-earlier_taken leaps from i (Some n) x h here low before = (
-  low,
-  (i, here),
-  λ k y lt e. elim (visited leaps i k x y lt here e) [
-    | inl old ↦ elim (h.2 k y old e) [ inl out ↦ inl out | inr later ↦ inr (omega (arith, later, ltb-true x.0 n.0 before)) ]
-    | inr same ↦ inr (omega (arith, ap (λ (z : ℕ × Leap). z.0) same))
-  ],
-)
-
-pub other_left : (leaps : List (ℕ × Leap)) (from i : ℕ) (next : Option (ℕ × Leap)) (x : ℕ × Leap) → IsFirstOf leaps from i next → slice_get leaps i ≡ Some x → (x.0 < from) ⊎ (comes_before x.0 next ≡ false) → IsFirstOf leaps from (i + 1) next
-other_left leaps from i None x h here out =
-    λ k y lt e. elim (visited leaps i k x y lt here e) [
-      | inl old ↦ h k y old e
-      | inr same ↦ elim out [ inl low ↦ omega (arith, low, ap (λ (z : ℕ × Leap). z.0) same) | inr after ↦ absurd cc ]
-    ]
-other_left leaps from i (Some n) x h here out = (
-  h.0,
-  h.1,
-  λ k y lt e. elim (visited leaps i k x y lt here e) [
-    | inl old ↦ h.2 k y old e
-    | inr same ↦ elim out [
-      | inl low ↦ inl (omega (arith, low, ap (λ (z : ℕ × Leap). z.0) same))
-      | inr after ↦ inr (omega (arith, ltb-false x.0 n.0 after, ap (λ (z : ℕ × Leap). z.0) same))
-    ]
-  ],
-)
 
 -- no entry of the day
 none_there : (xs : List (ℕ × Leap)) (day : ℕ) → ((k : ℕ) (x : ℕ × Leap) → slice_get xs k ≡ Some x → ¬ (x.0 ≡ day)) → leap_of xs day ≡ None

@@ -2,9 +2,6 @@
 use Rattle.std.proofs.Common.{◌≡◌, ℕ, zero, suc, ◌+◌, ◌<◌, List, ◌++◌, refl, sym, ap, ◌∙◌, append-nil, append_assoc, arith}
 use Rattle.report_blame.specs.Text.{texts_below}
 
-pub no_text : (f : ℕ → List ℕ) (b : List ℕ) → b ≡ b ++ texts_below f 0
-no_text f b = sym (append-nil b)
-
 texts_more : (f : ℕ → List ℕ) (n : ℕ) → texts_below f (n + 1) ≡ texts_below f n ++ f n
 texts_more f n = let next : n + 1 ≡ suc n = omega arith in ap (texts_below f) next
 

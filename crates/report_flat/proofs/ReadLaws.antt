@@ -54,10 +54,6 @@ all_in (n ∷ ns) h =
 reader_says : (names : List (List ℕ)) (at : ℕ) (d : Data) → are_names names ≡ true → at < length names → text_at (codes "r") d ≡ Some (name_at names at) → reader_at names keys.r d ≡ Some at
 reader_says names at d named low stands = ap (option_and_then (λ name. position (λ n. bytes_eq name n) names)) stands ∙ reader_found names at named low
 
-at_reader_name : (word name : List ℕ) → text_at (codes "r") (at_reader word name) ≡ Some name
-unfolding text_at
-at_reader_name word name = refl
-
 pulses_name : (g : ℕ) (name widths : List ℕ) → text_at (codes "r") (pulses g name widths) ≡ Some name
 unfolding text_at
 pulses_name g name widths = refl

@@ -21,9 +21,6 @@ name_in_texts names reader = slice_get-map string_bytes names reader
 pub record HasAdded (names : List (List ℕ)) (all : Bool) (before now : List ℕ) (rest entries : List Entry) : Type 0 where
   pub is : now ++ entries_text names all rest ≡ before ++ entries_text names all entries
 
-pub none_added : (names : List (List ℕ)) (all : Bool) (before : List ℕ) (entries : List Entry) → HasAdded names all before before entries entries
-none_added names all before entries = record { is = refl }
-
 if_kept : (line : Entry → List ℕ) (b : Bool) (e : Entry) (es : List Entry) → flat_map line (cond b (e ∷ es) es) ≡ cond b (line e) [] ++ flat_map line es
 if_kept line true e es = refl
 if_kept line false e es = refl
