@@ -62,6 +62,9 @@ none_of b e = rw e refl
 one_of : (b : Bool) → b ≡ true → ◌≡◌ {A = ℕ} (cond b 1 0) 1
 one_of b e = rw e refl
 
+many_told : (f n : ℕ) → f < n → nat_lt f n ≡ true
+many_told f n more = search rules
+
 -- ---- the first claim that more than f tell
 
 first_many : (f : ℕ) (ports ts : List Told) (c : Claim) → first_told f ports ts ≡ Some c → f < carriers c ports
@@ -101,6 +104,24 @@ unfolding vote_of
 vote_counts t One c = enough_told 1 (ports_of t One) (vote_of t One) c (omega arith) refl
 vote_counts t Three c = enough_told 2 (ports_of t Three) (vote_of t Three) c (omega arith) refl
 vote_counts t Five c = enough_told 3 (ports_of t Five) (vote_of t Five) c (omega arith) refl
+
+-- the first ports are enough, if they agree
+pub two_agree : (t : Tells) (c : Claim) → t.a ≡ tells.Claim c → is_told c t.b ≡ true → Some c ≡ vote_of t Three
+unfolding vote_of
+two_agree t c a b =
+    let ports = ports_of t Three in
+    let first : is_told c t.a ≡ true = subst (λ (u : Told). is_told c u ≡ true) (sym a) (same_itself c) in
+    let many : nat_lt 1 (carriers c ports) ≡ true = many_told 1 (carriers c ports) (omega (arith, carriers-cons c t.a (t.b ∷ t.c ∷ []), carriers-cons c t.b (t.c ∷ []), one_of (is_told c t.a) first, one_of (is_told c t.b) b)) in
+    sym (ap (λ (u : Told). first_told 1 ports (u ∷ t.b ∷ t.c ∷ [])) a ∙ rw many refl)
+
+pub three_agree : (t : Tells) (c : Claim) → t.a ≡ tells.Claim c → is_told c t.b ≡ true → is_told c t.c ≡ true → Some c ≡ vote_of t Five
+unfolding vote_of
+three_agree t c a b d =
+    let ports = ports_of t Five in
+    let rest = t.d ∷ t.e ∷ [] in
+    let first : is_told c t.a ≡ true = subst (λ (u : Told). is_told c u ≡ true) (sym a) (same_itself c) in
+    let many : nat_lt 2 (carriers c ports) ≡ true = many_told 2 (carriers c ports) (omega (arith, carriers-cons c t.a (t.b ∷ t.c ∷ rest), carriers-cons c t.b (t.c ∷ rest), carriers-cons c t.c rest, one_of (is_told c t.a) first, one_of (is_told c t.b) b, one_of (is_told c t.c) d)) in
+    sym (ap (λ (u : Told). first_told 2 ports (u ∷ t.b ∷ t.c ∷ rest)) a ∙ rw many refl)
 
 -- ports that tell this claim tell another than any other
 carriers-others : (c d : Claim) (ports : List Told) → same_claim c d ≡ false → carriers d ports ≤ others c ports

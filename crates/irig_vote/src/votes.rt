@@ -2,6 +2,7 @@
 
 ghost use Rattle.std.specs.Prelude.{◌≡◌, ◌↔◌, ◌+◌, ◌-◌, ◌*◌, ◌<◌, ◌≤◌, Some, length};
 ghost use Rattle.irig_time.specs.declared.claim.Claim.{Claim};
+ghost use Rattle.irig_vote.specs.declared.redundancy.Redundancy.TheVariants.{Three, Five};
 ghost use Rattle.irig_vote.specs.Vote.{is_told, carriers, f_of, first_told, ports_of, vote_of};
 
 use crate::redundancy::Redundancy;
@@ -34,12 +35,39 @@ pub fn vote(tells: &Tells, redundancy: Redundancy) -> Option<Claim>
 {
     match redundancy {
         Redundancy::One => claim_told_by(1, &[tells.a]),
-        Redundancy::Three => claim_told_by(2, &[tells.a, tells.b, tells.c]),
-        Redundancy::Five => claim_told_by(3, &[tells.a, tells.b, tells.c, tells.d, tells.e]),
+        Redundancy::Three => vote_of_three(tells),
+        Redundancy::Five => vote_of_five(tells),
     }
 }
 
-/// The claim that at least `enough` of the ports tell, if that is more than half of them.
+// Mostly the first ports agree, and then no other has to be looked at.
+#[inline(always)]
+fn vote_of_three(tells: &Tells) -> Option<Claim>
+    ensures { result ≡ vote_of tells.now Three }
+{
+    if let Told::Claim(claim) = &tells.a
+        && tells_claim(&tells.b, claim)
+    {
+        return Some(*claim);
+    }
+    claim_told_by(2, &[tells.a, tells.b, tells.c])
+}
+
+#[inline(always)]
+fn vote_of_five(tells: &Tells) -> Option<Claim>
+    ensures { result ≡ vote_of tells.now Five }
+{
+    if let Told::Claim(claim) = &tells.a
+        && tells_claim(&tells.b, claim)
+        && tells_claim(&tells.c, claim)
+    {
+        return Some(*claim);
+    }
+    claim_told_by(3, &[tells.a, tells.b, tells.c, tells.d, tells.e])
+}
+
+// The claim that at least `enough` of the ports tell, if that is more than half of them.
+#[inline(never)]
 fn claim_told_by(enough: usize, ports: &[Told]) -> Option<Claim>
     requires { length ports.now < 2 * enough }
     ensures value { result ≡ first_told (enough - 1) ports.now ports.now }
@@ -66,5 +94,8 @@ fn carriers(claim: &Claim, ports: &[Told]) -> usize
 fn tells_claim(told: &Told, claim: &Claim) -> bool
     ensures { result ≡ is_told claim.now told.now }
 {
-    *told == Told::Claim(*claim)
+    match told {
+        Told::Claim(other) => other == claim,
+        _ => false,
+    }
 }
