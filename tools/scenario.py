@@ -58,9 +58,9 @@ def _step(scenario: Scenario, word: str) -> None:
         scenario.lose(count(seconds), generators, readers)
     elif name == "fault":
         generator, kind, *given = parts
-        scenario.fault(*numbers([generator]), kind, **_value(kind, given))
+        scenario.fault(numbers([generator])[0], kind, **_value(kind, given))
     elif name == "repair":
-        scenario.repair(*numbers(parts))
+        scenario.repair(numbers(parts)[0])
     else:
         scenario.restart(one_of(parts[0], scenario.readers))
 
