@@ -238,7 +238,7 @@ class InBrowser(browser.Driven):
     def test_memory_runs_out(self) -> None:
         self.set("most", "64")
         state = self.run_text(plant({"do": "seconds", "n": 100_000}, readers=SIXTEEN))
-        self.assertTrue(state.startswith("no memory for the log: "), state)
+        self.assertTrue(state.startswith("no memory for the run: "), state)
         self.assertIn("memory ran out", self.text("verdict"))
         self.picture("memory")
         self.assertTrue(self.run_text(plant({"do": "seconds", "n": 3})).startswith("done: 4 lines"))
