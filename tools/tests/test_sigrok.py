@@ -395,7 +395,7 @@ class Frames(unittest.TestCase):
 
     def frames(self) -> list[str]:
         """Those that a line can carry, once each."""
-        ran = subprocess.run([ROOT / "tests/list_runs", "--frames"], capture_output=True, text=True)
+        ran = subprocess.run([ROOT / "tests/list_frames"], capture_output=True, text=True)
         self.assertEqual(ran.returncode, 0)
         found = {line.replace(" ", "") for line in ran.stdout.splitlines()}
         ports = itertools.chain.from_iterable(run.ports for run in runs())
