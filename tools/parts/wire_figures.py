@@ -15,15 +15,16 @@ matplotlib.rcdefaults()  # a picture is the same whatever the user's own setting
 matplotlib.rcParams.update({"svg.hashsalt": "irig", "hatch.linewidth": 0.8})
 
 SMALL, NORMAL, LARGE = 8.0, 9.0, 12.0
-BLUE, ORANGE, GREY = "#0072B2", "#E69F00", "#888888"
+BLUE, ORANGE, GREY, DARK = "#0072B2", "#E69F00", "#888888", "#444444"
 ELEMENT_US, SECOND_US, ELEMENTS = 10_000, 1_000_000, 100
 TIME = irig.Second.read("2016-12-31T23:59:57Z")
+APART = (0, 300, 700)  # how late each of three lines comes, in microseconds
 Pulse = tuple[int, int]  # when it rises, and its width, in microseconds
 
 
-def frames(count: int) -> list[Pulse]:
+def frames(count: int, second: irig.Second = TIME) -> list[Pulse]:
     """The pulses of so many seconds of a line, over the leap second."""
-    pulses, second = [], TIME
+    pulses = []
     for number in range(count):
         pending = "insert" if second.day == TIME.day else None
         for element, width in enumerate(irig.widths(irig.frame(second, pending=pending))):
@@ -47,6 +48,12 @@ def plain(axes: Axes) -> None:
     for side in ("left", "right", "top"):
         axes.spines[side].set_visible(False)
     axes.tick_params(labelsize=SMALL)
+
+
+def head(figure: Figure, title: str, words: str) -> None:
+    height = figure.get_size_inches()[1]
+    figure.text(0.03, 1 - 0.3 / height, title, size=LARGE, weight="bold")
+    figure.text(0.03, 1 - 0.55 / height, words, size=SMALL, color=DARK)
 
 
 # ---- what a line carries
@@ -91,20 +98,23 @@ def frame_figure() -> Figure:
 # ---- where a tick belongs
 
 
+def draw_lines(axes: Axes, pulses: list[Pulse], begin: int, end: int) -> None:
+    for row, late in enumerate(APART):
+        times, heights = levels([(rise + late, width) for rise, width in pulses], begin, end)
+        foot = 2.6 - 1.1 * row
+        tops = [foot + 0.8 * height for height in heights]
+        axes.fill_between(times, foot, tops, color=BLUE, alpha=0.25, lw=0)
+        axes.plot(times, tops, color=BLUE, lw=1.2)
+        name = f"line {row}\n+{late} us"
+        axes.text(begin / 1000 - 0.4, foot + 0.4, name, size=SMALL, ha="right", va="center")
+
+
 def edge_figure() -> Figure:
     """Three lines apart, round an edge."""
     figure = Figure(figsize=(9.0, 3.3))
     axes = figure.add_axes([0.10, 0.17, 0.87, 0.60])
-    apart = (0, 300, 700)
-    for row, late in enumerate(apart):
-        pulses = [(rise + late - SECOND_US, width) for rise, width in frames(2)]
-        times, heights = levels(pulses, -25_000, 25_000)
-        foot = 2.6 - 1.1 * row
-        axes.fill_between(times, foot, [foot + 0.8 * height for height in heights], color=BLUE,
-                          alpha=0.25, lw=0)
-        axes.plot(times, [foot + 0.8 * height for height in heights], color=BLUE, lw=1.2)
-        axes.text(-25.4, foot + 0.4, f"line {row}\n+{late} us", size=SMALL, ha="right", va="center")
-    begin, end = (-ELEMENT_US + 8000 + max(apart)) / 1000, (8000 + min(apart)) / 1000
+    draw_lines(axes, [(rise - SECOND_US, width) for rise, width in frames(2)], -25_000, 25_000)
+    begin, end = (-ELEMENT_US + 8000 + max(APART)) / 1000, (8000 + min(APART)) / 1000
     axes.add_patch(Rectangle((begin, 0.2), end - begin, 3.4, color="#009E73", alpha=0.15, lw=0))
     axes.text((begin + end) / 2, 3.75, "a tick here is right", size=SMALL, ha="center", color="#00664B")
     for time, name in ((0.0, "the edge"), (5.0, "own clock, only if\nlines do not agree")):
@@ -214,9 +224,8 @@ def faults_figure() -> Figure:
     axes.set_ylim(-0.25, len(rows))
     axes.set_xticks(range(edges + 1))
     axes.set_xlabel("seconds; at each edge stands what the port then tells", size=SMALL)
-    figure.text(0.03, 1 - 0.3 / height, "What a fault does", size=LARGE, weight="bold")
-    figure.text(0.03, 1 - 0.55 / height, "blue bar: pulses that have a place in their frame; thin orange bar:"
-                " out of step; the triangle is the fault", size=SMALL, color="#444444")
+    head(figure, "What a fault does", "blue bar: pulses that have a place in their frame; thin orange bar:"
+         " out of step; the triangle is the fault")
     return figure
 
 
