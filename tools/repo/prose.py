@@ -22,6 +22,9 @@ PRODUCT = re.compile(r"^((?!example_|test_|bench_)[a-z]+_\w+)(?: staticlib)?:", 
 CRATE = re.compile(r"^(\w+)(?: staticlib)?:", re.MULTILINE)
 USES = re.compile(r"^(\w+)(?: staticlib)?:(.*)", re.MULTILINE)
 CRATES = re.compile(r"\b(?:irig|scenario|report|text|c|cli)_\w+")
+# What takes its time, which is said in docs/PROOFS.md alone, and a time.
+BUILD = re.compile(r"`(?:\./build|\./check|\.ci/run|rt ci|make -C c|\./irig)[^`]*`")
+TIME = re.compile(r"\b(?:an?|\d[\d,.]*(?: to \d[\d,.]*)?) (?:s|seconds?|minutes?|hours?)\b")
 NAME = re.compile(r"`[^`]*`|\b(irig_[a-z]\w*)\b")
 
 
@@ -75,6 +78,18 @@ def words_in(text: str) -> list[str]:
 def long_sentences(text: str) -> list[str]:
     """Those with more than LONGEST words."""
     return [sentence for sentence in sentences(text) if len(words_in(sentence)) > LONGEST]
+
+
+def timed_builds(text: str) -> list[str]:
+    """Sentences that say how long a build takes."""
+    found = [sentence for passage in passages(text) for sentence in SENTENCE_END.split(passage)]
+    return [sentence for sentence in found if BUILD.search(sentence) and TIME.search(sentence)]
+
+
+def is_linked_first(text: str) -> bool:
+    """Whether the first term that is set off is a link to the glossary."""
+    term = re.search(r"(?<![*\w])\*\w[^*]*\*(?!\*)", text)
+    return not term or text[term.end() :].startswith("](docs/GLOSSARY.md)")
 
 
 def runs_in(text: str) -> set[tuple[str, ...]]:

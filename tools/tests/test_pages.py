@@ -50,6 +50,20 @@ class Sentences(unittest.TestCase):
         ):
             self.assertEqual(len(prose.long_sentences(text)), count, text)
 
+    def test_times_of_builds(self) -> None:
+        for text, count in (
+            ("`./build` takes 11 minutes.\n", 1), ("A minute passes, and `./irig` runs.\n", 0),
+            ("In a minute `./irig` runs.\n", 1), ("`./build` makes it. It lasts 3 s.\n", 0),
+        ):
+            self.assertEqual(len(prose.timed_builds(text)), count, text)
+
+    def test_the_first_term(self) -> None:
+        for text, is_linked in (
+            ("**A** [*frame*](docs/GLOSSARY.md).", True), ("A *frame*; [words](docs/GLOSSARY.md).", False),
+            ("No term.", True), ("2 * 3 * 4, a [*tick*](docs/C.md).", False),
+        ):
+            self.assertEqual(prose.is_linked_first(text), is_linked, text)
+
     def test_ten_may_be_long(self) -> None:
         long = words(36) + ".\n\n"
         self.assertEqual(list(pages.faults_of_sentences({"a": 5 * long, "b": 5 * long})), [])
