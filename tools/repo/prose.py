@@ -22,6 +22,9 @@ PRODUCT = re.compile(r"^((?!example_|test_|bench_)[a-z]+_\w+)(?: staticlib)?:", 
 CRATE = re.compile(r"^(\w+)(?: staticlib)?:", re.MULTILINE)
 USES = re.compile(r"^(\w+)(?: staticlib)?:(.*)", re.MULTILINE)
 CRATES = re.compile(r"\b(?:irig|scenario|report|text|c|cli)_\w+")
+# A term that is set off, and the first cell of a row.
+TERM = re.compile(r"(?<![*\w])\*([^\W\d_][\w -]+)\*(?!\*)")
+FIRST_CELL = re.compile(r"^\| ([^|]+) \|", re.MULTILINE)
 # What takes its time, which is said in docs/PROOFS.md alone, and a time.
 BUILD = re.compile(r"`(?:\./build|\./check|\.ci/run|rt ci|make -C c|\./irig)[^`]*`")
 TIME = re.compile(r"\b(?:an?|\d[\d,.]*(?: to \d[\d,.]*)?) (?:s|seconds?|minutes?|hours?)\b")
@@ -86,9 +89,21 @@ def timed_builds(text: str) -> list[str]:
     return [sentence for sentence in found if BUILD.search(sentence) and TIME.search(sentence)]
 
 
+def unlisted_terms(texts: dict[str, str], glossary: str) -> dict[str, str]:
+    """The terms that pages set off and the glossary's first column lacks, each with a page that has it."""
+    listed = {word.strip() for row in FIRST_CELL.findall(glossary) for word in row.lower().split(",")}
+    found: dict[str, str] = {}
+    for name, text in texts.items():
+        for passage in passages(text):
+            for term in TERM.findall(passage):
+                if term.lower() not in listed:
+                    found.setdefault(term.lower(), name)
+    return found
+
+
 def is_linked_first(text: str) -> bool:
     """Whether the first term that is set off is a link to the glossary."""
-    term = re.search(r"(?<![*\w])\*\w[^*]*\*(?!\*)", text)
+    term = TERM.search(text)
     return not term or text[term.end() :].startswith("](docs/GLOSSARY.md)")
 
 

@@ -57,6 +57,11 @@ class Sentences(unittest.TestCase):
         ):
             self.assertEqual(len(prose.timed_builds(text)), count, text)
 
+    def test_terms_without_a_row(self) -> None:
+        glossary = "| Word | Meaning |\n|---|---|\n| line, of wires | a wire |\n| told edge | when |\n"
+        texts = {"a.md": "A *Line*, a *told edge* and a *stray*: 2 * 3 * 4, **no term**.\n", "b.md": "A *stray*.\n"}
+        self.assertEqual(prose.unlisted_terms(texts, glossary), {"stray": "a.md"})
+
     def test_the_first_term(self) -> None:
         for text, is_linked in (
             ("**A** [*frame*](docs/GLOSSARY.md).", True), ("A *frame*; [words](docs/GLOSSARY.md).", False),
@@ -115,7 +120,7 @@ class TheNumberThatMayFall(InAFolder):
     def test_it_falls_and_never_rises(self) -> None:
         kept, page = self.folder / "shared_runs", self.folder / "a.md"
         page.write_text("a b c d e f g h\n")
-        with mock.patch.multiple(pages, SHARED=kept, BY_HAND=[page], ROOT=self.folder):
+        with mock.patch.multiple(pages, SHARED=kept, UNLISTED=kept, BY_HAND=[page], ROOT=self.folder):
             for before, after in (("5", "0\n"), ("0", "0\n")):
                 kept.write_text(before)
                 pages.lay_out()
