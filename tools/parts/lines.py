@@ -9,6 +9,7 @@ from __future__ import annotations
 
 import json
 import os
+import struct
 import subprocess
 import wave
 from heapq import merge
@@ -18,6 +19,9 @@ from pathlib import Path
 from typing import BinaryIO, Dict, Iterator, List, Optional, Sequence, TextIO, Tuple
 
 from parts.command import program
+from parts.comtrade import NO_TIME, leap_field
+
+from irig import Leap, Second
 
 ELEMENT_US, SECOND_US = 10_000, 1_000_000
 FIRST_EDGE_US, TAIL_US = 50_000, 20_000
@@ -95,6 +99,8 @@ class Lines:
         if reader not in (None, *readers):
             raise ValueError(f"it has no reader {reader!r}; it has {', '.join(readers)}")
         self.reader: str = reader or readers[0]
+        self.start = Second.read(plant["start"])
+        self.leaps = [Leap(leap["day"], leap["kind"]) for leap in plant["leaps"]]
         self.names = [f"G{number}" for number in range(len(plant["generators"]))]
         count = len(self.names)
         if late and len(late) != count:
@@ -282,6 +288,30 @@ def write_samples(out: TextIO, lines: Lines, rate: int) -> None:
         text = levels[high]
         out.writelines(f"{number / rate:.6f}{text}" for number in range(row, last))
         row = last
+
+
+def write_record(path: Path, lines: Lines, rate: int, is_text: bool) -> None:
+    """A disturbance record of COMTRADE, of 2013: a .cfg, and its .dat of text or of numbers."""
+    count, length = len(lines.names), _sample(lines.end_us, rate)
+    first = lines.start.plus(-1, lines.leaps)  # 950 ms behind it is sample 1
+    leap = leap_field(first, first.plus(lines.end_us // SECOND_US + 1, lines.leaps), lines.leaps)
+    day, clock = str(first)[:10].split("-"), str(first)[11:19]
+    stamp = f"{'/'.join(reversed(day))},{clock}.{SECOND_US - FIRST_EDGE_US:06}"
+    channels = [f"{number},{name},,,0" for number, name in enumerate(lines.names, 1)]
+    form = "ASCII" if is_text else "BINARY"
+    rows = [f"irig,{lines.reader},2013", f"{count},0A,{count}D", *channels, "50", "1", f"{rate},{length}",
+            stamp, stamp, form, "1", "0,0", f"0,{leap}", ""]
+    path.write_bytes("\r\n".join(rows).encode())
+    with open(path.with_suffix(".dat"), "wb") as file:
+        begin = 0
+        for time, high in lines.spans():
+            end = _sample(time, rate)
+            bits = "".join(f",{high >> line & 1}" for line in range(count))
+            for number in range(begin, end):
+                at = min(round(number * SECOND_US / rate), NO_TIME)
+                file.write(f"{number + 1},{at}{bits}\r\n".encode() if is_text
+                           else struct.pack("<IIH", number + 1, at, high))
+            begin = end
 
 
 def write_sound(path: Path, lines: Lines, rate: int) -> None:

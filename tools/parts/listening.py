@@ -13,13 +13,14 @@ from irig import (
 )
 from irig.words import Sense
 
-from parts.recordings import END, Change
+from parts.changes import END, Change
 
 ELEMENT_US, SECOND_US = 10_000, 1_000_000
 KEPT_US = 100_000  # how long behind its end a timekeeper keeps a frame
 AGREE_US = 1_000  # a frame that ends so near to an edge is of it
 BEHIND_US = 5_000  # how long behind a recording's end it is still ticked
 WORD = 1 << 32  # at which its counter wraps
+MOST_EARLY = 300  # pulses that are kept of a line's beginning
 NEVER = float("inf")
 
 symbol_of = lru_cache(maxsize=4096)(classify)
@@ -82,6 +83,7 @@ class View:
         self.heard: List[Tuple[int, int]] = []  # rises and widths, in step since a frame began
         self.whole: List[Tuple[int, int]] = []  # those of the last frame
         self.rise = self.last_rise = -NEVER
+        self.early: List[Tuple[float, int]] = []  # the first rises and widths, of a short recording all
         self.pulses = self.frames = self.out_of_step = self.begun = self.on_time = 0
         self.widths = {letter: Spread() for letter in "01P?"}
         self.gaps = Spread()  # between pulses in step
@@ -118,6 +120,8 @@ class View:
         self.begun += place == 1
         self.frames += place == 100
         self.widths[symbol_of(width)].add(width)
+        if self.pulses <= MOST_EARLY:
+            self.early.append((self.rise, width))
         if gap < NEVER:
             self.rises[min(round(gap / 100), 10_000)] += 1
             is_on_time = 9_000 <= gap < 11_000
@@ -229,6 +233,7 @@ class Device:
         self.count = 0
         self.first: Optional[Tick] = None
         self.last: Optional[Tick] = None
+        self.end = 0.0  # of the recording
         self.apart = 0.0  # how far frames that ended near an edge were apart at most
         self._keeper = keeper
         self._due = -NEVER  # at which the recording begins
@@ -241,6 +246,7 @@ class Device:
             if self._due <= time:
                 yield from self._until(time)
             if number == END:
+                self.end = time
                 yield from self._until(time + BEHIND_US)
             elif self.lines[number].change(time, level):
                 self._ask(round(time))
@@ -329,6 +335,8 @@ def _oddity(line: Line) -> Optional[str]:
         return None
     if view.pulses == 1:
         return "one pulse alone is on it"
+    if not view.widths["0"].count and view.widths["1"].count and view.widths["P"].count:
+        return "no pulse of 2 ms is on it: a filter of its input, of milliseconds, takes them away"
     if 2 * view.on_time <= view.pulses - 1:
         tenths = view.rises.most_common(1)[0][0]
         apart = f"its pulses are not 10 ms apart but, most often, {tenths / 10:g} ms"

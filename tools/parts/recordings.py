@@ -3,6 +3,7 @@
     .vcd       value change dump: PulseView, sigrok-cli, GTKWave, logic analysers
     .csv       sigrok's own, a row a sample; with times in its first column, a row a change or a
                sample, of levels or of volts; or pulses, with the columns port, rise_us, width_us
+    .cfg       disturbance records (comtrade.py)
 
 sigrok-cli makes a value change dump of a session of its own (.sr), and a table of volts of a sound
 (.wav). It reads tables too, but takes each row for a sample.
@@ -18,12 +19,10 @@ from dataclasses import dataclass
 from io import TextIOWrapper
 from itertools import chain
 from pathlib import Path
-from typing import Callable, Dict, Iterable, Iterator, List, Optional, Sequence, TextIO, Tuple
+from typing import Dict, Iterator, List, Optional, Sequence, TextIO, Tuple
 
-# The time in microseconds, the place of the channel among those wanted, the level. What a channel
-# begins with is a change too. The last change is the recording's end, of the channel END.
-Change = Tuple[float, int, int]
-END = -1
+from parts.changes import END, Change, Level, Recording, in_order
+from parts.comtrade import open_record
 
 UNITS_US = {"s": 1e6, "ms": 1e3, "us": 1.0, "ns": 1e-3, "ps": 1e-6, "fs": 1e-9}
 HERTZ = {"hz": 1.0, "khz": 1e3, "mhz": 1e6, "ghz": 1e9}
@@ -31,19 +30,10 @@ MADE = {".sr": "vcd", ".wav": "csv"}  # what sigrok-cli makes of others
 WORD = 1 << 32  # at which the times of a list of pulses wrap
 LONGEST_US = 1_000_000  # a pulse of a list stands within so much behind another that ended before
 PULSE = ["port", "rise_us", "width_us"]  # the columns of a list of pulses
-HYSTERESIS = 0.1  # of the most that the line was ever off the threshold
-
-
-@dataclass(frozen=True)
-class Recording:
-    """The names of its channels, and the changes of those that are wanted, by their places."""
-
-    names: List[str]
-    changes: Callable[[Sequence[int]], Iterator[Change]]
 
 
 def open_recording(path: Path, threshold: Optional[float]) -> Recording:
-    """Reads the head of a recording. The threshold, in volts, is for one of voltages."""
+    """Reads the head of a recording. The threshold is for voltages, in the channel's own unit."""
     ending = path.suffix.lower()
     if ending in (".vcd", ".sr"):
         return _dump(path)
@@ -51,7 +41,11 @@ def open_recording(path: Path, threshold: Optional[float]) -> Recording:
         return _table(path, threshold)
     if ending == ".wav":
         return _table(path, _of_sound(path, threshold or 0.0))
-    raise ValueError("it ends with none of .vcd, .sr, .csv, .wav")
+    if ending in (".cfg", ".cff"):
+        return open_record(path, threshold)
+    if ending == ".dat":
+        raise ValueError(f"these are the samples of a record: name its {path.stem}.cfg")
+    raise ValueError("it ends with none of .vcd, .sr, .csv, .wav, .cfg, .cff")
 
 
 def _of_sound(path: Path, threshold: float) -> float:
@@ -95,16 +89,6 @@ def _rate_of(text: str) -> float:
     return float(found[1]) * HERTZ[(found[2] or "hz").lower()]
 
 
-def _in_order(changes: Iterable[Change]) -> Iterator[Change]:
-    """The same changes; a time that goes back is refused."""
-    last = float("-inf")
-    for change in changes:
-        if change[0] < last:
-            raise ValueError(f"its times go back, from {last:.3f} to {change[0]:.3f} us")
-        last = change[0]
-        yield change
-
-
 # ---- value change dumps
 
 
@@ -128,7 +112,7 @@ def _dump(path: Path) -> Recording:
 
     def changes(wanted: Sequence[int]) -> Iterator[Change]:
         codes = list(wires.values())
-        return _in_order(_dumped(path, {codes[of]: place for place, of in enumerate(wanted)}, unit))
+        return in_order(_dumped(path, {codes[of]: place for place, of in enumerate(wanted)}, unit))
 
     return Recording(list(wires), changes)
 
@@ -212,7 +196,7 @@ def _table(path: Path, threshold: Optional[float]) -> Recording:
                          lambda wanted: _pulses(path, head.above, wanted))
 
     def changes(wanted: Sequence[int]) -> Iterator[Change]:
-        return _in_order(_tabled(path, head, wanted, threshold))
+        return in_order(_tabled(path, head, wanted, threshold))
 
     return Recording(head.names, changes)
 
@@ -267,39 +251,6 @@ def _tabled(
     if row < 0:
         raise ValueError("it has no row")
     yield times.of(row, line), END, 0
-
-
-class Level:
-    """A level of what a table or a sound says: 0 and 1, or volts by a threshold."""
-
-    def __init__(self, threshold: Optional[float]) -> None:
-        self.threshold = threshold
-        self.now = -1
-        self.most = 0.0
-
-    def hear(self, text: str) -> bool:
-        """Whether the level is another than before."""
-        before = self.now
-        if self.threshold is None:
-            self.now = _logical(text)
-        else:
-            self.take(float(text))
-        return self.now != before
-
-    def take(self, volts: float) -> None:
-        """An edge that is slow, and noisy, crosses once: by hysteresis about the threshold."""
-        assert self.threshold is not None
-        off = volts - self.threshold
-        self.most = max(self.most, abs(off))
-        if self.now < 0 or abs(off) > HYSTERESIS * self.most:
-            self.now = int(off > 0)
-
-
-def _logical(text: str) -> int:
-    word = text.strip().strip('"')
-    if word not in ("0", "1"):
-        raise ValueError(f"{word!r} is no level, 0 or 1; of volts --threshold says what is high")
-    return int(word)
 
 
 # ---- lists of pulses
