@@ -12,7 +12,7 @@ from parts.changes import Stamp
 from parts.listening import AGREE_US, ELEMENT_US, Line, symbol_of
 
 from irig import Fault, Leap, Second, frame
-from irig.seconds import day_text, is_month_end
+from irig.seconds import DAY, day_number, day_text, is_month_end
 from irig.words import Kind, Sense
 
 EXPLAINED_US = 60_000_000  # so near to a whole number of half hours a stamp may be local time
@@ -31,7 +31,15 @@ class Zero(NamedTuple):
 
     second: Second
     after_us: float
-    leaps: Sequence[Leap] = ()
+    leaps: Sequence[Leap]
+
+    @classmethod
+    def of(cls, stamp: Stamp, leaps: Sequence[Leap]) -> Zero:
+        """As a stamp has it that is a time. A second that is deleted is the one behind 23:59:58."""
+        assert stamp.second
+        is_deleted = any(leap.kind == "delete" and stamp.second == Second(day_number(leap.day), DAY - 1)
+                         for leap in leaps)
+        return cls(stamp.second - is_deleted, stamp.after_us + 1_000_000 * is_deleted, leaps)
 
     def __str__(self) -> str:
         seconds, rest = divmod(round(self.after_us / 1000), 1000)  # of milliseconds
@@ -50,7 +58,7 @@ def verdict(stamp: Stamp, zero: Zero, by: str) -> Iterator[str]:
     if stamp.second is None:
         yield f"the record's stamp, {stamp.text}, is no time that can be compared with the lines"
         return
-    told = Zero(stamp.second, stamp.after_us, zero.leaps)
+    told = Zero.of(stamp, zero.leaps)
     late, within = _after(told, zero), AGREE_US + stamp.step_us
     read = "" if stamp.zone is not None else ", read as UTC, as it names no zone"
     yield f"the record's stamp {_late(late, within)} by {by}: it says {told} for sample 1{read}"
@@ -59,9 +67,9 @@ def verdict(stamp: Stamp, zero: Zero, by: str) -> Iterator[str]:
     if read and half_hours and abs(rest) <= EXPLAINED_US:
         minutes = 30 * abs(half_hours)
         zone = f"{'-' if half_hours < 0 else '+'}{minutes // 60}:{minutes % 60:02}"
-        yield f"as local time of UTC{zone} it would be {_late(rest, within)}"
-    if stamp.trigger_us is not None:
-        yield f"its trigger was at {zero._replace(after_us=zero.after_us + stamp.trigger_us)} by them"
+        yield f"read as local time of UTC{zone} it {_late(rest, within)}"
+    if stamp.trigger_us:
+        yield f"by that its trigger was at {zero._replace(after_us=zero.after_us + stamp.trigger_us)}"
     if stamp.quality is not None:
         yield f"by its time quality the recorder's clock was {_quality(stamp.quality)}"
 
@@ -98,7 +106,7 @@ class Search(NamedTuple):
     """Where seconds are searched: so many seconds about a stamp, by lists of leap seconds that may be,
     and how lines are read."""
 
-    stamp: Zero
+    stamp: Stamp
     within: int
     leaps: Sequence[Sequence[Leap]]
     sense: Sense
@@ -116,10 +124,10 @@ class Search(NamedTuple):
         if not known and is_month_end(end):
             leaps += [[Leap(day_text(end), kind)] for kind in KINDS]
         free = FREE | BINARY_SECONDS if sbs == "ignore" else FREE
-        return cls(Zero(stamp.second, stamp.after_us), within, leaps, sense, free)
+        return cls(stamp, within, leaps, sense, free)
 
 
-def short_verdict(ports: Sequence[Line], stamp: Stamp, search: Search) -> Iterator[str]:
+def short_verdict(ports: Sequence[Line], search: Search) -> Iterator[str]:
     """What most ports say of the stamp of a recording that is too short for a vote of whole frames. If
     they say nothing it is a ValueError."""
     told: Dict[Line, Zero] = {}
@@ -127,7 +135,9 @@ def short_verdict(ports: Sequence[Line], stamp: Stamp, search: Search) -> Iterat
     for line in dict.fromkeys(ports):
         seen = _seen(line.view.early)
         zeros = _fitting(seen, search) if seen else []
-        if len(zeros) == 1:
+        if seen and _is_poor(seen):
+            heard.append(f"{line.name} says itself that its clock is off by a second or more")
+        elif len(zeros) == 1:
             told[line] = zeros[0]
             heard.append(f"{line.name} has the recording begin at {zeros[0]}")
         elif seen:
@@ -138,10 +148,11 @@ def short_verdict(ports: Sequence[Line], stamp: Stamp, search: Search) -> Iterat
         agreed = [line for line in ports if line in told and abs(_after(told[line], zero)) <= AGREE_US]
         if 2 * len(agreed) > len(ports):
             lines = f"{len(set(agreed))} of {len(set(ports))} lines"
-            yield from verdict(stamp, zero, f"{lines}, if it is right within {search.within} s")
+            yield f"0.000 s of the recording is {zero}, by {lines}"
+            yield from verdict(search.stamp, zero, f"{lines}, if it is right within {search.within} s")
             yield "the recording is too short for a scenario, so none is written"
             return
-    near = f"within {search.within} s of the stamp {search.stamp}"
+    near = f"within {search.within} s of the stamp, {Zero.of(search.stamp, ())}"
     raise ValueError(f"undecided: most lines do not tell the same second {near}: {'; '.join(heard)}")
 
 
@@ -168,17 +179,22 @@ def _seen(pulses: Sequence[Tuple[float, int]]) -> Optional[Seen]:
     return Seen(begins_us, {at - begins: symbol for at, symbol in symbols.items()})
 
 
+def _is_poor(seen: Seen) -> bool:
+    """Whether a frame says that it is of a quality from 10 on, which tells no second."""
+    ones = {element for element, symbol in seen.symbols.items() if symbol == "1"}
+    return any({at + 74, at + bit} <= ones for at in (-100, 0, 100, 200) for bit in (72, 73))
+
+
 def _fitting(seen: Seen, search: Search) -> List[Zero]:
     """The beginnings of a recording that fit all that is seen of a line."""
     found: Dict[Tuple[int, Second], Zero] = {}
-    middle = round((search.stamp.after_us + seen.begins_us) / 1e6)
     numbers = {element // 100 for element in seen.symbols}
-    counts = range(middle - search.within, middle + search.within + 1)
-    for leaps, count in product(search.leaps, counts):
-        second = search.stamp.second.plus(count, leaps)
+    for leaps, away in product(search.leaps, range(-search.within, search.within + 1)):
+        told = Zero.of(search.stamp, leaps)
+        second = told.second.plus(round((told.after_us + seen.begins_us) / 1e6) + away, leaps)
         seconds = {number: second.plus(number, leaps) for number in numbers}
         if any(_fits(seen, seconds, zone, search) for zone in ZONES):
-            found[count, second] = Zero(second, -seen.begins_us, leaps)
+            found[away, second] = Zero(second, -seen.begins_us, leaps)
     return list(found.values())
 
 

@@ -126,7 +126,7 @@ ALTERED: dict[str, tuple[Callable[[Record], Record], list[str]]] = {
         [AGREES.format(3)]),
     "local time, and no zone": (
         lambda record: replace(later(-5 * 3600 + 1)(record), year=1999),
-        [EARLY.format("17999.000", 3), "read as UTC", "as local time of UTC-5:00 it would be 1.000 s late"]),
+        [EARLY.format("17999.000", 3), "read as UTC", "read as local time of UTC-5:00 it is 1.000 s late"]),
     "local time of a zone": (
         lambda record: replace(later(5.5 * 3600 - 2)(record), zone="+5h30,x"), [EARLY.format("2.000", 3)]),
     "a leap second that the recorder does not know": (
