@@ -204,6 +204,8 @@ def _time(text: str, revision: int, zone: int) -> Tuple[Optional[Second], int]:
         numbers.reverse()
     year = int(day[3]) + (2000 if len(day[3]) <= 2 else 0)
     hour, minute, second = (int(when[place]) for place in (1, 2, 3))
+    if hour > 23 or minute > 59 or second > 60:
+        return None, 0
     after = round(float(f"0.{when[4] or 0}") * 1e6) + (1_000_000 if second == 60 else 0)
     try:
         number = day_number(f"{year:04}-{numbers[1]:02}-{numbers[0]:02}")

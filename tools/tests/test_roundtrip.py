@@ -64,6 +64,8 @@ WAVES: list[tuple[str, list[str], list[Passage]]] = [
     ]),
     ("a.csv", ["--changes"], []),
     ("a.csv", ["--changes", "--invert"], []),
+    ("a.cfg", [], []),
+    ("a.cfg", ["--text"], []),
     ("a.wav", [], []),
     ("a.wav", ["--rate=8000"], [("a.wav", ["-O", "csv"], "b.csv", ["--threshold=0"])]),
 ]

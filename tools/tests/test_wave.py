@@ -27,7 +27,7 @@ from parts.recordings import open_recording
 
 TOOL = ROOT / "tools/wave"
 ENVIRONMENT = {**os.environ, "IRIG": str(ROOT / "crates/irig_main/out/irig_main")}
-CSV_RATE, SOUND_RATE = 10_000, 48_000
+CSV_RATE, SOUND_RATE, RECORD_RATE = 10_000, 48_000, 4_800
 # What the tool says of the lines themselves; all else is about what they do not carry.
 DONE = r"\d+ seconds of \S+ on [35] lines"
 
@@ -213,6 +213,10 @@ class Forms(InAFolder):
         period = 1_000_000 // CSV_RATE
         wanted_rows = [(time * period, line, level) for time, line, level in sampled(CSV_RATE)]
         self.assertEqual((changes, last), (wanted_rows, end - period))
+        for more in ([], ["--text"]):
+            record = recorded(self.made(text, "a.cfg", *more, *words))
+            rows = [(round(time * 1_000_000 / RECORD_RATE), line, level) for time, line, level in sampled(RECORD_RATE)]
+            self.assertEqual((record[0], round(record[1])), (rows, round(end - 1_000_000 / RECORD_RATE)))
         for rate in (SOUND_RATE, 44_100):
             more = [] if rate == SOUND_RATE else [f"--rate={rate}"]
             sound = heard(self.made(text, "a.wav", *more, *words))
@@ -365,7 +369,7 @@ class Memory(InAFolder):
     MORE = 6 << 10  # in KiB; the pulses of the longer scenario alone would be 30 MB
 
     def test_a_long_scenario(self) -> None:
-        for ending in (".vcd", ".csv", ".wav"):
+        for ending in (".vcd", ".csv", ".wav", ".cfg"):
             with self.subTest(ending):
                 least, most = (self.peak(n, ending) for n in (20, 1000))
                 self.assertLess(most, least + self.MORE)
@@ -388,10 +392,11 @@ class Words(InAFolder):
         path = ROOT / "examples/leap_inserted.jsonl"
         for words, reason in (
             ([path], "the following arguments are required: -o; see wave --help"),
-            ([path, "-o", "a.txt"], "a.txt ends with none of .vcd, .csv, .wav; see wave --help"),
+            ([path, "-o", "a.txt"], "a.txt ends with none of .vcd, .csv, .wav, .cfg; see wave --help"),
             ([path, "-o", "a.vcd", "--changes"], "--changes is for a .csv; see"),
-            ([path, "-o", "a.vcd", "--rate=5000"], "--rate is for a .wav, and a .csv with a row a"),
-            ([path, "-o", "a.csv", "--changes", "--rate=5000"], "--rate is for a .wav, and"),
+            ([path, "-o", "a.vcd", "--text"], "--text is for a .cfg; see"),
+            ([path, "-o", "a.vcd", "--rate=5000"], "--rate is for a .wav, a .cfg, and a .csv with a row a"),
+            ([path, "-o", "a.csv", "--changes", "--rate=5000"], "--rate is for a .wav, a .cfg, and"),
             ([path, "-o", "a.vcd", "--late=0,1"], f"wave: {path}: --late wants 3 times, one for each line\n"),
             ([path, "-o", "a.vcd", "--late=0,1,-1"], "'0,1,-1' is not whole numbers, as 0,350,700"),
             ([path, "-o", "a.vcd", "--pull=3,1,2"], "--pull names line 3; there are 0 to 2\n"),
