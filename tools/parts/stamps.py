@@ -174,9 +174,7 @@ def _seen(pulses: Sequence[Tuple[float, int]]) -> Optional[Seen]:
             begins = place
     if not begins:
         return None
-    element_us = (last - first) / max(symbols)  # by the recorder's clock
-    begins_us = first / element_us * ELEMENT_US + begins * ELEMENT_US
-    return Seen(begins_us, {at - begins: symbol for at, symbol in symbols.items()})
+    return Seen(first + begins * ELEMENT_US, {at - begins: symbol for at, symbol in symbols.items()})
 
 
 def _is_poor(seen: Seen) -> bool:

@@ -4,7 +4,6 @@ and as other makers write them; records of lines are those of altered_records.py
 `make -C c`, but for the variants."""
 from __future__ import annotations
 
-import json
 import os
 import struct
 import subprocess
@@ -15,10 +14,11 @@ from pathlib import Path
 
 from loading import ROOT, InAFolder
 
+import waves
 from altered_records import ALTERED, GOOD, Record, later, wave
 from parts.changes import Stamp
 from parts.recordings import open_recording
-from test_capture import PROGRAM, captured, log_of, trips_of
+from test_capture import ONE_CLOCK_AHEAD, PROGRAM, Wave, trips_of, wave_of_seconds
 
 from irig import Second
 
@@ -158,10 +158,10 @@ class Variants(InAFolder):
     def test_numbers_of_32_bits(self) -> None:
         """5,999 and 6,001 halves plus one are about 3,001 V; what is missing changes nothing."""
         for form, code, missing in (("BINARY32", "i", -(2**31)), ("FLOAT32", "f", float("nan")), ("FLOAT32", "f", -3.402823466e38)):
-            rows = (5999, 1, 5), (missing, 1, 5), (6001, 1, 4)
+            rows = (5999, 1, 5), (missing, 1, 5), (6001, 1, 5)
             path = self.pair(binary(2, 3, form, 3), numbers(f"<II2{code}H", *rows))
             self.assertEqual(self.changes(path, "D1", "V1", threshold=3001), [
-                (0, 0, 1), (0, 1, 0), (1000, 0, 0), (1000, 1, 1), (1000, END, 0)])
+                (0, 0, 1), (0, 1, 0), (1000, 1, 1), (1000, END, 0)])
 
     def test_single_files(self) -> None:
         """Of text, and of numbers, behind which more may stand; the other sections say nothing."""
@@ -175,11 +175,14 @@ class Variants(InAFolder):
         self.assertEqual(self.changes(path, "D1"), [(0, 0, 0), (500, 0, 1), (500, END, 0)])
 
     def test_dates(self) -> None:
-        """Of 1991 the month stands first, but where it would be a 13th; a 60 is a second behind a 59."""
+        """Of 1991 the month stands first, later the day, but where it would be a 13th month; a 60 is a second
+        behind a 59."""
         for old, new, edition, wanted in (
             ("11/24/26", "05/06/2026", "", ("2026-05-06T09:30:00Z", 250_000)),
             ("11/24/26", "24/11/26", "", ("2026-11-24T09:30:00Z", 250_000)),
+            ("11/24/26", "05/06/2026", ",1991", ("2026-05-06T09:30:00Z", 250_000)),
             ("11/24/26", "05/06/2026", ",1999", ("2026-06-05T09:30:00Z", 250_000)),
+            ("11/24/26", "05/24/2026", ",1999", ("2026-05-24T09:30:00Z", 250_000)),
             ("11/24/26,09:30:00.25", "31/12/2016,23:59:60.25", ",1999", ("2016-12-31T23:59:59Z", 1_250_000)),
         ):
             stamp = self.stamp(self.pair(OLD_CFG.replace("7,12", f"7,12{edition}").replace(old, new), OLD_DAT))
@@ -206,6 +209,7 @@ class Variants(InAFolder):
             (OLD_CFG, OLD_DAT.replace(", 1, 0", ", 1, 2"), "'2' is no level, 0 or 1"),
             (FREE_CFG, FREE_DAT.replace("2,2000", "2,"), "its sample 2 has no time, and a rate of samples is 0"),
             (FREE_CFG, FREE_DAT.replace("5000", "1500"), "its times go back"),
+            (two.replace("2000,2", "0,2"), rows, "its sample 1 has no time, and a rate of samples is 0"),
         ):
             with self.subTest(reason), self.assertRaises(ValueError) as raised:
                 recording = open_recording(self.pair(configuration, samples), None)
@@ -233,7 +237,7 @@ class Altered(InAFolder):
                 self.assertNotRegex(found, "true")
 
 
-def tool(path: Path, *words: str) -> subprocess.CompletedProcess[str]:
+def tool(path: Path | str, *words: Path | str) -> subprocess.CompletedProcess[str]:
     return subprocess.run([ROOT / "tools/capture", path, *words], capture_output=True, text=True)
 
 
@@ -260,7 +264,16 @@ class Example(InAFolder):
             blame = subprocess.run([PROGRAM, "blame", "-"], input=ran.stdout, capture_output=True, text=True)
             self.assertRegex(blame.stdout, "edges 1 to 2: port 1 .* another second, .*2026-11-24T09:30:19Z")
 
-    def test_records_before_a_start_that_is_said(self) -> None:
+    def test_the_trigger_and_the_recorders_clock(self) -> None:
+        """The trigger was half a second behind sample 1; 7 is a clock that is right within a millisecond."""
+        path = self.RECORD.written(self.folder / "late_stamp.cfg")
+        text = path.read_bytes().decode().replace("250000\r\nB", "750000\r\nB").replace("0,0\r\n0,0", "0,0\r\n7,3")
+        path.write_bytes(text.encode())
+        self.assertIn("by that its trigger was at 2026-11-24T09:30:00.750Z\nby its time quality the recorder's clock was "
+                      "not locked, and right within 1 ms\nits leap-second field says that the recorder's clock knows of "
+                      "none; by the lines none is in it\n", tool(path).stderr)
+
+    def test_a_start_that_is_said(self) -> None:
         said = tool(self.PATH, "--start=2026-11-24T09:30:19Z").stderr
         self.assertIn("the record's stamp is 17.000 s early by --start:", said)
 
@@ -290,13 +303,13 @@ class Short(InAFolder):
         record = replace(record, stamp=begins, begin_us=round(begin * 1e6), seconds=seconds)
         return tool(record.written(self.folder / "short.cfg"), *words)
 
-    def decided(self, wanted: str, *given: object) -> None:
-        ran = self.said(*given)  # type: ignore[arg-type]
+    def decided(self, wanted: str, record: Record, begin: float, seconds: float, *words: str) -> None:
+        ran = self.said(record, begin, seconds, *words)
         self.assertEqual((ran.returncode, ran.stdout), (0, ""), ran.stderr)
         self.assertIn(f"\nthe record's stamp {wanted}, if it is right within", ran.stderr)
 
-    def undecided(self, wanted: str, *given: object) -> None:
-        ran = self.said(*given)  # type: ignore[arg-type]
+    def undecided(self, wanted: str, record: Record, begin: float, seconds: float, *words: str) -> None:
+        ran = self.said(record, begin, seconds, *words)
         self.assertEqual((ran.returncode, ran.stdout), (2, ""), ran.stderr)
         self.assertRegex(ran.stderr, f"short.cfg: undecided: .*{wanted}")
 
@@ -343,11 +356,34 @@ class Short(InAFolder):
         self.decided("is 1.000 s late by 3 of 3 lines", local, 1.35, 1.0, "--zone=-5")
 
     def test_a_leap_second(self) -> None:
-        """The second at 10.05 s of the wave is 23:59:60; a stamp that goes on at 00:00:00 is two late."""
+        """The second at 10.05 s of the wave is 23:59:60; a stamp that goes on at 00:00:00 is two late. Its last
+        elements, and the next frame, do not tell it from 23:59:59 and from 23:59:58."""
         record = replace(ALTERED["a leap second that the recorder does not know"][0](GOOD),
                          stamp=datetime(2016, 12, 31, 23, 59, 50, 250_000))
         self.decided("agrees within 1.3 ms by 3 of 3 lines", record, 9.75, 0.6)
         self.decided("is 2.000 s late by 3 of 3 lines", later(1)(record), 9.75, 0.6)
+        self.undecided("on IRIG1 3 of the seconds there fit", later(-1)(record), 10.99, 0.6)
+        self.decided("is 1.000 s early by 3 of 3 lines", later(-1)(record), 10.99, 0.6, "--leap=2016-12-31")
+
+    def test_lines_with_faults(self) -> None:
+        """IRIG2 sends local time. A pulse is too wide, and at 2.40 s of the wave the lines jump by 5 ms: what
+        comes before it is seen. The recorder's second may be another."""
+        lines = replace(GOOD, lines=self.sent(""))
+        wide = lines.lines.of(lambda change: [(change[0] + 1700 * (change[0] == 2_148_000), *change[1:])])
+        jump = lines.lines.of(lambda change: [(change[0] + 5000 * (change[0] >= 2_400_000), *change[1:])])
+        for record in lines, replace(lines, lines=wide), replace(lines, lines=jump), replace(lines, parts=5000):
+            self.decided("agrees within 1.3 ms by 3 of 3 lines", record, 1.45, 1.5)
+
+    def test_clocks_that_are_off(self) -> None:
+        fault = '{"do":"fault","g":1,"kind":"quality","q":10}\n{"do":"fault","g":2,"kind":"quality","q":12}'
+        self.undecided("IRIG2 says itself that its clock is off by a second or more; IRIG3 says",
+                       replace(GOOD, lines=self.sent(fault)), 1.45, 1.5)
+
+    @staticmethod
+    def sent(event: str) -> Wave:
+        """The lines of GOOD, but that IRIG2 is an hour ahead of UTC, behind an event."""
+        words = [ONE_CLOCK_AHEAD.split("\n")[0], *event.split("\n"), '{"do":"seconds","n":6}']
+        return wave_of_seconds(3, list(waves.seconds_of([word for word in words if word])))
 
 
 class Words(InAFolder):
@@ -356,10 +392,12 @@ class Words(InAFolder):
         for words, reason in (
             ([path.with_suffix(".dat")], "these are the samples of a record: name its lines.cfg"),
             ([path, "--channels=IRIG1,IRIG2,IRIG9"], "no channel 'IRIG9'; it has IRIG1, IRIG2, IRIG3"),
+            ([ALTERED["a filter of three milliseconds"][0](GOOD).written(self.folder / "filtered.cfg")],
+             "most ports never claim one second within a millisecond"),
             ([path, "--zone=east"], "'east' is no time ahead of UTC, as -5h30 or +1"),
             ([path, "--within=0"], "'0' is not a whole number from 1 to 900"),
         ):
-            ran = tool(*words)  # type: ignore[arg-type]
+            ran = tool(*words)
             self.assertEqual((ran.returncode, ran.stdout), (2, ""))
             self.assertIn(reason, ran.stderr)
 
