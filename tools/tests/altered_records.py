@@ -44,7 +44,7 @@ class Record:
 
     def configuration(self) -> str:
         count, numbers = self.lines.count, range(1, self.lines.count + 1)
-        stamp = f"{self.stamp:%m/%d/%y,%H:%M:%S.%f}" if self.year < 1999 else f"{self.stamp:%d/%m/%Y,%H:%M:%S.%f}"
+        stamp = f"{self.stamp:%d/%m/%Y,%H:%M:%S.%f}"
         channels = "".join(f"{number},IRIG{number},,,0\r\n" for number in numbers)
         tail = TAIL.format(rate=self.rate, samples=round(self.seconds * self.rate), stamp=stamp, form=self.form)
         more = f"{self.zone}\r\n{self.quality}\r\n" if self.year >= 2013 else ""
@@ -75,18 +75,21 @@ def wave(by: int = 0, lines: tuple[int, ...] = (1,)) -> Wave:
 def lost(record: Record) -> Record:
     """IRIG1 loses its element 30 of 09:30:01, the year of IRIG3 is another one there."""
     lines = record.lines.line(0, lambda change: [change] * (change[0] // 10_000 != 135))
-    return replace(record, lines=lines.line(2, lambda change: [(change[0] + 3000 * (change[0] == 1_552_000), *change[1:])]))
+    return replace(record, lines=lines.line(
+        2, lambda change: [(change[0] + 3000 * (change[0] == 1_552_000), *change[1:])]
+    ))
 
 
 def leap(record: Record) -> Record:
     """Its first edge is that of 23:59:50, so 7.3 s on the wave are 23:59:57.250."""
     lines = wave_of_seconds(3, list(waves.seconds_of(scenarios()["leap_inserted"].splitlines())))
-    return replace(record, lines=lines, begin_us=7_300_000, stamp=datetime(2016, 12, 31, 23, 59, 57, 250_000), seconds=5)
+    stamp = datetime(2016, 12, 31, 23, 59, 57, 250_000)
+    return replace(record, lines=lines, begin_us=7_300_000, stamp=stamp, seconds=5)
 
 
 def filtered(record: Record) -> Record:
     """Inputs that take a level only after 3 ms: no pulse of 2 ms comes through, and those of 5 and 8 ms do."""
-    zeros = {(time, line) for (time, line, level), (end, _, _) in ends(record.lines) if level and end - time == 2000}
+    zeros = {change[:2] for change, (end, _, _) in ends(record.lines) if change[2] and end - change[0] == 2000}
     zeros |= {(time + 2000, line) for time, line in zeros}
     return replace(record, lines=record.lines.of(
         lambda change: [(change[0] + 3000, *change[1:])] if change[:2] not in zeros else []
@@ -106,7 +109,8 @@ def later(seconds: float) -> Callable[[Record], Record]:
 
 # Sample 1 is 250 ms behind the edge of 09:30:00.
 GOOD = Record(wave(), datetime(2026, 11, 24, 9, 30, 0, 250_000))
-LATE, EARLY = "the record's stamp is {} s late by {} of 3 lines", "the record's stamp is {} s early by {} of 3 lines"
+LATE = "the record's stamp is {} s late by {} of 3 lines"
+EARLY = "the record's stamp is {} s early by {} of 3 lines"
 AGREES = "the record's stamp agrees within 1.3 ms by {} of 3 lines"
 ALTERED: dict[str, tuple[Callable[[Record], Record], list[str]]] = {
     "a stamp a second late": (later(1), [LATE.format("1.000", 3), "09:30:01.250Z", "09:30:00.250Z"]),

@@ -23,6 +23,7 @@ from test_capture import ONE_CLOCK_AHEAD, PROGRAM, Wave, trips_of, wave_of_secon
 from irig import Second
 
 END = -1
+HALF_PAST = Second.read("2026-11-24T09:30:00Z")
 ENVIRONMENT = {**os.environ, "IRIG": str(PROGRAM)}
 
 # ---- variants, of four or six samples
@@ -122,8 +123,8 @@ class Variants(InAFolder):
         path = self.pair(OLD_CFG, OLD_DAT, "OLD.CFG", "Old.DAT")
         self.assertEqual(open_recording(path, None).names, ["IRIG1", "IRIG2", "IRIG V"])
         self.assertEqual(self.changes(path, "IRIG1", "IRIG2"), OLD_CHANGES)
-        stamp = Stamp("11/24/26,09:30:00.250000", Second.read("2026-11-24T09:30:00Z"), 250_000, trigger_us=500, step_us=250.0)
-        self.assertEqual(self.stamp(path), stamp)
+        self.assertEqual(self.stamp(path), Stamp(
+            "11/24/26,09:30:00.250000", HALF_PAST, 250_000, trigger_us=500, step_us=250.0))
 
     def test_an_analog_channel(self) -> None:
         """Above 1 V it is high: half of 6 less one is 2, half of 16 less one 7."""
@@ -135,21 +136,22 @@ class Variants(InAFolder):
     def test_1999_blanks_and_two_rates(self) -> None:
         path = self.pair(NEW_CFG.replace("\n", "\r\n"), NEW_DAT.replace("\n", "\r\n"))
         self.assertEqual(self.changes(path, "IRIG1", "D2"), NEW_CHANGES)
-        self.assertEqual(self.stamp(path).second, Second.read("2026-11-24T09:30:00Z"))
+        self.assertEqual(self.stamp(path).second, HALF_PAST)
 
     def test_the_fields_of_2013_and_no_rate(self) -> None:
         path = self.pair(FREE_CFG, FREE_DAT)
         self.assertEqual(self.changes(path, "IRIG1"), FREE_CHANGES)
-        at = Second.read("2026-11-24T09:30:00Z")
         self.assertEqual(self.stamp(path), Stamp(
-            "24/11/2026,15:00:00.123456789", at, 123_457, 330, 11, 3, trigger_us=0))
-        bare = self.pair(FREE_CFG.replace("+5h30,x\nB,3\n", "").replace("0\n0,3\n", "0\n"), FREE_DAT, "b.cfg", "b.dat")
+            "24/11/2026,15:00:00.123456789", HALF_PAST, 123_457, 330, 11, 3, trigger_us=0))
+        text = FREE_CFG.replace("+5h30,x\nB,3\n", "").replace("0\n0,3\n", "0\n")
+        bare = self.pair(text, FREE_DAT, "b.cfg", "b.dat")
         self.assertEqual(self.changes(bare, "IRIG1"), FREE_CHANGES)
         self.assertEqual((self.stamp(bare).zone, self.stamp(bare).quality, self.stamp(bare).leap), (None,) * 3)
 
     def test_1999_in_two_words_of_channels(self) -> None:
         """Channel 1 is bit 0 of the first word, channel 17 bit 0 of the second."""
-        path = self.pair(binary(1, 17, "binary", 3), numbers("<IIhHH", (5, 0, 1), (-32768, 0x8001, 0), (7, 1, 1)))
+        rows = numbers("<IIhHH", (5, 0, 1), (-32768, 0x8001, 0), (7, 1, 1))
+        path = self.pair(binary(1, 17, "binary", 3), rows)
         self.assertEqual(self.changes(path, "D1", "D16", "D17"), [
             (0, 0, 0), (0, 1, 0), (0, 2, 1), (500, 0, 1), (500, 1, 1), (500, 2, 0), (1000, 1, 0), (1000, 2, 1),
             (1000, END, 0)])
@@ -157,7 +159,9 @@ class Variants(InAFolder):
 
     def test_numbers_of_32_bits(self) -> None:
         """5,999 and 6,001 halves plus one are about 3,001 V; what is missing changes nothing."""
-        for form, code, missing in (("BINARY32", "i", -(2**31)), ("FLOAT32", "f", float("nan")), ("FLOAT32", "f", -3.402823466e38)):
+        for form, code, missing in (
+            ("BINARY32", "i", -(2**31)), ("FLOAT32", "f", float("nan")), ("FLOAT32", "f", -3.402823466e38),
+        ):
             rows = (5999, 1, 5), (missing, 1, 5), (6001, 1, 5)
             path = self.pair(binary(2, 3, form, 3), numbers(f"<II2{code}H", *rows))
             self.assertEqual(self.changes(path, "D1", "V1", threshold=3001), [
@@ -171,7 +175,8 @@ class Variants(InAFolder):
         path.write_text(sections.format(OLD_CFG, "ASCII") + OLD_DAT)
         self.assertEqual(self.changes(path, "IRIG1", "IRIG2"), OLD_CHANGES)
         rows = numbers("<IIH", (0,), (1,))
-        path.write_bytes(sections.format(binary(0, 1, "BINARY", 2), f"BINARY: {len(rows)}").encode() + rows + b"\r\nmore than a row")
+        head = sections.format(binary(0, 1, "BINARY", 2), f"BINARY: {len(rows)}").encode()
+        path.write_bytes(head + rows + b"\r\nmore than a row")
         self.assertEqual(self.changes(path, "D1"), [(0, 0, 0), (500, 0, 1), (500, END, 0)])
 
     def test_dates(self) -> None:
@@ -188,21 +193,22 @@ class Variants(InAFolder):
             stamp = self.stamp(self.pair(OLD_CFG.replace("7,12", f"7,12{edition}").replace(old, new), OLD_DAT))
             self.assertEqual((str(stamp.second), stamp.after_us), wanted)
         for text in ("01/01/1970,00:00:00", "30/02/2026,09:30:00", "24/11/2026,09:61:00", "soon,"):
-            self.assertIsNone(self.stamp(self.pair(NEW_CFG.replace("24/11/2026 , 09:30:00.25", text), NEW_DAT)).second)
+            path = self.pair(NEW_CFG.replace("24/11/2026 , 09:30:00.25", text), NEW_DAT)
+            self.assertIsNone(self.stamp(path).second)
 
     def test_wrong_files(self) -> None:
-        rows = numbers("<IIH", (0,), (1,))
-        two = binary(0, 1, "BINARY", 2)
+        rows, two = numbers("<IIH", (0,), (1,)), binary(0, 1, "BINARY", 2)
+        rates = "60\n1\n"
         for configuration, samples, reason in (
             (two, rows[:-1], "its samples end with number 1, where it says 2: it is cut off"),
             (two, b"", "its samples end with number 0, where it says 2"),
             (OLD_CFG, OLD_DAT.split("     3")[0], "its samples end with number 2, where it says 4"),
-            (OLD_CFG.replace("ASCII", "FLOAT64"), OLD_DAT, "line 11 of its configuration: 'FLOAT64' is none of ASCII, "),
-            (OLD_CFG.replace("60\n1\n", "60\nmany\n"), OLD_DAT, "line 7 of its configuration: 'many' is no number of rates"),
-            (OLD_CFG.replace("60\n1\n", "60\n-1\n"), OLD_DAT, "line 7 of its configuration: '-1' is no number of rates"),
-            (OLD_CFG.replace("60\n1\n", "60\n2\n"), OLD_DAT, "line 9 of its configuration: '11/24/26' is no rate of samples"),
-            (NEW_CFG.replace("500 , 4", "500 , 2"), NEW_DAT, "line 8 of its configuration: its last sample is not behind"),
-            (OLD_CFG.replace(",1A,", ",A1,"), OLD_DAT, "line 2 of its configuration: 'A1' is no number of channels"),
+            (OLD_CFG.replace("ASCII", "FLOAT64"), OLD_DAT, "line 11 of its configuration: 'FLOAT64' is none of"),
+            (OLD_CFG.replace(rates, "60\nmany\n"), OLD_DAT, "line 7 of its configuration: 'many' is no number"),
+            (OLD_CFG.replace(rates, "60\n-1\n"), OLD_DAT, "line 7 of its configuration: '-1' is no number of r"),
+            (OLD_CFG.replace(rates, "60\n2\n"), OLD_DAT, "line 9 of its configuration: '11/24/26' is no rate"),
+            (NEW_CFG.replace("500 , 4", "500 , 2"), NEW_DAT, "line 8 of its configuration: its last sample is n"),
+            (OLD_CFG.replace(",1A,", ",A1,"), OLD_DAT, "line 2 of its configuration: 'A1' is no number of chan"),
             (OLD_CFG.split("60\n")[0], OLD_DAT, "its configuration ends before the line frequency"),
             (OLD_CFG, OLD_DAT.replace(", 1, 0", ", 1"), "line 3 of its samples has fewer fields than"),
             (OLD_CFG, OLD_DAT.replace("   250", "   25O"), "line 2 of its samples: '25O' is no number"),
@@ -257,21 +263,24 @@ class Example(InAFolder):
         fast = replace(self.RECORD, rate=4800).written(self.folder / "fast.cfg")
         for path in (self.PATH, fast):
             ran = tool(path)
-            self.assertIn("the record's stamp is 1.000 s late by 2 of 3 lines: it says 2026-11-24T09:30:01.250Z for "
-                          "sample 1\n", ran.stderr)
-            self.assertIn("0.000 s of the recording is 2026-11-24T09:30:00.250Z, by 2 of 3 lines", ran.stderr)
-            self.assertIn("IRIG2 differs from most ports by +18 s in 2 frames; the first ended at tick 1, 1.750 s", ran.stderr)
+            for said in (
+                "the record's stamp is 1.000 s late by 2 of 3 lines: it says 2026-11-24T09:30:01.250Z for sample 1\n",
+                "0.000 s of the recording is 2026-11-24T09:30:00.250Z, by 2 of 3 lines, within 0 us\n",
+                "IRIG2 differs from most ports by +18 s in 2 frames; the first ended at tick 1, 1.750 s\n",
+            ):
+                self.assertIn(said, ran.stderr)
             blame = subprocess.run([PROGRAM, "blame", "-"], input=ran.stdout, capture_output=True, text=True)
             self.assertRegex(blame.stdout, "edges 1 to 2: port 1 .* another second, .*2026-11-24T09:30:19Z")
 
     def test_the_trigger_and_the_recorders_clock(self) -> None:
         """The trigger was half a second behind sample 1; 7 is a clock that is right within a millisecond."""
         path = self.RECORD.written(self.folder / "late_stamp.cfg")
-        text = path.read_bytes().decode().replace("250000\r\nB", "750000\r\nB").replace("0,0\r\n0,0", "0,0\r\n7,3")
-        path.write_bytes(text.encode())
-        self.assertIn("by that its trigger was at 2026-11-24T09:30:00.750Z\nby its time quality the recorder's clock was "
-                      "not locked, and right within 1 ms\nits leap-second field says that the recorder's clock knows of "
-                      "none; by the lines none is in it\n", tool(path).stderr)
+        text = path.read_bytes().replace(b"250000\r\nB", b"750000\r\nB").replace(b"0,0\r\n0,0", b"0,0\r\n7,3")
+        path.write_bytes(text)
+        self.assertEqual(tool(path).stderr.splitlines()[-3:], [
+            "by that its trigger was at 2026-11-24T09:30:00.750Z",
+            "by its time quality the recorder's clock was not locked, and right within 1 ms",
+            "its leap-second field says that the recorder's clock knows of none; by the lines none is in it"])
 
     def test_a_start_that_is_said(self) -> None:
         said = tool(self.PATH, "--start=2026-11-24T09:30:19Z").stderr
@@ -342,8 +351,8 @@ class Short(InAFolder):
         other = wave(7, (2,))
         apart = replace(lines, changes=tuple(sorted(
             [one for one in lines.changes if one[1] < 2] + [one for one in other.changes if one[1] == 2])))
-        self.undecided("IRIG1 has the recording begin at 2026-11-24T09:30:01.700Z; IRIG2 has the recording begin at "
-                       "2026-11-24T09:30:19.700Z; IRIG3 .*:08.700Z", replace(GOOD, lines=apart), 1.75, 0.6)
+        wanted = "IRIG1 has the recording begin at 2026-11-24T09:30:01.700Z; IRIG2 .*:19.700Z; IRIG3 .*:08.700Z"
+        self.undecided(wanted, replace(GOOD, lines=apart), 1.75, 0.6)
 
     def test_a_stamp_that_is_far_off(self) -> None:
         self.undecided("on IRIG1 none of the seconds there fit", later(90)(GOOD), 1.75, 0.6)

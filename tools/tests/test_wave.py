@@ -215,8 +215,8 @@ class Forms(InAFolder):
         self.assertEqual((changes, last), (wanted_rows, end - period))
         for more in ([], ["--text"]):
             record = recorded(self.made(text, "a.cfg", *more, *words))
-            rows = [(round(time * 1_000_000 / RECORD_RATE), line, level) for time, line, level in sampled(RECORD_RATE)]
-            self.assertEqual((record[0], round(record[1])), (rows, round(end - 1_000_000 / RECORD_RATE)))
+            rows = [(round(time * 1e6 / RECORD_RATE), line, level) for time, line, level in sampled(RECORD_RATE)]
+            self.assertEqual((record[0], round(record[1])), (rows, round(end - 1e6 / RECORD_RATE)))
         for rate in (SOUND_RATE, 44_100):
             more = [] if rate == SOUND_RATE else [f"--rate={rate}"]
             sound = heard(self.made(text, "a.wav", *more, *words))
