@@ -23,7 +23,7 @@ LEAPS = ("none is in it", "one is added", "one is deleted", "the recorder's cloc
 FREE = {5, 14, 18, 24, 27, 28, 34, 54, 98, *range(42, 49), *range(60, 64), *range(71, 79)}
 BINARY_SECONDS = {*range(80, 89), *range(90, 98)}
 KINDS: Tuple[Kind, ...] = ("insert", "delete")
-ZONES = range(-24, 29)  # half hours that a line may be ahead of UTC
+ZONES = range(-24, 29)  # half hours that a line, or a stamp, may be ahead of UTC
 
 
 class Zero(NamedTuple):
@@ -64,7 +64,7 @@ def verdict(stamp: Stamp, zero: Zero, by: str) -> Iterator[str]:
     yield f"the record's stamp {_late(late, within)} by {by}: it says {told} for sample 1{read}"
     half_hours = round(late / HALF_HOUR_US)
     rest = late - half_hours * HALF_HOUR_US
-    if read and half_hours and abs(rest) <= EXPLAINED_US:
+    if read and half_hours and half_hours in ZONES and abs(rest) <= EXPLAINED_US:
         minutes = 30 * abs(half_hours)
         zone = f"{'-' if half_hours < 0 else '+'}{minutes // 60}:{minutes % 60:02}"
         yield f"read as local time of UTC{zone} it {_late(rest, within)}"
@@ -153,7 +153,8 @@ def short_verdict(ports: Sequence[Line], search: Search) -> Iterator[str]:
             yield "the recording is too short for a scenario, so none is written"
             return
     near = f"within {search.within} s of the stamp, {Zero.of(search.stamp, ())}"
-    raise ValueError(f"undecided: most lines do not tell the same second {near}: {'; '.join(heard)}")
+    tries = "--within, --zone or --leap may decide it"
+    raise ValueError(f"undecided: most lines do not tell the same second {near}: {'; '.join(heard)}; {tries}")
 
 
 def _seen(pulses: Sequence[Tuple[float, int]]) -> Optional[Seen]:

@@ -282,6 +282,12 @@ class Example(InAFolder):
             "by its time quality the recorder's clock was not locked, and right within 1 ms",
             "its leap-second field says that the recorder's clock knows of none; by the lines none is in it"])
 
+    def test_a_stamp_that_no_zone_explains(self) -> None:
+        record = replace(later(3 * 86_400 + 1)(GOOD), year=1999)
+        said = tool(record.written(self.folder / "days.cfg")).stderr
+        self.assertIn("the record's stamp is 259201.000 s late by 3 of 3 lines", said)
+        self.assertNotIn("local time", said)
+
     def test_a_start_that_is_said(self) -> None:
         said = tool(self.PATH, "--start=2026-11-24T09:30:19Z").stderr
         self.assertIn("the record's stamp is 17.000 s early by --start:", said)
@@ -361,7 +367,7 @@ class Short(InAFolder):
     def test_local_time(self) -> None:
         """Between 30 and 99 the elements say that the lines send UTC."""
         local = replace(later(-5 * 3600 + 1)(GOOD), year=1999)
-        self.undecided("none of the seconds there fit", local, 1.35, 1.0)
+        self.undecided("none of the seconds there fit; --within, --zone or --leap may decide it", local, 1.35, 1.0)
         self.decided("is 1.000 s late by 3 of 3 lines", local, 1.35, 1.0, "--zone=-5")
 
     def test_a_leap_second(self) -> None:
