@@ -92,13 +92,13 @@ def numbers(form: str, *rows: tuple[float, ...]) -> bytes:
     return b"".join(struct.pack(form, number, 0xFFFFFFFF, *row) for number, row in enumerate(rows, 1))
 
 
-def binary(analogs: int, digitals: int, form: str, last: int) -> str:
-    """A configuration of 2013 at 2,000 samples a second, with as many channels."""
+def binary(analogs: int, digitals: int, form: str, last: int, edition: int = 2013) -> str:
+    """A configuration at 2,000 samples a second, with as many channels."""
     names = [f"{one},V{one},,,V,0.5,1,0,0,1,1,1,P" for one in range(1, analogs + 1)]
     names += [f"{one},D{one},,,0" for one in range(1, digitals + 1)]
     counts = f"{analogs + digitals},{analogs}a,{digitals}d"
     stamps = ["24/11/2026,09:30:00.000000"] * 2
-    return "\n".join(["x,y,2013", counts, *names, "50", "1", f"2000,{last}", *stamps, form, "1", ""])
+    return "\n".join([f"x,y,{edition}", counts, *names, "50", "1", f"2000,{last}", *stamps, form, "1", ""])
 
 
 class Variants(InAFolder):
@@ -151,7 +151,7 @@ class Variants(InAFolder):
     def test_1999_in_two_words_of_channels(self) -> None:
         """Channel 1 is bit 0 of the first word, channel 17 bit 0 of the second."""
         rows = numbers("<IIhHH", (5, 0, 1), (-32768, 0x8001, 0), (7, 1, 1))
-        path = self.pair(binary(1, 17, "binary", 3), rows)
+        path = self.pair(binary(1, 17, "binary", 3, 1999), rows)
         self.assertEqual(self.changes(path, "D1", "D16", "D17"), [
             (0, 0, 0), (0, 1, 0), (0, 2, 1), (500, 0, 1), (500, 1, 1), (500, 2, 0), (1000, 1, 0), (1000, 2, 1),
             (1000, END, 0)])
