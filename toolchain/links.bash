@@ -3,7 +3,7 @@
 # The folder of the kit.
 find_kit() {
     if ! type rt > /dev/null 2>&1; then
-        echo "irig: no command rt on the PATH; it comes with the Rattle kit, and builds the program" >&2
+        echo "irig: no command rt on the PATH; it comes with the Rattle kit, and builds what is missing" >&2
         return 1
     fi
     dirname "$(rt doc)"
