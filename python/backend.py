@@ -15,8 +15,6 @@ from typing import Dict, List
 HERE = Path(__file__).resolve().parent
 ROOT = HERE.parent
 LIBRARIES = ("irig", "irig_scene")
-# The crates whose archives they are made of.
-CRATES = ("c_reader", "c_scenario")
 
 
 def version() -> str:
@@ -33,20 +31,17 @@ def version() -> str:
 
 
 def shared_libraries() -> List[Path]:
-    """The shared libraries, made anew if a static one is newer."""
+    """The shared libraries, of what is proved."""
     made = [ROOT / f"c/out/lib{name}.so.{version().split('.')[0]}" for name in LIBRARIES]
-    for name in CRATES:
-        static = f"crates/{name}/out/lib{name}.a"
-        if not (ROOT / static).exists():
-            sys.exit(
-                f"{static} is missing. `make -C c` at the top of the repository proves and builds"
-                " it, by the command rt of the Rattle kit; then install this package again."
-            )
+    # No proof is begun here: it would take longer than anyone expects of an installation.
+    words = ["make", "-s", "-C", str(ROOT / "c"), "build=false", *(f"out/{file.name}" for file in made)]
     try:
-        words = ["make", "-C", str(ROOT / "c"), *(f"out/{file.name}" for file in made)]
         subprocess.run(words, check=True, stdout=sys.stderr)
     except (OSError, subprocess.CalledProcessError) as error:
-        sys.exit(f"the shared libraries are not made, for which make and cc are needed: {error}")
+        sys.exit(
+            f"{error}\nmake, cc and the proved libraries are needed, which no source may be newer than:"
+            " `make -C c` at the top of the repository proves and builds them; then install again."
+        )
     return made
 
 

@@ -3,6 +3,7 @@ loaded at the first of its calls, so that what needs none works where none is.""
 from __future__ import annotations
 
 import ctypes
+import subprocess
 from ctypes import Structure, c_bool, c_char_p, c_int8, c_size_t
 from ctypes import c_uint8, c_uint16, c_uint32, c_uint64
 from functools import lru_cache
@@ -10,9 +11,6 @@ from pathlib import Path
 from typing import Any, Dict, List, Tuple
 
 HERE = Path(__file__).resolve().parent
-
-# Beside this file in an installed package; in the repository where `make -C c` puts them.
-FOLDERS = (HERE, HERE.parent.parent / "c" / "out")
 
 
 def _of(kind: Any, names: str) -> List[Tuple[str, Any]]:
@@ -200,10 +198,18 @@ CALLS: Dict[str, Tuple[Any, ...]] = {
 
 @lru_cache(maxsize=None)
 def _loaded(name: str) -> ctypes.CDLL:
-    for folder in FOLDERS:
-        if (folder / name).exists():
-            return KINDS[name](str(folder / name))
-    raise ImportError(f"{name} is missing: `make -C c` builds it in the sources of irig")
+    """A library beside this file, as in an installed package; else that of the repository, which is made
+    at its first use, without a proof, until `make -C c` has proved it."""
+    path = HERE / name
+    if path.exists():
+        return KINDS[name](str(path))
+    words = [str(HERE.parent.parent / "toolchain/library"), name]
+    try:
+        made = subprocess.run(words, stdout=subprocess.PIPE, check=True, text=True).stdout.strip()
+    except (OSError, subprocess.CalledProcessError):
+        wrong = f"{name} is missing: `make -C c` builds it in the sources of irig"
+        raise ImportError(wrong) from None
+    return KINDS[name](made)
 
 
 def __getattr__(name: str) -> Any:

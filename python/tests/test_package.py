@@ -71,14 +71,6 @@ class Package(unittest.TestCase):
         with zipfile.ZipFile(self.wheel("build_editable")) as opened:
             self.assertEqual(opened.read("irig.pth").decode(), f"{ROOT / 'python'}\n")
 
-    def test_a_library_that_is_missing(self) -> None:
-        for name in ("python", "docs", "c"):
-            ignored = shutil.ignore_patterns("out", "__pycache__")
-            shutil.copytree(ROOT / name, self.folder / name, ignore=ignored)
-        ran = self.hook("build_wheel", self.folder, self.folder)
-        self.assertEqual((ran.returncode, ran.stdout), (1, ""))
-        self.assertRegex(ran.stderr, r"^crates/c_reader/out/libc_reader.a is missing. `make -C c`")
-
     def test_a_folder_alone(self) -> None:
         ignored = shutil.ignore_patterns("__pycache__")
         shutil.copytree(ROOT / "python", self.folder / "python", ignore=ignored)

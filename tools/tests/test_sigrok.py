@@ -2,8 +2,7 @@
 """Tests that sigrok/irigb says of a line what a port tells of it.
 
 Whole frames are compared with what the program reads in them; lines of scenarios, and lines with
-faults, with a reader of the Python package, which hears the same pulses.
-Needs sigrok-cli; what needs the libraries of `make -C c` is skipped where they are not there."""
+faults, with a reader of the Python package, which hears the same pulses. Needs sigrok-cli."""
 from __future__ import annotations
 
 import itertools
@@ -29,12 +28,6 @@ import waves  # noqa: E402
 from case_files import all_cases  # noqa: E402
 
 import irig  # noqa: E402
-
-try:
-    irig.classify(0)
-    MISSING = ""
-except ImportError as error:
-    MISSING = f"skipped: lines against a reader of the Python package; {error}"
 
 PROGRAM = ROOT / "crates/irig_main/out/irig_main"
 ENVIRONMENT = {
@@ -423,11 +416,6 @@ FIELDS = {text.split(":")[0] for text in fields_of("2000-001 00:00:00 control 0 
 
 class Lines(unittest.TestCase):
     """Faults on a line, against `irig.Sync` and a reader that hears it."""
-
-    def setUp(self) -> None:
-        if MISSING:
-            print(MISSING)
-            self.skipTest(MISSING)
 
     def compare(self, pulses: Sequence[Pulse], rules: Rules = Rules()) -> list[Said]:
         """What the decoder says of a line, if a reader says it too."""
