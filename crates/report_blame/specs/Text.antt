@@ -1,29 +1,74 @@
 -- The text of who lied and what it cost: stretches, silences and totals.
 -- Source: docs/OUTPUT.md.
-use Rattle.std.specs.Prelude.{ℕ, zero, suc, ◌-◌, ◌==◌, if◌then◌else◌, List, [], ◌++◌, codes, Option, Some, None}
+use Rattle.std.specs.Prelude.{ℕ, zero, suc, ◌+◌, ◌-◌, ◌/◌, ◌%◌, Bool, ◌==◌, if◌then◌else◌, List, [], ◌++◌, codes, Option, Some, None}
 use Rattle.std.specs.Fmt.{decimal}
 use Rattle.irig_reader.specs.declared.report.Cause.{Cause}
 use Rattle.irig_reader.specs.declared.report.Cause.TheVariants as cause
+use Rattle.irig_time.specs.declared.second.UtcSecond.{UtcSecond}
+use Rattle.irig_time.specs.TextValues.{second_text}
 use Rattle.report_log.specs.Text.{cause_text, port_word}
 use Rattle.report_blame.specs.declared.account.Account.{Account}
 use Rattle.report_blame.specs.declared.account.PortAccount.{PortAccount}
 use Rattle.report_blame.specs.declared.kind.Kind.{Kind}
 use Rattle.report_blame.specs.declared.kind.Kind.TheVariants.{Agreed, Silent, Faulty, Poor, AnotherSecond, AnotherMark}
+use Rattle.report_blame.specs.declared.misled.Misled.{Misled}
+use Rattle.report_blame.specs.declared.offset.Offset.{Offset}
 use Rattle.report_blame.specs.declared.stretch.Silence.{Silence}
 use Rattle.report_blame.specs.declared.stretch.Stretch.{Stretch}
 use Rattle.report_blame.specs.declared.tick.Tick.{Tick}
-use Rattle.report_blame.specs.Kinds.{same_kind}
-use Rattle.report_blame.specs.Ticks.{told_by, kind_at}
-use Rattle.report_blame.specs.Stretches.{ended_by, ended_silence}
+use Rattle.report_blame.specs.Kinds.{same_kind, is_lie}
+use Rattle.report_blame.specs.Ticks.{told_by, kind_at, frame_at, second_at, offset_at, offset_announced, is_carrier, votes_truly}
+use Rattle.report_blame.specs.Stretches.{one_if, ended_by, ended_silence, ended_misled}
 use Rattle.report_blame.specs.Accounts.{port_of}
 
 -- ---- words
 
--- the edges of a stretch or of a silence
+-- texts of 0 to n - 1
+abbrev pub texts_below : (ℕ → List ℕ) → ℕ → List ℕ
+texts_below text zero = []
+texts_below text (suc n) = texts_below text n ++ text n
+
+-- UTC of the first and of the last second, if they are known
+abbrev pub seconds_from : Bool → Option UtcSecond → Option UtcSecond → List ℕ
+seconds_from single (Some u) (Some v) =
+    if single then second_text u ++ codes ", "
+    else second_text u ++ (codes " to " ++ (second_text v ++ codes ", "))
+seconds_from single (Some u) None = []
+seconds_from single None v = []
+
+-- the edges
 unfoldable pub edges_text : ℕ → ℕ → List ℕ
 edges_text first last =
     if first == last then codes "edge " ++ (decimal first ++ codes ": ")
     else codes "edges " ++ (decimal first ++ (codes " to " ++ (decimal last ++ codes ": ")))
+
+-- UTC and edges, from a first tick to a last one
+abbrev pub when_text : ℕ → ℕ → Option UtcSecond → Option UtcSecond → List ℕ
+when_text first last from to = seconds_from (first == last) from to ++ edges_text first last
+
+-- so many of a unit, unless there are none
+unfoldable pub unit_text : ℕ → List ℕ → List ℕ
+unit_text n unit = if n == 0 then [] else decimal n ++ (codes " " ++ (unit ++ codes " "))
+
+-- seconds, as days, hours, minutes and seconds
+unfoldable pub span_text : ℕ → List ℕ
+span_text n =
+    unit_text (n / 86400) (codes "d") ++ (unit_text ((n / 3600) % 24) (codes "h")
+    ++ (unit_text ((n / 60) % 60) (codes "min") ++ unit_text (n % 60) (codes "s")))
+
+-- how far a second is from the true one
+abbrev pub offset_text : Offset → List ℕ
+offset_text o =
+    if o.behind == 0 then span_text o.ahead ++ codes "ahead"
+    else span_text o.behind ++ codes "behind"
+
+-- how far at all ticks, or at the first and at the last
+abbrev pub offsets_text : Bool → Option Offset → Option Offset → List ℕ
+offsets_text steady (Some a) (Some b) =
+    if steady then codes ", " ++ offset_text a
+    else codes ", " ++ (offset_text a ++ (codes " at first, " ++ (offset_text b ++ codes " at last")))
+offsets_text steady (Some a) None = []
+offsets_text steady None b = []
 
 -- what a port did wrong
 abbrev pub kind_text : Kind → List ℕ
@@ -33,6 +78,12 @@ kind_text Faulty = codes "was faulty"
 kind_text Poor = codes "was poor"
 kind_text AnotherSecond = codes "told another second"
 kind_text AnotherMark = codes "told another mark"
+
+-- how far what a port claimed was from the true second, if it claimed another one
+abbrev pub distance_text : ℕ → Stretch → List ℕ
+distance_text port s =
+    if same_kind s.kind AnotherSecond
+    then offsets_text s.steady (offset_at port s.first) (offset_at port s.last) else []
 
 -- the first of the words, as in the log's port line, unless nothing came
 abbrev pub first_text : ℕ → Stretch → List ℕ
@@ -63,33 +114,76 @@ meaning_text cause.RangeEnd = codes "the next second would have been after 2099-
 
 -- ---- lines
 
--- what the reader with this name announced meanwhile
+-- what the reader with this name announced meanwhile; untrue seconds are only counted beside a lie
 unfoldable pub price_text : List ℕ → Stretch → List ℕ
 price_text name s =
-    codes "; " ++ (name ++ (codes " announced " ++ seconds_text s.announced s.untrue))
+    codes "; " ++ (name ++ (codes " announced "
+    ++ seconds_text s.announced (if is_lie s.kind then s.untrue else 0)))
 
--- a stretch of a port of a reader with this name
+-- a stretch of a port of a reader with this name, by the frames that should have come
 unfoldable pub stretch_text : List ℕ → ℕ → Stretch → List ℕ
 stretch_text name port s =
-    edges_text s.first.entry.edge s.last ++ (codes "port " ++ (decimal port
-    ++ (codes " of " ++ (name ++ (codes " " ++ (kind_text s.kind ++ (first_text port s
-    ++ price_text name s)))))))
+    when_text s.first.entry.edge s.last.entry.edge (frame_at s.first) (frame_at s.last)
+    ++ (codes "port " ++ (decimal port ++ (codes " of " ++ (name ++ (codes " " ++ (kind_text s.kind
+    ++ (distance_text port s ++ (first_text port s ++ price_text name s))))))))
 
 -- if there is one
 abbrev pub stretch_line : List ℕ → ℕ → Option Stretch → List ℕ
 stretch_line name port None = []
 stretch_line name port (Some s) = stretch_text name port s
 
--- a silence of the reader
+-- a silence of the reader, by the seconds that it did not announce
 unfoldable pub silence_text : List ℕ → Silence → List ℕ
 silence_text name s =
-    edges_text s.first s.last ++ (name ++ (codes " announced nothing: "
+    when_text s.first.entry.edge s.last.entry.edge (second_at s.first) (second_at s.last)
+    ++ (name ++ (codes " announced nothing: "
     ++ (cause_text s.cause ++ (codes ", " ++ (meaning_text s.cause ++ codes "\n")))))
 
 -- if there is one
 abbrev pub silence_line : List ℕ → Option Silence → List ℕ
 silence_line name None = []
 silence_line name (Some s) = silence_text name s
+
+-- ---- untrue seconds
+
+-- how many ports below this one claimed what most did
+abbrev pub carriers_below : Tick → ℕ → ℕ
+carriers_below t zero = 0
+carriers_below t (suc n) = carriers_below t n + one_if (is_carrier t n)
+
+-- the number of a port, after a comma unless it is the first
+abbrev pub numbered : ℕ → ℕ → List ℕ
+numbered before port = if before == 0 then decimal port else codes ", " ++ decimal port
+
+-- of a port that claimed it
+abbrev pub carrier_text : Tick → ℕ → List ℕ
+carrier_text t port = if is_carrier t port then numbered (carriers_below t port) port else []
+
+-- on what untrue seconds stand: a vote that was no true one, else the reader's table
+unfoldable pub ground_text : ℕ → Tick → List ℕ
+ground_text ports vote =
+    if votes_truly vote then codes ", held by its table\n"
+    else codes ", as ports " ++ (texts_below (carrier_text vote) ports
+    ++ (codes " told at edge " ++ (decimal vote.entry.edge ++ codes "\n")))
+
+abbrev pub ground_line : ℕ → Option Tick → List ℕ
+ground_line ports None = codes "\n"
+ground_line ports (Some vote) = ground_text ports vote
+
+-- untrue seconds of the reader
+unfoldable pub misled_text : List ℕ → ℕ → Misled → List ℕ
+misled_text name ports m =
+    when_text m.first.entry.edge m.last.entry.edge (second_at m.first) (second_at m.last)
+    ++ (name ++ (codes " announced untrue seconds"
+    ++ (offsets_text m.steady (offset_announced m.first) (offset_announced m.last)
+    ++ ground_line ports m.vote)))
+
+-- if there are any
+abbrev pub misled_line : List ℕ → ℕ → Option Misled → List ℕ
+misled_line name ports None = []
+misled_line name ports (Some m) = misled_text name ports m
+
+-- ---- totals
 
 -- how often the reader ticked, and what it announced
 unfoldable pub totals_line : List ℕ → Account → List ℕ
@@ -109,23 +203,19 @@ port_totals_line name port x =
 
 -- ---- lines of a reader
 
--- texts of 0 to n - 1
-abbrev pub texts_below : (ℕ → List ℕ) → ℕ → List ℕ
-texts_below text zero = []
-texts_below text (suc n) = texts_below text n ++ text n
-
 -- all that a tick of a reader with so many ports ends
 abbrev pub ended_lines : List ℕ → ℕ → Account → Tick → List ℕ
 ended_lines name ports x t =
     texts_below
     (λ port. stretch_line name port (ended_by (port_of port x).stretch (kind_at port t))) ports
-    ++ silence_line name (ended_silence x.silence t)
+    ++ (silence_line name (ended_silence x.silence t)
+    ++ misled_line name ports (ended_misled x.misled t))
 
 -- all that is open
 abbrev pub open_lines : List ℕ → ℕ → Account → List ℕ
 open_lines name ports x =
     texts_below (λ port. stretch_line name port (port_of port x).stretch) ports
-    ++ silence_line name x.silence
+    ++ (silence_line name x.silence ++ misled_line name ports x.misled)
 
 -- the totals of the reader, and of each port
 abbrev pub total_lines : List ℕ → ℕ → Account → List ℕ

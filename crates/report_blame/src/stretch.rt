@@ -5,6 +5,7 @@ ghost use Rattle.report_blame.specs.Stretches.{one_if, begun, more, IsBelow, str
 ghost use Rattle.report_blame.specs.Soundness.{IsSoundTick, IsSoundOpen};
 
 use crate::kind::Kind;
+use crate::offset::same_offset;
 use crate::tick::Tick;
 use irig_reader::Cause;
 
@@ -13,8 +14,9 @@ use irig_reader::Cause;
 pub(crate) struct Stretch {
     pub(crate) kind: Kind,
     pub(crate) first: Tick,
-    /// The edge of the last one.
-    pub(crate) last: u64,
+    pub(crate) last: Tick,
+    /// Whether what the port claimed was as far from the truth at each of them.
+    pub(crate) steady: bool,
     /// How often the reader announced a second meanwhile.
     pub(crate) announced: u64,
     /// How many of those were untrue.
@@ -28,21 +30,24 @@ impl Stretch {
         Stretch {
             kind,
             first: *tick,
-            last: tick.entry.edge,
+            last: *tick,
+            steady: true,
             announced: u64::from(tick.is_announced()),
             untrue: u64::from(tick.is_untrue()),
         }
     }
 
-    fn more(&self, tick: &Tick) -> Stretch
-        ensures exact { IsBelow tick.now.entry.edge self.now → result ≡ more self.now tick.now }
+    fn more(&self, port: u8, tick: &Tick) -> Stretch
+        ensures exact { IsBelow tick.now.entry.edge self.now → result ≡ more port self.now tick.now }
         ensures first { result.first ≡ self.now.first }
     {
         let edge = tick.entry.edge;
+        let is_as_far = same_offset(self.first.offset(port), tick.offset(port));
         Stretch {
             kind: self.kind,
             first: self.first,
-            last: edge,
+            last: *tick,
+            steady: is_as_far && self.steady,
             announced: counted(self.announced, tick.is_announced(), edge),
             untrue: counted(self.untrue, tick.is_untrue(), edge),
         }
@@ -56,19 +61,20 @@ pub(crate) fn counted(count: u64, is_counted: bool, edge: u64) -> u64
     count.saturating_add(u64::from(is_counted)).min(edge)
 }
 
-/// The stretch that is open after a tick of this kind.
-pub(crate) fn stretch_after(before: Option<Stretch>, kind: Kind, tick: &Tick) -> Option<Stretch>
+/// The stretch of a port that is open after a tick.
+pub(crate) fn stretch_after(before: Option<Stretch>, port: u8, tick: &Tick) -> Option<Stretch>
     requires before { IsSoundOpen before }
     requires tick { IsSoundTick tick.now }
     ensures exact { IfSome before (IsBelow tick.now.entry.edge)
-        → result ≡ stretch_after before kind tick.now }
+        → result ≡ stretch_after port before tick.now }
     ensures sound { IsSoundOpen result }
 {
+    let kind = tick.kind(port);
     if kind.is(Kind::Agreed) {
         return None;
     }
     match before {
-        Some(stretch) if stretch.kind.is(kind) => Some(stretch.more(tick)),
+        Some(stretch) if stretch.kind.is(kind) => Some(stretch.more(port, tick)),
         _ => Some(Stretch::begun(kind, tick)),
     }
 }
@@ -89,10 +95,8 @@ pub(crate) fn ended_by(before: Option<Stretch>, kind: Kind) -> Option<Stretch>
 #[derive(Clone, Copy)]
 pub(crate) struct Silence {
     pub(crate) cause: Cause,
-    /// The edge of the first one.
-    pub(crate) first: u64,
-    /// The edge of the last one.
-    pub(crate) last: u64,
+    pub(crate) first: Tick,
+    pub(crate) last: Tick,
 }
 
 impl Silence {
@@ -101,8 +105,8 @@ impl Silence {
     {
         Silence {
             cause: tick.entry.report.cause,
-            first: tick.entry.edge,
-            last: tick.entry.edge,
+            first: *tick,
+            last: *tick,
         }
     }
 
@@ -113,7 +117,8 @@ impl Silence {
     }
 }
 
-fn same_cause(cause: Cause, other: Cause) -> bool
+/// Whether two causes are the same.
+pub(crate) fn same_cause(cause: Cause, other: Cause) -> bool
     ensures { result ≡ same_cause cause other }
 {
     cause == other
@@ -125,7 +130,7 @@ pub(crate) fn silence_after(silence: Option<Silence>, tick: &Tick) -> Option<Sil
 {
     match silence {
         Some(silence) if silence.goes_on(tick) => Some(Silence {
-            last: tick.entry.edge,
+            last: *tick,
             ..silence
         }),
         _ if tick.is_announced() => None,

@@ -5,7 +5,7 @@ ghost use Rattle.report_blame.specs.Soundness.{IsSoundTick, IsSoundOpen, IsSound
 ghost use Rattle.report_blame.specs.Text.{
   meaning_text,
   kind_text,
-  edges_text,
+  distance_text,
   first_text,
   seconds_text,
   price_text,
@@ -22,8 +22,11 @@ ghost use Rattle.report_blame.specs.Text.{
 
 use crate::account::{Account, PortAccount};
 use crate::kind::Kind;
+use crate::misled::ended_misled;
+use crate::misled_text::push_misled;
 use crate::stretch::{Silence, Stretch, ended_by, ended_silence};
 use crate::tick::Tick;
+use crate::when_text::{push_offsets, push_when};
 use irig_reader::Cause;
 use report_log::{cause_word, push_word};
 use std::alloc::AllocError;
@@ -45,7 +48,8 @@ pub(crate) fn push_ended(
         let ended = ended_by(account.port(port).stretch, tick.kind(port));
         push_stretch(text, name, port, ended)?;
     }
-    push_silence(text, name, ended_silence(account.silence, tick))
+    push_silence(text, name, ended_silence(account.silence, tick))?;
+    push_misled(text, name, ports, ended_misled(account.misled, tick))
 }
 
 /// Pushes the lines of all that is open.
@@ -62,7 +66,8 @@ pub(crate) fn push_open(
     for port in 0..ports {
         push_stretch(text, name, port, account.port(port).stretch)?;
     }
-    push_silence(text, name, account.silence)
+    push_silence(text, name, account.silence)?;
+    push_misled(text, name, ports, account.misled)
 }
 
 /// Pushes the totals of a reader and of its ports.
@@ -159,9 +164,12 @@ fn push_stretch_line(
     ensures { OnOk result (string_bytes text.new
         ≡ string_bytes text.old ++ stretch_text name.now port stretch.now) }
 {
-    push_edges(text, stretch.first.entry.edge, stretch.last)?;
+    let Stretch { first, last, .. } = stretch;
+    let edges = (first.entry.edge, last.entry.edge);
+    push_when(text, edges, (first.frame(), last.frame()))?;
     let wrong = kind_text(stretch.kind);
     write!(text, "port {port} of {name} {wrong}")?;
+    push_distance(text, port, stretch)?;
     push_first(text, port, stretch)?;
     push_price(text, name, stretch)
 }
@@ -173,19 +181,29 @@ fn push_price(text: &mut String, name: &str, stretch: &Stretch) -> Result<(), Al
         ≡ string_bytes text.old ++ price_text name.now stretch.now) }
 {
     write!(text, "; {name} announced ")?;
-    push_seconds(text, stretch.announced, stretch.untrue)
+    let untrue = if stretch.kind.is_lie() {
+        stretch.untrue
+    } else {
+        0
+    };
+    push_seconds(text, stretch.announced, untrue)
 }
 
-#[tactic(auto, unfolding(crate::specs::Text::edges_text))]
-fn push_edges(text: &mut String, first: u64, last: u64) -> Result<(), AllocError>
+// How far what the port claimed was from the true second, if it claimed another one.
+fn push_distance(text: &mut String, port: u8, stretch: &Stretch) -> Result<(), AllocError>
     ensures { OnOk result (string_bytes text.new
-        ≡ string_bytes text.old ++ edges_text first last) }
+        ≡ string_bytes text.old ++ distance_text port stretch.now) }
 {
-    if first == last {
-        write!(text, "edge {first}: ")
-    } else {
-        write!(text, "edges {first} to {last}: ")
+    if !stretch.kind.is(Kind::AnotherSecond) {
+        return Ok(());
     }
+    let Stretch {
+        first,
+        last,
+        steady,
+        ..
+    } = *stretch;
+    push_offsets(text, steady, first.offset(port), last.offset(port))
 }
 
 // What a port did wrong.
@@ -247,7 +265,9 @@ fn push_silence_line(text: &mut String, name: &str, silence: &Silence) -> Result
     ensures { OnOk result (string_bytes text.new
         ≡ string_bytes text.old ++ silence_text name.now silence.now) }
 {
-    push_edges(text, silence.first, silence.last)?;
+    let Silence { first, last, .. } = silence;
+    let edges = (first.entry.edge, last.entry.edge);
+    push_when(text, edges, (first.second(), last.second()))?;
     let cause = cause_word(silence.cause);
     let meaning = cause_meaning(silence.cause);
     write!(text, "{name} announced nothing: {cause}, {meaning}\n")
