@@ -1,5 +1,5 @@
 -- Known values of the definitions, worked by hand.
-use Rattle.std.proofs.Common.{◌≡◌, ℕ, ◌∷◌, [], Some, None, refl}
+use Rattle.std.proofs.Common.{◌≡◌, ℕ, true, ◌∷◌, [], Some, None, refl}
 use Rattle.std.specs.Prelude.{codes}
 use Rattle.std.specs.Fmt.{digits}
 use Rattle.irig_port.specs.declared.told.Told.{Told}
@@ -13,7 +13,8 @@ use Rattle.report_blame.specs.declared.stretch.Stretch.{Stretch}
 use Rattle.report_blame.specs.declared.tick.Tick.{Tick}
 use Rattle.report_blame.specs.Accounts.{count_of}
 use Rattle.report_blame.specs.Stretches.{begun, ended_by, stretch_of, silence_of}
-use Rattle.report_blame.specs.Text.{edges_text, seconds_text}
+use Rattle.report_blame.specs.Offsets.{offset_from}
+use Rattle.report_blame.specs.Text.{edges_text, seconds_text, unit_text, span_text, offset_text}
 
 pub known_edges : edges_text 3 8 ≡ codes "edges 3 to 8: "
 unfolding edges_text digits
@@ -57,7 +58,7 @@ at edge told = record {
 }
 
 abbrev poor_twice : Stretch
-poor_twice = record { kind = Poor; first = at 3 (tells.Poor 12); last = 4; announced = 2; untrue = 2 }
+poor_twice = record { kind = Poor; first = at 3 (tells.Poor 12); last = at 4 (tells.Poor 11); steady = true; announced = 2; untrue = 2 }
 
 -- a stretch goes on in its kind, whatever its words
 pub known_stretch : stretch_of 1 (at 4 (tells.Poor 11) ∷ at 3 (tells.Poor 12) ∷ at 2 tells.Silence ∷ []) ≡ Some poor_twice
@@ -75,3 +76,37 @@ known_count = refl
 
 pub no_silence : silence_of (at 3 tells.Silence ∷ []) ≡ None
 no_silence = refl
+
+-- ---- offsets
+
+abbrev leap_second : UtcSecond
+leap_second = record { day = 6209; sod = 86400 }
+
+abbrev new_year : ℕ → UtcSecond
+new_year sod = record { day = 6210; sod = sod }
+
+-- a clock that sends 00:00:00 instead of 23:59:60 is a second ahead, and one that sends 23:59:60 at
+-- 00:00:00 a second behind
+pub leap_ignored : offset_from leap_second (new_year 0) ≡ record { ahead = 1; behind = 0 }
+leap_ignored = refl
+
+pub leap_late : offset_from (new_year 0) leap_second ≡ record { ahead = 0; behind = 1 }
+leap_late = refl
+
+-- GPS time was 17 s ahead of UTC before the leap second of 2016, and 18 s after it
+pub gps_before : offset_from (record { day = 6209; sod = 86390 }) (new_year 7) ≡ record { ahead = 17; behind = 0 }
+gps_before = refl
+
+pub gps_at_leap : offset_from leap_second (new_year 17) ≡ record { ahead = 18; behind = 0 }
+gps_at_leap = refl
+
+pub gps_after : offset_from (new_year 0) (new_year 18) ≡ record { ahead = 18; behind = 0 }
+gps_after = refl
+
+pub known_hours : offset_text (record { ahead = 0; behind = 36000 }) ≡ codes "10 h behind"
+unfolding span_text unit_text digits
+known_hours = refl
+
+pub known_parts : offset_text (record { ahead = 93784; behind = 0 }) ≡ codes "1 d 2 h 3 min 4 s ahead"
+unfolding span_text unit_text digits
+known_parts = refl

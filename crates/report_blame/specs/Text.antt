@@ -1,6 +1,6 @@
 -- The text of who lied and what it cost: stretches, silences and totals.
 -- Source: docs/OUTPUT.md.
-use Rattle.std.specs.Prelude.{ℕ, zero, suc, ◌+◌, ◌-◌, ◌/◌, ◌%◌, Bool, ◌==◌, if◌then◌else◌, List, [], ◌++◌, codes, Option, Some, None}
+use Rattle.std.specs.Prelude.{ℕ, zero, suc, ◌-◌, ◌/◌, ◌%◌, Bool, true, not, ◌&&◌, ◌==◌, if◌then◌else◌, List, [], ◌++◌, codes, Option, Some, None}
 use Rattle.std.specs.Fmt.{decimal}
 use Rattle.irig_reader.specs.declared.report.Cause.{Cause}
 use Rattle.irig_reader.specs.declared.report.Cause.TheVariants as cause
@@ -18,7 +18,7 @@ use Rattle.report_blame.specs.declared.stretch.Stretch.{Stretch}
 use Rattle.report_blame.specs.declared.tick.Tick.{Tick}
 use Rattle.report_blame.specs.Kinds.{same_kind, is_lie}
 use Rattle.report_blame.specs.Ticks.{told_by, kind_at, frame_at, second_at, offset_at, offset_announced, is_carrier, votes_truly}
-use Rattle.report_blame.specs.Stretches.{one_if, ended_by, ended_silence, ended_misled}
+use Rattle.report_blame.specs.Stretches.{ended_by, ended_silence, ended_misled}
 use Rattle.report_blame.specs.Accounts.{port_of}
 
 -- ---- words
@@ -146,18 +146,18 @@ silence_line name (Some s) = silence_text name s
 
 -- ---- untrue seconds
 
--- how many ports below this one claimed what most did
-abbrev pub carriers_below : Tick → ℕ → ℕ
-carriers_below t zero = 0
-carriers_below t (suc n) = carriers_below t n + one_if (is_carrier t n)
+-- whether no port below this one claimed what most did
+abbrev pub none_below : Tick → ℕ → Bool
+none_below t zero = true
+none_below t (suc n) = none_below t n && not (is_carrier t n)
 
 -- the number of a port, after a comma unless it is the first
-abbrev pub numbered : ℕ → ℕ → List ℕ
-numbered before port = if before == 0 then decimal port else codes ", " ++ decimal port
+abbrev pub numbered : Bool → ℕ → List ℕ
+numbered is_first port = if is_first then decimal port else codes ", " ++ decimal port
 
 -- of a port that claimed it
 abbrev pub carrier_text : Tick → ℕ → List ℕ
-carrier_text t port = if is_carrier t port then numbered (carriers_below t port) port else []
+carrier_text t port = if is_carrier t port then numbered (none_below t port) port else []
 
 -- on what untrue seconds stand: a vote that was no true one, else the reader's table
 unfoldable pub ground_text : ℕ → Tick → List ℕ

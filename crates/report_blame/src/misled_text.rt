@@ -1,7 +1,8 @@
 //! The text of untrue seconds, and of what they stand on.
 
 ghost use Rattle.std.specs.Prelude.{◌≡◌, ◌++◌, OnOk, string_bytes};
-ghost use Rattle.report_blame.specs.Text.{texts_below, carrier_text, ground_text, ground_line, misled_text, misled_line, numbered};
+ghost use Rattle.report_blame.specs.Ticks.{offset_announced};
+ghost use Rattle.report_blame.specs.Text.{offsets_text, texts_below, carrier_text, ground_text, ground_line, misled_text, misled_line, numbered};
 
 use crate::misled::Misled;
 use crate::tick::Tick;
@@ -35,21 +36,28 @@ fn push_misled_line(
     ensures { OnOk result (string_bytes text.new
         ≡ string_bytes text.old ++ misled_text name.now ports misled.now) }
 {
-    let Misled {
-        first,
-        last,
-        steady,
-        vote,
-    } = *misled;
+    let Misled { first, last, .. } = misled;
     let edges = (first.entry.edge, last.entry.edge);
     push_when(text, edges, (first.second(), last.second()))?;
     write!(text, "{name} announced untrue seconds")?;
-    push_offsets(
-        text,
-        steady,
-        first.offset_announced(),
-        last.offset_announced(),
-    )?;
+    push_distance(text, misled)?;
+    push_ground_line(text, ports, misled.vote)
+}
+
+// How far what was announced was from the true seconds.
+fn push_distance(text: &mut String, misled: &Misled) -> Result<(), AllocError>
+    ensures { OnOk result (string_bytes text.new ≡ string_bytes text.old ++ offsets_text
+        misled.now.steady (offset_announced misled.now.first) (offset_announced misled.now.last)) }
+{
+    let first = misled.first.offset_announced();
+    let last = misled.last.offset_announced();
+    push_offsets(text, misled.steady, first, last)
+}
+
+fn push_ground_line(text: &mut String, ports: u8, vote: Option<Tick>) -> Result<(), AllocError>
+    ensures { OnOk result (string_bytes text.new
+        ≡ string_bytes text.old ++ ground_line ports vote) }
+{
     match vote {
         Some(vote) => push_ground(text, ports, &vote),
         None => text.push_str("\n"),
@@ -76,22 +84,21 @@ fn push_carriers(text: &mut String, ports: u8, vote: &Tick) -> Result<(), AllocE
     ensures { OnOk result (string_bytes text.new
         ≡ string_bytes text.old ++ texts_below (carrier_text vote.now) ports) }
 {
-    let mut before = 0;
+    let mut is_first = true;
     for port in 0..ports {
         if vote.is_carrier(port) {
-            push_carrier(text, before, port)?;
-            before += 1;
+            push_carrier(text, is_first, port)?;
+            is_first = false;
         }
     }
     Ok(())
 }
 
-// A port after so many others.
-fn push_carrier(text: &mut String, before: u8, port: u8) -> Result<(), AllocError>
+fn push_carrier(text: &mut String, is_first: bool, port: u8) -> Result<(), AllocError>
     ensures { OnOk result (string_bytes text.new ≡ string_bytes text.old
-        ++ numbered before port) }
+        ++ numbered is_first port) }
 {
-    if before > 0 {
+    if !is_first {
         text.push_str(", ")?;
     }
     push_number(text, u64::from(port))
