@@ -25,7 +25,7 @@ use std::rt::Files;
 /// input can't be read to its end, `Write` if the output fails; `Memory` if there was none.
 pub fn play_input<R: Eprint + AllocGlobal, I: BufRead, O: Write>(
     rt: &R,
-    wanted: Wanted,
+    wanted: Wanted<'_>,
     input: &mut Watched<I>,
     output: &mut Watched<O>,
 ) -> Result<(), Fault>
@@ -49,7 +49,7 @@ pub fn play_input<R: Eprint + AllocGlobal, I: BufRead, O: Write>(
 
 fn write_wanted<I: BufRead, O: Write>(
     alloc: Global,
-    wanted: Wanted,
+    wanted: Wanted<'_>,
     input: &mut Watched<I>,
     output: &mut Watched<O>,
     refused: &mut Option<RefusedLine>,
@@ -66,14 +66,14 @@ fn write_wanted<I: BufRead, O: Write>(
             run_scene_shown(alloc, input, output, Shown { all, ports }, refused)
         }
         Wanted::Flat => flatten(alloc, input, output, refused),
-        Wanted::Blame => blame(alloc, input, output, refused),
+        Wanted::Blame { lines } => blame(alloc, lines, input, output, refused),
     }
 }
 
 /// The same of the scenario in a file; `Open` if it can't be opened.
 pub(crate) fn play_file<R: Files + Eprint + AllocGlobal, O: Write>(
     rt: &R,
-    wanted: Wanted,
+    wanted: Wanted<'_>,
     path: &str,
     output: &mut Watched<O>,
 ) -> Result<(), Fault>

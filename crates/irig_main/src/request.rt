@@ -31,7 +31,7 @@ use text_frame::{FrameOptions, frame_lines, frame_text};
 use text_words::{explanation, why_no_word};
 
 // Without options a log shows announcements alone.
-const PLAIN_LOG: Wanted = Wanted::Log {
+const PLAIN_LOG: Wanted<'static> = Wanted::Log {
     all: false,
     ports: false,
 };
@@ -74,7 +74,7 @@ pub fn serve<'a, R: Files + Eprint + AllocGlobal, I: BufRead, O: Write>(
 
 fn play<'a, R: Files + Eprint + AllocGlobal, I: BufRead, O: Write>(
     rt: &R,
-    wanted: Wanted,
+    wanted: Wanted<'_>,
     source: Source<'a>,
     input: &mut Watched<I>,
     output: &mut Watched<O>,

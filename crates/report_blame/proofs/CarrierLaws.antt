@@ -18,17 +18,17 @@ none_more : (t : Tick) (n : ℕ) → none_below t (n + 1) ≡ (none_below t n &&
 none_more t n = let next : n + 1 ≡ suc n = omega arith in ap (none_below t) next
 
 -- one that carried it is written
-pub carrier_written : (t : Tick) (n : ℕ) (b0 b1 b2 : List ℕ) (first : Bool) → is_carrier t n ≡ true → first ≡ none_below t n
-    → b1 ≡ b0 ++ texts_below (carrier_text t) n → b2 ≡ b1 ++ numbered first n
-    → (false ≡ none_below t (n + 1)) × (b2 ≡ b0 ++ texts_below (carrier_text t) (n + 1))
-carrier_written t n b0 b1 b2 first is was text grew =
-    let here : carrier_text t n ≡ numbered (none_below t n) n = rw is refl in
-    (sym (none_more t n ∙ ap (λ b. none_below t n && not b) is ∙ and_false (none_below t n)), text_more (carrier_text t) n b0 b1 b2 (numbered first n) text grew (ap (λ b. numbered b n) was ∙ sym here))
+pub carrier_written : (lines : List ℕ) (t : Tick) (n : ℕ) (b0 b1 b2 : List ℕ) (first : Bool) → is_carrier t n ≡ true → first ≡ none_below t n
+    → b1 ≡ b0 ++ texts_below (carrier_text lines t) n → b2 ≡ b1 ++ numbered lines first n
+    → (false ≡ none_below t (n + 1)) × (b2 ≡ b0 ++ texts_below (carrier_text lines t) (n + 1))
+carrier_written lines t n b0 b1 b2 first is was text grew =
+    let here : carrier_text lines t n ≡ numbered lines (none_below t n) n = rw is refl in
+    (sym (none_more t n ∙ ap (λ b. none_below t n && not b) is ∙ and_false (none_below t n)), text_more (carrier_text lines t) n b0 b1 b2 (numbered lines first n) text grew (ap (λ b. numbered lines b n) was ∙ sym here))
 
 -- another is not
-pub other_passed : (t : Tick) (n : ℕ) (b0 b1 : List ℕ) (first : Bool) → is_carrier t n ≡ false → first ≡ none_below t n
-    → b1 ≡ b0 ++ texts_below (carrier_text t) n
-    → (first ≡ none_below t (n + 1)) × (b1 ≡ b0 ++ texts_below (carrier_text t) (n + 1))
-other_passed t n b0 b1 first is was text =
-    let here : carrier_text t n ≡ [] = rw is refl in
-    (was ∙ sym (none_more t n ∙ ap (λ b. none_below t n && not b) is ∙ and_true (none_below t n)), text_more (carrier_text t) n b0 b1 b1 [] text (sym (append-nil b1)) (sym here))
+pub other_passed : (lines : List ℕ) (t : Tick) (n : ℕ) (b0 b1 : List ℕ) (first : Bool) → is_carrier t n ≡ false → first ≡ none_below t n
+    → b1 ≡ b0 ++ texts_below (carrier_text lines t) n
+    → (first ≡ none_below t (n + 1)) × (b1 ≡ b0 ++ texts_below (carrier_text lines t) (n + 1))
+other_passed lines t n b0 b1 first is was text =
+    let here : carrier_text lines t n ≡ [] = rw is refl in
+    (was ∙ sym (none_more t n ∙ ap (λ b. none_below t n && not b) is ∙ and_true (none_below t n)), text_more (carrier_text lines t) n b0 b1 b1 [] text (sym (append-nil b1)) (sym here))

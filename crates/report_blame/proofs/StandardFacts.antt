@@ -1,5 +1,5 @@
 -- Known values of the definitions, worked by hand.
-use Rattle.std.proofs.Common.{◌≡◌, ℕ, true, ◌∷◌, [], Some, None, refl}
+use Rattle.std.proofs.Common.{◌≡◌, ℕ, true, List, ◌∷◌, [], Some, None, refl}
 use Rattle.std.specs.Prelude.{codes}
 use Rattle.std.specs.Fmt.{digits}
 use Rattle.irig_port.specs.declared.told.Told.{Told}
@@ -14,7 +14,7 @@ use Rattle.report_blame.specs.declared.tick.Tick.{Tick}
 use Rattle.report_blame.specs.Accounts.{count_of}
 use Rattle.report_blame.specs.Stretches.{begun, ended_by, stretch_of, silence_of}
 use Rattle.report_blame.specs.Offsets.{offset_from}
-use Rattle.report_blame.specs.Text.{edges_text, seconds_text, unit_text, span_text, offset_text}
+use Rattle.report_blame.specs.Text.{edges_text, seconds_text, port_text, unit_text, span_text, offset_text}
 
 pub known_edges : edges_text 3 8 ≡ codes "edges 3 to 8: "
 unfolding edges_text digits
@@ -24,21 +24,36 @@ pub known_edge : edges_text 12 12 ≡ codes "edge 12: "
 unfolding edges_text digits
 known_edge = refl
 
-pub none_announced : seconds_text 0 0 ≡ codes "nothing\n"
+pub none_announced : seconds_text [] 0 0 ≡ codes "nothing\n"
 unfolding seconds_text digits
 none_announced = refl
 
-pub one_untrue : seconds_text 1 1 ≡ codes "1 second, untrue\n"
+pub one_untrue : seconds_text [] 1 1 ≡ codes "1 second, untrue\n"
 unfolding seconds_text digits
 one_untrue = refl
 
-pub some_true : seconds_text 6 0 ≡ codes "6 seconds\n"
+pub some_true : seconds_text [] 6 0 ≡ codes "6 seconds\n"
 unfolding seconds_text digits
 some_true = refl
 
-pub some_untrue : seconds_text 2 1 ≡ codes "2 seconds, 1 of them untrue\n"
+pub some_untrue : seconds_text [] 2 1 ≡ codes "2 seconds, 1 of them untrue\n"
 unfolding seconds_text digits
 some_untrue = refl
+
+-- of a recording of the lines IRIG1, IRIG2 and IRIG3
+abbrev recorded : List ℕ
+recorded = codes "IRIG1,IRIG2,IRIG3"
+
+pub unlike_most : seconds_text recorded 2 1 ≡ codes "2 seconds, 1 of them unlike most lines\n"
+unfolding seconds_text digits
+unlike_most = refl
+
+pub named : port_text recorded 1 ≡ codes "IRIG2"
+named = refl
+
+pub numbered_port : port_text [] 1 ≡ codes "port 1"
+unfolding digits
+numbered_port = refl
 
 -- ---- ticks at which port 1 tells this, and a second is announced that has no true one
 
