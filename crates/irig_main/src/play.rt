@@ -31,7 +31,7 @@ pub fn play_input<R: Eprint + AllocGlobal, I: BufRead, O: Write>(
 ) -> Result<(), Fault>
     requires input_whole { has_failed input.old ≡ false }
     requires output_whole { has_failed output.old ≡ false }
-    ensures played { PlaysScene wanted result
+    ensures played { PlaysScene wanted.entry result
         (I.remaining (device_of input.old)) (I.remaining (device_of input.new))
         (O.contents (device_of output.old)) (O.contents (device_of output.new)) }
     ensures write { (result ≡ Err Fault.Write) ↔ (has_failed output.new ≡ true) }
@@ -56,7 +56,7 @@ fn write_wanted<I: BufRead, O: Write>(
 ) -> Result<Outcome, SceneFault>
     requires input_whole { has_failed input.old ≡ false }
     requires output_whole { has_failed output.old ≡ false }
-    ensures wrote { Writes wanted result (left I.remaining input.old) (left I.remaining input.new)
+    ensures wrote { Writes wanted.entry result (left I.remaining input.old) (left I.remaining input.new)
         (written O.contents output.old) (written O.contents output.new) }
     ensures read { (result ≡ Err SceneFault.Read) ↔ (has_failed input.new ≡ true) }
     ensures write { (result ≡ Err SceneFault.Write) ↔ (has_failed output.new ≡ true) }
@@ -78,7 +78,7 @@ pub(crate) fn play_file<R: Files + Eprint + AllocGlobal, O: Write>(
     output: &mut Watched<O>,
 ) -> Result<(), Fault>
     requires { has_failed output.old ≡ false }
-    ensures played { PlaysFile R.File.remaining wanted result
+    ensures played { PlaysFile R.File.remaining wanted.entry result
         (O.contents (device_of output.old)) (O.contents (device_of output.new)) }
     ensures write { (result ≡ Err Fault.Write) ↔ (has_failed output.new ≡ true) }
 {

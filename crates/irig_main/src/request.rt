@@ -81,7 +81,7 @@ fn play<'a, R: Files + Eprint + AllocGlobal, I: BufRead, O: Write>(
 ) -> Result<(), Fault>
     requires input_whole { has_failed input.old ≡ false }
     requires output_whole { has_failed output.old ≡ false }
-    ensures played { Plays R.File.remaining wanted source.entry result
+    ensures played { Plays R.File.remaining wanted.entry source.entry result
         (I.remaining (device_of input.old)) (I.remaining (device_of input.new))
         (O.contents (device_of output.old)) (O.contents (device_of output.new)) }
     ensures write { (result ≡ Err Fault.Write) ↔ (has_failed output.new ≡ true) }
