@@ -1,17 +1,19 @@
 -- What one tick more does to counts and stretches.
 use Rattle.std.proofs.Common.{◌≡◌, ℕ, suc, ◌+◌, ◌<◌, ◌≤◌, Bool, true, false, List, [], ◌∷◌, length, Option, Some, None, refl, sym, ap, ◌∙◌, arith}
-use Rattle.std.specs.Prelude.{IfSome, count_by, cond}
+use Rattle.std.specs.Prelude.{IfSome, count_by, cond, ◌&&◌}
 use Rattle.std.proofs.lemmas.List.Sums.{sum_by-cons, count_by-le-length}
 use Rattle.report_blame.specs.declared.account.Account.{Account}
 use Rattle.report_blame.specs.declared.account.PortAccount.{PortAccount}
 use Rattle.report_blame.specs.declared.kind.Kind.{Kind}
 use Rattle.report_blame.specs.declared.kind.Kind.TheVariants.{Agreed, Silent, Faulty, Poor, AnotherSecond, AnotherMark}
+use Rattle.report_blame.specs.declared.misled.Misled.{Misled}
 use Rattle.report_blame.specs.declared.stretch.Silence.{Silence}
 use Rattle.report_blame.specs.declared.stretch.Stretch.{Stretch}
 use Rattle.report_blame.specs.declared.tick.Tick.{Tick}
 use Rattle.report_blame.specs.Kinds.{same_kind}
-use Rattle.report_blame.specs.Ticks.{kind_at, is_announced, is_untrue}
-use Rattle.report_blame.specs.Stretches.{one_if, begun, more, IsBelow, stretch_past, stretch_after, stretch_of, silence_of}
+use Rattle.report_blame.specs.Offsets.{same_offset}
+use Rattle.report_blame.specs.Ticks.{kind_at, is_announced, is_untrue, offset_at}
+use Rattle.report_blame.specs.Stretches.{one_if, begun, more, IsBelow, stretch_past, stretch_after, stretch_of, silence_of, last_vote, misled_of}
 use Rattle.report_blame.specs.Accounts.{count_of, port_account, account_of}
 
 -- ---- counts
@@ -41,40 +43,41 @@ IsFew n s = (s.announced ≤ n) × (s.untrue ≤ n)
 few_begun : (n : ℕ) (kind : Kind) (t : Tick) → IsFew (suc n) (begun kind t)
 few_begun n kind t = (omega (arith, one_at_most (is_announced t)), omega (arith, one_at_most (is_untrue t)))
 
-few_more : (n : ℕ) (s : Stretch) (t : Tick) → IsFew n s → IsFew (suc n) (more s t)
-few_more n s t h = (omega (arith, one_at_most (is_announced t), h.0), omega (arith, one_at_most (is_untrue t), h.1))
+few_more : (n port : ℕ) (s : Stretch) (t : Tick) → IsFew n s → IsFew (suc n) (more port s t)
+few_more n port s t h = (omega (arith, one_at_most (is_announced t), h.0), omega (arith, one_at_most (is_untrue t), h.1))
 
-few_past : (n : ℕ) (o : Option Stretch) (kind : Kind) (t : Tick) → IfSome o (IsFew n) → IsFew (suc n) (stretch_past o kind t)
-few_past n None kind t h = few_begun n kind t
-few_past n (Some s) kind t h = elim (same_kind s.kind kind) as (λ b. IsFew (suc n) (cond b (more s t) (begun kind t))) [
-  | true ↦ few_more n s t h
-  | false ↦ few_begun n kind t
+few_past : (n port : ℕ) (o : Option Stretch) (t : Tick) → IfSome o (IsFew n) → IsFew (suc n) (stretch_past port o t)
+few_past n port None t h = few_begun n (kind_at port t) t
+few_past n port (Some s) t h = elim (same_kind s.kind (kind_at port t)) as (λ b. IsFew (suc n) (cond b (more port s t) (begun (kind_at port t) t))) [
+  | true ↦ few_more n port s t h
+  | false ↦ few_begun n (kind_at port t) t
 ]
 
-few_after : (n : ℕ) (o : Option Stretch) (kind : Kind) (t : Tick) → IfSome o (IsFew n) → IfSome (stretch_after o kind t) (IsFew (suc n))
-few_after n o kind t h = elim (same_kind kind Agreed) as (λ b. IfSome (cond b None (Some (stretch_past o kind t))) (IsFew (suc n))) [
+few_after : (n port : ℕ) (o : Option Stretch) (t : Tick) → IfSome o (IsFew n) → IfSome (stretch_after port o t) (IsFew (suc n))
+few_after n port o t h = elim (same_kind (kind_at port t) Agreed) as (λ b. IfSome (cond b None (Some (stretch_past port o t))) (IsFew (suc n))) [
   | true ↦ tt
-  | false ↦ few_past n o kind t h
+  | false ↦ few_past n port o t h
 ]
 
 few_of : (port : ℕ) (ts : List Tick) → IfSome (stretch_of port ts) (IsFew (length ts))
 few_of port [] = tt
-few_of port (t ∷ ts) = few_after (length ts) (stretch_of port ts) (kind_at port t) t (few_of port ts)
+few_of port (t ∷ ts) = few_after (length ts) port (stretch_of port ts) t (few_of port ts)
 
 below : (o : Option Stretch) (n edge : ℕ) → n < edge → IfSome o (IsFew n) → IfSome o (IsBelow edge)
 below None n edge lt h = tt
 below (Some s) n edge lt h = (omega (arith, lt, h.0), omega (arith, lt, h.1))
 
-pub open_more : (port : ℕ) (t : Tick) (ts : List Tick) (result o : Option Stretch) (kind : Kind) (edge : ℕ)
-    → (IfSome o (IsBelow edge) → result ≡ stretch_after o kind t) → o ≡ stretch_of port ts → kind ≡ kind_at port t → length ts < edge
+pub open_more : (port : ℕ) (t : Tick) (ts : List Tick) (result o : Option Stretch) (edge : ℕ)
+    → (IfSome o (IsBelow edge) → result ≡ stretch_after port o t) → o ≡ stretch_of port ts → length ts < edge
     → result ≡ stretch_of port (t ∷ ts)
-open_more port t ts result o kind edge exact was same few =
-    exact (rw was (below (stretch_of port ts) (length ts) edge few (few_of port ts)))
-    ∙ ap (λ o. stretch_after o kind t) was ∙ ap (λ k. stretch_after (stretch_of port ts) k t) same
+open_more port t ts result o edge exact was few =
+    exact (rw was (below (stretch_of port ts) (length ts) edge few (few_of port ts))) ∙ ap (λ o. stretch_after port o t) was
 
-pub more_is : (s : Stretch) (t : Tick) (announced untrue : ℕ) → announced ≡ s.announced + one_if (is_announced t) → untrue ≡ s.untrue + one_if (is_untrue t)
-    → ◌≡◌ {A = Stretch} (record { kind = s.kind; first = s.first; last = t.entry.edge; announced = announced; untrue = untrue }) (more s t)
-more_is s t announced untrue h k = rw (h, k) refl
+pub more_is : (port : ℕ) (s : Stretch) (t : Tick) (steady : Bool) (announced untrue : ℕ)
+    → steady ≡ (same_offset (offset_at port s.first) (offset_at port t) && s.steady)
+    → announced ≡ s.announced + one_if (is_announced t) → untrue ≡ s.untrue + one_if (is_untrue t)
+    → ◌≡◌ {A = Stretch} (record { kind = s.kind; first = s.first; last = t; steady = steady; announced = announced; untrue = untrue }) (more port s t)
+more_is port s t steady announced untrue h0 h1 h2 = rw (h0, h1, h2) refl
 
 -- ---- accounts
 
@@ -84,8 +87,9 @@ pub same_port : (agreed silent faulty poor second mark : ℕ) (stretch : Option 
     → ◌≡◌ {A = PortAccount} (record { agreed = agreed; silent = silent; faulty = faulty; poor = poor; another_second = second; another_mark = mark; stretch = stretch }) (port_account port ts)
 same_port agreed silent faulty poor second mark stretch port ts h0 h1 h2 h3 h4 h5 h6 = rw (h0, h1, h2, h3, h4, h5, h6) refl
 
-pub same_account : (a b c d e : PortAccount) (edges announced untrue : ℕ) (silence : Option Silence) (ts : List Tick)
+pub same_account : (a b c d e : PortAccount) (edges announced untrue : ℕ) (silence : Option Silence) (vote : Option Tick) (misled : Option Misled) (ts : List Tick)
     → a ≡ port_account 0 ts → b ≡ port_account 1 ts → c ≡ port_account 2 ts → d ≡ port_account 3 ts → e ≡ port_account 4 ts
     → edges ≡ length ts → announced ≡ count_by is_announced ts → untrue ≡ count_by is_untrue ts → silence ≡ silence_of ts
-    → ◌≡◌ {A = Account} (record { a = a; b = b; c = c; d = d; e = e; edges = edges; announced = announced; untrue = untrue; silence = silence }) (account_of ts)
-same_account a b c d e edges announced untrue silence ts h0 h1 h2 h3 h4 h5 h6 h7 h8 = rw (h0, h1, h2, h3, h4, h5, h6, h7, h8) refl
+    → vote ≡ last_vote ts → misled ≡ misled_of ts
+    → ◌≡◌ {A = Account} (record { a = a; b = b; c = c; d = d; e = e; edges = edges; announced = announced; untrue = untrue; silence = silence; vote = vote; misled = misled }) (account_of ts)
+same_account a b c d e edges announced untrue silence vote misled ts h0 h1 h2 h3 h4 h5 h6 h7 h8 h9 h10 = rw (h0, h1, h2, h3, h4, h5, h6, h7, h8, h9, h10) refl

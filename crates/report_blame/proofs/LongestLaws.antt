@@ -1,6 +1,6 @@
 -- An open stretch is a longest run of its port's ticks.
 use Rattle.std.proofs.Common.{◌≡◌, ℕ, ◌+◌, Bool, true, false, cond, List, [], ◌∷◌, ◌++◌, Option, Some, None, refl, sym, ap, ◌∙◌, ◌↔◌, subst, inl, inr, arith}
-use Rattle.std.specs.Prelude.{count_by, ⊤}
+use Rattle.std.specs.Prelude.{◌&&◌, count_by, ⊤}
 use Rattle.std.specs.List.{AllByRecursion}
 use Rattle.std.proofs.lemmas.Bool.{cases_Bool, both_ways}
 use Rattle.std.proofs.lemmas.List.Elements.{recursion_from_All, All-from_recursion}
@@ -9,7 +9,8 @@ use Rattle.report_blame.specs.declared.kind.Kind.TheVariants.{Agreed, Silent, Fa
 use Rattle.report_blame.specs.declared.stretch.Stretch.{Stretch}
 use Rattle.report_blame.specs.declared.tick.Tick.{Tick}
 use Rattle.report_blame.specs.Kinds.{same_kind}
-use Rattle.report_blame.specs.Ticks.{kind_at, is_announced, is_untrue}
+use Rattle.report_blame.specs.Offsets.{same_offset}
+use Rattle.report_blame.specs.Ticks.{kind_at, is_announced, is_untrue, offset_at}
 use Rattle.report_blame.specs.Stretches.{one_if, begun, more, stretch_past, stretch_after, stretch_of}
 use Rattle.report_blame.specs.LongestRuns.{IsBroken, IsLongest}
 use Rattle.report_blame.proofs.CountLaws.{count_more}
@@ -37,13 +38,14 @@ longest_begun port t ts wrong broken = record {
   broken = broken;
   wrong = wrong;
   last = refl;
+  steady = refl;
   announced = alone is_announced t;
   untrue = alone is_untrue t;
 }
 
 -- ---- one that goes on
 
-longest_more : (port : ℕ) (t : Tick) (ts : List Tick) (s : Stretch) → same_kind s.kind (kind_at port t) ≡ true → IsLongest port ts s → IsLongest port (t ∷ ts) (more s t)
+longest_more : (port : ℕ) (t : Tick) (ts : List Tick) (s : Stretch) → same_kind s.kind (kind_at port t) ≡ true → IsLongest port ts s → IsLongest port (t ∷ ts) (more port s t)
 longest_more port t ts s same h = record {
   later = t ∷ h.later;
   before = h.before;
@@ -52,6 +54,7 @@ longest_more port t ts s same h = record {
   broken = h.broken;
   wrong = h.wrong;
   last = refl;
+  steady = ap (λ b. same_offset (offset_at port s.first) (offset_at port t) && b) h.steady;
   announced = ap (λ n. n + one_if (is_announced t)) h.announced ∙ sym (count_more is_announced t (h.later ++ s.first ∷ []));
   untrue = ap (λ n. n + one_if (is_untrue t)) h.untrue ∙ sym (count_more is_untrue t (h.later ++ s.first ∷ []));
 }
@@ -144,18 +147,18 @@ broken_by_other port kind (t ∷ ts) s other h =
 
 -- ---- one tick more
 
-past : (port : ℕ) (t : Tick) (ts : List Tick) (o : Option Stretch) → same_kind (kind_at port t) Agreed ≡ false → Stands port ts o → IsLongest port (t ∷ ts) (stretch_past o (kind_at port t) t)
+past : (port : ℕ) (t : Tick) (ts : List Tick) (o : Option Stretch) → same_kind (kind_at port t) Agreed ≡ false → Stands port ts o → IsLongest port (t ∷ ts) (stretch_past port o t)
 past port t ts None wrong h = longest_begun port t ts wrong (broken_by_agreed port (kind_at port t) ts wrong h)
 past port t ts (Some s) wrong h = by_test (same_kind s.kind (kind_at port t)) refl
   where
-    by_test : (b : Bool) → same_kind s.kind (kind_at port t) ≡ b → IsLongest port (t ∷ ts) (cond b (more s t) (begun (kind_at port t) t))
+    by_test : (b : Bool) → same_kind s.kind (kind_at port t) ≡ b → IsLongest port (t ∷ ts) (cond b (more port s t) (begun (kind_at port t) t))
     by_test true is = longest_more port t ts s is h
     by_test false is = longest_begun port t ts wrong (broken_by_other port (kind_at port t) ts s is h)
 
-after : (port : ℕ) (t : Tick) (ts : List Tick) (o : Option Stretch) → Stands port ts o → Stands port (t ∷ ts) (stretch_after o (kind_at port t) t)
+after : (port : ℕ) (t : Tick) (ts : List Tick) (o : Option Stretch) → Stands port ts o → Stands port (t ∷ ts) (stretch_after port o t)
 after port t ts o h = by_test (same_kind (kind_at port t) Agreed) refl
   where
-    by_test : (b : Bool) → same_kind (kind_at port t) Agreed ≡ b → Stands port (t ∷ ts) (cond b None (Some (stretch_past o (kind_at port t) t)))
+    by_test : (b : Bool) → same_kind (kind_at port t) Agreed ≡ b → Stands port (t ∷ ts) (cond b None (Some (stretch_past port o t)))
     by_test true is = is
     by_test false is = past port t ts o is h
 
@@ -175,4 +178,4 @@ none_is_agreed port t ts = (to, back)
     to none = same_is (kind_at port t) Agreed (subst (Stands port (t ∷ ts)) none (stands port (t ∷ ts)))
 
     back : kind_at port t ≡ Agreed → stretch_of port (t ∷ ts) ≡ None
-    back is = ap (λ k. stretch_after (stretch_of port ts) k t) is
+    back is = ap (λ k. cond (same_kind k Agreed) None (Some (stretch_past port (stretch_of port ts) t))) is

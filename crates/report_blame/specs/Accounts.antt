@@ -7,7 +7,7 @@ use Rattle.report_blame.specs.declared.kind.Kind.TheVariants.{Agreed, Silent, Fa
 use Rattle.report_blame.specs.declared.tick.Tick.{Tick}
 use Rattle.report_blame.specs.Kinds.{same_kind}
 use Rattle.report_blame.specs.Ticks.{kind_at, is_announced, is_untrue}
-use Rattle.report_blame.specs.Stretches.{stretch_of, silence_of}
+use Rattle.report_blame.specs.Stretches.{stretch_of, silence_of, last_vote, misled_of}
 
 -- at how many of them a port told this kind
 abbrev pub count_of : Kind → ℕ → List Tick → ℕ
@@ -37,6 +37,8 @@ account_of ts = record {
   announced = count_by is_announced ts;
   untrue = count_by is_untrue ts;
   silence = silence_of ts;
+  vote = last_vote ts;
+  misled = misled_of ts;
 }
 
 -- the account of a port in it, 0 to 4

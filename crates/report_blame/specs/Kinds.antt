@@ -1,6 +1,6 @@
 -- What a port told at a tick, by kinds: the words of a log's port line.
 -- Source: docs/OUTPUT.md.
-use Rattle.std.specs.Prelude.{Bool, true, false, not, if◌then◌else◌, Option, Some, None}
+use Rattle.std.specs.Prelude.{Bool, true, false, not, ◌||◌, if◌then◌else◌, Option, Some, None}
 use Rattle.irig_time.specs.declared.claim.Claim.{Claim}
 use Rattle.irig_time.specs.Seconds.{same_second}
 use Rattle.irig_time.specs.Claims.{same_mark}
@@ -32,3 +32,7 @@ same_kind Poor Poor = true
 same_kind AnotherSecond AnotherSecond = true
 same_kind AnotherMark AnotherMark = true
 same_kind _ _ = false
+
+-- whether it is a claim, and not the true one
+abbrev pub is_lie : Kind → Bool
+is_lie kind = same_kind kind AnotherSecond || same_kind kind AnotherMark

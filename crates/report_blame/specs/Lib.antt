@@ -1,4 +1,5 @@
 pub mod Kinds
+pub mod Offsets
 pub mod Ticks
 pub mod Stretches
 pub mod Soundness

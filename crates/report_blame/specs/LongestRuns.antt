@@ -1,24 +1,32 @@
 -- What it is for a stretch to be a longest run of a reader's ticks, the newest first.
-use Rattle.std.specs.Prelude.{◌≡◌, ℕ, true, false, List, [], ◌∷◌, ◌++◌, All, count_by, ⊤}
+use Rattle.std.specs.Prelude.{◌≡◌, ℕ, Bool, true, false, ◌&&◌, List, [], ◌∷◌, ◌++◌, All, count_by, ⊤, Option, Some, None}
 use Rattle.report_blame.specs.declared.kind.Kind.{Kind}
 use Rattle.report_blame.specs.declared.kind.Kind.TheVariants.{Agreed}
 use Rattle.report_blame.specs.declared.stretch.Stretch.{Stretch}
 use Rattle.report_blame.specs.declared.tick.Tick.{Tick}
 use Rattle.report_blame.specs.Kinds.{same_kind}
-use Rattle.report_blame.specs.Ticks.{kind_at, is_announced, is_untrue}
+use Rattle.report_blame.specs.Offsets.{same_offset}
+use Rattle.report_blame.specs.Ticks.{kind_at, is_announced, is_untrue, offset_at}
 
 -- the newest of some ticks has another kind, or there is none
 abbrev pub IsBroken : ℕ → Kind → List Tick → Type 0
 IsBroken port kind [] = ⊤
 IsBroken port kind (t ∷ ts) = same_kind kind (kind_at port t) ≡ false
 
--- the edge of the newest of some ticks
-abbrev pub last_edge : List Tick → ℕ
-last_edge [] = 0
-last_edge (t ∷ ts) = t.entry.edge
+-- the newest of some ticks
+abbrev pub newest : List Tick → Option Tick
+newest [] = None
+newest (t ∷ ts) = Some t
+
+-- whether a port is as far off at each of some ticks as at the first
+abbrev pub is_steady : ℕ → Tick → List Tick → Bool
+is_steady port first [] = true
+is_steady port first (t ∷ ts) =
+    same_offset (offset_at port first) (offset_at port t) && is_steady port first ts
 
 -- the stretch has the newest ticks, from its first on, which are all of its kind, and the one before
--- is not; the kind is not agreed; and its counts are those of its ticks
+-- is not; the kind is not agreed; its last tick is the newest, it says whether the port was as far
+-- off at each, and its counts are those of its ticks
 pub record IsLongest (port : ℕ) (ts : List Tick) (s : Stretch) : Type 0 where
   pub later : List Tick
   pub before : List Tick
@@ -26,6 +34,7 @@ pub record IsLongest (port : ℕ) (ts : List Tick) (s : Stretch) : Type 0 where
   pub kinds : All (λ t. same_kind s.kind (kind_at port t) ≡ true) (later ++ s.first ∷ [])
   pub broken : IsBroken port s.kind before
   pub wrong : same_kind s.kind Agreed ≡ false
-  pub last : s.last ≡ last_edge (later ++ s.first ∷ [])
+  pub last : newest (later ++ s.first ∷ []) ≡ Some s.last
+  pub steady : s.steady ≡ is_steady port s.first later
   pub announced : s.announced ≡ count_by is_announced (later ++ s.first ∷ [])
   pub untrue : s.untrue ≡ count_by is_untrue (later ++ s.first ∷ [])

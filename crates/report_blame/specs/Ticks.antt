@@ -8,9 +8,14 @@ use Rattle.irig_time.specs.Days.{is_month_end}
 use Rattle.irig_time.specs.Next.{next_of}
 use Rattle.irig_time.specs.Seconds.{same_second}
 use Rattle.irig_port.specs.declared.told.Told.{Told}
+use Rattle.irig_port.specs.declared.told.Told.TheVariants as tells
+use Rattle.irig_vote.specs.Vote.{is_told, vote_of}
 use Rattle.report_blame.specs.declared.kind.Kind.{Kind}
+use Rattle.report_blame.specs.declared.kind.Kind.TheVariants.{Agreed}
+use Rattle.report_blame.specs.declared.offset.Offset.{Offset}
 use Rattle.report_blame.specs.declared.tick.Tick.{Tick}
-use Rattle.report_blame.specs.Kinds.{kind_of}
+use Rattle.report_blame.specs.Kinds.{kind_of_claim, kind_of, same_kind}
+use Rattle.report_blame.specs.Offsets.{offset_between}
 
 -- what a port told, 0 to 4
 abbrev pub told_by : ℕ → Tick → Told
@@ -48,3 +53,55 @@ is_another (Some announced) (Some second) = not (same_second announced second)
 -- whether the reader announced another second than the one that begins at the edge
 abbrev pub is_untrue : Tick → Bool
 is_untrue t = is_another t.entry.report.announce (second_after t.entry.truth)
+
+-- ---- seconds
+
+-- the second of the true frame that ended at the edge
+abbrev pub frame_of : Option Claim → Option UtcSecond
+frame_of None = None
+frame_of (Some claim) = if is_valid claim.at then Some claim.at else None
+
+abbrev pub frame_at : Tick → Option UtcSecond
+frame_at t = frame_of t.entry.truth
+
+-- the second that begins at the edge
+abbrev pub second_at : Tick → Option UtcSecond
+second_at t = second_after t.entry.truth
+
+-- the second that a port claims
+abbrev pub claimed : Told → Option UtcSecond
+claimed (tells.Claim claim) = Some claim.at
+claimed tells.Silence = None
+claimed (tells.Fault fault) = None
+claimed (tells.Poor quality) = None
+
+-- how far what a port claims is from that of the true frame
+abbrev pub offset_at : ℕ → Tick → Option Offset
+offset_at port t = offset_between (frame_at t) (claimed (told_by port t))
+
+-- how far what the reader announces is from the second that begins
+abbrev pub offset_announced : Tick → Option Offset
+offset_announced t = offset_between (second_at t) t.entry.report.announce
+
+-- ---- the vote
+
+-- whether a port claims this
+abbrev pub tells_claim : Option Claim → Told → Bool
+tells_claim None told = false
+tells_claim (Some claim) told = is_told claim told
+
+-- the claim of most ports
+abbrev pub vote_at : Tick → Option Claim
+vote_at t = vote_of t.entry.told t.entry.redundancy
+
+-- whether a port is one of them
+abbrev pub is_carrier : Tick → ℕ → Bool
+is_carrier t port = tells_claim (vote_at t) (told_by port t)
+
+-- whether that claim is the true one, if there is one
+abbrev pub is_true_vote : Option Claim → Option Claim → Bool
+is_true_vote truth None = true
+is_true_vote truth (Some claim) = same_kind (kind_of_claim truth claim) Agreed
+
+abbrev pub votes_truly : Tick → Bool
+votes_truly t = is_true_vote t.entry.truth (vote_at t)

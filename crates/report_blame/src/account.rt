@@ -6,6 +6,7 @@ ghost use Rattle.report_blame.specs.Accounts.{port_account, account_of, port_of}
 ghost use Rattle.report_blame.specs.Soundness.{IsSoundTick, IsSoundOpen, IsSoundAccount};
 
 use crate::kind::Kind;
+use crate::misled::{Misled, misled_after, vote_after};
 use crate::stretch::{Silence, Stretch, counted, silence_after, stretch_after};
 use crate::tick::Tick;
 
@@ -53,7 +54,7 @@ impl PortAccount {
             poor: counted(self.poor, kind.is(Kind::Poor), edge),
             another_second: counted(self.another_second, kind.is(Kind::AnotherSecond), edge),
             another_mark: counted(self.another_mark, kind.is(Kind::AnotherMark), edge),
-            stretch: stretch_after(self.stretch, kind, tick),
+            stretch: stretch_after(self.stretch, port, tick),
         }
     }
 }
@@ -71,6 +72,9 @@ pub(crate) struct Account {
     pub(crate) announced: u64,
     pub(crate) untrue: u64,
     pub(crate) silence: Option<Silence>,
+    /// The last tick at which it announced what most ports told.
+    pub(crate) vote: Option<Tick>,
+    pub(crate) misled: Option<Misled>,
 }
 
 impl Account {
@@ -90,6 +94,8 @@ impl Account {
             announced: 0,
             untrue: 0,
             silence: None,
+            vote: None,
+            misled: None,
         }
     }
 
@@ -102,6 +108,7 @@ impl Account {
         ensures sound { IsSoundAccount result }
     {
         let edge = tick.entry.edge;
+        let vote = vote_after(self.vote, tick);
         Account {
             a: self.a.after(0, tick),
             b: self.b.after(1, tick),
@@ -112,6 +119,8 @@ impl Account {
             announced: counted(self.announced, tick.is_announced(), edge),
             untrue: counted(self.untrue, tick.is_untrue(), edge),
             silence: silence_after(self.silence, tick),
+            vote,
+            misled: misled_after(self.misled, vote, tick),
         }
     }
 

@@ -1,7 +1,7 @@
 //! What a port told at a tick, by kinds.
 
 ghost use Rattle.std.specs.Prelude.{◌≡◌};
-ghost use Rattle.report_blame.specs.Kinds.{kind_of_claim, kind_of, same_kind};
+ghost use Rattle.report_blame.specs.Kinds.{kind_of_claim, kind_of, same_kind, is_lie};
 
 use irig_port::Told;
 use irig_time::Claim;
@@ -36,7 +36,8 @@ impl Kind {
         }
     }
 
-    fn of_claim(truth: Option<Claim>, claim: Claim) -> Kind
+    /// That of a claim.
+    pub(crate) fn of_claim(truth: Option<Claim>, claim: Claim) -> Kind
         ensures { result ≡ kind_of_claim truth claim }
     {
         match truth {
@@ -45,6 +46,13 @@ impl Kind {
             Some(truth) if claim.mark != truth.mark => Kind::AnotherMark,
             Some(_) => Kind::Agreed,
         }
+    }
+
+    /// Whether it is a claim, and not the true one.
+    pub(crate) fn is_lie(self) -> bool
+        ensures { result ≡ is_lie self }
+    {
+        self.is(Kind::AnotherSecond) || self.is(Kind::AnotherMark)
     }
 
     /// Whether this is that kind.

@@ -6,11 +6,16 @@ mod account;
 mod book;
 mod kind;
 mod laws;
+mod line_text;
+mod misled;
+mod misled_text;
 mod observer;
+mod offset;
 mod run;
 mod stretch;
 mod text;
 mod tick;
+mod when_text;
 
 pub use laws::{stretches_are_longest_runs, untrue_seconds_are_not_those_of_their_edges};
 pub use run::blame;

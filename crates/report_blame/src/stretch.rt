@@ -1,10 +1,13 @@
 //! Stretches of ticks at which a port told one kind of wrong, and silences of a reader.
 
-ghost use Rattle.std.specs.Prelude.{◌≡◌, ◌+◌, ◌<◌, IfSome};
+ghost use Rattle.std.specs.Prelude.{◌≡◌, ◌+◌, ◌<◌, ◌&&◌, IfSome};
+ghost use Rattle.report_blame.specs.Offsets.{same_offset};
+ghost use Rattle.report_blame.specs.Ticks.{offset_at};
 ghost use Rattle.report_blame.specs.Stretches.{one_if, begun, more, IsBelow, stretch_after, ended_by, same_cause, silence_at, goes_on, silence_after, ended_silence};
 ghost use Rattle.report_blame.specs.Soundness.{IsSoundTick, IsSoundOpen};
 
 use crate::kind::Kind;
+use crate::offset::same_offset;
 use crate::tick::Tick;
 use irig_reader::Cause;
 
@@ -13,8 +16,9 @@ use irig_reader::Cause;
 pub(crate) struct Stretch {
     pub(crate) kind: Kind,
     pub(crate) first: Tick,
-    /// The edge of the last one.
-    pub(crate) last: u64,
+    pub(crate) last: Tick,
+    /// Whether what the port claimed was as far from the truth at each of them.
+    pub(crate) steady: bool,
     /// How often the reader announced a second meanwhile.
     pub(crate) announced: u64,
     /// How many of those were untrue.
@@ -28,21 +32,31 @@ impl Stretch {
         Stretch {
             kind,
             first: *tick,
-            last: tick.entry.edge,
+            last: *tick,
+            steady: true,
             announced: u64::from(tick.is_announced()),
             untrue: u64::from(tick.is_untrue()),
         }
     }
 
-    fn more(&self, tick: &Tick) -> Stretch
-        ensures exact { IsBelow tick.now.entry.edge self.now → result ≡ more self.now tick.now }
+    // Whether the port is as far off as at all ticks before.
+    fn is_steady_at(&self, port: u8, tick: &Tick) -> bool
+        ensures { result ≡ (same_offset (offset_at port self.now.first) (offset_at port tick.now)
+            && self.now.steady) }
+    {
+        same_offset(self.first.offset(port), tick.offset(port)) && self.steady
+    }
+
+    fn more(&self, port: u8, tick: &Tick) -> Stretch
+        ensures exact { IsBelow tick.now.entry.edge self.now → result ≡ more port self.now tick.now }
         ensures first { result.first ≡ self.now.first }
     {
         let edge = tick.entry.edge;
         Stretch {
             kind: self.kind,
             first: self.first,
-            last: edge,
+            last: *tick,
+            steady: self.is_steady_at(port, tick),
             announced: counted(self.announced, tick.is_announced(), edge),
             untrue: counted(self.untrue, tick.is_untrue(), edge),
         }
@@ -56,19 +70,20 @@ pub(crate) fn counted(count: u64, is_counted: bool, edge: u64) -> u64
     count.saturating_add(u64::from(is_counted)).min(edge)
 }
 
-/// The stretch that is open after a tick of this kind.
-pub(crate) fn stretch_after(before: Option<Stretch>, kind: Kind, tick: &Tick) -> Option<Stretch>
+/// The stretch of a port that is open after a tick.
+pub(crate) fn stretch_after(before: Option<Stretch>, port: u8, tick: &Tick) -> Option<Stretch>
     requires before { IsSoundOpen before }
     requires tick { IsSoundTick tick.now }
     ensures exact { IfSome before (IsBelow tick.now.entry.edge)
-        → result ≡ stretch_after before kind tick.now }
+        → result ≡ stretch_after port before tick.now }
     ensures sound { IsSoundOpen result }
 {
+    let kind = tick.kind(port);
     if kind.is(Kind::Agreed) {
         return None;
     }
     match before {
-        Some(stretch) if stretch.kind.is(kind) => Some(stretch.more(tick)),
+        Some(stretch) if stretch.kind.is(kind) => Some(stretch.more(port, tick)),
         _ => Some(Stretch::begun(kind, tick)),
     }
 }
@@ -89,10 +104,8 @@ pub(crate) fn ended_by(before: Option<Stretch>, kind: Kind) -> Option<Stretch>
 #[derive(Clone, Copy)]
 pub(crate) struct Silence {
     pub(crate) cause: Cause,
-    /// The edge of the first one.
-    pub(crate) first: u64,
-    /// The edge of the last one.
-    pub(crate) last: u64,
+    pub(crate) first: Tick,
+    pub(crate) last: Tick,
 }
 
 impl Silence {
@@ -101,8 +114,8 @@ impl Silence {
     {
         Silence {
             cause: tick.entry.report.cause,
-            first: tick.entry.edge,
-            last: tick.entry.edge,
+            first: *tick,
+            last: *tick,
         }
     }
 
@@ -113,7 +126,8 @@ impl Silence {
     }
 }
 
-fn same_cause(cause: Cause, other: Cause) -> bool
+/// Whether two causes are the same.
+pub(crate) fn same_cause(cause: Cause, other: Cause) -> bool
     ensures { result ≡ same_cause cause other }
 {
     cause == other
@@ -125,7 +139,7 @@ pub(crate) fn silence_after(silence: Option<Silence>, tick: &Tick) -> Option<Sil
 {
     match silence {
         Some(silence) if silence.goes_on(tick) => Some(Silence {
-            last: tick.entry.edge,
+            last: *tick,
             ..silence
         }),
         _ if tick.is_announced() => None,

@@ -21,4 +21,4 @@ returns-clause-exact c = λ ts was few.
     (counted_more (λ (t : Tick). same_kind (kind_at i t) Poor) t ts _ x.poor edge _ c.counted-4.ensures (ap (λ (x : PortAccount). x.poor) was) (c.is-4.ensures ∙ ap (λ (k : Kind). same_kind k Poor) c.kind-kind.ensures) few)
     (counted_more (λ (t : Tick). same_kind (kind_at i t) AnotherSecond) t ts _ x.another_second edge _ c.counted-5.ensures (ap (λ (x : PortAccount). x.another_second) was) (c.is-5.ensures ∙ ap (λ (k : Kind). same_kind k AnotherSecond) c.kind-kind.ensures) few)
     (counted_more (λ (t : Tick). same_kind (kind_at i t) AnotherMark) t ts _ x.another_mark edge _ c.counted-6.ensures (ap (λ (x : PortAccount). x.another_mark) was) (c.is-6.ensures ∙ ap (λ (k : Kind). same_kind k AnotherMark) c.kind-kind.ensures) few)
-    (open_more i t ts _ x.stretch c.kind-kind.result edge c.stretch_after.ensures.exact (ap (λ (x : PortAccount). x.stretch) was) c.kind-kind.ensures few)
+    (open_more i t ts _ x.stretch edge c.stretch_after.ensures.exact (ap (λ (x : PortAccount). x.stretch) was) few)
