@@ -1,16 +1,12 @@
-#!/usr/bin/env python3
 """The waves of a scenario: what comes to the lines of its first reader. Tests compare with them what the
 tools make, and what a log says.
 
 Frames and generators are written anew here, by docs/FRAME.md and docs/SCENARIOS.md, so that a log
 made of these waves owes nothing to the program's. Each second has its pulses at 10 ms from its edge
-on, and the first edge comes after 50 ms. A restart is no matter of wires, and left out.
-
-    tests/waves.py SCENARIO     how its first reader is set up, as c/examples/capture_bench.c takes it"""
+on, and the first edge comes after 50 ms. A restart is no matter of wires, and left out."""
 from __future__ import annotations
 
 import json
-import sys
 from collections.abc import Iterable, Iterator, Sequence
 from dataclasses import dataclass, field, replace
 from datetime import date, timedelta
@@ -259,18 +255,3 @@ def pulled(changes: Iterable[tuple[int, int, int]], line: int, begin: int, end: 
             if is_out:
                 continue
         yield time, of, to
-
-
-def words_of(plant: dict) -> str:
-    """How the first reader is set up."""
-    reader = plant["readers"][0]
-    words = [reader["lock_after"], reader["holdover"]]
-    if table := reader.get("table"):
-        days = [table["until"], *(leap["day"] for leap in table["leaps"])]
-        words += [second_of(day + "T00:00:00Z")[0] for day in days]
-    return " ".join(map(str, words))
-
-
-if __name__ == "__main__":
-    with open(sys.argv[1]) as scenario:
-        print(words_of(json.loads(next(line for line in scenario if line.strip()))))

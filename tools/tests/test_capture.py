@@ -418,20 +418,35 @@ class Devices(InAFolder):
             self.skipTest("no cc")
         sources = [ROOT / f"c/examples/{name}.c" for name in ("capture", "capture_bench")]
         library = ROOT / "c/out/libirig.so.1"
-        self.board = self.folder / "board"
-        subprocess.run(
-            ["cc", "-std=c11", f"-I{ROOT / 'c'}", *sources, library, f"-Wl,-rpath,{library.parent}",
-             "-o", self.board], check=True,
-        )
+        for count in (1, 3, 5):
+            subprocess.run(
+                ["cc", "-std=c11", f"-DLINES={count}", f"-I{ROOT / 'c'}", *sources, library,
+                 f"-Wl,-rpath,{library.parent}", "-o", self.folder / f"board{count}"], check=True,
+            )
 
-    def announced(self, lines: Wave, ports: Sequence[int]) -> list[str]:
-        """What the board announces, tick by tick, until 5 ms behind the end."""
+    def announced(self, lines: Wave, ports: Sequence[int], *setup: int) -> list[str]:
+        """What the board of this setup announces, tick by tick, until 5 ms behind the end."""
         rows = [*lines.rows(), (lines.end + 5_000, list(lines.rows())[-1][1])]
         table = [f"{time / 1e6:.6f}," + ",".join(str(levels[line]) for line in ports)
                  for time, levels in rows]
         text = "\n".join(["Time [s]", *table, ""])
-        ran = subprocess.run([self.board, "2", "5"], input=text, capture_output=True, text=True)
-        return ran.stdout.splitlines()
+        words = [self.folder / f"board{len(ports)}", *map(str, setup)]
+        return subprocess.run(words, input=text, capture_output=True, text=True).stdout.splitlines()
+
+    def test_examples(self) -> None:
+        """Each that wires can carry, and one line of three that are equal: as the program has them."""
+        alone = {"plain_minute", "leap_inserted", "leap_deleted", "dark_hour", "month_end_with_table"}
+        for name in set(examples()) - set(UNLIKE):
+            trip, lines = trips_of(name)[0], wave_of(name)
+            setup = [trip.reader["lock_after"], trip.reader["holdover"]]
+            if table := trip.reader.get("table"):
+                days = [table["until"], *(leap["day"] for leap in table["leaps"])]
+                setup += [waves.second_of(f"{day}T00:00:00Z")[0] for day in days]
+            said = [line.split(" ", 2) for line in trip.log[:-1] if line[0] != " "]
+            wanted = [f"{edge} relay {words}" for edge, _, words in said]
+            for ports in [range(lines.count), *[[1]] * (name in alone)]:
+                with self.subTest(name, ports=len(ports)):
+                    self.assertEqual(self.announced(lines, ports, *setup), wanted)
 
     @staticmethod
     def troubled(seed: int) -> Wave:
@@ -467,7 +482,7 @@ class Devices(InAFolder):
                 channels = ",".join(f"G{line}" for line in ports)
                 text, _ = captured_wave(lines, f"--channels={channels}", *words)
                 said = [line for line in log_of(text)[:-1] if line[0] != " "]
-                self.assertEqual(said, self.announced(lines, ports))
+                self.assertEqual(said, self.announced(lines, ports, 2, 5))
                 kinds |= {line.split()[-1] for line in said}
         self.assertLessEqual({"voted", "held", "no-vote", "acquiring"}, kinds)
 
