@@ -55,12 +55,6 @@ class Hearing(unittest.TestCase):
         reader.idle(6_000_000)
         self.assertEqual(str(reader.tick()), "2017-01-01T00:00:00Z locked voted")
 
-    def test_a_port_that_is_not_there(self) -> None:
-        reader = Reader()
-        for port in (3, 5, 255, 256, -1):
-            self.assertRaises(irig.Fault, reader.hear, port, 0, 8000)
-        self.assertEqual(Reader(ports=5).hear(4, 0, 8000), 1)
-
     def test_words_of_another_kind(self) -> None:
         self.assertRaises(TypeError, Reader().hear, 0, 8000)
         self.assertRaises(TypeError, Reader().hear, 0, FRAME, 8000)

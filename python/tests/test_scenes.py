@@ -119,19 +119,6 @@ class Blame(unittest.TestCase):
             irig.run(example("one_liar") + "[]\n")
         self.assertEqual([str(it) for it in caught.exception.log.blame()], self.WANTED)
 
-    def test_two_liars(self) -> None:
-        """From edge 7 on the reader follows them: four seconds, all of them an hour ahead."""
-        words = "run", str(ROOT / "examples/two_liars.jsonl"), "--all", "--ports"
-        log = irig.read_log(printed(*words), example("two_liars"))
-        self.assertEqual([str(stretch) for stretch in log.blame()], [
-            "edge 1: relay announced nothing: acquiring, not yet enough votes in a row",
-            "edge 5: relay announced nothing: jump, the vote was for another second than the one that"
-            " followed",
-            "edge 6: relay announced nothing: acquiring, not yet enough votes in a row",
-            *(f"edges 5 to 10: port {port} of relay told another second, first 2016-06-15T13:00:04Z;"
-              " relay announced 4 seconds, 4 of them untrue" for port in (0, 1)),
-        ])
-
 
 class Refusals(unittest.TestCase):
     """Lines that are refused."""

@@ -3,7 +3,6 @@ from __future__ import annotations
 
 import copy
 import unittest
-from dataclasses import replace
 
 import irig
 from irig import Beat, Second, Stamp, Timekeeper, Zone
@@ -118,16 +117,6 @@ class Ticks(unittest.TestCase):
         stamp = Stamp(Second.read("2016-12-31T23:59:60Z"), 500_000, VOTE_US + 60 * 7)
         self.assertEqual(keeper.stamp(61_500_000), stamp)
 
-    def test_profiles(self) -> None:
-        coded = irig.decode(irig.frame("2016-12-31T12:00:00Z", local=2, sense="subtract"))
-        other = irig.with_parity(irig.encode(replace(coded, sbs=coded.sbs + 1)), "odd")
-        for sbs, is_true in (("check", False), ("ignore", True)):
-            keeper = Timekeeper(1, drift_us=10, parity="odd", sense="subtract", sbs=sbs)
-            hear_frame(keeper, other, 0, 0, 1, 2)
-            beat = keeper.tick(1_000_000)
-            said = "2016-12-31T12:00:01Z locked voted" if is_true else "None"
-            self.assertEqual(str(beat), said)
-
     def test_nothing_was_heard(self) -> None:
         keeper = Timekeeper(drift_us=100)
         self.assertEqual(keeper.wait(77), 1_000_000)
@@ -156,10 +145,6 @@ class Refusals(unittest.TestCase):
                 f"Timekeeper(lock_after=60, holdover=1000000, drift_us=0, ports={ports})",
             )
         for words, says in (
-            ({"lock_after": 0}, "lock_after is 0; 1 to 60 may stand here"),
-            ({"holdover": 1_000_001}, "holdover is 1000001; 0 to 1000000 may stand here"),
-            ({"ports": 4}, "ports is 4; 1, 3 or 5 may stand here"),
-            ({"parity": "none"}, "parity is 'none'; even or odd may stand here"),
             ({"drift_us": -1}, "drift_us is -1; 0 to 100 may stand here"),
             ({"drift_us": 101}, "drift_us is 101; 0 to 100 may stand here"),
             ({"drift_us": WRAP + 1}, "drift_us is 4294967297; 0 to 100 may stand here"),
@@ -176,16 +161,6 @@ class Refusals(unittest.TestCase):
         for drift_us, most in ((100, 4_898), (40, 12_248), (10, 48_998), (1, 489_998)):
             self.assertEqual(Timekeeper(2, most, drift_us=drift_us).holdover, most)
             self.says(says, 35, holdover=most + 1, drift_us=drift_us)
-
-    def test_tables(self) -> None:
-        for number, until, leaps in (
-            (31, "2099-12-31", []),
-            (33, "2030-01-01", [irig.Leap("2016-12-30")]),
-            (34, "2030-01-01", [irig.Leap("2016-12-31"), irig.Leap("2016-12-31", "delete")]),
-        ):
-            with self.subTest(number), self.assertRaises(irig.Fault) as caught:
-                Timekeeper(drift_us=10, until=until, leaps=leaps)
-            self.assertEqual(caught.exception.number, number)
 
     def test_calls(self) -> None:
         keeper, most = Timekeeper(drift_us=10), "0 to 4294967295 may stand here"
