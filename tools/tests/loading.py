@@ -2,6 +2,7 @@
 and the package of python/."""
 from __future__ import annotations
 
+import re
 import subprocess
 import sys
 import tempfile
@@ -42,3 +43,23 @@ class InAFolder(unittest.TestCase):
         folder = tempfile.TemporaryDirectory()
         self.addCleanup(folder.cleanup)
         self.folder = Path(folder.name)
+
+
+def compare_pictures(
+    case: unittest.TestCase, tool: Path, folder: Path, environment: dict[str, str] | None = None
+) -> None:
+    """That the pictures of a folder are what a tool draws now, by the same matplotlib."""
+    with tempfile.TemporaryDirectory() as made:
+        ran = subprocess.run([tool, made], stderr=subprocess.PIPE, text=True, timeout=300, env=environment)
+        if ran.returncode == 2 and "missing" in ran.stderr:
+            print(f"skipped: {ran.stderr.strip()}")
+            case.skipTest(ran.stderr)
+        case.assertEqual((ran.returncode, ran.stderr), (0, ""))
+        drawn, kept = ({path.name: path.read_text() for path in at.glob("*.svg")} for at in (Path(made), folder))
+    case.assertEqual(set(drawn), set(kept))
+    here, there = (set(re.findall(r"Matplotlib v[\d.]+", "".join(of.values()))) for of in (drawn, kept))
+    if here != there:
+        print(f"skipped: {folder.name} was drawn by {there}, and here is {here}")
+        case.skipTest("another matplotlib")
+    for name, picture in kept.items():
+        case.assertTrue(picture == drawn[name], f"{name} is not what {tool.name} draws")

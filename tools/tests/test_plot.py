@@ -15,7 +15,7 @@ from itertools import combinations
 from pathlib import Path
 from unittest import mock
 
-from loading import ROOT, loaded
+from loading import ROOT, compare_pictures, loaded
 from parts.log_lanes import PORT_STATES, STATES, Bars, Lane, Mark, Run, bars_of
 from parts.command import DEBIAN
 from parts.layout import Label, Scale, chosen, rows_of, ways
@@ -334,22 +334,8 @@ class Pictures(unittest.TestCase):
         self.assertEqual(plot(log)[1], plot(log)[1])
 
     def test_the_gallery(self) -> None:
-        def version(picture: str) -> str:
-            return re.findall(r"Matplotlib v([\d.]+)", picture)[0]
-
-        with tempfile.TemporaryDirectory() as folder:
-            program = {**os.environ, "IRIG": str(PROGRAM)}
-            subprocess.run([ROOT / "tools/gallery", folder], check=True, timeout=300, env=program)
-            drawn = {path.name: path.read_text() for path in Path(folder).iterdir()}
-        kept = {path.name: path.read_text() for path in (ROOT / "docs/gallery").iterdir()}
-        self.assertEqual(set(drawn), set(kept), "tools/gallery draws one for each example")
-        (here,), (there,) = ({version(text) for text in texts.values()} for texts in (drawn, kept))
-        if here != there:
-            why = f"docs/gallery was drawn by matplotlib {there}, and here is {here}"
-            print(f"skipped: {why}")
-            self.skipTest(why)
-        for name, picture in kept.items():
-            self.assertTrue(picture == drawn[name], f"{name} is not what tools/gallery draws")
+        program = {**os.environ, "IRIG": str(PROGRAM)}
+        compare_pictures(self, ROOT / "tools/gallery", ROOT / "docs/gallery", program)
 
 
 class Refusals(unittest.TestCase):
