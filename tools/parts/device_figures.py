@@ -34,49 +34,6 @@ def write(axes: Axes, x: float, y: float, words: str, side: str = "center", ink:
     axes.text(x, y, words, size=SMALL, ha=side, va="center", color=ink)
 
 
-def draw_box(axes: Axes, left: float, foot: float, width: float, height: float, words: str) -> None:
-    axes.add_patch(Rectangle((left, foot), width, height, fc="white", ec=BLUE, lw=1.2))
-    write(axes, left + width / 2, foot + height / 2, words)
-
-
-def draw_arrow(axes: Axes, *corners: tuple[float, float]) -> None:
-    axes.plot(*zip(*corners[:-1]), color=DARK, lw=1)
-    look = {"arrowstyle": "-|>", "color": DARK, "shrinkA": 0, "shrinkB": 0}
-    axes.annotate("", corners[-1], corners[-2], arrowprops=look)
-
-
-def device_figure() -> Figure:
-    """How a device is wired. Sizes are in inches."""
-    figure = Figure(figsize=(9.0, 3.9))
-    axes = figure.add_axes([0, 0, 1, 1], xlim=(0, 9.0), ylim=(0, 3.9))
-    axes.set_axis_off()
-    axes.add_patch(Rectangle((2.25, 0.2), 4.15, 2.95, fc=BLUE, alpha=0.12, lw=0))
-    axes.add_patch(Rectangle((2.35, 0.27), 1.5, 2.53, fill=False, ec=DARK, lw=0.8, ls=DASHED))
-    for line in range(3):
-        middle = 2.5 - 0.6 * line
-        draw_box(axes, 0.3, middle - 0.22, 1.2, 0.44, f"clock {line}\nwith its antenna")
-        draw_box(axes, 2.45, middle - 0.22, 1.3, 0.44, f"timer input {line}:\nrise and width")
-        draw_arrow(axes, (1.5, middle), (2.45, middle))
-        draw_arrow(axes, (3.75, middle), (4.5, middle))
-        write(axes, 1.87, middle + 0.1, f"line {line}")
-        write(axes, 4.2, middle + 0.1, "hear")
-    draw_box(axes, 2.45, 0.35, 1.3, 0.44, "free-running counter\nof microseconds")
-    draw_box(axes, 4.5, 1.08, 1.7, 1.64, "irig\n\nthree lines\n↓\nvote\n↓\na second, or silence")
-    draw_arrow(axes, (3.75, 0.57), (4.9, 0.57), (4.9, 1.08))
-    draw_arrow(axes, (6.75, 0.57), (5.8, 0.57), (5.8, 1.08))
-    draw_arrow(axes, (6.2, 2.4), (6.75, 2.4))
-    draw_arrow(axes, (6.2, 1.4), (6.75, 1.4))
-    axes.text(4.35, 2.93, "one microcontroller", size=NORMAL, ha="center", weight="bold")
-    write(axes, 3.1, 0.93, "the timer")
-    write(axes, 4.35, 0.67, "time now")
-    write(axes, 6.8, 2.4, "tick: the UTC second and\nits edge, or nothing", "left")
-    write(axes, 6.8, 1.4, "stamp: the event's second,\nmicroseconds since its edge,\nand their bound", "left")
-    write(axes, 6.8, 0.57, "an event, by the counter", "left")
-    head(figure, "A device that keeps time",
-         "each clock sends IRIG-B on a line of its own, so one of them may fail or lie")
-    return figure
-
-
 def second_figure() -> Figure:
     """One second, from pulse to stamp."""
     keeper, pulses, edge, event = Timekeeper(drift_us=50), frames(5), 4 * SECOND_US, 4_021_300
@@ -165,6 +122,5 @@ def life_figure() -> Figure:
 
 def figures() -> Iterator[tuple[str, Figure]]:
     """Each picture with its name."""
-    yield "device", device_figure()
     yield "second", second_figure()
     yield "life", life_figure()

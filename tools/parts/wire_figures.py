@@ -56,45 +56,6 @@ def head(figure: Figure, title: str, words: str) -> None:
     figure.text(0.03, 1 - 0.55 / height, words, size=SMALL, color=DARK)
 
 
-# ---- what a line carries
-
-
-def draw_stretch(axes: Axes, pulses: list[Pulse], begin: int, end: int) -> None:
-    times, heights = levels(pulses, begin, end)
-    axes.fill_between(times, heights, color=BLUE, alpha=0.25, lw=0)
-    axes.plot(times, heights, color=BLUE, lw=1.2)
-    for rise, width in pulses:
-        if begin <= rise < end:
-            element = rise // ELEMENT_US % ELEMENTS
-            symbol = {8000: "P", 5000: "1", 2000: "0"}[width]
-            middle = (rise + ELEMENT_US / 2) / 1000
-            axes.text(middle, 1.22, symbol, size=NORMAL, ha="center", weight="bold")
-            axes.text(middle, -0.22, str(element), size=SMALL, ha="center", color="#444444")
-    plain(axes)
-    axes.set_xlim(begin / 1000, end / 1000)
-    axes.set_ylim(-0.4, 1.9)
-
-
-def frame_figure() -> Figure:
-    """The first elements of a frame, its last, and the first of the next."""
-    figure = Figure(figsize=(9.0, 2.9))
-    pulses = frames(2)
-    first = figure.add_axes([0.03, 0.22, 0.60, 0.52])
-    draw_stretch(first, pulses, -5000, 120_000)
-    last = figure.add_axes([0.67, 0.22, 0.30, 0.52])
-    draw_stretch(last, pulses, 955_000, 1_030_000)
-    for axes, edge, side in ((first, 0, "left"), (last, 1000, "right")):
-        axes.axvline(edge, color="black", lw=1, ls=(0, (3, 2)))
-        name = "23:59:57" if edge == 0 else "23:59:58"
-        axes.text(edge, 1.62, f" edge: {name} begins ", size=SMALL, ha=side)
-    first.set_xlabel("ms from the edge", size=SMALL)
-    last.set_xlabel("ms", size=SMALL)
-    figure.text(0.03, 0.92, "What a line carries", size=LARGE, weight="bold")
-    figure.text(0.03, 0.84, "a pulse each 10 ms, its leading edge on the 10 ms grid: 2 ms is a 0, 5 ms a 1,"
-                " 8 ms a marker (P); below each its element", size=SMALL, color="#444444")
-    return figure
-
-
 # ---- where a tick belongs
 
 
@@ -107,29 +68,6 @@ def draw_lines(axes: Axes, pulses: list[Pulse], begin: int, end: int) -> None:
         axes.plot(times, tops, color=BLUE, lw=1.2)
         name = f"line {row}\n+{late} us"
         axes.text(begin / 1000 - 0.4, foot + 0.4, name, size=SMALL, ha="right", va="center")
-
-
-def edge_figure() -> Figure:
-    """Three lines apart, round an edge."""
-    figure = Figure(figsize=(9.0, 3.3))
-    axes = figure.add_axes([0.10, 0.17, 0.87, 0.60])
-    draw_lines(axes, [(rise - SECOND_US, width) for rise, width in frames(2)], -25_000, 25_000)
-    begin, end = (-ELEMENT_US + 8000 + max(APART)) / 1000, (8000 + min(APART)) / 1000
-    axes.add_patch(Rectangle((begin, 0.2), end - begin, 3.4, color="#009E73", alpha=0.15, lw=0))
-    axes.text((begin + end) / 2, 3.75, "a tick here is right", size=SMALL, ha="center", color="#00664B")
-    for time, name in ((0.0, "the edge"), (5.0, "own clock, only if\nlines do not agree")):
-        axes.axvline(time, ymax=0.83, color="black", lw=1, ls=(0, (3, 2)))
-        axes.text(time + 0.2, 0.02, name, size=SMALL, va="top")
-    axes.text(-6.0, 0.02, "element 99", size=SMALL, ha="center", va="top")
-    axes.text(17.0, 0.02, "element 1", size=SMALL, ha="center", va="top")
-    plain(axes)
-    axes.set_xlim(-25, 25)
-    axes.set_ylim(-0.6, 4.1)
-    axes.set_xlabel("ms from the edge", size=SMALL)
-    figure.text(0.03, 0.92, "Where a tick belongs", size=LARGE, weight="bold")
-    figure.text(0.03, 0.85, "behind the last pulse of each line's frame, and before the first pulse of the next"
-                " has ended on any", size=SMALL, color="#444444")
-    return figure
 
 
 # ---- what a fault does
@@ -231,6 +169,4 @@ def faults_figure() -> Figure:
 
 def figures() -> Iterator[tuple[str, Figure]]:
     """Each picture with its name."""
-    yield "frame", frame_figure()
-    yield "edge", edge_figure()
     yield "faults", faults_figure()
