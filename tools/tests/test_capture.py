@@ -683,22 +683,6 @@ class Lines(unittest.TestCase):
             form.format("-5:30", "subtract", f"{day}11:59:54Z", "add", f"{day}00:59:54Z"),
         ])
 
-    def test_a_good_line_is_not_named(self) -> None:
-        self.assertEqual(self.said_of(wave_of("leap_inserted")), [
-            "G1: 1400 pulses, 14 frames, 0 pulses out of step",
-            *self.spreads(),
-            "a second is 0.0 ppm longer than one of the recorder",
-        ])
-
-    @staticmethod
-    def spreads() -> list[str]:
-        """By the widths that tests/waves.py sends."""
-        lines = scenarios()["leap_inserted"].splitlines()
-        widths = [width for second in waves.seconds_of(lines) for width in second[1]]
-        rows = [f"{letter}   {widths.count(width):8}  {width / 1000:.3f} to {width / 1000:.3f} ms,"
-                f" mean {width / 1000:.3f}" for letter, width in waves.WIDTHS.items()]
-        return [*rows, f"gap {14 * 99:8}  10.000 to 10.000 ms, mean 10.000"]
-
 
 class Words(InAFolder):
     def refused(self, *words: object) -> str:
