@@ -347,15 +347,6 @@ class Recorders(unittest.TestCase):
         self.assertEqual(log_of(text), wanted_of("leap_inserted"))
         return said
 
-    def test_glitches_are_let_through(self) -> None:
-        spike = [(507_000, 0, 1), (507_030, 0, 0)]
-        lines = wave_of("leap_inserted")
-        lines = replace(lines, changes=tuple(sorted([*lines.changes, *spike])))
-        before = [level for time, line, level in lines.changes if line == 0 and time < 507_000]
-        self.assertEqual(before[-1], 0, "the spike stands between two pulses")
-        self.assertIn("1400 pulses, 14 frames, 0 pulses out", captured_wave(lines)[1])
-        self.assertIn("G0: 1401 pulses, 13 frames", captured_wave(lines, "--glitch=0")[1])
-
     def test_a_clock_that_is_off(self) -> None:
         for parts, said_so in ((1_005_000, "5000.0 ppm longer"), (999_900, "100.0 ppm shorter")):
             lines = wave_of("leap_inserted").of(
