@@ -461,6 +461,7 @@ def _time_of(second: Optional[Second]) -> Optional[datetime]:
     return None if second is None or second.is_leap else second.to_datetime()
 
 
+@dataclass(eq=False, repr=False)
 class Refused(ValueError):
     """A line of a scenario was refused. As a text it is what the program says of it.
 
@@ -475,28 +476,15 @@ class Refused(ValueError):
     What is not known is None: all but line, number and name, if a log was read.
     """
 
-    def __init__(
-        self,
-        line: int,
-        number: int,
-        name: str,
-        log: Log,
-        reason: Optional[str] = None,
-        place: Optional[str] = None,
-        key: Optional[str] = None,
-        value: Optional[str] = None,
-        allowed: Optional[str] = None,
-    ) -> None:
-        super().__init__(line, number, name, log, reason, place, key, value, allowed)
-        self.line = line
-        self.number = number
-        self.name = name
-        self.log = log
-        self.reason = reason
-        self.place = place
-        self.key = key
-        self.value = value
-        self.allowed = allowed
+    line: int
+    number: int
+    name: str
+    log: Log
+    reason: Optional[str] = None
+    place: Optional[str] = None
+    key: Optional[str] = None
+    value: Optional[str] = None
+    allowed: Optional[str] = None
 
     def __str__(self) -> str:
         reason = self.reason or MEANINGS[self.number].cause
