@@ -75,4 +75,7 @@ void begin_lines(life *l, uint64_t start_us, walk kind, chance *luck);
 void play_rows(life *l, const subject *s, bool is_loud, unsigned long *passed,
                unsigned long *failed);
 
+/* Flips each bit of the line of a device of one line, behind each third element of a frame. */
+bool play_flips(life *l, const subject *s);
+
 #endif

@@ -1,4 +1,4 @@
-/* The library's timekeeper as a subject. */
+/* The library's timekeeper as a subject; and beside it the model, which has to answer alike. */
 #include "subject.h"
 
 #include <string.h>
@@ -32,9 +32,48 @@ void flip_library(uint32_t bit) { ((uint8_t *)&keeper)[bit / 8] ^= (uint8_t)(1u 
 
 const subject library_subject = {"library", begin, hear, tick, wait, restart, stamp, NULL, false};
 
+/* ---- with the model */
+
+static uint32_t begin_both(const irig_setup *setup, const irig_table *table, uint32_t drift_us,
+                           uint32_t now_us) {
+    uint32_t wanted = model_subject.begin(setup, table, drift_us, now_us);
+    return begin(setup, table, drift_us, now_us) == wanted ? wanted : DIFFERS;
+}
+
+static uint8_t hear_both(uint8_t line, uint32_t rise_us, uint32_t width_us) {
+    uint8_t wanted = model_subject.hear(line, rise_us, width_us);
+    return hear(line, rise_us, width_us) == wanted ? wanted : DIFFERS;
+}
+
 /* But for bytes that belong to no number. */
 bool are_alike(const irig_second *a, const irig_second *b) {
     if (!a->is_told || !b->is_told) return a->is_told == b->is_told;
     return a->edge_us == b->edge_us && a->missed == b->missed && a->moved == b->moved &&
            memcmp(&a->report, &b->report, offsetof(irig_report, dst) + 1) == 0;
 }
+
+static uint32_t tick_both(uint32_t now_us, irig_second *s) {
+    irig_second other;
+    uint32_t wanted = model_subject.tick(now_us, &other);
+    return tick(now_us, s) == wanted && are_alike(&other, s) ? wanted : DIFFERS;
+}
+
+static uint32_t wait_both(uint32_t now_us) {
+    uint32_t wanted = model_subject.wait(now_us);
+    return wait(now_us) == wanted ? wanted : UINT32_MAX;
+}
+
+static uint32_t stamp_both(uint32_t time_us, irig_stamp *s) {
+    irig_stamp other = {0};
+    uint32_t wanted = model_subject.stamp(time_us, &other);
+    if (stamp(time_us, s) != wanted) return DIFFERS;
+    return wanted != IRIG_DONE || memcmp(&other, s, sizeof other) == 0 ? wanted : DIFFERS;
+}
+
+static void restart_both(void) {
+    model_subject.restart();
+    restart();
+}
+
+const subject both_subject = {"both", begin_both, hear_both, tick_both, wait_both, restart_both,
+                              stamp_both, NULL, false};

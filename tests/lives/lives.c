@@ -2,15 +2,16 @@
  *
  *     lives [OPTION]..
  *
- *     --subject NAME   library, wrong, capture, poll
+ *     --subject NAME   library; both, with the model beside it; model; capture, poll
  *     --seed N         of all chance; 1 without it
  *     --seconds N      plays so many in which a line sends; 10,000 without it
  *     --life N         that life alone
- *     --wrong NAME     what is wrong with `wrong`
+ *     --wrong NAME     what is wrong with the model
  *     --overrun        one liar more than may be, so that lives have to fail
  *     --aloud          prints each second that is told
  *     --rows           plays small worlds with what has to come of each, and no lives
- *     --wrongs         all that can be wrong has to be found
+ *     --flips          flips each bit of a line, and plays no lives
+ *     --wrongs         all that can be wrong with the model has to be found
  *
  * The last line is 'N passed, M failed'. */
 #include "device.h"
@@ -84,13 +85,13 @@ static bool is_found_by_lives(uint64_t *number) {
 }
 
 static void find_wrongs(void) {
-    options.subject = &wrong_subject;
-    for (subject_wrong = NOTHING_WRONG + 1; subject_wrong < WRONGS; subject_wrong++) {
+    options.subject = &model_subject;
+    for (model_wrong = NOTHING_WRONG + 1; model_wrong < WRONGS; model_wrong++) {
         unsigned long right = 0, rows = 0;
         uint64_t number;
         play_rows(&one, options.subject, false, &right, &rows);
         bool is_found = is_found_by_lives(&number);
-        printf("%s: %lu rows", WRONG_NAMES[subject_wrong], rows);
+        printf("%s: %lu rows", WRONG_NAMES[model_wrong], rows);
         if (is_found) printf(", life %lu: %s", (unsigned long)number, one.judge.text);
         printf("\n");
         add(is_found || rows > 0);
@@ -107,8 +108,8 @@ static void refuse(const char *what, const char *word) {
 static bool are_same(const char *word, const char *other) { return strcmp(word, other) == 0; }
 
 static const subject *subject_of(const char *name) {
-    static const subject *const SUBJECTS[] = {&library_subject, &wrong_subject, &capture_subject,
-                                              &poll_subject};
+    static const subject *const SUBJECTS[] = {&library_subject, &both_subject, &model_subject,
+                                              &capture_subject, &poll_subject};
     for (size_t i = 0; i < sizeof SUBJECTS / sizeof *SUBJECTS; i++)
         if (are_same(SUBJECTS[i]->name, name)) return SUBJECTS[i];
     refuse("subject", name);
@@ -124,7 +125,7 @@ static wrong wrong_of(const char *name) {
 
 static void take_value(const char *word, const char *value) {
     if (are_same(word, "--subject")) options.subject = subject_of(value);
-    else if (are_same(word, "--wrong")) subject_wrong = wrong_of(value);
+    else if (are_same(word, "--wrong")) model_wrong = wrong_of(value);
     else if (are_same(word, "--seed")) options.seed = strtoull(value, NULL, 10);
     else if (are_same(word, "--seconds")) options.seconds = strtoull(value, NULL, 10);
     else if (are_same(word, "--life")) options.life = strtoull(value, NULL, 10);
@@ -137,11 +138,14 @@ int main(int count, char **words) {
         const char *word = words[i];
         if (are_same(word, "--aloud")) one.is_told_aloud = true;
         else if (are_same(word, "--overrun")) one.judge.is_overrun = true;
-        else if (are_same(word, "--rows") || are_same(word, "--wrongs")) options.other = word;
+        else if (are_same(word, "--rows") || are_same(word, "--flips") ||
+                 are_same(word, "--wrongs"))
+            options.other = word;
         else take_value(word, ++i < count ? words[i] : "");
     }
     if (!options.other) play_lives();
     else if (are_same(options.other, "--wrongs")) find_wrongs();
+    else if (are_same(options.other, "--flips")) add(play_flips(&one, options.subject));
     else play_rows(&one, options.subject, true, &passed, &failed);
     printf("%lu passed, %lu failed\n", passed, failed);
     return failed > 0;

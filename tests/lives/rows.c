@@ -188,6 +188,29 @@ static bool two_tell_two_times(life *l, const subject *s) {
     return goes_right(l, s) && l->tolds == 0;
 }
 
+/* What is refused, so that nothing is held for half a second's drift. */
+static bool holdover_is_bounded(life *l, const subject *s) {
+    static const struct {
+        uint32_t holdover, drift_us, answer;
+    } TRIED[] = {{4898, 100, IRIG_DONE},
+                 {4899, 100, IRIG_FAULT_DRIFT},
+                 {48998, 10, IRIG_DONE},
+                 {48999, 10, IRIG_FAULT_DRIFT},
+                 {489998, 1, IRIG_DONE},
+                 {489999, 1, IRIG_FAULT_DRIFT},
+                 {1000000, 0, IRIG_DONE},
+                 {1000000, 1, IRIG_FAULT_DRIFT},
+                 {0, 101, IRIG_FAULT_VALUE},
+                 {0, UINT32_MAX, IRIG_FAULT_VALUE},
+                 {1000000, 100, IRIG_FAULT_DRIFT}};
+    begin_row(l, 1);
+    for (size_t i = 0; i < sizeof TRIED / sizeof *TRIED; i++) {
+        l->setup.holdover = TRIED[i].holdover;
+        if (s->begin(&l->setup, &l->table, TRIED[i].drift_us, 0) != TRIED[i].answer) return false;
+    }
+    return true;
+}
+
 /* A call some microseconds behind one of a later time answers nothing; what follows is right. */
 static bool call_out_of_order(life *l, const subject *s) {
     begin_row(l, 8);
@@ -471,6 +494,20 @@ static bool flipped_bit(life *l, const subject *s) {
            !has_vote(l, 5);
 }
 
+bool play_flips(life *l, const subject *s) {
+    uint32_t first = 8 * offsetof(irig_timekeeper, lines), lives = 0;
+    for (uint32_t bit = first; bit < first + 8 * sizeof(irig_line); bit++)
+        for (uint32_t element = 0; element < ELEMENTS; element += 3, lives++) {
+            begin_alone(l, 8);
+            if (comes_back(l, s, bit, ELEMENT_US * element + 9000)) continue;
+            printf("bit %u behind element %u: %s\n", (unsigned)(bit - first), (unsigned)element,
+                   l->judge.text);
+            return false;
+        }
+    printf("%s: %u bits of a line flipped\n", s->name, (unsigned)lives);
+    return true;
+}
+
 /* ---- a life by hand */
 
 /* What is told of an edge, and how much earlier than the lines say. */
@@ -567,6 +604,7 @@ static const struct {
     {"a liar ends an element early", liar_ends_an_element_early, 0, OF_ALL},
     {"a liar ends at the bound", liar_ends_at_the_bound, 0, OF_ALL},
     {"two lines tell two times", two_tell_two_times, 0, OF_ALL},
+    {"the holdover is bounded", holdover_is_bounded, 0, OF_ALL},
     {"a call out of order", call_out_of_order, 0, OF_ANY_TICKS},
     {"rotating liars", rotating_liars, 0, OF_ALL},
     {"a liar begins at the edge", liar_begins_at_the_edge, 0, OF_ALL},

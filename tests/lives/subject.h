@@ -16,33 +16,44 @@ typedef struct subject {
     bool is_by_wait;            /* it has no other ticks */
 } subject;
 
-enum { DIFFERS = 200 }; /* what poll_device.c answers where it says something else */
+enum { DIFFERS = 200 }; /* what a subject answers where two have to answer alike, and do not */
 
+/* What the design says, and what it is with one thing wrong. */
 #define EACH_WRONG(X)                                                                              \
     X(NOTHING_WRONG)                                                                               \
-    X(HOLDS_LONG)     /* its holdover is longer than it is told */                                 \
-    X(FOLLOWS_ONE)    /* one line sets the edge, and has a vote */                                 \
-    X(HEARS_LATE)     /* pulses rise 2 ms later than they do */                                    \
-    X(CALL_IS_EDGE)   /* the edge is when the tick came */                                         \
-    X(IS_EARLY)       /* an edge 1.2 ms early */                                                   \
-    X(MISSES_NONE)    /* seconds that no tick came for are none */                                 \
-    X(MOVES_NEVER)    /* it tells of no edge that lines moved */                                   \
-    X(NAMES_THE_NEXT) /* the second behind the one that begins */                                  \
-    X(HIDES_HOLDOVER) /* it is silent where it counts on */                                        \
-    X(VOTES_ALWAYS)   /* each second has the cause of a vote */                                    \
-    X(WAITS_LONG)     /* it waits a millisecond too long */                                        \
-    X(KEEPS_ITS_EDGE) /* a restart forgets nothing */                                              \
-    X(STAMPS_LATE)    /* offsets are 2 ms too long */                                              \
-    X(STAMPS_BOLDLY)  /* bounds are smaller than errors */
+    X(COUNTS_EARLY)    /* half a second behind its edge it counts the next one, with no vote */    \
+    X(CALL_IS_EDGE)    /* the edge is when the tick came */                                        \
+    X(COUNTS_TO_CALL)  /* it counts seconds up to the tick, and not to the lines' edge */          \
+    X(ANY_CLAIM)       /* lines agree that end together, whatever they tell */                     \
+    X(IGNORES_MARKS)   /* they agree whatever they tell of a leap */                               \
+    X(EMPTIES_PORTS)   /* a tick empties a port in which a frame is being heard */                 \
+    X(TAKES_STALE)     /* a frame is kept until the next one, over a turn of the counter too */    \
+    X(ONE_IS_ENOUGH)   /* one line sets the edge, and has a vote */                                \
+    X(AGREES_WIDELY)   /* ends 2 ms apart agree */                                                 \
+    X(AGREES_SHORTLY)  /* ends 1 ms apart do not */                                                \
+    X(HAS_NO_PATIENCE) /* its own edge is counted before the lines' */                             \
+    X(MOVES_NEVER)     /* an edge of the lines behind its own tick is another second */            \
+    X(MISSES_NONE)     /* seconds that no tick came for are one */                                 \
+    X(FORGETS_FAST)    /* a frame is kept for 8 ms */                                              \
+    X(FORGETS_CAUGHT)  /* the frame that is kept goes when the next one begins */                  \
+    X(KEEPS_ENDS)      /* frames that had their vote have another one */                           \
+    X(ROUNDS_LOW)      /* an edge 400 ms early is the next one */                                  \
+    X(KEEPS_ITS_EDGE)  /* a restart does not forget the edge */                                    \
+    X(HOLDS_LONG)      /* its holdover is longer than it is told */                                \
+    X(WAITS_LONG)      /* it waits a millisecond too long */                                       \
+    X(TAKES_AHEAD)     /* a tick need not wait for the edge on which lines agree */                \
+    X(TAKES_EARLIEST)  /* the edge is the earliest end of all lines that lie within 11 ms */       \
+    X(IDLES_NOT)       /* a line is never put out of step, however long it sends nothing */        \
+    X(GUARDS_NOT)      /* a call whose time lies before the edge is one of a turn later */
 
 #define NUMBER_OF(wrong) wrong,
 typedef enum wrong { EACH_WRONG(NUMBER_OF) WRONGS } wrong;
 
 extern const char *const WRONG_NAMES[WRONGS];
-extern wrong subject_wrong;
+extern wrong model_wrong;
 
-/* The library's, and with one thing wrong; c/examples/capture.c and poll.c. */
-extern const subject library_subject, wrong_subject, capture_subject, poll_subject;
+/* The library's; it and the model, which have to answer alike; c/examples/capture.c and poll.c. */
+extern const subject model_subject, library_subject, both_subject, capture_subject, poll_subject;
 
 /* For poll_device.c, beside the library's. */
 void flip_library(uint32_t bit);
