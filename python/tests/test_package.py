@@ -1,4 +1,4 @@
-"""The builder of the package, and its example."""
+"""The builder of the package."""
 from __future__ import annotations
 
 import base64
@@ -15,13 +15,6 @@ import irig
 from program import ROOT, printed
 
 HOOK = "import backend, sys; print(backend.{}(sys.argv[1]))"
-
-# Runs a program where there is no pandas.
-ALONE = """import runpy, sys
-sys.modules["pandas"] = None
-runpy.run_path(sys.argv[1], run_name="__main__")
-"""
-
 
 class Package(unittest.TestCase):
     """Wheels, as `pip` asks for them."""
@@ -77,27 +70,6 @@ class Package(unittest.TestCase):
         ran = self.hook("build_wheel", self.folder, self.folder)
         self.assertEqual((ran.returncode, ran.stdout), (1, ""))
         self.assertRegex(ran.stderr, "is not in a checkout of irig")
-
-
-class Example(unittest.TestCase):
-    """python/examples/log_to_pandas.py where there is no pandas."""
-
-    def ran(self, log: str) -> subprocess.CompletedProcess[str]:
-        words = [sys.executable, "-c", ALONE, ROOT / "python/examples/log_to_pandas.py"]
-        return subprocess.run(words, input=log, capture_output=True, text=True)
-
-    def test_counts(self) -> None:
-        ran = self.ran(printed("run", str(ROOT / "examples/dark_hour.jsonl"), "--all"))
-        # docs/OUTPUT.md counts the same log.
-        counts = ("acquiring 8", "expired 1", "held 10", "no-vote 3589", "voted 8")
-        wanted = [*(f"relay {count}" for count in counts), "premises kept"]
-        self.assertEqual(ran.stdout.splitlines()[1:], wanted)
-        self.assertRegex(ran.stdout, "^pandas is missing")
-
-    def test_no_log(self) -> None:
-        ran = self.ran("nothing\n")
-        self.assertEqual((ran.returncode, ran.stdout), (1, ""))
-        self.assertRegex(ran.stderr, r"\Alog_to_pandas: [^\n]+\n\Z")
 
 
 if __name__ == "__main__":
