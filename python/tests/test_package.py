@@ -3,6 +3,7 @@ from __future__ import annotations
 
 import base64
 import hashlib
+import os
 import shutil
 import subprocess
 import sys
@@ -15,6 +16,21 @@ import irig
 from program import ROOT, printed
 
 HOOK = "import backend, sys; print(backend.{}(sys.argv[1]))"
+DEBIAN = "/usr/bin/python3"  # which has Debian's pandas, where it is installed
+
+
+class Example(unittest.TestCase):
+    def test_log_to_pandas(self) -> None:
+        """Of ten seconds in darkness, edges 9 to 18, between eight voted ones."""
+        if subprocess.run([DEBIAN, "-c", "import pandas"], capture_output=True).returncode:
+            self.skipTest("skipped: python3-pandas is missing")
+        with open(ROOT / "examples/dark_hour.log") as log:
+            ran = subprocess.run(
+                [DEBIAN, ROOT / "python/examples/log_to_pandas.py"], stdin=log, text=True,
+                capture_output=True, env={"PYTHONPATH": str(ROOT / "python"), "PATH": os.environ["PATH"]},
+            )
+        self.assertRegex(ran.stdout, r"relay +held +10 +9 +18\n +voted +8 +5 +3616\npremises kept\n$")
+
 
 class Package(unittest.TestCase):
     """Wheels, as `pip` asks for them."""
