@@ -105,10 +105,11 @@ class Blame(unittest.TestCase):
     with the program's."""
 
     WANTED = [
-        "edge 1: relay announced nothing: acquiring, not yet enough votes in a row",
-        "edges 5 to 8: port 1 of relay told another second, first 2017-06-30T23:59:57Z;"
-        " relay announced 4 seconds",
-        "edges 9 to 12: port 1 of relay told another mark, first insert; relay announced 4 seconds",
+        "2017-06-30T23:59:49Z, edge 1: relay announced nothing: acquiring, not yet enough votes in a row",
+        "2017-06-30T23:59:52Z to 2017-06-30T23:59:55Z, edges 5 to 8: port 1 of relay told another second,"
+        " 5 s ahead, first 2017-06-30T23:59:57Z; relay announced 4 seconds",
+        "2017-06-30T23:59:56Z to 2017-06-30T23:59:59Z, edges 9 to 12: port 1 of relay told another mark,"
+        " first insert; relay announced 4 seconds",
     ]
 
     def test_one_line(self) -> None:
@@ -124,12 +125,17 @@ class Blame(unittest.TestCase):
         words = "run", str(ROOT / "examples/two_liars.jsonl"), "--all", "--ports"
         log = irig.read_log(printed(*words), example("two_liars"))
         self.assertEqual([str(stretch) for stretch in log.blame()], [
-            "edge 1: relay announced nothing: acquiring, not yet enough votes in a row",
-            "edge 5: relay announced nothing: jump, the vote was for another second than the one that"
-            " followed",
-            "edge 6: relay announced nothing: acquiring, not yet enough votes in a row",
-            *(f"edges 5 to 10: port {port} of relay told another second, first 2016-06-15T13:00:04Z;"
-              " relay announced 4 seconds, 4 of them untrue" for port in (0, 1)),
+            "2016-06-15T12:00:01Z, edge 1: relay announced nothing: acquiring, not yet enough votes in a"
+            " row",
+            "2016-06-15T12:00:05Z, edge 5: relay announced nothing: jump, the vote was for another second"
+            " than the one that followed",
+            "2016-06-15T12:00:06Z, edge 6: relay announced nothing: acquiring, not yet enough votes in a"
+            " row",
+            *(f"2016-06-15T12:00:04Z to 2016-06-15T12:00:09Z, edges 5 to 10: port {port} of relay told"
+              " another second, 1 h ahead, first 2016-06-15T13:00:04Z; relay announced 4 seconds, 4 of"
+              " them untrue" for port in (0, 1)),
+            "2016-06-15T12:00:07Z to 2016-06-15T12:00:10Z, edges 7 to 10: relay announced untrue seconds,"
+            " 1 h ahead, as ports 0, 1 told at edge 7",
         ])
 
 
