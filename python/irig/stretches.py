@@ -92,11 +92,21 @@ class Stretch(Said):
         """How many edges it has."""
         return self.last - self.first + 1
 
+    @property
+    def offset(self) -> str:
+        """How far ahead or behind, as `1 h ahead`; nothing if it is not known."""
+        if self.ahead is not None:
+            return offset_text(self.ahead)
+        if self.ahead_first is None or self.ahead_last is None:
+            return ""
+        return f"{offset_text(self.ahead_first)} at first, {offset_text(self.ahead_last)} at last"
+
     def __str__(self) -> str:
+        offset = self.offset and f", {self.offset}"
         if self.port is None:
-            return f"{self._when()}: {self.reader} {self.kind}{self._offset()}{self._why()}"
+            return f"{self._when()}: {self.reader} {self.kind}{offset}{self._why()}"
         word = "" if self.kind == "silent" else f", first {self.word}"
-        did = f"port {self.port} of {self.reader} {DID[self.kind]}{self._offset()}{word}"
+        did = f"port {self.port} of {self.reader} {DID[self.kind]}{offset}{word}"
         return f"{self._when()}: {did}; {self.reader} announced {self._announced()}"
 
     def _when(self) -> str:
@@ -104,13 +114,6 @@ class Stretch(Said):
         edges = f"edge {self.first}" if one else f"edges {self.first} to {self.last}"
         times = f"{self.since}, " if one else f"{self.since} to {self.until}, "
         return f"{times}{edges}" if self.since and self.until else edges
-
-    def _offset(self) -> str:
-        if self.ahead is not None:
-            return f", {offset_text(self.ahead)}"
-        if self.ahead_first is None or self.ahead_last is None:
-            return ""
-        return f", {offset_text(self.ahead_first)} at first, {offset_text(self.ahead_last)} at last"
 
     def _why(self) -> str:
         if self.ports:
