@@ -67,7 +67,8 @@ class Stretch(Said):
         0 if behind; None if that was not the same at all edges, or is not known
     ahead_first, ahead_last: the same at the first and at the last edge
     vote: the edge of the vote on which untrue seconds of the reader stand; None of all others
-    ports: the ports that told what was voted then; none if that was the truth
+    ports: the ports that told what was voted then; none if that was the truth. A log does not show
+        the mark of another second, so those that told it with another mark count too
     """
 
     reader: str
@@ -203,8 +204,7 @@ def _ahead(tick: Tick, port: Optional[int], truth: Truth) -> Optional[int]:
 
 
 def _vote(ticks: Sequence[Tick], place: int) -> Tuple[Optional[int], Tuple[int, ...]]:
-    """The edge of the last vote up to this tick, and the ports that told what was voted; none if it was
-    the truth. A log does not show the mark of another second: all ports that told the second count."""
+    """The edge of the last vote up to this tick, and the ports that told what was voted."""
     back = (ticks[number] for number in range(place, -1, -1))
     tick = next((tick for tick in back if tick.said and tick.said.cause == "voted"), None)
     if tick is None or tick.ports is None:
