@@ -64,7 +64,7 @@ fn request_by<'a>(name: &str, matches: &ArgMatches<'a>) -> Option<Request<'a>>
     match name {
         "run" => Some(play_of(log_of(matches), matches)),
         "flatten" => Some(play_of(Wanted::Flat, matches)),
-        "blame" => Some(play_of(Wanted::Blame, matches)),
+        "blame" => Some(play_of(blame_of(matches), matches)),
         "frame" => frame_of(matches),
         "read" => read_of(matches),
         "explain" => Some(explain_of(matches)),
@@ -72,15 +72,21 @@ fn request_by<'a>(name: &str, matches: &ArgMatches<'a>) -> Option<Request<'a>>
     }
 }
 
-fn log_of(matches: &ArgMatches<'_>) -> Wanted {
+fn log_of<'a>(matches: &ArgMatches<'a>) -> Wanted<'a> {
     Wanted::Log {
         all: matches.get_flag("all"),
         ports: matches.get_flag("ports"),
     }
 }
 
+fn blame_of<'a>(matches: &ArgMatches<'a>) -> Wanted<'a> {
+    Wanted::Blame {
+        lines: matches.get_str("recorded").unwrap_or(""),
+    }
+}
+
 // Where a command may lack its FILE, the scenario is that on the input.
-fn play_of<'a>(wanted: Wanted, matches: &ArgMatches<'a>) -> Request<'a>
+fn play_of<'a>(wanted: Wanted<'a>, matches: &ArgMatches<'a>) -> Request<'a>
     ensures not_plain { result ≢ Request.Plain }
     ensures in_range { IsRequest result }
 {
@@ -249,9 +255,18 @@ fn flatten_command<'a>(alloc: Global) -> Result<Command<'a>, AllocError> {
 
 fn blame_command<'a>(alloc: Global) -> Result<Command<'a>, AllocError> {
     let about = "Says who lied in a scenario, why a reader was silent, and what it cost";
-    described(alloc, "blame", about, BLAME_AFTER).arg(Arg::new(alloc, "FILE").help(
-        "The scenario; without it, or with -, standard input",
-    ))
+    described(alloc, "blame", about, BLAME_AFTER)
+        .arg(Arg::new(alloc, "FILE").help("The scenario; without it, or with -, standard input"))?
+        .arg(recorded_option(alloc))
+}
+
+fn recorded_option<'a>(alloc: Global) -> Arg<'a> {
+    Arg::new(alloc, "recorded")
+        .long("recorded")
+        .value_name("LINES")
+        .help(
+            "The scenario is of a recording of these lines, as IRIG1,IRIG2,IRIG3, one for each port",
+        )
 }
 
 fn frame_command<'a>(alloc: Global) -> Result<Command<'a>, AllocError> {

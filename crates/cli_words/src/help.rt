@@ -63,14 +63,18 @@ Example:
 
 /// What follows the options of `blame`.
 pub const BLAME_AFTER: &str =
-    "It plays the scenario as `irig run` does. A line names a port and the edges at which it told a reader one kind of
-wrong: silent, faulty, poor, another second or another mark; with what it told first, and what the reader announced
-meanwhile. A line for each silence of a reader has its cause. Both come as soon as they end. Then there are the
-totals of each reader and port, and the last line of the log.
+    "It plays the scenario as `irig run` does. A line names a port and the frames at which it told a reader one kind of
+wrong: silent, faulty, poor, another second or another mark; with how far it was ahead or behind, what it told first,
+and what the reader announced meanwhile. A line for each silence of a reader has its cause, and one for its untrue
+seconds what they stand on. All come as soon as they end; `LC_ALL=C sort` puts them in order of their beginning. Then
+there are the totals of each reader and port, and the last line of the log.
+
+With --recorded ports have the names of their lines, and nothing is called untrue: of a recording nobody knows more
+than what most lines told.
 
 Example:
   $ irig blame examples/one_liar.jsonl | grep 'told another second'
-  edges 5 to 8: port 1 of relay told another second, first 2017-06-30T23:59:57Z; relay announced 4 seconds";
+  2017-06-30T23:59:52Z to 2017-06-30T23:59:55Z, edges 5 to 8: port 1 of relay told another second, 5 s ahead, first 2017-06-30T23:59:57Z; relay announced 4 seconds";
 
 /// What follows the options of `frame`.
 pub const FRAME_AFTER: &str =

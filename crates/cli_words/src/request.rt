@@ -5,7 +5,7 @@ use text_frame::FrameOptions;
 
 /// What is written of a scenario.
 #[derive(Clone, Copy)]
-pub enum Wanted {
+pub enum Wanted<'a> {
     /// Its log.
     Log {
         /// Whether the log shows silent ticks too.
@@ -16,7 +16,10 @@ pub enum Wanted {
     /// The scenario as what its readers hear.
     Flat,
     /// Who lied in it, and what it cost.
-    Blame,
+    Blame {
+        /// The names of recorded lines, with a comma between them; nothing of a scenario.
+        lines: &'a str,
+    },
 }
 
 /// Where a scenario is read from.
@@ -35,7 +38,7 @@ pub enum Request<'a> {
     Plain,
     /// A scenario is played, and what is wanted of it is written.
     Play {
-        wanted: Wanted,
+        wanted: Wanted<'a>,
         source: Source<'a>,
     },
     /// The frame of a UTC second.

@@ -58,7 +58,7 @@ abbrev pub Writes : Wanted → Result Outcome SceneFault → Bytes → Bytes →
 Writes (Log all ports) run input left old new = RanShown run (shown all ports) input left old new
 Writes Flat run input left old new =
     IfSome input (λ x. OfWritten old new (HasTheLog run x)) × RanFlat run input left old new
-Writes Blame run input left old new = RanBlame run input left old new
+Writes (Blame lines) run input left old new = RanBlame lines.now run input left old new
 
 -- the scenario on an input was played, of which `left` is left
 pub record PlaysScene (wanted : Wanted) (answer : Answer) (input left old new : Bytes)

@@ -25,13 +25,13 @@ use std::rt::Files;
 /// input can't be read to its end, `Write` if the output fails; `Memory` if there was none.
 pub fn play_input<R: Eprint + AllocGlobal, I: BufRead, O: Write>(
     rt: &R,
-    wanted: Wanted,
+    wanted: Wanted<'_>,
     input: &mut Watched<I>,
     output: &mut Watched<O>,
 ) -> Result<(), Fault>
     requires input_whole { has_failed input.old ≡ false }
     requires output_whole { has_failed output.old ≡ false }
-    ensures played { PlaysScene wanted result
+    ensures played { PlaysScene wanted.entry result
         (I.remaining (device_of input.old)) (I.remaining (device_of input.new))
         (O.contents (device_of output.old)) (O.contents (device_of output.new)) }
     ensures write { (result ≡ Err Fault.Write) ↔ (has_failed output.new ≡ true) }
@@ -49,14 +49,14 @@ pub fn play_input<R: Eprint + AllocGlobal, I: BufRead, O: Write>(
 
 fn write_wanted<I: BufRead, O: Write>(
     alloc: Global,
-    wanted: Wanted,
+    wanted: Wanted<'_>,
     input: &mut Watched<I>,
     output: &mut Watched<O>,
     refused: &mut Option<RefusedLine>,
 ) -> Result<Outcome, SceneFault>
     requires input_whole { has_failed input.old ≡ false }
     requires output_whole { has_failed output.old ≡ false }
-    ensures wrote { Writes wanted result (left I.remaining input.old) (left I.remaining input.new)
+    ensures wrote { Writes wanted.entry result (left I.remaining input.old) (left I.remaining input.new)
         (written O.contents output.old) (written O.contents output.new) }
     ensures read { (result ≡ Err SceneFault.Read) ↔ (has_failed input.new ≡ true) }
     ensures write { (result ≡ Err SceneFault.Write) ↔ (has_failed output.new ≡ true) }
@@ -66,19 +66,19 @@ fn write_wanted<I: BufRead, O: Write>(
             run_scene_shown(alloc, input, output, Shown { all, ports }, refused)
         }
         Wanted::Flat => flatten(alloc, input, output, refused),
-        Wanted::Blame => blame(alloc, input, output, refused),
+        Wanted::Blame { lines } => blame(alloc, lines, input, output, refused),
     }
 }
 
 /// The same of the scenario in a file; `Open` if it can't be opened.
 pub(crate) fn play_file<R: Files + Eprint + AllocGlobal, O: Write>(
     rt: &R,
-    wanted: Wanted,
+    wanted: Wanted<'_>,
     path: &str,
     output: &mut Watched<O>,
 ) -> Result<(), Fault>
     requires { has_failed output.old ≡ false }
-    ensures played { PlaysFile R.File.remaining wanted result
+    ensures played { PlaysFile R.File.remaining wanted.entry result
         (O.contents (device_of output.old)) (O.contents (device_of output.new)) }
     ensures write { (result ≡ Err Fault.Write) ↔ (has_failed output.new ≡ true) }
 {

@@ -31,7 +31,7 @@ use text_frame::{FrameOptions, frame_lines, frame_text};
 use text_words::{explanation, why_no_word};
 
 // Without options a log shows announcements alone.
-const PLAIN_LOG: Wanted = Wanted::Log {
+const PLAIN_LOG: Wanted<'static> = Wanted::Log {
     all: false,
     ports: false,
 };
@@ -74,14 +74,14 @@ pub fn serve<'a, R: Files + Eprint + AllocGlobal, I: BufRead, O: Write>(
 
 fn play<'a, R: Files + Eprint + AllocGlobal, I: BufRead, O: Write>(
     rt: &R,
-    wanted: Wanted,
+    wanted: Wanted<'_>,
     source: Source<'a>,
     input: &mut Watched<I>,
     output: &mut Watched<O>,
 ) -> Result<(), Fault>
     requires input_whole { has_failed input.old ≡ false }
     requires output_whole { has_failed output.old ≡ false }
-    ensures played { Plays R.File.remaining wanted source.entry result
+    ensures played { Plays R.File.remaining wanted.entry source.entry result
         (I.remaining (device_of input.old)) (I.remaining (device_of input.new))
         (O.contents (device_of output.old)) (O.contents (device_of output.new)) }
     ensures write { (result ≡ Err Fault.Write) ↔ (has_failed output.new ≡ true) }

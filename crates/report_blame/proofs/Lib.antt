@@ -2,6 +2,7 @@ pub mod TickLaws
 pub mod SoundLaws
 pub mod CountLaws
 pub mod GrowLaws
+pub mod CarrierLaws
 pub mod BookLaws
 pub mod ObserverLaws
 pub mod RunLaws

@@ -42,14 +42,14 @@ latest_of plant names x e tick h taken =
     h (record { setup = x.plan.setup; events = e ∷ x.events; shown = length (log_of x.plan.setup x.events) }) taken.stands
 
 -- the book stays, and nothing has ended
-record IsQuiet (o : Observer) (x : Scene) (e : Event) : Type 0 where
+record IsQuiet (lines : List ℕ) (o : Observer) (x : Scene) (e : Event) : Type 0 where
   pub book : IsBookOf o.book x.plan.setup (e ∷ x.events)
-  pub nothing : ended_text x.plan.names x.plan.setup e x.events ≡ []
+  pub nothing : ended_text lines x.plan.names x.plan.setup e x.events ≡ []
 
-module _ (o : Observer) (x : Scene) (e : Event) (at : IsObserverAt o x) where
+module _ (lines : List ℕ) (o : Observer) (x : Scene) (e : Event) (at : IsObserverAt o x) where
   -- ---- no tick
 
-  quiet : (e : Event) → None ≡ latest x.plan.setup e x.events → IsQuiet o x e
+  quiet : (e : Event) → None ≡ latest x.plan.setup e x.events → IsQuiet lines o x e
   quiet (Tick r) none = absurd (no_tick x.plan.setup r x.events none)
   quiet (GenEdge g) none = record { book = record { count = at.book.count; each = at.book.each }; nothing = refl }
   quiet (Carry g r) none = record { book = record { count = at.book.count; each = at.book.each }; nothing = refl }
@@ -60,7 +60,7 @@ module _ (o : Observer) (x : Scene) (e : Event) (at : IsObserverAt o x) where
   quiet (Repair g) none = record { book = record { count = at.book.count; each = at.book.each }; nothing = refl }
   quiet (Restart r) none = record { book = record { count = at.book.count; each = at.book.each }; nothing = refl }
 
-  pub tells_nothing : (text : List ℕ) → None ≡ latest x.plan.setup e x.events → text ≡ text ++ ended_text x.plan.names x.plan.setup e x.events
+  pub tells_nothing : (text : List ℕ) → None ≡ latest x.plan.setup e x.events → text ≡ text ++ ended_text lines x.plan.names x.plan.setup e x.events
   tells_nothing text none = sym (ap (λ t. text ++ t) (quiet e none).nothing ∙ append-nil text)
 
   pub goes_on : None ≡ latest x.plan.setup e x.events → IsObserverAt o (scene x.plan (e ∷ x.events))
@@ -78,17 +78,17 @@ module _ (o : Observer) (x : Scene) (e : Event) (at : IsObserverAt o x) where
 
   -- what is pushed is what the event ends
   pub piece_is : (names : List (List ℕ)) (t : TickOf) → names ≡ x.plan.names → refusal x.plan.setup e x.events ≡ None → Some t ≡ latest x.plan.setup e x.events
-      → ended_lines (name_at names t.entry.reader) o.book.ports (slice_index_or o.book.accounts.items t.entry.reader (account_of [])) t ≡ ended_text x.plan.names x.plan.setup e x.events
+      → ended_lines lines (name_at names t.entry.reader) o.book.ports (slice_index_or o.book.accounts.items t.entry.reader (account_of [])) t ≡ ended_text lines x.plan.names x.plan.setup e x.events
   piece_is names t named accepted some =
       let s = x.plan.setup in
       let is = the_tick s e x.events t some in
       let r = is.reader in
       let known = known_reader s r x.events (ap (λ e. refusal s e x.events) (sym is.is) ∙ accepted) in
-      ap (λ (t : TickOf). ended_lines (name_at names t.entry.reader) o.book.ports (slice_index_or o.book.accounts.items t.entry.reader (account_of [])) t) is.same
-      ∙ ap (λ names. ended_lines (name_at names r) o.book.ports (slice_index_or o.book.accounts.items r (account_of [])) (tick_of s r x.events)) named
-      ∙ ap (λ ports. ended_lines (name_at x.plan.names r) ports (slice_index_or o.book.accounts.items r (account_of [])) (tick_of s r x.events)) at.ports
-      ∙ ap (λ (a : Account). ended_lines (name_at x.plan.names r) (length s.generators) a (tick_of s r x.events)) (at.book.each r (account_of []) known)
-      ∙ ap (λ e. ended_text x.plan.names s e x.events) (sym is.is)
+      ap (λ (t : TickOf). ended_lines lines (name_at names t.entry.reader) o.book.ports (slice_index_or o.book.accounts.items t.entry.reader (account_of [])) t) is.same
+      ∙ ap (λ names. ended_lines lines (name_at names r) o.book.ports (slice_index_or o.book.accounts.items r (account_of [])) (tick_of s r x.events)) named
+      ∙ ap (λ ports. ended_lines lines (name_at x.plan.names r) ports (slice_index_or o.book.accounts.items r (account_of [])) (tick_of s r x.events)) at.ports
+      ∙ ap (λ (a : Account). ended_lines lines (name_at x.plan.names r) (length s.generators) a (tick_of s r x.events)) (at.book.each r (account_of []) known)
+      ∙ ap (λ e. ended_text lines x.plan.names s e x.events) (sym is.is)
 
   -- and the book has the tick
   pub stands_after : (q : Observer) (t : TickOf) → refusal x.plan.setup e x.events ≡ None → Some t ≡ latest x.plan.setup e x.events → q.book.ports ≡ o.book.ports
@@ -117,19 +117,19 @@ lines_are g o names x at named =
     ∙ ap (λ ports. g (name_at x.plan.names r) ports (slice_index_or o.book.accounts.items r (account_of []))) at.ports
     ∙ ap (λ (a : Account). g (name_at x.plan.names r) (length x.plan.setup.generators) a) (at.book.each r (account_of []) lt))
 
-pub closing_is : (o : Observer) (names : List (List ℕ)) (x : Scene) (b0 b1 b2 : List ℕ) → IsObserverAt o x → names ≡ x.plan.names
-    → b1 ≡ b0 ++ texts_below (λ r. open_lines (name_at names r) o.book.ports (slice_index_or o.book.accounts.items r (account_of []))) (vec_len o.book.accounts)
-    → b2 ≡ b1 ++ texts_below (λ r. total_lines (name_at names r) o.book.ports (slice_index_or o.book.accounts.items r (account_of []))) (vec_len o.book.accounts)
-    → b2 ≡ b0 ++ closing_in x
-closing_is o names x b0 b1 b2 at named opened counted =
-    text_then b0 b1 b2 _ _ (opened ∙ ap (λ t. b0 ++ t) (lines_are open_lines o names x at named)) (counted ∙ ap (λ t. b1 ++ t) (lines_are total_lines o names x at named))
+pub closing_is : (lines : List ℕ) (o : Observer) (names : List (List ℕ)) (x : Scene) (b0 b1 b2 : List ℕ) → IsObserverAt o x → names ≡ x.plan.names
+    → b1 ≡ b0 ++ texts_below (λ r. open_lines lines (name_at names r) o.book.ports (slice_index_or o.book.accounts.items r (account_of []))) (vec_len o.book.accounts)
+    → b2 ≡ b1 ++ texts_below (λ r. total_lines lines (name_at names r) o.book.ports (slice_index_or o.book.accounts.items r (account_of []))) (vec_len o.book.accounts)
+    → b2 ≡ b0 ++ closing_in lines x
+closing_is lines o names x b0 b1 b2 at named opened counted =
+    text_then b0 b1 b2 _ _ (opened ∙ ap (λ t. b0 ++ t) (lines_are (open_lines lines) o names x at named)) (counted ∙ ap (λ t. b1 ++ t) (lines_are (total_lines lines) o names x at named))
 
 -- the audit of the plant is that of the scene
 audit_is : {P : Type 0} {g : Ghosts P} (plant : Plant P g) (names : List (List ℕ)) (x : Scene) (audit : Audit) → ForHistory plant (λ h. audit ≡ audit_of h.setup h.events) → Names plant names x → audit ≡ audit_in x
 audit_is plant names x audit told stands =
     told stands.history stands.stands ∙ ap (λ (s : Setup). audit_of s stands.history.events) stands.of_setup ∙ ap (λ ev. audit_of x.plan.setup ev) stands.of_events
 
-pub end_is : {P : Type 0} {g : Ghosts P} (plant : Plant P g) (names : List (List ℕ)) (x : Scene) (b0 b2 b3 : List ℕ) (audit : Audit) → b2 ≡ b0 ++ closing_in x
-    → b3 ≡ b2 ++ audit_text names audit → ForHistory plant (λ h. audit ≡ audit_of h.setup h.events) → Names plant names x → b3 ≡ b0 ++ (closing_in x ++ verdict_text (Some x))
-end_is plant names x b0 b2 b3 audit closed ended told stands =
+pub end_is : {P : Type 0} {g : Ghosts P} (plant : Plant P g) (names : List (List ℕ)) (x : Scene) (lines b0 b2 b3 : List ℕ) (audit : Audit) → b2 ≡ b0 ++ closing_in lines x
+    → b3 ≡ b2 ++ audit_text names audit → ForHistory plant (λ h. audit ≡ audit_of h.setup h.events) → Names plant names x → b3 ≡ b0 ++ (closing_in lines x ++ verdict_text (Some x))
+end_is plant names x lines b0 b2 b3 audit closed ended told stands =
     text_then b0 b2 b3 _ _ closed (ended ∙ ap (λ a. b2 ++ audit_text names a) (audit_is plant names x audit told stands) ∙ ap (λ names. b2 ++ audit_text names (audit_in x)) stands.named)

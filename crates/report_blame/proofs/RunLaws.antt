@@ -15,26 +15,26 @@ use Rattle.irig_scene.specs.ListenerRuns.{RunFor, RanFor}
 use Rattle.report_blame.specs.BlameText.{all_ended, ended_text, closing_in, blame_texts, blame_meaning, blame_text}
 use Rattle.report_blame.specs.Blaming.{BlameRun, RanBlame}
 
-all_said : (plan : Plan) (ev : List Event) → said blame_texts plan ev ≡ all_ended plan.names plan.setup ev
-all_said plan [] = refl
-all_said plan (e ∷ ev) = ap (λ t. t ++ ended_text plan.names plan.setup e ev) (all_said plan ev)
+all_said : (lines : List ℕ) (plan : Plan) (ev : List Event) → said (blame_texts lines) plan ev ≡ all_ended lines plan.names plan.setup ev
+all_said lines plan [] = refl
+all_said lines plan (e ∷ ev) = ap (λ t. t ++ ended_text lines plan.names plan.setup e ev) (all_said lines plan ev)
 
-same_meaning : (first : List ℕ) (at : Option Scene) (k : Option RefusedLine) → meaning_text blame_texts first (meaning at k) ≡ blame_meaning (meaning at k)
-same_meaning first None None = refl
-same_meaning first None (Some k) = refl
-same_meaning first (Some x) None = ap (λ t. t ++ (closing_in x ++ verdict_text (Some x))) (all_said x.plan x.events)
-same_meaning first (Some x) (Some k) = ap (λ t. t ++ (closing_in x ++ refusal_text k.line k.refusal)) (all_said x.plan x.events)
+same_meaning : (lines first : List ℕ) (at : Option Scene) (k : Option RefusedLine) → meaning_text (blame_texts lines) first (meaning at k) ≡ blame_meaning lines (meaning at k)
+same_meaning lines first None None = refl
+same_meaning lines first None (Some k) = refl
+same_meaning lines first (Some x) None = ap (λ t. t ++ (closing_in lines x ++ verdict_text (Some x))) (all_said lines x.plan x.events)
+same_meaning lines first (Some x) (Some k) = ap (λ t. t ++ (closing_in lines x ++ refusal_text k.line k.refusal)) (all_said lines x.plan x.events)
 
-same_text : (x : List ℕ) → whole_text blame_texts x ≡ blame_text x
-same_text x = let m = meaning_of x in same_meaning (first_of (lines x)) m.scene m.refused
+same_text : (names x : List ℕ) → whole_text (blame_texts names) x ≡ blame_text names x
+same_text names x = let m = meaning_of x in same_meaning names (first_of (lines x)) m.scene m.refused
 
 -- what a listener is promised is that
-pub ran_blame : (r : Result Outcome SceneFault) (was left old new : Option (List ℕ)) → RanFor blame_texts r was left old new → RanBlame r was left old new
-ran_blame r was left old new ran = record { bytes = ran.bytes; of_input = ran.of_input; ran = of_run r ran.ran; read = ran.ran }
+pub ran_blame : (names : List ℕ) (r : Result Outcome SceneFault) (was left old new : Option (List ℕ)) → RanFor (blame_texts names) r was left old new → RanBlame names r was left old new
+ran_blame names r was left old new ran = record { bytes = ran.bytes; of_input = ran.of_input; ran = of_run r ran.ran; read = ran.ran }
   where
-    of_run : (r : Result Outcome SceneFault) → RunFor blame_texts r ran.bytes was left old new → BlameRun r ran.bytes old new
-    of_run (Ok o) h = (h.1.accepted, subst (Appends old new) (same_text ran.bytes) h.0)
-    of_run (Err (Refused line number)) h = (h.1, subst (Appends old new) (same_text ran.bytes) h.0)
-    of_run (Err Read) h = subst (AppendsPart old new) (same_text ran.bytes) h.0
-    of_run (Err Write) h = subst (AppendsPart old new) (same_text ran.bytes) h.0
-    of_run (Err Memory) h = subst (AppendsPart old new) (same_text ran.bytes) h.0
+    of_run : (r : Result Outcome SceneFault) → RunFor (blame_texts names) r ran.bytes was left old new → BlameRun names r ran.bytes old new
+    of_run (Ok o) h = (h.1.accepted, subst (Appends old new) (same_text names ran.bytes) h.0)
+    of_run (Err (Refused line number)) h = (h.1, subst (Appends old new) (same_text names ran.bytes) h.0)
+    of_run (Err Read) h = subst (AppendsPart old new) (same_text names ran.bytes) h.0
+    of_run (Err Write) h = subst (AppendsPart old new) (same_text names ran.bytes) h.0
+    of_run (Err Memory) h = subst (AppendsPart old new) (same_text names ran.bytes) h.0

@@ -1,6 +1,6 @@
 -- The code's test of a second is that of the definition.
 use Rattle.std.proofs.Common.{◌≡◌, ◌↔◌, ◌≤◌, ℕ, Bool, true, false, Option, Some, None, refl, sym, ap, ◌∙◌, inl, inr}
-use Rattle.std.specs.Prelude.{◌==◌, ◌&&◌, nat_le}
+use Rattle.std.specs.Prelude.{IfSome, ◌==◌, ◌&&◌, nat_le}
 use Rattle.std.proofs.lemmas.Bool.{and_parts, and_from, or_cases, or_left, or_right, leb-true, le-leb, eqb-true, eq-eqb}
 use Rattle.std.proofs.lemmas.Bool.Decides.{same_from_decides}
 use Rattle.irig_time.specs.declared.second.UtcSecond.{UtcSecond}
@@ -10,7 +10,9 @@ use Rattle.irig_time.proofs.Dates.{date_of_parts}
 use Rattle.irig_time.proofs.MonthEnds.{month_end_from_test, month_end_test}
 use Rattle.irig_time.specs.declared.claim.Claim.{Claim}
 use Rattle.irig_time.specs.Next.{next_of}
-use Rattle.report_blame.specs.Ticks.{is_valid, second_after}
+use Rattle.irig_time.specs.declared.mark.Mark.{Mark}
+use Rattle.irig_hold.proofs.Stepping.{next_valid}
+use Rattle.report_blame.specs.Ticks.{is_valid, second_after, frame_of}
 
 ends : (day : ℕ) → day ≤ 36523 → IsMonthEnd day → is_month_end day ≡ true
 unfolding date_of_parts
@@ -51,3 +53,21 @@ no_second truth claim valid is tells fails =
     let test : is_valid claim.at ≡ false = sym (valid_is valid claim.at tells) ∙ fails in
     let here : second_after (Some claim) ≡ None = rw test refl in
     sym (ap second_after is ∙ here)
+
+-- so its own second
+pub frame_is : (truth : Option Claim) (claim : Claim) (valid : Bool) → truth ≡ Some claim → (valid ≡ true) ↔ IsValid claim.at → valid ≡ true → Some claim.at ≡ frame_of truth
+frame_is truth claim valid is tells holds =
+    let test : is_valid claim.at ≡ true = sym (valid_is valid claim.at tells) ∙ holds in
+    let here : frame_of (Some claim) ≡ Some claim.at = rw test refl in
+    sym (ap frame_of is ∙ here)
+
+pub no_frame : (truth : Option Claim) (claim : Claim) (valid : Bool) → truth ≡ Some claim → (valid ≡ true) ↔ IsValid claim.at → valid ≡ false → None ≡ frame_of truth
+no_frame truth claim valid is tells fails =
+    let test : is_valid claim.at ≡ false = sym (valid_is valid claim.at tells) ∙ fails in
+    let here : frame_of (Some claim) ≡ None = rw test refl in
+    sym (ap frame_of is ∙ here)
+
+-- the next of a valid second is valid
+pub next_is_valid : (o : Option UtcSecond) (u : UtcSecond) (mark : Mark) → IsValid u → o ≡ next_of u mark → IfSome o IsValid
+next_is_valid None u mark valid is = tt
+next_is_valid (Some v) u mark valid is = next_valid u v mark valid (sym is)

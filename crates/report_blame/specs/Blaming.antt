@@ -28,18 +28,19 @@ pub record IsObserverAt (o : Observer) (x : Scene) : Type 0 where
 -- ---- all lines
 
 -- all of the text was written, or a prefix of it
-abbrev pub BlameRun : Result Outcome SceneFault → List ℕ → Bytes → Bytes → Type 0
-BlameRun (Ok o) x old new = ((meaning_of x).refused ≡ None) × Appends old new (blame_text x)
-BlameRun (Err (fault.Refused line number)) x old new =
-    IsRefused (meaning_of x) line number × Appends old new (blame_text x)
-BlameRun (Err fault.Read) x old new = AppendsPart old new (blame_text x)
-BlameRun (Err fault.Write) x old new = AppendsPart old new (blame_text x)
-BlameRun (Err fault.Memory) x old new = AppendsPart old new (blame_text x)
+abbrev pub BlameRun : List ℕ → Result Outcome SceneFault → List ℕ → Bytes → Bytes → Type 0
+BlameRun lines (Ok o) x old new = ((meaning_of x).refused ≡ None) × Appends old new (blame_text lines x)
+BlameRun lines (Err (fault.Refused line number)) x old new =
+    IsRefused (meaning_of x) line number × Appends old new (blame_text lines x)
+BlameRun lines (Err fault.Read) x old new = AppendsPart old new (blame_text lines x)
+BlameRun lines (Err fault.Write) x old new = AppendsPart old new (blame_text lines x)
+BlameRun lines (Err fault.Memory) x old new = AppendsPart old new (blame_text lines x)
 
 -- for the bytes of the input, and if it does not tell them, for some
-pub record RanBlame (r : Result Outcome SceneFault) (was left old new : Bytes) : Type 0 where
+pub record RanBlame (lines : List ℕ) (r : Result Outcome SceneFault) (was left old new : Bytes)
+    : Type 0 where
   pub bytes : List ℕ
   pub of_input : AreBytesOf was bytes
-  pub ran : BlameRun r bytes old new
+  pub ran : BlameRun lines r bytes old new
   -- and what was read, how many lines there are, and which were written whole before a failure
-  pub read : RunFor blame_texts r bytes was left old new
+  pub read : RunFor (blame_texts lines) r bytes was left old new

@@ -1,6 +1,6 @@
 -- A tick of a reader: what it announced, and what each port told.
 -- Source: docs/OUTPUT.md.
-use Rattle.std.specs.Prelude.{ℕ, ◌==◌, ◌&&◌, ◌||◌, nat_le, Bool, true, false, not, is_some, if◌then◌else◌, Option, Some, None, option_and_then}
+use Rattle.std.specs.Prelude.{ℕ, ◌==◌, ◌&&◌, ◌||◌, nat_le, Bool, true, false, not, is_some, if◌then◌else◌, Option, Some, None}
 use Rattle.irig_time.specs.declared.claim.Claim.{Claim}
 use Rattle.irig_time.specs.declared.second.UtcSecond.{UtcSecond}
 use Rattle.irig_time.specs.declared.second.TheConstants.{FIRST_DAY, LAST_DAY}
@@ -57,11 +57,12 @@ is_untrue t = is_another t.entry.report.announce (second_after t.entry.truth)
 -- ---- seconds
 
 -- the second of the true frame that ended at the edge
-abbrev pub frame_of_claim : Claim → Option UtcSecond
-frame_of_claim claim = if is_valid claim.at then Some claim.at else None
+abbrev pub frame_of : Option Claim → Option UtcSecond
+frame_of None = None
+frame_of (Some claim) = if is_valid claim.at then Some claim.at else None
 
 abbrev pub frame_at : Tick → Option UtcSecond
-frame_at t = option_and_then frame_of_claim t.entry.truth
+frame_at t = frame_of t.entry.truth
 
 -- the second that begins at the edge
 abbrev pub second_at : Tick → Option UtcSecond

@@ -58,19 +58,27 @@ impl Book {
     pub(crate) fn push_ended(
         &self,
         text: &mut String,
+        lines: &str,
         names: &IndexSet<String>,
         tick: &Tick,
     ) -> Result<(), AllocError>
         requires { IsSoundTick tick.now }
         ensures { OnOk result ((d : Account) → tick.now.entry.reader < vec_len self.now.accounts
             → string_bytes text.new ≡ string_bytes text.old
-            ++ ended_lines (name_at (texts_of names.now.keys) tick.now.entry.reader) self.now.ports
+            ++ ended_lines lines.now (name_at (texts_of names.now.keys) tick.now.entry.reader) self.now.ports
             (slice_index_or self.now.accounts.items tick.now.entry.reader d) tick.now) }
     {
         let reader = tick.entry.reader;
         if (reader as usize) < self.accounts.len() {
             let account = &self.accounts[reader as usize];
-            push_ended(text, name_at(names, reader), self.ports, account, tick)
+            push_ended(
+                text,
+                lines,
+                name_at(names, reader),
+                self.ports,
+                account,
+                tick,
+            )
         } else {
             Ok(())
         }
@@ -80,16 +88,17 @@ impl Book {
     pub(crate) fn push_open(
         &self,
         text: &mut String,
+        lines: &str,
         names: &IndexSet<String>,
     ) -> Result<(), AllocError>
         ensures { OnOk result (string_bytes text.new ≡ string_bytes text.old ++ texts_below
-            (λ r. open_lines (name_at (texts_of names.now.keys) r) self.now.ports
+            (λ r. open_lines lines.now (name_at (texts_of names.now.keys) r) self.now.ports
             (slice_index_or self.now.accounts.items r (account_of [])))
             (vec_len self.now.accounts)) }
     {
         for reader in 0..self.readers() {
             let account = &self.accounts[reader as usize];
-            push_open(text, name_at(names, reader), self.ports, account)?;
+            push_open(text, lines, name_at(names, reader), self.ports, account)?;
         }
         Ok(())
     }
@@ -98,16 +107,17 @@ impl Book {
     pub(crate) fn push_totals(
         &self,
         text: &mut String,
+        lines: &str,
         names: &IndexSet<String>,
     ) -> Result<(), AllocError>
         ensures { OnOk result (string_bytes text.new ≡ string_bytes text.old ++ texts_below
-            (λ r. total_lines (name_at (texts_of names.now.keys) r) self.now.ports
+            (λ r. total_lines lines.now (name_at (texts_of names.now.keys) r) self.now.ports
             (slice_index_or self.now.accounts.items r (account_of [])))
             (vec_len self.now.accounts)) }
     {
         for reader in 0..self.readers() {
             let account = &self.accounts[reader as usize];
-            push_totals(text, name_at(names, reader), self.ports, account)?;
+            push_totals(text, lines, name_at(names, reader), self.ports, account)?;
         }
         Ok(())
     }

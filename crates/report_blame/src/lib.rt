@@ -6,6 +6,7 @@ mod account;
 mod book;
 mod kind;
 mod laws;
+mod line_text;
 mod misled;
 mod misled_text;
 mod observer;

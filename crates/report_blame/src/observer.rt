@@ -13,26 +13,31 @@ use irig_port::Port;
 use irig_scene::Listener;
 use report_log::push_audit;
 use std::alloc::{AllocError, Global};
+use std::marker::PhantomData;
 
 /// Keeps the accounts of a plant's readers.
 #[derive(Drop)]
-pub(crate) struct Observer {
+pub(crate) struct Observer<'a> {
     book: Book,
+    lines: PhantomData<&'a str>,
 }
 
-impl Listener for Observer {
+impl<'a> Listener for Observer<'a> {
     ghost use Rattle.report_blame.specs.BlameText.{blame_texts};
     ghost use Rattle.report_blame.specs.Blaming.{IsObserverAt};
 
-    type Asked = ();
+    // The names of recorded lines.
+    type Asked = &'a str;
 
-    ghost texts = { λ asked. blame_texts };
+    ghost texts = { λ asked. blame_texts asked.now };
 
     ghost stands_for = { λ asked observer x. IsObserverAt observer x };
 
     ghost counts = { false };
 
-    fn counts() -> bool {
+    fn counts() -> bool
+        ensures { result ≡ false }
+    {
         false
     }
 
@@ -42,21 +47,24 @@ impl Listener for Observer {
 
     fn new(
         alloc: Global,
-        _asked: (),
+        _asked: &'a str,
         names: &IndexSet<String>,
         ports: u8,
-    ) -> Result<Observer, AllocError> {
+    ) -> Result<Observer<'a>, AllocError> {
         let book = Book::new(alloc, names.len(), ports)?;
-        Ok(Observer { book })
+        Ok(Observer {
+            book,
+            lines: PhantomData,
+        })
     }
 
-    fn echoes_plant_line(_asked: ()) -> bool {
+    fn echoes_plant_line(_asked: &'a str) -> bool {
         false
     }
 
     fn push_event<P: Port>(
         &mut self,
-        _asked: (),
+        asked: &'a str,
         plant: &Plant<P>,
         names: &IndexSet<String>,
         _event: &Event,
@@ -65,21 +73,21 @@ impl Listener for Observer {
         let Some(tick) = last_tick(plant) else {
             return Ok(());
         };
-        self.book.push_ended(text, names, &tick)?;
+        self.book.push_ended(text, asked, names, &tick)?;
         self.book.add(&tick);
         Ok(())
     }
 
     fn push_last<P: Port>(
         &self,
-        _asked: (),
+        asked: &'a str,
         plant: &Plant<P>,
         names: &IndexSet<String>,
         refused: bool,
         text: &mut String,
     ) -> Result<(), AllocError> {
-        self.book.push_open(text, names)?;
-        self.book.push_totals(text, names)?;
+        self.book.push_open(text, asked, names)?;
+        self.book.push_totals(text, asked, names)?;
         if refused {
             return Ok(());
         }

@@ -19,6 +19,9 @@ use std::io::{BufRead, Write};
 /// silence of a reader, as soon as it ends; after the last line of the input those that are open,
 /// the totals of each reader and port, and the last line of the run's log. What each line ends is
 /// written before the next is read, and no more is kept than the open stretches and the counts.
+/// `lines` has the names of recorded lines, with a comma between them: then a port is called by the
+/// name of its line, and what is not the second of the scenario is said to be unlike most lines, as
+/// nobody knows more. It is empty of a scenario that is no recording.
 ///
 /// Neither device may have failed before. `Refused` if a line is refused, as a run refuses it;
 /// `refused` is then what explains it, else it is left as it was. `Read` if the input failed,
@@ -27,16 +30,17 @@ use std::io::{BufRead, Write};
 /// caller's to flush.
 pub fn blame<R: BufRead, W: Write>(
     alloc: Global,
+    lines: &str,
     input: &mut Watched<R>,
     output: &mut Watched<W>,
     refused: &mut Option<RefusedLine>,
 ) -> Result<Outcome, SceneFault>
     requires input_whole { has_failed input.old ≡ false }
     requires output_whole { has_failed output.old ≡ false }
-    ensures ran { RanBlame result (left R.remaining input.old) (left R.remaining input.new)
+    ensures ran { RanBlame lines.now result (left R.remaining input.old) (left R.remaining input.new)
         (written W.contents output.old) (written W.contents output.new) }
     ensures read { (result ≡ Err SceneFault.Read) ↔ (has_failed input.new ≡ true) }
     ensures write { (result ≡ Err SceneFault.Write) ↔ (has_failed output.new ≡ true) }
 {
-    run_to::<Observer, FlowPort, R, W>(alloc, (), input, output, refused)
+    run_to::<Observer, FlowPort, R, W>(alloc, lines, input, output, refused)
 }

@@ -1,6 +1,8 @@
 //! Stretches of ticks at which a port told one kind of wrong, and silences of a reader.
 
-ghost use Rattle.std.specs.Prelude.{◌≡◌, ◌+◌, ◌<◌, IfSome};
+ghost use Rattle.std.specs.Prelude.{◌≡◌, ◌+◌, ◌<◌, ◌&&◌, IfSome};
+ghost use Rattle.report_blame.specs.Offsets.{same_offset};
+ghost use Rattle.report_blame.specs.Ticks.{offset_at};
 ghost use Rattle.report_blame.specs.Stretches.{one_if, begun, more, IsBelow, stretch_after, ended_by, same_cause, silence_at, goes_on, silence_after, ended_silence};
 ghost use Rattle.report_blame.specs.Soundness.{IsSoundTick, IsSoundOpen};
 
@@ -37,17 +39,24 @@ impl Stretch {
         }
     }
 
+    // Whether the port is as far off as at all ticks before.
+    fn is_steady_at(&self, port: u8, tick: &Tick) -> bool
+        ensures { result ≡ (same_offset (offset_at port self.now.first) (offset_at port tick.now)
+            && self.now.steady) }
+    {
+        same_offset(self.first.offset(port), tick.offset(port)) && self.steady
+    }
+
     fn more(&self, port: u8, tick: &Tick) -> Stretch
         ensures exact { IsBelow tick.now.entry.edge self.now → result ≡ more port self.now tick.now }
         ensures first { result.first ≡ self.now.first }
     {
         let edge = tick.entry.edge;
-        let is_as_far = same_offset(self.first.offset(port), tick.offset(port));
         Stretch {
             kind: self.kind,
             first: self.first,
             last: *tick,
-            steady: is_as_far && self.steady,
+            steady: self.is_steady_at(port, tick),
             announced: counted(self.announced, tick.is_announced(), edge),
             untrue: counted(self.untrue, tick.is_untrue(), edge),
         }

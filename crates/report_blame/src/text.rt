@@ -22,6 +22,7 @@ ghost use Rattle.report_blame.specs.Text.{
 
 use crate::account::{Account, PortAccount};
 use crate::kind::Kind;
+use crate::line_text::{push_port, untrue_word};
 use crate::misled::ended_misled;
 use crate::misled_text::push_misled;
 use crate::stretch::{Silence, Stretch, ended_by, ended_silence};
@@ -34,6 +35,7 @@ use std::alloc::AllocError;
 /// Pushes the lines of all that a tick of a reader with so many ports ends.
 pub(crate) fn push_ended(
     text: &mut String,
+    lines: &str,
     name: &str,
     ports: u8,
     account: &Account,
@@ -42,56 +44,63 @@ pub(crate) fn push_ended(
     requires account { IsSoundAccount account.now }
     requires tick { IsSoundTick tick.now }
     ensures { OnOk result (string_bytes text.new ≡ string_bytes text.old
-        ++ ended_lines name.now ports account.now tick.now) }
+        ++ ended_lines lines.now name.now ports account.now tick.now) }
 {
     for port in 0..ports {
         let ended = ended_by(account.port(port).stretch, tick.kind(port));
-        push_stretch(text, name, port, ended)?;
+        push_stretch(text, lines, name, port, ended)?;
     }
     push_silence(text, name, ended_silence(account.silence, tick))?;
-    push_misled(text, name, ports, ended_misled(account.misled, tick))
+    push_misled(text, lines, name, ports, ended_misled(account.misled, tick))
 }
 
 /// Pushes the lines of all that is open.
 pub(crate) fn push_open(
     text: &mut String,
+    lines: &str,
     name: &str,
     ports: u8,
     account: &Account,
 ) -> Result<(), AllocError>
     requires { IsSoundAccount account.now }
     ensures { OnOk result (string_bytes text.new ≡ string_bytes text.old
-        ++ open_lines name.now ports account.now) }
+        ++ open_lines lines.now name.now ports account.now) }
 {
     for port in 0..ports {
-        push_stretch(text, name, port, account.port(port).stretch)?;
+        push_stretch(text, lines, name, port, account.port(port).stretch)?;
     }
     push_silence(text, name, account.silence)?;
-    push_misled(text, name, ports, account.misled)
+    push_misled(text, lines, name, ports, account.misled)
 }
 
 /// Pushes the totals of a reader and of its ports.
 pub(crate) fn push_totals(
     text: &mut String,
+    lines: &str,
     name: &str,
     ports: u8,
     account: &Account,
 ) -> Result<(), AllocError>
     requires { IsSoundAccount account.now }
     ensures { OnOk result (string_bytes text.new ≡ string_bytes text.old
-        ++ total_lines name.now ports account.now) }
+        ++ total_lines lines.now name.now ports account.now) }
 {
-    push_reader_totals(text, name, account)?;
+    push_reader_totals(text, lines, name, account)?;
     for port in 0..ports {
-        push_port_totals(text, name, port, account.port(port))?;
+        push_port_totals(text, lines, name, port, account.port(port))?;
     }
     Ok(())
 }
 
 #[tactic(auto, unfolding(crate::specs::Text::totals_line))]
-fn push_reader_totals(text: &mut String, name: &str, account: &Account) -> Result<(), AllocError>
+fn push_reader_totals(
+    text: &mut String,
+    lines: &str,
+    name: &str,
+    account: &Account,
+) -> Result<(), AllocError>
     ensures { OnOk result (string_bytes text.new
-        ≡ string_bytes text.old ++ totals_line name.now account.now) }
+        ≡ string_bytes text.old ++ totals_line lines.now name.now account.now) }
 {
     let Account {
         edges,
@@ -100,21 +109,23 @@ fn push_reader_totals(text: &mut String, name: &str, account: &Account) -> Resul
         ..
     } = *account;
     let silent = edges.saturating_sub(announced);
+    let word = untrue_word(lines);
     write!(
         text,
-        "{name}: {edges} edges, {announced} announced, {untrue} untrue, {silent} silent\n"
+        "{name}: {edges} edges, {announced} announced, {untrue} {word}, {silent} silent\n"
     )
 }
 
 #[tactic(auto, unfolding(crate::specs::Text::port_totals_line))]
 fn push_port_totals(
     text: &mut String,
+    lines: &str,
     name: &str,
     port: u8,
     account: &PortAccount,
 ) -> Result<(), AllocError>
     ensures { OnOk result (string_bytes text.new
-        ≡ string_bytes text.old ++ port_totals_line name.now port account.now) }
+        ≡ string_bytes text.old ++ port_totals_line lines.now name.now port account.now) }
 {
     let PortAccount {
         agreed,
@@ -125,10 +136,8 @@ fn push_port_totals(
         another_mark,
         ..
     } = *account;
-    write!(
-        text,
-        "port {port} of {name}: {agreed} agreed, {silent} silent, "
-    )?;
+    push_port(text, lines, port)?;
+    write!(text, " of {name}: {agreed} agreed, {silent} silent, ")?;
     write!(text, "{faulty} faulty, {poor} poor, ")?;
     write!(
         text,
@@ -139,16 +148,17 @@ fn push_port_totals(
 // Pushes the line of a stretch, if there is one.
 fn push_stretch(
     text: &mut String,
+    lines: &str,
     name: &str,
     port: u8,
     stretch: Option<Stretch>,
 ) -> Result<(), AllocError>
     requires { IsSoundOpen stretch }
     ensures { OnOk result (string_bytes text.new
-        ≡ string_bytes text.old ++ stretch_line name.now port stretch) }
+        ≡ string_bytes text.old ++ stretch_line lines.now name.now port stretch) }
 {
     match stretch {
-        Some(stretch) => push_stretch_line(text, name, port, &stretch),
+        Some(stretch) => push_stretch_line(text, lines, name, port, &stretch),
         None => Ok(()),
     }
 }
@@ -156,29 +166,36 @@ fn push_stretch(
 #[tactic(auto, unfolding(crate::specs::Text::stretch_text))]
 fn push_stretch_line(
     text: &mut String,
+    lines: &str,
     name: &str,
     port: u8,
     stretch: &Stretch,
 ) -> Result<(), AllocError>
     requires { IsSoundTick stretch.now.first }
     ensures { OnOk result (string_bytes text.new
-        ≡ string_bytes text.old ++ stretch_text name.now port stretch.now) }
+        ≡ string_bytes text.old ++ stretch_text lines.now name.now port stretch.now) }
 {
     let Stretch { first, last, .. } = stretch;
     let edges = (first.entry.edge, last.entry.edge);
     push_when(text, edges, (first.frame(), last.frame()))?;
     let wrong = kind_text(stretch.kind);
-    write!(text, "port {port} of {name} {wrong}")?;
+    push_port(text, lines, port)?;
+    write!(text, " of {name} {wrong}")?;
     push_distance(text, port, stretch)?;
     push_first(text, port, stretch)?;
-    push_price(text, name, stretch)
+    push_price(text, lines, name, stretch)
 }
 
 // What the reader announced meanwhile.
 #[tactic(auto, unfolding(crate::specs::Text::price_text))]
-fn push_price(text: &mut String, name: &str, stretch: &Stretch) -> Result<(), AllocError>
+fn push_price(
+    text: &mut String,
+    lines: &str,
+    name: &str,
+    stretch: &Stretch,
+) -> Result<(), AllocError>
     ensures { OnOk result (string_bytes text.new
-        ≡ string_bytes text.old ++ price_text name.now stretch.now) }
+        ≡ string_bytes text.old ++ price_text lines.now name.now stretch.now) }
 {
     write!(text, "; {name} announced ")?;
     let untrue = if stretch.kind.is_lie() {
@@ -186,7 +203,7 @@ fn push_price(text: &mut String, name: &str, stretch: &Stretch) -> Result<(), Al
     } else {
         0
     };
-    push_seconds(text, stretch.announced, untrue)
+    push_seconds(text, lines, stretch.announced, untrue)
 }
 
 // How far what the port claimed was from the true second, if it claimed another one.
@@ -236,16 +253,22 @@ fn push_first(text: &mut String, port: u8, stretch: &Stretch) -> Result<(), Allo
 
 // How many seconds were announced, and how many of them were untrue.
 #[tactic(auto, unfolding(crate::specs::Text::seconds_text))]
-fn push_seconds(text: &mut String, announced: u64, untrue: u64) -> Result<(), AllocError>
+fn push_seconds(
+    text: &mut String,
+    lines: &str,
+    announced: u64,
+    untrue: u64,
+) -> Result<(), AllocError>
     ensures { OnOk result (string_bytes text.new
-        ≡ string_bytes text.old ++ seconds_text announced untrue) }
+        ≡ string_bytes text.old ++ seconds_text lines.now announced untrue) }
 {
+    let word = untrue_word(lines);
     match (announced, untrue) {
         (0, _) => text.push_str("nothing\n"),
         (1, 0) => text.push_str("1 second\n"),
-        (1, _) => text.push_str("1 second, untrue\n"),
+        (1, _) => write!(text, "1 second, {word}\n"),
         (_, 0) => write!(text, "{announced} seconds\n"),
-        _ => write!(text, "{announced} seconds, {untrue} of them untrue\n"),
+        _ => write!(text, "{announced} seconds, {untrue} of them {word}\n"),
     }
 }
 

@@ -2,7 +2,7 @@
 
 ghost use Rattle.std.specs.Prelude.{◌≡◌, IfSome};
 ghost use Rattle.irig_time.specs.Seconds.{IsValid};
-ghost use Rattle.report_blame.specs.Ticks.{told_by, kind_at, is_announced, second_after, is_untrue, frame_at, second_at, claimed, offset_at, offset_announced, is_carrier, vote_at, votes_truly};
+ghost use Rattle.report_blame.specs.Ticks.{told_by, kind_at, is_announced, second_after, is_untrue, frame_of, frame_at, second_at, claimed, offset_at, offset_announced, is_carrier, vote_at, votes_truly};
 
 use crate::kind::Kind;
 use crate::offset::{Offset, offset_between};
@@ -62,10 +62,7 @@ impl Tick {
         ensures exact { result ≡ frame_at self.now }
         ensures valid { IfSome result IsValid }
     {
-        match self.entry.truth {
-            Some(claim) if valid(&claim.at) => Some(claim.at),
-            _ => None,
-        }
+        frame_of(self.entry.truth)
     }
 
     /// The second that begins at the edge.
@@ -123,6 +120,19 @@ fn claimed(told: Told) -> Option<UtcSecond>
     match told {
         Told::Claim(claim) => Some(claim.at),
         _ => None,
+    }
+}
+
+// The second of a true claim, if that is valid.
+fn frame_of(truth: Option<Claim>) -> Option<UtcSecond>
+    ensures exact { result ≡ frame_of truth }
+    ensures valid { IfSome result IsValid }
+{
+    let claim = truth?;
+    if valid(&claim.at) {
+        Some(claim.at)
+    } else {
+        None
     }
 }
 

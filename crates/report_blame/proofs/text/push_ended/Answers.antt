@@ -14,5 +14,5 @@ loop-port-preserved c =
     let t = c.args.tick.now in
     let i = c.loop-port.port in
     let ended = c.ended_by-ended.ensures.exact ∙ ap (λ (p : PortAccount). ended_by p.stretch c.kind.result) c.port.ensures.exact ∙ ap (ended_by (port_of i x).stretch) c.kind.ensures in
-    text_more (λ port. stretch_line name port (ended_by (port_of port x).stretch (kind_at port t))) i _ _ _ _ c.loop-port.invariant c.in_ok-push_stretch.ensures
-    (ap (stretch_line name i) ended)
+    text_more (λ port. stretch_line c.args.lines.now name port (ended_by (port_of port x).stretch (kind_at port t))) i _ _ _ _ c.loop-port.invariant c.in_ok-push_stretch.ensures
+    (ap (stretch_line c.args.lines.now name i) ended)

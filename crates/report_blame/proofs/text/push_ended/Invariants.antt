@@ -7,4 +7,4 @@ use Rattle.report_blame.proofs.text.push_ended.Given as goal
 
 abbrev pub invariant-loop-port : goal.invariant-loop-port
 invariant-loop-port l =
-    string_bytes l.text ≡ string_bytes l.initial.text ++ texts_below (λ port. stretch_line l.name port (ended_by (port_of port l.account).stretch (kind_at port l.tick))) l.port
+    string_bytes l.text ≡ string_bytes l.initial.text ++ texts_below (λ port. stretch_line l.lines l.name port (ended_by (port_of port l.account).stretch (kind_at port l.tick))) l.port

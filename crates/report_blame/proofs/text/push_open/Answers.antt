@@ -10,5 +10,5 @@ loop-port-preserved c =
     let name = c.args.name.now in
     let x = c.args.account.now in
     let i = c.loop-port.port in
-    text_more (λ port. stretch_line name port (port_of port x).stretch) i _ _ _ _ c.loop-port.invariant c.in_ok-push_stretch.ensures
-    (ap (λ (p : PortAccount). stretch_line name i p.stretch) c.port.ensures.exact)
+    text_more (λ port. stretch_line c.args.lines.now name port (port_of port x).stretch) i _ _ _ _ c.loop-port.invariant c.in_ok-push_stretch.ensures
+    (ap (λ (p : PortAccount). stretch_line c.args.lines.now name i p.stretch) c.port.ensures.exact)

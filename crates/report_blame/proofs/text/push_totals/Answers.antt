@@ -10,5 +10,5 @@ loop-port-preserved c =
     let name = c.args.name.now in
     let x = c.args.account.now in
     let i = c.loop-port.port in
-    text_more (λ port. port_totals_line name port (port_of port x)) i _ _ _ _ c.loop-port.invariant c.in_ok-push_port_totals.ensures
-    (ap (λ (p : PortAccount). port_totals_line name i p) c.port.ensures.exact)
+    text_more (λ port. port_totals_line c.args.lines.now name port (port_of port x)) i _ _ _ _ c.loop-port.invariant c.in_ok-push_port_totals.ensures
+    (ap (λ (p : PortAccount). port_totals_line c.args.lines.now name i p) c.port.ensures.exact)

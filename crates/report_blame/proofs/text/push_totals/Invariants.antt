@@ -5,4 +5,4 @@ use Rattle.report_blame.proofs.text.push_totals.Given as goal
 
 abbrev pub invariant-loop-port : goal.invariant-loop-port
 invariant-loop-port l =
-    string_bytes l.text ≡ string_bytes l.initial.text ++ texts_below (λ port. port_totals_line l.name port (port_of port l.account)) l.port
+    string_bytes l.text ≡ string_bytes l.initial.text ++ texts_below (λ port. port_totals_line l.lines l.name port (port_of port l.account)) l.port

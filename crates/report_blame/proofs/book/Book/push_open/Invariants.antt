@@ -8,4 +8,4 @@ use Rattle.report_blame.proofs.book.Book.push_open.Given as goal
 abbrev pub invariant-loop-reader : goal.invariant-loop-reader
 invariant-loop-reader l =
     string_bytes l.text ≡ string_bytes l.initial.text
-    ++ texts_below (λ r. open_lines (name_at (texts_of l.names.keys) r) l.self.ports (slice_index_or l.self.accounts.items r (account_of []))) l.reader
+    ++ texts_below (λ r. open_lines l.lines (name_at (texts_of l.names.keys) r) l.self.ports (slice_index_or l.self.accounts.items r (account_of []))) l.reader
