@@ -118,7 +118,8 @@ class Stretch(Said):
 
     def _why(self) -> str:
         if self.ports:
-            return f", as ports {', '.join(map(str, self.ports))} told at edge {self.vote}"
+            carriers = ", ".join(f"port {port}" for port in self.ports)
+            return f", as {carriers} told at edge {self.vote}"
         if self.vote is not None:
             return ", held by its table"
         return f": {self.cause}, {MEANINGS[self.cause]}" if self.cause else ""

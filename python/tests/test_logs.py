@@ -229,7 +229,7 @@ class Blame(unittest.TestCase):
         self.assertEqual(self.lines(text, SCENARIO), [
             *(f"2016-12-31T23:59:50Z, edge 1: port {port} of relay told another mark, first no-leap;"
               " relay announced 1 second, untrue" for port in (0, 1)),
-            "2016-12-31T23:59:51Z, edge 1: relay announced untrue seconds, 1 s behind, as ports 0, 1 told"
+            "2016-12-31T23:59:51Z, edge 1: relay announced untrue seconds, 1 s behind, as port 0, port 1 told"
             " at edge 1",
         ])
 

@@ -135,7 +135,7 @@ class Blame(unittest.TestCase):
               " another second, 1 h ahead, first 2016-06-15T13:00:04Z; relay announced 4 seconds, 4 of"
               " them untrue" for port in (0, 1)),
             "2016-06-15T12:00:07Z to 2016-06-15T12:00:10Z, edges 7 to 10: relay announced untrue seconds,"
-            " 1 h ahead, as ports 0, 1 told at edge 7",
+            " 1 h ahead, as port 0, port 1 told at edge 7",
         ])
 
 
