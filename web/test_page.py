@@ -207,10 +207,23 @@ class InBrowser(browser.Driven):
         self.assertTrue(any(line.count(" ok") == 2 and line.count("Z") == 1 for line in lines), lines[:3])
         self.picture("one_liar")
 
+    def test_utc_and_offsets(self) -> None:
+        """Edge 11 is the second after 23:59:60, which one clock told as the next one."""
+        self.push("ports")
+        self.run_example("ignored_leap")
+        self.page.click(*self.on_edge(11, 0))
+        self.assertIn("ports told: ok 2017-01-01T00:00:00Z (1 s ahead) ok", self.text("line"))
+        self.assertIn("2016-12-31T23:59:51Z to 2017-01-01T00:00:04Z", self.text("range"))
+        self.run_example("misled_by_table")
+        self.press("canvas", "End")
+        self.assertIn("60 relay 2000-02-01T00:00:00Z (1 s ahead) holdover:59 held", self.text("line"))
+        self.assertIn("edge 60 is 2000-01-31T23:59:60Z", self.text("line"))
+
     def test_a_refused_plant_after_a_run(self) -> None:
         right = plant({"do": "seconds", "n": 10})
         self.run_text(right)
-        self.assertEqual(self.text("range"), "edges 1 to 10 of 1 to 10")
+        told = "edges 1 to 10 of 1 to 10, 2016-12-31T23:00:01Z to 2016-12-31T23:00:10Z"
+        self.assertEqual(self.text("range"), told)
         self.run_text(plant(readers=[{"name": "relay", "lock_after": 0, "holdover": 9}]))
         self.assertIn("refused: line 1: 26 Value", self.text("verdict"))
         self.assertFalse(self.page.ask("part('range').checkVisibility()"))
@@ -275,7 +288,8 @@ class InBrowser(browser.Driven):
         self.assertTrue(self.text("line").startswith("3616 relay 2016-06-15T13:00:16Z locked voted"))
         self.assertIn('scenario line 10: {"do":"seconds","n":8}', self.text("line"))
         self.press("canvas", "Home", "+", "+")
-        self.assertEqual(self.text("range"), "edges 1 to 904 of 1 to 3616")
+        told = "edges 1 to 904 of 1 to 3616, 2016-06-15T12:00:01Z to 2016-06-15T12:15:04Z"
+        self.assertEqual(self.text("range"), told)
         self.press("canvas", "0")
         self.set("cause", "expired")
         self.push("next")
