@@ -1,11 +1,9 @@
 -- A frame whose element 75 is written reads as before, but for the parity's own bit.
-use Rattle.std.proofs.Common.{◌≡◌, ℕ, ◌+◌, ◌*◌, ◌%◌, ◌^◌, ◌<◌, ◌≤◌, ◌⊎◌, Bool, true, false, not, cond, eqb, nat_le, All, get_or, List, [], ◌∷◌, ◌++◌, length, map, filter, sum, take, drop, Some, slice_get, slice_set, refl, sym, ap, subst, ◌∙◌, arith, inl, inr}
+use Rattle.std.proofs.Common.{◌≡◌, ℕ, ◌+◌, ◌*◌, ◌%◌, ◌^◌, ◌<◌, ◌≤◌, ◌⊎◌, Bool, true, false, not, cond, eqb, nat_le, All, get_or, List, [], ◌∷◌, length, map, filter, sum, take, drop, Some, slice_get, slice_set, refl, sym, ap, subst, ◌∙◌, arith, inl, inr}
 use Rattle.std.specs.List.{AllPass, list_all}
 use Rattle.std.proofs.lemmas.Bool.{and_parts, leb-true, cases_eq, cases_Bool, eqb-false, not-true, false≢true}
-use Rattle.std.proofs.lemmas.List.{length-set, set-set, set-get_or, map-append}
-use Rattle.std.proofs.lemmas.List.Elements.{filter-append}
-use Rattle.std.proofs.lemmas.List.Filters.{sum_by-filter_both}
-use Rattle.std.proofs.lemmas.List.Sums.{AllPass-from_list_all, sum_by-append, sum_by-cons, sum-map}
+use Rattle.std.proofs.lemmas.List.{length-set, set-set, set-get_or}
+use Rattle.std.proofs.lemmas.List.Sums.{AllPass-from_list_all}
 use Rattle.std.proofs.lemmas.Option.{slice_get-get_or}
 use Rattle.irig_frame.specs.declared.symbol.Symbol.{Symbol}
 use Rattle.irig_frame.specs.declared.symbol.Symbol.TheVariants.{Zero, One, Marker, Bad}
@@ -13,35 +11,23 @@ use Rattle.irig_frame.specs.declared.layout.Field.{Field}
 use Rattle.irig_frame.specs.declared.layout.Field.TheVariants.{Second, Minute, Hour, Day, Year}
 use Rattle.irig_frame.specs.declared.coded.Coded.{Coded}
 use Rattle.irig_frame.specs.FieldTable.{TableEntry, at, units_of, tens_of, places_of, control_places, straight_binary_places, spare_places}
-use Rattle.irig_frame.specs.Values.{is_one, is_one_at, value, weights}
+use Rattle.irig_frame.specs.Values.{is_one, is_one_at, value}
 use Rattle.irig_frame.specs.Decoder.{Reads, IsRight}
+use Rattle.irig_frame.proofs.ReadingLaws.{each, value_le}
+use Rattle.irig_frame.proofs.WritingLaws.{get-set_same, get-set_other, by_sum, value-append}
 use Rattle.irig_frame.proofs.OneFrame.{one_frame}
 use Rattle.irig_control.specs.declared.parity.Parity.{Parity}
 use Rattle.irig_control.specs.Control.{flag}
 use Rattle.irig_control.specs.Parity.{data_symbol, HasParity}
-use Rattle.irig_control.proofs.ParityLaws.{get-set_same, get-set_other, parity_decides}
+use Rattle.irig_control.proofs.ParityLaws.{parity_decides}
 
 abbrev written : List Symbol → Bool → List Symbol
 written s b = slice_set s 75 (data_symbol b)
 
 -- ---- the value of some places
 
-value-append : (ps qs : List TableEntry) (s : List Symbol) → value (ps ++ qs) s ≡ value ps s + value qs s
-value-append ps qs s =
-    rw (filter-append (is_one_at s) ps qs, map-append) (sum_by-append (λ (n : ℕ). n) (map (λ p. p.weight) (filter (is_one_at s) ps)) (map (λ p. p.weight) (filter (is_one_at s) qs)))
-
 value-cons : (p : TableEntry) (ps : List TableEntry) (s : List Symbol) → value (p ∷ ps) s ≡ cond (is_one_at s p) p.weight 0 + value ps s
-value-cons p ps s =
-    elim (cases_Bool (is_one_at s p)) [
-      | inl e ↦ rw e (sum_by-cons (λ (n : ℕ). n) p.weight (map (λ q. q.weight) (filter (is_one_at s) ps)))
-      | inr e ↦ rw e (omega arith)
-    ]
-
-value_le : (ps : List TableEntry) (s : List Symbol) → value ps s ≤ weights ps
-value_le ps s =
-    let w : TableEntry → ℕ = λ p. p.weight in
-    let part = sum_by-filter_both (is_one_at s) (λ p. not (is_one_at s p)) (λ _. refl) w ps in
-    rw (sum-map w) (omega (arith, part))
+value-cons p ps s = omega (arith, by_sum (p ∷ ps) s, by_sum ps s)
 
 -- what is below each weight is 0
 value_none : (w : ℕ) (ps : List TableEntry) (s : List Symbol) → list_all (λ p. nat_le w p.weight) ps ≡ true → value ps s < w → value ps s ≡ 0
@@ -71,17 +57,8 @@ filter_kept (p ∷ ps) s b h =
 kept : (ps : List TableEntry) (s : List Symbol) (b : Bool) → lack_parity ps ≡ true → value ps (written s b) ≡ value ps s
 kept ps s b h = ap (λ (qs : List TableEntry). sum (map (λ p. p.weight) qs)) (filter_kept ps s b h)
 
-record LackParity (f : Field) : Type 0 where
-  units : lack_parity (units_of f) ≡ true
-  tens : lack_parity (tens_of f) ≡ true
-  places : lack_parity (places_of f) ≡ true
-
-fields_lack : (f : Field) → LackParity f
-fields_lack Second = record { units = refl; tens = refl; places = refl }
-fields_lack Minute = record { units = refl; tens = refl; places = refl }
-fields_lack Hour = record { units = refl; tens = refl; places = refl }
-fields_lack Day = record { units = refl; tens = refl; places = refl }
-fields_lack Year = record { units = refl; tens = refl; places = refl }
+fields_lack : (f : Field) → (lack_parity (units_of f) ≡ true) × (lack_parity (tens_of f) ≡ true) × (lack_parity (places_of f) ≡ true)
+fields_lack = each _ (refl, refl, refl) (refl, refl, refl) (refl, refl, refl) (refl, refl, refl) (refl, refl, refl)
 
 -- ---- the control bits, before the parity and after it
 
@@ -129,19 +106,20 @@ data_right : (b : Bool) → IsRight 75 (Some (data_symbol b))
 data_right true = refl
 data_right false = refl
 
-elements_kept : (s : List Symbol) (b : Bool) → length s ≡ 100 → ((i : ℕ) → i < 100 → IsRight i (slice_get s i)) → (i : ℕ) → i < 100 → IsRight i (slice_get (written s b) i)
-elements_kept s b long right i h =
-    elim (cases_eq 75 i) [
-      | inl e ↦ subst (λ (j : ℕ). IsRight j (slice_get (written s b) j)) e (subst (λ o. IsRight 75 o) (sym (get-set_same s 75 (data_symbol b) (omega (arith, long)))) (data_right b))
-      | inr apart ↦ subst (λ o. IsRight i o) (sym (get-set_other s 75 i (data_symbol b) apart)) (right i h)
+pub elements_after : (s : List Symbol) (i : ℕ) (x : Symbol) → length s ≡ 100 → ((k : ℕ) → k < 100 → IsRight k (slice_get s k)) → i < 100 → IsRight i (Some x)
+    → (k : ℕ) → k < 100 → IsRight k (slice_get (slice_set s i x) k)
+elements_after s i x len right low own k h =
+    elim (cases_eq i k) [
+      | inl e ↦ subst (λ (j : ℕ). IsRight j (slice_get (slice_set s i x) j)) e (subst (λ o. IsRight i o) (sym (get-set_same s i x (omega (arith, len, low)))) own)
+      | inr apart ↦ subst (λ o. IsRight k o) (sym (get-set_other s i k x apart)) (right k h)
     ]
 
 -- the values of a frame whose element 75 is written, but for the control bits
 reads_written : (s : List Symbol) (b : Bool) (c : Coded) (n : ℕ) → Reads s c → n ≡ value control_places (written s b) → Reads (written s b) (record c { control = n })
 reads_written s b c n r control = record {
   len = length-set s 75 (data_symbol b) ∙ r.len;
-  elements = elements_kept s b r.len r.elements;
-  digits = λ f. rw (kept (units_of f) s b (fields_lack f).units, kept (tens_of f) s b (fields_lack f).tens) (r.digits f);
+  elements = elements_after s 75 (data_symbol b) r.len r.elements (omega arith) (data_right b);
+  digits = λ f. rw (kept (units_of f) s b (fields_lack f).0, kept (tens_of f) s b (fields_lack f).1) (r.digits f);
   ranges = λ f. rw (field f) (r.ranges f);
   second = r.second ∙ sym (field Second);
   minute = r.minute ∙ sym (field Minute);
@@ -153,7 +131,7 @@ reads_written s b c n r control = record {
 }
   where
     field : (f : Field) → value (places_of f) (written s b) ≡ value (places_of f) s
-    field f = kept (places_of f) s b (fields_lack f).places
+    field f = kept (places_of f) s b (fields_lack f).2
 
 pub reads_kept : (s : List Symbol) (b : Bool) (c : Coded) → Reads s c → c.control < 2 ^ 14 → Reads (written s b) (record c { control = c.control + 2 ^ 14 * flag b })
 reads_kept s b c r small =

@@ -1,5 +1,5 @@
 -- What element 75 adds to the ones that the parity counts.
-use Rattle.std.proofs.Common.{◌≡◌, ℕ, zero, suc, ◌+◌, ◌%◌, ◌<◌, ◌≤◌, Bool, true, false, not, ◌&&◌, cond, List, [], ◌∷◌, length, Some, slice_get, slice_set, refl, ap, ◌∙◌, arith, sum_by}
+use Rattle.std.proofs.Common.{◌≡◌, ℕ, zero, suc, ◌+◌, ◌%◌, ◌<◌, ◌≤◌, Bool, true, false, not, ◌&&◌, cond, List, [], ◌∷◌, length, slice_set, refl, ap, ◌∙◌, arith, sum_by}
 use Rattle.std.specs.List.{range_with_len}
 use Rattle.std.proofs.lemmas.Bool.{eqb-true, eqb-false, eq-eqb}
 use Rattle.std.proofs.lemmas.List.Sums.{sum_by-cons, sum_by-append}
@@ -7,24 +7,11 @@ use Rattle.irig_frame.specs.declared.symbol.Symbol.{Symbol}
 use Rattle.irig_frame.specs.declared.symbol.Symbol.TheVariants.{Zero, One}
 use Rattle.irig_frame.specs.FieldTable.{is_marker_place}
 use Rattle.irig_frame.specs.Values.{is_one}
+use Rattle.irig_frame.proofs.WritingLaws.{get-set_same, get-set_other}
 use Rattle.irig_control.specs.declared.parity.Parity.{Parity}
 use Rattle.irig_control.specs.declared.parity.Parity.TheVariants.{Even, Odd}
 use Rattle.irig_control.specs.Control.{flag}
 use Rattle.irig_control.specs.Parity.{is_counted, ones, remainder_of, has_parity, HasParity, data_symbol, with_parity}
-
--- ---- a frame after a write
-
-pub get-set_same : (s : List Symbol) (i : ℕ) (x : Symbol) → i < length s → slice_get (slice_set s i x) i ≡ Some x
-get-set_same [] i x h = absurd (omega arith)
-get-set_same (y ∷ s) zero x h = refl
-get-set_same (y ∷ s) (suc i) x h = get-set_same s i x (omega arith)
-
-pub get-set_other : (s : List Symbol) (i j : ℕ) (x : Symbol) → (i ≡ j → ⊥) → slice_get (slice_set s i x) j ≡ slice_get s j
-get-set_other [] i j x h = refl
-get-set_other (y ∷ s) zero zero x h = absurd (h refl)
-get-set_other (y ∷ s) zero (suc j) x h = refl
-get-set_other (y ∷ s) (suc i) zero x h = refl
-get-set_other (y ∷ s) (suc i) (suc j) x h = get-set_other s i j x (λ e. h (ap suc e))
 
 -- ---- the ones
 

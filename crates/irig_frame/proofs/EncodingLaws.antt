@@ -1,5 +1,5 @@
 -- The frame that is written for some values reads as these values.
-use Rattle.std.proofs.Common.{◌≡◌, ℕ, ◌+◌, ◌-◌, ◌%◌, ◌≤◌, ◌<◌, List, [], ◌∷◌, ◌++◌, length, map, slice_get, refl, sym, ap, zero-add, ◌∙◌, arith, All, Some}
+use Rattle.std.proofs.Common.{◌≡◌, ℕ, ◌+◌, ◌-◌, ◌%◌, ◌≤◌, ◌<◌, List, ◌++◌, length, map, slice_get, refl, sym, ap, zero-add, ◌∙◌, arith, All, Some}
 use Rattle.std.specs.List.{range_with_len}
 use Rattle.std.proofs.lemmas.List.Elements.{All-from_recursion}
 use Rattle.std.proofs.lemmas.List.FromFn.{length-map-range_with_len, get_or-map-range_with_len}
@@ -8,24 +8,15 @@ use Rattle.irig_frame.specs.declared.symbol.Symbol.{Symbol}
 use Rattle.irig_frame.specs.declared.symbol.Symbol.TheVariants.{Zero}
 use Rattle.irig_frame.specs.declared.layout.Field.{Field}
 use Rattle.irig_frame.specs.declared.layout.Field.TheVariants.{Second, Minute, Hour, Day, Year}
-use Rattle.irig_frame.specs.declared.layout.BitPosition.{BitPosition}
 use Rattle.irig_frame.specs.declared.coded.Coded.{Coded}
-use Rattle.irig_frame.specs.FieldTable.{units_of, tens_of, hundreds_of, places_of, control_places, straight_binary_places}
+use Rattle.irig_frame.specs.FieldTable.{units_of, tens_of, hundreds_of, places_of, control_places, straight_binary_places, spare_places}
 use Rattle.irig_frame.specs.Values.{value}
 use Rattle.irig_frame.specs.Decoder.{most, IsRight, HasDigits, Reads, IsCoded}
 use Rattle.irig_frame.specs.Encoder.{with_parts, parts_of, blank_at, IsBlank, blank_frame, frame_of_coded}
-use Rattle.irig_frame.specs.FieldTable.{spare_places}
 use Rattle.irig_frame.proofs.ReadingLaws.{each}
-use Rattle.irig_frame.proofs.WritingLaws.{ones, by_sum, bits, bits_sum, HoldParts, hold_parts, length-with_parts, right_parts, right_blank, spare_zero}
+use Rattle.irig_frame.proofs.WritingLaws.{value-append, bits, bits_sum, HoldParts, hold_parts, length-with_parts, right_parts, right_blank, spare_zero}
 
-ones-append : (a b : List BitPosition) (s : List Symbol) → ones (a ++ b) s ≡ ones a s + ones b s
-ones-append [] b s = sym (zero-add (ones b s))
-ones-append (p ∷ a) b s = rw (ones-append a b s) (omega arith)
-
-value-append : (a b : List BitPosition) (s : List Symbol) → value (a ++ b) s ≡ value a s + value b s
-value-append a b s = omega (arith, by_sum (a ++ b) s, by_sum a s, by_sum b s, ones-append a b s)
-
-value_of_places : (f : Field) (s : List Symbol) → value (places_of f) s ≡ value (units_of f) s + value (tens_of f) s + value (hundreds_of f) s
+pub value_of_places : (f : Field) (s : List Symbol) → value (places_of f) s ≡ value (units_of f) s + value (tens_of f) s + value (hundreds_of f) s
 value_of_places f s = omega (arith, value-append (units_of f ++ tens_of f) (hundreds_of f) s, value-append (units_of f) (tens_of f) s)
 
 units_bits : (f : Field) (n : ℕ) → n < 10 → bits (units_of f) n ≡ n

@@ -1,9 +1,10 @@
 -- Two frames that read alike, with zeros where no field is, are one.
-use Rattle.std.proofs.Common.{◌≡◌, ℕ, zero, suc, ◌+◌, ◌*◌, ◌/◌, ◌<◌, ◌≤◌, ◌⊎◌, Bool, true, false, ◌||◌, cond, eqb, All, get_or, List, [], ◌∷◌, ◌++◌, length, Option, Some, slice_get, refl, sym, ap, subst, ◌∙◌, arith, inl, inr}
+use Rattle.std.proofs.Common.{◌≡◌, ℕ, suc, ◌+◌, ◌*◌, ◌/◌, ◌<◌, ◌≤◌, ◌⊎◌, Bool, true, false, ◌||◌, cond, eqb, All, get_or, List, [], ◌∷◌, ◌++◌, Option, Some, slice_get, refl, sym, ap, subst, ◌∙◌, arith, inl, inr}
 use Rattle.std.specs.List.{list_any}
 use Rattle.std.proofs.lemmas.Bool.{cases_Bool, or_cases, and_parts, eqb-true, both_ways, agree_below_at}
 use Rattle.std.proofs.Math.Nat.{mul-div_cancel_left}
 use Rattle.std.proofs.lemmas.List.{same_lists}
+use Rattle.std.proofs.lemmas.Option.{slice_get-get_or}
 use Rattle.irig_frame.specs.declared.symbol.Symbol.{Symbol}
 use Rattle.irig_frame.specs.declared.symbol.Symbol.TheVariants.{Zero, One, Marker, Bad}
 use Rattle.irig_frame.specs.declared.layout.Field.{Field}
@@ -11,10 +12,9 @@ use Rattle.irig_frame.specs.declared.layout.Field.TheVariants.{Second, Minute, H
 use Rattle.irig_frame.specs.declared.layout.BitPosition.{BitPosition}
 use Rattle.irig_frame.specs.declared.coded.Coded.{Coded}
 use Rattle.irig_frame.specs.Values.{is_one, is_one_at, value}
-use Rattle.irig_frame.specs.FieldTable.{units_of, tens_of, hundreds_of, places_of, control_places, straight_binary_places, is_marker_place}
+use Rattle.irig_frame.specs.FieldTable.{units_of, tens_of, hundreds_of, places_of, control_places, straight_binary_places, is_marker_place, spare_places}
 use Rattle.irig_frame.specs.Decoder.{Reads, IsRight, HasDigits}
-use Rattle.irig_frame.specs.FieldTable.{spare_places}
-use Rattle.irig_frame.proofs.WritingLaws.{ones, by_sum, has, doubles}
+use Rattle.irig_frame.proofs.WritingLaws.{ones, by_sum, ones-append, has, doubles}
 use Rattle.irig_frame.proofs.ReadingLaws.{each}
 
 -- the ones of a table whose weights double are a multiple of the first weight
@@ -58,10 +58,6 @@ same_at w (p ∷ ps) s t i pos h e there =
       | inr later ↦ same_at (w * 2) ps s t i (omega arith) parts.1 rest later
     ]
 
-ones_append : (ps qs : List BitPosition) (s : List Symbol) → ones (ps ++ qs) s ≡ ones ps s + ones qs s
-ones_append [] qs s = omega arith
-ones_append (p ∷ ps) qs s = omega (arith, ones_append ps qs s)
-
 tens_double : (f : Field) → doubles 10 (tens_of f) ≡ true
 tens_double = each (λ f. doubles 10 (tens_of f) ≡ true) refl refl refl refl refl
 
@@ -75,7 +71,7 @@ abbrev in_field : ℕ → Field → Bool
 in_field i f = has i (units_of f) || (has i (tens_of f) || has i (hundreds_of f))
 
 whole : (f : Field) (s : List Symbol) → value (places_of f) s ≡ ones (units_of f) s + ones (tens_of f) s + ones (hundreds_of f) s
-whole f s = by_sum (places_of f) s ∙ ones_append (units_of f ++ tens_of f) (hundreds_of f) s ∙ ap (λ (n : ℕ). n + ones (hundreds_of f) s) (ones_append (units_of f) (tens_of f) s)
+whole f s = by_sum (places_of f) s ∙ ones-append (units_of f ++ tens_of f) (hundreds_of f) s ∙ ap (λ (n : ℕ). n + ones (hundreds_of f) s) (ones-append (units_of f) (tens_of f) s)
 
 same_field : (f : Field) (s t : List Symbol) (i : ℕ) → HasDigits s f → HasDigits t f → value (places_of f) s ≡ value (places_of f) t → in_field i f ≡ true → is_one (slice_get s i) ≡ is_one (slice_get t i)
 same_field f s t i ds dt e there =
@@ -167,18 +163,13 @@ same_symbol i Marker One a b h = absurd (both_ways _ b a)
 same_symbol i Zero One a b h = elim h [ inl m ↦ absurd (both_ways _ a m) | inr e ↦ absurd cc ]
 same_symbol i One Zero a b h = elim h [ inl m ↦ absurd (both_ways _ a m) | inr e ↦ absurd cc ]
 
-pub there_is : (s : List Symbol) (i : ℕ) (d : Symbol) → i < length s → slice_get s i ≡ Some (get_or s i d)
-there_is [] i d h = absurd (omega arith)
-there_is (x ∷ xs) zero d h = refl
-there_is (x ∷ xs) (suc i) d h = there_is xs i d (omega arith)
-
 -- a frame is what it reads as, with zeros where no field is
 pub one_frame : (s t : List Symbol) (c : Coded) → Reads s c → Reads t c → All (λ i. slice_get s i ≡ Some Zero) spare_places → All (λ i. slice_get t i ≡ Some Zero) spare_places → s ≡ t
 one_frame s t c a b u v =
     same_lists s t (a.len ∙ sym b.len) (λ k d lt.
     let low : k < 100 = omega (arith, a.len) in
-    let es = there_is s k d lt in
-    let et = there_is t k d (omega (arith, b.len)) in
+    let es = slice_get-get_or s k d lt in
+    let et = slice_get-get_or t k d (omega (arith, b.len)) in
     let right_s = subst (λ (o : Option Symbol). IsRight k o) es (a.elements k low) in
     let right_t = subst (λ (o : Option Symbol). IsRight k o) et (b.elements k low) in
     let same : (is_marker_place k ≡ true) ⊎ (is_one (Some (get_or s k d)) ≡ is_one (Some (get_or t k d))) =

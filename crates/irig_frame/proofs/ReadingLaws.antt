@@ -48,17 +48,17 @@ right_of i Marker e = by_test (is_marker_place i) e
 right_of i Zero e = plain (is_marker_place i) i e
 right_of i One e = plain (is_marker_place i) i e
 
-no_fault : (i : ℕ) (x : Symbol) → IsRight i (Some x) → element_fault i x ≡ None
+pub no_fault : (i : ℕ) (x : Symbol) → IsRight i (Some x) → element_fault i x ≡ None
 no_fault i Bad h = absurd h
 no_fault i Marker h = rw h refl
 no_fault i Zero h = rw h refl
 no_fault i One h = rw h refl
 
-first_of : (a b : Option FrameFault) → option_or a b ≡ None → (a ≡ None) × (b ≡ None)
+pub first_of : (a b : Option FrameFault) → option_or a b ≡ None → (a ≡ None) × (b ≡ None)
 first_of None b e = (refl, e)
 first_of (Some f) b e = absurd cc
 
-all_right : (i : ℕ) (s : List Symbol) → first_wrong i s ≡ None → (k : ℕ) → k < length s → IsRight (i + k) (slice_get s k)
+pub all_right : (i : ℕ) (s : List Symbol) → first_wrong i s ≡ None → (k : ℕ) → k < length s → IsRight (i + k) (slice_get s k)
 all_right i [] e k h = absurd (omega arith)
 all_right i (x ∷ xs) e zero h = let here : i + 0 ≡ i = omega arith in subst (λ (j : ℕ). IsRight j (Some x)) (sym here) (right_of i x (first_of (element_fault i x) (first_wrong (i + 1) xs) e).0)
 all_right i (x ∷ xs) e (suc k) h =
@@ -161,7 +161,7 @@ pub decoded-reads : (s : List Symbol) (c : Coded) → (decode_result s ≡ Ok c)
 decoded-reads s c = (reads_from s c, decoded_from s c)
 
 -- a field holds no more than its weights
-value_le : (ps : List BitPosition) (s : List Symbol) → value ps s ≤ weights ps
+pub value_le : (ps : List BitPosition) (s : List Symbol) → value ps s ≤ weights ps
 value_le ps s =
     let w : BitPosition → ℕ = λ p. p.weight in
     let part = sum_by-filter_both (is_one_at s) (λ p. not (is_one_at s p)) (λ _. refl) w ps in

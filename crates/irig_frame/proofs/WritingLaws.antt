@@ -1,5 +1,5 @@
 -- What is written into a frame reads back.
-use Rattle.std.proofs.Common.{◌≡◌, ℕ, zero, suc, ◌+◌, ◌*◌, ◌/◌, ◌%◌, ◌<◌, ◌≤◌, Bool, true, false, not, ◌&&◌, ◌||◌, cond, eqb, nat_lt, List, [], ◌∷◌, length, Option, Some, slice_get, slice_set, refl, sym, zero-add, sum, map, filter, ap, subst, ◌∙◌, arith, inl, inr}
+use Rattle.std.proofs.Common.{◌≡◌, ℕ, zero, suc, ◌+◌, ◌*◌, ◌/◌, ◌%◌, ◌<◌, ◌≤◌, Bool, true, false, not, ◌&&◌, ◌||◌, cond, eqb, nat_lt, List, [], ◌∷◌, ◌++◌, length, Option, Some, slice_get, slice_set, refl, sym, zero-add, sum, map, filter, ap, subst, ◌∙◌, arith, inl, inr}
 use Rattle.std.proofs.lemmas.Bool.{eqb-true, eqb-false, ltb-true, and_parts, or_parts, cases_eq, cases_Bool, not-true}
 use Rattle.std.proofs.lemmas.List.{length-set}
 use Rattle.std.proofs.lemmas.List.Sums.{sum_by-cons}
@@ -13,12 +13,12 @@ use Rattle.irig_frame.specs.FieldTable.{is_marker_place}
 use Rattle.irig_frame.specs.Decoder.{IsRight}
 use Rattle.irig_frame.specs.Encoder.{bit_symbol, with_bits, Part, with_parts, blank_at, IsBlank}
 
-pub get-set_same : (s : List Symbol) (i : ℕ) (x : Symbol) → i < length s → slice_get (slice_set s i x) i ≡ Some x
+pub get-set_same : {A : Type 0} (s : List A) (i : ℕ) (x : A) → i < length s → slice_get (slice_set s i x) i ≡ Some x
 get-set_same [] i x h = absurd (omega arith)
 get-set_same (y ∷ s) zero x h = refl
 get-set_same (y ∷ s) (suc i) x h = get-set_same s i x (omega arith)
 
-pub get-set_other : (s : List Symbol) (i j : ℕ) (x : Symbol) → (i ≡ j → ⊥) → slice_get (slice_set s i x) j ≡ slice_get s j
+pub get-set_other : {A : Type 0} (s : List A) (i j : ℕ) (x : A) → (i ≡ j → ⊥) → slice_get (slice_set s i x) j ≡ slice_get s j
 get-set_other [] i j x h = refl
 get-set_other (y ∷ s) zero zero x h = absurd (h refl)
 get-set_other (y ∷ s) zero (suc j) x h = refl
@@ -67,6 +67,13 @@ by_sum (p ∷ ps) s =
       | inl on ↦ rw on (sum-cons p.weight (map (λ q. q.weight) (filter (is_one_at s) ps)) ∙ ap (λ n. p.weight + n) (by_sum ps s))
       | inr off ↦ rw off (by_sum ps s ∙ sym (zero-add (ones ps s)))
     ]
+
+pub ones-append : (a b : List BitPosition) (s : List Symbol) → ones (a ++ b) s ≡ ones a s + ones b s
+ones-append [] b s = sym (zero-add (ones b s))
+ones-append (p ∷ a) b s = rw (ones-append a b s) (omega arith)
+
+pub value-append : (a b : List BitPosition) (s : List Symbol) → value (a ++ b) s ≡ value a s + value b s
+value-append a b s = omega (arith, by_sum (a ++ b) s, by_sum a s, by_sum b s, ones-append a b s)
 
 abbrev pub bits : List BitPosition → ℕ → ℕ
 bits [] n = 0

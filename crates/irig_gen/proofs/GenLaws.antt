@@ -20,19 +20,17 @@ use Rattle.irig_time.specs.declared.rules.SbsUse.TheVariants.{Check, Ignore}
 use Rattle.irig_time.specs.declared.leap.Leap.{Leap}
 use Rattle.irig_time.specs.declared.leap.Leap.TheVariants as leap
 use Rattle.irig_time.specs.Days.{is_month_end}
-use Rattle.irig_time.specs.Seconds.{IsValid, minute_of, second_of}
+use Rattle.irig_time.specs.Seconds.{IsValid, has_come, minute_of, second_of}
 use Rattle.irig_time.specs.CodedTime.{IsCodedOf}
 use Rattle.irig_time.specs.Claims.{utc_minute, is_last_minute, claim_by, claim_of_second}
-use Rattle.irig_time.specs.Timelines.{TimelineValue, IsSecond, IsTrueClaim, leap_of, length_by, mark_by, true_mark}
+use Rattle.irig_time.specs.Timelines.{TimelineValue, IsSecond, IsTrueClaim, is_deletion, leap_of, length_by, mark_by, true_mark}
 use Rattle.irig_time.specs.TimelineFaults.{IsTimeline}
 use Rattle.irig_time.proofs.ClaimLaws.{added, subtracted}
 use Rattle.irig_time.proofs.NextLaws.{valid_second}
 use Rattle.irig_time.proofs.TimeLaws.{few, one_second}
 use Rattle.irig_gen.specs.declared.zone.Zone.{Zone}
 use Rattle.irig_gen.specs.declared.zone.Change.{Change}
-use Rattle.irig_time.specs.Seconds.{has_come}
 use Rattle.irig_gen.specs.Zones.{in_order, fits, all_fit, zone_at}
-use Rattle.irig_time.specs.Timelines.{is_deletion}
 use Rattle.irig_gen.specs.ControlBits.{offset_sent, control_in}
 use Rattle.irig_gen.specs.Faults.{limited_offset, control_with_fault}
 use Rattle.irig_gen.specs.Frames.{GeneratorValue, control_at, IsTrueFrame, IsFrameWithFault, IsFrameOrNone, IsSentFrom}
@@ -160,11 +158,11 @@ true_second_claims u leap k short p d =
 
 -- ---- what a true frame carries
 
-by_sense : (sense : Sense) (u : UtcSecond) (h : ℤ) (c : Coded) (k : Control) → IsValid u → unsigned_abs h ≤ 31 → IsCodedOf u h c → k.offset_half_hours ≡ offset_sent sense h → claim_by sense c k ≡ claim_of_second u k
+pub by_sense : (sense : Sense) (u : UtcSecond) (h : ℤ) (c : Coded) (k : Control) → IsValid u → unsigned_abs h ≤ 31 → IsCodedOf u h c → k.offset_half_hours ≡ offset_sent sense h → claim_by sense c k ≡ claim_of_second u k
 by_sense Add u h c k valid small r e = added u h c k valid small r e
 by_sense Subtract u h c k valid small r e = subtracted u h c k valid small r e
 
-without_control : (sense : Sense) (c : Coded) (k : Control) → claim_by sense c k ≡ claim_by sense (record c { control = 0 }) k
+pub without_control : (sense : Sense) (c : Coded) (k : Control) → claim_by sense c k ≡ claim_by sense (record c { control = 0 }) k
 unfolding utc_minute
 without_control Add c k = refl
 without_control Subtract c k = refl
@@ -173,7 +171,8 @@ sbs_agrees : (sbs : SbsUse) (u : UtcSecond) (h : ℤ) (c : Coded) → IsCodedOf 
 sbs_agrees Check u h c r = λ _. r.sbs
 sbs_agrees Ignore u h c r = tt
 
-control_back : (w : ℕ) (k : Control) → IsControl k → w < 2 ^ 15 → w % 2 ^ 14 ≡ word_of k → control_of w ≡ k
+-- the control bits of a frame are its word, whatever the parity is
+pub control_back : (w : ℕ) (k : Control) → IsControl k → w < 2 ^ 15 → w % 2 ^ 14 ≡ word_of k → control_of w ≡ k
 control_back w k fits low e =
     elim (cases_lt w (2 ^ 14)) [
       | inl lt ↦ let same : w ≡ word_of k = omega (arith, e) in ap control_of same ∙ unpacked k fits

@@ -31,12 +31,12 @@ some u = Some u
 
 -- ---- marks
 
-truth_speaks : (l : Option Leap) → mark_by l ≡ Unspoken → ⊥
+pub truth_speaks : (l : Option Leap) → mark_by l ≡ Unspoken → ⊥
 truth_speaks None e = cc
 truth_speaks (Some leap.Insert) e = cc
 truth_speaks (Some leap.Delete) e = cc
 
-mark_or-truth : (l : Option Leap) (mark : Mark) → mark_or (mark_by l) mark ≡ mark_by l
+pub mark_or-truth : (l : Option Leap) (mark : Mark) → mark_or (mark_by l) mark ≡ mark_by l
 mark_or-truth None mark = refl
 mark_or-truth (Some leap.Insert) mark = refl
 mark_or-truth (Some leap.Delete) mark = refl

@@ -1,6 +1,6 @@
 -- What stands in a log whose premises first break at some tick: what comes before it is kept, and
 -- comes first in the log.
-use Rattle.std.proofs.Common.{◌≡◌, ℕ, ◌+◌, ◌<◌, ◌≤◌, ◌==◌, Bool, true, false, cond, List, [], ◌∷◌, ◌++◌, length, Option, Some, None, refl, ap, sym, subst, ◌∙◌, append_assoc, append-nil, arith, inl, inr}
+use Rattle.std.proofs.Common.{◌≡◌, ℕ, ◌+◌, ◌<◌, ◌≤◌, ◌==◌, Bool, true, false, cond, List, [], ◌∷◌, ◌++◌, Option, Some, None, refl, ap, sym, subst, ◌∙◌, append_assoc, append-nil, arith, inl, inr}
 use Rattle.std.specs.List.{AllByRecursion}
 use Rattle.std.specs.Option.{option_or}
 use Rattle.std.proofs.lemmas.Bool.{cases_Bool}
@@ -177,7 +177,7 @@ pub record SplitsLog (s : Setup) (ev : List Event) (r n : ℕ) : Type 0 where
   pub early : AllByRecursion (λ (e : Entry). e.reader ≡ r → e.edge < n) first
   pub late : AllByRecursion (λ (e : Entry). e.reader ≡ r → n < e.edge) rest
 
-each_by : {X : Type 0} (P Q : X → Type 0) → ((x : X) → P x → Q x) → (xs : List X) → AllByRecursion P xs → AllByRecursion Q xs
+pub each_by : {X : Type 0} (P Q : X → Type 0) → ((x : X) → P x → Q x) → (xs : List X) → AllByRecursion P xs → AllByRecursion Q xs
 each_by P Q f [] h = tt
 each_by P Q f (x ∷ xs) h = (f x h.0, each_by P Q f xs h.1)
 

@@ -102,14 +102,14 @@ log_has s R keeps new (Tick r ∷ ev) =
     All-push (R (Tick r ∷ ev)) (log_of s ev) (entry_of s r ev) (λ i d low. keeps (Tick r) ev (get_or (log_of s ev) i d) (log_has s R keeps new ev i d low)) (new r ev)
 log_has s R keeps new (e ∷ ev) = λ i d low. keeps e ev (get_or (log_of s ev) i d) (log_has s R keeps new ev i d low)
 
+before : (s : Setup) (x : Event) (ev : List Event) (e : Entry) → HasPremises s (x ∷ ev) e → HasPremises s ev e
+before s x ev e p = record { true_table = p.true_table; kept = kept_before s e.reader e.edge x ev p.kept }
+
 pub log_is_true : (s : Setup) (ev : List Event) → IsTimeline s.times → All (AnnouncesTruth s ev) (log_of s ev)
 log_is_true s ev sound = log_has s (AnnouncesTruth s) keeps new ev
   where
-    before : (x : Event) (ev : List Event) (e : Entry) → HasPremises s (x ∷ ev) e → HasPremises s ev e
-    before x ev e p = record { true_table = p.true_table; kept = kept_before s e.reader e.edge x ev p.kept }
-
     keeps : (x : Event) (ev : List Event) (e : Entry) → AnnouncesTruth s ev e → AnnouncesTruth s (x ∷ ev) e
-    keeps x ev e h = record { second = λ p u is. h.second (before x ev e p) u is }
+    keeps x ev e h = record { second = λ p u is. h.second (before s x ev e p) u is }
 
     new : (r : ℕ) (ev : List Event) → AnnouncesTruth s (Tick r ∷ ev) (entry_of s r ev)
     new r ev = record {
@@ -129,13 +129,10 @@ pub record IsCalm (s : Setup) (ev : List Event) (e : Entry) : Type 0 where
 pub log_keeps_calm : (s : Setup) (ev : List Event) → IsTimeline s.times → All (IsCalm s ev) (log_of s ev)
 log_keeps_calm s ev sound = log_has s (IsCalm s) keeps new ev
   where
-    before : (x : Event) (ev : List Event) (e : Entry) → HasPremises s (x ∷ ev) e → HasPremises s ev e
-    before x ev e p = record { true_table = p.true_table; kept = kept_before s e.reader e.edge x ev p.kept }
-
     keeps : (x : Event) (ev : List Event) (e : Entry) → IsCalm s ev e → IsCalm s (x ∷ ev) e
     keeps x ev e h = record {
-      jump = λ p. h.jump (before x ev e p);
-      range_end = λ p is. h.range_end (before x ev e p) is;
+      jump = λ p. h.jump (before s x ev e p);
+      range_end = λ p is. h.range_end (before s x ev e p) is;
     }
 
     new : (r : ℕ) (ev : List Event) → IsCalm s (Tick r ∷ ev) (entry_of s r ev)

@@ -23,7 +23,7 @@ use Rattle.irig_reader.specs.declared.rule.State.{State}
 use Rattle.irig_reader.specs.Rule.{step_of, state_of}
 use Rattle.irig_reader.specs.Held.{then_none, AreMarkedLate, IsSince}
 use Rattle.irig_reader.specs.History.{told_at_tick, vote_at_tick}
-use Rattle.irig_reader.proofs.OneEdge.{IsVotedBy, voted_by_ports, holdover_within}
+use Rattle.irig_reader.proofs.OneEdge.{IsVotedBy, voted_by_ports, holdover_within, unvoted}
 use Rattle.irig_reader.proofs.HeldEdges.{held_since, held_is_true}
 use Rattle.irig_plant.specs.declared.event.Event.{Event}
 use Rattle.irig_plant.specs.declared.event.Event.TheVariants.{Tick, Restart}
@@ -35,7 +35,7 @@ use Rattle.irig_plant.specs.Truth.{IsTruthful}
 use Rattle.irig_plant.specs.OwnEdge.{IsCleanNow, HasFalseMajority}
 use Rattle.irig_plant.specs.Healing.{HasVoteAt, RestsOn, RestsOnAVote, RestsOnItsMajority, IsCleanBetween, IsCleanSince, IsTrueIfClean}
 use Rattle.irig_plant.proofs.CourseLaws.{ticks_grow, ticks_now, restarted_by_test}
-use Rattle.irig_plant.proofs.LastVotes.{IsVoteBack, vote_back, none_since, unbroken_since, marked_late, IsVotedNow, IsHeldNow, vote_says, none_says, none_not_voted}
+use Rattle.irig_plant.proofs.LastVotes.{IsVoteBack, vote_back, none_since, unbroken_since, marked_late, IsVotedNow, IsHeldNow, vote_says, none_says}
 use Rattle.irig_plant.proofs.OwnEdge.{claim_heard, kept_is_clean, false_second}
 use Rattle.irig_plant.proofs.ExactLaws.{log_at}
 
@@ -291,5 +291,5 @@ log_has_votes s ev = log_at s ev (HasItsVote s ev) each [] ev refl
     each r later earlier is = record { vote = of (vote_at_tick (history_of s r earlier)) refl }
       where
         of : (vote : Option Claim) → vote_at_tick (history_of s r earlier) ≡ vote → (entry_of s r earlier).report.cause ≡ cause.Voted → HasVoteAt s r (ticks_of r earlier + 1) ev
-        of None none voted = absurd (none_not_voted (rules s r earlier) (table s r earlier) (state s r earlier) (subst (λ (v : Option Claim). (said s r earlier v).cause ≡ cause.Voted) none voted))
+        of None none voted = absurd (unvoted (rules s r earlier) (table s r earlier) (state s r earlier) (subst (λ (v : Option Claim). (said s r earlier v).cause ≡ cause.Voted) none voted))
         of (Some c) vote voted = record { later = later; earlier = earlier; tick = is; edge = refl; claim = c; vote = vote }

@@ -1,10 +1,9 @@
 -- A hold at the truth: its mark is what its last vote told, as long as the day lasts.
 use Rattle.std.specs.Prelude.{◌==◌, nat_le, ◌&&◌, if◌then◌else◌}
-use Rattle.std.proofs.Common.{◌≡◌, ℕ, ◌+◌, ◌-◌, ◌<◌, ◌≤◌, Bool, true, false, cond, Option, Some, None, ◌⊎◌, inl, inr, refl, sym, ◌∙◌, ap, subst, arith}
+use Rattle.std.proofs.Common.{◌≡◌, ℕ, ◌+◌, ◌-◌, ◌<◌, ◌≤◌, Bool, true, false, cond, Option, ◌⊎◌, inl, inr, refl, sym, ◌∙◌, ap, subst, arith}
 use Rattle.std.proofs.lemmas.Bool.{false≢true, cases_Bool, leb-true, leb-false, eq-eqb, ne_eqb, le-leb, lt-leb, lt-ltb, le-ltb, cases_lt, cases_order}
 use Rattle.irig_time.specs.declared.second.UtcSecond.{UtcSecond}
 use Rattle.irig_time.specs.declared.leap.Leap.{Leap}
-use Rattle.irig_time.specs.declared.leap.Leap.TheVariants as leap
 use Rattle.irig_time.specs.declared.mark.Mark.{Mark}
 use Rattle.irig_time.specs.declared.mark.Mark.TheVariants.{Unspoken}
 use Rattle.irig_time.specs.Days.{is_month_end}
@@ -13,6 +12,7 @@ use Rattle.irig_time.specs.Tables.{TableValue}
 use Rattle.irig_time.proofs.TimeLaws.{length_bounds, seconds_before_later, in_order, same_second, one_second, new_day}
 use Rattle.irig_hold.specs.Steps.{HoldValue, mark_or, mark_kept, hold_after}
 use Rattle.irig_hold.specs.Truth.{IsOnTime, IsGuarded}
+use Rattle.irig_hold.proofs.HoldLaws.{truth_speaks, mark_or-truth}
 
 -- what a hold has heard whose last vote told the second that lies so many seconds before u: the
 -- mark of that vote, on the same day
@@ -110,16 +110,6 @@ moved_true t table n u v since m a b heard free =
 
 -- ---- marks of true claims
 
-pub mark_speaks : (l : Option Leap) → ¬ (mark_by l ≡ Unspoken)
-mark_speaks None e = cc e
-mark_speaks (Some leap.Insert) e = cc e
-mark_speaks (Some leap.Delete) e = cc e
-
-mark_or_it : (l : Option Leap) (m : Mark) → mark_or (mark_by l) m ≡ mark_by l
-mark_or_it None m = refl
-mark_or_it (Some leap.Insert) m = refl
-mark_or_it (Some leap.Delete) m = refl
-
 pub true_mark_low : (t : TimelineValue) (u : UtcSecond) → u.sod ≤ 86399 → true_mark t.leaps u ≡ heard_at t u 0
 true_mark_low t u low =
     elim (cases_Bool (is_month_end u.day)) [
@@ -134,7 +124,7 @@ true_mark_low t u low =
 -- both are there
 heard_by : (l : Option Leap) (a b c : Bool) → (c ≡ true → b ≡ true) → mark_or (cond (a && b) (mark_by l) Unspoken) (cond (a && c) (mark_by l) Unspoken) ≡ cond (a && b) (mark_by l) Unspoken
 heard_by l false b c f = refl
-heard_by l true true c f = mark_or_it l (cond c (mark_by l) Unspoken)
+heard_by l true true c f = mark_or-truth l (cond c (mark_by l) Unspoken)
 heard_by l true false true f = absurd (false≢true (f refl))
 heard_by l true false false f = refl
 
@@ -148,13 +138,13 @@ pub vote_opens : (t : TimelineValue) (table : TableValue) (u : UtcSecond) (m : M
 vote_opens t table u m heard at end none above =
     let late : nat_le (86341 + 0) u.sod ≡ true = le-leb (86341 + 0) u.sod (omega (arith, at)) in
     let spoken : heard_at t u 0 ≡ mark_by (leap_of t.leaps u.day) = rw (end, late) refl in
-    mark_speaks (leap_of t.leaps u.day) (sym spoken ∙ sym (heard (omega (arith, at))) ∙ none)
+    truth_speaks (leap_of t.leaps u.day) (sym spoken ∙ sym (heard (omega (arith, at))) ∙ none)
 
 -- the guard stops a hold after 57 seconds of the last minute without a vote, and not before
 pub unheard_since : (t : TimelineValue) (u : UtcSecond) (since : ℕ) → is_month_end u.day ≡ true → heard_at t u since ≡ Unspoken → u.sod < 86341 + since
 unheard_since t u since end none =
     elim (cases_Bool (nat_le (86341 + since) u.sod)) [
-      | inl far ↦ let spoken : heard_at t u since ≡ mark_by (leap_of t.leaps u.day) = rw (end, far) refl in absurd (mark_speaks (leap_of t.leaps u.day) (sym spoken ∙ none))
+      | inl far ↦ let spoken : heard_at t u since ≡ mark_by (leap_of t.leaps u.day) = rw (end, far) refl in absurd (truth_speaks (leap_of t.leaps u.day) (sym spoken ∙ none))
       | inr near ↦ leb-false (86341 + since) u.sod near
     ]
 

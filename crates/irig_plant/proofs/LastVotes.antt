@@ -1,24 +1,20 @@
 -- Where the last vote of a reader lies among its events, and what is announced by it.
-use Rattle.std.proofs.Common.{length, ◌<◌, ◌≡◌, ◌==◌, ℕ, zero, suc, ◌+◌, ◌≤◌, Bool, true, false, cond, List, [], ◌∷◌, ◌++◌, Option, Some, None, Result, Ok, Err, refl, sym, ap, ◌∙◌, arith, inl, inr, eqb-true}
+use Rattle.std.proofs.Common.{length, ◌<◌, ◌≡◌, ◌==◌, ℕ, zero, suc, ◌+◌, ◌≤◌, List, [], ◌∷◌, ◌++◌, Option, Some, None, refl, sym, ap, ◌∙◌, arith, inl, inr, eqb-true}
 use Rattle.std.proofs.lemmas.Bool.{cases_Bool, eq-eqb}
 use Rattle.irig_time.specs.declared.second.UtcSecond.{UtcSecond}
 use Rattle.irig_time.specs.declared.claim.Claim.{Claim}
 use Rattle.irig_time.specs.Tables.{TableValue}
-use Rattle.irig_hold.specs.declared.hold.Turn.{Turn}
-use Rattle.irig_hold.specs.declared.hold.Turn.TheVariants as turn
-use Rattle.irig_hold.specs.Steps.{HoldValue, hold_start, voted_by, alone_by}
+use Rattle.irig_hold.specs.Steps.{HoldValue, voted_by, alone_by}
 use Rattle.irig_reader.specs.declared.rules.ReaderRules.{ReaderRules}
-use Rattle.irig_reader.specs.declared.report.Lock.{Lock}
 use Rattle.irig_reader.specs.declared.report.Lock.TheVariants as lock
-use Rattle.irig_reader.specs.declared.report.Cause.{Cause}
 use Rattle.irig_reader.specs.declared.report.Cause.TheVariants as cause
 use Rattle.irig_reader.specs.declared.report.Report.{Report}
 use Rattle.irig_reader.specs.declared.rule.State.{State}
-use Rattle.irig_reader.specs.declared.rule.State.TheVariants.{Idle, Acquiring, Locked}
 use Rattle.irig_reader.specs.declared.rule.Step.{Step}
-use Rattle.irig_reader.specs.Rule.{announce_step, count_step, first_vote_step, later_vote_step_by, locked_step, step_of}
+use Rattle.irig_reader.specs.Rule.{count_step, step_of}
 use Rattle.irig_reader.specs.Held.{then_none, AreMarkedLate}
 use Rattle.irig_reader.specs.History.{vote_at_tick}
+use Rattle.irig_reader.proofs.StepCases.{count_cases, vote_cases, none_cases}
 use Rattle.irig_reader.proofs.MarkedVotes.{votes_marked, none_marked}
 use Rattle.irig_plant.specs.declared.event.Event.{Event}
 use Rattle.irig_plant.specs.declared.event.Event.TheVariants.{Tick, Restart}
@@ -161,55 +157,12 @@ abbrev IfSays : (Report → Type 0) → Step → Type 0
 IfSays P step = (u : UtcSecond) → step.report.announce ≡ Some u → P step.report
 
 count_says : (rules : ReaderRules) (h : HoldValue) (count : ℕ) → IfSays IsVotedNow (count_step rules h count)
-count_says rules h count =
-    either (count == rules.lock_after) (announce_step h h.last lock.Locked cause.Voted) (record { state = Acquiring h count; report = record { announce = None; lock = lock.Acquiring count; cause = cause.Acquiring } })
-    (λ u e. record { lock = refl; cause = refl }) (λ u e. absurd cc)
-  where
-    either : (b : Bool) (x y : Step) → IfSays IsVotedNow x → IfSays IsVotedNow y → IfSays IsVotedNow (cond b x y)
-    either true x y p q = p
-    either false x y p q = q
-
-first_says : (rules : ReaderRules) (first : Result HoldValue Turn) → IfSays IsVotedNow (first_vote_step rules first)
-first_says rules (Ok h) = count_says rules h 1
-first_says rules (Err stop) = λ u e. absurd cc
-
-later_says : (rules : ReaderRules) (count : ℕ) (anew : Step) (answer : Turn) (h : HoldValue) → IfSays IsVotedNow anew → IfSays IsVotedNow (later_vote_step_by rules count anew answer h)
-later_says rules count anew (turn.Now u) h first = count_says rules h (count + 1)
-later_says rules count anew turn.Jump h first = first
-later_says rules count anew turn.LeapGuard h first = λ u e. absurd cc
-later_says rules count anew turn.Expired h first = λ u e. absurd cc
-later_says rules count anew turn.RangeEnd h first = λ u e. absurd cc
-
-locked_says : (P : Report → Type 0) (l : Lock) (c : Cause) (answer : Turn) (h : HoldValue) → ((u : UtcSecond) → P (record { announce = Some u; lock = l; cause = c })) → IfSays P (locked_step l c answer h)
-locked_says P l c (turn.Now v) h p = λ u e. p v
-locked_says P l c turn.Jump h p = λ u e. absurd cc
-locked_says P l c turn.LeapGuard h p = λ u e. absurd cc
-locked_says P l c turn.Expired h p = λ u e. absurd cc
-locked_says P l c turn.RangeEnd h p = λ u e. absurd cc
+count_says rules h count = count_cases (IfSays IsVotedNow) rules h count (λ enough u e. record { lock = refl; cause = refl }) (λ more u e. absurd cc)
 
 pub vote_says : (rules : ReaderRules) (table : TableValue) (state : State) (c : Claim) → IfSays IsVotedNow (step_of rules table state (Some c))
-unfolding step_of
-vote_says rules table Idle c = first_says rules (hold_start table c)
-vote_says rules table (Acquiring h count) c = later_says rules count _ (voted_by table h c).answer (voted_by table h c).new (first_says rules (hold_start table c))
-vote_says rules table (Locked h) c = locked_says IsVotedNow lock.Locked cause.Voted (voted_by table h c).answer (voted_by table h c).new (λ u. record { lock = refl; cause = refl })
+vote_says rules table state c =
+    vote_cases (IfSays IsVotedNow) rules table state c (λ h e. count_says rules h 1) (λ stop u e. absurd cc) (λ h count u is e. count_says rules (voted_by table h c).new (count + 1)) (λ h u is now v e. record { lock = refl; cause = refl })
 
 pub none_says : (rules : ReaderRules) (table : TableValue) (state : State) → IfSays IsHeldNow (step_of rules table state None)
-unfolding step_of
-none_says rules table Idle = λ u e. absurd cc
-none_says rules table (Acquiring h count) = λ u e. absurd cc
-none_says rules table (Locked h) =
-    locked_says IsHeldNow _ cause.Held (alone_by table h rules.holdover).answer (alone_by table h rules.holdover).new (λ u. record { age = (alone_by table h rules.holdover).new.age; lock = refl; cause = refl })
-
--- and without a vote nothing is announced by one
-held_cause : (l : Lock) (answer : Turn) (h : HoldValue) → (locked_step l cause.Held answer h).report.cause ≡ cause.Voted → ⊥
-held_cause l (turn.Now u) h e = cc
-held_cause l turn.Jump h e = cc
-held_cause l turn.LeapGuard h e = cc
-held_cause l turn.Expired h e = cc
-held_cause l turn.RangeEnd h e = cc
-
-pub none_not_voted : (rules : ReaderRules) (table : TableValue) (state : State) → (step_of rules table state None).report.cause ≡ cause.Voted → ⊥
-unfolding step_of
-none_not_voted rules table Idle e = cc
-none_not_voted rules table (Acquiring h count) e = cc
-none_not_voted rules table (Locked h) e = held_cause _ (alone_by table h rules.holdover).answer (alone_by table h rules.holdover).new e
+none_says rules table state =
+    none_cases (IfSays IsHeldNow) rules table state (λ c u e. absurd cc) (λ h u is now v e. record { age = (alone_by table h rules.holdover).new.age; lock = refl; cause = refl })

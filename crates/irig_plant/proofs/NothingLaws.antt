@@ -1,6 +1,6 @@
 -- A carry of a generator that sends nothing leaves each reader as it was.
-use Rattle.std.proofs.Common.{◌≡◌, ◌∙◌, ℕ, arith, Bool, true, false, List, [], ◌∷◌, ◌++◌, cond, eqb, length, Some, refl, ap, sym}
-use Rattle.std.specs.Prelude.{◌==◌, ◌&&◌}
+use Rattle.std.proofs.Common.{◌≡◌, ◌<◌, ◌∙◌, ℕ, arith, Bool, true, false, List, [], ◌∷◌, ◌++◌, cond, eqb, length, Some, refl, ap, sym}
+use Rattle.std.specs.Prelude.{◌==◌, ◌&&◌, slice_index_or}
 use Rattle.std.proofs.lemmas.List.{append-nil}
 use Rattle.std.proofs.lemmas.Bool.{ne_eqb}
 use Rattle.irig_reader.proofs.FedLaws.{none_heard}
@@ -12,7 +12,7 @@ use Rattle.irig_plant.specs.declared.plant.Plant.{Plant}
 use Rattle.irig_plant.specs.declared.plant.TickedReader.{TickedReader}
 use Rattle.irig_plant.specs.Schedule.{Setup, delivery, delivery_of, pulses_sent, heard_at, history_of}
 use Rattle.irig_plant.specs.History.{PlantHistory, HasPlantHistory, with_event, IsTickedReaderAt}
-use Rattle.irig_plant.proofs.StepLaws.{delivers, heard_is, cached_port_after}
+use Rattle.irig_plant.proofs.StepLaws.{delivers, heard_is}
 
 -- pulses of which nothing is heard are none
 pub none_sent : (ws : List ℕ) → (length (symbols_heard ws) == 0) ≡ true → ws ≡ []
@@ -44,16 +44,5 @@ module _ {P : Type 0} {g : Ghosts P} where
       let s = h.setup in
       let ev = h.events in
       let given : delivery_of s (Carry k i) ev ≡ Some (delivery k i []) = ap (λ ws. Some (delivery k i ws)) none in
-      record {
-        timeline = x.timeline;
-        rules = x.rules;
-        redundancy = x.redundancy;
-        generator_count = x.generator_count;
-        generators = x.generators;
-        cached_ports = λ j d lt. cached_port_after g s ev (Carry k i ∷ ev) j _ refl (x.cached_ports j d lt);
-        reader_count = x.reader_count;
-        readers = λ r d lt. reader_stays s ev k i r _ given (x.readers r d lt);
-        log = x.log;
-        few = x.few;
-        audit = x.audit;
-      }
+      let readers = λ (r : ℕ) (d : TickedReader P g) (low : r < length s.readers). reader_stays s ev k i r (slice_index_or p.readers.items r d) given (x.readers r d low) in
+      assumption (x, readers)

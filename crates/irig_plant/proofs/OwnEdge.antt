@@ -1,8 +1,7 @@
 -- What an entry announces by a vote, by what the ports tell at its own tick; and what they heard if
 -- it is false.
-use Rattle.std.proofs.Common.{◌≡◌, ◌↔◌, ℕ, ◌+◌, ◌<◌, ◌≤◌, true, false, List, [], ◌∷◌, ◌++◌, map, length, Option, Some, None, inl, inr, ◌⊎◌, refl, sym, ap, subst, ◌∙◌, arith}
+use Rattle.std.proofs.Common.{◌≡◌, ◌↔◌, ℕ, ◌+◌, ◌<◌, ◌≤◌, true, false, List, [], ◌∷◌, ◌++◌, length, Option, Some, None, inl, inr, ◌⊎◌, refl, sym, ap, subst, ◌∙◌, arith}
 use Rattle.std.specs.Prelude.{All}
-use Rattle.std.specs.List.{range_with_len}
 use Rattle.std.proofs.lemmas.Bool.{false≢true, cases_Bool}
 use Rattle.irig_time.specs.declared.second.UtcSecond.{UtcSecond}
 use Rattle.irig_time.specs.declared.claim.Claim.{Claim}
@@ -14,14 +13,12 @@ use Rattle.irig_port.specs.declared.told.Told.{Told}
 use Rattle.irig_port.specs.Heard.{symbols_of}
 use Rattle.irig_port.specs.Told.{told_of_widths}
 use Rattle.irig_port.proofs.CarriesLaws.{carries_is_told}
-use Rattle.irig_vote.specs.declared.redundancy.Redundancy.{Redundancy}
-use Rattle.irig_vote.specs.declared.redundancy.Redundancy.TheVariants.{One, Three, Five}
-use Rattle.irig_vote.specs.declared.votes.Tells.{Tells}
 use Rattle.irig_vote.specs.Vote.{ports_in, ports_of, is_told, carriers, redundancy_of}
 use Rattle.irig_vote.proofs.CountLaws.{told_is, same_is, same_itself, vote_counts}
 use Rattle.irig_reader.specs.declared.report.Cause.TheVariants.{Voted}
 use Rattle.irig_reader.specs.Rule.{state_of}
 use Rattle.irig_reader.specs.History.{told_at_tick, vote_at_tick}
+use Rattle.irig_reader.proofs.CleanHearing.{ports_are}
 use Rattle.irig_reader.proofs.OneEdge.{voted_seconds, misled}
 use Rattle.irig_plant.specs.declared.event.Event.{Event}
 use Rattle.irig_plant.specs.declared.event.Event.TheVariants.{Tick}
@@ -40,14 +37,6 @@ use Rattle.irig_plant.proofs.ExactLaws.{log_at}
 
 abbrev told_by : Setup → ℕ → List Event → ℕ → Told
 told_by s r ev p = told_of_widths s.rules (heard_at s r p ev)
-
-abbrev tells_from : (ℕ → Told) → Tells
-tells_from tell = record { a = tell 0; b = tell 1; c = tell 2; d = tell 3; e = tell 4 }
-
-ports_are : (tell : ℕ → Told) (redundancy : Redundancy) → ports_of (tells_from tell) redundancy ≡ map tell (range_with_len 0 (ports_in redundancy))
-ports_are tell One = refl
-ports_are tell Three = refl
-ports_are tell Five = refl
 
 same_or_other : (o : Option Claim) (c : Claim) → (o ≡ Some c) ⊎ (¬ (o ≡ Some c))
 same_or_other None c = inr (λ e. cc)

@@ -35,9 +35,6 @@ no_reader s r rest h = rw (le-ltb r (length s.readers) h) refl
 pub a_generator : (s : Setup) (g : ℕ) (rest : Option PlantFault) → g < length s.generators → unless_generator s g rest ≡ rest
 a_generator s g rest h = rw (lt-ltb g (length s.generators) h) refl
 
-pub no_generator : (s : Setup) (g : ℕ) (rest : Option PlantFault) → length s.generators ≤ g → unless_generator s g rest ≡ Some NoSuchGenerator
-no_generator s g rest h = rw (le-ltb g (length s.generators) h) refl
-
 -- ---- the end of the timeline
 
 late : (t : TimelineValue) (n : ℕ) (o : Option UtcSecond) → o ≡ second_at t n → 2 ^ 32 ≤ n → is_some o ≡ false

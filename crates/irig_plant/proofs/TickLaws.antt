@@ -13,7 +13,7 @@ use Rattle.irig_hold.specs.declared.hold.Turn.{Turn}
 use Rattle.irig_hold.specs.declared.hold.Turn.TheVariants as turn
 use Rattle.irig_hold.specs.Steps.{HoldValue, mark_or, hold_after, outcome_of, hold_start, voted_by, alone_by}
 use Rattle.irig_hold.specs.Truth.{IsTrueTable, IsGuarded}
-use Rattle.irig_hold.proofs.HoldLaws.{voted_goes, alone_goes, started_goes, voted_stops, started_stops, alone_guard, alone_end}
+use Rattle.irig_hold.proofs.HoldLaws.{claimed, voted_goes, alone_goes, started_goes, voted_stops, started_stops, alone_guard, alone_end}
 use Rattle.irig_reader.specs.declared.report.Lock.TheVariants as lock
 use Rattle.irig_reader.specs.declared.report.Cause.{Cause}
 use Rattle.irig_reader.specs.declared.report.Cause.TheVariants as cause
@@ -87,9 +87,6 @@ is_none (Some b) a e f = cc e
 
 no_more : (t : TimelineValue) (n : ℕ) → second_at t n ≡ None → (v : UtcSecond) → ¬ IsSecond t n v
 no_more t n e v h = is_none (second_at t n) v e ((second_is t n v).1 h)
-
-claimed : (t : TimelineValue) (n : ℕ) (c : Claim) → IsTrueClaim t (n + 1) c → IsSecond t n c.at
-claimed t n c h = let m : h.second.0 ≡ n = omega (arith, h.second.1) in subst (λ (k : ℕ). IsSecond t k c.at) m h.second.2
 
 module _ (x : VotedEdges) (sound : IsTimeline x.times) (table : IsTrueTable x.times x.table) (some : 1 ≤ x.reader_rules.lock_after) where
   -- ---- a tick without a vote if nothing was held

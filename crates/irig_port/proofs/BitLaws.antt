@@ -1,28 +1,28 @@
 -- The bits of some symbols: with one more symbol, and where a digit stands in them.
 use Rattle.std.proofs.Common.{◌≡◌, ℕ, zero, suc, ◌+◌, ◌*◌, ◌/◌, ◌%◌, ◌^◌, ◌<◌, ◌≤◌, Bool, true, false, cond, eqb, List, [], ◌∷◌, ◌++◌, length, Option, Some, None, slice_get, refl, sym, zero-add, add-zero, ap, ◌∙◌, arith, subst, inl, inr}
 use Rattle.std.proofs.Math.Nat.{mul-add, mul_assoc, mul_comm, pow-succ'}
-use Rattle.std.specs.Option.{option_or}
 use Rattle.std.specs.List.{range_with_len}
 use Rattle.std.specs.Prelude.{count_ones, count_by}
-use Rattle.std.proofs.lemmas.Bool.{ne_eqb, cases_Bool, eqb-true}
+use Rattle.std.proofs.lemmas.Bool.{ne_eqb, cases_Bool, cases_lt, eqb-true, both_ways}
 use Rattle.std.proofs.lemmas.List.Sums.{sum_by-cons}
-use Rattle.std.proofs.lemmas.Option.{none-some}
+use Rattle.std.proofs.lemmas.Option.{slice_get_past}
 use Rattle.std.proofs.lemmas.Nat.{shr-shr, mod-pow-add, ones_cat, ones_le_self, zero_from_ones}
 use Rattle.irig_frame.specs.declared.symbol.Symbol.{Symbol}
 use Rattle.irig_frame.specs.declared.symbol.Symbol.TheVariants.{Zero, One, Marker, Bad}
-use Rattle.irig_frame.specs.declared.fault.FrameFault.{FrameFault}
-use Rattle.irig_frame.specs.declared.fault.FrameFault.TheVariants as fault
 use Rattle.irig_frame.specs.FieldTable.{TableEntry, at, is_marker_place}
-use Rattle.irig_frame.specs.Faults.{element_fault, first_wrong}
+use Rattle.irig_frame.specs.Decoder.{IsRight}
+use Rattle.irig_frame.specs.Faults.{first_wrong}
+use Rattle.irig_frame.proofs.ReadingLaws.{all_right}
+use Rattle.irig_frame.proofs.WritingLaws.{ones as held, by_sum}
 use Rattle.irig_control.specs.Parity.{ones, is_counted}
 use Rattle.irig_frame.specs.Values.{is_one, value}
 use Rattle.irig_port.specs.Bits.{bits_from, time_bits, control_bits, bits_at, counted_ones}
-use Rattle.irig_port.proofs.SumLaws.{held, value-held, place-push, cond-same}
+use Rattle.irig_port.proofs.SumLaws.{place-push, cond-same}
 
 abbrev pub bit_of : List Symbol → ℕ → ℕ
 bit_of s i = cond (is_one (slice_get s i)) 1 0
 
-cond-le-one : (b : Bool) → cond b 1 0 ≤ 1
+pub cond-le-one : (b : Bool) → cond b 1 0 ≤ 1
 cond-le-one true = omega arith
 cond-le-one false = omega arith
 
@@ -147,7 +147,7 @@ held-doubling (suc n) i w s =
     omega (arith, here, rest, apart, moved)
 
 pub value-doubling : (n i w : ℕ) (s : List Symbol) → value (doubling i w n) s ≡ w * bits_from i n s
-value-doubling n i w s = value-held (doubling i w n) s ∙ held-doubling n i w s
+value-doubling n i w s = by_sum (doubling i w n) s ∙ held-doubling n i w s
 
 pub time-digit : (s : List Symbol) (p k n w : ℕ) → 60 ≡ p + (k + n) → value (doubling p w k) s ≡ w * bits_at (time_bits s) p k
 unfolding time_bits
@@ -201,26 +201,19 @@ abbrev pub HasRightMarkers : List Symbol → Type 0
 HasRightMarkers s = (i : ℕ) → is_marker_place i ≡ true → is_one (slice_get s i) ≡ false
 
 -- a marker place where nothing is wrong holds no one
-right-marker : (i : ℕ) (x : Symbol) → element_fault i x ≡ None → is_marker_place i ≡ true → is_one (Some x) ≡ false
-right-marker i Zero h m = refl
-right-marker i One h m = absurd (none-some (fault.Marker i) (sym h ∙ rw m refl))
-right-marker i Marker h m = refl
-right-marker i Bad h m = refl
-
-pub first-none : (a b : Option FrameFault) → option_or a b ≡ None → (a ≡ None) × (b ≡ None)
-first-none None b h = (refl, h)
-first-none (Some f) b h = absurd (none-some f (sym h))
-
-markers-from : (k : ℕ) (s : List Symbol) → first_wrong k s ≡ None → (i : ℕ) → is_marker_place (k + i) ≡ true → is_one (slice_get s i) ≡ false
-markers-from k [] h i m = refl
-markers-from k (x ∷ s) h zero m =
-    right-marker k x (first-none (element_fault k x) (first_wrong (k + 1) s) h).0 (subst (λ (j : ℕ). is_marker_place j ≡ true) (add-zero k) m)
-markers-from k (x ∷ s) h (suc i) m =
-    let there : k + suc i ≡ k + 1 + i = omega arith in
-    markers-from (k + 1) s (first-none (element_fault k x) (first_wrong (k + 1) s) h).1 i (subst (λ (j : ℕ). is_marker_place j ≡ true) there m)
+no_one : (i : ℕ) (o : Option Symbol) → IsRight i o → is_marker_place i ≡ true → is_one o ≡ false
+no_one i None h m = refl
+no_one i (Some Zero) h m = refl
+no_one i (Some One) h m = absurd (both_ways _ h m)
+no_one i (Some Marker) h m = refl
+no_one i (Some Bad) h m = refl
 
 pub right-markers : (s : List Symbol) → first_wrong 0 s ≡ None → HasRightMarkers s
-right-markers s h i m = markers-from 0 s h i (subst (λ (j : ℕ). is_marker_place j ≡ true) (sym (zero-add i)) m)
+right-markers s h i m =
+    elim (cases_lt i (length s)) [
+      | inl low ↦ no_one i (slice_get s i) (subst (λ (j : ℕ). IsRight j (slice_get s i)) (zero-add i) (all_right 0 s h i low)) m
+      | inr past ↦ rw (slice_get_past s i past) refl
+    ]
 
 counted-bit : (s : List Symbol) → HasRightMarkers s → (i : ℕ) → cond (is_counted s i) 1 0 ≡ bit_of s i
 counted-bit s h i =

@@ -19,12 +19,13 @@ use Rattle.irig_frame.specs.FieldTable.{TableEntry, units_of, tens_of, places_of
 use Rattle.irig_frame.specs.Values.{is_one, value}
 use Rattle.irig_frame.specs.Decoder.{IsRight, Reads}
 use Rattle.irig_frame.specs.Faults.{element_fault, first_wrong}
-use Rattle.irig_frame.proofs.ReadingLaws.{none_of}
+use Rattle.irig_frame.proofs.ReadingLaws.{first_of, no_fault, each, none_of}
+use Rattle.irig_frame.proofs.WritingLaws.{ones as held, by_sum, get-set_same, get-set_other}
 use Rattle.irig_control.specs.declared.control.Control.{Control}
 use Rattle.irig_control.specs.Control.{control_of}
 use Rattle.irig_control.proofs.ControlLaws.{same_bits}
 use Rattle.irig_control.specs.Parity.{ones, remainder_of, has_parity, HasParity}
-use Rattle.irig_control.proofs.ParityLaws.{get-set_same, get-set_other}
+use Rattle.irig_control.proofs.ParityKeeps.{elements_after}
 use Rattle.irig_time.specs.declared.rules.Rules.{Rules}
 use Rattle.irig_time.specs.declared.claim.Claim.{Claim}
 use Rattle.irig_time.specs.declared.claim.TimeFault.{TimeFault}
@@ -45,13 +46,9 @@ use Rattle.irig_port.specs.Told.{is_sbs_wrong, coded_told, told_of, frame_told}
 use Rattle.irig_port.specs.Damage.{IsFaultOr, IsOtherBit, compares_seconds, unread_places}
 use Rattle.irig_port.proofs.ToldLaws.{parity_told}
 use Rattle.irig_port.proofs.CarriesLaws.{told_of_reading, carries_is_told}
-use Rattle.irig_port.proofs.SumLaws.{weight_at, parity_places, held, value-held, ones-held, cond-same, cond-add}
+use Rattle.irig_port.proofs.SumLaws.{weight_at, parity_places, ones-held, cond-same, cond-add}
 
 -- ---- elements
-
-first_of : (a b : Option FrameFault) → option_or a b ≡ None → (a ≡ None) × (b ≡ None)
-first_of None b e = (refl, e)
-first_of (Some f) b e = absurd cc
 
 or_none : (a b : Option FrameFault) → b ≡ None → option_or a b ≡ a
 or_none None b e = e
@@ -97,7 +94,7 @@ held-set (p ∷ ps) s i x h =
     omega (arith, here, rest, was, is)
 
 value-set : (ps : List TableEntry) (s : List Symbol) (i : ℕ) (x : Symbol) → i < length s → value ps (slice_set s i x) + adds ps i (slice_get s i) ≡ value ps s + adds ps i (Some x)
-value-set ps s i x h = rw (value-held ps (slice_set s i x), value-held ps s) (held-set ps s i x h)
+value-set ps s i x h = rw (by_sum ps (slice_set s i x), by_sum ps s) (held-set ps s i x h)
 
 -- a place that is none of these changes nothing
 value-kept : (ps : List TableEntry) (s : List Symbol) (i : ℕ) (x : Symbol) → i < length s → weight_at ps i ≡ 0 → value ps (slice_set s i x) ≡ value ps s
@@ -148,12 +145,6 @@ other_right i (Some One) Bad right h = absurd h
 other_right i (Some Marker) x right h = absurd h
 other_right i (Some Bad) x right h = absurd h
 
-right_plain : (i : ℕ) (x : Symbol) → IsRight i (Some x) → element_fault i x ≡ None
-right_plain i Bad h = absurd h
-right_plain i Marker h = rw h refl
-right_plain i Zero h = rw h refl
-right_plain i One h = rw h refl
-
 -- ---- what an element counts
 
 -- below 100 an element counts for the parity if it is a data place below 76
@@ -198,7 +189,7 @@ unreadable rules s i x f h low wrong =
 still_right : (s : List Symbol) (i : ℕ) (x : Symbol) → Right s → i < 100 → IsRight i (Some x) → Right (slice_set s i x)
 still_right s i x h low right = record {
   len = length-set s i x ∙ h.len;
-  plain = first_wrong-set 0 s i x h.plain (omega (arith, h.len, low)) ∙ ap (λ (k : ℕ). element_fault k x) (zero-add i) ∙ right_plain i x right;
+  plain = first_wrong-set 0 s i x h.plain (omega (arith, h.len, low)) ∙ ap (λ (k : ℕ). element_fault k x) (zero-add i) ∙ no_fault i x right;
 }
 
 -- a remainder by 2, after one more or one less
@@ -225,31 +216,14 @@ parity_lost rules s c i x h low other =
 abbrev changed : Coded → List Symbol → Coded
 changed c s = record c { control = value control_places s; sbs = value straight_binary_places s }
 
-record IsLow (f : Field) : Type 0 where
-  units : are_below_76 (units_of f) ≡ true
-  tens : are_below_76 (tens_of f) ≡ true
-  places : are_below_76 (places_of f) ≡ true
-
-fields_low : (f : Field) → IsLow f
-fields_low Second = record { units = refl; tens = refl; places = refl }
-fields_low Minute = record { units = refl; tens = refl; places = refl }
-fields_low Hour = record { units = refl; tens = refl; places = refl }
-fields_low Day = record { units = refl; tens = refl; places = refl }
-fields_low Year = record { units = refl; tens = refl; places = refl }
-
-elements_after : (s : List Symbol) (i : ℕ) (x : Symbol) → length s ≡ 100 → ((k : ℕ) → k < 100 → IsRight k (slice_get s k)) → i < 100 → IsRight i (Some x)
-    → (k : ℕ) → k < 100 → IsRight k (slice_get (slice_set s i x) k)
-elements_after s i x len right low own k h =
-    elim (cases_eq i k) [
-      | inl e ↦ subst (λ (j : ℕ). IsRight j (slice_get (slice_set s i x) j)) e (subst (λ o. IsRight i o) (sym (get-set_same s i x (omega (arith, len, low)))) own)
-      | inr apart ↦ subst (λ o. IsRight k o) (sym (get-set_other s i k x apart)) (right k h)
-    ]
+fields_low : (f : Field) → (are_below_76 (units_of f) ≡ true) × (are_below_76 (tens_of f) ≡ true) × (are_below_76 (places_of f) ≡ true)
+fields_low = each _ (refl, refl, refl) (refl, refl, refl) (refl, refl, refl) (refl, refl, refl) (refl, refl, refl)
 
 reads_after : (s : List Symbol) (i : ℕ) (x : Symbol) (c : Coded) → Reads s c → 76 ≤ i → i < 100 → IsRight i (Some x) → Reads (slice_set s i x) (changed c (slice_set s i x))
 reads_after s i x c r high low own = record {
   len = length-set s i x ∙ r.len;
   elements = elements_after s i x r.len r.elements low own;
-  digits = λ f. rw (kept (units_of f) (fields_low f).units, kept (tens_of f) (fields_low f).tens) (r.digits f);
+  digits = λ f. rw (kept (units_of f) (fields_low f).0, kept (tens_of f) (fields_low f).1) (r.digits f);
   ranges = λ f. rw (field f) (r.ranges f);
   second = r.second ∙ sym (field Second);
   minute = r.minute ∙ sym (field Minute);
@@ -264,7 +238,7 @@ reads_after s i x c r high low own = record {
     kept ps h = value-kept ps s i x (omega (arith, r.len, low)) (weight_above ps i h high)
 
     field : (f : Field) → value (places_of f) (slice_set s i x) ≡ value (places_of f) s
-    field f = kept (places_of f) (fields_low f).places
+    field f = kept (places_of f) (fields_low f).2
 
 -- the parity does not count it
 parity_after : (rules : Rules) (s : List Symbol) (i : ℕ) (x : Symbol) → length s ≡ 100 → HasParity rules.parity s → 76 ≤ i → i < 100 → HasParity rules.parity (slice_set s i x)

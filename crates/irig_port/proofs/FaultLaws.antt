@@ -1,6 +1,5 @@
 -- One fault of a line is never untrue.
 use Rattle.std.proofs.Common.{◌≡◌, ℕ, zero, suc, ◌+◌, ◌-◌, ◌*◌, ◌/◌, ◌%◌, ◌<◌, ◌≤◌, ◌⊎◌, ◌&&◌, Bool, true, false, not, cond, eqb, nat_lt, List, [], ◌∷◌, ◌++◌, length, drop, take, slice_get, slice_set, Option, Some, None, refl, sym, subst, ap, ◌∙◌, arith, inl, inr}
-use Rattle.std.specs.Option.{option_or}
 use Rattle.std.proofs.lemmas.Bool.{agree_below_at, and_parts, cases_eq, cases_lt, ne_eqb, ltb-true}
 use Rattle.std.proofs.lemmas.List.{set-append_right, length-set}
 use Rattle.std.proofs.lemmas.List.FromFn.{length-map-range_with_len}
@@ -9,14 +8,15 @@ use Rattle.irig_frame.specs.declared.symbol.Symbol.TheVariants.{Zero, One, Marke
 use Rattle.irig_frame.specs.declared.fault.FrameFault.{FrameFault}
 use Rattle.irig_frame.specs.FieldTable.{is_marker_place}
 use Rattle.irig_frame.specs.Decoder.{IsRight}
-use Rattle.irig_frame.specs.Faults.{element_fault, first_wrong}
+use Rattle.irig_frame.specs.Faults.{first_wrong}
 use Rattle.irig_sync.specs.declared.sync.Sync.{Sync}
 use Rattle.irig_sync.specs.Edges.{IsClock}
 use Rattle.irig_sync.specs.Lines.{Pulse, place_after, AreOnTime, IsTrueLine, symbols_of_last}
 use Rattle.irig_sync.specs.FaultyLines.{ArePulsesBefore, ArePulsesLeft, HasOneFault, HasOneFaultInAHundred, LeavesTheNext}
 use Rattle.irig_sync.proofs.FaultLaws.{row, row-get, put_one, last-first, of_row, Holds, one_less, holds, last-take, on-take, left_in_row, left_less}
 use Rattle.irig_sync.proofs.CostLaws.{in_step, own_frame}
-use Rattle.irig_control.proofs.ParityLaws.{get-set_same, get-set_other}
+use Rattle.irig_frame.proofs.ReadingLaws.{all_right}
+use Rattle.irig_frame.proofs.WritingLaws.{get-set_same, get-set_other}
 use Rattle.irig_time.specs.declared.rules.Rules.{Rules}
 use Rattle.irig_time.specs.declared.claim.Claim.{Claim}
 use Rattle.irig_port.specs.declared.told.PortFault.{PortFault}
@@ -30,23 +30,9 @@ use Rattle.irig_port.specs.OwnClaims.{frame_at, TellsClaims, IsFaultOrOwn}
 use Rattle.irig_port.proofs.ToldLaws.{none_told, short_told, long_told, whole_told}
 use Rattle.irig_port.proofs.CarriesLaws.{carries_is_told}
 use Rattle.irig_port.proofs.RunLaws.{holds_place}
-use Rattle.irig_port.proofs.DamageLaws.{damage_told, right_or_not}
+use Rattle.irig_port.proofs.DamageLaws.{damage_told}
 
 -- ---- what is told
-
-first_of : (a b : Option FrameFault) → option_or a b ≡ None → (a ≡ None) × (b ≡ None)
-first_of None b e = (refl, e)
-first_of (Some f) b e = absurd cc
-
-pub all_right : (i : ℕ) (s : List Symbol) → first_wrong i s ≡ None → (p : ℕ) → p < length s → IsRight (i + p) (slice_get s p)
-all_right i [] e p h = absurd (omega arith)
-all_right i (x ∷ s) e zero h = elim (right_or_not i x) [
-  | inl right ↦ subst (λ (j : ℕ). IsRight j (Some x)) (let same : i ≡ i + 0 = omega arith in same) right
-  | inr wrong ↦ absurd (let none = (first_of (element_fault i x) (first_wrong (i + 1) s) e).0 in let some = wrong.1 in cc)
-]
-all_right i (x ∷ s) e (suc p) h =
-    let rest = all_right (i + 1) s ((first_of (element_fault i x) (first_wrong (i + 1) s) e).1) p (omega arith) in
-    subst (λ (j : ℕ). IsRight j (slice_get s p)) (let same : i + 1 + p ≡ i + suc p = omega arith in same) rest
 
 -- a symbol that may not stand where it does is a fault
 IsFault : Told → Type 0

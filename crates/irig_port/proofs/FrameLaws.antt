@@ -11,8 +11,9 @@ use Rattle.irig_frame.specs.Symbols.{symbol_of}
 use Rattle.irig_frame.specs.Values.{is_one}
 use Rattle.irig_port.specs.Heard.{symbols_of, symbols_heard}
 use Rattle.irig_port.specs.Bits.{bits_from, time_bits, control_bits, IsOf}
+use Rattle.irig_frame.proofs.ReadingLaws.{first_of}
 use Rattle.irig_port.proofs.SumLaws.{first_wrong-push}
-use Rattle.irig_port.proofs.BitLaws.{bits-lt, first-none}
+use Rattle.irig_port.proofs.BitLaws.{bits-lt}
 
 -- one element more at the front of the bits
 pub bits-down : (ws : List ℕ) (e end : ℕ) → 0 < e → e ≤ end → end ≤ length ws
@@ -48,7 +49,7 @@ right-push ws i h before own = wrong-push ws i h ∙ rw before own
 pub right-back : (ws : List ℕ) (i : ℕ) → i < length ws → first_wrong 0 (symbols_of (take (i + 1) ws)) ≡ None
     → (first_wrong 0 (symbols_of (take i ws)) ≡ None) × (element_fault i (symbol_of (get_or ws i 0)) ≡ None)
 right-back ws i h right =
-    first-none (first_wrong 0 (symbols_of (take i ws))) (element_fault i (symbol_of (get_or ws i 0))) (sym (wrong-push ws i h) ∙ right)
+    first_of (first_wrong 0 (symbols_of (take i ws))) (element_fault i (symbol_of (get_or ws i 0))) (sym (wrong-push ws i h) ∙ right)
 
 -- the numbers of such a frame
 pub of_right : (s : List Symbol) (time control : ℕ) (wrong : Option FrameFault) → length s ≡ 100 → first_wrong 0 s ≡ None

@@ -1,5 +1,5 @@
 -- The numbers of a port, after one more symbol and at an edge.
-use Rattle.std.proofs.Common.{◌≡◌, ℕ, ◌+◌, ◌-◌, ◌*◌, ◌^◌, ◌<◌, ◌≤◌, ◌%◌, Bool, cond, List, [], ◌∷◌, ◌++◌, length, Option, Some, None, refl, sym, zero-add, ◌∙◌, arith, inl, inr, length-append}
+use Rattle.std.proofs.Common.{◌≡◌, ℕ, ◌+◌, ◌-◌, ◌*◌, ◌^◌, ◌<◌, ◌≤◌, ◌%◌, Bool, cond, List, [], ◌∷◌, ◌++◌, length, Option, Some, None, refl, sym, ◌∙◌, arith, inl, inr, length-append}
 use Rattle.std.specs.Option.{option_or}
 use Rattle.std.specs.Prelude.{◌==◌}
 use Rattle.std.proofs.lemmas.Bool.{cases_Bool, cases_lt, eqb-true, lt-ltb}
@@ -8,7 +8,7 @@ use Rattle.irig_frame.specs.declared.layout.Field.{Field}
 use Rattle.irig_frame.specs.declared.layout.Field.TheVariants.{Second, Minute, Hour, Day, Year}
 use Rattle.irig_frame.specs.declared.fault.FrameFault.{FrameFault}
 use Rattle.irig_frame.specs.declared.fault.FrameFault.TheVariants as frame_fault
-use Rattle.irig_frame.specs.FieldTable.{TableEntry, units_of, tens_of, hundreds_of, places_of, control_places, straight_binary_places}
+use Rattle.irig_frame.specs.FieldTable.{units_of, tens_of, hundreds_of, control_places, straight_binary_places}
 use Rattle.irig_frame.specs.Values.{is_one, value}
 use Rattle.irig_frame.specs.Faults.{element_fault, first_wrong, field_at, values_of}
 use Rattle.irig_time.specs.declared.rules.Rules.{Rules}
@@ -21,9 +21,11 @@ use Rattle.irig_port.specs.declared.told.Told.TheVariants as tells
 use Rattle.irig_port.specs.declared.tally.Tally.{Tally}
 use Rattle.irig_frame.specs.declared.coded.Coded.{Coded}
 use Rattle.irig_frame.specs.Decoder.{Reads}
+use Rattle.irig_frame.proofs.WritingLaws.{value-append}
+use Rattle.irig_frame.proofs.EncodingLaws.{value_of_places}
 use Rattle.irig_port.specs.Tallies.{control_word_in, fault_in, tally_told, IsTallyOf}
 use Rattle.irig_port.proofs.ToldLaws.{none_told, short_told, long_told, whole_told}
-use Rattle.irig_port.proofs.SumLaws.{held, value-held, first_wrong-push}
+use Rattle.irig_port.proofs.SumLaws.{first_wrong-push}
 use Rattle.irig_port.proofs.BitLaws.{doubling, time-push, time-kept, control-push, control-kept, time-digit, control-digit, ones-counted}
 
 -- ---- one more symbol
@@ -98,19 +100,9 @@ none_yet = record { counted = refl; few = omega arith; timed = λ h. refl; contr
 
 -- ---- at an edge
 
-held-append : (ps qs : List TableEntry) (s : List Symbol) → held (ps ++ qs) s ≡ held ps s + held qs s
-held-append [] qs s = sym (zero-add (held qs s))
-held-append (p ∷ ps) qs s = omega (arith, held-append ps qs s)
-
-pub value-append : (ps qs : List TableEntry) (s : List Symbol) → value (ps ++ qs) s ≡ value ps s + value qs s
-value-append ps qs s = omega (arith, value-held (ps ++ qs) s, value-held ps s, value-held qs s, held-append ps qs s)
-
-pub value-places : (s : List Symbol) (f : Field) → value (places_of f) s ≡ value (units_of f) s + value (tens_of f) s + value (hundreds_of f) s
-value-places s f = omega (arith, value-append (units_of f ++ tens_of f) (hundreds_of f) s, value-append (units_of f) (tens_of f) s)
-
 field-from : (s : List Symbol) (f : Field) → field_at s f ≡ field_from f (value (units_of f) s) (value (tens_of f) s) (value (hundreds_of f) s)
 unfolding field_at
-field-from s f = rw (value-places s f) refl
+field-from s f = rw (value_of_places f s) refl
 
 one-times : (a b : ℕ) → a ≡ 1 * b → a ≡ b
 one-times a b h = omega (arith, h)

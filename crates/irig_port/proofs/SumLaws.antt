@@ -1,15 +1,15 @@
 -- What one more symbol adds to the numbers of a port.
-use Rattle.std.proofs.Common.{◌≡◌, ℕ, zero, suc, ◌+◌, Bool, true, false, not, ◌&&◌, cond, eqb, List, [], ◌∷◌, ◌++◌, length, Option, Some, None, slice_get, refl, sym, zero-add, add-zero, sum, map, filter, ap, ◌∙◌, arith, inl, inr, count_by}
+use Rattle.std.proofs.Common.{◌≡◌, ℕ, zero, suc, ◌+◌, Bool, true, false, not, ◌&&◌, cond, eqb, List, [], ◌∷◌, ◌++◌, length, Option, Some, None, slice_get, refl, sym, zero-add, add-zero, map, ap, ◌∙◌, arith, count_by}
 use Rattle.std.specs.Option.{option_or}
 use Rattle.std.specs.List.{range_with_len}
 use Rattle.std.proofs.Math.Dec.{eqb-suc-zero, eqb-zero-suc, eqb-suc-suc}
-use Rattle.std.proofs.lemmas.Bool.{cases_Bool}
 use Rattle.std.proofs.lemmas.List.Sums.{sum_by-cons}
 use Rattle.irig_frame.specs.declared.symbol.Symbol.{Symbol}
 use Rattle.irig_frame.specs.declared.fault.FrameFault.{FrameFault}
 use Rattle.irig_frame.specs.FieldTable.{TableEntry, at, is_marker_place}
-use Rattle.irig_frame.specs.Values.{is_one, is_one_at, value}
+use Rattle.irig_frame.specs.Values.{is_one}
 use Rattle.irig_frame.specs.Faults.{element_fault, first_wrong}
+use Rattle.irig_frame.proofs.WritingLaws.{ones as held}
 use Rattle.irig_control.specs.Parity.{ones, is_counted}
 
 -- ---- the places that the parity counts
@@ -27,22 +27,7 @@ abbrev pub weight_at : List TableEntry → ℕ → ℕ
 weight_at [] i = 0
 weight_at (p ∷ ps) i = cond (eqb p.element i) p.weight 0 + weight_at ps i
 
--- ---- the sum over some places, by recursion
-
-abbrev pub held : List TableEntry → List Symbol → ℕ
-held [] s = 0
-held (p ∷ ps) s = cond (is_one_at s p) p.weight 0 + held ps s
-
-sum-cons : (x : ℕ) (xs : List ℕ) → sum (x ∷ xs) ≡ x + sum xs
-sum-cons x xs = sum_by-cons (λ n. n) x xs
-
-pub value-held : (ps : List TableEntry) (s : List Symbol) → value ps s ≡ held ps s
-value-held [] s = refl
-value-held (p ∷ ps) s =
-    elim (cases_Bool (is_one_at s p)) [
-      | inl on ↦ rw on (sum-cons p.weight (map (λ q. q.weight) (filter (is_one_at s) ps)) ∙ ap (λ n. p.weight + n) (value-held ps s))
-      | inr off ↦ rw off (value-held ps s ∙ sym (zero-add (held ps s)))
-    ]
+-- ---- one more symbol
 
 pub cond-same : (b : Bool) → ◌≡◌ {A = ℕ} (cond b 0 0) 0
 cond-same true = refl

@@ -9,7 +9,8 @@ use Rattle.irig_frame.specs.Values.{is_one}
 use Rattle.irig_frame.specs.Decoder.{IsCoded, Reads}
 use Rattle.irig_frame.specs.Faults.{first_wrong}
 use Rattle.irig_frame.specs.Encoder.{HasUnusedZeros, frame_of_coded}
-use Rattle.irig_frame.proofs.EncodingLaws.{written_reads, written_spare}
+use Rattle.irig_frame.proofs.EncodingLaws.{written_reads, written_spare, value_of_places}
+use Rattle.irig_frame.proofs.WritingLaws.{value-append}
 use Rattle.irig_frame.proofs.ReadingLaws.{none_of}
 use Rattle.irig_control.specs.declared.parity.Parity.{Parity}
 use Rattle.irig_control.specs.Control.{flag}
@@ -17,7 +18,6 @@ use Rattle.irig_control.specs.Parity.{ones, remainder_of, has_parity, data_symbo
 use Rattle.irig_control.proofs.ParityKeeps.{reads_kept, spare_kept}
 use Rattle.irig_port.specs.Bits.{bits_from, time_bits, control_bits, counted_ones, digit_bits, word_bits, time_number, control_number, IsOf}
 use Rattle.irig_port.proofs.BitLaws.{HasRightMarkers, bits-lt, value-doubling, right-markers, doubling, ones-counted}
-use Rattle.irig_port.proofs.NumberLaws.{value-append, value-places}
 use Rattle.irig_port.proofs.FrameLaws.{of_right}
 
 -- ---- some elements, and those behind them
@@ -69,7 +69,7 @@ second-bits s c r n =
     let spare : bits_from 5 5 s ≡ bits_from 5 1 s + 2 * bits_from 6 4 s = split 1 4 5 s in
     let tens : bits_from 6 4 s ≡ bits_from 6 3 s + 8 * bits_from 9 1 s = split 3 1 6 s in
     let whole = digits c.second (bits_from 1 4 s) (bits_from 6 3 s) 0
-    (omega (arith, r.second, value-places s Second, value-doubling 4 1 1 s, value-doubling 3 6 10 s))
+    (omega (arith, r.second, value_of_places Second s, value-doubling 4 1 1 s, value-doubling 3 6 10 s))
     (omega (arith, (r.digits Second).0, value-doubling 4 1 1 s)) (omega (arith, (r.digits Second).1, value-doubling 3 6 10 s)) in
     omega (arith, parts, units, spare, tens, whole, none-at s 0 (n.markers 0 refl), zero-at s 5 (n.zeros 0 0 (omega arith)), none-at s 9 (n.markers 9 refl))
 
@@ -80,7 +80,7 @@ minute-bits s c r n =
     let tens : bits_from 15 5 s ≡ bits_from 15 3 s + 8 * bits_from 18 2 s = split 3 2 15 s in
     let rest : bits_from 18 2 s ≡ bits_from 18 1 s + 2 * bits_from 19 1 s = split 1 1 18 s in
     let whole = digits c.minute (bits_from 10 4 s) (bits_from 15 3 s) 0
-    (omega (arith, r.minute, value-places s Minute, value-doubling 4 10 1 s, value-doubling 3 15 10 s))
+    (omega (arith, r.minute, value_of_places Minute s, value-doubling 4 10 1 s, value-doubling 3 15 10 s))
     (omega (arith, (r.digits Minute).0, value-doubling 4 10 1 s)) (omega (arith, (r.digits Minute).1, value-doubling 3 15 10 s)) in
     omega (arith, units, spare, tens, rest, whole, zero-at s 14 (n.zeros 1 0 (omega arith)), zero-at s 18 (n.zeros 2 0 (omega arith)), none-at s 19 (n.markers 19 refl))
 
@@ -92,7 +92,7 @@ hour-bits s c r n =
     let rest : bits_from 27 3 s ≡ bits_from 27 1 s + 2 * bits_from 28 2 s = split 1 2 27 s in
     let last : bits_from 28 2 s ≡ bits_from 28 1 s + 2 * bits_from 29 1 s = split 1 1 28 s in
     let whole = digits c.hour (bits_from 20 4 s) (bits_from 25 2 s) 0
-    (omega (arith, r.hour, value-places s Hour, value-doubling 4 20 1 s, value-doubling 2 25 10 s))
+    (omega (arith, r.hour, value_of_places Hour s, value-doubling 4 20 1 s, value-doubling 2 25 10 s))
     (omega (arith, (r.digits Hour).0, value-doubling 4 20 1 s)) (omega (arith, (r.digits Hour).1, value-doubling 2 25 10 s)) in
     omega (arith, units, spare, tens, rest, last, whole, zero-at s 24 (n.zeros 3 0 (omega arith)), zero-at s 27 (n.zeros 4 0 (omega arith)), zero-at s 28 (n.zeros 5 0 (omega arith)), none-at s 29 (n.markers 29 refl))
 
@@ -116,7 +116,7 @@ day-bits s c r n =
     let marker : bits_from 39 11 s ≡ bits_from 39 1 s + 2 * bits_from 40 10 s = split 1 10 39 s in
     let hundreds : bits_from 40 10 s ≡ bits_from 40 2 s + 4 * bits_from 42 8 s = split 2 8 40 s in
     let whole = digits c.day (bits_from 30 4 s) (bits_from 35 4 s) (bits_from 40 2 s)
-    (omega (arith, r.day, value-places s Day, value-doubling 4 30 1 s, value-doubling 4 35 10 s, value-doubling 2 40 100 s))
+    (omega (arith, r.day, value_of_places Day s, value-doubling 4 30 1 s, value-doubling 4 35 10 s, value-doubling 2 40 100 s))
     (omega (arith, (r.digits Day).0, value-doubling 4 30 1 s)) (omega (arith, (r.digits Day).1, value-doubling 4 35 10 s)) in
     omega (arith, units, spare, tens, marker, hundreds, whole, day-end s n, zero-at s 34 (n.zeros 6 0 (omega arith)), none-at s 39 (n.markers 39 refl))
 
@@ -126,7 +126,7 @@ year-bits s c r n =
     let spare : bits_from 54 6 s ≡ bits_from 54 1 s + 2 * bits_from 55 5 s = split 1 5 54 s in
     let tens : bits_from 55 5 s ≡ bits_from 55 4 s + 16 * bits_from 59 1 s = split 4 1 55 s in
     let whole = digits c.year (bits_from 50 4 s) (bits_from 55 4 s) 0
-    (omega (arith, r.year, value-places s Year, value-doubling 4 50 1 s, value-doubling 4 55 10 s))
+    (omega (arith, r.year, value_of_places Year s, value-doubling 4 50 1 s, value-doubling 4 55 10 s))
     (omega (arith, (r.digits Year).0, value-doubling 4 50 1 s)) (omega (arith, (r.digits Year).1, value-doubling 4 55 10 s)) in
     omega (arith, units, spare, tens, whole, zero-at s 54 (n.zeros 14 0 (omega arith)), none-at s 59 (n.markers 59 refl))
 

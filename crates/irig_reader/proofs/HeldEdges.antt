@@ -1,5 +1,5 @@
 -- What a reader announces without a vote, by its last vote.
-use Rattle.std.proofs.Common.{◌≡◌, ◌==◌, ℕ, zero, suc, ◌+◌, ◌<◌, Bool, true, false, cond, List, [], ◌∷◌, Option, Some, None, Result, Ok, Err, refl, sym, subst, ap, ◌∙◌, inl, inr, arith}
+use Rattle.std.proofs.Common.{◌≡◌, ◌==◌, ℕ, zero, suc, ◌+◌, ◌<◌, List, [], ◌∷◌, Option, Some, None, Ok, refl, sym, subst, ap, ◌∙◌, inl, inr, arith}
 use Rattle.std.specs.Prelude.{nat_le, ◌&&◌, IfSome}
 use Rattle.std.proofs.lemmas.Bool.{cases_Bool}
 use Rattle.std.proofs.lemmas.List.Elements.{All-head, All-tail}
@@ -11,21 +11,18 @@ use Rattle.irig_time.specs.Timelines.{TimelineValue, IsSecond, IsTrueClaim}
 use Rattle.irig_time.specs.TimelineFaults.{IsTimeline}
 use Rattle.irig_time.specs.Claims.{IsMarkedLate}
 use Rattle.irig_time.specs.Tables.{TableValue, spoken_mark}
-use Rattle.irig_hold.specs.declared.hold.Turn.{Turn}
 use Rattle.irig_hold.specs.declared.hold.Turn.TheVariants as turn
 use Rattle.irig_hold.specs.Steps.{HoldValue, hold_start, hold_or_stop, hold_after, mark_or, outcome_of, voted_by, alone_by}
 use Rattle.irig_hold.specs.Truth.{IsTrueTable, IsOnTime, HasHeardLate}
+use Rattle.irig_reader.proofs.StepCases.{locked_cases, count_cases, vote_cases}
 use Rattle.irig_reader.proofs.OneEdge.{voted_holds}
 use Rattle.irig_hold.proofs.HoldLaws.{stop_is_no_now, started_true, alone_true, voted_on_time, voted_late, alone_late, started_late}
 use Rattle.irig_reader.specs.declared.rules.ReaderRules.{ReaderRules}
-use Rattle.irig_reader.specs.declared.report.Lock.{Lock}
 use Rattle.irig_reader.specs.declared.report.Lock.TheVariants as lock
-use Rattle.irig_reader.specs.declared.report.Cause.{Cause}
 use Rattle.irig_reader.specs.declared.report.Cause.TheVariants as cause
 use Rattle.irig_reader.specs.declared.rule.State.{State}
 use Rattle.irig_reader.specs.declared.rule.State.TheVariants.{Idle, Acquiring, Locked}
-use Rattle.irig_reader.specs.declared.rule.Step.{Step}
-use Rattle.irig_reader.specs.Rule.{announce_step, count_step, first_vote_step, later_vote_step_by, locked_step, step_of, state_of, report_of}
+use Rattle.irig_reader.specs.Rule.{count_step, step_of, state_of, report_of}
 use Rattle.irig_reader.specs.Held.{then_none, AreMarkedLate, IsSince}
 
 -- a fact of the hold of a state, if it has one
@@ -35,40 +32,18 @@ IfHold (Acquiring h count) P = P h
 IfHold (Locked h) P = P h
 
 count_has : (P : HoldValue → Type 0) (rules : ReaderRules) (h : HoldValue) (count : ℕ) → P h → IfHold (count_step rules h count).state P
-count_has P rules h count p =
-    either (count == rules.lock_after) (announce_step h h.last lock.Locked cause.Voted) (record { state = Acquiring h count; report = record { announce = None; lock = lock.Acquiring count; cause = cause.Acquiring } }) p p
-  where
-    either : (b : Bool) (x y : Step) → IfHold x.state P → IfHold y.state P → IfHold (cond b x y).state P
-    either true x y p q = p
-    either false x y p q = q
+count_has P rules h count p = count_cases (λ step. IfHold step.state P) rules h count (λ enough. p) (λ more. p)
 
-first_has : (P : HoldValue → Type 0) (rules : ReaderRules) (first : Result HoldValue Turn) → ((h : HoldValue) → first ≡ Ok h → P h) → IfHold (first_vote_step rules first).state P
-first_has P rules (Ok h) p = count_has P rules h 1 (p h refl)
-first_has P rules (Err stop) p = tt
-
-later_has : (P : HoldValue → Type 0) (rules : ReaderRules) (count : ℕ) (anew : Step) (answer : Turn) (h : HoldValue) → IfHold anew.state P → ((u : UtcSecond) → answer ≡ turn.Now u → P h)
-    → IfHold (later_vote_step_by rules count anew answer h).state P
-later_has P rules count anew (turn.Now u) h first p = count_has P rules h (count + 1) (p u refl)
-later_has P rules count anew turn.Jump h first p = first
-later_has P rules count anew turn.LeapGuard h first p = tt
-later_has P rules count anew turn.Expired h first p = tt
-later_has P rules count anew turn.RangeEnd h first p = tt
-
-locked_has : (P : HoldValue → Type 0) (l : Lock) (c : Cause) (answer : Turn) (h : HoldValue) → ((u : UtcSecond) → answer ≡ turn.Now u → P h) → IfHold (locked_step l c answer h).state P
-locked_has P l c (turn.Now u) h p = p u refl
-locked_has P l c turn.Jump h p = tt
-locked_has P l c turn.LeapGuard h p = tt
-locked_has P l c turn.Expired h p = tt
-locked_has P l c turn.RangeEnd h p = tt
+-- what holds of the hold if it goes on by the vote
+abbrev IfItGoes : TableValue → Claim → (HoldValue → Type 0) → HoldValue → Type 0
+IfItGoes table c P h = (u : UtcSecond) → (voted_by table h c).answer ≡ turn.Now u → P (voted_by table h c).new
 
 -- what holds of a hold that begins with the vote, and of one that answers it, holds of the state
 voted_has : (P : HoldValue → Type 0) (rules : ReaderRules) (table : TableValue) (state : State) (c : Claim) → ((h : HoldValue) → hold_start table c ≡ Ok h → P h)
-    → IfHold state (λ h. (u : UtcSecond) → (voted_by table h c).answer ≡ turn.Now u → P (voted_by table h c).new) → IfHold (step_of rules table state (Some c)).state P
-unfolding step_of
-voted_has P rules table Idle c first later = first_has P rules (hold_start table c) first
-voted_has P rules table (Acquiring h count) c first later =
-    later_has P rules count _ (voted_by table h c).answer (voted_by table h c).new (first_has P rules (hold_start table c) first) later
-voted_has P rules table (Locked h) c first later = locked_has P _ cause.Voted (voted_by table h c).answer (voted_by table h c).new later
+    → IfHold state (IfItGoes table c P) → IfHold (step_of rules table state (Some c)).state P
+voted_has P rules table state c first later =
+    vote_cases (λ step. IfHold step.state P) rules table state c (λ h e. count_has P rules h 1 (first h e)) (λ stop. tt)
+    (λ h count u is e. count_has P rules (voted_by table h c).new (count + 1) (subst (λ (s : State). IfHold s (IfItGoes table c P)) is later u e)) (λ h u is e. subst (λ (s : State). IfHold s (IfItGoes table c P)) is later u e)
 
 -- ---- marks
 
@@ -76,7 +51,7 @@ pub late_step : (rules : ReaderRules) (table : TableValue) (state : State) (vote
 unfolding step_of
 late_step rules table Idle None late marked = tt
 late_step rules table (Acquiring h count) None late marked = tt
-late_step rules table (Locked h) None late marked = locked_has HasHeardLate _ cause.Held (alone_by table h rules.holdover).answer (alone_by table h rules.holdover).new (λ u e. alone_late table h rules.holdover late)
+late_step rules table (Locked h) None late marked = locked_cases (λ step. IfHold step.state HasHeardLate) _ cause.Held (alone_by table h rules.holdover).answer (alone_by table h rules.holdover).new (λ u e. alone_late table h rules.holdover late) (λ stop e. tt)
 late_step rules table Idle (Some c) late marked = voted_has HasHeardLate rules table Idle c (λ h e. started_late table c h marked e) tt
 late_step rules table (Acquiring h count) (Some c) late marked =
     voted_has HasHeardLate rules table (Acquiring h count) c (λ k e. started_late table c k marked e) (λ u e. voted_late table h c late marked)
@@ -103,17 +78,10 @@ pub by_vote : (t : TimelineValue) (n : ℕ) (rules : ReaderRules) (table : Table
     → IfHold (step_of rules table state (Some c)).state (IsOnTime t (n + 1))
 by_vote t n rules table state c sound late claim = voted_has (IsOnTime t (n + 1)) rules table state c (λ h e. started_true t table n c h sound claim e) (later state late)
   where
-    later : (s : State) → IfHold s HasHeardLate → IfHold s (λ h. (u : UtcSecond) → (voted_by table h c).answer ≡ turn.Now u → IsOnTime t (n + 1) (voted_by table h c).new)
+    later : (s : State) → IfHold s HasHeardLate → IfHold s (IfItGoes table c (IsOnTime t (n + 1)))
     later Idle late = tt
     later (Acquiring h count) late = λ u e. voted_on_time t table n h c u sound late claim e
     later (Locked h) late = λ u e. voted_on_time t table n h c u sound late claim e
-
-locked_stays : (P : HoldValue → Type 0) (l : Lock) (answer : Turn) (h : HoldValue) → ((u : UtcSecond) → answer ≡ turn.Now u → P h) → IfLocked (locked_step l cause.Held answer h).state P
-locked_stays P l (turn.Now u) h p = p u refl
-locked_stays P l turn.Jump h p = tt
-locked_stays P l turn.LeapGuard h p = tt
-locked_stays P l turn.Expired h p = tt
-locked_stays P l turn.RangeEnd h p = tt
 
 by_none : (t : TimelineValue) (n : ℕ) (rules : ReaderRules) (table : TableValue) (state : State) → IsTimeline t → IsTrueTable t table → IfLocked state (IsOnTime t n)
     → IfLocked (step_of rules table state None).state (IsOnTime t (n + 1))
@@ -121,7 +89,7 @@ unfolding step_of
 by_none t n rules table Idle sound true_table at = tt
 by_none t n rules table (Acquiring h count) sound true_table at = tt
 by_none t n rules table (Locked h) sound true_table at =
-    locked_stays (IsOnTime t (n + 1)) _ (alone_by table h rules.holdover).answer (alone_by table h rules.holdover).new (λ u e. (alone_true t table n rules.holdover h u sound true_table at e).on_time)
+    locked_cases (λ step. IfLocked step.state (IsOnTime t (n + 1))) _ cause.Held (alone_by table h rules.holdover).answer (alone_by table h rules.holdover).new (λ u e. (alone_true t table n rules.holdover h u sound true_table at e).on_time) (λ stop e. tt)
 
 stands : (t : TimelineValue) (n a : ℕ) (rules : ReaderRules) (table : TableValue) (votes : List (Option Claim)) (c : Claim) → IsTimeline t → IsTrueTable t table → AreMarkedLate votes → IsTrueClaim t (n + 1) c
     → IfLocked (state_of rules table (then_none a (Some c ∷ votes))) (IsOnTime t (n + 1 + a))
@@ -136,20 +104,14 @@ stands t n (suc a) rules table votes c sound true_table marked claim =
 
 -- ---- what it then says
 
-held_says : (t : TimelineValue) (n : ℕ) (l : Lock) (answer : Turn) (h : HoldValue) (u : UtcSecond) → ((v : UtcSecond) → answer ≡ turn.Now v → IsSecond t n v) → (locked_step l cause.Held answer h).report.announce ≡ Some u → IsSecond t n u
-held_says t n l (turn.Now v) h u p e = let same : v ≡ u = cc in subst (IsSecond t n) same (p v refl)
-held_says t n l turn.Jump h u p e = absurd cc
-held_says t n l turn.LeapGuard h u p e = absurd cc
-held_says t n l turn.Expired h u p e = absurd cc
-held_says t n l turn.RangeEnd h u p e = absurd cc
-
 none_says : (t : TimelineValue) (n : ℕ) (rules : ReaderRules) (table : TableValue) (state : State) (u : UtcSecond) → IsTimeline t → IsTrueTable t table → IfLocked state (IsOnTime t n)
     → (step_of rules table state None).report.announce ≡ Some u → IsSecond t (n + 1) u
 unfolding step_of
 none_says t n rules table Idle u sound true_table at e = absurd cc
 none_says t n rules table (Acquiring h count) u sound true_table at e = absurd cc
 none_says t n rules table (Locked h) u sound true_table at e =
-    held_says t (n + 1) _ (alone_by table h rules.holdover).answer (alone_by table h rules.holdover).new u (λ v is. (alone_true t table n rules.holdover h v sound true_table at is).second) e
+    locked_cases (λ step. step.report.announce ≡ Some u → IsSecond t (n + 1) u) _ cause.Held (alone_by table h rules.holdover).answer (alone_by table h rules.holdover).new
+    (λ v is says. let same : v ≡ u = cc in subst (IsSecond t (n + 1)) same (alone_true t table n rules.holdover h v sound true_table at is).second) (λ stop is says. absurd cc) e
 
 pub held_seconds : (t : TimelineValue) (n a : ℕ) (rules : ReaderRules) (table : TableValue) (votes : List (Option Claim)) (c : Claim) (u : UtcSecond) → IsTimeline t → IsTrueTable t table → AreMarkedLate votes
     → IsTrueClaim t (n + 1) c → (report_of rules table None (then_none a (Some c ∷ votes))).announce ≡ Some u → IsSecond t (n + 2 + a) u
@@ -203,14 +165,14 @@ unfolding step_of
 none_since rules table votes Idle since = tt
 none_since rules table votes (Acquiring h count) since = tt
 none_since rules table votes (Locked h) since =
-    locked_stays (λ k. IsSince (None ∷ votes) k.age) _ (alone_by table h rules.holdover).answer (alone_by table h rules.holdover).new
-    (λ u e. one_more votes h.age (alone_by table h rules.holdover).new.age since (alone_age table h rules.holdover u e))
+    locked_cases (λ step. IfLocked step.state (λ k. IsSince (None ∷ votes) k.age)) _ cause.Held (alone_by table h rules.holdover).answer (alone_by table h rules.holdover).new
+    (λ u e. one_more votes h.age (alone_by table h rules.holdover).new.age since (alone_age table h rules.holdover u e)) (λ stop e. tt)
 
 young : (rules : ReaderRules) (table : TableValue) (state : State) (c : Claim) → IfHold (step_of rules table state (Some c)).state (λ h. h.age ≡ 0)
 young rules table state c =
     voted_has (λ h. h.age ≡ 0) rules table state c (λ h e. begun_age c.at c.mark (next_of c.at (spoken_mark table c.mark c.at.day)) h e) (later state)
   where
-    later : (s : State) → IfHold s (λ h. (u : UtcSecond) → (voted_by table h c).answer ≡ turn.Now u → (voted_by table h c).new.age ≡ 0)
+    later : (s : State) → IfHold s (IfItGoes table c (λ h. h.age ≡ 0))
     later Idle = tt
     later (Acquiring h count) = λ u e. voted_age table h c u e
     later (Locked h) = λ u e. voted_age table h c u e
@@ -222,20 +184,13 @@ since_of rules table (None ∷ votes) = none_since rules table votes (state_of r
 
 -- ---- what the lock says
 
-lock_age : (answer : Turn) (h : HoldValue) (a : ℕ) → (locked_step (lock.Holdover h.age) cause.Held answer h).report.lock ≡ lock.Holdover a → (u : UtcSecond) × (answer ≡ turn.Now u) × (h.age ≡ a)
-lock_age (turn.Now u) h a e = let same : h.age ≡ a = cc in (u, refl, same)
-lock_age turn.Jump h a e = absurd cc
-lock_age turn.LeapGuard h a e = absurd cc
-lock_age turn.Expired h a e = absurd cc
-lock_age turn.RangeEnd h a e = absurd cc
-
 lock_since : (rules : ReaderRules) (table : TableValue) (votes : List (Option Claim)) (s : State) (a : ℕ) → IfLocked s (λ h. IsSince votes h.age) → (step_of rules table s None).report.lock ≡ lock.Holdover a → IsSince (None ∷ votes) a
 unfolding step_of
 lock_since rules table votes Idle a since e = absurd cc
 lock_since rules table votes (Acquiring h count) a since e = absurd cc
 lock_since rules table votes (Locked h) a since e =
-    let now = lock_age (alone_by table h rules.holdover).answer (alone_by table h rules.holdover).new a e in
-    one_more votes h.age a since (sym now.2 ∙ alone_age table h rules.holdover now.0 now.1)
+    locked_cases (λ step. step.report.lock ≡ lock.Holdover a → IsSince (None ∷ votes) a) (lock.Holdover (alone_by table h rules.holdover).new.age) cause.Held (alone_by table h rules.holdover).answer (alone_by table h rules.holdover).new
+    (λ u is says. let same : (alone_by table h rules.holdover).new.age ≡ a = cc in one_more votes h.age a since (sym same ∙ alone_age table h rules.holdover u is)) (λ stop is says. absurd cc) e
 
 -- the lock names the last vote
 pub held_since : (rules : ReaderRules) (table : TableValue) (vote : Option Claim) (votes : List (Option Claim)) (a : ℕ) → (report_of rules table vote votes).lock ≡ lock.Holdover a → IsSince (vote ∷ votes) a

@@ -1,6 +1,7 @@
 pub mod VoteLaws
 pub mod FedLaws
 pub mod SilentLaws
+pub mod StepCases
 pub mod OneEdge
 pub mod TrueSteps
 pub mod VotesInARow

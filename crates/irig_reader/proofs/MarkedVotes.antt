@@ -1,9 +1,8 @@
 -- What ports tell of a leap they tell in a month's last minute, and so does a vote over them; so a
 -- reader with a history holds over what is true by its last vote.
-use Rattle.std.proofs.Common.{◌≡◌, ◌<◌, ℕ, zero, suc, ◌+◌, List, [], ◌∷◌, Option, Some, None, All, subst, refl, arith, inl, inr}
+use Rattle.std.proofs.Common.{◌≡◌, ◌<◌, ℕ, zero, suc, ◌+◌, List, [], ◌∷◌, Option, Some, None, subst, refl, arith}
 use Rattle.std.specs.Prelude.{IfSome}
-use Rattle.std.proofs.lemmas.Bool.{cases_Bool}
-use Rattle.std.proofs.lemmas.List.Elements.{All-cons, All-nil, All-head, All-tail}
+use Rattle.std.proofs.lemmas.List.Elements.{All-cons, All-nil, All-tail}
 use Rattle.irig_time.specs.declared.rules.Rules.{Rules}
 use Rattle.irig_time.specs.declared.claim.Claim.{Claim}
 use Rattle.irig_time.specs.declared.second.UtcSecond.{UtcSecond}
@@ -16,14 +15,12 @@ use Rattle.irig_port.specs.declared.told.Told.TheVariants as tells
 use Rattle.irig_port.specs.Heard.{symbols_of}
 use Rattle.irig_port.specs.Told.{IfClaim, told_of_widths}
 use Rattle.irig_port.proofs.CarriesLaws.{carries_is_told}
-use Rattle.irig_vote.specs.declared.redundancy.Redundancy.{Redundancy}
-use Rattle.irig_vote.specs.declared.redundancy.Redundancy.TheVariants.{One, Three, Five}
-use Rattle.irig_vote.specs.declared.votes.Tells.{Tells}
-use Rattle.irig_vote.specs.Vote.{ports_of, carriers, is_told}
-use Rattle.irig_vote.proofs.CountLaws.{told_is, carriers-cons, none_of, vote_counts}
+use Rattle.irig_vote.specs.Vote.{ports_of}
+use Rattle.irig_vote.proofs.CountLaws.{vote_counts}
 use Rattle.irig_hold.specs.Truth.{IsTrueTable}
 use Rattle.irig_reader.specs.History.{ReaderHistory, told_at_tick, vote_at_tick, report_at_tick, after_tick}
 use Rattle.irig_reader.specs.Held.{then_none, AreMarkedLate, IsTrueSince}
+use Rattle.irig_reader.proofs.VoteLaws.{of_all, all_ports}
 use Rattle.irig_reader.proofs.HeldEdges.{held_is_true}
 
 abbrev IsMarked : Told → Type 0
@@ -37,25 +34,12 @@ told_marked rules widths tells.Silence is = tt
 told_marked rules widths (tells.Fault f) is = tt
 told_marked rules widths (tells.Poor q) is = tt
 
-marked_claim : (ports : List Told) (claim : Claim) → All IsMarked ports → 0 < carriers claim ports → IsMarkedLate claim
-marked_claim [] claim marked some = absurd (omega arith)
-marked_claim (told ∷ ports) claim marked some =
-    elim (cases_Bool (is_told claim told)) [
-      | inl told_it ↦ subst IsMarked (told_is claim told told_it) (All-head IsMarked told ports marked)
-      | inr other ↦ marked_claim ports claim (All-tail IsMarked told ports marked) (omega (arith, carriers-cons claim told ports, none_of (is_told claim told) other))
-    ]
-
-all_marked : (r : Redundancy) (t : Tells) → IsMarked t.a → IsMarked t.b → IsMarked t.c → IsMarked t.d → IsMarked t.e → All IsMarked (ports_of t r)
-all_marked One t a b c d e = search (All-cons IsMarked, All-nil IsMarked)
-all_marked Three t a b c d e = search (All-cons IsMarked, All-nil IsMarked)
-all_marked Five t a b c d e = search (All-cons IsMarked, All-nil IsMarked)
-
 vote_marked : (h : ReaderHistory) (vote : Option Claim) → vote_at_tick h ≡ vote → IfSome vote IsMarkedLate
 vote_marked h None is = tt
 vote_marked h (Some c) is =
     let t = told_at_tick h in
     let at : (widths : List ℕ) → IsMarked (told_of_widths h.rules widths) = λ widths. told_marked h.rules widths (told_of_widths h.rules widths) refl in
-    marked_claim (ports_of t h.redundancy) c (all_marked h.redundancy t (at h.fed.a) (at h.fed.b) (at h.fed.c) (at h.fed.d) (at h.fed.e)) (omega (arith, (vote_counts t h.redundancy c).0 is))
+    of_all IsMarkedLate (ports_of t h.redundancy) c (all_ports IsMarked h.redundancy t (at h.fed.a) (at h.fed.b) (at h.fed.c) (at h.fed.d) (at h.fed.e)) (omega (arith, (vote_counts t h.redundancy c).0 is))
 
 pub votes_marked : (h : ReaderHistory) → AreMarkedLate h.votes → AreMarkedLate (after_tick h).votes
 votes_marked h marked = All-cons (λ vote. IfSome vote IsMarkedLate) (vote_at_tick h) h.votes (vote_marked h (vote_at_tick h) refl) marked

@@ -1,5 +1,5 @@
 -- What a reader says at an edge, by what its ports tell at that edge and by nothing before.
-use Rattle.std.proofs.Common.{◌≡◌, ◌==◌, ℕ, ◌+◌, ◌<◌, ◌≤◌, Bool, true, false, cond, Option, Some, None, Result, Ok, Err, refl, sym, subst, ap, ◌∙◌, inl, inr, ◌⊎◌, arith}
+use Rattle.std.proofs.Common.{◌≡◌, ◌==◌, ℕ, ◌+◌, ◌<◌, ◌≤◌, Bool, true, false, cond, Option, Some, None, refl, sym, subst, ap, ◌∙◌, inl, inr, ◌⊎◌, arith}
 use Rattle.std.specs.Prelude.{nat_le}
 use Rattle.std.proofs.lemmas.Bool.{cases_Bool, leb-false}
 use Rattle.irig_time.specs.declared.second.UtcSecond.{UtcSecond}
@@ -16,7 +16,7 @@ use Rattle.irig_vote.specs.Vote.{f_of, ports_of, carriers, others, vote_of}
 use Rattle.irig_vote.proofs.CountLaws.{vote_counts, few_tell_others}
 use Rattle.irig_hold.specs.declared.hold.Turn.{Turn}
 use Rattle.irig_hold.specs.declared.hold.Turn.TheVariants as turn
-use Rattle.irig_hold.specs.Steps.{HoldValue, hold_start, hold_or_stop, outcome_of, voted_by, alone_by}
+use Rattle.irig_hold.specs.Steps.{HoldValue, hold_or_stop, outcome_of, voted_by, alone_by}
 use Rattle.irig_hold.proofs.HoldLaws.{started_true, voted_second, voted_other}
 use Rattle.irig_reader.specs.declared.rules.ReaderRules.{ReaderRules}
 use Rattle.irig_reader.specs.declared.report.Lock.{Lock}
@@ -26,51 +26,25 @@ use Rattle.irig_reader.specs.declared.report.Cause.TheVariants as cause
 use Rattle.irig_reader.specs.declared.rule.State.{State}
 use Rattle.irig_reader.specs.declared.rule.State.TheVariants.{Idle, Acquiring, Locked}
 use Rattle.irig_reader.specs.declared.rule.Step.{Step}
-use Rattle.irig_reader.specs.Rule.{stop_step, announce_step, count_step, cause_of, first_vote_step, later_vote_step_by, locked_step, holdover_step, step_of}
+use Rattle.irig_reader.specs.Rule.{stop_step, count_step, locked_step, holdover_step, step_of}
 use Rattle.irig_reader.specs.Clean.{IsClean}
+use Rattle.irig_reader.proofs.StepCases.{count_cases, vote_cases}
 
--- what the step announces by a vote is T(n + 1)
+-- what the step announces is T(n + 1)
 abbrev SaysNext : TimelineValue → ℕ → Step → Type 0
-SaysNext t n step = (u : UtcSecond) → step.report.cause ≡ cause.Voted → step.report.announce ≡ Some u → IsSecond t (n + 1) u
+SaysNext t n step = (u : UtcSecond) → step.report.announce ≡ Some u → IsSecond t (n + 1) u
 
 -- ---- a true vote
 
 counted : (t : TimelineValue) (n : ℕ) (rules : ReaderRules) (h : HoldValue) (count : ℕ) → IsSecond t (n + 1) h.last → SaysNext t n (count_step rules h count)
 counted t n rules h count at =
-    either (count == rules.lock_after) (announce_step h h.last lock.Locked cause.Voted) (record { state = Acquiring h count; report = record { announce = None; lock = lock.Acquiring count; cause = cause.Acquiring } })
-    (λ u voted e. let same : h.last ≡ u = cc in subst (IsSecond t (n + 1)) same at)
-    (λ u voted e. absurd cc)
-  where
-    either : (b : Bool) (x y : Step) → SaysNext t n x → SaysNext t n y → SaysNext t n (cond b x y)
-    either true x y p q = p
-    either false x y p q = q
-
-begun : (t : TimelineValue) (n : ℕ) (rules : ReaderRules) (first : Result HoldValue Turn) → ((h : HoldValue) → first ≡ Ok h → IsSecond t (n + 1) h.last) → SaysNext t n (first_vote_step rules first)
-begun t n rules (Ok h) at = counted t n rules h 1 (at h refl)
-begun t n rules (Err stop) at = λ u voted e. absurd cc
-
-joined : (t : TimelineValue) (n : ℕ) (rules : ReaderRules) (count : ℕ) (anew : Step) (answer : Turn) (h : HoldValue) → SaysNext t n anew
-    → ((u : UtcSecond) → answer ≡ turn.Now u → IsSecond t (n + 1) u × (h.last ≡ u)) → SaysNext t n (later_vote_step_by rules count anew answer h)
-joined t n rules count anew (turn.Now u) h first at = let now = at u refl in counted t n rules h (count + 1) (subst (IsSecond t (n + 1)) (sym now.1) now.0)
-joined t n rules count anew turn.Jump h first at = first
-joined t n rules count anew turn.LeapGuard h first at = λ u voted e. absurd cc
-joined t n rules count anew turn.Expired h first at = λ u voted e. absurd cc
-joined t n rules count anew turn.RangeEnd h first at = λ u voted e. absurd cc
-
-locked : (t : TimelineValue) (n : ℕ) (l : Lock) (c : Cause) (answer : Turn) (h : HoldValue) → ((u : UtcSecond) → answer ≡ turn.Now u → IsSecond t (n + 1) u × (h.last ≡ u)) → SaysNext t n (locked_step l c answer h)
-locked t n l c (turn.Now u) h at = λ v voted e. let same : u ≡ v = cc in subst (IsSecond t (n + 1)) same (at u refl).0
-locked t n l c turn.Jump h at = λ u voted e. absurd cc
-locked t n l c turn.LeapGuard h at = λ u voted e. absurd cc
-locked t n l c turn.Expired h at = λ u voted e. absurd cc
-locked t n l c turn.RangeEnd h at = λ u voted e. absurd cc
+    count_cases (SaysNext t n) rules h count (λ enough u e. let same : h.last ≡ u = cc in subst (IsSecond t (n + 1)) same at) (λ more u e. absurd cc)
 
 voted_says : (t : TimelineValue) (n : ℕ) (rules : ReaderRules) (table : TableValue) (state : State) (c : Claim) → IsTimeline t → IsTrueClaim t (n + 1) c → SaysNext t n (step_of rules table state (Some c))
-unfolding step_of
-voted_says t n rules table Idle c sound claim = begun t n rules (hold_start table c) (λ h e. (started_true t table n c h sound claim e).last)
-voted_says t n rules table (Acquiring h count) c sound claim =
-    joined t n rules count _ (voted_by table h c).answer (voted_by table h c).new (begun t n rules (hold_start table c) (λ k e. (started_true t table n c k sound claim e).last))
-    (λ u e. voted_second t table n h c u sound claim e)
-voted_says t n rules table (Locked h) c sound claim = locked t n _ cause.Voted (voted_by table h c).answer (voted_by table h c).new (λ u e. voted_second t table n h c u sound claim e)
+voted_says t n rules table state c sound claim =
+    vote_cases (SaysNext t n) rules table state c (λ h e. counted t n rules h 1 (started_true t table n c h sound claim e).last) (λ stop u e. absurd cc)
+    (λ h count u is e. let now = voted_second t table n h c u sound claim e in counted t n rules (voted_by table h c).new (count + 1) (subst (IsSecond t (n + 1)) (sym now.1) now.0))
+    (λ h u is e v says. let same : u ≡ v = cc in subst (IsSecond t (n + 1)) same (voted_second t table n h c u sound claim e).0)
 
 -- ---- no vote
 
@@ -81,7 +55,7 @@ held_cause l turn.LeapGuard h e = cc
 held_cause l turn.Expired h e = cc
 held_cause l turn.RangeEnd h e = cc
 
-unvoted : (rules : ReaderRules) (table : TableValue) (state : State) → (step_of rules table state None).report.cause ≡ cause.Voted → ⊥
+pub unvoted : (rules : ReaderRules) (table : TableValue) (state : State) → (step_of rules table state None).report.cause ≡ cause.Voted → ⊥
 unfolding step_of
 unvoted rules table Idle e = cc
 unvoted rules table (Acquiring h count) e = cc
@@ -104,7 +78,7 @@ voted_by_ports t n rules table state told r u sound voted says = of (vote_of tol
     of (Some c) is voted says = record {
       claim = c;
       enough = (vote_counts told r c).0 is;
-      leads = λ truth. voted_says t n rules table state c sound ((claim_is t n c).0 truth) u voted says;
+      leads = λ truth. voted_says t n rules table state c sound ((claim_is t n c).0 truth) u says;
     }
 
 pub voted_seconds : (t : TimelineValue) (n : ℕ) (rules : ReaderRules) (table : TableValue) (state : State) (told : Tells) (r : Redundancy) (u : UtcSecond) → IsTimeline t → IsClean t n told r
@@ -152,35 +126,13 @@ lost_tick t m n rules table h told r c clean at apart is =
 abbrev IsWithin : ℕ → Step → Type 0
 IsWithin limit step = (a : ℕ) → step.report.lock ≡ lock.Holdover a → (1 ≤ a) × (a ≤ limit)
 
-stop_within : (limit : ℕ) (c : Cause) → IsWithin limit (stop_step c)
-stop_within limit c a e = absurd cc
-
 count_within : (limit : ℕ) (rules : ReaderRules) (h : HoldValue) (count : ℕ) → IsWithin limit (count_step rules h count)
-count_within limit rules h count =
-    either (count == rules.lock_after) (announce_step h h.last lock.Locked cause.Voted) (record { state = Acquiring h count; report = record { announce = None; lock = lock.Acquiring count; cause = cause.Acquiring } })
-    (λ a e. absurd cc) (λ a e. absurd cc)
-  where
-    either : (b : Bool) (x y : Step) → IsWithin limit x → IsWithin limit y → IsWithin limit (cond b x y)
-    either true x y p q = p
-    either false x y p q = q
+count_within limit rules h count = count_cases (IsWithin limit) rules h count (λ enough a e. absurd cc) (λ more a e. absurd cc)
 
-first_within : (limit : ℕ) (rules : ReaderRules) (first : Result HoldValue Turn) → IsWithin limit (first_vote_step rules first)
-first_within limit rules (Ok h) = count_within limit rules h 1
-first_within limit rules (Err stop) = stop_within limit (cause_of stop)
-
-later_within : (limit : ℕ) (rules : ReaderRules) (count : ℕ) (anew : Step) (answer : Turn) (h : HoldValue) → IsWithin limit anew → IsWithin limit (later_vote_step_by rules count anew answer h)
-later_within limit rules count anew (turn.Now u) h first = count_within limit rules h (count + 1)
-later_within limit rules count anew turn.Jump h first = first
-later_within limit rules count anew turn.LeapGuard h first = stop_within limit cause.LeapGuard
-later_within limit rules count anew turn.Expired h first = stop_within limit cause.Expired
-later_within limit rules count anew turn.RangeEnd h first = stop_within limit cause.RangeEnd
-
-voted_within : (limit : ℕ) (answer : Turn) (h : HoldValue) → IsWithin limit (locked_step lock.Locked cause.Voted answer h)
-voted_within limit (turn.Now u) h a e = absurd cc
-voted_within limit turn.Jump h a e = absurd cc
-voted_within limit turn.LeapGuard h a e = absurd cc
-voted_within limit turn.Expired h a e = absurd cc
-voted_within limit turn.RangeEnd h a e = absurd cc
+vote_within : (limit : ℕ) (rules : ReaderRules) (table : TableValue) (state : State) (c : Claim) → IsWithin limit (step_of rules table state (Some c))
+vote_within limit rules table state c =
+    vote_cases (IsWithin limit) rules table state c (λ h e. count_within limit rules h 1) (λ stop a e. absurd cc)
+    (λ h count u is e. count_within limit rules (voted_by table h c).new (count + 1)) (λ h u is now a e. absurd cc)
 
 stepped_within : (limit : ℕ) (h : HoldValue) (from : UtcSecond) (age : ℕ) (mark : Mark) (o : Option UtcSecond) → 1 ≤ age → age ≤ limit → IsWithin limit (holdover_step (outcome_of h (hold_or_stop from age mark o)))
 stepped_within limit h from age mark None least most a e = stop_lock (from.day == 36523) a e
@@ -204,16 +156,10 @@ alone_within rules table h a e =
 pub holdover_within : (rules : ReaderRules) (table : TableValue) (state : State) (vote : Option Claim) (a : ℕ) → (step_of rules table state vote).report.lock ≡ lock.Holdover a → (1 ≤ a) × (a ≤ rules.holdover)
 unfolding step_of
 holdover_within rules table Idle None a e = absurd cc
-holdover_within rules table Idle (Some c) a e = first_within rules.holdover rules (hold_start table c) a e
 holdover_within rules table (Acquiring h count) None a e = absurd cc
-holdover_within rules table (Acquiring h count) (Some c) a e =
-    later_within rules.holdover rules count _ (voted_by table h c).answer (voted_by table h c).new (first_within rules.holdover rules (hold_start table c)) a e
-holdover_within rules table (Locked h) (Some c) a e = voted_within rules.holdover (voted_by table h c).answer (voted_by table h c).new a e
 holdover_within rules table (Locked h) None a e = alone_within rules table h a e
+holdover_within rules table state (Some c) a e = vote_within rules.holdover rules table state c a e
 
 -- a vote ends a holdover
 pub voted_holds : (rules : ReaderRules) (table : TableValue) (state : State) (c : Claim) → IsWithin 0 (step_of rules table state (Some c))
-unfolding step_of
-voted_holds rules table Idle c = first_within 0 rules (hold_start table c)
-voted_holds rules table (Acquiring h count) c = later_within 0 rules count _ (voted_by table h c).answer (voted_by table h c).new (first_within 0 rules (hold_start table c))
-voted_holds rules table (Locked h) c = voted_within 0 (voted_by table h c).answer (voted_by table h c).new
+voted_holds rules table state c = vote_within 0 rules table state c

@@ -1,6 +1,6 @@
 -- The reader's rule keeps to the truth: by true votes a reader that stands at T(n), or nowhere,
 -- goes to T(n + 1), or nowhere.
-use Rattle.std.proofs.Common.{◌≡◌, ◌==◌, ◌⊎◌, ℕ, ◌+◌, Bool, true, false, cond, Option, Some, None, Result, Ok, Err, refl, sym, subst, inl, inr}
+use Rattle.std.proofs.Common.{◌≡◌, ◌==◌, ◌⊎◌, ℕ, ◌+◌, Option, Some, None, Result, Ok, Err, refl, sym, ◌∙◌, subst, inl, inr}
 use Rattle.std.specs.Prelude.{nat_le}
 use Rattle.std.proofs.lemmas.Bool.{cases_Bool}
 use Rattle.irig_time.specs.declared.second.UtcSecond.{UtcSecond}
@@ -24,8 +24,9 @@ use Rattle.irig_reader.specs.declared.report.Cause.TheVariants as cause
 use Rattle.irig_reader.specs.declared.rule.State.{State}
 use Rattle.irig_reader.specs.declared.rule.State.TheVariants.{Idle, Acquiring, Locked}
 use Rattle.irig_reader.specs.declared.rule.Step.{Step}
-use Rattle.irig_reader.specs.Rule.{stop_step, announce_step, count_step, first_vote_step, later_vote_step_by, locked_step, step_of}
+use Rattle.irig_reader.specs.Rule.{stop_step, announce_step, count_step, cause_of, first_vote_step, later_vote_step_by, locked_step, step_of}
 use Rattle.irig_reader.specs.Standing.{StandsAtTruth}
+use Rattle.irig_reader.proofs.StepCases.{locked_cases, count_cases, first_cases, later_cases}
 
 -- there is no T(n)
 abbrev Ends : TimelineValue → ℕ → Type 0
@@ -54,27 +55,21 @@ announced_true t n h u l c on_time last calm = record {
 
 counted_true : (t : TimelineValue) (n : ℕ) (reader_rules : ReaderRules) (h : HoldValue) (count : ℕ) → IsOnTime t n h → IsTrueStep t n (count_step reader_rules h count)
 counted_true t n reader_rules h count on_time =
-    either (count == reader_rules.lock_after) (announce_step h h.last lock.Locked cause.Voted) (record { state = Acquiring h count; report = record { announce = None; lock = lock.Acquiring count; cause = cause.Acquiring } })
-    (announced_true t n h h.last lock.Locked cause.Voted on_time refl (record { jump = λ e. cc; range_end = λ e. absurd cc }))
-    (record { state = on_time; says = λ u e. absurd cc; calm = record { jump = λ e. cc; range_end = λ e. absurd cc } })
-  where
-    either : (b : Bool) (x y : Step) → IsTrueStep t n x → IsTrueStep t n y → IsTrueStep t n (cond b x y)
-    either true x y p q = p
-    either false x y p q = q
+    count_cases (IsTrueStep t n) reader_rules h count (λ enough. announced_true t n h h.last lock.Locked cause.Voted on_time refl (record { jump = λ e. cc; range_end = λ e. absurd cc }))
+    (λ more. record { state = on_time; says = λ u e. absurd cc; calm = record { jump = λ e. cc; range_end = λ e. absurd cc } })
 
 -- ---- a hold's stops
 
-guard_true : (t : TimelineValue) (n : ℕ) → IsTrueStep t n (stop_step cause.LeapGuard)
-guard_true t n = stopped_true t n cause.LeapGuard (record { jump = λ e. cc; range_end = λ e. absurd cc })
-
-expired_true : (t : TimelineValue) (n : ℕ) → IsTrueStep t n (stop_step cause.Expired)
-expired_true t n = stopped_true t n cause.Expired (record { jump = λ e. cc; range_end = λ e. absurd cc })
+-- a stop that is no jump, and is the end of the range only if there is no T(n)
+halted_true : (t : TimelineValue) (n : ℕ) (stop : Turn) → ¬ (stop ≡ turn.Jump) → (stop ≡ turn.RangeEnd → Ends t n) → IsTrueStep t n (stop_step (cause_of stop))
+halted_true t n (turn.Now u) no_jump ends = stopped_true t n cause.Held (record { jump = λ e. cc; range_end = λ e. absurd cc })
+halted_true t n turn.Jump no_jump ends = absurd (no_jump refl)
+halted_true t n turn.LeapGuard no_jump ends = stopped_true t n cause.LeapGuard (record { jump = λ e. cc; range_end = λ e. absurd cc })
+halted_true t n turn.Expired no_jump ends = stopped_true t n cause.Expired (record { jump = λ e. cc; range_end = λ e. absurd cc })
+halted_true t n turn.RangeEnd no_jump ends = stopped_true t n cause.RangeEnd (record { jump = λ e. cc; range_end = λ e. ends refl })
 
 no_vote_true : (t : TimelineValue) (n : ℕ) → IsTrueStep t n (stop_step cause.NoVote)
 no_vote_true t n = stopped_true t n cause.NoVote (record { jump = λ e. cc; range_end = λ e. absurd cc })
-
-end_true : (t : TimelineValue) (n : ℕ) → Ends t n → IsTrueStep t n (stop_step cause.RangeEnd)
-end_true t n ends = stopped_true t n cause.RangeEnd (record { jump = λ e. cc; range_end = λ e. ends })
 
 stop_no_jump : (day : ℕ) → ¬ (stop_on day ≡ turn.Jump)
 stop_no_jump day e =
@@ -113,27 +108,19 @@ pub record AnswersTrue (t : TimelineValue) (n : ℕ) (answer : Turn) (h : HoldVa
   pub ends : answer ≡ turn.RangeEnd → Ends t n
 
 begun_true : (t : TimelineValue) (n : ℕ) (reader_rules : ReaderRules) (first : Result HoldValue Turn) → BeginsTrue t n first → IsTrueStep t n (first_vote_step reader_rules first)
-begun_true t n reader_rules (Ok h) first = counted_true t n reader_rules h 1 (first.begins h refl)
-begun_true t n reader_rules (Err (turn.Now u)) first = stopped_true t n cause.Held (record { jump = λ e. cc; range_end = λ e. absurd cc })
-begun_true t n reader_rules (Err turn.Jump) first = absurd (first.no_jump refl)
-begun_true t n reader_rules (Err turn.LeapGuard) first = guard_true t n
-begun_true t n reader_rules (Err turn.Expired) first = expired_true t n
-begun_true t n reader_rules (Err turn.RangeEnd) first = end_true t n (first.ends refl)
+begun_true t n reader_rules first is =
+    first_cases (IsTrueStep t n) reader_rules first (λ h e. counted_true t n reader_rules h 1 (is.begins h e)) (λ stop e. halted_true t n stop (λ jump. is.no_jump cc) (λ end. is.ends cc))
 
 joined_true : (t : TimelineValue) (n : ℕ) (reader_rules : ReaderRules) (count : ℕ) (anew : Step) (answer : Turn) (h : HoldValue) → IsTrueStep t n anew → AnswersTrue t n answer h
     → IsTrueStep t n (later_vote_step_by reader_rules count anew answer h)
-joined_true t n reader_rules count anew (turn.Now u) h first answered = counted_true t n reader_rules h (count + 1) (answered.comes u refl).on_time
-joined_true t n reader_rules count anew turn.Jump h first answered = first
-joined_true t n reader_rules count anew turn.LeapGuard h first answered = guard_true t n
-joined_true t n reader_rules count anew turn.Expired h first answered = expired_true t n
-joined_true t n reader_rules count anew turn.RangeEnd h first answered = end_true t n (answered.ends refl)
+joined_true t n reader_rules count anew answer h first answered =
+    later_cases (IsTrueStep t n) reader_rules count anew answer h first (λ u e. counted_true t n reader_rules h (count + 1) (answered.comes u e).on_time)
+    (λ stop e. halted_true t n stop (λ jump. answered.no_jump (e ∙ jump)) (λ end. answered.ends (e ∙ end)))
 
 locked_true : (t : TimelineValue) (n : ℕ) (l : Lock) (c : Cause) (answer : Turn) (h : HoldValue) → IsTrueCause t n c → AnswersTrue t n answer h → IsTrueStep t n (locked_step l c answer h)
-locked_true t n l c (turn.Now u) h calm answered = announced_true t n h u l c (answered.comes u refl).on_time (answered.comes u refl).last calm
-locked_true t n l c turn.Jump h calm answered = absurd (answered.no_jump refl)
-locked_true t n l c turn.LeapGuard h calm answered = guard_true t n
-locked_true t n l c turn.Expired h calm answered = expired_true t n
-locked_true t n l c turn.RangeEnd h calm answered = end_true t n (answered.ends refl)
+locked_true t n l c answer h calm answered =
+    locked_cases (IsTrueStep t n) l c answer h (λ u e. announced_true t n h u l c (answered.comes u e).on_time (answered.comes u e).last calm)
+    (λ stop e. halted_true t n stop (λ jump. answered.no_jump (e ∙ jump)) (λ end. answered.ends (e ∙ end)))
 
 starts : (t : TimelineValue) (n : ℕ) (table : TableValue) (c : Claim) → IsTimeline t → IsTrueClaim t (n + 1) c → BeginsTrue t (n + 1) (hold_start table c)
 starts t n table c sound claim = record {

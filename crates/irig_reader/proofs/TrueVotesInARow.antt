@@ -1,8 +1,8 @@
 -- By true votes in a row a reader announces again.
-use Rattle.std.proofs.Common.{◌≡◌, ◌==◌, ℕ, zero, suc, ◌+◌, ◌<◌, ◌≤◌, true, List, [], ◌∷◌, Option, Some, None, Result, Ok, Err, refl, sym, subst, ap, ◌∙◌, inl, inr, ◌⊎◌, arith}
+use Rattle.std.proofs.Common.{◌≡◌, ◌==◌, ℕ, zero, suc, ◌+◌, ◌<◌, ◌≤◌, true, List, [], ◌∷◌, Option, Some, None, Ok, refl, sym, subst, ap, ◌∙◌, inl, inr, ◌⊎◌, arith}
 use Rattle.std.specs.Prelude.{◌&&◌, ⊤}
 use Rattle.std.specs.Option.{option_map}
-use Rattle.std.proofs.lemmas.Bool.{cases_Bool, eqb-false}
+use Rattle.std.proofs.lemmas.Bool.{cases_Bool}
 use Rattle.irig_time.specs.declared.second.UtcSecond.{UtcSecond}
 use Rattle.irig_time.specs.declared.claim.Claim.{Claim}
 use Rattle.irig_time.specs.Timelines.{TimelineValue, IsSecond, IsTrueClaim, true_claim, truth_at}
@@ -10,14 +10,10 @@ use Rattle.irig_time.specs.TimelineFaults.{IsTimeline}
 use Rattle.irig_time.specs.Tables.{TableValue}
 use Rattle.irig_time.proofs.SecondAt.{second_is, claim_is}
 use Rattle.irig_time.proofs.NoGaps.{second_before, seconds_before}
-use Rattle.irig_hold.specs.declared.hold.Turn.{Turn}
-use Rattle.irig_hold.specs.declared.hold.Turn.TheVariants as turn
-use Rattle.irig_hold.specs.Steps.{HoldValue, hold_start, hold_after, mark_or, outcome_of, voted_by, alone_by}
+use Rattle.irig_hold.specs.Steps.{HoldValue, hold_start, hold_after, mark_or, outcome_of, voted_by}
 use Rattle.irig_hold.proofs.HoldLaws.{tested, claimed, voted_goes, started_goes}
 use Rattle.irig_reader.specs.declared.rules.ReaderRules.{ReaderRules}
-use Rattle.irig_reader.specs.declared.report.Lock.{Lock}
 use Rattle.irig_reader.specs.declared.report.Lock.TheVariants as lock
-use Rattle.irig_reader.specs.declared.report.Cause.{Cause}
 use Rattle.irig_reader.specs.declared.report.Cause.TheVariants as cause
 use Rattle.irig_reader.specs.declared.report.Report.{Report}
 use Rattle.irig_reader.specs.declared.rule.State.{State}
@@ -25,6 +21,7 @@ use Rattle.irig_reader.specs.declared.rule.State.TheVariants.{Idle, Acquiring, L
 use Rattle.irig_reader.specs.declared.rule.Step.{Step}
 use Rattle.irig_reader.specs.Rule.{count_of, count_step, first_vote_step, later_vote_step_by, locked_step, step_of, state_of, report_of}
 use Rattle.irig_reader.specs.Locking.{IsSilentAfter, then_true, voted_report}
+use Rattle.irig_reader.proofs.StepCases.{count_cases, vote_cases, none_cases}
 use Rattle.irig_reader.proofs.VotesInARow.{IsUnlocked, silent_unlocked}
 
 -- ---- fewer votes are counted than the lock takes
@@ -34,38 +31,13 @@ IsCounting rules state = count_of state < rules.lock_after
 
 module _ (rules : ReaderRules) (some : 1 ≤ rules.lock_after) where
   count_counting : (h : HoldValue) (count : ℕ) → count ≤ rules.lock_after → IsCounting rules (count_step rules h count).state
-  count_counting h count most =
-      elim (cases_Bool (count == rules.lock_after)) [
-        | inl enough ↦ rw enough (omega (arith, some))
-        | inr more ↦ rw more (omega (arith, most, eqb-false count rules.lock_after more))
-      ]
-
-  first_counting : (first : Result HoldValue Turn) → IsCounting rules (first_vote_step rules first).state
-  first_counting (Ok h) = count_counting h 1 some
-  first_counting (Err stop) = omega (arith, some)
-
-  later_counting : (count : ℕ) (anew : Step) (answer : Turn) (h : HoldValue) → count < rules.lock_after → IsCounting rules anew.state → IsCounting rules (later_vote_step_by rules count anew answer h).state
-  later_counting count anew (turn.Now u) h few first = count_counting h (count + 1) (omega (arith, few))
-  later_counting count anew turn.Jump h few first = first
-  later_counting count anew turn.LeapGuard h few first = omega (arith, some)
-  later_counting count anew turn.Expired h few first = omega (arith, some)
-  later_counting count anew turn.RangeEnd h few first = omega (arith, some)
-
-  locked_counting : (l : Lock) (c : Cause) (answer : Turn) (h : HoldValue) → IsCounting rules (locked_step l c answer h).state
-  locked_counting l c (turn.Now u) h = omega (arith, some)
-  locked_counting l c turn.Jump h = omega (arith, some)
-  locked_counting l c turn.LeapGuard h = omega (arith, some)
-  locked_counting l c turn.Expired h = omega (arith, some)
-  locked_counting l c turn.RangeEnd h = omega (arith, some)
+  count_counting h count most = count_cases (λ step. IsCounting rules step.state) rules h count (λ enough. omega (arith, some)) (λ more. omega (arith, most, more))
 
   step_counting : (table : TableValue) (state : State) (vote : Option Claim) → IsCounting rules state → IsCounting rules (step_of rules table state vote).state
-  unfolding step_of
-  step_counting table Idle None few = omega (arith, some)
-  step_counting table (Acquiring h count) None few = omega (arith, some)
-  step_counting table (Locked h) None few = locked_counting _ cause.Held (alone_by table h rules.holdover).answer (alone_by table h rules.holdover).new
-  step_counting table Idle (Some c) few = first_counting (hold_start table c)
-  step_counting table (Acquiring h count) (Some c) few = later_counting count _ (voted_by table h c).answer (voted_by table h c).new few (first_counting (hold_start table c))
-  step_counting table (Locked h) (Some c) few = locked_counting _ cause.Voted (voted_by table h c).answer (voted_by table h c).new
+  step_counting table state None few = none_cases (λ step. IsCounting rules step.state) rules table state (λ c. omega (arith, some)) (λ h u is now. omega (arith, some))
+  step_counting table state (Some c) few =
+      vote_cases (λ step. IsCounting rules step.state) rules table state c (λ h e. count_counting h 1 some) (λ stop. omega (arith, some))
+      (λ h count u is e. count_counting (voted_by table h c).new (count + 1) (let fewer : IsCounting rules (Acquiring h count) = subst (IsCounting rules) is few in omega (arith, fewer))) (λ h u is now. omega (arith, some))
 
   counting : (table : TableValue) (votes : List (Option Claim)) → IsCounting rules (state_of rules table votes)
   counting table [] = some

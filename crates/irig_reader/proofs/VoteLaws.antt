@@ -16,21 +16,22 @@ use Rattle.irig_vote.proofs.CountLaws.{told_is, carriers-cons, none_of, vote_cou
 abbrev pub IsSound : Told → Type 0
 IsSound told = IfClaim told (λ claim. IsValid claim.at)
 
-sound_claim : (ports : List Told) (claim : Claim) → All IsSound ports → 0 < carriers claim ports → IsValid claim.at
-sound_claim [] claim sound some = absurd (omega arith)
-sound_claim (told ∷ ports) claim sound some =
+-- a claim of which some port tells is as all claims that are told
+pub of_all : (P : Claim → Type 0) (ports : List Told) (claim : Claim) → All (λ told. IfClaim told P) ports → 0 < carriers claim ports → P claim
+of_all P [] claim all some = absurd (omega arith)
+of_all P (told ∷ ports) claim all some =
     elim (cases_Bool (is_told claim told)) [
-      | inl told_it ↦ subst IsSound (told_is claim told told_it) (All-head IsSound told ports sound)
-      | inr other ↦ sound_claim ports claim (All-tail IsSound told ports sound) (omega (arith, carriers-cons claim told ports, none_of (is_told claim told) other))
+      | inl told_it ↦ subst (λ told. IfClaim told P) (told_is claim told told_it) (All-head (λ told. IfClaim told P) told ports all)
+      | inr other ↦ of_all P ports claim (All-tail (λ told. IfClaim told P) told ports all) (omega (arith, carriers-cons claim told ports, none_of (is_told claim told) other))
     ]
 
-all_sound : (redundancy : Redundancy) (t : Tells) → IsSound t.a → IsSound t.b → IsSound t.c → IsSound t.d → IsSound t.e → All IsSound (ports_of t redundancy)
-all_sound One t a b c d e = search (All-cons IsSound, All-nil IsSound)
-all_sound Three t a b c d e = search (All-cons IsSound, All-nil IsSound)
-all_sound Five t a b c d e = search (All-cons IsSound, All-nil IsSound)
+pub all_ports : (P : Told → Type 0) (redundancy : Redundancy) (t : Tells) → P t.a → P t.b → P t.c → P t.d → P t.e → All P (ports_of t redundancy)
+all_ports P One t a b c d e = search (All-cons P, All-nil P)
+all_ports P Three t a b c d e = search (All-cons P, All-nil P)
+all_ports P Five t a b c d e = search (All-cons P, All-nil P)
 
 pub vote_valid : (redundancy : Redundancy) (t : Tells) (vote : Option Claim) → IsSound t.a → IsSound t.b → IsSound t.c → IsSound t.d → IsSound t.e
     → vote ≡ vote_of t redundancy → IfSome vote (λ claim. IsValid claim.at)
 vote_valid redundancy t None a b c d e is = tt
 vote_valid redundancy t (Some claim) a b c d e is =
-    sound_claim (ports_of t redundancy) claim (all_sound redundancy t a b c d e) (omega (arith, (vote_counts t redundancy claim).0 (sym is)))
+    of_all (λ claim. IsValid claim.at) (ports_of t redundancy) claim (all_ports IsSound redundancy t a b c d e) (omega (arith, (vote_counts t redundancy claim).0 (sym is)))

@@ -15,7 +15,7 @@ use Rattle.irig_plant.specs.Schedule.{Setup, ticks_of, log_of}
 use Rattle.irig_plant.specs.Audits.{audit_of}
 use Rattle.irig_time.specs.TimelineFaults.{IsTimeline}
 use Rattle.irig_plant.specs.Truth.{AnnouncesTruth, IsTruthful}
-use Rattle.irig_plant.proofs.BrokenLogs.{BreaksFirst, breaks_at, true_below, splits_log}
+use Rattle.irig_plant.proofs.BrokenLogs.{BreaksFirst, breaks_at, true_below, each_by, splits_log}
 use Rattle.irig_plant.proofs.Headline.{log_is_true}
 use Rattle.report_log.specs.declared.shown.Shown.{Shown}
 use Rattle.report_log.specs.LogLines.{whole_lines, Shows, ShowsNothing, broken_line}
@@ -44,10 +44,6 @@ known_reader s r [] earlier h =
 known_reader s r (e ∷ later) earlier h = known_reader s r later earlier h.1
 
 -- ---- a fact of each line
-
-each_of_last : {X : Type 0} (P Q : X → Type 0) → ((x : X) → P x → Q x) → (xs : List X) → AllByRecursion P xs → AllByRecursion Q xs
-each_of_last P Q f [] h = tt
-each_of_last P Q f (x ∷ xs) h = (f x h.0, each_of_last P Q f xs h.1)
 
 module _ (x : Scene) (names : AreNames x.plan.names) where
   abbrev log : List Entry
@@ -102,7 +98,7 @@ module _ (x : Scene) (names : AreNames x.plan.names) (r n : ℕ) (sound : IsTime
       time_of s.times m e.report.announce time same.time_is full
       (λ u announces. subst (λ m. second_at s.times m ≡ Some u) (sym same.edge) ((true_below s x.events r n e sound breaks h.1).second (sym same.reader) (omega (arith, low, same.edge)) u announces)) in
       each_line_and_last x names shown Own (λ e. (e.edge < 2 ^ 64) × AnnouncesTruth s x.events e) k entry (λ l m time low shows. absurd (port_row_shows_nothing x.plan.names l r m time shows))
-      (each_of_last (ShowsNothing x.plan.names) Own (λ l nothing m time low shows. absurd (nothing r m time shows)) (whole_lines (ending_text k (Some x))) (recursion_from_All _ _ (last_shows_nothing x names k)))
+      (each_by (ShowsNothing x.plan.names) Own (λ l nothing m time low shows. absurd (nothing r m time shows)) (whole_lines (ending_text k (Some x))) (recursion_from_All _ _ (last_shows_nothing x names k)))
       (each_both (λ e. e.edge < 2 ^ 64) (AnnouncesTruth s x.events) (log_of s x.events) few (recursion_from_All _ _ (log_is_true s x.events sound)))
 
   lines_before : (shown : Shown) (k : Option Refused) (earlier later : List (List ℕ)) (line time : List ℕ) → whole_lines (log_text shown (Some x) ++ ending_text k (Some x)) ≡ earlier ++ line ∷ later
@@ -139,7 +135,7 @@ module _ (x : Scene) (names : AreNames x.plan.names) (r n : ℕ) (sound : IsTime
       let others_later : AllAfterFirst IsOther b =
       rows_after_first ns shown IsOther (λ e. (e.edge < 2 ^ 64) × (e.reader ≡ r → n < e.edge)) other_late other_port cut.entry cut.rest
       (each_both (λ e. e.edge < 2 ^ 64) (λ e. e.reader ≡ r → n < e.edge) cut.rest few_rest cut.late) in
-      let others_last : AllByRecursion IsOther last = each_of_last (ShowsNothing ns) IsOther (λ l nothing t shows. nothing r n t shows) last (recursion_from_All _ _ (last_shows_nothing x names k)) in
+      let others_last : AllByRecursion IsOther last = each_by (ShowsNothing ns) IsOther (λ l nothing t shows. nothing r n t shows) last (recursion_from_All _ _ (last_shows_nothing x names k)) in
       front_has (ShowsTruth ns s.times) IsOther a (b ++ last) earlier later line true_rows others (after_first_join IsOther b last others_later others_last) lines (λ other. other time shows)
 
 -- ---- what was written

@@ -1,14 +1,12 @@
 -- Text that a player holds before it is written.
-use Rattle.std.proofs.Common.{◌≡◌, ℕ, ◌+◌, ◌-◌, ◌<◌, ◌≤◌, List, [], ◌∷◌, ◌++◌, length, Option, Some, None, Result, Ok, Err, refl, ap, sym, subst, ◌∙◌, arith, append-nil, append_assoc}
+use Rattle.std.proofs.Common.{◌≡◌, ℕ, ◌+◌, ◌-◌, ◌<◌, ◌≤◌, List, [], ◌++◌, length, Option, Some, None, refl, ap, sym, subst, ◌∙◌, arith, append-nil, append_assoc}
 use Rattle.std.specs.Io.KnownBytes.{Appends}
 use Rattle.std.proofs.KnownBytes.{Appends-trans, Appends-nil}
 use Rattle.irig_device.specs.Watched.{AppendsPart}
 use Rattle.irig_plant.specs.declared.event.Event.{Event}
 use Rattle.irig_plant.specs.WholeSecond.{times}
 use Rattle.text_faults.specs.declared.refusal.Refusal.{Refusal}
-use Rattle.scenario_line.specs.declared.event_line.Command.{Command}
-use Rattle.scenario_line.specs.declared.event_line.Command.TheVariants as command
-use Rattle.irig_scene.specs.Scene.{Scene, events_of, play}
+use Rattle.irig_scene.specs.Scene.{Scene, play}
 use Rattle.irig_scene.specs.Scene.{after_events}
 use Rattle.irig_scene.proofs.PlayLaws.{one_time_more, split_at, times_left}
 use Rattle.irig_scene.specs.Texts.{Texts, said_in}

@@ -1,5 +1,5 @@
 -- The log as what a listener says.
-use Rattle.std.proofs.Common.{◌≡◌, ℕ, true, false, cond, List, [], ◌∷◌, ◌++◌, length, drop, Option, Some, None, Result, Ok, Err, refl, ap, sym, subst, ◌∙◌, append-nil}
+use Rattle.std.proofs.Common.{◌≡◌, ℕ, true, false, List, [], ◌∷◌, ◌++◌, length, drop, Option, Some, None, Result, Ok, Err, refl, ap, sym, subst, ◌∙◌, append-nil}
 use Rattle.irig_plant.specs.declared.event.Event.{Event}
 use Rattle.irig_plant.specs.declared.event.Event.TheVariants.{GenEdge, Tick, Carry, Damage, Replay, Raw, Fault, Repair, Restart}
 use Rattle.irig_plant.specs.Schedule.{Setup, log_of}
@@ -19,7 +19,7 @@ use Rattle.irig_scene.specs.Lines.{lines, unlines}
 use Rattle.irig_scene.specs.Scene.{Scene, scene, Refused as RefusedAt, Meaning, meaning_of, log_text, ending_text, text_of, output_shown}
 use Rattle.irig_scene.specs.Run.{RanOn, RanShown}
 use Rattle.irig_scene.specs.Run as run
-use Rattle.irig_scene.proofs.PlayLaws.{LogGrows, lines_grow}
+use Rattle.irig_scene.proofs.PlayLaws.{lines_grow}
 use Rattle.irig_scene.specs.Texts as by
 use Rattle.irig_scene.specs.Texts.{said, ending_of, meaning_text, whole_text}
 use Rattle.irig_scene.specs.LogTexts.{entries_by, log_texts}
@@ -45,7 +45,7 @@ module _ (shown : Shown) where
   said_is_log plan [] = sym (no_lines plan.names shown)
   said_is_log plan (e ∷ ev) =
       let s = plan.setup in
-      ap (λ t. t ++ lines_text plan.names shown (entries_by s e ev)) (said_is_log plan ev) ∙ sym (lines_grow (scene plan ev) (e ∷ ev) shown (record { more = entries_by s e ev; is = grows s e ev }))
+      ap (λ t. t ++ lines_text plan.names shown (entries_by s e ev)) (said_is_log plan ev) ∙ sym (lines_grow (scene plan ev) (e ∷ ev) shown (entries_by s e ev) (grows s e ev))
 
   text_is : (first : List ℕ) (at : Option Scene) → by.text_of (log_texts shown) first at ≡ log_text shown at
   text_is first None = refl

@@ -43,7 +43,7 @@ name_some [] h = λ e. absurd cc
 name_some (b ∷ bs) h = λ e. absurd cc
 
 -- a text that stands again
-found_at : (t : List ℕ) (ts : List (List ℕ)) (r : ℕ) → r < length ts → t ≡ name_at ts r → list_any (bytes_eq t) ts ≡ true
+pub found_at : (t : List ℕ) (ts : List (List ℕ)) (r : ℕ) → r < length ts → t ≡ name_at ts r → list_any (bytes_eq t) ts ≡ true
 found_at t [] r low same = absurd (omega (arith, low))
 found_at t (x ∷ xs) zero low same = ap (λ b. b || list_any (bytes_eq t) xs) ((bytes_eq-Decides t x).1 same)
 found_at t (x ∷ xs) (suc r) low same = or_right (bytes_eq t x) _ (found_at t xs r (omega (arith, low)) same)

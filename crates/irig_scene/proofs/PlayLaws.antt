@@ -1,22 +1,18 @@
 -- Events that are played, and the log that grows by them.
-use Rattle.std.proofs.Common.{◌≡◌, ℕ, zero, suc, ◌<◌, List, [], ◌∷◌, ◌++◌, take, length, Option, Some, None, true, false, refl, ap, sym, ◌∙◌, arith, inl, inr, slice_get, drop, append-nil, append_assoc, cond, subst}
+use Rattle.std.proofs.Common.{◌≡◌, ℕ, zero, suc, ◌+◌, ◌-◌, ◌<◌, List, [], ◌∷◌, ◌++◌, take, length, Option, Some, None, refl, ap, sym, ◌∙◌, arith, inl, inr, slice_get, append-nil, append_assoc}
 use Rattle.std.specs.Prelude.{IfSome, option_and_then}
-use Rattle.std.proofs.Math.Seq.{drop-append_seam}
 use Rattle.irig_plant.specs.declared.event.Event.{Event}
-use Rattle.irig_plant.specs.declared.event.Event.TheVariants.{GenEdge, Tick, Carry, Damage, Replay, Raw, Fault, Repair, Restart}
 use Rattle.irig_plant.specs.declared.entry.Entry.{Entry}
 use Rattle.irig_plant.specs.declared.fault.PlantFault.{PlantFault}
-use Rattle.irig_plant.specs.Schedule.{Setup, log_of, entry_of}
+use Rattle.irig_plant.specs.Schedule.{Setup, log_of}
 use Rattle.irig_plant.specs.Refusals.{refusal}
 use Rattle.irig_plant.specs.Runs.{events_after, AreAccepted, IsRefused}
 use Rattle.text_faults.specs.declared.refusal.Refusal.{Refusal}
 use Rattle.report_log.specs.declared.shown.Shown.{Shown}
-use Rattle.irig_scene.specs.Scene.{refusal_as}
-use Rattle.irig_scene.specs.Scene.{Play, play, play_by, unless_refused, Scene, scene, log_text}
+use Rattle.irig_scene.specs.Scene.{refusal_as, Play, play, play_by, unless_refused, Scene, scene, log_text}
 use Rattle.report_log.specs.Text.{lines_text}
 use Rattle.report_log.proofs.TextLaws.{lines_join}
 use Rattle.irig_plant.specs.WholeSecond.{times}
-use Rattle.std.proofs.Common.{◌+◌, ◌-◌}
 
 one_accepted : (s : Setup) (e : Event) (es ev : List Event) → refusal s e ev ≡ None → play s (e ∷ es) ev ≡ play s es (e ∷ ev)
 one_accepted s e es ev h = ap (λ k. unless_refused (option_and_then refusal_as k) ev (play s es (e ∷ ev))) h
@@ -40,53 +36,13 @@ play_until s (suc i) (e ∷ es) ev fault k lt h stop named = one_accepted s e (e
 
 -- ---- the log grows
 
--- the log of what has come is in front of the log of what has come later
-pub record LogGrows (s : Setup) (ev later : List Event) : Type 0 where
-  pub more : List Entry
-  pub is : log_of s later ≡ log_of s ev ++ more
-
-pub log_keeps : (s : Setup) (ev : List Event) → LogGrows s ev ev
-log_keeps s ev = record { more = []; is = sym (append-nil (log_of s ev)) }
-
-no_tick : (s : Setup) (ev later : List Event) → log_of s later ≡ log_of s ev → LogGrows s ev later
-no_tick s ev later e = record { more = []; is = e ∙ sym (append-nil (log_of s ev)) }
-
-grows_by : (s : Setup) (e : Event) (ev : List Event) → LogGrows s ev (e ∷ ev)
-grows_by s (Tick r) ev = record { more = entry_of s r ev ∷ []; is = refl }
-grows_by s (GenEdge g) ev = no_tick s ev (GenEdge g ∷ ev) refl
-grows_by s (Carry g r) ev = no_tick s ev (Carry g r ∷ ev) refl
-grows_by s (Damage g r at width) ev = no_tick s ev (Damage g r at width ∷ ev) refl
-grows_by s (Replay g r edge) ev = no_tick s ev (Replay g r edge ∷ ev) refl
-grows_by s (Raw g r widths) ev = no_tick s ev (Raw g r widths ∷ ev) refl
-grows_by s (Fault g kind) ev = no_tick s ev (Fault g kind ∷ ev) refl
-grows_by s (Repair g) ev = no_tick s ev (Repair g ∷ ev) refl
-grows_by s (Restart r) ev = no_tick s ev (Restart r ∷ ev) refl
-
-grows_on : (s : Setup) (a b c : List Event) → LogGrows s a b → LogGrows s b c → LogGrows s a c
-grows_on s a b c h k = record {
-  more = h.more ++ k.more;
-  is = k.is ∙ ap (λ l. l ++ k.more) h.is ∙ append_assoc (log_of s a) h.more k.more;
-}
-
-grows_unless : (s : Setup) (k : Option Refusal) (ev : List Event) (rest : Play) → LogGrows s ev rest.events → LogGrows s ev (unless_refused k ev rest).events
-grows_unless s None ev rest h = h
-grows_unless s (Some k) ev rest h = log_keeps s ev
-
-pub grows_by_play : (s : Setup) (es ev : List Event) → LogGrows s ev (play s es ev).events
-grows_by_play s [] ev = log_keeps s ev
-grows_by_play s (e ∷ es) ev =
-    grows_unless s (option_and_then refusal_as (refusal s e ev)) ev (play s es (e ∷ ev))
-    (grows_on s ev (e ∷ ev) (play s es (e ∷ ev)).events (grows_by s e ev) (grows_by_play s es (e ∷ ev)))
-
--- ---- its text
-
 -- the text grows by that of what came since
-pub lines_grow : (x : Scene) (later : List Event) (shown : Shown) (grown : LogGrows x.plan.setup x.events later)
-    → log_text shown (Some (scene x.plan later)) ≡ log_text shown (Some x) ++ lines_text x.plan.names shown grown.more
-lines_grow x later shown grown =
+pub lines_grow : (x : Scene) (later : List Event) (shown : Shown) (more : List Entry) → log_of x.plan.setup later ≡ log_of x.plan.setup x.events ++ more
+    → log_text shown (Some (scene x.plan later)) ≡ log_text shown (Some x) ++ lines_text x.plan.names shown more
+lines_grow x later shown more grown =
     let s = x.plan.setup in
     let names = x.plan.names in
-    ap (lines_text names shown) grown.is ∙ lines_join names shown (log_of s x.events) grown.more
+    ap (lines_text names shown) grown ∙ lines_join names shown (log_of s x.events) more
 
 -- ---- lists of events
 

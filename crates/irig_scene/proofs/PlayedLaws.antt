@@ -1,24 +1,17 @@
 -- Events that are played one after another, and what is said of them.
-use Rattle.std.proofs.Common.{◌≡◌, ℕ, ◌+◌, ◌-◌, ◌<◌, List, [], ◌∷◌, ◌++◌, take, drop, length, Option, Some, None, Result, Ok, Err, refl, ap, sym, subst, ◌∙◌, append-nil, append_assoc, arith, get_or}
+use Rattle.std.proofs.Common.{◌≡◌, ℕ, ◌+◌, ◌<◌, List, [], ◌∷◌, ◌++◌, take, drop, length, Option, Some, None, Err, refl, ap, sym, subst, ◌∙◌, append-nil, append_assoc, get_or}
 use Rattle.std.specs.Prelude.{option_and_then}
 use Rattle.std.specs.Io.KnownBytes.{Appends}
 use Rattle.std.proofs.KnownBytes.{Appends-trans, Appends-nil}
 use Rattle.std.proofs.lemmas.List.{take_more, take-append-drop}
 use Rattle.irig_plant.specs.declared.event.Event.{Event}
 use Rattle.irig_plant.specs.Refusals.{refusal}
-use Rattle.irig_plant.specs.WholeSecond.{times}
-use Rattle.irig_plant.specs.Runs.{IsRefused}
-use Rattle.irig_plant.specs.declared.fault.PlantFault.{PlantFault}
-use Rattle.irig_device.specs.Watched.{AppendsPart}
 use Rattle.text_faults.specs.declared.refusal.Refusal.{Refusal}
-use Rattle.scenario_line.specs.declared.event_line.Command.{Command}
-use Rattle.scenario_line.specs.declared.event_line.Command.TheVariants as command
 use Rattle.irig_scene.specs.declared.stop.Stop.{Stop}
 use Rattle.irig_scene.specs.declared.stop.Stop.TheVariants.{Refused, Failed}
-use Rattle.irig_scene.specs.Scene.{Scene, scene, events_of, refusal_as, Play, play, play_by, unless_refused}
-use Rattle.irig_scene.specs.Scene.{after_events, second_in}
-use Rattle.irig_scene.proofs.PlayLaws.{play_until}
-use Rattle.irig_scene.proofs.PlayLaws.{plays_on, plays_no_further, one_time_more, times_left}
+use Rattle.irig_scene.specs.Scene.{Scene, scene, refusal_as, Play, play, play_by, unless_refused}
+use Rattle.irig_scene.specs.Scene.{after_events}
+use Rattle.irig_scene.proofs.PlayLaws.{plays_on, plays_no_further}
 use Rattle.scenario_line.specs.PlantLine.{Plan}
 use Rattle.irig_scene.specs.Texts.{Texts, said, said_in}
 use Rattle.irig_scene.specs.ListenerRuns.{SaidMore, SaidPart, PlayedFor, Played}

@@ -28,7 +28,7 @@ use Rattle.irig_scene.proofs.LineLaws.{line_first, no_line, lines_after, one_lin
 use Rattle.irig_scene.proofs.ReadLaws.{shown_with_newline, shown_too_long, shown_at_end, refused_later}
 use Rattle.irig_scene.proofs.StepLaws.{meaning_goes, meaning_stops, meaning_ends, step_many, step_long}
 use Rattle.irig_scene.specs.Texts.{Texts, text_of, first_of, closing_of, meaning_text, whole_text}
-use Rattle.irig_scene.specs.ListenerRuns.{IsAt, TextMore, TookTo, IsFirst, WroteStop, WrotePart, RunsLine, EndsFor, LeavesFor, RestFor, StoppedInLine, HasHeard, HeardFor, RunFor, RanFor, RanTo}
+use Rattle.irig_scene.specs.ListenerRuns.{IsAt, TextMore, TookTo, IsFirst, WroteStop, WrotePart, RunsLine, EndsFor, LeavesFor, RestFor, StoppedInLine, HasHeard, HeardFor, RunFor, RanTo}
 use Rattle.irig_scene.specs.Starts.{noted_at, starts_from}
 use Rattle.irig_scene.proofs.TakenLaws.{TextFront, front_of_meaning, nothing_more, more_on}
 use Rattle.irig_scene.proofs.RestLaws.{rest_on, refused_rest}

@@ -1,5 +1,5 @@
 -- Known lines, seconds, steps and texts of scenarios, so that a wrong definition does not check.
-use Rattle.std.proofs.Common.{◌≡◌, ◌≤◌, ℕ, ◌+◌, true, false, List, [], ◌∷◌, map, length, Option, Some, None, Ok, Err, pos, refl, sym, arith}
+use Rattle.std.proofs.Common.{◌≡◌, ℕ, true, false, List, [], ◌∷◌, map, length, Option, Some, None, Ok, Err, pos, refl, sym, arith}
 use Rattle.std.specs.Prelude.{codes, vec_len}
 use Rattle.std.specs.Fmt.{digits}
 use Rattle.irig_control.specs.declared.parity.Parity.TheVariants.{Even}
@@ -19,13 +19,12 @@ use Rattle.irig_port.specs.declared.port.Port.{Ghosts}
 use Rattle.irig_port.specs.declared.told.Told.TheVariants as tells
 use Rattle.irig_vote.specs.declared.redundancy.Redundancy.TheVariants.{One}
 use Rattle.irig_plant.specs.declared.entry.Entry.{Entry}
-use Rattle.irig_plant.specs.declared.event.Event.{Event}
 use Rattle.irig_plant.specs.declared.plant.Plant.{Plant}
 use Rattle.irig_plant.specs.declared.event.Event.TheVariants.{GenEdge, Tick, Carry, Restart}
 use Rattle.irig_plant.specs.declared.audit.Audit.TheVariants.{Kept, Broken, FalseTable}
 use Rattle.irig_plant.specs.declared.setup.ReaderSetup.{ReaderSetup}
 use Rattle.irig_plant.specs.Schedule.{Setup, setup}
-use Rattle.irig_plant.specs.WholeSecond.{second_of, times as seconds}
+use Rattle.irig_plant.specs.WholeSecond.{second_of}
 use Rattle.scenario_line.specs.declared.event_line.Command.TheVariants as command
 use Rattle.text_faults.specs.declared.refusal.Refusal.TheVariants as refusal
 use Rattle.irig_scene.specs.Lines.{lines, unlines, is_blank, limit_of}

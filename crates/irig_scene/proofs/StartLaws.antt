@@ -1,12 +1,11 @@
 -- What is noted where lines begin, and what a listener heard when a run ends.
-use Rattle.std.proofs.Common.{◌≡◌, ℕ, ◌+◌, Bool, true, cond, List, [], ◌∷◌, ◌++◌, length, inl, inr, Option, Some, None, Result, Ok, Err, refl, ap, sym, subst, ◌∙◌, append-nil}
+use Rattle.std.proofs.Common.{◌≡◌, ℕ, ◌+◌, Bool, true, List, [], ◌∷◌, ◌++◌, inl, inr, Option, Some, None, Result, Ok, Err, refl, ap, sym, subst, ◌∙◌, append-nil}
 use Rattle.text_faults.specs.declared.refusal.Refusal.{Refusal}
-use Rattle.irig_device.specs.Lines.{HasNoNewline}
 use Rattle.irig_scene.specs.declared.outcome.Outcome.{Outcome}
 use Rattle.irig_scene.specs.declared.fault.SceneFault.{SceneFault}
 use Rattle.irig_scene.specs.declared.fault.SceneFault.TheVariants.{Refused, Read, Write, Memory}
 use Rattle.irig_scene.specs.Lines.{lines}
-use Rattle.irig_scene.specs.Scene.{Scene, Step, step, Meaning, meaning_from, meaning_at_end}
+use Rattle.irig_scene.specs.Scene.{Scene, Step, step, Meaning, meaning_from}
 use Rattle.irig_scene.specs.declared.stop.Stop.{Stop}
 use Rattle.irig_scene.specs.declared.stop.Stop.TheVariants as stop
 use Rattle.irig_scene.specs.declared.stop.Failure.{Failure}
@@ -17,7 +16,7 @@ use Rattle.irig_scene.specs.ListenerRuns.{IsAt, IsFirst, IsPlayerAt, Took, TookT
 use Rattle.irig_scene.specs.declared.player.Player.{Player}
 use Rattle.irig_port.specs.declared.port.Port.{Ghosts}
 use Rattle.irig_scene.specs.Starts.{entry_count, noted_at, unless_over, starts_from}
-use Rattle.irig_scene.proofs.LineLaws.{one_line, no_line}
+use Rattle.irig_scene.proofs.LineLaws.{no_line}
 use Rattle.irig_scene.proofs.StepLaws.{meaning_goes, meaning_stops, meaning_ends}
 
 -- ---- what is noted

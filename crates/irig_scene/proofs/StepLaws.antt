@@ -1,17 +1,9 @@
 -- What one line does, and what the lines after it can't undo.
-use Rattle.std.proofs.Common.{◌≡◌, ℕ, ◌+◌, ◌<◌, ◌≤◌, Bool, true, false, cond, List, [], ◌∷◌, ◌++◌, length, Option, Some, None, Result, Ok, Err, refl, ap, sym, ◌∙◌, append_assoc, append-nil, rules, nat_lt}
-use Rattle.irig_plant.specs.declared.event.Event.{Event}
-use Rattle.scenario_line.specs.declared.event_line.Command.{Command}
+use Rattle.std.proofs.Common.{◌≡◌, ℕ, ◌+◌, ◌<◌, ◌≤◌, true, false, List, [], ◌∷◌, length, Option, Some, None, refl, ap, rules, nat_lt}
 use Rattle.text_faults.specs.declared.refusal.Refusal.{Refusal}
 use Rattle.text_faults.specs.declared.refusal.Refusal.TheVariants.{TooManyLines, TooLong}
-use Rattle.report_log.specs.declared.shown.Shown.{Shown}
 use Rattle.irig_scene.specs.Lines.{is_blank, max_line, max_lines}
-use Rattle.scenario_line.specs.EventLine.{command_in_line}
-use Rattle.scenario_line.specs.PlantLine.{plan_in_line}
-use Rattle.report_log.specs.Text.{lines_text}
-use Rattle.irig_scene.specs.Scene.{Scene, events_of, step_to, step_of_plan, step_of_command, step_of_line, step, Meaning, meaning, refusal_at, meaning_at_end, unless_stopped, meaning_from, log_text, last_text, text_of}
-use Rattle.irig_scene.specs.Scene.{after_events}
-use Rattle.irig_scene.proofs.PlayLaws.{grows_by_play, lines_grow}
+use Rattle.irig_scene.specs.Scene.{Scene, step_to, step_of_line, step, meaning, refusal_at, meaning_at_end, unless_stopped, meaning_from}
 
 -- ---- one line
 

@@ -9,31 +9,24 @@ use Rattle.irig_sync.proofs.LineLaws.{on_time_is, gap_is}
 -- ---- elements
 
 -- an element lies 10 ms behind the one before, but for the drift at a frame's end
-pub element_least : (d : ℕ) (edges : ℕ → ℕ) → IsSteady d edges → (k : ℕ) → element_at edges k + 10000 ≤ element_at edges (suc k) + d
-element_least d edges steady k = elim (cases_lt (k % 100) 99) [
+element_step : (d : ℕ) (edges : ℕ → ℕ) → IsSteady d edges → (k : ℕ) → (element_at edges k + 10000 ≤ element_at edges (suc k) + d) × (element_at edges (suc k) ≤ element_at edges k + 10000 + d)
+element_step d edges steady k = elim (cases_lt (k % 100) 99) [
   | inl inside ↦
       let frame : suc k / 100 ≡ k / 100 = omega (arith, inside) in
       let place : suc k % 100 ≡ k % 100 + 1 = omega (arith, inside) in
-      rw (frame, place) (omega arith)
+      rw (frame, place) (omega arith, omega arith)
   | inr last ↦
       let frame : suc k / 100 ≡ k / 100 + 1 = omega (arith, last) in
       let place : suc k % 100 ≡ 0 = omega (arith, last) in
       let end : k % 100 ≡ 99 = omega (arith, last) in
-      rw (frame, place, end) (omega (arith, steady.least (k / 100)))
+      rw (frame, place, end) (omega (arith, steady.least (k / 100)), omega (arith, steady.most (k / 100)))
 ]
 
+pub element_least : (d : ℕ) (edges : ℕ → ℕ) → IsSteady d edges → (k : ℕ) → element_at edges k + 10000 ≤ element_at edges (suc k) + d
+element_least d edges steady k = (element_step d edges steady k).0
+
 pub element_most : (d : ℕ) (edges : ℕ → ℕ) → IsSteady d edges → (k : ℕ) → element_at edges (suc k) ≤ element_at edges k + 10000 + d
-element_most d edges steady k = elim (cases_lt (k % 100) 99) [
-  | inl inside ↦
-      let frame : suc k / 100 ≡ k / 100 = omega (arith, inside) in
-      let place : suc k % 100 ≡ k % 100 + 1 = omega (arith, inside) in
-      rw (frame, place) (omega arith)
-  | inr last ↦
-      let frame : suc k / 100 ≡ k / 100 + 1 = omega (arith, last) in
-      let place : suc k % 100 ≡ 0 = omega (arith, last) in
-      let end : k % 100 ≡ 99 = omega (arith, last) in
-      rw (frame, place, end) (omega (arith, steady.most (k / 100)))
-]
+element_most d edges steady k = (element_step d edges steady k).1
 
 -- ---- pulses, by the times of their elements
 

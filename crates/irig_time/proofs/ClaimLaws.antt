@@ -12,19 +12,13 @@ use Rattle.irig_time.specs.Days.{IsMonthEnd, is_month_end, year_length}
 use Rattle.irig_time.specs.Seconds.{IsValid, minute_of, second_of}
 use Rattle.irig_time.specs.CodedTime.{IsCodedOf}
 use Rattle.irig_time.specs.Claims.{utc_minute, is_last_minute, frame_mark, claim_at, claim_by, claim_of_second}
-use Rattle.irig_time.proofs.Dates.{date_of_parts}
-use Rattle.irig_time.proofs.MonthEnds.{month_end_test}
-
--- a month's end needs no date to be told by the test
-ends : (day : ℕ) → day ≤ 36523 → IsMonthEnd day → is_month_end day ≡ true
-unfolding date_of_parts
-ends day low h = (month_end_test day low (date_of_parts h.0 h.1 1 h.2.0) h.2.1).1 h
+use Rattle.irig_time.proofs.MonthEnds.{month_end_is_test}
 
 last_minute : (u : UtcSecond) → IsValid u → u.sod ≡ 86400 → IsMonthEnd u.day → is_last_minute (1440 * u.day + minute_of u) ≡ true
 last_minute u valid e h =
     let day : (1440 * u.day + minute_of u) / 1440 ≡ u.day = omega arith in
     let minute : (1440 * u.day + minute_of u) % 1440 ≡ 1439 = omega (arith, e) in
-    and_from _ _ (ap is_month_end day ∙ ends u.day valid.day.1 h) (eq-eqb _ _ minute)
+    and_from _ _ (ap is_month_end day ∙ month_end_is_test u.day valid.day.1 h) (eq-eqb _ _ minute)
 
 no_second_60 : (u : UtcSecond) → IsValid u → (eqb (second_of u) 60 && not (is_last_minute (1440 * u.day + minute_of u))) ≡ false
 no_second_60 u valid =

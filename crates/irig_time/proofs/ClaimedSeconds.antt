@@ -4,7 +4,6 @@ use Rattle.std.specs.Prelude.{IfOk, nat_lt}
 use Rattle.std.proofs.lemmas.Bool.{cases_Bool, cases_eq, and_parts, eqb-true, eq-eqb, ltb-true, ltb-false}
 use Rattle.irig_frame.specs.declared.coded.Coded.{Coded}
 use Rattle.irig_control.specs.declared.control.Control.{Control}
-use Rattle.irig_time.specs.declared.second.UtcSecond.{UtcSecond}
 use Rattle.irig_time.specs.declared.claim.Claim.{Claim}
 use Rattle.irig_time.specs.declared.claim.TimeFault.{TimeFault}
 use Rattle.irig_time.specs.declared.rules.Sense.{Sense}
@@ -43,21 +42,25 @@ valid_at minute second low high small h = record {
   ];
 }
 
-at_is : (u : UtcSecond) (c : Claim) (claim : Claim) → c.at ≡ u → ◌≡◌ {A = Result Claim TimeFault} (Ok c) (Ok claim) → claim.at ≡ u
-at_is u c claim e h = let same : c ≡ claim = cc in subst (λ (x : Claim). x.at ≡ u) same e
-
-pub claim_valid : (sense : Sense) (c : Coded) (k : Control) (claim : Claim) → c.second ≤ 60 → claim_by sense c k ≡ Ok claim → IsValid claim.at
-claim_valid sense c k claim small h =
-    let z = utc_minute sense c k in
+-- a claim is of the minute that its frame tells, which is served
+claim_made : (sense : Sense) (c : Coded) (k : Control) (claim : Claim) → claim_by sense c k ≡ Ok claim → let minute = unsigned_abs (utc_minute sense c k) in (1440 ≤ minute) × (minute < 52594560)
+    × ((eqb c.second 60 && not (is_last_minute minute)) ≡ false) × (record { at = utc_at minute c.second; mark = frame_mark (is_last_minute minute) c.second k } ≡ claim)
+claim_made sense c k claim h =
     let day = passed _ _ _ _ h in
     let low = passed _ _ _ _ day.1 in
     let high = needed _ _ _ _ low.1 in
-    let minute = unsigned_abs z in
-    let within = served z low.0 high.0 in
-    let sixty = passed (eqb c.second 60 && not (is_last_minute minute)) _ _ claim high.1 in
+    let within = served (utc_minute sense c k) low.0 high.0 in
+    let sixty = passed (eqb c.second 60 && not (is_last_minute (unsigned_abs (utc_minute sense c k)))) _ _ claim high.1 in
     let deleted = passed _ _ _ _ sixty.1 in
-    let at = at_is (utc_at minute c.second) (record { at = utc_at minute c.second; mark = frame_mark (is_last_minute minute) c.second k }) claim refl deleted.1 in
-    subst IsValid (sym at) (valid_at minute c.second within.0 within.1 small sixty.0)
+    (within.0, within.1, sixty.0, same_ok deleted.1)
+  where
+    same_ok : {c claim : Claim} → ◌≡◌ {A = Result Claim TimeFault} (Ok c) (Ok claim) → c ≡ claim
+    same_ok h = cc
+
+pub claim_valid : (sense : Sense) (c : Coded) (k : Control) (claim : Claim) → c.second ≤ 60 → claim_by sense c k ≡ Ok claim → IsValid claim.at
+claim_valid sense c k claim small h =
+    let made = claim_made sense c k claim h in
+    subst (λ (x : Claim). IsValid x.at) made.3 (valid_at (unsigned_abs (utc_minute sense c k)) c.second made.0 made.1 small made.2)
 
 -- the same of an answer
 pub answer_valid : (sense : Sense) (c : Coded) (k : Control) (answer : Result Claim TimeFault) → c.second ≤ 60 → answer ≡ claim_by sense c k → IfOk answer (λ claim. IsValid claim.at)
@@ -76,17 +79,5 @@ marked_at minute second k =
       | inr silent ↦ inl (rw silent refl)
     ]
 
-made_is : (c claim : Claim) → ◌≡◌ {A = Result Claim TimeFault} (Ok c) (Ok claim) → c ≡ claim
-made_is c claim h = cc
-
 pub claim_marked : (sense : Sense) (c : Coded) (k : Control) (claim : Claim) → claim_by sense c k ≡ Ok claim → IsMarkedLate claim
-claim_marked sense c k claim h =
-    let z = utc_minute sense c k in
-    let day = passed _ _ _ _ h in
-    let low = passed _ _ _ _ day.1 in
-    let high = needed _ _ _ _ low.1 in
-    let minute = unsigned_abs z in
-    let within = served z low.0 high.0 in
-    let sixty = passed (eqb c.second 60 && not (is_last_minute minute)) _ _ claim high.1 in
-    let deleted = passed _ _ _ _ sixty.1 in
-    subst IsMarkedLate (made_is (record { at = utc_at minute c.second; mark = frame_mark (is_last_minute minute) c.second k }) claim deleted.1) (marked_at minute c.second k)
+claim_marked sense c k claim h = subst IsMarkedLate (claim_made sense c k claim h).3 (marked_at (unsigned_abs (utc_minute sense c k)) c.second k)

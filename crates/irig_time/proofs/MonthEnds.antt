@@ -11,7 +11,7 @@ use Rattle.jiff_core.proofs.CalendarLemmas.{days_in_month_bounds, days_from_civi
 use Rattle.jiff_core.proofs.MarchLemmas.{leap_day, days_in_year-leap_day}
 use Rattle.jiff_core.proofs.DateLemmas.{civil}
 use Rattle.irig_time.specs.Days.{IsDateOf, IsMonthEnd, year_length, four_years, ends_one, is_month_end}
-use Rattle.irig_time.proofs.Dates.{month_end_is, year_day, year_length_is, parts_of_date}
+use Rattle.irig_time.proofs.Dates.{date_of_parts, month_end_is, year_day, year_length_is, parts_of_date}
 
 -- ---- the months of four years
 
@@ -204,3 +204,8 @@ month_end_test day low a e = (month_end_from_test day, back)
         let month = (civil a).1 in
         let start = month_day yy a.month (omega (arith, f.2)) (omega (arith, month)) (omega (arith, month)) in
         month_end_before day yy (a.month - 1) low (omega (arith, month)) (omega (arith, signed_arith, start, first))
+
+-- a month's end needs no date to be told by the test
+pub month_end_is_test : (day : ℕ) → day ≤ 36523 → IsMonthEnd day → is_month_end day ≡ true
+unfolding date_of_parts
+month_end_is_test day low h = (month_end_test day low (date_of_parts h.0 h.1 1 h.2.0) h.2.1).1 h

@@ -1,7 +1,7 @@
 -- The stretches of a timeline, and the second that is found by them.
 use Rattle.std.proofs.Common.{leb, leb-true, take, drop, ◌≡◌, ℕ, zero, suc, ◌+◌, ◌-◌, ◌*◌, ◌/◌, ◌^◌, ◌<◌, ◌≤◌, min, ◌⊎◌, true, false, All, get_or, List, [], ◌∷◌, ◌++◌, length, slice_get, Option, Some, None, refl, sym, ap, subst, ◌∙◌, arith, inl, inr}
 use Rattle.std.specs.List.{AllAdjacentBelow}
-use Rattle.std.proofs.lemmas.Bool.{cases_lt, leb-false, ltb-true, ltb-false, ne_eqb, eq-eqb}
+use Rattle.std.proofs.lemmas.Bool.{cases_lt, leb-false, ne_eqb, eq-eqb}
 use Rattle.std.specs.Prelude.{MatchOption}
 use Rattle.std.proofs.lemmas.Option.{slice_get_within}
 use Rattle.std.proofs.lemmas.List.Sorted.{IsNonDecreasingBy-from_all_adjacent, all_adjacent_more}
@@ -15,7 +15,7 @@ use Rattle.irig_time.specs.declared.leap.Leap.{Leap}
 use Rattle.irig_time.specs.declared.stretches.Stretch.{Stretch}
 use Rattle.irig_time.specs.Timelines.{TimelineValue, leap_of, length_by, day_length, seconds_in, IsSecond}
 use Rattle.irig_time.specs.TimelineFaults.{first_leap_fault}
-use Rattle.irig_time.specs.Stretches.{HasNoLeapFrom, IsNextLeap, IsPlaced, Joins, IsIndex, IsIndexed, IsRising, Holds, comes_before}
+use Rattle.irig_time.specs.Stretches.{HasNoLeapFrom, IsNextLeap, IsPlaced, Joins, IsIndex, IsIndexed, IsRising, Holds}
 use Rattle.irig_time.proofs.TimeLaws.{length_bounds, seconds_bounds, seconds_to_next, seconds_before_later, neither, no_fault, once_only, the_last}
 
 -- ---- stretches

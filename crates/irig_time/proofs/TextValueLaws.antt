@@ -10,9 +10,9 @@ use Rattle.jiff_core.specs.Calendar.{days_from_civil, days_in_month, IsCivilDate
 use Rattle.jiff_core.proofs.CalendarLemmas.{days_in_month_bounds}
 use Rattle.jiff_core.proofs.DateLemmas.{days_from_civil-day, days_from_civil-next_month, days_from_civil-next_year}
 use Rattle.irig_time.proofs.StandardFacts.{known_dates, month_end_6209}
-use Rattle.irig_time.proofs.MonthEnds.{month_end_from_test, month_end_test}
+use Rattle.irig_time.proofs.MonthEnds.{month_end_from_test, month_end_is_test}
 use Rattle.irig_time.specs.declared.second.UtcSecond.{UtcSecond}
-use Rattle.irig_time.specs.Days.{IsDateOf, IsMonthEnd, is_month_end}
+use Rattle.irig_time.specs.Days.{IsDateOf, is_month_end}
 use Rattle.irig_time.specs.Seconds.{IsValid, minute_of, second_of}
 use Rattle.irig_time.specs.Texts.{date_text, time_text, IsDayText, IsText}
 use Rattle.irig_time.specs.TextValues.{Ymd, dates, is_date_of, day_text, second_text, seconds_of, valid_seconds, day_read, second_read}
@@ -147,12 +147,6 @@ day_read_is text o h =
       λ k. let most : d ≤ 36524 = omega (arith, from_range d 0 36525 k.1) in
           (h d).1 (most, subst (IsDayText d) ((bytes_eq-Decides (day_text d) text).0 k.0) (day_text_spells d most)),
     ))
-
-month_end_is_test : (day : ℕ) → day ≤ 36523 → IsMonthEnd day → is_month_end day ≡ true
-unfolding date_of_parts
-month_end_is_test day most h =
-    let d = has_date (day + 1) (omega arith) in
-    (month_end_test day most (date_of_parts (pos d.year) d.month d.day_of_month d.is.0) d.is.1).1 h
 
 below_end : (u : UtcSecond) → IsValid u → u.sod < 0 + (if is_month_end u.day then 86401 else 86400)
 below_end u valid = elim valid.sod [

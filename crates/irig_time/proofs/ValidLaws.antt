@@ -1,22 +1,17 @@
 -- That a second is of UTC is a fact which a struct may keep: if it cannot be false, it is true.
-use Rattle.std.proofs.Common.{◌≡◌, ◌≤◌, ℕ, true, inl, inr, arith}
+use Rattle.std.proofs.Common.{◌≡◌, ◌≤◌, ℕ, inl, inr, arith}
 use Rattle.std.proofs.Math.Logic.{∥∥₁_elim}
 use Rattle.std.proofs.lemmas.Bool.{cases_Bool, cases_lt, cases_eq, both_ways}
 use Rattle.irig_time.specs.declared.second.UtcSecond.{UtcSecond}
 use Rattle.irig_time.specs.Days.{IsMonthEnd, is_month_end}
 use Rattle.irig_time.specs.Seconds.{IsValid}
-use Rattle.irig_time.proofs.Dates.{date_of_parts}
-use Rattle.irig_time.proofs.MonthEnds.{month_end_from_test, month_end_test}
-
-ends : (day : ℕ) → day ≤ 36523 → IsMonthEnd day → is_month_end day ≡ true
-unfolding date_of_parts
-ends day low h = (month_end_test day low (date_of_parts h.0 h.1 1 h.2.0) h.2.1).1 h
+use Rattle.irig_time.proofs.MonthEnds.{month_end_from_test, month_end_is_test}
 
 month_end : (day : ℕ) → day ≤ 36523 → ¬ ¬ IsMonthEnd day → IsMonthEnd day
 month_end day low h =
     elim (cases_Bool (is_month_end day)) [
       | inl end ↦ month_end_from_test day end
-      | inr mid ↦ absurd (h (λ end. both_ways (is_month_end day) mid (ends day low end)))
+      | inr mid ↦ absurd (h (λ end. both_ways (is_month_end day) mid (month_end_is_test day low end)))
     ]
 
 pub valid_if_not_wrong : (u : UtcSecond) → ¬ ¬ IsValid u → IsValid u

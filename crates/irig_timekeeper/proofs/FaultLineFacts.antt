@@ -31,7 +31,7 @@ use Rattle.irig_port.specs.Told.{told_of, frame_told, coded_told}
 use Rattle.irig_port.specs.Damage.{IsFaultOr}
 use Rattle.irig_port.proofs.CarriesLaws.{carries_is_told}
 use Rattle.irig_port.proofs.DamageLaws.{damage_told}
-use Rattle.irig_port.proofs.FaultLaws.{all_right}
+use Rattle.irig_frame.proofs.ReadingLaws.{all_right}
 use Rattle.irig_timekeeper.specs.Edges.{IsQuartz}
 use Rattle.irig_timekeeper.specs.Lines.{IsLastBefore, IsFrameOf, IsCheckedLineOf, HasOneFaultInPlace, IsTrueButForFaults}
 use Rattle.irig_timekeeper.proofs.FaultLines.{faults_are_true, same_but, dropped, taken, faultless}

@@ -18,7 +18,7 @@ use Rattle.irig_sync.specs.FaultyLines.{IsPulseOf, ArePulsesBefore}
 use Rattle.irig_sync.proofs.LineLaws.{on_time_is}
 use Rattle.irig_sync.proofs.EdgeLaws.{far_apart, two_apart}
 use Rattle.irig_sync.proofs.FaultLaws.{row-get, last-take, on-take}
-use Rattle.irig_control.proofs.ParityLaws.{get-set_other}
+use Rattle.irig_frame.proofs.WritingLaws.{get-set_other}
 use Rattle.irig_time.specs.declared.rules.Rules.{Rules}
 use Rattle.irig_time.specs.declared.claim.Claim.{Claim}
 use Rattle.irig_time.specs.Carries.{Carries}

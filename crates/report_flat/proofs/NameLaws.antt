@@ -1,5 +1,5 @@
 -- The names of a plant's readers, as they stand in a line: texts without an escape, each of one reader.
-use Rattle.std.proofs.Common.{◌≡◌, ◌≢◌, ℕ, zero, suc, ◌+◌, ◌<◌, ◌≤◌, ◌==◌, Bool, true, false, ◌&&◌, ◌||◌, cond, not, List, [], ◌∷◌, ◌++◌, length, Some, None, refl, ap, ap₂, sym, ◌∙◌, arith, inl, inr}
+use Rattle.std.proofs.Common.{◌≡◌, ◌≢◌, ℕ, zero, suc, ◌+◌, ◌<◌, ◌≤◌, ◌==◌, Bool, true, false, ◌&&◌, cond, not, List, [], ◌∷◌, ◌++◌, length, Some, None, refl, ap, ap₂, sym, ◌∙◌, arith, inl, inr}
 use Rattle.std.specs.Prelude.{nat_le, nat_lt}
 use Rattle.std.specs.List.{AllByRecursion, list_all, list_any, prefix_len, position}
 use Rattle.std.specs.Str.{bytes_eq}
@@ -9,6 +9,7 @@ use Rattle.json.specs.Print.{escape}
 use Rattle.json.proofs.Printed.Strings.{escape_byte_plain}
 use Rattle.scenario_values.specs.Names.{is_name_byte, one_to_sixteen, is_name, all_different, are_names}
 use Rattle.report_log.specs.Text.{name_at}
+use Rattle.irig_scene.proofs.NameLaws.{found_at}
 
 -- ---- the bytes
 
@@ -88,15 +89,6 @@ without_escape (b ∷ bs) h =
 
 -- ---- the place of a name
 
-stands_later : (t : List ℕ) (ts : List (List ℕ)) (r : ℕ) → r < length ts → t ≡ name_at ts r → list_any (bytes_eq t) ts ≡ true
-stands_later t [] r low same = absurd (omega (arith, low))
-stands_later t (x ∷ xs) zero low same = ap (λ b. b || list_any (bytes_eq t) xs) ((bytes_eq-Decides t x).1 same)
-stands_later t (x ∷ xs) (suc r) low same = or_right (bytes_eq t x) _ (stands_later t xs r (omega (arith, low)) same)
-  where
-    or_right : (a b : Bool) → b ≡ true → (a || b) ≡ true
-    or_right true b e = refl
-    or_right false b e = e
-
 -- how many stand before the first that is this name
 abbrev before : List ℕ → List (List ℕ) → ℕ
 before name names = prefix_len (λ n. not (bytes_eq name n)) names
@@ -107,7 +99,7 @@ first_place name (t ∷ ts) zero different low same = ap (λ b. cond (not b) (1 
 first_place name (t ∷ ts) (suc r) different low same =
     let parts = and_parts (not (list_any (bytes_eq t) ts)) (all_different ts) different in
     let apart : bytes_eq name t ≡ false =
-    false_from_ne_true (bytes_eq name t) (λ is. both_ways (list_any (bytes_eq t) ts) (not-true _ parts.0) (stands_later t ts r (omega (arith, low)) (sym ((bytes_eq-Decides name t).0 is) ∙ same))) in
+    false_from_ne_true (bytes_eq name t) (λ is. both_ways (list_any (bytes_eq t) ts) (not-true _ parts.0) (found_at t ts r (omega (arith, low)) (sym ((bytes_eq-Decides name t).0 is) ∙ same))) in
     ap (λ b. cond (not b) (1 + before name ts) 0) apart ∙ omega (arith, first_place name ts r parts.1 (omega (arith, low)) same)
 
 -- a reader is found by its name

@@ -26,7 +26,7 @@ use Rattle.scenario_line.specs.EventLine.{command_in_object, command_in_line}
 use Rattle.report_flat.specs.EventText.{event_line, ArePulses, IsWritten}
 use Rattle.report_flat.proofs.NameLaws.{reader_name, without_escape, reader_found}
 use Rattle.report_flat.proofs.LineLaws.{line_utf8}
-use Rattle.report_flat.proofs.LineValues.{IsReadBack, reads_text, number, items_of, AreWidths, pulses, at_reader, pulses_read_back, at_reader_read_back, pulses_text, tick_text, restart_text}
+use Rattle.report_flat.proofs.LineValues.{IsReadBack, reads_text, items_of, AreWidths, pulses, at_reader, pulses_read_back, at_reader_read_back, pulses_text, tick_text, restart_text}
 
 -- ---- widths
 
@@ -41,13 +41,10 @@ list_length (n ∷ ns) = ap suc (list_length ns)
 in_range : (most n : ℕ) → n ≤ most → natural_within 0 most (pos n) ≡ Some n
 in_range most n h = ap (λ b. cond b (Some n) None) (and_from (nat_le 0 n) (nat_le n most) (le-leb 0 n (omega arith)) (le-leb n most h))
 
-width_in : (n : ℕ) → n ≤ 4294967295 → natural_in 4294967295 (number n) ≡ Some n
-width_in n h = in_range 4294967295 n h
-
 all_in : (ns : List ℕ) → AreWidths ns → all_of (natural_in 4294967295) (list_of (items_of ns)) ≡ Some ns
 all_in [] h = refl
 all_in (n ∷ ns) h =
-    ap (option_and_then (λ x. option_map (λ xs. x ∷ xs) (all_of (natural_in 4294967295) (list_of (items_of ns))))) (width_in n h.0) ∙ ap (option_map (λ xs. n ∷ xs)) (all_in ns h.1)
+    ap (option_and_then (λ x. option_map (λ xs. x ∷ xs) (all_of (natural_in 4294967295) (list_of (items_of ns))))) (in_range 4294967295 n h.0) ∙ ap (option_map (λ xs. n ∷ xs)) (all_in ns h.1)
 
 -- ---- what they say
 

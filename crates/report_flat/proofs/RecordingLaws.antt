@@ -3,6 +3,7 @@ use Rattle.std.proofs.Common.{◌≡◌, ℕ, ◌+◌, ◌==◌, ◌&&◌, Bool,
 use Rattle.std.specs.Option.{option_or}
 use Rattle.std.specs.List.{range_with_len}
 use Rattle.std.specs.Prelude.{option_to_list}
+use Rattle.irig_gen.specs.declared.fault.GenFault.{GenFault}
 use Rattle.irig_port.specs.declared.told.Told.{Told}
 use Rattle.irig_vote.specs.Vote.{ports_in, redundancy_of, f_of}
 use Rattle.irig_reader.specs.History.{Fed, ReaderHistory, vote_at_tick, told_at_tick, report_at_tick}
@@ -20,25 +21,42 @@ kept d = option_to_list (pulses_of d)
 
 -- ---- ticks
 
-ticks_of_pulses : (r g q : ℕ) (ws : List ℕ) (ev : List Event) → ticks_of r (option_to_list (pulses_at g q ws) ++ ev) ≡ ticks_of r ev
-ticks_of_pulses r g q [] ev = refl
-ticks_of_pulses r g q (w ∷ ws) ev = refl
+-- what hangs on ticks and restarts alone
+record IsOfTicks {A : Type 0} (F : List Event → A) : Type 0 where
+  edge : (g : ℕ) (ev : List Event) → F (GenEdge g ∷ ev) ≡ F ev
+  fault : (g : ℕ) (kind : GenFault) (ev : List Event) → F (Fault g kind ∷ ev) ≡ F ev
+  repair : (g : ℕ) (ev : List Event) → F (Repair g ∷ ev) ≡ F ev
+  carry : (g q : ℕ) (ev : List Event) → F (Carry g q ∷ ev) ≡ F ev
+  damage : (g q at width : ℕ) (ev : List Event) → F (Damage g q at width ∷ ev) ≡ F ev
+  replay : (g q edge : ℕ) (ev : List Event) → F (Replay g q edge ∷ ev) ≡ F ev
+  raw : (g q : ℕ) (ws : List ℕ) (ev : List Event) → F (Raw g q ws ∷ ev) ≡ F ev
 
-ticks_kept : (r : ℕ) (d : Option Delivery) (ev : List Event) → ticks_of r (kept d ++ ev) ≡ ticks_of r ev
-ticks_kept r None ev = refl
-ticks_kept r (Some d) ev = ticks_of_pulses r d.generator d.reader d.widths ev
+kept_alike : {A : Type 0} (F : List Event → A) → IsOfTicks F → (d : Option Delivery) (ev : List Event) → F (kept d ++ ev) ≡ F ev
+kept_alike F of None ev = refl
+kept_alike F of (Some d) ev = of_pulses d.generator d.reader d.widths
+  where
+    of_pulses : (g q : ℕ) (ws : List ℕ) → F (option_to_list (pulses_at g q ws) ++ ev) ≡ F ev
+    of_pulses g q [] = refl
+    of_pulses g q (w ∷ ws) = of.raw g q (w ∷ ws) ev
+
+-- is the same of what is recorded
+recorded_alike : {A : Type 0} (s : Setup) (F : List Event → A) → IsOfTicks F → ((r : ℕ) (ev : List Event) → F (recorded s ev) ≡ F ev → F (Tick r ∷ recorded s ev) ≡ F (Tick r ∷ ev))
+    → ((r : ℕ) (ev : List Event) → F (recorded s ev) ≡ F ev → F (Restart r ∷ recorded s ev) ≡ F (Restart r ∷ ev)) → (ev : List Event) → F (recorded s ev) ≡ F ev
+recorded_alike s F of ticks restarts [] = refl
+recorded_alike s F of ticks restarts (Tick r ∷ ev) = ticks r ev (recorded_alike s F of ticks restarts ev)
+recorded_alike s F of ticks restarts (Restart r ∷ ev) = restarts r ev (recorded_alike s F of ticks restarts ev)
+recorded_alike s F of ticks restarts (GenEdge g ∷ ev) = recorded_alike s F of ticks restarts ev ∙ sym (of.edge g ev)
+recorded_alike s F of ticks restarts (Fault g kind ∷ ev) = recorded_alike s F of ticks restarts ev ∙ sym (of.fault g kind ev)
+recorded_alike s F of ticks restarts (Repair g ∷ ev) = recorded_alike s F of ticks restarts ev ∙ sym (of.repair g ev)
+recorded_alike s F of ticks restarts (Carry g q ∷ ev) = kept_alike F of (delivery_of s (Carry g q) ev) (recorded s ev) ∙ recorded_alike s F of ticks restarts ev ∙ sym (of.carry g q ev)
+recorded_alike s F of ticks restarts (Damage g q at w ∷ ev) = kept_alike F of (delivery_of s (Damage g q at w) ev) (recorded s ev) ∙ recorded_alike s F of ticks restarts ev ∙ sym (of.damage g q at w ev)
+recorded_alike s F of ticks restarts (Replay g q edge ∷ ev) = kept_alike F of (delivery_of s (Replay g q edge) ev) (recorded s ev) ∙ recorded_alike s F of ticks restarts ev ∙ sym (of.replay g q edge ev)
+recorded_alike s F of ticks restarts (Raw g q ws ∷ ev) = kept_alike F of (delivery_of s (Raw g q ws) ev) (recorded s ev) ∙ recorded_alike s F of ticks restarts ev ∙ sym (of.raw g q ws ev)
 
 pub same_ticks : (s : Setup) (r : ℕ) (ev : List Event) → ticks_of r (recorded s ev) ≡ ticks_of r ev
-same_ticks s r [] = refl
-same_ticks s r (Tick x ∷ ev) = ap (λ n. cond (x == r) (n + 1) n) (same_ticks s r ev)
-same_ticks s r (Restart x ∷ ev) = same_ticks s r ev
-same_ticks s r (GenEdge g ∷ ev) = same_ticks s r ev
-same_ticks s r (Fault g kind ∷ ev) = same_ticks s r ev
-same_ticks s r (Repair g ∷ ev) = same_ticks s r ev
-same_ticks s r (Carry g q ∷ ev) = ticks_kept r (delivery_of s (Carry g q) ev) (recorded s ev) ∙ same_ticks s r ev
-same_ticks s r (Damage g q at w ∷ ev) = ticks_kept r (delivery_of s (Damage g q at w) ev) (recorded s ev) ∙ same_ticks s r ev
-same_ticks s r (Replay g q edge ∷ ev) = ticks_kept r (delivery_of s (Replay g q edge) ev) (recorded s ev) ∙ same_ticks s r ev
-same_ticks s r (Raw g q ws ∷ ev) = ticks_kept r (delivery_of s (Raw g q ws) ev) (recorded s ev) ∙ same_ticks s r ev
+same_ticks s r ev =
+    recorded_alike s (ticks_of r) (record { edge = λ _ _. refl; fault = λ _ _ _. refl; repair = λ _ _. refl; carry = λ _ _ _. refl; damage = λ _ _ _ _ _. refl; replay = λ _ _ _ _. refl; raw = λ _ _ _ _. refl })
+    (λ x ev same. ap (λ n. cond (x == r) (n + 1) n) same) (λ x ev same. same) ev
 
 -- ---- ports
 
@@ -90,27 +108,11 @@ same_ports s r ev = told_each s r ev (range_with_len 0 (ports_in (redundancy_of 
 
 -- ---- votes
 
-votes_kept : (s : Setup) (r : ℕ) (d : Option Delivery) (ev : List Event) → votes_of s r (kept d ++ ev) ≡ votes_of s r ev
-votes_kept s r None ev = refl
-votes_kept s r (Some d) ev = of_pulses d.generator d.reader d.widths
-  where
-    of_pulses : (g q : ℕ) (ws : List ℕ) → votes_of s r (option_to_list (pulses_at g q ws) ++ ev) ≡ votes_of s r ev
-    of_pulses g q [] = refl
-    of_pulses g q (w ∷ ws) = refl
-
 pub same_votes : (s : Setup) (r : ℕ) (ev : List Event) → votes_of s r (recorded s ev) ≡ votes_of s r ev
-same_votes s r [] = refl
-same_votes s r (Tick x ∷ ev) =
-    ap (λ f. cond (x == r) (vote_at_tick (history_with s r f (votes_of s r (recorded s ev))) ∷ votes_of s r (recorded s ev)) (votes_of s r (recorded s ev))) (same_fed s r ev)
-    ∙ ap (λ v. cond (x == r) (vote_at_tick (history_with s r (fed_at s r ev) v) ∷ v) v) (same_votes s r ev)
-same_votes s r (Restart x ∷ ev) = ap (λ v. cond (x == r) [] v) (same_votes s r ev)
-same_votes s r (GenEdge g ∷ ev) = same_votes s r ev
-same_votes s r (Fault g kind ∷ ev) = same_votes s r ev
-same_votes s r (Repair g ∷ ev) = same_votes s r ev
-same_votes s r (Carry g q ∷ ev) = votes_kept s r (delivery_of s (Carry g q) ev) (recorded s ev) ∙ same_votes s r ev
-same_votes s r (Damage g q at w ∷ ev) = votes_kept s r (delivery_of s (Damage g q at w) ev) (recorded s ev) ∙ same_votes s r ev
-same_votes s r (Replay g q edge ∷ ev) = votes_kept s r (delivery_of s (Replay g q edge) ev) (recorded s ev) ∙ same_votes s r ev
-same_votes s r (Raw g q ws ∷ ev) = votes_kept s r (delivery_of s (Raw g q ws) ev) (recorded s ev) ∙ same_votes s r ev
+same_votes s r ev =
+    recorded_alike s (votes_of s r) (record { edge = λ _ _. refl; fault = λ _ _ _. refl; repair = λ _ _. refl; carry = λ _ _ _. refl; damage = λ _ _ _ _ _. refl; replay = λ _ _ _ _. refl; raw = λ _ _ _ _. refl })
+    (λ x ev same. ap (λ f. cond (x == r) (vote_at_tick (history_with s r f (votes_of s r (recorded s ev))) ∷ votes_of s r (recorded s ev)) (votes_of s r (recorded s ev))) (same_fed s r ev)
+    ∙ ap (λ v. cond (x == r) (vote_at_tick (history_with s r (fed_at s r ev) v) ∷ v) v) same) (λ x ev same. ap (λ v. cond (x == r) [] v) same) ev
 
 same_history : (s : Setup) (r : ℕ) (ev : List Event) → history_of s r (recorded s ev) ≡ history_of s r ev
 same_history s r ev = ap (λ f. history_with s r f (votes_of s r (recorded s ev))) (same_fed s r ev) ∙ ap (history_with s r (fed_at s r ev)) (same_votes s r ev)
@@ -122,25 +124,10 @@ same_entry s r ev =
     let logged : ℕ → ReaderHistory → Entry = λ n h. record { reader = r; edge = n + 1; report = report_at_tick h; redundancy = redundancy_of (length s.generators); told = told_at_tick h; truth = truth_at s.times n } in
     ap (λ n. logged n (history_of s r (recorded s ev))) (same_ticks s r ev) ∙ ap (logged (ticks_of r ev)) (same_history s r ev)
 
-log_kept : (s : Setup) (d : Option Delivery) (ev : List Event) → log_of s (kept d ++ ev) ≡ log_of s ev
-log_kept s None ev = refl
-log_kept s (Some d) ev = of_pulses d.generator d.reader d.widths
-  where
-    of_pulses : (g q : ℕ) (ws : List ℕ) → log_of s (option_to_list (pulses_at g q ws) ++ ev) ≡ log_of s ev
-    of_pulses g q [] = refl
-    of_pulses g q (w ∷ ws) = refl
-
 pub same_log : (s : Setup) (ev : List Event) → log_of s (recorded s ev) ≡ log_of s ev
-same_log s [] = refl
-same_log s (Tick r ∷ ev) = ap (λ l. l ++ entry_of s r (recorded s ev) ∷ []) (same_log s ev) ∙ ap (λ e. log_of s ev ++ e ∷ []) (same_entry s r ev)
-same_log s (Restart r ∷ ev) = same_log s ev
-same_log s (GenEdge g ∷ ev) = same_log s ev
-same_log s (Fault g kind ∷ ev) = same_log s ev
-same_log s (Repair g ∷ ev) = same_log s ev
-same_log s (Carry g q ∷ ev) = log_kept s (delivery_of s (Carry g q) ev) (recorded s ev) ∙ same_log s ev
-same_log s (Damage g q at w ∷ ev) = log_kept s (delivery_of s (Damage g q at w) ev) (recorded s ev) ∙ same_log s ev
-same_log s (Replay g q edge ∷ ev) = log_kept s (delivery_of s (Replay g q edge) ev) (recorded s ev) ∙ same_log s ev
-same_log s (Raw g q ws ∷ ev) = log_kept s (delivery_of s (Raw g q ws) ev) (recorded s ev) ∙ same_log s ev
+same_log s ev =
+    recorded_alike s (log_of s) (record { edge = λ _ _. refl; fault = λ _ _ _. refl; repair = λ _ _. refl; carry = λ _ _ _. refl; damage = λ _ _ _ _ _. refl; replay = λ _ _ _ _. refl; raw = λ _ _ _ _. refl })
+    (λ r ev same. ap (λ l. l ++ entry_of s r (recorded s ev) ∷ []) same ∙ ap (λ e. log_of s ev ++ e ∷ []) (same_entry s r ev)) (λ r ev same. same) ev
 
 -- ---- the audit
 
@@ -149,32 +136,16 @@ same_broken_now s r ev =
     ap (λ n. nat_lt (f_of (redundancy_of (length s.generators))) (untrue_ports (truth_at s.times n) (ports_now s r (recorded s ev)))) (same_ticks s r ev)
     ∙ ap (λ ts. nat_lt (f_of (redundancy_of (length s.generators))) (untrue_ports (truth_at s.times (ticks_of r ev)) ts)) (same_ports s r ev)
 
-broken_kept : (s : Setup) (d : Option Delivery) (ev : List Event) → first_broken s (kept d ++ ev) ≡ first_broken s ev
-broken_kept s None ev = refl
-broken_kept s (Some d) ev = of_pulses d.generator d.reader d.widths
-  where
-    of_pulses : (g q : ℕ) (ws : List ℕ) → first_broken s (option_to_list (pulses_at g q ws) ++ ev) ≡ first_broken s ev
-    of_pulses g q [] = refl
-    of_pulses g q (w ∷ ws) = refl
-
 -- what a tick adds, if it is broken
 abbrev broken_by : ℕ → Bool → ℕ → Option TickOfReader
 broken_by r broken n = cond broken (Some (tick_of_reader r (n + 1))) None
 
 pub same_broken : (s : Setup) (ev : List Event) → first_broken s (recorded s ev) ≡ first_broken s ev
-same_broken s [] = refl
-same_broken s (Tick r ∷ ev) =
-    ap (λ o. option_or o (broken_by r (is_broken_now s r (recorded s ev)) (ticks_of r (recorded s ev)))) (same_broken s ev)
+same_broken s ev =
+    recorded_alike s (first_broken s) (record { edge = λ _ _. refl; fault = λ _ _ _. refl; repair = λ _ _. refl; carry = λ _ _ _. refl; damage = λ _ _ _ _ _. refl; replay = λ _ _ _ _. refl; raw = λ _ _ _ _. refl })
+    (λ r ev same. ap (λ o. option_or o (broken_by r (is_broken_now s r (recorded s ev)) (ticks_of r (recorded s ev)))) same
     ∙ ap (λ b. option_or (first_broken s ev) (broken_by r b (ticks_of r (recorded s ev)))) (same_broken_now s r ev)
-    ∙ ap (λ n. option_or (first_broken s ev) (broken_by r (is_broken_now s r ev) n)) (same_ticks s r ev)
-same_broken s (Restart r ∷ ev) = same_broken s ev
-same_broken s (GenEdge g ∷ ev) = same_broken s ev
-same_broken s (Fault g kind ∷ ev) = same_broken s ev
-same_broken s (Repair g ∷ ev) = same_broken s ev
-same_broken s (Carry g q ∷ ev) = broken_kept s (delivery_of s (Carry g q) ev) (recorded s ev) ∙ same_broken s ev
-same_broken s (Damage g q at w ∷ ev) = broken_kept s (delivery_of s (Damage g q at w) ev) (recorded s ev) ∙ same_broken s ev
-same_broken s (Replay g q edge ∷ ev) = broken_kept s (delivery_of s (Replay g q edge) ev) (recorded s ev) ∙ same_broken s ev
-same_broken s (Raw g q ws ∷ ev) = broken_kept s (delivery_of s (Raw g q ws) ev) (recorded s ev) ∙ same_broken s ev
+    ∙ ap (λ n. option_or (first_broken s ev) (broken_by r (is_broken_now s r ev) n)) (same_ticks s r ev)) (λ r ev same. same) ev
 
 pub same_audit : (s : Setup) (ev : List Event) → audit_of s (recorded s ev) ≡ audit_of s ev
 same_audit s ev = ap (verdict (first_false s.times 0 s.readers)) (same_broken s ev)

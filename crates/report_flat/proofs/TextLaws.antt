@@ -20,7 +20,7 @@ use Rattle.scenario_line.proofs.BlankLines.{plant_not_blank, command_not_blank}
 use Rattle.scenario_line.proofs.SoundPlans.{plan_is_sound}
 use Rattle.scenario_values.specs.Names.{are_names}
 use Rattle.irig_scene.specs.Lines.{lines, unlines, onto_first, is_blank, max_line, max_lines}
-use Rattle.irig_scene.specs.Scene.{Scene, scene, refusal_as, Play, play, unless_refused, step_to, step_of_plan, step_of_command, step_of_line, Step, step, Refused, Meaning, meaning, meaning_from, meaning_of, text_of, output_shown, audit_in}
+use Rattle.irig_scene.specs.Scene.{Scene, scene, refusal_as, play, unless_refused, step_to, step_of_plan, step_of_command, Step, step, Refused, Meaning, meaning, meaning_from, meaning_of, text_of, output_shown, audit_in}
 use Rattle.irig_scene.proofs.LineLaws.{lines_after, no_line}
 use Rattle.irig_scene.proofs.PlantLines.{IsPlannedBy, planned}
 use Rattle.irig_scene.proofs.StepLaws.{step_taken, meaning_goes, meaning_ends}
@@ -29,31 +29,22 @@ use Rattle.report_flat.proofs.LineLaws.{is_line}
 use Rattle.report_flat.proofs.ReadLaws.{event_read}
 use Rattle.irig_scene.specs.Texts.{first_of}
 use Rattle.report_flat.specs.Recording.{pulses_at, heard_of, recorded, CanBeWritten, AreTaken}
-use Rattle.report_flat.specs.FlatText.{heard_line, heard_lines, flat_lines, flat_of, flat_text}
+use Rattle.report_flat.specs.FlatText.{heard_line, heard_lines, flat_of, flat_text}
 use Rattle.report_flat.proofs.RecordingLaws.{same_ticks, same_log, same_audit}
 use Rattle.report_flat.proofs.TakenLaws.{IsTaken, meaning_taken, leaves_scene}
 use Rattle.report_flat.proofs.WidthLaws.{pulses_can, pulses_at_can, damaged_can}
 
 -- ---- what an accepted event names
 
--- there is such a reader
-accepts_reader : (s : Setup) (r : ℕ) (rest : Option PlantFault) → unless_reader s r rest ≡ None → (r < length s.readers) × (rest ≡ None)
-accepts_reader s r rest = elim (nat_lt r (length s.readers)) as (λ b. nat_lt r (length s.readers) ≡ b → cond b rest (Some plant.NoSuchReader) ≡ None → (r < length s.readers) × (rest ≡ None)) [
+-- there is such a reader, or generator
+accepts : (n count : ℕ) (fault : PlantFault) (rest : Option PlantFault) → cond (nat_lt n count) rest (Some fault) ≡ None → (n < count) × (rest ≡ None)
+accepts n count fault rest = elim (nat_lt n count) as (λ b. nat_lt n count ≡ b → cond b rest (Some fault) ≡ None → (n < count) × (rest ≡ None)) [
   | true ↦ λ test h. (search rules, h)
   | false ↦ λ test h. absurd cc
 ] refl
 
-accepts_generator : (s : Setup) (g : ℕ) (rest : Option PlantFault) → unless_generator s g rest ≡ None → (g < length s.generators) × (rest ≡ None)
-accepts_generator s g rest = elim (nat_lt g (length s.generators)) as (λ b. nat_lt g (length s.generators) ≡ b → cond b rest (Some plant.NoSuchGenerator) ≡ None → (g < length s.generators) × (rest ≡ None)) [
-  | true ↦ λ test h. (search rules, h)
-  | false ↦ λ test h. absurd cc
-] refl
-
-takes_reader : (s : Setup) (r : ℕ) (rest : Option PlantFault) → r < length s.readers → unless_reader s r rest ≡ rest
-takes_reader s r rest low = let test : nat_lt r (length s.readers) ≡ true = search rules in rw test refl
-
-takes_generator : (s : Setup) (g : ℕ) (rest : Option PlantFault) → g < length s.generators → unless_generator s g rest ≡ rest
-takes_generator s g rest low = let test : nat_lt g (length s.generators) ≡ true = search rules in rw test refl
+takes : (n count : ℕ) (fault : PlantFault) (rest : Option PlantFault) → n < count → cond (nat_lt n count) rest (Some fault) ≡ rest
+takes n count fault rest low = let test : nat_lt n count ≡ true = search rules in rw test refl
 
 -- ---- an event that is recorded
 
@@ -74,17 +65,17 @@ IsRecordedIf s names ev (Some e) = IsRecorded s names ev e
 
 ticks_recorded : (s : Setup) (names : List (List ℕ)) (r : ℕ) (ev : List Event) → IsKnown s names → refusal s (Tick r) ev ≡ None → IsRecorded s names ev (Tick r)
 ticks_recorded s names r ev known h =
-    let reader = accepts_reader s r (unless_second s (ticks_of r ev)) h in
+    let reader = accepts r (length s.readers) plant.NoSuchReader (unless_second s (ticks_of r ev)) h in
     record { written = omega (arith, reader.0, known.named); taken = ap (λ n. unless_reader s r (unless_second s n)) (same_ticks s r ev) ∙ h }
 
 restart_recorded : (s : Setup) (names : List (List ℕ)) (r : ℕ) (ev : List Event) → IsKnown s names → refusal s (Restart r) ev ≡ None → IsRecorded s names ev (Restart r)
-restart_recorded s names r ev known h = record { written = omega (arith, (accepts_reader s r None h).0, known.named); taken = h }
+restart_recorded s names r ev known h = record { written = omega (arith, (accepts r (length s.readers) plant.NoSuchReader None h).0, known.named); taken = h }
 
 raw_recorded : (s : Setup) (names : List (List ℕ)) (g r : ℕ) (ws : List ℕ) (ev : List Event) → IsKnown s names → r < length s.readers → g < length s.generators → CanBeWritten (Raw g r ws) → IsRecordedIf s names ev (pulses_at g r ws)
 raw_recorded s names g r [] ev known reader generator can = tt
 raw_recorded s names g r (w ∷ ws) ev known reader generator can = record {
   written = record { generator = omega (arith, generator, known.few); reader = omega (arith, reader, known.named); few = can.0; range = can.1 };
-  taken = takes_reader s r (unless_generator s g None) reader ∙ takes_generator s g None generator;
+  taken = takes r (length s.readers) plant.NoSuchReader (unless_generator s g None) reader ∙ takes g (length s.generators) plant.NoSuchGenerator None generator;
 }
 
 heard_recorded : (s : Setup) (names : List (List ℕ)) (e : Event) (ev : List Event) → IsKnown s names → refusal s e ev ≡ None → CanBeWritten e → IsRecordedIf s names ev (heard_of s e ev)
@@ -94,17 +85,17 @@ heard_recorded s names (GenEdge g) ev known h can = tt
 heard_recorded s names (Fault g kind) ev known h can = tt
 heard_recorded s names (Repair g) ev known h can = tt
 heard_recorded s names (Raw g r ws) ev known h can =
-    let reader = accepts_reader s r (unless_generator s g None) h in
-    raw_recorded s names g r ws ev known reader.0 (accepts_generator s g None reader.1).0 can
+    let reader = accepts r (length s.readers) plant.NoSuchReader (unless_generator s g None) h in
+    raw_recorded s names g r ws ev known reader.0 (accepts g (length s.generators) plant.NoSuchGenerator None reader.1).0 can
 heard_recorded s names (Carry g r) ev known h can =
-    let reader = accepts_reader s r (unless_generator s g None) h in
-    raw_recorded s names g r (pulses_sent s g ev) ev known reader.0 (accepts_generator s g None reader.1).0 (pulses_can s g ev)
+    let reader = accepts r (length s.readers) plant.NoSuchReader (unless_generator s g None) h in
+    raw_recorded s names g r (pulses_sent s g ev) ev known reader.0 (accepts g (length s.generators) plant.NoSuchGenerator None reader.1).0 (pulses_can s g ev)
 heard_recorded s names (Damage g r at width) ev known h can =
-    let reader = accepts_reader s r (unless_generator s g None) h in
-    raw_recorded s names g r (slice_set (pulses_sent s g ev) at width) ev known reader.0 (accepts_generator s g None reader.1).0 (damaged_can at width (pulses_sent s g ev) can (pulses_can s g ev))
+    let reader = accepts r (length s.readers) plant.NoSuchReader (unless_generator s g None) h in
+    raw_recorded s names g r (slice_set (pulses_sent s g ev) at width) ev known reader.0 (accepts g (length s.generators) plant.NoSuchGenerator None reader.1).0 (damaged_can at width (pulses_sent s g ev) can (pulses_can s g ev))
 heard_recorded s names (Replay g r edge) ev known h can =
-    let reader = accepts_reader s r (unless_generator s g (Rattle.irig_plant.specs.Refusals.unless_past s g edge ev)) h in
-    raw_recorded s names g r (pulses_sent_at s g edge ev) ev known reader.0 (accepts_generator s g (Rattle.irig_plant.specs.Refusals.unless_past s g edge ev) reader.1).0 (pulses_at_can s g edge ev)
+    let reader = accepts r (length s.readers) plant.NoSuchReader (unless_generator s g (Rattle.irig_plant.specs.Refusals.unless_past s g edge ev)) h in
+    raw_recorded s names g r (pulses_sent_at s g edge ev) ev known reader.0 (accepts g (length s.generators) plant.NoSuchGenerator (Rattle.irig_plant.specs.Refusals.unless_past s g edge ev) reader.1).0 (pulses_at_can s g edge ev)
 
 -- ---- a line that is read back
 

@@ -1,7 +1,7 @@
 -- What a plain line of raw widths says, by its tokens.
 use Rattle.std.proofs.Common.{◌≡◌, ℕ, ◌-◌, ◌<◌, ◌≤◌, true, List, [], ◌∷◌, length, codes, Option, Some, None, refl, sym, ap, ◌∙◌, subst, arith, le-leb, suc}
 use Rattle.std.specs.Prelude.{option_map}
-use Rattle.std.proofs.lemmas.Option.{option_and_then_some}
+use Rattle.std.proofs.lemmas.Option.{same_Some, option_and_then_some}
 use Rattle.json.specs.Token.{Token}
 use Rattle.json.specs.Json as json
 use Rattle.json.specs.Json.{parse_map}
@@ -25,9 +25,6 @@ use Rattle.scenario_line.proofs.PlainLaws.{IsMember, number, line_of, gives, nat
 abbrev numbers : List ℕ → value.Items
 numbers [] = value.no_items
 numbers (n ∷ ns) = value.item (number n) (numbers ns)
-
-same_some : {A : Type 0} (x y : A) → Some x ≡ Some y → x ≡ y
-same_some x y e = cc
 
 -- the items that the grammar finds, and what serde_json makes of them
 record AreWidths (depth n : ℕ) (ts : List Token) (ns : List ℕ) (rest : List Token) : Type 0 where
@@ -58,7 +55,7 @@ module _ (depth n : ℕ) (text : List ℕ) (ts : List Token) (w : ℕ) (is : wid
       → option_map {U = List ℕ × List Token} (λ p. (w ∷ p.0, p.1)) o ≡ Some (ns, rest) → AreWidths depth n (Token.number text ∷ ts) ns rest
   width_and_more ns rest None some again e = absurd cc
   width_and_more ns rest (Some p) some again e =
-      subst (λ (q : List ℕ × List Token). AreWidths depth n (Token.number text ∷ ts) q.0 q.1) (same_some (w ∷ p.0, p.1) (ns, rest) e)
+      subst (λ (q : List ℕ × List Token). AreWidths depth n (Token.number text ∷ ts) q.0 q.1) (same_Some (w ∷ p.0, p.1) (ns, rest) e)
       (width_read p.0 p.1 some (again p.0 p.1 refl))
 
 widths_read : (depth n : ℕ) (ts : List Token) (ns : List ℕ) (rest : List Token) → length ts ≤ n → plain_widths ts ≡ Some (ns, rest) → AreWidths depth n ts ns rest
@@ -68,7 +65,7 @@ widths_read depth n (Token.begin_object ∷ ts) ns rest enough e = absurd cc
 widths_read depth n (Token.end_object ∷ ts) ns rest enough e = absurd cc
 widths_read depth n (Token.begin_array ∷ ts) ns rest enough e = absurd cc
 widths_read depth n (Token.end_array ∷ ts) ns rest enough e =
-    subst (λ (q : List ℕ × List Token). AreWidths depth n (Token.end_array ∷ ts) q.0 q.1) (same_some ([], ts) (ns, rest) e) (no_widths depth n ts enough)
+    subst (λ (q : List ℕ × List Token). AreWidths depth n (Token.end_array ∷ ts) q.0 q.1) (same_Some ([], ts) (ns, rest) e) (no_widths depth n ts enough)
 widths_read depth n (Token.key s ∷ ts) ns rest enough e = absurd cc
 widths_read depth n (Token.string s ∷ ts) ns rest enough e = absurd cc
 widths_read depth n (Token.number s ∷ ts) ns rest enough e =

@@ -2,7 +2,7 @@
 use Rattle.std.proofs.Common.{◌≡◌, ℕ, ◌+◌, ◌*◌, ◌^◌, ◌<◌, ◌≤◌, Bool, true, false, List, [], ◌∷◌, ◌++◌, length, get_or, cond, Some, None, refl, sym, ap, ◌∙◌, arith, append-nil, lt-ltb, le-leb, ne_eqb, subst}
 use Rattle.std.specs.Prelude.{◌-◌, nat_le, slice_index}
 use Rattle.std.specs.Int.{IsInRange}
-use Rattle.std.proofs.lemmas.Option.{option_and_then_some}
+use Rattle.std.proofs.lemmas.Option.{same_Some, option_and_then_some}
 use Rattle.std.proofs.lemmas.Bool.{leb-true}
 use Rattle.std.proofs.lemmas.Str.{digit_value_digit}
 use Rattle.std.proofs.lemmas.Float.Parse.{scan_numeral-text_of}
@@ -37,9 +37,6 @@ width_of_digits ds h fits =
     let fits64 : digits_value 10 ds < 2 ^ 64 = omega arith in
     rw (number_of_digits ds h fits64) (rw (le-leb _ _ small) refl)
 
-same_some : {A : Type 0} (x y : A) → Some x ≡ Some y → x ≡ y
-same_some x y e = cc
-
 -- a width is a natural number of 32 bits
 pub record IsWidth (x : Num) (n : ℕ) : Type 0 where
   pub is : x ≡ unsigned n
@@ -47,7 +44,7 @@ pub record IsWidth (x : Num) (n : ℕ) : Type 0 where
 
 small : (m n : ℕ) (b : Bool) → nat_le m 4294967295 ≡ b → cond b (Some m) None ≡ Some n → IsWidth (unsigned m) n
 small m n false is e = absurd cc
-small m n true is e = let same : m ≡ n = same_some m n e in record { is = ap unsigned same; most = omega (arith, same, leb-true m 4294967295 is) }
+small m n true is e = let same : m ≡ n = same_Some m n e in record { is = ap unsigned same; most = omega (arith, same, leb-true m 4294967295 is) }
 
 plain_is : (x : Num) (n : ℕ) → plain_number x ≡ Some n → IsWidth x n
 plain_is (unsigned m) n e = small m n (nat_le m 4294967295) refl e

@@ -1,9 +1,7 @@
 -- What a plant line that is not refused says of its plant.
-use Rattle.std.proofs.Common.{◌≡◌, ◌≤◌, ◌⊎◌, ℕ, Bool, true, false, cond, List, [], ◌∷◌, ◌++◌, length, map, All, Option, Some, None, Result, Ok, Err, refl, ap, sym, ◌∙◌, subst, arith, rules, nat_lt, ℤ, codes}
-use Rattle.std.specs.Prelude.{option_and_then, is_some, nat_le, ◌&&◌}
-use Rattle.std.specs.List.{list_all}
+use Rattle.std.proofs.Common.{◌≡◌, ◌⊎◌, ℕ, Bool, true, false, cond, List, [], ◌∷◌, ◌++◌, length, map, All, Option, Some, None, Result, Ok, Err, refl, ap, sym, ◌∙◌, subst, arith, rules, nat_lt, ℤ, codes}
+use Rattle.std.specs.Prelude.{option_and_then, is_some}
 use Rattle.std.specs.Option.{option_or}
-use Rattle.std.proofs.lemmas.Bool.{and_parts}
 use Rattle.std.proofs.lemmas.List.{length-map}
 use Rattle.std.proofs.lemmas.List.Elements.{All-nil, All-cons, All-map, All-weaker}
 use Rattle.irig_time.specs.declared.second.UtcSecond.{UtcSecond}
@@ -29,9 +27,10 @@ use Rattle.text_faults.specs.declared.refusal.Refusal.TheVariants as refusal
 use Rattle.scenario_json.specs.Json.{json_of, whole_at}
 use Rattle.text_faults.specs.Refusals.{of_timeline, of_generator, ◌>>=◌, or_else, holds_or}
 use Rattle.scenario_values.specs.PlantShape.{version_of, is_plant}
-use Rattle.scenario_values.specs.Names.{name_in, one_to_sixteen, is_name, all_different, are_names, names_in}
+use Rattle.scenario_values.specs.Names.{name_in, are_names, names_in}
 use Rattle.scenario_line.specs.PlantLine.{refusal_of, timeline_refusal, generator_refusal, reader_refusal, values_refusal, first_of, generator_with, reader_with, setup_with, refused_or, setup_result, Plan, plan_in_line, plan_in_object}
 use Rattle.scenario_line.proofs.BuildLaws.{values_refused, are_generators, are_readers}
+use Rattle.scenario_values.proofs.NameCounts.{counted}
 use Rattle.scenario_values.proofs.ValueLaws.{AreInRange, values_in_range}
 
 -- its timeline has no fault, its generators and readers are as a plant may have them, and each
@@ -103,16 +102,6 @@ zones_sound : (rules : Rules) (g : GeneratorValues) → generator_refusal g ≡ 
 zones_sound rules g h = record { sound = generator_named (all_fit g.zone g.changes) (in_order 0 g.changes) h }
 
 -- ---- what a plant line gives
-
--- 1 to 16 names
-counted : (names : List (List ℕ)) → are_names names ≡ true → (1 ≤ length names) × (length names ≤ 16)
-unfolding are_names
-counted names h =
-    let count = (and_parts (one_to_sixteen (length names)) (list_all is_name names && all_different names) h).0 in
-    let parts = and_parts (nat_le 1 (length names)) (nat_le (length names) 16) count in
-    let low : nat_le 1 (length names) ≡ true = parts.0 in
-    let high : nat_le (length names) 16 ≡ true = parts.1 in
-    (search rules, search rules)
 
 -- the values are in range, and there are as many names as readers
 pub record AreValues (v : PlantValues) (names : List (List ℕ)) : Type 0 where

@@ -19,7 +19,8 @@ first false b e = e
 within : (n : ℕ) → one_to_sixteen n ≡ true → (1 ≤ n) × (n ≤ 16)
 within n e = search rules
 
-counted : (names : List (List ℕ)) → are_names names ≡ true → (1 ≤ length names) × (length names ≤ 16)
+-- 1 to 16 names
+pub counted : (names : List (List ℕ)) → are_names names ≡ true → (1 ≤ length names) × (length names ≤ 16)
 unfolding are_names
 counted names e = within (length names) (first (one_to_sixteen (length names)) _ e)
 

@@ -2,7 +2,7 @@
 use Rattle.std.proofs.Common.{◌≡◌, ◌≤◌, ◌⊎◌, ℕ, ℤ, pos, negsuc, Bool, true, false, cond, List, [], ◌∷◌, length, All, Option, Some, None, Ok, refl, ap, sym, subst, rules, inl, inr, suc, codes}
 use Rattle.std.specs.Prelude.{option_map, nat_le, ◌&&◌, ◌==◌}
 use Rattle.std.proofs.lemmas.Bool.{and_parts, or_cases}
-use Rattle.std.proofs.lemmas.Option.{option_and_then_some}
+use Rattle.std.proofs.lemmas.Option.{same_Some, option_and_then_some}
 use Rattle.std.proofs.lemmas.List.Elements.{All-nil, All-cons}
 use Rattle.serde_json.specs.Data.{Data}
 use Rattle.serde_json.specs.Find.{get}
@@ -27,16 +27,13 @@ pub record AreOf {A : Type 0} (f : Data → Option A) (Fact : A → Type 0) (ds 
 one_more : {A : Type 0} (f : Data → Option A) (Fact : A → Type 0) (d : Data) (ds : List Data) (x : A) (xs ys : List A) → Fact x → AreOf f Fact ds ys → x ∷ ys ≡ xs → AreOf f Fact (d ∷ ds) xs
 one_more f Fact d ds x xs ys fact h e = subst (AreOf f Fact (d ∷ ds)) e (record { count = ap suc h.count; facts = All-cons Fact x ys fact h.facts })
 
-same_some : {A : Type 0} (x y : A) → Some x ≡ Some y → x ≡ y
-same_some x y e = cc
-
 mapped_more : {A : Type 0} (f : Data → Option A) (Fact : A → Type 0) (d : Data) (ds : List Data) (x : A) (xs : List A) (o : Option (List A)) → Fact x → ((ys : List A) → o ≡ Some ys → AreOf f Fact ds ys) → option_map (λ ys. x ∷ ys) o ≡ Some xs
     → AreOf f Fact (d ∷ ds) xs
 mapped_more f Fact d ds x xs None fact h e = absurd cc
-mapped_more f Fact d ds x xs (Some ys) fact h e = one_more f Fact d ds x xs ys fact (h ys refl) (same_some (x ∷ ys) xs e)
+mapped_more f Fact d ds x xs (Some ys) fact h e = one_more f Fact d ds x xs ys fact (h ys refl) (same_Some (x ∷ ys) xs e)
 
 pub all_are_of : {A : Type 0} (f : Data → Option A) (Fact : A → Type 0) → ((d : Data) (x : A) → f d ≡ Some x → Fact x) → (ds : List Data) (xs : List A) → all_of f ds ≡ Some xs → AreOf f Fact ds xs
-all_are_of f Fact each [] xs e = subst (AreOf f Fact []) (same_some [] xs e) (record { count = refl; facts = All-nil Fact })
+all_are_of f Fact each [] xs e = subst (AreOf f Fact []) (same_Some [] xs e) (record { count = refl; facts = All-nil Fact })
 all_are_of f Fact each (d ∷ ds) xs e =
     option_and_then_some (λ x. option_map (λ xs. x ∷ xs) (all_of f ds)) (f d) xs e
     (λ x is rest. mapped_more f Fact d ds x xs (all_of f ds) (each d x is) (all_are_of f Fact each ds) rest)
@@ -71,7 +68,7 @@ within least most (pos m) n e = if_within (nat_le least m && nat_le m most) refl
         let parts = and_parts (nat_le least m) (nat_le m most) is in
         let low : nat_le least m ≡ true = parts.0 in
         let high : nat_le m most ≡ true = parts.1 in
-        subst (λ k. (least ≤ k) × (k ≤ most)) (same_some m n e) (search rules, search rules)
+        subst (λ k. (least ≤ k) × (k ≤ most)) (same_Some m n e) (search rules, search rules)
 within least most (negsuc m) n e = absurd cc
 
 rules_in_range : (d : Data) (x : ReaderRules) → reader_rules_of d ≡ Some x → IsReaderRules x
@@ -81,14 +78,14 @@ rules_in_range d x e =
     option_and_then_some _ (natural_at holdover d) x rest (λ seconds is_held made.
     let locks = option_and_then_some (natural_within 1 60) (whole_at _ d) votes is (λ z at inside. within 1 60 z votes inside) in
     let holds = option_and_then_some (natural_within 0 1000000) (whole_at _ d) seconds is_held (λ z at inside. within 0 1000000 z seconds inside) in
-    subst IsReaderRules (same_some _ x made) (record { lock_after = locks; holdover = holds.1 })))
+    subst IsReaderRules (same_Some _ x made) (record { lock_after = locks; holdover = holds.1 })))
 
 reader_in_range : (d : Data) (x : ReaderValues) → reader_of d ≡ Some x → IsReaderRules x.rules
 unfolding reader_of
 reader_in_range d x e =
     option_and_then_some _ (reader_rules_of d) x e (λ own is rest.
     option_and_then_some _ (table_if (get (codes "table") d)) x rest (λ table at made.
-    subst (λ (x : ReaderValues). IsReaderRules x.rules) (same_some _ x made) (rules_in_range d own is)))
+    subst (λ (x : ReaderValues). IsReaderRules x.rules) (same_Some _ x made) (rules_in_range d own is)))
 
 -- ---- all of them
 
@@ -107,7 +104,7 @@ values_in_range version d v e =
     option_and_then_some _ (generators_of version d) v e3 (λ generators generated e4.
     option_and_then_some _ (all_of reader_of (readers_in d)) v e4 (λ readers read made.
     let are = all_are_of reader_of (λ x. IsReaderRules x.rules) reader_in_range (readers_in d) readers read in
-    subst (AreInRange d) (same_some _ v made) (record { generators = generators_count version d generators generated; readers = are.count; range = are.facts }))))))
+    subst (AreInRange d) (same_Some _ v made) (record { generators = generators_count version d generators generated; readers = are.count; range = are.facts }))))))
 
 found_is : {A : Type 0} (o : Option A) (x : A) → or_else Value o ≡ Ok x → o ≡ Some x
 found_is None x e = absurd cc

@@ -1,55 +1,25 @@
 -- A frame that is written with some options is read back by the same parity and sense.
-use Rattle.std.proofs.Common.{◌≡◌, ℕ, ◌+◌, ◌*◌, ◌%◌, ◌^◌, ◌<◌, ◌≤◌, true, false, not, eqb, ltb, List, refl, ap, ◌∙◌, arith, inl, inr, ℤ, unsigned_abs, zero, suc, pos, negsuc, neg_ℤ}
-use Rattle.std.proofs.lemmas.Bool.{and_right, cases_lt, eq-eqb}
+use Rattle.std.proofs.Common.{◌≡◌, ◌+◌, ◌*◌, false, not, eqb, ltb, List, refl, ap, ◌∙◌, ℤ}
+use Rattle.std.proofs.lemmas.Bool.{and_right, eq-eqb}
 use Rattle.irig_frame.specs.declared.symbol.Symbol.{Symbol}
 use Rattle.irig_frame.specs.declared.coded.Coded.{Coded}
 use Rattle.irig_control.specs.declared.control.Control.{Control}
-use Rattle.irig_control.specs.Control.{IsControl, control_of, flag, word_of}
-use Rattle.irig_control.proofs.ControlLaws.{control_same, unpacked}
-use Rattle.irig_time.specs.declared.rules.Sense.{Sense}
-use Rattle.irig_time.specs.declared.rules.Sense.TheVariants.{Add, Subtract}
+use Rattle.irig_control.specs.Control.{IsControl, control_of}
 use Rattle.irig_time.specs.declared.rules.SbsUse.{SbsUse}
 use Rattle.irig_time.specs.declared.rules.SbsUse.TheVariants.{Check, Ignore}
 use Rattle.irig_time.specs.declared.second.UtcSecond.{UtcSecond}
 use Rattle.irig_time.specs.Seconds.{IsValid}
 use Rattle.irig_time.specs.CodedTime.{IsCodedOf}
-use Rattle.irig_time.specs.Claims.{claim_by, claim_of_second, utc_minute}
+use Rattle.irig_time.specs.Claims.{claim_by, claim_of_second}
 use Rattle.irig_time.specs.Frames.{IsFrameOfSecond}
-use Rattle.irig_time.proofs.ClaimLaws.{added, subtracted}
-use Rattle.irig_gen.specs.ControlBits.{offset_sent}
+use Rattle.irig_gen.proofs.GenLaws.{offset_fits, by_sense, without_control, control_back}
 use Rattle.irig_port.specs.Told.{claim_told, coded_told, is_sbs_wrong, told_of}
 use Rattle.irig_port.proofs.CarriesLaws.{told_of_reading}
 use Rattle.text_frame.specs.declared.frame.FrameOptions.{FrameOptions}
 use Rattle.text_frame.specs.Frame.{IsFrameOptions, control_with, rules_with}
 
-abs_neg : (h : ℤ) → unsigned_abs (neg_ℤ h) ≡ unsigned_abs h
-abs_neg (pos zero) = refl
-abs_neg (pos (suc n)) = refl
-abs_neg (negsuc n) = refl
-
-offset_fits : (sense : Sense) (h : ℤ) → unsigned_abs h ≤ 31 → unsigned_abs (offset_sent sense h) ≤ 31
-offset_fits Add h small = rw (abs_neg h) small
-offset_fits Subtract h small = small
-
 control_fits : (options : FrameOptions) → IsFrameOptions options → IsControl (control_with options)
 control_fits options fit = record { offset = offset_fits options.sense options.local fit.local; quality = fit.quality }
-
--- the control bits of a frame are its word, whatever the parity is
-control_back : (w : ℕ) (k : Control) → IsControl k → w < 2 ^ 15 → w % 2 ^ 14 ≡ word_of k → control_of w ≡ k
-control_back w k fits low e =
-    elim (cases_lt w (2 ^ 14)) [
-      | inl lt ↦ let same : w ≡ word_of k = omega (arith, e) in ap control_of same ∙ unpacked k fits
-      | inr ge ↦ let same : w ≡ word_of k + 2 ^ 14 * flag true = omega (arith, e) in ap control_of same ∙ control_same (word_of k) true ∙ unpacked k fits
-    ]
-
-without_control : (sense : Sense) (c : Coded) (k : Control) → claim_by sense c k ≡ claim_by sense (record c { control = 0 }) k
-unfolding utc_minute
-without_control Add c k = refl
-without_control Subtract c k = refl
-
-by_sense : (sense : Sense) (u : UtcSecond) (h : ℤ) (c : Coded) (k : Control) → IsValid u → unsigned_abs h ≤ 31 → IsCodedOf u h c → k.offset_half_hours ≡ offset_sent sense h → claim_by sense c k ≡ claim_of_second u k
-by_sense Add u h c k valid small r e = added u h c k valid small r e
-by_sense Subtract u h c k valid small r e = subtracted u h c k valid small r e
 
 sbs_right : (sbs : SbsUse) (u : UtcSecond) (h : ℤ) (c : Coded) → IsCodedOf u h (record c { control = 0 }) → is_sbs_wrong sbs c ≡ false
 sbs_right Check u h c r = and_right (ltb c.second 60) (not (eqb c.sbs (3600 * c.hour + 60 * c.minute + c.second))) (ap not (eq-eqb c.sbs (3600 * c.hour + 60 * c.minute + c.second) r.sbs))

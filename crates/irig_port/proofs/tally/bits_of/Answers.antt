@@ -1,12 +1,9 @@
-use Rattle.std.proofs.Common.{◌≡◌, ℕ, ◌-◌, ◌≤◌, ◌∙◌, cond, Bool, true, false, ap, arith, refl}
+use Rattle.std.proofs.Common.{◌≡◌, ℕ, ◌-◌, ◌∙◌, ap, arith, refl}
 use Rattle.irig_port.specs.Heard.{symbols_of}
 use Rattle.irig_port.specs.Bits.{bits_from}
+use Rattle.irig_port.proofs.BitLaws.{cond-le-one}
 use Rattle.irig_port.proofs.FrameLaws.{bits-down, bits-few}
 use Rattle.irig_port.proofs.tally.bits_of.Goals as goal
-
-one-at-most : (b : Bool) → cond b 1 0 ≤ 1
-one-at-most true = omega arith
-one-at-most false = omega arith
 
 pub loop-element-init : goal.loop-element-init
 loop-element-init c =
@@ -26,7 +23,7 @@ pub overflow_add-bits : goal.overflow_add-bits
 overflow_add-bits c =
     let l = c.loop-element in
     let few = bits-few (symbols_of c.args.widths_us.now) l.element (c.args.end - l.element) (omega (arith, c.requires.few, c.loop-element-test.true)) in
-    omega (arith, l.invariant.known, few, c.bit_if.ensures, one-at-most c.is_one_width.result)
+    omega (arith, l.invariant.known, few, c.bit_if.ensures, cond-le-one c.is_one_width.result)
 
 pub loop-element-preserved : goal.loop-element-preserved
 loop-element-preserved c =

@@ -1,4 +1,4 @@
-use Rattle.std.proofs.Common.{◌≡◌, None, Some, take}
+use Rattle.std.proofs.Common.{None, Some, take}
 use Rattle.irig_scene.specs.Scene.{Scene}
 use Rattle.irig_scene.specs.ListenerRuns.{PlayedFor, IsStageAt, text_in}
 use Rattle.irig_scene.proofs.player.play_all.Given as goal

@@ -1,4 +1,4 @@
-use Rattle.std.proofs.Common.{◌≡◌, ◌∙◌, sym, true, rules}
+use Rattle.std.proofs.Common.{◌≡◌, ◌∙◌, true, rules}
 use Rattle.irig_scene.specs.ListenerRuns.{IsPlayerAt}
 use Rattle.irig_scene.proofs.StartLaws.{counted, uncounted, noted}
 use Rattle.irig_scene.proofs.run.note_start.Goals as goal

@@ -1,5 +1,5 @@
 use Rattle.irig_scene.specs.ListenerRuns.{IsPlayerAt}
-use Rattle.std.proofs.Common.{rules, arith, [], None}
+use Rattle.std.proofs.Common.{rules, arith, []}
 use Rattle.std.proofs.lemmas.Result.{err_from_is_err_and}
 use Rattle.std.proofs.lemmas.Grind.{common_steps}
 use Rattle.irig_scene.proofs.RestLaws.{no_read_failed}

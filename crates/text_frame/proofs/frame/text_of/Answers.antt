@@ -1,23 +1,12 @@
-use Rattle.std.proofs.Common.{◌≡◌, ℕ, zero, suc, ◌+◌, ◌*◌, ◌/◌, ◌<◌, List, [], ◌∷◌, Some, length, slice_get, slice_set, arith, refl, ap, sym, ◌∙◌, below_more}
+use Rattle.std.proofs.Common.{◌≡◌, ℕ, ◌+◌, ◌*◌, ◌/◌, ◌<◌, Some, slice_get, arith, refl, ap, sym, ◌∙◌, below_more}
 use Rattle.std.specs.Prelude.{option_map}
 use Rattle.std.proofs.lemmas.List.{length-set, length-replicate, get_or-replicate}
 use Rattle.std.proofs.Math.ListN.{replicate}
 use Rattle.std.proofs.lemmas.Option.{slice_get-get_or}
 use Rattle.irig_frame.specs.declared.symbol.Symbol.TheVariants.{Zero}
 use Rattle.irig_frame.specs.Symbols.{letter_of}
+use Rattle.irig_frame.proofs.WritingLaws.{get-set_same, get-set_other}
 use Rattle.text_frame.proofs.frame.text_of.Goals as goal
-
-get-set_same : (s : List ℕ) (i x : ℕ) → i < length s → slice_get (slice_set s i x) i ≡ Some x
-get-set_same [] i x h = absurd (omega arith)
-get-set_same (y ∷ s) zero x h = refl
-get-set_same (y ∷ s) (suc i) x h = get-set_same s i x (omega arith)
-
-get-set_other : (s : List ℕ) (i j x : ℕ) → (i ≡ j → ⊥) → slice_get (slice_set s i x) j ≡ slice_get s j
-get-set_other [] i j x h = refl
-get-set_other (y ∷ s) zero zero x h = absurd (h refl)
-get-set_other (y ∷ s) zero (suc j) x h = refl
-get-set_other (y ∷ s) (suc i) zero x h = refl
-get-set_other (y ∷ s) (suc i) (suc j) x h = get-set_other s i j x (λ e. h (ap suc e))
 
 get-replicate : (n i x : ℕ) → i < n → slice_get (replicate n x) i ≡ Some x
 get-replicate n i x h =

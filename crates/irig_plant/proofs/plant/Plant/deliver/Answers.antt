@@ -1,16 +1,9 @@
-use Rattle.std.proofs.Common.{◌<◌, ◌≤◌, ◌∷◌, length, drop, refl, sym, ◌∙◌, ap, arith}
-use Rattle.irig_vote.specs.Vote.{ports_in}
-use Rattle.irig_vote.specs.declared.redundancy.Redundancy.{Redundancy}
-use Rattle.irig_vote.specs.declared.redundancy.Redundancy.TheVariants.{One, Three, Five}
+use Rattle.std.proofs.Common.{◌<◌, ◌∷◌, length, drop, refl, sym, ◌∙◌, ap, arith}
+use Rattle.irig_reader.proofs.FedLaws.{at_most_five}
 use Rattle.irig_plant.specs.Schedule.{delivery, history_of}
 use Rattle.irig_plant.specs.Audits.{first_false, verdict}
 use Rattle.irig_plant.proofs.StepLaws.{set_reader, cached_port_after, delivers, feed_other, feed_here}
 use Rattle.irig_plant.proofs.plant.Plant.deliver.Goals as goal
-
-at_most_five : (redundancy : Redundancy) → ports_in redundancy ≤ 5
-at_most_five One = omega arith
-at_most_five Three = omega arith
-at_most_five Five = omega arith
 
 pub returns : goal.returns
 returns g c = λ h e p given.

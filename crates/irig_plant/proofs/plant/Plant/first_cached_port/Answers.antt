@@ -15,22 +15,11 @@ returns-clause-same g c h p =
     let is : c.index_mut.result.now ≡ Some c.in_ok-first.first.now = sym c.in_ok-first.ensures.value in
     let stands : g.P.Port.stands_for c.in_ok-first.first.now s.rules (symbols_heard (pulses_sent s 0 ev)) =
     subst (λ w. IsCachedPort g.P.Port s ev 0 w) (sym c.index_mut.ensures.value ∙ is) (p.cached_ports 0 c.index_mut.result.now some) in
-    record {
-      timeline = p.timeline;
-      rules = p.rules;
-      redundancy = p.redundancy;
-      generator_count = p.generator_count;
-      generators = p.generators;
-      cached_ports = set_cached_port g.P.Port s ev ev c.args.self.now.cached_ports.items 0 (Some c.take_over.new.other)
-          (omega (arith, some, p.generator_count, c.args.self.now.carried, c.args.self.now.cached_ports.ok.0))
-          p.cached_ports (λ _ _. refl)
-          (c.take_over.ensures.kept s.rules (symbols_heard (pulses_sent s 0 ev)) stands);
-      reader_count = p.reader_count;
-      readers = p.readers;
-      log = p.log;
-      few = p.few;
-      audit = p.audit;
-    }
+    let cached_ports = set_cached_port g.P.Port s ev ev c.args.self.now.cached_ports.items 0 (Some c.take_over.new.other)
+    (omega (arith, some, p.generator_count, c.args.self.now.carried, c.args.self.now.cached_ports.ok.0))
+    p.cached_ports (λ _ _. refl)
+    (c.take_over.ensures.kept s.rules (symbols_heard (pulses_sent s 0 ev)) stands) in
+    assumption (p, cached_ports)
 
 pub returns-clause-cached_port : goal.returns-clause-cached_port
 returns-clause-cached_port g c h p =

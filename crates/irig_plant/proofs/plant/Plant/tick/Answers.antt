@@ -1,4 +1,4 @@
-use Rattle.std.proofs.Common.{vec_len, ◌≡◌, ◌+◌, ◌<◌, ◌∷◌, [], length, Some, refl, sym, ◌∙◌, ap, arith}
+use Rattle.std.proofs.Common.{vec_len, ◌≡◌, ◌+◌, ◌<◌, ◌≤◌, ◌∷◌, [], length, drop, Some, sym, ◌∙◌, ap, arith}
 use Rattle.std.proofs.Math.Logic.{∥∥₁_map}
 use Rattle.std.proofs.lemmas.List.{length-append}
 use Rattle.std.proofs.lemmas.List.Elements.{All-push, All-set}
@@ -10,28 +10,19 @@ use Rattle.irig_plant.specs.declared.entry.Entry.{Entry}
 use Rattle.irig_plant.specs.SilentTicks.{silent_ports}
 use Rattle.irig_plant.specs.Sound.{IsSound, IsToldSoundly}
 use Rattle.irig_plant.specs.Schedule.{ticks_of, history_of, entry_of, log_of}
-use Rattle.irig_plant.specs.Audits.{tick_of_reader, is_broken_now, first_false, first_broken}
+use Rattle.irig_plant.specs.Audits.{audit_of, tick_of_reader, is_broken_now, first_false, first_broken}
 use Rattle.irig_plant.specs.History.{IsTickedReaderAt}
 use Rattle.irig_plant.proofs.HeadlineVotes.{ports_told}
 use Rattle.irig_plant.proofs.ListLaws.{drop-push}
 use Rattle.irig_plant.proofs.SilentLaws.{audit_stays}
-use Rattle.irig_plant.proofs.StepLaws.{set_reader, cached_port_after, tick_other, tick_here, audit_tick}
+use Rattle.irig_plant.proofs.StepLaws.{set_reader, tick_other, tick_here, audit_tick}
 use Rattle.irig_plant.proofs.plant.Plant.tick.Goals as goal
 
 pub overflow_add-edge : goal.overflow_add-edge
 overflow_add-edge g c = omega (arith, c.in-Some.ensures.early)
 
 pub invariant_of-self : goal.invariant_of-self
-invariant_of-self g c = record {
-  fed = c.args.self.now.fed;
-  carried = c.args.self.now.carried;
-  wired = c.args.self.now.wired;
-  timed = c.args.self.now.timed;
-  true_there = c.at.ensures.stands;
-  sound = c.args.self.now.sound;
-  claimed = c.args.self.now.claimed;
-  known = c.args.self.now.known;
-}
+invariant_of-self g c = assumption (c.args.self.now, c.at.ensures.stands)
 
 pub invariant_of-self-in-Break-branch-2 : goal.invariant_of-self-in-Break-branch-2
 invariant_of-self-in-Break-branch-2 g c = record {
@@ -82,21 +73,13 @@ returns-then-heard_nothing-clause-stands g c = λ h p.
     let told : told_at_tick (history_of s r ev) ≡ silent_ports = told_silent (history_of s r ev) (c.heard_nothing.ensures c.if-heard_nothing.true (history_of s r ev) old.reader) in
     let truth : Some c.in-Some.truth ≡ truth_at s.times (ticks_of r ev) =
     sym c.in-Some.is ∙ c.at.ensures.value ∙ ap (λ (t : TimelineValue). truth_at t c.index.result.now.ticks) p.timeline ∙ ap (truth_at s.times) first.ticked in
-    record {
-      timeline = p.timeline;
-      rules = p.rules;
-      redundancy = p.redundancy;
-      generator_count = p.generator_count;
-      generators = p.generators;
-      cached_ports = λ i d lt. cached_port_after g.P.Port s ev (Tick r ∷ ev) i _ refl (p.cached_ports i d lt);
-      reader_count = p.reader_count;
-      readers = set_reader s ev (Tick r ∷ ev) xs.items r x _ (sym xs.ok.0 ∙ p.reader_count) low p.readers c.index_mut-ticked_reader.ensures.value
-          (tick_other s ev r)
-          (λ o. tick_here s ev r x _ (c.tick_silent-report.ensures.after (history_of s r ev) o.reader) (ap (λ n. n + 1) (first.ticked ∙ sym old.ticked)) o);
-      log = c.push_reserved.ensures.items ∙ rw (c.reserve.ensures.items, p.log, c.silent_entry-entry.ensures, report, truth, sym told, p.redundancy, first.ticked) (sym (drop-push h.shown (log_of s ev) (entry_of s r ev) p.few));
-      few = omega (arith, p.few, length-append (log_of s ev) (entry_of s r ev ∷ []));
-      audit = p.audit ∙ audit_stays s r ev told;
-    }
+    let readers = set_reader s ev (Tick r ∷ ev) xs.items r x (record { reader = c.tick_silent-report.new.self; ticks = c.index.result.now.ticks + 1 }) (sym xs.ok.0 ∙ p.reader_count) low p.readers c.index_mut-ticked_reader.ensures.value
+    (tick_other s ev r)
+    (λ o. tick_here s ev r x (record { reader = c.tick_silent-report.new.self; ticks = c.index.result.now.ticks + 1 }) (c.tick_silent-report.ensures.after (history_of s r ev) o.reader) (ap (λ n. n + 1) (first.ticked ∙ sym old.ticked)) o) in
+    let log : c.push_reserved.new.self.items ≡ drop h.shown (log_of s (Tick r ∷ ev)) = c.push_reserved.ensures.items ∙ rw (c.reserve.ensures.items, p.log, c.silent_entry-entry.ensures, report, truth, sym told, p.redundancy, first.ticked) (sym (drop-push h.shown (log_of s ev) (entry_of s r ev) p.few)) in
+    let few : h.shown ≤ length (log_of s (Tick r ∷ ev)) = omega (arith, p.few, length-append (log_of s ev) (entry_of s r ev ∷ [])) in
+    let audit : c.args.self.now.audit ≡ audit_of s (Tick r ∷ ev) = p.audit ∙ audit_stays s r ev told in
+    assumption (p, readers, log, few, audit)
 
 -- ---- else
 
@@ -135,18 +118,10 @@ returns-clause-stands g c = λ h p.
     let told : c.tick.result.told ≡ told_at_tick (history_of s r ev) = c.tick.ensures.told (history_of s r ev) old.reader in
     let truth : Some c.in-Some.truth ≡ truth_at s.times (ticks_of r ev) =
     sym c.in-Some.is ∙ c.at.ensures.value ∙ ap (λ (t : TimelineValue). truth_at t c.index.result.now.ticks) p.timeline ∙ ap (truth_at s.times) first.ticked in
-    record {
-      timeline = p.timeline;
-      rules = p.rules;
-      redundancy = p.redundancy;
-      generator_count = p.generator_count;
-      generators = p.generators;
-      cached_ports = λ i d lt. cached_port_after g.P.Port s ev (Tick r ∷ ev) i _ refl (p.cached_ports i d lt);
-      reader_count = p.reader_count;
-      readers = set_reader s ev (Tick r ∷ ev) xs.items r x _ (sym xs.ok.0 ∙ p.reader_count) low p.readers c.index_mut-ticked_reader.ensures.value
-          (tick_other s ev r)
-          (λ o. tick_here s ev r x _ (c.tick.ensures.after (history_of s r ev) o.reader) (ap (λ n. n + 1) (first.ticked ∙ sym old.ticked)) o);
-      log = c.push_reserved-2.ensures.items ∙ rw (c.reserve.ensures.items, p.log, report, truth, told, p.redundancy, first.ticked) (sym (drop-push h.shown (log_of s ev) (entry_of s r ev) p.few));
-      few = omega (arith, p.few, length-append (log_of s ev) (entry_of s r ev ∷ []));
-      audit = c.audit_after-self.ensures ∙ rw (p.audit, truth, told, p.redundancy, first.ticked, ports_told s r ev) (audit_tick (first_false s.times 0 s.readers) (first_broken s ev) (tick_of_reader r (ticks_of r ev + 1)) (is_broken_now s r ev));
-    }
+    let readers = set_reader s ev (Tick r ∷ ev) xs.items r x (record { reader = c.tick.new.self; ticks = c.index.result.now.ticks + 1 }) (sym xs.ok.0 ∙ p.reader_count) low p.readers c.index_mut-ticked_reader.ensures.value
+    (tick_other s ev r)
+    (λ o. tick_here s ev r x (record { reader = c.tick.new.self; ticks = c.index.result.now.ticks + 1 }) (c.tick.ensures.after (history_of s r ev) o.reader) (ap (λ n. n + 1) (first.ticked ∙ sym old.ticked)) o) in
+    let log : c.push_reserved-2.new.self.items ≡ drop h.shown (log_of s (Tick r ∷ ev)) = c.push_reserved-2.ensures.items ∙ rw (c.reserve.ensures.items, p.log, report, truth, told, p.redundancy, first.ticked) (sym (drop-push h.shown (log_of s ev) (entry_of s r ev) p.few)) in
+    let few : h.shown ≤ length (log_of s (Tick r ∷ ev)) = omega (arith, p.few, length-append (log_of s ev) (entry_of s r ev ∷ [])) in
+    let audit : c.audit_after-self.result ≡ audit_of s (Tick r ∷ ev) = c.audit_after-self.ensures ∙ rw (p.audit, truth, told, p.redundancy, first.ticked, ports_told s r ev) (audit_tick (first_false s.times 0 s.readers) (first_broken s ev) (tick_of_reader r (ticks_of r ev + 1)) (is_broken_now s r ev)) in
+    assumption (p, readers, log, few, audit)

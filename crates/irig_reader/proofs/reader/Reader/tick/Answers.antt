@@ -1,4 +1,4 @@
-use Rattle.std.proofs.Common.{◌≡◌, ◌∷◌, ◌∙◌, Some, refl, sym, ap, subst}
+use Rattle.std.proofs.Common.{◌≡◌, ◌∷◌, ◌∙◌, Some, refl, ap, subst}
 use Rattle.irig_port.specs.Heard.{symbols_heard}
 use Rattle.irig_port.proofs.HeardLaws.{told_of-heard}
 use Rattle.irig_reader.specs.Rule.{step_of}

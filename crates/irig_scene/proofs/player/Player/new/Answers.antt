@@ -1,4 +1,4 @@
-use Rattle.std.proofs.Common.{rules, ◌≡◌, ◌∙◌, [], ap, length, refl, sym, true, false}
+use Rattle.std.proofs.Common.{rules, ◌≡◌, ◌∙◌, [], ap, length, refl, sym}
 use Rattle.std.specs.Prelude.{string_bytes}
 use Rattle.std.proofs.lemmas.List.{length-map}
 use Rattle.irig_plant.specs.History.{beginning, HasPlantHistory}
