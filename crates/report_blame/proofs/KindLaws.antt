@@ -1,7 +1,7 @@
 -- The kind of what a port told is that of its word in a log's port line.
-use Rattle.std.proofs.Common.{rules, ◌≡◌, ◌↔◌, Bool, true, false, cond, Option, Some, None, refl, ap, sym, subst, ◌∙◌, codes, inl, inr}
-use Rattle.std.specs.Prelude.{not, ◌&&◌}
-use Rattle.std.proofs.lemmas.Bool.{cases_Bool, and_parts}
+use Rattle.std.proofs.Common.{◌≡◌, ◌↔◌, Bool, true, false, cond, Option, Some, None, refl, ap, sym, ◌∙◌, codes}
+use Rattle.std.specs.Prelude.{not}
+use Rattle.std.proofs.lemmas.Bool.{and_parts}
 use Rattle.irig_time.specs.declared.claim.Claim.{Claim}
 use Rattle.irig_time.specs.Claims.{same_claim, same_mark}
 use Rattle.irig_time.specs.Seconds.{same_second}
@@ -10,8 +10,7 @@ use Rattle.irig_port.specs.declared.told.Told.TheVariants as tells
 use Rattle.irig_vote.proofs.CountLaws.{same_is, same_itself}
 use Rattle.report_log.specs.Text.{port_word}
 use Rattle.report_log.proofs.PortWordLaws.{ok_is_truth}
-use Rattle.report_blame.specs.declared.kind.Kind.{Kind}
-use Rattle.report_blame.specs.declared.kind.Kind.TheVariants.{Agreed, Silent, Faulty, Poor, AnotherSecond, AnotherMark}
+use Rattle.report_blame.specs.declared.kind.Kind.TheVariants.{Agreed, AnotherSecond, AnotherMark}
 use Rattle.report_blame.specs.Kinds.{kind_of, kind_of_claim}
 
 -- the true claim was told

@@ -7,6 +7,7 @@ pub mod BookLaws
 pub mod ObserverLaws
 pub mod RunLaws
 pub mod KindLaws
+pub mod SilenceLaws
 pub mod TruthLaws
 pub mod LongestLaws
 pub mod StandardFacts

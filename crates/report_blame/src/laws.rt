@@ -6,13 +6,14 @@ ghost use Rattle.irig_time.specs.Timelines.{TimelineValue, second_at, truth_at};
 ghost use Rattle.irig_plant.specs.Schedule.{Setup, ticks_of, entry_of};
 ghost use Rattle.irig_plant.specs.declared.event.Event.{Event};
 ghost use Rattle.report_blame.specs.declared.kind.Kind.{Kind as KindOf};
+ghost use Rattle.report_blame.specs.declared.stretch.Silence.{Silence as SilenceOf};
 ghost use Rattle.report_blame.specs.declared.stretch.Stretch.{Stretch as StretchOf};
 ghost use Rattle.report_blame.specs.declared.tick.Tick.{Tick as TickOf};
 ghost use Rattle.report_log.specs.Text.{port_word};
 ghost use Rattle.report_blame.specs.Books.{tick_of};
 ghost use Rattle.report_blame.specs.Kinds.{kind_of};
-ghost use Rattle.report_blame.specs.LongestRuns.{IsLongest};
-ghost use Rattle.report_blame.specs.Stretches.{stretch_of};
+ghost use Rattle.report_blame.specs.LongestRuns.{IsLongest, IsLongestSilence};
+ghost use Rattle.report_blame.specs.Stretches.{stretch_of, silence_of};
 ghost use Rattle.report_blame.specs.Ticks.{kind_at, second_after, is_another, is_untrue};
 
 use irig_port::Told;
@@ -26,6 +27,12 @@ pub fn stretches_are_longest_runs()
         → stretch_of port ts ≡ Some s → IsLongest port ts s }
     ensures agreed { (port : ℕ) (t : TickOf) (ts : List TickOf)
         → (stretch_of port (t ∷ ts) ≡ None) ↔ (kind_at port t ≡ KindOf.Agreed) }
+{}
+
+/// The open silence of a reader is the longest run of its newest ticks at which it announced nothing
+/// for one cause, with its first and its last tick.
+pub fn silences_are_longest_runs()
+    ensures { (ts : List TickOf) (s : SilenceOf) → silence_of ts ≡ Some s → IsLongestSilence ts s }
 {}
 
 /// The second with which an announcement is compared is T of its edge: at each tick that is not
