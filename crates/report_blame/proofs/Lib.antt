@@ -6,6 +6,8 @@ pub mod CarrierLaws
 pub mod BookLaws
 pub mod ObserverLaws
 pub mod RunLaws
+pub mod KindLaws
+pub mod SilenceLaws
 pub mod TruthLaws
 pub mod LongestLaws
 pub mod StandardFacts

@@ -1,11 +1,10 @@
 -- An open stretch is a longest run of its port's ticks.
-use Rattle.std.proofs.Common.{◌≡◌, ℕ, ◌+◌, Bool, true, false, cond, List, [], ◌∷◌, ◌++◌, Option, Some, None, refl, sym, ap, ◌∙◌, ◌↔◌, subst, inl, inr, arith}
+use Rattle.std.proofs.Common.{rules, ◌≡◌, ℕ, ◌+◌, Bool, true, false, cond, List, [], ◌∷◌, ◌++◌, Option, Some, None, refl, sym, ap, ◌∙◌, ◌↔◌, subst, arith}
 use Rattle.std.specs.Prelude.{◌&&◌, count_by, ⊤}
 use Rattle.std.specs.List.{AllByRecursion}
-use Rattle.std.proofs.lemmas.Bool.{cases_Bool, both_ways}
 use Rattle.std.proofs.lemmas.List.Elements.{recursion_from_All, All-from_recursion}
 use Rattle.report_blame.specs.declared.kind.Kind.{Kind}
-use Rattle.report_blame.specs.declared.kind.Kind.TheVariants.{Agreed, Silent, Faulty, Poor, AnotherSecond, AnotherMark}
+use Rattle.report_blame.specs.declared.kind.Kind.TheVariants.{Agreed}
 use Rattle.report_blame.specs.declared.stretch.Stretch.{Stretch}
 use Rattle.report_blame.specs.declared.tick.Tick.{Tick}
 use Rattle.report_blame.specs.Kinds.{same_kind}
@@ -16,12 +15,7 @@ use Rattle.report_blame.specs.LongestRuns.{IsBroken, IsLongest}
 use Rattle.report_blame.proofs.CountLaws.{count_more}
 
 same_itself : (k : Kind) → same_kind k k ≡ true
-same_itself Agreed = refl
-same_itself Silent = refl
-same_itself Faulty = refl
-same_itself Poor = refl
-same_itself AnotherSecond = refl
-same_itself AnotherMark = refl
+same_itself k = search rules
 
 -- ---- one that begins
 
@@ -71,68 +65,17 @@ Stands port ts None = IsAgreed port ts
 Stands port ts (Some s) = IsLongest port ts s
 
 other_kind : (a b : Kind) → same_kind a Agreed ≡ false → same_kind b Agreed ≡ true → same_kind a b ≡ false
-other_kind Agreed b h k = absurd cc
-other_kind Silent Agreed h k = refl
-other_kind Faulty Agreed h k = refl
-other_kind Poor Agreed h k = refl
-other_kind AnotherSecond Agreed h k = refl
-other_kind AnotherMark Agreed h k = refl
-other_kind a Silent h k = absurd cc
-other_kind a Faulty h k = absurd cc
-other_kind a Poor h k = absurd cc
-other_kind a AnotherSecond h k = absurd cc
-other_kind a AnotherMark h k = absurd cc
+other_kind a b h k = search rules
 
 broken_by_agreed : (port : ℕ) (kind : Kind) (ts : List Tick) → same_kind kind Agreed ≡ false → IsAgreed port ts → IsBroken port kind ts
 broken_by_agreed port kind [] wrong h = tt
 broken_by_agreed port kind (t ∷ ts) wrong h = other_kind kind (kind_at port t) wrong h
 
 same_is : (a b : Kind) → same_kind a b ≡ true → a ≡ b
-same_is Agreed Agreed h = refl
-same_is Agreed Silent h = absurd cc
-same_is Agreed Faulty h = absurd cc
-same_is Agreed Poor h = absurd cc
-same_is Agreed AnotherSecond h = absurd cc
-same_is Agreed AnotherMark h = absurd cc
-same_is Silent Agreed h = absurd cc
-same_is Silent Silent h = refl
-same_is Silent Faulty h = absurd cc
-same_is Silent Poor h = absurd cc
-same_is Silent AnotherSecond h = absurd cc
-same_is Silent AnotherMark h = absurd cc
-same_is Faulty Agreed h = absurd cc
-same_is Faulty Silent h = absurd cc
-same_is Faulty Faulty h = refl
-same_is Faulty Poor h = absurd cc
-same_is Faulty AnotherSecond h = absurd cc
-same_is Faulty AnotherMark h = absurd cc
-same_is Poor Agreed h = absurd cc
-same_is Poor Silent h = absurd cc
-same_is Poor Faulty h = absurd cc
-same_is Poor Poor h = refl
-same_is Poor AnotherSecond h = absurd cc
-same_is Poor AnotherMark h = absurd cc
-same_is AnotherSecond Agreed h = absurd cc
-same_is AnotherSecond Silent h = absurd cc
-same_is AnotherSecond Faulty h = absurd cc
-same_is AnotherSecond Poor h = absurd cc
-same_is AnotherSecond AnotherSecond h = refl
-same_is AnotherSecond AnotherMark h = absurd cc
-same_is AnotherMark Agreed h = absurd cc
-same_is AnotherMark Silent h = absurd cc
-same_is AnotherMark Faulty h = absurd cc
-same_is AnotherMark Poor h = absurd cc
-same_is AnotherMark AnotherSecond h = absurd cc
-same_is AnotherMark AnotherMark h = refl
+same_is a b h = search rules
 
 other_way : (a b : Kind) → same_kind a b ≡ false → same_kind b a ≡ false
-other_way a b h =
-    elim (cases_Bool (same_kind b a)) [
-      | inr other ↦ other
-      | inl same ↦
-          let is : a ≡ b = sym (same_is b a same) in
-          absurd (both_ways (same_kind a b) h (ap (λ k. same_kind k b) is ∙ same_itself b))
-    ]
+other_way a b h = search rules
 
 head_kind : (port : ℕ) (kind : Kind) (t first : Tick) (ts later before : List Tick) → t ∷ ts ≡ (later ++ first ∷ []) ++ before
     → AllByRecursion (λ t. same_kind kind (kind_at port t) ≡ true) (later ++ first ∷ []) → same_kind kind (kind_at port t) ≡ true

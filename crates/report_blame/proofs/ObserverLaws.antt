@@ -1,5 +1,5 @@
 -- What an observer makes of an event that the plant has taken.
-use Rattle.std.proofs.Common.{◌≡◌, ℕ, ◌<◌, true, List, [], ◌∷◌, ◌++◌, length, Option, Some, None, refl, sym, ap, ◌∙◌, subst, arith, append-nil}
+use Rattle.std.proofs.Common.{◌≡◌, ℕ, ◌<◌, List, [], ◌∷◌, ◌++◌, length, Option, Some, None, refl, sym, ap, ◌∙◌, subst, arith, append-nil}
 use Rattle.std.specs.Prelude.{All, slice_index_or, vec_len}
 use Rattle.irig_port.specs.declared.port.Port.{Ghosts}
 use Rattle.report_log.specs.Text.{name_at, audit_text}

@@ -1,11 +1,13 @@
--- What it is for a stretch to be a longest run of a reader's ticks, the newest first.
+-- What it is for a stretch or a silence to be a longest run of a reader's ticks, the newest first.
 use Rattle.std.specs.Prelude.{◌≡◌, ℕ, Bool, true, false, ◌&&◌, List, [], ◌∷◌, ◌++◌, All, count_by, ⊤, Option, Some, None}
 use Rattle.report_blame.specs.declared.kind.Kind.{Kind}
 use Rattle.report_blame.specs.declared.kind.Kind.TheVariants.{Agreed}
+use Rattle.report_blame.specs.declared.stretch.Silence.{Silence}
 use Rattle.report_blame.specs.declared.stretch.Stretch.{Stretch}
 use Rattle.report_blame.specs.declared.tick.Tick.{Tick}
 use Rattle.report_blame.specs.Kinds.{same_kind}
 use Rattle.report_blame.specs.Offsets.{same_offset}
+use Rattle.report_blame.specs.Stretches.{goes_on}
 use Rattle.report_blame.specs.Ticks.{kind_at, is_announced, is_untrue, offset_at}
 
 -- the newest of some ticks has another kind, or there is none
@@ -38,3 +40,20 @@ pub record IsLongest (port : ℕ) (ts : List Tick) (s : Stretch) : Type 0 where
   pub steady : s.steady ≡ is_steady port s.first later
   pub announced : s.announced ≡ count_by is_announced (later ++ s.first ∷ [])
   pub untrue : s.untrue ≡ count_by is_untrue (later ++ s.first ∷ [])
+
+-- ---- silences
+
+-- the newest of some ticks is not of the silence, or there is none
+abbrev pub IsEnded : Silence → List Tick → Type 0
+IsEnded s [] = ⊤
+IsEnded s (t ∷ ts) = goes_on s t ≡ false
+
+-- the silence has the newest ticks, from its first on, at which nothing is announced, for its cause,
+-- and the one before is not so; its last tick is the newest
+pub record IsLongestSilence (ts : List Tick) (s : Silence) : Type 0 where
+  pub later : List Tick
+  pub before : List Tick
+  pub parts : ts ≡ (later ++ s.first ∷ []) ++ before
+  pub silent : All (λ t. goes_on s t ≡ true) (later ++ s.first ∷ [])
+  pub ended : IsEnded s before
+  pub last : newest (later ++ s.first ∷ []) ≡ Some s.last

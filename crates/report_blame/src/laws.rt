@@ -1,19 +1,23 @@
 //! What is proved of the definitions. It has no code.
 
-ghost use Rattle.std.specs.Prelude.{◌≡◌, ◌↔◌, ◌+◌, ℕ, true, List, ◌∷◌, Some, None, is_some};
+ghost use Rattle.std.specs.Prelude.{◌≡◌, ◌↔◌, ◌+◌, ℕ, true, List, ◌∷◌, Option, Some, None, is_some, codes};
 ghost use Rattle.irig_time.specs.TimelineFaults.{IsTimeline};
 ghost use Rattle.irig_time.specs.Timelines.{TimelineValue, second_at, truth_at};
 ghost use Rattle.irig_plant.specs.Schedule.{Setup, ticks_of, entry_of};
 ghost use Rattle.irig_plant.specs.declared.event.Event.{Event};
 ghost use Rattle.report_blame.specs.declared.kind.Kind.{Kind as KindOf};
+ghost use Rattle.report_blame.specs.declared.stretch.Silence.{Silence as SilenceOf};
 ghost use Rattle.report_blame.specs.declared.stretch.Stretch.{Stretch as StretchOf};
 ghost use Rattle.report_blame.specs.declared.tick.Tick.{Tick as TickOf};
+ghost use Rattle.report_log.specs.Text.{port_word};
 ghost use Rattle.report_blame.specs.Books.{tick_of};
-ghost use Rattle.report_blame.specs.LongestRuns.{IsLongest};
-ghost use Rattle.report_blame.specs.Stretches.{stretch_of};
+ghost use Rattle.report_blame.specs.Kinds.{kind_of};
+ghost use Rattle.report_blame.specs.LongestRuns.{IsLongest, IsLongestSilence};
+ghost use Rattle.report_blame.specs.Stretches.{stretch_of, silence_of};
 ghost use Rattle.report_blame.specs.Ticks.{kind_at, second_after, is_another, is_untrue};
 
-use irig_time::UtcSecond;
+use irig_port::Told;
+use irig_time::{Claim, UtcSecond};
 
 /// The open stretch of a port is the longest run of its reader's newest ticks at which it told one
 /// kind other than agreed, with that kind, its first tick, its last edge, and the counts of what the
@@ -25,6 +29,12 @@ pub fn stretches_are_longest_runs()
         → (stretch_of port (t ∷ ts) ≡ None) ↔ (kind_at port t ≡ KindOf.Agreed) }
 {}
 
+/// The open silence of a reader is the longest run of its newest ticks at which it announced nothing
+/// for one cause, with its first and its last tick.
+pub fn silences_are_longest_runs()
+    ensures { (ts : List TickOf) (s : SilenceOf) → silence_of ts ≡ Some s → IsLongestSilence ts s }
+{}
+
 /// The second with which an announcement is compared is T of its edge: at each tick that is not
 /// refused an announcement is counted as untrue exactly if it is another one.
 pub fn untrue_seconds_are_not_those_of_their_edges()
@@ -34,4 +44,10 @@ pub fn untrue_seconds_are_not_those_of_their_edges()
         → is_some (second_at s.times (ticks_of r ev)) ≡ true
         → is_untrue (tick_of s r ev)
         ≡ is_another (entry_of s r ev).report.announce (second_at s.times (entry_of s r ev).edge) }
+{}
+
+/// A port is agreed at a tick exactly if its word in a log's port line is `ok`.
+pub fn agreed_ports_are_ok()
+    ensures { (truth : Option Claim) (told : Told)
+        → (kind_of truth told ≡ KindOf.Agreed) ↔ (port_word truth told ≡ codes "ok") }
 {}

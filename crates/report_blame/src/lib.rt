@@ -17,5 +17,8 @@ mod text;
 mod tick;
 mod when_text;
 
-pub use laws::{stretches_are_longest_runs, untrue_seconds_are_not_those_of_their_edges};
+pub use laws::{
+    agreed_ports_are_ok, silences_are_longest_runs, stretches_are_longest_runs,
+    untrue_seconds_are_not_those_of_their_edges,
+};
 pub use run::blame;

@@ -1,4 +1,4 @@
-use Rattle.std.proofs.Common.{◌∙◌, sym, ap, string_bytes}
+use Rattle.std.proofs.Common.{◌∙◌, sym}
 use Rattle.report_blame.proofs.CarrierLaws.{carrier_written, other_passed}
 use Rattle.report_blame.proofs.misled_text.push_carriers.Goals as goal
 use Rattle.report_blame.proofs.misled_text.push_carriers.Goals.{then-is_carrier+in_ok-push_carrier, else-is_carrier}
