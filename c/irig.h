@@ -51,7 +51,10 @@ typedef uint64_t irig_count;
 IRIG_ASSERT(sizeof(irig_count) == 8u);
 
 /* The version that this header is of; irig_version() says that of the library. */
-#define IRIG_VERSION "1.0.0"
+#define IRIG_VERSION_MAJOR 2
+#define IRIG_VERSION_MINOR 0
+#define IRIG_VERSION_PATCH 0
+#define IRIG_VERSION "2.0.0"
 
 /* ---- answers */
 
