@@ -5,7 +5,7 @@ declare -gA _irig_options=(
     [irig]='--help --version'
     [run]='--all --ports --help'
     [flatten]='--help'
-    [blame]='--help'
+    [blame]='--recorded= --help'
     [frame]='--local= --pending= --dst --quality= --parity= --sense= --help'
     [read]='--parity= --sense= --sbs= --help'
     [explain]='--help'

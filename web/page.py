@@ -16,8 +16,8 @@ sys.path.insert(0, str(ROOT / "tools"))
 from parts.log_lanes import PORT_STATES, STATES  # noqa: E402
 from parts.html_page import embedded, filled, hashed, joined, script_of  # noqa: E402
 
-SCRIPTS = (PARTS / "list.js", PARTS / "kinds.js", WEB / "log.js", PARTS / "timeline.js", WEB / "codec.js",
-           WEB / "frame.js", WEB / "editor.js", WEB / "scenario.js", WEB / "page.js")
+SCRIPTS = (PARTS / "list.js", PARTS / "kinds.js", PARTS / "utc.js", WEB / "log.js", PARTS / "timeline.js",
+           WEB / "codec.js", WEB / "frame.js", WEB / "editor.js", WEB / "scenario.js", WEB / "page.js")
 WORKER = PARTS / "kinds.js", WEB / "lanes.js", WEB / "worker.js"
 FIELDS = ("second", "minute", "hour", "day", "year")
 MODULES = ("c_scenario", "c_reader")

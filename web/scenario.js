@@ -205,6 +205,7 @@ class ScenarioTab {
   show_result(result) {
     const log = new LogText(result.log, result.starts), { status, verdict } = result;
     this.ran = this.running.text.split("\n");
+    this.clock = clock_of(this.ran);
     this.has_run = true;
     this.set_stale(this.running.text !== this.editor.text);
     this.log.set(log);
@@ -212,7 +213,7 @@ class ScenarioTab {
     part("save").disabled = !log.length;
     part("result").hidden = false;
     part("drawing").hidden = part("range").hidden = !result.lanes.length;
-    this.timeline.set(result, (lane, edge) => this.told_of(lane, edge));
+    this.timeline.set(result, (lane, edge) => this.told_of(lane, edge), this.clock);
     if (result.lanes.length) this.timeline.choose(this.timeline.lanes[0], result.first);
     this.show_verdict(verdict, status, result.refusal);
     const lines = `${log.length.toLocaleString("en")} line${log.length === 1 ? "" : "s"}`;
@@ -259,10 +260,14 @@ class ScenarioTab {
     const parts = [`${edge} ${lane.reader}: not announced, no line in this log`], told = lane.told_at(edge);
     if (line >= 0) {
       const text = this.log.lines.at(line), [meaning, look] = data.causes[text.split(" ")[4]] || ["", ""];
-      parts[0] = text;
+      parts[0] = with_offsets(text, this.clock(edge));
       if (meaning) parts.push(meaning + (look ? ` (${look})` : ""));
     }
-    if (told >= 0) parts.push(`ports told:${this.log.lines.at(told).slice(` ${edge} ${lane.reader}`.length)}`);
+    if (told >= 0) {
+      const words = this.log.lines.at(told).slice(` ${edge} ${lane.reader}`.length);
+      parts.push(`ports told:${with_offsets(words, this.clock(edge - 1))}`);
+    }
+    if (!parts[0].includes(this.clock(edge))) parts.push(`edge ${edge} is ${this.clock(edge)}`);
     if (maker >= 0) parts.push(`scenario line ${maker + 1}: ${cut(this.ran[maker], 120)}`);
     return parts.join("\n");
   }

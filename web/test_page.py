@@ -1,6 +1,5 @@
 #!/usr/bin/env python3
-"""Drives the page as a person would, in Chromium: `test_page.py PAGE`. With `--pictures FOLDER` it leaves
-pictures of what it saw there."""
+"""Drives the page as a person would, in Chromium: `test_page.py PAGE`."""
 from __future__ import annotations
 
 import base64
@@ -21,7 +20,6 @@ from case_files import examples  # noqa: E402
 from parts.log_lanes import STATES  # noqa: E402
 
 PAGE = WEB / "out/irig.html"
-PICTURES: Path | None = None
 PATIENCE = 60.0
 
 PLANT = {
@@ -103,10 +101,6 @@ class InBrowser(browser.Driven):
     def log(self) -> str:
         return str(self.page.ask("new TextDecoder().decode(tab.log.lines.bytes)"))
 
-    def picture(self, name: str) -> None:
-        if PICTURES:
-            self.page.picture(PICTURES / f"{name}.png")
-
     # ---- running
 
     def test_each_example(self) -> None:
@@ -126,7 +120,6 @@ class InBrowser(browser.Driven):
                 log = cases[name].stdout.decode()
                 self.assertEqual(self.log(), log)
                 self.assertIn(log.splitlines()[-1], self.text("verdict"))
-        self.picture("example")
 
     def test_keys_lead_everywhere(self) -> None:
         self.run_example("two_liars")
@@ -176,7 +169,6 @@ class InBrowser(browser.Driven):
         self.push("to-verdict")
         chosen = "(({ value, selectionStart, selectionEnd }) => value.slice(selectionStart, selectionEnd))"
         self.assertEqual(self.page.ask(f"{chosen}(part('text'))"), '{"do":"tick","r":"rely"}')
-        self.picture("refused")
         self.paste("text", plant({"do": "seconds", "n": 5}))
         self.assertEqual((self.text("explanation"), self.page.ask("part('band').hidden")), ("", True))
 
@@ -187,7 +179,6 @@ class InBrowser(browser.Driven):
         self.assertTrue(self.text("state").startswith("done: "))
         self.assertIn("premises kept", self.text("verdict"))
         self.assertIn("\n 10 relay ok ok ok\n", self.log())
-        self.picture("opened")
 
     def test_the_plant_line_by_its_keys(self) -> None:
         self.paste("text", plant(generators=[{"local": 0}, {"local": 11}, {"local": -10}]))
@@ -205,12 +196,24 @@ class InBrowser(browser.Driven):
         self.assertTrue(state.startswith("done: "), state)
         lines = [line for line in self.log().splitlines() if line.startswith(" ")]
         self.assertTrue(any(line.count(" ok") == 2 and line.count("Z") == 1 for line in lines), lines[:3])
-        self.picture("one_liar")
+
+    def test_utc_and_offsets(self) -> None:
+        """Edge 11 is the second after 23:59:60, which one clock told as the next one."""
+        self.push("ports")
+        self.run_example("ignored_leap")
+        self.page.click(*self.on_edge(11, 0))
+        self.assertIn("ports told: ok 2017-01-01T00:00:00Z (1 s ahead) ok", self.text("line"))
+        self.assertIn("2016-12-31T23:59:51Z to 2017-01-01T00:00:04Z", self.text("range"))
+        self.run_example("misled_by_table")
+        self.press("canvas", "End")
+        self.assertIn("60 relay 2000-02-01T00:00:00Z (1 s ahead) holdover:59 held", self.text("line"))
+        self.assertIn("edge 60 is 2000-01-31T23:59:60Z", self.text("line"))
 
     def test_a_refused_plant_after_a_run(self) -> None:
         right = plant({"do": "seconds", "n": 10})
         self.run_text(right)
-        self.assertEqual(self.text("range"), "edges 1 to 10 of 1 to 10")
+        told = "edges 1 to 10 of 1 to 10, 2016-12-31T23:00:01Z to 2016-12-31T23:00:10Z"
+        self.assertEqual(self.text("range"), told)
         self.run_text(plant(readers=[{"name": "relay", "lock_after": 0, "holdover": 9}]))
         self.assertIn("refused: line 1: 26 Value", self.text("verdict"))
         self.assertFalse(self.page.ask("part('range').checkVisibility()"))
@@ -229,7 +232,6 @@ class InBrowser(browser.Driven):
         self.push("run")
         self.wait("tab.progress !== null && part('progress').hasAttribute('value')")
         self.wait("part('pace').textContent.includes(' ticks')")
-        self.picture("running")
         self.push("stop")
         self.assertTrue(self.text("state").startswith("stopped after "), self.text("state"))
         self.assertEqual(self.page.ask("[part('stop').disabled, tab.runner.worker]"), [True, None])
@@ -240,7 +242,6 @@ class InBrowser(browser.Driven):
         state = self.run_text(plant({"do": "seconds", "n": 100_000}, readers=SIXTEEN))
         self.assertTrue(state.startswith("no memory for the run: "), state)
         self.assertIn("memory ran out", self.text("verdict"))
-        self.picture("memory")
         self.assertTrue(self.run_text(plant({"do": "seconds", "n": 3})).startswith("done: 4 lines"))
 
     def test_a_trap(self) -> None:
@@ -275,7 +276,8 @@ class InBrowser(browser.Driven):
         self.assertTrue(self.text("line").startswith("3616 relay 2016-06-15T13:00:16Z locked voted"))
         self.assertIn('scenario line 10: {"do":"seconds","n":8}', self.text("line"))
         self.press("canvas", "Home", "+", "+")
-        self.assertEqual(self.text("range"), "edges 1 to 904 of 1 to 3616")
+        told = "edges 1 to 904 of 1 to 3616, 2016-06-15T12:00:01Z to 2016-06-15T12:15:04Z"
+        self.assertEqual(self.text("range"), told)
         self.press("canvas", "0")
         self.set("cause", "expired")
         self.push("next")
@@ -284,7 +286,6 @@ class InBrowser(browser.Driven):
         self.assertEqual(self.page.ask(chosen), "18")
         self.page.mouse("mouseMoved", *self.on_edge(2000, 0))
         self.assertTrue(self.text("hover").startswith("2000 relay - unlocked no-vote\nthere was no vote"))
-        self.picture("hover")
         self.page.mouse("mouseWheel", *self.on_edge(3616, 0), deltaX=0, deltaY=-900)
         self.page.settle()
         self.assertIn("to 3616 of", self.text("range"))
@@ -298,7 +299,6 @@ class InBrowser(browser.Driven):
         self.assertIn("23:59:60 inserted", self.text("legend"))
         self.page.click(*self.on_edge(10, 0))
         self.assertTrue(self.text("line").startswith("10 relay 2016-12-31T23:59:60Z locked voted"))
-        self.picture("leap")
         for edge, state in ((5, "locked"), (1, "acquiring")):
             self.assertIn(STATES[state].colour[1:].lower(), self.colours_on_edge(edge, 1))
 
@@ -380,7 +380,6 @@ class InBrowser(browser.Driven):
                 self.press("log", "End")
                 self.assertEqual(self.page.ask("tab.log.chosen"), lines - 1)
                 self.assertTrue(self.page.ask("document.querySelector('#log [aria-selected=true]') !== null"))
-                self.picture(f"long-{lines}")
 
     def check_smoothness(self, lines: int) -> None:
         options = "document.querySelectorAll('#log [role=option]').length"
@@ -419,7 +418,6 @@ class InBrowser(browser.Driven):
         self.assertEqual(len(elements), 100)
         self.assertEqual(elements[7], "element 7: second, weight 20; a one")
         self.assertEqual(elements[0], "element 0: the marker PR; a marker")
-        self.picture("frame")
         self.paste("time", "2016-12-30T23:59:60Z")
         self.assertIn("is no UTC second", self.text("frame-state"))
         self.assertEqual(self.page.ask("part('time').getAttribute('aria-invalid')"), "true")
@@ -445,7 +443,6 @@ class InBrowser(browser.Driven):
             ],
         )
         self.assertIn("measure the pulses of that element", self.text("faults"))
-        self.picture("read")
         self.paste("read-text", "P 01x")
         self.assertIn("letter 5, x, stands for no symbol", self.text("reading"))
         self.paste("read-text", "")
@@ -484,7 +481,6 @@ class InBrowser(browser.Driven):
         self.assertEqual(self.page.ask("document.activeElement.id"), "tab-frame")
         self.page.press("End")
         self.assertRegex(self.text("panel-about"), r"an extra, and outside the\s+theorem")
-        self.picture("about")
 
     def test_each_control_has_a_name(self) -> None:
         roles = {"button", "textbox", "searchbox", "combobox", "checkbox", "tab", "listbox", "application"}
@@ -514,7 +510,6 @@ class InBrowser(browser.Driven):
                 self.assertGreater(contrast(faint, ground), 4.5)
             grounds.append(self.page.ask("getComputedStyle(document.body).backgroundColor"))
             self.run_example("one_liar")
-            self.picture(scheme)
         self.assertEqual(grounds, ["rgb(255, 255, 255)", "rgb(22, 22, 22)"])
 
     def test_the_policy(self) -> None:
@@ -549,10 +544,5 @@ def contrast(one: float, other: float) -> float:
 
 
 if __name__ == "__main__":
-    arguments = sys.argv[1:]
-    if arguments[:1] == ["--pictures"]:
-        PICTURES = Path(arguments[1])
-        arguments = arguments[2:]
-    if arguments and not arguments[0].startswith("-"):
-        PAGE = Path(arguments.pop(0)).resolve()
-    unittest.main(argv=[sys.argv[0], *arguments])
+    PAGE = Path(sys.argv.pop(1)).resolve()
+    unittest.main()

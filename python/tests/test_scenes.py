@@ -105,10 +105,11 @@ class Blame(unittest.TestCase):
     with the program's."""
 
     WANTED = [
-        "edge 1: relay announced nothing: acquiring, not yet enough votes in a row",
-        "edges 5 to 8: port 1 of relay told another second, first 2017-06-30T23:59:57Z;"
-        " relay announced 4 seconds",
-        "edges 9 to 12: port 1 of relay told another mark, first insert; relay announced 4 seconds",
+        "2017-06-30T23:59:49Z, edge 1: relay announced nothing: acquiring, not yet enough votes in a row",
+        "2017-06-30T23:59:52Z to 2017-06-30T23:59:55Z, edges 5 to 8: port 1 of relay told another second,"
+        " 5 s ahead, first 2017-06-30T23:59:57Z; relay announced 4 seconds",
+        "2017-06-30T23:59:56Z to 2017-06-30T23:59:59Z, edges 9 to 12: port 1 of relay told another mark,"
+        " first insert; relay announced 4 seconds",
     ]
 
     def test_one_line(self) -> None:

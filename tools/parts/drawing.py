@@ -34,6 +34,7 @@ PLAIN = 0.06  # less wide ones have no pattern
 BOLD = 1.15  # how much wider bold text is
 IN_A_ROW, LEGEND_ROW = 3, 0.22  # of the legend
 MOST_ROWS = 3
+AXIS = 0.8  # below the axis: edges, UTC, the day, what they are
 MOST_LABELS = 100
 LIMITS = -0.2, WIDTH + 0.2  # of labels
 
@@ -46,9 +47,9 @@ MARKS = {
     "premise broken": "premise broken",
 }
 VERDICTS = {
-    "premises kept": "each second announced is the true one",
-    "premises broken: edge": "from there on that reader follows its votes, true or not",
-    "premises broken: table": "its leap table is not true of this plant",
+    "premises kept": "each second announced is as the scenario has it",
+    "premises broken: edge": "from there on that reader follows its votes, as the scenario has it or not",
+    "premises broken: table": "its leap table and the scenario's leap seconds differ",
     "refused": "the lines of the scenario above it were played",
 }
 
@@ -69,17 +70,27 @@ def ticks_of(bars: Bars, scale: Scale) -> list[int]:
 
 
 def tick(edge: int, scale: Scale) -> Label:
-    width = width_of(str(edge), NORMAL) + 0.1
+    width = width_of(max(str(edge), "2000-01-01", key=len), NORMAL) + 0.1
     return Label(str(edge), scale.place(edge), scale.place(edge) - width / 2, width)
+
+
+def texts_of(bars: Bars, ticks: list[int]) -> list[str]:
+    """The edges, with UTC below them, and the day where it is another one than before."""
+    texts, before = [], ""
+    for edge in ticks:
+        day, _, time = str(bars.utc(edge) or "").rstrip("Z").partition("T")
+        texts.append("\n".join(filter(None, (str(edge), time, day if day != before else ""))))
+        before = day
+    return texts
 
 
 def draw_axis(axes: Axes, bars: Bars, scale: Scale) -> None:
     ticks = ticks_of(bars, scale)
     axes.set_xlim(0, WIDTH)
-    axes.set_xticks([scale.place(edge) for edge in ticks], [str(edge) for edge in ticks])
+    axes.set_xticks([scale.place(edge) for edge in ticks], texts_of(bars, ticks))
     axes.set_yticks([])
     axes.tick_params(labelsize=NORMAL)
-    label = "edge (one a second)"
+    label = f"edge (one a second), and UTC{'' if bars.truth.is_known else ' as announced'}"
     if scale.is_cut:
         label += "; at slanted lines nothing changes, and the axis is shortened"
     if any(is_widened(run, scale) for lane in bars.lanes for run in amiss_in(lane)):
@@ -224,20 +235,20 @@ def draw_marks(axes: Axes, lane: Lane, scale: Scale, foot: float) -> None:
 
 
 def causes_of(lane: Lane, scale: Scale) -> tuple[list[list[Label]], int]:
-    """Labels for silences, rare causes first, then long ones; and how many silences there are."""
+    """Labels for silences, rare causes first, then long ones, and for offsets; and how many there are."""
     silent = [run for run in lane.runs if not STATES[run.state].is_high]
     counts = Counter(run.cause for run in silent)
     silent.sort(key=lambda run: (counts[run.cause], run.first - run.last, run.first))
-    labels = []
-    for run in silent[:MOST_LABELS]:
+    labels, amiss = [], silent + lane.offsets
+    for run in amiss[:MOST_LABELS]:
         edges = f"{run.first}" if run.first == run.last else f"{run.first} to {run.last}"
         left, right = scale.place(run.first - 0.5), scale.place(run.last + 0.5)
         labels.append(label(f"{edges}: {run.cause}", (left + right) / 2, right - left))
-    return labels, len(silent)
+    return labels, len(amiss)
 
 
 def draw_causes(axes: Axes, lane: Lane, scale: Scale, top: float) -> float:
-    """Writes the causes of silences below a bar, and says where they end."""
+    """Writes the causes of silences and the offsets below a bar, and says where they end."""
     labels, count = causes_of(lane, scale)
     found = chosen(labels, MOST_ROWS)
     for told, row in found:
@@ -246,7 +257,8 @@ def draw_causes(axes: Axes, lane: Lane, scale: Scale, top: float) -> float:
         write(axes, told, height)
     depth = max((row for _, row in found), default=-1) + 1
     if len(found) < count:
-        (more,) = label(f"and {count - len(found)} more silences: zoom in by --edges", WIDTH, WIDTH)
+        what = "silences and lies" if lane.offsets else "silences"
+        more, *_ = label(f"and {count - len(found)} more {what}: zoom in by --edges", WIDTH, WIDTH)
         write(axes, Label(more.text, WIDTH, WIDTH - more.width, more.width), top - ROW * (depth + 0.5))
         depth += 1
     return top - ROW * depth
@@ -349,14 +361,14 @@ def picture_of(bars: Bars, title: str) -> Figure:
     foot -= 0.12
     draw_cuts(axes, scale, foot - 0.06, foot + 0.06)
     rows = sum(map(rows_in, patches_of(bars)))
-    below = 1.16 + LEGEND_ROW * rows  # the axis, the legend, the last line of the log
+    below = 0.66 + AXIS + LEGEND_ROW * rows  # the axis, the legend, the last line of the log
     left = max(width_of(lane.reader, NORMAL) for lane in bars.lanes) + 0.3
     width, height = max(left, 0.7) + WIDTH + 0.3, top - foot + below + 0.75
     figure.set_size_inches(width, height)
     axes.set_position([left / width, below / height, WIDTH / width, (top - foot) / height])
     axes.set_ylim(foot, top)
     draw_axis(axes, bars, scale)
-    draw_legend(figure, bars, left, below - 0.5)
+    draw_legend(figure, bars, left, below - AXIS)
     draw_words(figure, bars, title, left)
     return figure
 

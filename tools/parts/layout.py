@@ -80,14 +80,13 @@ class Label:
 
 
 def ways(text: str, place: float, width: float, room: float, limits: tuple[float, float]) -> list[Label]:
-    """How a label may stand: in the middle if there is so much room at its place, else to one side."""
-    if width <= room:
-        return [Label(text, place, place - width / 2, width)]
+    """How a label may stand: in the middle if there is so much room at its place, or to one side."""
+    middle = [Label(text, place, place - width / 2, width)] if width <= room else []
     sides = [Label(text, place, place, width), Label(text, place, place - width, width)]
     if place > sum(limits) / 2:
         sides.reverse()
     within = [side for side in sides if limits[0] <= side.left and side.right <= limits[1]]
-    return within or [Label(text, place, max(limits[0], limits[1] - width), width)]
+    return middle + within or [Label(text, place, max(limits[0], limits[1] - width), width)]
 
 
 def rows_of(labels: Sequence[Label], most: int) -> list[int] | None:

@@ -12,8 +12,9 @@ from parts import package  # noqa: F401
 
 from irig.logs import ENTRIES, Announced, LastLine, Ports, PremiseBroken, Reading, RefusedLine, Silent, Tick
 from irig.logs import read_lines, ticks_of
-from irig.scenarios import made_edges
+from irig.scenarios import Timeline, made_edges
 from irig.seconds import EPOCH, Second
+from irig.stretches import Truth, stretches_of
 from irig.words import CAUSES
 
 
@@ -38,7 +39,7 @@ STATES = {
 
 # What a port told: low where it told nothing untrue, so that a lie stands out.
 PORT_STATES = {
-    "agreed": State("#009E73", "plain", False, "told the truth"),
+    "agreed": State("#009E73", "plain", False, "agreed with the scenario"),
     "silent": State("#FFFFFF", "plain", False, "told nothing"),
     "faulty": State("#999999", "crosses", False, "told a fault"),
     "poor": State("#F0E442", "upright", False, "told a poor quality"),
@@ -48,6 +49,7 @@ PORT_STATES = {
 
 
 LAST_LINES = get_args(LastLine)
+UNKNOWN = Truth(None, False)
 
 
 @dataclass
@@ -71,12 +73,14 @@ class Mark:
 
 @dataclass
 class Lane:
-    """What one reader did, and what its ports told, if the log has that."""
+    """What one reader did, and what its ports told, if the log has that; and `offsets`, the runs at which
+    one of them told another second than the scenario has: their causes say who, and how far it was."""
 
     reader: str
     runs: list[Run] = field(default_factory=list)
     marks: list[Mark] = field(default_factory=list)
     ports: list[list[Run]] = field(default_factory=list)
+    offsets: list[Run] = field(default_factory=list)
 
 
 @dataclass
@@ -88,6 +92,12 @@ class Bars:
     last: int
     verdict: str | None
     announced: list[Announced]
+    truth: Truth = UNKNOWN
+
+    def utc(self, edge: int) -> Second | None:
+        """The second that begins at an edge, by the scenario; if that is not known, as it is announced."""
+        announced = (entry.second for entry in self.announced if entry.edge == edge)
+        return self.truth.second(edge) if self.truth.is_known else next(announced, None)
 
     def part(self, first: int, last: int) -> Bars:
         """These edges alone."""
@@ -97,11 +107,12 @@ class Bars:
                 _cut(lane.runs, first, last),
                 [mark for mark in lane.marks if first - 0.5 < mark.at < last + 0.5],
                 [_cut(runs, first, last) for runs in lane.ports],
+                _cut(lane.offsets, first, last),
             )
             for lane in self.lanes
         ]
         announced = [entry for entry in self.announced if first <= entry.edge <= last]
-        return Bars(lanes, first, last, self.verdict, announced)
+        return Bars(lanes, first, last, self.verdict, announced, self.truth)
 
 
 def _cut(runs: list[Run], first: int, last: int) -> list[Run]:
@@ -113,15 +124,16 @@ def _cut(runs: list[Run], first: int, last: int) -> list[Run]:
     ]
 
 
-def bars_of(lines: Iterable[str]) -> Bars:
-    """What is drawn of a log; a ValueError if there is nothing to draw, or a line is none of a log."""
+def bars_of(lines: Iterable[str], timeline: Timeline | None = None) -> Bars:
+    """What is drawn of a log, and of the timeline of its scenario; a ValueError if there is nothing to
+    draw, or a line is none of a log."""
     said = list(read_lines(lines))
     if not any(isinstance(line, ENTRIES) for line in said):
         raise ValueError(f"no edges to draw: {_why_none(said[-1] if said else None)}")
-    return _bars_of(said)
+    return _bars_of(said, Truth(timeline, False))
 
 
-def _bars_of(said: list) -> Bars:
+def _bars_of(said: list, truth: Truth = UNKNOWN) -> Bars:
     """What is drawn of these lines, perhaps nothing."""
     verdict = said.pop() if said and isinstance(said[-1], LAST_LINES) else None
     ticks = list(ticks_of(said))
@@ -132,11 +144,13 @@ def _bars_of(said: list) -> Bars:
     first = min(tick.edge for tick in ticks) if has_silences else 1
     last = max((tick.edge for tick in ticks), default=1)
     lanes = [lane_of(reader, ticks, first, last) for reader, ticks in of_readers.items()]
+    for lane in lanes if truth.is_known else []:
+        lane.offsets = _offset_runs(lane.reader, of_readers[lane.reader], truth)
     for lane in lanes:
         if isinstance(verdict, PremiseBroken) and lane.reader == verdict.reader:
             lane.marks.append(Mark(verdict.edge, "premise broken"))
     announced = [tick.said for tick in ticks if isinstance(tick.said, Announced)]
-    return Bars(lanes, first, last, None if verdict is None else str(verdict), announced)
+    return Bars(lanes, first, last, None if verdict is None else str(verdict), announced, truth)
 
 
 def lane_of(reader: str, ticks: list[Tick], first: int, last: int) -> Lane:
@@ -167,6 +181,20 @@ def _port_runs(ticks: list[Tick]) -> list[list[Run]]:
             else:
                 runs.append(Run(tick.edge, tick.edge, word.kind, word.text))
     return found
+
+
+def _offset_runs(reader: str, ticks: list[Tick], truth: Truth) -> list[Run]:
+    """The runs of seconds that are not the scenario's; ports that are as far from it at the same edges have
+    one, and the reader has its own."""
+    found: dict[tuple, list[str]] = {}
+    for one in stretches_of(ticks, [reader], truth):
+        if one.offset:
+            ports = found.setdefault((one.first, one.last, one.kind, one.offset), [])
+            ports += [] if one.port is None else [f"port {one.port}"]
+    return [
+        Run(first, last, kind, ", ".join([offset, *ports]))
+        for (first, last, kind, offset), ports in found.items()
+    ]
 
 
 def _runs(entries: list[Announced | Silent], first: int, last: int) -> Iterator[Run]:

@@ -1,7 +1,7 @@
 // ---- the timeline: how each reader stood at each edge, and below it what each of its ports told, by the
 // bars, marks and patterns of tools/plot
 
-const LANE = 46, HIGH = 24, LOW = 11, TOP = 14, AXIS = 26;
+const LANE = 46, HIGH = 24, LOW = 11, TOP = 14, AXIS = 26, UTC_ROW = 14; // the axis, and its rows for UTC
 const PORT_LANE = 11, PORT_HIGH = 9, PORT_LOW = 5, BELOW_PORTS = 4; // a thin lane a port
 const NARROW = 2, PLAIN = 5; // the least width of a silence; less wide bars have no pattern
 const FEWEST = 4; // edges on the screen at the nearest zoom
@@ -51,7 +51,7 @@ class LaneOfEdges { // a lane, and which line tells of an edge
 class Timeline {
   constructor(on_choice) {
     Object.assign(this, { on_choice, lanes: [], causes: [], found: [], lies: [] });
-    Object.assign(this, { first: 1, last: 1, height: TOP });
+    Object.assign(this, { first: 1, last: 1, height: TOP, clock: () => "" });
     Object.assign(this, { canvas: part("canvas"), axis: part("axis"), colours: {}, gutter: 60, width: 0 });
     Object.assign(this, { is_waiting: false, dragged: null });
     this.brush = this.canvas.getContext("2d");
@@ -61,14 +61,14 @@ class Timeline {
     this.listen();
   }
 
-  set({ lanes, causes, first, last }, told_of) {
+  set({ lanes, causes, first, last }, told_of, clock) {
     let top = TOP;
     this.lanes = lanes.map((lane) => {
       const placed = new LaneOfEdges(lane, top);
       top += placed.height;
       return placed;
     });
-    Object.assign(this, { causes, first, last, told_of, height: top });
+    Object.assign(this, { causes, first, last, told_of, clock, height: top });
     this.view = { from: first - 0.5, to: last + 0.5 };
     this.cursor = { lane: this.lanes[0], edge: first };
     part("lie").hidden = !this.lanes.some(({ ports }) => ports.length);
@@ -108,7 +108,7 @@ class Timeline {
     const names = this.lanes.map((lane) => this.brush.measureText(lane.reader).width);
     this.gutter = Math.ceil(Math.max(30, ...names)) + 14;
     this.size(this.canvas, this.brush, this.height);
-    this.size(this.axis, this.ruler, AXIS);
+    this.size(this.axis, this.ruler, AXIS + (this.clock(this.first) ? 2 * UTC_ROW : 0));
     this.width = Math.max(10, this.canvas.clientWidth - this.gutter - RIGHT);
     for (const state of [...STATES, ...PORT_STATES]) state.brush = this.pattern_of(state);
     this.draw_legend();
@@ -287,24 +287,30 @@ class Timeline {
   draw_axis() {
     const { view, ruler, gutter, width } = this, edges = view.to - view.from, end = gutter + width;
     const steps = [1, 2, 5].flatMap((step) => [...Array(20).keys()].map((power) => step * 10 ** power));
-    const step = Math.min(...steps.filter((each) => each / edges * width >= 70));
+    const step = Math.min(...steps.filter((each) => each / edges * width >= 80));
+    let day = "";
     ruler.font = FONT;
     ruler.clearRect(0, 0, this.axis.width, this.axis.height);
     ruler.strokeStyle = this.colours.faint;
     stroke(ruler, [[gutter, 0.5], [end, 0.5]]);
     for (let edge = Math.ceil(view.from / step) * step; edge <= view.to; edge += step) {
-      const x = this.x_of(edge), half = ruler.measureText(String(edge)).width / 2;
-      const middle = clamp(x, gutter + half, end + RIGHT - half);
+      const x = this.x_of(edge), utc = this.clock(edge), date = utc.slice(0, 10);
       stroke(ruler, [[x, 0], [x, 5]]);
-      write(ruler, String(edge), middle, 15, "center", this.colours.text);
+      [String(edge), utc.slice(11, 19), date === day ? "" : date].forEach((text, row) => {
+        const half = ruler.measureText(text).width / 2, middle = clamp(x, gutter + half, end + RIGHT - half);
+        write(ruler, text, middle, 15 + row * UTC_ROW, "center", this.colours.text);
+      });
+      day = date;
     }
     write(ruler, "edge", gutter - 8, 15, "right", this.colours.faint);
+    if (day) write(ruler, "UTC", gutter - 8, 15 + UTC_ROW, "right", this.colours.faint);
   }
 
   tell_range() {
     const from = Math.max(this.first, Math.ceil(this.view.from));
     const to = Math.min(this.last, Math.floor(this.view.to));
-    part("range").textContent = `edges ${from} to ${to} of ${this.first} to ${this.last}`;
+    const times = this.clock(from) ? `, ${this.clock(from)} to ${this.clock(to)}` : "";
+    part("range").textContent = `edges ${from} to ${to} of ${this.first} to ${this.last}${times}`;
   }
 
   // ---- choices, and what the bars mean
@@ -418,7 +424,7 @@ class Timeline {
     this.redraw();
   }
 
-  // [lane, edge, kind, port] of each run at which a port told a second or a mark that is not true.
+  // [lane, edge, kind, port] of each run at which a port told another second or another mark.
   lies_of(reader) {
     const lies = [];
     this.lanes.forEach((lane, number) => {

@@ -9,15 +9,16 @@ class Lines {
 const timeline = new Timeline(on_choice);
 const log = new List(part("log"), on_line);
 const scenario = new List(part("scenario"), on_scenario_line);
-const reading = data.drawn;
+const reading = data.drawn, clock = clock_of(data.scenario);
 
 const lane_named = (reader) => timeline.lanes.find((lane) => lane.reader === reader);
 
 function told_of(lane, edge) { // what there is to say of an edge
   const line = lane.line_at(edge), told = lane.told_at(edge), maker = lane.maker_of(edge);
   const none = `${edge} ${lane.reader}: not announced, no line in this log`;
-  const parts = [line < 0 ? none : data.log[line]];
-  if (told >= 0) parts.push(data.log[told].trim().replace(/^\S+ \S+/, "ports:"));
+  const parts = [line < 0 ? none : with_offsets(data.log[line], clock(edge))];
+  if (told >= 0) parts.push(with_offsets(data.log[told], clock(edge - 1)).trim().replace(/^\S+ \S+/, "ports:"));
+  if (!parts[0].includes(clock(edge))) parts.push(`edge ${edge} is ${clock(edge)}`);
   if (maker >= 0) parts.push(`scenario line ${maker + 1}: ${cut(data.scenario[maker], 120)}`);
   return parts.join("\n");
 }
@@ -85,7 +86,7 @@ function to_verdict(text, go_there) {
 part("text").addEventListener("keydown", (event) => { if (event.key === "Enter") go_to_text(); });
 log.set(new Lines(data.log));
 scenario.set(new Lines(data.scenario));
-timeline.set(reading, told_of);
+timeline.set(reading, told_of, clock);
 add_verdict();
 if (reading.lanes.length) {
   timeline.choose(timeline.lanes[0], reading.first);

@@ -142,10 +142,6 @@ class Browser:
         self.call("Emulation.setEmulatedMedia", features=[feature])
         self.settle()
 
-    def picture(self, path: Path) -> None:
-        path.write_bytes(base64.b64decode(self.call("Page.captureScreenshot")["data"]))
-
-
 class Driven(unittest.TestCase):
     """Drives a page as a person would."""
 

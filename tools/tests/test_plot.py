@@ -258,8 +258,8 @@ class Pictures(unittest.TestCase):
         ran, picture = plot("\n".join(example("month_end_guard")), "--title", "a <month> end")
         self.assertEqual((ran.returncode, ran.stderr), (0, ""))
         found = texts(picture)
-        for text in ("61: leap-guard", "62 to 64: no-vote", "month ends", "edge (one a second)", "relay",
-                     "holdover: announces, counting alone"):
+        for text in ("61: leap-guard", "62 to 64: no-vote", "month ends", "relay", "23:59:58",
+                     "edge (one a second), and UTC as announced", "holdover: announces, counting alone"):
             self.assertIn(text, found)
         self.assertTrue(any("premises kept" in text for text in found))
 
@@ -269,11 +269,32 @@ class Pictures(unittest.TestCase):
         ran, picture = plot("\n".join(lines))
         self.assertEqual((ran.returncode, ran.stderr), (0, ""))
         found = texts(picture)
-        for text in ("0", "1", "2", "port: told the truth", "port: told nothing",
+        for text in ("0", "1", "2", "port: agreed with the scenario", "port: told nothing",
                      "port: told a poor quality", "port: told another second", "port: told another mark"):
             self.assertIn(text, found)
         self.assertNotIn("port: told a fault", found)
         self.assertIn("standard input: how each reader stood, and what its ports told", found)
+
+    def test_utc_and_offsets(self) -> None:
+        """The plant starts at 23:59:59: edge 1 is the leap second, and of a clock that has none the first frame
+        is 17 s ahead, the next one 18 s. At edge 3 the reader is an hour ahead."""
+        scenario = '{"start":"2016-12-31T23:59:59Z","leaps":[{"day":"2016-12-31","kind":"insert"}],"readers":[]}'
+        log = ("1 relay 2016-12-31T23:59:60Z locked voted\n 1 relay ok ok 2017-01-01T00:00:16Z\n"
+               "2 relay 2017-01-01T00:00:00Z locked voted\n 2 relay ok ok 2017-01-01T00:00:17Z\n"
+               "3 relay 2017-01-01T01:00:01Z holdover:1 held\n 3 relay ok silence silence\n")
+        with tempfile.NamedTemporaryFile("w") as file:
+            file.write(scenario)
+            file.flush()
+            found = texts(plot(log, "--scenario", file.name)[1])
+            part = texts(plot(log, "--scenario", file.name, "--edges", "2-2")[1])
+        for text in ("1 to 2: 17 s ahead at first, 18 s ahead at last, port 2", "3: 1 h ahead", "23:59:60",
+                     "2016-12-31", "00:00:00", "2017-01-01", "00:00:01", "edge (one a second), and UTC"):
+            self.assertIn(text, found)
+        self.assertIn("2: 17 s ahead at first, 18 s ahead at last, port 2", part)
+        self.assertNotIn("3: 1 h ahead", part)
+        alone = texts(plot(log)[1])
+        self.assertIn("01:00:01", alone)
+        self.assertFalse(any("ahead" in text for text in alone))
 
     def test_a_short_lie_is_drawn_wider(self) -> None:
         lines = [f" {edge} relay ok ok ok" for edge in range(1, 20_001)]
@@ -362,6 +383,7 @@ class Refusals(unittest.TestCase):
             (["--edges", "2-9"], "it has no edges 2-9; it goes from 1 to 1"),
             (["-o", "/no/such/folder/a.svg"], "No such file or directory"),
             (["-o", "a.gif"], "ends with none of .svg, .png, .pdf"),
+            (["--scenario", str(PLOT)], "plot: it has no plant line that irig run takes"),
             (["--wide"], "unrecognized arguments: --wide"),
         ):
             with self.subTest(says):

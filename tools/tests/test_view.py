@@ -224,6 +224,31 @@ class InBrowser(browser.Driven):
         self.assertTrue(self.text("line").startswith("11 meter - unlocked no-vote"))
         self.assertIn('scenario line 3: {"do":"tick","r":"meter"}', self.text("line"))
 
+    def test_utc_and_offsets(self) -> None:
+        """The plant starts at 23:59:50: edge 10 is the leap second, and a clock that has none is 17 s ahead of
+        23:59:59, and 18 s of 23:59:60."""
+        plant = '{"start":"2016-12-31T23:59:50Z","leaps":[{"day":"2016-12-31","kind":"insert"}]}\n'
+        ports = " 10 relay ok 2017-01-01T00:00:16Z ok", " 11 relay 2016-12-31T23:59:59Z 2017-01-01T00:00:17Z ok"
+        lines = LOG.splitlines()[:-1]
+        lines[19:20], lines[22:22] = [ports[0], lines[19]], [ports[1]]
+        self.open(plant, "\n".join([*lines, "13 relay 2017-01-01T01:30:02Z locked voted"]))
+        self.assertEqual(
+            self.text("range"), "edges 1 to 13 of 1 to 13, 2016-12-31T23:59:51Z to 2017-01-01T00:00:02Z"
+        )
+        for edge, says in (
+            (3, "edge 3 is 2016-12-31T23:59:53Z"),
+            (10, "10 relay 2016-12-31T23:59:60Z locked voted\nports: ok 2017-01-01T00:00:16Z (17 s ahead) ok"),
+            (11, "ports: 2016-12-31T23:59:59Z (1 s behind) 2017-01-01T00:00:17Z (18 s ahead) ok"),
+            (13, "13 relay 2017-01-01T01:30:02Z (1 h 30 min ahead) locked voted\nedge 13 is 2017-01-01T00:00:02Z"),
+        ):
+            self.set("edge", str(edge))
+            self.assertIn(says, self.text("line"))
+        written = self.page.ask(
+            "(() => { const { ruler } = timeline, written = []; ruler.fillText = (text) => written.push(text);"
+            " timeline.draw(); delete ruler.fillText; return written; })()"
+        )
+        self.assertLessEqual({"UTC", "10", "23:59:60", "2016-12-31", "00:00:00", "2017-01-01"}, set(written))
+
     def test_search_by_cause(self) -> None:
         self.set("cause", "jump")
         self.assertEqual(self.text("found"), "jump: 1")
