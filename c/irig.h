@@ -207,9 +207,10 @@ IRIG_ASSERT((sizeof(irig_tally) == 24u) && (offsetof(irig_tally, wrong_kind) == 
             (offsetof(irig_tally, time) == 8u) && (offsetof(irig_tally, control) == 16u));
 
 /* A reader. It may be copied, kept as its bytes, and taken up again by a machine of the same byte
- * order for which these assertions hold. Its fields are there to be looked at: the calls alone may
- * change them. `check` is made of all numbers before it, and each call renews it. If any one number
- * was changed by anything else, the next tick, and each one behind it, answers IRIG_FAULT_VALUE. */
+ * order for which these assertions hold, with the same IRIG_LAYOUT: no field has that, so keep it
+ * beside. Its fields are there to be looked at: the calls alone may change them. `check` is made of all
+ * numbers before it, and each call renews it. If any one number was changed by anything else, the next
+ * tick, and each one behind it, answers IRIG_FAULT_VALUE. */
 typedef struct irig_reader {
     irig_setup setup;
     irig_table table;
