@@ -51,7 +51,18 @@ typedef uint64_t irig_count;
 IRIG_ASSERT(sizeof(irig_count) == 8u);
 
 /* The version that this header is of; irig_version() says that of the library. */
-#define IRIG_VERSION "1.0.0"
+#define IRIG_VERSION_MAJOR 2
+#define IRIG_VERSION_MINOR 0
+#define IRIG_VERSION_PATCH 0
+#define IRIG_VERSION "2.0.0"
+
+/* The number of the layout: of the structures, and of what calls take and answer. The linker finds it
+ * in the name of each call but irig_version, so that no program is linked with a library of another
+ * layout. `undefined reference to irig_reader_init_layout_2` says that this header and the library
+ * are of different ones: take both of one version, and compile all that includes the header. */
+#define IRIG_LAYOUT 2
+#define IRIG_JOINED(name, number) name##_layout_##number
+#define IRIG_NAME(name, number) IRIG_JOINED(name, number)
 
 /* ---- answers */
 
@@ -196,9 +207,10 @@ IRIG_ASSERT((sizeof(irig_tally) == 24u) && (offsetof(irig_tally, wrong_kind) == 
             (offsetof(irig_tally, time) == 8u) && (offsetof(irig_tally, control) == 16u));
 
 /* A reader. It may be copied, kept as its bytes, and taken up again by a machine of the same byte
- * order for which these assertions hold. Its fields are there to be looked at: the calls alone may
- * change them. `check` is made of all numbers before it, and each call renews it. If any one number
- * was changed by anything else, the next tick, and each one behind it, answers IRIG_FAULT_VALUE. */
+ * order for which these assertions hold, with the same IRIG_LAYOUT: no field has that, so keep it
+ * beside. Its fields are there to be looked at: the calls alone may change them. `check` is made of all
+ * numbers before it, and each call renews it. If any one number was changed by anything else, the next
+ * tick, and each one behind it, answers IRIG_FAULT_VALUE. */
 typedef struct irig_reader {
     irig_setup setup;
     irig_table table;
@@ -359,6 +371,45 @@ typedef struct irig_stamp {
 IRIG_ASSERT((sizeof(irig_stamp) == 16u) && (offsetof(irig_stamp, bound_us) == 12u));
 
 /* ---- calls */
+
+/* Their names for the linker. */
+#define irig_fault_name IRIG_NAME(irig_fault_name, IRIG_LAYOUT)
+#define irig_fault_text IRIG_NAME(irig_fault_text, IRIG_LAYOUT)
+#define irig_lock_name IRIG_NAME(irig_lock_name, IRIG_LAYOUT)
+#define irig_lock_text IRIG_NAME(irig_lock_text, IRIG_LAYOUT)
+#define irig_cause_name IRIG_NAME(irig_cause_name, IRIG_LAYOUT)
+#define irig_cause_text IRIG_NAME(irig_cause_text, IRIG_LAYOUT)
+#define irig_classify IRIG_NAME(irig_classify, IRIG_LAYOUT)
+#define irig_width_us IRIG_NAME(irig_width_us, IRIG_LAYOUT)
+#define irig_widths_us IRIG_NAME(irig_widths_us, IRIG_LAYOUT)
+#define irig_frame_of IRIG_NAME(irig_frame_of, IRIG_LAYOUT)
+#define irig_encode IRIG_NAME(irig_encode, IRIG_LAYOUT)
+#define irig_decode IRIG_NAME(irig_decode, IRIG_LAYOUT)
+#define irig_has_parity IRIG_NAME(irig_has_parity, IRIG_LAYOUT)
+#define irig_set_parity IRIG_NAME(irig_set_parity, IRIG_LAYOUT)
+#define irig_control_pack IRIG_NAME(irig_control_pack, IRIG_LAYOUT)
+#define irig_control_unpack IRIG_NAME(irig_control_unpack, IRIG_LAYOUT)
+#define irig_second_next IRIG_NAME(irig_second_next, IRIG_LAYOUT)
+#define irig_second_write IRIG_NAME(irig_second_write, IRIG_LAYOUT)
+#define irig_second_read IRIG_NAME(irig_second_read, IRIG_LAYOUT)
+#define irig_coded_of IRIG_NAME(irig_coded_of, IRIG_LAYOUT)
+#define irig_claim_of IRIG_NAME(irig_claim_of, IRIG_LAYOUT)
+#define irig_reader_init IRIG_NAME(irig_reader_init, IRIG_LAYOUT)
+#define irig_reader_pulse IRIG_NAME(irig_reader_pulse, IRIG_LAYOUT)
+#define irig_reader_pulses IRIG_NAME(irig_reader_pulses, IRIG_LAYOUT)
+#define irig_sync_init IRIG_NAME(irig_sync_init, IRIG_LAYOUT)
+#define irig_sync_pulse IRIG_NAME(irig_sync_pulse, IRIG_LAYOUT)
+#define irig_sync_idle IRIG_NAME(irig_sync_idle, IRIG_LAYOUT)
+#define irig_reader_hear IRIG_NAME(irig_reader_hear, IRIG_LAYOUT)
+#define irig_reader_tick IRIG_NAME(irig_reader_tick, IRIG_LAYOUT)
+#define irig_reader_restart IRIG_NAME(irig_reader_restart, IRIG_LAYOUT)
+#define irig_reader_port IRIG_NAME(irig_reader_port, IRIG_LAYOUT)
+#define irig_timekeeper_init IRIG_NAME(irig_timekeeper_init, IRIG_LAYOUT)
+#define irig_timekeeper_hear IRIG_NAME(irig_timekeeper_hear, IRIG_LAYOUT)
+#define irig_timekeeper_tick IRIG_NAME(irig_timekeeper_tick, IRIG_LAYOUT)
+#define irig_timekeeper_wait IRIG_NAME(irig_timekeeper_wait, IRIG_LAYOUT)
+#define irig_timekeeper_stamp IRIG_NAME(irig_timekeeper_stamp, IRIG_LAYOUT)
+#define irig_timekeeper_restart IRIG_NAME(irig_timekeeper_restart, IRIG_LAYOUT)
 
 /* The version of the library, as IRIG_VERSION. */
 const char *irig_version(void);

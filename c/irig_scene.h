@@ -28,6 +28,13 @@
 extern "C" {
 #endif
 
+/* The names of the calls for the linker, as irig.h says. */
+#define irig_run IRIG_NAME(irig_run, IRIG_LAYOUT)
+#define irig_run_shown IRIG_NAME(irig_run_shown, IRIG_LAYOUT)
+#define irig_run_entries IRIG_NAME(irig_run_entries, IRIG_LAYOUT)
+#define irig_frame_text IRIG_NAME(irig_frame_text, IRIG_LAYOUT)
+#define irig_frame_lines IRIG_NAME(irig_frame_lines, IRIG_LAYOUT)
+
 enum {
     IRIG_RUN_DONE = 0,     /* the log's last line is the audit */
     IRIG_RUN_NULL = 2,     /* a null pointer where bytes belong; nothing was run or written */

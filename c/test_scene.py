@@ -31,8 +31,9 @@ TIMES = "2016-12-31T23:59:59Z", "2024-07-01T12:00:00Z"
 
 
 _, *SIGNATURE = _library.CALLS["run_entries"]
-LIBRARY.irig_run_entries.restype, LIBRARY.irig_run_entries.argtypes = SIGNATURE[0], SIGNATURE[1:]
-_library.run_entries = LIBRARY.irig_run_entries  # which the package calls then
+RUN_ENTRIES = getattr(LIBRARY, _library.symbol("run_entries"))
+RUN_ENTRIES.restype, RUN_ENTRIES.argtypes = SIGNATURE[0], SIGNATURE[1:]
+_library.run_entries = RUN_ENTRIES  # which the package calls then
 
 
 class FrameOptions(ctypes.Structure):
@@ -66,7 +67,7 @@ def rooms(size: int) -> Iterator[Room]:
 
 
 def called(name: str, *words: object) -> int:
-    call = getattr(LIBRARY, f"irig_{name}")
+    call = getattr(LIBRARY, _library.symbol(name))
     call.restype = c_uint8
     return int(call(*words))
 

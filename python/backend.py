@@ -17,22 +17,27 @@ ROOT = HERE.parent
 LIBRARIES = ("irig", "irig_scene")
 
 
-def version() -> str:
-    """The version, which the package has itself."""
+def stated(name: str, pattern: str) -> str:
+    """What a file of the package says of itself."""
     if not (ROOT / "docs/irig.1").exists():
         sys.exit(
             f"{HERE} is not in a checkout of irig. Before its version 21.3 `pip` copies the folder"
             " away first: `pip install --upgrade pip`, then install this package again."
         )
-    found = re.search(r'^__version__ = "([0-9.]+)"', (HERE / "irig/__init__.py").read_text(), re.M)
+    found = re.search(pattern, (HERE / "irig" / name).read_text(), re.M)
     if not found:
-        sys.exit("python/irig/__init__.py has no version")
+        sys.exit(f"python/irig/{name} has no line {pattern}")
     return found[1]
+
+
+def version() -> str:
+    return stated("__init__.py", r'^__version__ = "([0-9.]+)"')
 
 
 def shared_libraries() -> List[Path]:
     """The shared libraries, of what is proved."""
-    made = [ROOT / f"c/out/lib{name}.so.{version().split('.')[0]}" for name in LIBRARIES]
+    layout = stated("_library.py", r"^LAYOUT = (\d+)")
+    made = [ROOT / f"c/out/lib{name}.so.{layout}" for name in LIBRARIES]
     # No proof is begun here: it would take longer than anyone expects of an installation.
     words = ["make", "-s", "-C", str(ROOT / "c"), "build=false", *(f"out/{file.name}" for file in made)]
     try:

@@ -142,7 +142,7 @@ class Installed(unittest.TestCase):
 
 BUILD = """#!/bin/bash
 [[ $# == 0 && ! -e refused ]] || exit 1
-printf '#!/bin/bash\necho irig 1.0.0 proved\n' > crates/irig_main/out/irig_main
+printf '#!/bin/bash\necho irig 2.0.0 proved\n' > crates/irig_main/out/irig_main
 chmod +x crates/irig_main/out/irig_main
 """
 
@@ -169,7 +169,7 @@ class NothingUnproved(unittest.TestCase):
             name.parent.mkdir(parents=True, exist_ok=True)
         self.source.touch()
         self.script(self.root / "build", BUILD)
-        self.script(self.root / "out/irig_unproved", "#!/bin/bash\necho irig 1.0.0 unproved\n")
+        self.script(self.root / "out/irig_unproved", "#!/bin/bash\necho irig 2.0.0 unproved\n")
 
     def script(self, file: Path, text: str) -> None:
         file.write_text(text)
@@ -177,7 +177,7 @@ class NothingUnproved(unittest.TestCase):
 
     def make_older(self) -> None:
         """A program that was proved before its source was changed."""
-        self.script(self.program, "#!/bin/bash\necho irig 1.0.0 old\n")
+        self.script(self.program, "#!/bin/bash\necho irig 2.0.0 old\n")
         os.utime(self.program, (0, 0))
 
     def installed(self, *words: str | Path) -> str | None:
@@ -187,11 +187,11 @@ class NothingUnproved(unittest.TestCase):
         return subprocess.check_output([to], text=True) if to.exists() else None
 
     def test_no_program(self) -> None:
-        self.assertEqual(self.installed("make", "install", "DESTDIR=to"), "irig 1.0.0 proved\n")
+        self.assertEqual(self.installed("make", "install", "DESTDIR=to"), "irig 2.0.0 proved\n")
 
     def test_a_source_that_is_newer(self) -> None:
         self.make_older()
-        self.assertEqual(self.installed("make", "install", "DESTDIR=to"), "irig 1.0.0 proved\n")
+        self.assertEqual(self.installed("make", "install", "DESTDIR=to"), "irig 2.0.0 proved\n")
 
     def test_what_cannot_be_proved(self) -> None:
         (self.root / "refused").touch()
@@ -200,8 +200,8 @@ class NothingUnproved(unittest.TestCase):
             self.assertIsNone(self.installed("make", "install", "DESTDIR=to"))
 
     def test_a_current_program(self) -> None:
-        self.script(self.program, "#!/bin/bash\necho irig 1.0.0 current\n")
-        self.assertEqual(self.installed("make", "install", "DESTDIR=to"), "irig 1.0.0 current\n")
+        self.script(self.program, "#!/bin/bash\necho irig 2.0.0 current\n")
+        self.assertEqual(self.installed("make", "install", "DESTDIR=to"), "irig 2.0.0 current\n")
 
     def test_a_package(self) -> None:
         """The script alone begins with `make` too; it ends where `strip` meets the script of this test."""
@@ -209,7 +209,7 @@ class NothingUnproved(unittest.TestCase):
             self.skipTest("dpkg-dev")
         self.make_older()
         subprocess.run([self.root / "packaging/deb", "to"], capture_output=True, timeout=60)
-        self.assertEqual(subprocess.check_output([self.program], text=True), "irig 1.0.0 proved\n")
+        self.assertEqual(subprocess.check_output([self.program], text=True), "irig 2.0.0 proved\n")
         (self.root / "refused").touch()
         self.make_older()
         ran = subprocess.run([self.root / "packaging/deb", "to"], capture_output=True, timeout=60)

@@ -45,14 +45,15 @@ static uint64_t back, count;
 static const instruction *last;
 
 static call *call_at(const char *name, uint64_t address) {
-    /* Names with colons, and those of the crate, are of functions within. */
-    if (!name || strncmp(name, "irig_", 5) != 0 || strncmp(name, "irig_c_", 7) == 0 ||
-        strchr(name, ':') || known == MOST)
-        return NULL;
+    /* In the linker's names the layout stands behind those of calls alone. */
+    const char *end = name ? strstr(name, "_layout_") : NULL;
+    char plain[40];
+    if (!end || known == MOST) return NULL;
+    snprintf(plain, sizeof plain, "%.*s", (int)(end - name), name);
     for (int i = 0; i < known; i++)
-        if (strcmp(calls[i].name, name) == 0) return calls[i].start == address ? &calls[i] : NULL;
+        if (strcmp(calls[i].name, plain) == 0) return calls[i].start == address ? &calls[i] : NULL;
     call *made = &calls[known++];
-    snprintf(made->name, sizeof made->name, "%s", name);
+    memcpy(made->name, plain, sizeof plain);
     made->start = address;
     return made;
 }

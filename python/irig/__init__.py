@@ -34,7 +34,7 @@ from .seconds import Claim, Leap, Second
 from .stretches import Stretch
 from .timekeepers import Beat, Stamp, Timekeeper
 
-__version__ = "1.0.0"
+__version__ = "2.0.0"
 
 __all__ = [
     "Announced", "Beat", "Claim", "Coded", "Control", "Entry", "Fault", "Faulty", "Leap", "Log",

@@ -154,7 +154,8 @@ def _to(structure: Any) -> Any:
 
 # A call of the first library holds Python's lock: it is short, and no other thread comes between. A
 # run of the second may be long: other threads go on meanwhile.
-IRIG, SCENE = "libirig.so.1", "libirig_scene.so.1"
+LAYOUT = 2  # as in c/irig.h: of the structures above, and the calls below
+IRIG, SCENE = f"libirig.so.{LAYOUT}", f"libirig_scene.so.{LAYOUT}"
 KINDS = {IRIG: ctypes.PyDLL, SCENE: ctypes.CDLL}
 
 # The library of a call, what it answers, and what it takes.
@@ -196,6 +197,11 @@ CALLS: Dict[str, Tuple[Any, ...]] = {
 }
 
 
+def symbol(name: str) -> str:
+    """The name of a call in its library, which a library of another layout does not have."""
+    return f"irig_{name}_layout_{LAYOUT}"
+
+
 @lru_cache(maxsize=None)
 def _loaded(name: str) -> ctypes.CDLL:
     """A library beside this file, as in an installed package; else that of the repository, which is made
@@ -217,7 +223,11 @@ def __getattr__(name: str) -> Any:
     if name not in CALLS:
         raise AttributeError(f"module {__name__!r} has no attribute {name!r}")
     library, answer, *parameters = CALLS[name]
-    function = getattr(_loaded(library), f"irig_{name}")
+    try:
+        function = getattr(_loaded(library), symbol(name))
+    except AttributeError:
+        wrong = f"{library} has no {symbol(name)}: take it and this package of one version of irig"
+        raise ImportError(wrong) from None
     function.restype, function.argtypes = answer, parameters
     globals()[name] = function
     return function

@@ -1,13 +1,11 @@
-"""The structures, beside those of c/irig.h as a C compiler lays them out."""
+"""The structures, beside those of c/irig.h as a C compiler lays them out, and the calls."""
 from __future__ import annotations
 
 import ctypes
 import re
-import subprocess
-import tempfile
 import unittest
-from pathlib import Path
 from typing import Any
+from unittest import mock
 
 import irig
 from irig import _library
@@ -22,47 +20,30 @@ STRUCTURES = {
 UNUSED = {"irig_frame_options"}
 
 
-def laid_out_by_c() -> list[str]:
-    """The size of each structure, and place and size of each field."""
-    lines = []
-    for name, structure in STRUCTURES.items():
-        lines.append(f'printf("{name} %zu\\n", sizeof({name}));')
-        for field, *_ in structure._fields_:
-            value = f"offsetof({name}, {field}), sizeof((({name} *)0)->{field})"
-            lines.append(f'printf("{name} {field} %zu %zu\\n", {value});')
-    head = '#include "irig.h"\n#include "irig_scene.h"\n#include <stdio.h>\n'
-    source = head + 'int main(void) {' + "\n".join(lines) + "}\n"
-    with tempfile.TemporaryDirectory() as folder:
-        program = Path(folder) / "layout"
-        words = ["cc", f"-I{ROOT}/c", "-x", "c", "-", "-o", program]
-        subprocess.run(words, input=source, text=True, check=True)
-        ran = subprocess.run([program], capture_output=True, text=True, check=True)
-    return ran.stdout.splitlines()
+def laid_out_by_c() -> dict[str, str]:
+    """Of each structure its size, and place and size of each field, without their types."""
+    lines = (ROOT / "c/layout.txt").read_text().splitlines()
+    found = dict(line.split(" ", 1) for line in lines if re.match(r"irig_\w+ \d+:", line))
+    return {name: re.sub(r"\w+ (\w+ \d+ \d+)", r"\1", rest) for name, rest in found.items()}
 
 
-def laid_out_by_python() -> list[str]:
-    lines = []
-    for name, structure in STRUCTURES.items():
-        lines.append(f"{name} {ctypes.sizeof(structure)}")
-        for field, *_ in structure._fields_:
-            place = getattr(structure, field)
-            lines.append(f"{name} {field} {place.offset} {place.size}")
-    return lines
+def laid_out_by_python(structure: Any) -> str:
+    places = ((field, getattr(structure, field)) for field, *_ in structure._fields_)
+    fields = ",".join(f" {field} {place.offset} {place.size}" for field, place in places)
+    return f"{ctypes.sizeof(structure)}:{fields}"
 
 
 class Layout(unittest.TestCase):
     def test_layout(self) -> None:
-        self.assertEqual(laid_out_by_python(), laid_out_by_c())
+        """That of the list which tools/repo/versions compares with the headers."""
+        here = {name: laid_out_by_python(structure) for name, structure in STRUCTURES.items()}
+        wanted = laid_out_by_c()
+        self.assertEqual(here, {name: wanted[name] for name in wanted.keys() - UNUSED})
 
-    def test_nothing_is_left_out(self) -> None:
-        text = "".join((ROOT / "c" / name).read_text() for name in ("irig.h", "irig_scene.h"))
-        header = re.sub(r"/\*.*?\*/", "", text, flags=re.S)
-        fields = {
-            name: re.findall(r"(\w+)(?:\[\d+\])?;", body)
-            for name, body in re.findall(r"^typedef struct (\w+) {(.*?)}", header, re.M | re.S)
-        }
-        here = {name: [field for field, *_ in one._fields_] for name, one in STRUCTURES.items()}
-        self.assertEqual({name: fields[name] for name in fields.keys() - UNUSED}, here)
+    def test_a_library_of_another_layout(self) -> None:
+        wrong = "libirig.so.2 has no irig_width_us_layout_1: take it and this package of one version"
+        with mock.patch.object(_library, "LAYOUT", 1), self.assertRaisesRegex(ImportError, wrong):
+            _library.__getattr__("width_us")
 
 
 class Texts(unittest.TestCase):
@@ -75,13 +56,14 @@ class Texts(unittest.TestCase):
         ):
             for number in range(256):
                 answer = number | 77 << 8 if kind == "fault" else number
-                name, text = (said(library, f"irig_{kind}_{what}", answer) for what in ("name", "text"))
+                name, text = (said(library, f"{kind}_{what}", answer) for what in ("name", "text"))
                 self.assertEqual((name, bool(text)), (names.get(number, ""), number in names))
-        self.assertEqual(said(library, "irig_version"), irig.__version__)
+        library.irig_version.restype = ctypes.c_char_p
+        self.assertEqual(library.irig_version().decode(), irig.__version__)
 
 
 def said(library: ctypes.CDLL, name: str, *numbers: int) -> str:
-    call = getattr(library, name)
+    call = getattr(library, _library.symbol(name))
     call.restype = ctypes.c_char_p
     return call(*numbers).decode()
 
@@ -96,7 +78,7 @@ def as_passed(kind: Any) -> Any:
 
 
 def address_of(library: str, name: str) -> int | None:
-    call = getattr(_library._loaded(library), f"irig_{name}")
+    call = getattr(_library._loaded(library), _library.symbol(name))
     return ctypes.cast(call, POINTER).value
 
 
