@@ -53,23 +53,24 @@ pub(crate) fn misformed_at(version: Version, place: JsonPath, value: &Value) -> 
 {
     let object = object_at(value, place)?;
     let misfit = find_in_shape(place, keys_at(version, place), object)?;
-    match early_in(version, place, object) {
-        Some(found) => Some(Misfit::new(place, found, Expected::Nothing)),
-        None => Some(misfit),
-    }
+    let found = if has_early_table(version, place, object) {
+        Found::EarlyTable
+    } else if is_early_event(place, object) {
+        Found::EarlyEvent
+    } else {
+        return Some(misfit);
+    };
+    Some(Misfit::new(place, found, Expected::Nothing))
 }
 
-// What an object has that comes later: a reader a table, which version 1 has not; a line an event.
-fn early_in(version: Version, place: JsonPath, object: &Value) -> Option<Found<'static>> {
-    match (place, version) {
-        (JsonPath::Reader(_), Version::One) if object.get("table").is_some() => {
-            Some(Found::EarlyTable)
-        }
-        (JsonPath::Line, _) if object.get("do").is_some() && object.get("version").is_none() => {
-            Some(Found::EarlyEvent)
-        }
-        _ => None,
-    }
+// Whether it is a reader's, with a table in version 1, which has none.
+fn has_early_table(version: Version, place: JsonPath, object: &Value) -> bool {
+    version == Version::One && matches!(place, JsonPath::Reader(_)) && object.get("table").is_some()
+}
+
+// Whether it is an event's, in place of the plant line.
+fn is_early_event(place: JsonPath, object: &Value) -> bool {
+    matches!(place, JsonPath::Line) && object.get("do").is_some() && object.get("version").is_none()
 }
 
 #[tactic(auto, unfolding(crate::specs::Places::is_beyond))]
@@ -97,27 +98,19 @@ fn miscounted(version: Version, value: &Value) -> Option<Misfit<'_>>
     ensures place { IfSome result (λ misfit. misfit.place ≡ JsonPath.Line) }
     ensures wrong { IfSome result (λ misfit. has_count version (view value.now) ≡ false) }
 {
-    match items_at(value, "generators") {
-        Some(generators) if is_count(version, generators.len()) => None,
-        other => {
-            let (counts, note) = counts_for(version, other.unwrap_or(&[]).len());
-            Some(in_line(value, "generators", Expected::Text(counts)).with(note))
-        }
-    }
-}
-
-// How many generators there may be, and what is said where so many would do in version 3.
-fn counts_for(version: Version, count: usize) -> (&'static str, Note) {
-    match (version, count) {
-        (Version::One, 5) => (
+    let (counts, note) = match version {
+        Version::One => (
             "3",
             Note::Why("this is version 1; five generators need version 3"),
         ),
-        (Version::Two, 5) => (
+        Version::Two => (
             "3",
             Note::Why("this is version 2; five generators need version 3"),
         ),
-        (Version::Three, _) => ("3 or 5", Note::Nothing),
-        _ => ("3 (or, in version 3, 5)", Note::Nothing),
+        Version::Three => ("3 or 5", Note::Nothing),
+    };
+    match items_at(value, "generators") {
+        Some(generators) if is_count(version, generators.len()) => None,
+        _ => Some(in_line(value, "generators", Expected::Text(counts)).with(note)),
     }
 }

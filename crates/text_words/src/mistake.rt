@@ -1,5 +1,9 @@
 //! What helps with a line that is no JSON: typical mistakes, by their bytes.
 
+const ANY_HELP: &str = "; a line is one JSON value in UTF-8";
+
+static COMMA: &str = "; a comma is missing before it";
+
 /// What a file says of its encoding if its first bytes are not those of UTF-8 text.
 pub(crate) fn other_encoding(line: &[u8]) -> Option<&'static str> {
     match line {
@@ -15,13 +19,18 @@ pub(crate) fn other_encoding(line: &[u8]) -> Option<&'static str> {
 
 /// What a line is that plainly begins another file than a scenario.
 pub(crate) fn other_file(line: &[u8]) -> Option<&'static str> {
-    if is_of_log(line) {
-        Some("this is a line of a log; give the scenario that the log was made of")
-    } else if is_of_recording(line) {
-        Some("this is a recording; tools/capture makes a scenario of it")
-    } else {
-        None
+    // A tick of a log, or its last line.
+    if begins_with_number(line)
+        || line.starts_with(b"premises ")
+        || line.starts_with(b"refused: ")
+    {
+        return Some("this is a line of a log; give the scenario that the log was made of");
     }
+    // A dump (VCD), a sound (WAV), an archive as sigrok makes it.
+    if line.starts_with(b"$") || line.starts_with(b"RIFF") || line.starts_with(b"PK\x03\x04") {
+        return Some("this is a recording; tools/capture makes a scenario of it");
+    }
+    None
 }
 
 /// Why a line that ends before its value is no JSON.
@@ -70,21 +79,6 @@ pub(crate) fn open_levels(bytes: &[u8]) -> usize {
     levels
 }
 
-const ANY_HELP: &str = "; a line is one JSON value in UTF-8";
-
-static COMMA: &str = "; a comma is missing before it";
-
-// ---- other files
-
-// The first lines of a dump (VCD), of a sound (WAV) and of an archive, as sigrok makes it.
-fn is_of_recording(line: &[u8]) -> bool {
-    line.starts_with(b"$") || line.starts_with(b"RIFF") || line.starts_with(b"PK\x03\x04")
-}
-
-fn is_of_log(line: &[u8]) -> bool {
-    begins_with_number(line) || line.starts_with(b"premises ") || line.starts_with(b"refused: ")
-}
-
 // Whether a number stands first, behind blanks or not, and a blank behind it.
 fn begins_with_number(line: &[u8]) -> bool {
     let mut has_digit = false;
@@ -109,9 +103,9 @@ fn is_typographic(rest: &[u8]) -> bool {
 // Where no bracket is open: before the value of the line, or behind it.
 fn help_outside(last: Option<u8>, byte: u8) -> &'static str {
     match (last, byte) {
-        (_, b'}' | b']') => "; it closes nothing",
+        (_, b'}' | b']') => "; it closes nothing: leave it out",
         (Some(b'}'), b',') => "; no comma stands behind a line: leave it out",
-        (Some(b'}'), _) => "; the value of the line ends before it, and a line has one value",
+        (Some(b'}'), _) => "; the value of the line ends before it: one value a line",
         _ => {
             "; each line begins with {; if this is a recording, tools/capture makes a scenario of it"
         }
