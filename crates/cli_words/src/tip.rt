@@ -63,7 +63,8 @@ fn tip_for_option(words: &[&str]) -> &'static str {
             "\n\n  tip: the options of frame are --local, --pending, --dst, --quality, --parity and --sense"
         }
         Some(&"read") => "\n\n  tip: the options of read are --parity, --sense and --sbs",
-        Some(&"flatten" | &"blame" | &"explain") => "\n\n  tip: this command has no options",
+        Some(&"blame") => "\n\n  tip: the option of blame is --recorded",
+        Some(&"flatten" | &"explain") => "\n\n  tip: this command has no options",
         _ => {
             "\n\n  tip: options follow the command: irig run FILE --all; '-' is standard input: irig run - --all"
         }
