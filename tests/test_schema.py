@@ -37,6 +37,7 @@ UNSAID = {
         "flatten_up_to_a_refusal", "blame_up_to_a_refusal", "blame_to_the_end_of_years",
         "events_at_their_limits", "seconds_at_their_limit",
     },
+    "the first line alone is of a plant": {"plant_that_is_an_event", "event_that_is_a_plant"},
 }
 UNSAID_CASES = set().union(*UNSAID.values())
 

@@ -35,7 +35,11 @@ fn unknown_argument(alloc: Global, error: &Error, words: &[&str]) -> Result<Stri
     }
     let text = format!(in alloc; "{error}")?;
     let fault = text.as_str().lines().next().unwrap_or("");
-    let tip = tip_for(words);
+    let tip = if fault.contains("argument '-") {
+        tip_for_option(words)
+    } else {
+        tip_for(words)
+    };
     format!(in alloc; "{fault}{tip}\n\nFor more information, try '--help'.")
 }
 
@@ -48,10 +52,22 @@ fn tip_for(words: &[&str]) -> &'static str {
         Some(&"explain") => {
             "\n\n  tip: one word stands here: irig explain 25, irig explain premises"
         }
-        Some(&"--all" | &"--ports") => {
+        _ => "",
+    }
+}
+
+fn tip_for_option(words: &[&str]) -> &'static str {
+    match words.get(1) {
+        Some(&"run") => "\n\n  tip: the options of run are --all and --ports",
+        Some(&"frame") => {
+            "\n\n  tip: the options of frame are --local, --pending, --dst, --quality, --parity and --sense"
+        }
+        Some(&"read") => "\n\n  tip: the options of read are --parity, --sense and --sbs",
+        Some(&"blame") => "\n\n  tip: the option of blame is --recorded",
+        Some(&"flatten" | &"explain") => "\n\n  tip: this command has no options",
+        _ => {
             "\n\n  tip: options follow the command: irig run FILE --all; '-' is standard input: irig run - --all"
         }
-        _ => "",
     }
 }
 
@@ -63,10 +79,6 @@ fn unknown_command(alloc: Global, error: &Error, words: &[&str]) -> Result<Strin
         ),
         _ => format!(in alloc; "{error}"),
     }
-}
-
-fn is_word(words: &[&str], place: usize, wanted: &str) -> bool {
-    matches!(words.get(place), Some(word) if *word == wanted)
 }
 
 fn is_path(word: &str) -> bool {

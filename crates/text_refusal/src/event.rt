@@ -16,7 +16,7 @@ use scenario_json::{natural_at, reader_at, text_at};
 use scenario_values::{ACTION_WORDS, EDGE, FAULT_WORDS, G, R, event_keys};
 use serde_json::Value;
 use text_faults::Refusal;
-use text_words::{Expected, JsonPath, Misfit, Note};
+use text_words::{Expected, Found, JsonPath, Misfit, Note};
 
 /// What in the line that has this value is refused so.
 pub(crate) fn find_in_event<'a>(
@@ -56,6 +56,9 @@ fn other_action(value: &Value) -> Misfit<'_>
 {
     match text_at(value, "do") {
         Some("fault") => in_line(value, "kind", Expected::Words(&FAULT_WORDS)),
+        None if value.get("version").is_some() => {
+            Misfit::new(JsonPath::Line, Found::SecondPlant, Expected::Nothing)
+        }
         _ => in_line(value, "do", Expected::Words(&ACTION_WORDS)),
     }
 }

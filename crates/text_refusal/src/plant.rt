@@ -16,7 +16,7 @@ use scenario_values::{Version, is_count};
 use serde_json::Value;
 use std::alloc::{AllocError, Global};
 use text_faults::Refusal;
-use text_words::{Expected, Found, JsonPath, Misfit};
+use text_words::{Expected, Found, JsonPath, Misfit, Note};
 
 /// What in the plant line that has this value is refused so. Fails only if there is no memory.
 pub(crate) fn find_in_plant(
@@ -53,16 +53,24 @@ pub(crate) fn misformed_at(version: Version, place: JsonPath, value: &Value) -> 
 {
     let object = object_at(value, place)?;
     let misfit = find_in_shape(place, keys_at(version, place), object)?;
-    if has_early_table(version, place, object) {
-        Some(Misfit::new(place, Found::EarlyTable, Expected::Nothing))
+    let found = if has_early_table(version, place, object) {
+        Found::EarlyTable
+    } else if is_early_event(place, object) {
+        Found::EarlyEvent
     } else {
-        Some(misfit)
-    }
+        return Some(misfit);
+    };
+    Some(Misfit::new(place, found, Expected::Nothing))
 }
 
 // Whether it is a reader's, with a table in version 1, which has none.
 fn has_early_table(version: Version, place: JsonPath, object: &Value) -> bool {
     version == Version::One && matches!(place, JsonPath::Reader(_)) && object.get("table").is_some()
+}
+
+// Whether it is an event's, in place of the plant line.
+fn is_early_event(place: JsonPath, object: &Value) -> bool {
+    matches!(place, JsonPath::Line) && object.get("do").is_some() && object.get("version").is_none()
 }
 
 #[tactic(auto, unfolding(crate::specs::Places::is_beyond))]
@@ -90,12 +98,19 @@ fn miscounted(version: Version, value: &Value) -> Option<Misfit<'_>>
     ensures place { IfSome result (λ misfit. misfit.place ≡ JsonPath.Line) }
     ensures wrong { IfSome result (λ misfit. has_count version (view value.now) ≡ false) }
 {
-    let counts = match version {
-        Version::One | Version::Two => "3 (or, in version 3, 5)",
-        Version::Three => "3 or 5",
+    let (counts, note) = match version {
+        Version::One => (
+            "3",
+            Note::Why("this is version 1; five generators need version 3"),
+        ),
+        Version::Two => (
+            "3",
+            Note::Why("this is version 2; five generators need version 3"),
+        ),
+        Version::Three => ("3 or 5", Note::Nothing),
     };
     match items_at(value, "generators") {
         Some(generators) if is_count(version, generators.len()) => None,
-        _ => Some(in_line(value, "generators", Expected::Text(counts))),
+        _ => Some(in_line(value, "generators", Expected::Text(counts)).with(note)),
     }
 }

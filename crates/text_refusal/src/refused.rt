@@ -11,7 +11,7 @@ use indexmap::IndexSet;
 use serde_json::Value;
 use std::alloc::{AllocError, Global};
 use text_faults::{Refusal, meaning_of};
-use text_words::{Reason, reason_of_cause, reason_of_json};
+use text_words::{Reason, reason_of_cause, reason_of_json, reason_of_long_line};
 
 /// Where a plant stands as a line is refused.
 #[derive(Clone, Copy)]
@@ -35,9 +35,10 @@ pub fn why_refused(
         (texts_of context.now.names.now.keys) context.now.edges.now line.now)) }
 {
     match refusal {
-        Refusal::EndOfYears | Refusal::TooLong | Refusal::NoPlant | Refusal::TooManyLines => {
+        Refusal::EndOfYears | Refusal::NoPlant | Refusal::TooManyLines => {
             reason_of_cause(alloc, cause_of(refusal))
         }
+        Refusal::TooLong => reason_of_long_line(alloc, cause_of(refusal), line),
         _ => reason_in_line(alloc, refusal, line, context),
     }
 }

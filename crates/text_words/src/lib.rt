@@ -8,6 +8,7 @@ mod explained;
 mod json;
 mod misfit;
 mod misfit_text;
+mod mistake;
 mod path;
 mod reason;
 mod start;
@@ -15,7 +16,7 @@ mod time;
 mod why;
 
 pub use explained::{explanation, why_no_word};
-pub use json::reason_of_json;
+pub use json::{reason_of_json, reason_of_long_line};
 pub use misfit::{Expected, Found, Misfit, Note};
 pub use path::JsonPath;
 pub use reason::{Parts, Reason, Span, reason_of_cause};

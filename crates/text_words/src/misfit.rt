@@ -20,6 +20,10 @@ pub enum Found<'a> {
     AtKey(&'static str, &'a Value),
     /// A table in a plant line of version 1.
     EarlyTable,
+    /// An event where the plant line belongs.
+    EarlyEvent,
+    /// A plant line where an event belongs.
+    SecondPlant,
     /// This at a place, from 0, of the list at a key.
     InList(&'static str, usize, &'a Value),
 }

@@ -103,6 +103,14 @@ impl Draft {
                 self.key("table");
                 self.push(" is no key of version 1; versions 2 and 3 have it");
             }
+            Found::EarlyEvent => {
+                self.key("do");
+                self.push(" is a key of an event; the plant line comes first");
+            }
+            Found::SecondPlant => {
+                self.key("version");
+                self.push(" is a key of a plant line; a scenario has one, its first line");
+            }
         }
     }
 

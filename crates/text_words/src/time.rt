@@ -6,11 +6,35 @@ static DAY_FORM: &[u8] = b"0000-00-00";
 
 static TIME_FORM: &[u8] = b"0000-00-00T00:00:00Z";
 
+// The form without its last letter, and how many bytes it has.
+static FRONT_FORM: &[u8] = b"0000-00-00T00:00:00";
+
+static BLANK_FORM: &[u8] = b"0000-00-00 00:00:00";
+
+const FRONT: usize = 19;
+
 /// Why a text is none of the seconds served.
 pub fn reason_of_time(text: &str) -> &'static str {
     match reason_in_form(text.as_bytes()) {
         Some(reason) => reason,
-        None => "its form is another",
+        None => reason_of_form(text.as_bytes()),
+    }
+}
+
+// What of the form is another: its front is that of a time, or not even that.
+fn reason_of_form(text: &[u8]) -> &'static str {
+    let (front, end) = match text.get(..FRONT) {
+        Some(front) => (front, text.get(FRONT..).unwrap_or(&[])),
+        None => (text, text),
+    };
+    if has_form(front, BLANK_FORM) {
+        "T stands between date and time, and Z at the end"
+    } else if !has_form(front, FRONT_FORM) {
+        "its form is another"
+    } else if end.is_empty() {
+        "Z is missing at its end"
+    } else {
+        "whole seconds of UTC alone are taken, with Z at the end"
     }
 }
 
