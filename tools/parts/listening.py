@@ -282,8 +282,9 @@ class Device:
         self.last = Tick(edge, claim, agreed, away, [widths for widths, _ in heard])
         self.first = self.first or self.last
         self.count += 1
-        for line in self.lines if claim else []:
-            self._compare(line, edge, claim)
+        if claim:
+            for line in self.lines:
+                self._compare(line, edge, claim)
         return self.last
 
     def _compare(self, line: Line, edge: int, claim: Claim) -> None:

@@ -1,7 +1,8 @@
 #!/usr/bin/env python3
-"""Altered disturbance records, and what tools/capture and irig blame have to say of each. Who wrote them
-had not seen the tool: records are by IEEE C37.111-1999 and -2013, and only the pulses of a frame are those
-of `irig frame`. Verdicts were written before any was seen; of the wording, patterns have that of the tool."""
+"""Altered disturbance records, and what tools/capture and irig blame have to say of each. Another
+than the tool's maker wrote them, by IEEE C37.111-1999 and -2013; only the pulses of a frame are those
+of `irig frame`. Verdicts were written before any was seen; of the wording, patterns have that of the
+tool. Needs the libraries of `make -C c`."""
 from __future__ import annotations
 
 import datetime
@@ -23,7 +24,7 @@ LEAP = "2016-12-31T23:59:"
 
 @dataclass(frozen=True)
 class Line:
-    """A clock: how many seconds ahead, from which second of the record on, what is wrong with it."""
+    """A clock: how many seconds ahead, from which second of a record on, what is wrong with it."""
 
     ahead: int = 0
     ahead_from: int = 0
@@ -186,7 +187,8 @@ RECORDS = {
         (r"IRIG[12] differs",), first=LEAP + "55", length_us=8_000_000),
     "other sense of offset": Record(
         ("IRIG2" + MOST + "-10 h", r"'subtract' it would be 2025-03-11T14:22:08Z", AGREES),
-        (GOOD, Line(options=("--local=-10", "--sense=subtract")), GOOD), (ANOTHER + "10 h behind",)),
+        (GOOD, Line(options=("--local=-10", "--sense=subtract")), GOOD),
+        (ANOTHER + "10 h behind",)),
     "short, stamp early": Record(
         (r"stamp is 3\.000 s early by 3 of 3 lines",),
         scenario=False, skip_us=450_000, length_us=SHORT_US, late_us=-3_000_000),
@@ -214,7 +216,7 @@ RECORDS = {
         (r"(?m)^2025-03-11T14:22:11Z to 2025-03-11T14:22:13Z.*IRIG1 of relay told another second, "
          "1 s behind, first 2025-03-11T14:22:10Z",), length_us=7_000_000),
     "all differ": Record(
-        (r"most ports never claim one second", "IRIG1.*, IRIG2.*, IRIG3 told claim 2025-03-11T14:21"),
+        (r"most ports never claim one second", "IRIG1 .*, IRIG2 .*, IRIG3 told .*T14:21:"),
         (GOOD, GPS, Line(ahead=-60)), never=(r"stamp is",), status=2, scenario=False),
     "five lines, two ahead": Record(
         ("IRIG1" + MOST + r"\+18 s", "IRIG4" + MOST + r"\+18 s", AGREES, r"by 3 of 5 lines"),
@@ -237,12 +239,12 @@ RECORDS = {
         skip_us=450_000, length_us=SHORT_US, late_us=-120_000_000),
     "a day late": Record(
         (r"stamp is 1 d late by 3 of 3 lines",), never=(r"--zone",), late_us=24 * HOUR_US),
+    # Those below were written with the tool.
     "four milliseconds late": Record((r"stamp is 0\.004 s late by 3 of 3 lines",), late_us=4_000),
     "quality 15": Record(
         (AGREES, BY_TWO, r"IRIG2 has no vote, .* quality"),
         (GOOD, Line(options=("--quality=15",)), GOOD),
         (r"IRIG2 of relay: 0 agreed, 0 silent, 0 faulty, 4 poor",), (DIFFERS,)),
-    # These are by others.
     "early by two milliseconds": Record(
         (AGREES, r"IRIG3 is 2\.\d ms early of most lines"), (GOOD, GOOD, Line(delay_us=-2_000)),
         rate=10_000),
@@ -250,8 +252,9 @@ RECORDS = {
         (r"undecided when the recording begins: 2016-12-31 ends", "give --leap=2016-12-31"),
         never=(ZERO, "stamp"), first=LEAP + "59", skip_us=1_965_000),
     "the end of the leap second, told": Record(
-        (ZERO + LEAP + r"60\.965Z", r"stamp is 0\.965 s late"), first=LEAP + "59", skip_us=1_965_000,
-        stamp="01/01/2017,00:00:00.930000", arguments=("--leap=2016-12-31",)),
+        (ZERO + LEAP + r"60\.965Z", r"stamp is 0\.965 s late"),
+        first=LEAP + "59", skip_us=1_965_000, stamp="01/01/2017,00:00:00.930000",
+        arguments=("--leap=2016-12-31",)),
     "a stamp across a month's end": Record(
         (r"stamp is 1\.000 s early by 3 of 3 lines, if 2016-12-31 has no leap second",),
         first="2017-01-01T00:00:00", skip_us=250_000, stamp="31/12/2016,23:59:59.250000"),
