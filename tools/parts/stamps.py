@@ -209,7 +209,7 @@ def short_verdict(ports: Sequence[Line], search: Search) -> Iterator[str]:
             lines = f"{len(set(agreed))} of {len(set(ports))} lines"
             yield f"0.000 s of the recording is {zero}, by {lines}"
             yield from verdict(search.stamp, zero, f"{lines}, if it is right within {search.within} s")
-            for line in heard.keys() - set(agreed):
+            for line in [line for line in heard if line not in agreed]:
                 off = round(_after(told[line], zero) / 1e6) if line in told else 0
                 yield f"{line.name} differs by {signed(off)}" if off else heard[line]
             yield "the recording is too short for a scenario, so none is written"
