@@ -22,7 +22,7 @@ class Stamp:
 
     text: as it stands in the recording
     second: in UTC; None if it is no time, or not from 2000-01-02 to 2099-12-30
-    after_us: how many microseconds after that second, a second more for one that is a 60
+    after_us: how many microseconds after that second; as it is read, a second more for a 60
     zone: the minutes that its text is ahead of UTC; None if the recording names none
     quality: 0, locked, to 11, within 10 seconds, or 15, failed; None if it is not there
     leap: 0 for no leap second, 1 added, 2 deleted, 3 not known; None if it is not there

@@ -13,7 +13,7 @@ from parts import package  # noqa: F401
 from parts.changes import END, Change, Level, Recording, Stamp, in_order, logical
 
 from irig import Fault, Leap, Second
-from irig.seconds import day_number
+from irig.seconds import day_number, is_month_end
 
 # How the number of an analog channel is stored, and what stands where one is missing.
 NUMBERS = {"BINARY": ("h", -(1 << 15)), "BINARY32": ("i", -(1 << 31)), "FLOAT32": ("f", -math.inf)}
@@ -180,7 +180,8 @@ def _stamp(texts: List[str], revision: int, more: List[str], step_us: float) -> 
     """The stamp of sample 1, by the texts of it and of the trigger, and the fields of 2013."""
     zone = zone_of(more[0])
     (first, after), (trigger, later) = (_time(text, revision, zone or 0) for text in texts)
-    lag = (trigger - first) * 1_000_000 + later - after if first and trigger else None
+    is_known = first and trigger and (first.day == trigger.day or not is_month_end(first.day))
+    lag = (trigger - first) * 1_000_000 + later - after if first and trigger and is_known else None
     quality = int(more[2], 16) if re.fullmatch("[0-9a-bA-BfF]", more[2]) else None
     leap = int(more[3]) if re.fullmatch("[0-3]", more[3]) else None
     return Stamp(texts[0], first, after, zone, quality, leap, lag, step_us)
@@ -206,7 +207,7 @@ def _time(text: str, revision: int, zone: int) -> Tuple[Optional[Second], int]:
     hour, minute, second = (int(when[place]) for place in (1, 2, 3))
     if hour > 23 or minute > 59 or second > 60:
         return None, 0
-    after = round(float(f"0.{when[4] or 0}") * 1e6) + (1_000_000 if second == 60 else 0)
+    after = min(round(float(f"0.{when[4] or 0}") * 1e6), 999_999) + (1_000_000 if second == 60 else 0)
     try:
         number = day_number(f"{year:04}-{numbers[1]:02}-{numbers[0]:02}")
         sod = 3600 * hour + 60 * (minute - zone) + min(second, 59)

@@ -9,7 +9,7 @@ from itertools import product
 from typing import Callable, Dict, Iterable, Iterator, List, Optional, Sequence, Set, Tuple
 
 from irig import (
-    Claim, Coded, Control, Fault, Reader, Silence, Sync, Timekeeper, Told, claim, classify, decode,
+    Claim, Coded, Control, Fault, Faulty, Poor, Reader, Silence, Sync, Timekeeper, Told, claim, classify, decode,
 )
 from irig.words import Sense
 
@@ -22,6 +22,7 @@ BEHIND_US = 5_000  # how long behind a recording's end it is still ticked
 WORD = 1 << 32  # at which its counter wraps
 MOST_EARLY = 300  # pulses that are kept of a line's beginning
 NEVER = float("inf")
+POOR = 0  # no fault has this number
 
 symbol_of = lru_cache(maxsize=4096)(classify)
 
@@ -158,6 +159,9 @@ class Line:
         self.shifted: Optional[Coded] = None  # the first of them that has an offset
         self.ahead: Counter[int] = Counter()  # ticks at which it was so many seconds ahead of most
         self.since: Dict[int, Tuple[int, int]] = {}  # the first of them, and its time
+        self.late = Spread()  # how long behind most its frames end, where that is too far
+        self.near = 0  # frames that end near those of most
+        self.voiceless: Counter[int] = Counter()  # frames that have no vote, by their fault, POOR of a quality
         self._ear = ear
 
     @property
@@ -193,6 +197,8 @@ class Line:
         self._ear.restart()
         self._ear.pulses(0, widths)
         self.told = self._ear.port(0)
+        if isinstance(self.told, (Faulty, Poor)):
+            self.voiceless[self.told.number if isinstance(self.told, Faulty) else POOR] += 1
         try:
             coded = decode("".join(map(symbol_of, widths)))
         except Fault:
@@ -276,12 +282,26 @@ class Device:
         self.last = Tick(edge, claim, agreed, away, [widths for widths, _ in heard])
         self.first = self.first or self.last
         self.count += 1
-        for line, (_, told) in dict(zip(self.ports, heard)).items():
-            if claim and isinstance(told, Claim) and told.second != claim.second:
-                seconds = told.second - claim.second
-                line.ahead[seconds] += 1
-                line.since.setdefault(seconds, (self.count, edge))
+        if claim:
+            for line in self.lines:
+                self._compare(line, edge, claim)
         return self.last
+
+    def _compare(self, line: Line, edge: int, claim: Claim) -> None:
+        """Compares the last frame of a line with the claim of an edge, if it is of that second. One that is
+        late by a part of a second is of the second before."""
+        behind = round((line.frame_end - edge) / SECOND_US) if line.frame_end > edge - 2 * SECOND_US else -2
+        late = line.frame_end - edge - behind * SECOND_US
+        is_near = abs(late) <= AGREE_US
+        if behind < -1 or (behind and is_near):
+            return
+        line.near += is_near
+        if not is_near:
+            line.late.add(late)
+        seconds = line.told.second - claim.second - behind if isinstance(line.told, Claim) else 0
+        if seconds:
+            line.ahead[seconds] += 1
+            line.since.setdefault(seconds, (self.count, edge))
 
 
 # ---- what a line is

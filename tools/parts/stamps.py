@@ -6,14 +6,15 @@ import math
 from dataclasses import replace
 from functools import lru_cache
 from itertools import product
-from typing import Dict, Iterator, List, NamedTuple, Optional, Sequence, Set, Tuple
+from typing import Collection, Dict, Iterator, List, NamedTuple, Optional, Sequence, Set, Tuple
 
 from parts.changes import Stamp
-from parts.listening import AGREE_US, ELEMENT_US, Line, symbol_of
+from parts.listening import AGREE_US, ELEMENT_US, SECOND_US, Line, symbol_of
 
 from irig import Fault, Leap, Second, frame
-from irig.seconds import DAY, day_number, day_text, is_month_end
-from irig.words import Kind, Sense
+from irig.seconds import DAY, LAST_DAY, day_number, day_text, is_month_end
+from irig.stretches import offset_text
+from irig.words import Kind, Sense, listed
 
 EXPLAINED_US = 60_000_000  # so near to a whole number of half hours a stamp may be local time
 HALF_HOUR_US = 1_800_000_000
@@ -27,11 +28,21 @@ ZONES = range(-24, 29)  # half hours that a line, or a stamp, may be ahead of UT
 
 
 class Zero(NamedTuple):
-    """When a recording begins: so many microseconds behind a second, by these leap seconds."""
+    """When a recording begins: so many microseconds behind a second, by these leap seconds. Of the other
+    days it is known that they have none."""
 
     second: Second
     after_us: float
     leaps: Sequence[Leap]
+    days: Collection[int] = range(LAST_DAY + 1)
+
+    @classmethod
+    def behind(
+        cls, second: Second, us: float, leaps: Sequence[Leap], days: Collection[int] = range(LAST_DAY + 1)
+    ) -> Zero:
+        """So many microseconds behind a second, or before it if below 0."""
+        seconds, rest = divmod(us, SECOND_US)
+        return cls(second.plus(int(seconds), leaps), rest, leaps, days)
 
     @classmethod
     def of(cls, stamp: Stamp, leaps: Sequence[Leap]) -> Zero:
@@ -41,27 +52,43 @@ class Zero(NamedTuple):
                          for leap in leaps)
         return cls(stamp.second - is_deleted, stamp.after_us + 1_000_000 * is_deleted, leaps)
 
+    def open_end(self, other: Second) -> Optional[int]:
+        """A month's last day that ends between it and another second, and may have a leap second."""
+        first, last = sorted((self.second, other))
+        days = range(first.day + first.is_leap, last.day)
+        return next((day for day in days if is_month_end(day) and day not in self.days), None)
+
     def __str__(self) -> str:
         seconds, rest = divmod(round(self.after_us / 1000), 1000)  # of milliseconds
         return str(self.second.plus(seconds, self.leaps)).replace("Z", f".{rest:03}Z")
 
 
 def in_zone(stamp: Stamp, zone: Optional[int]) -> Stamp:
-    """The same stamp as one that is so many minutes ahead of UTC, if that is said."""
-    if zone is None or stamp.second is None:
+    """The same stamp as one that is so many minutes ahead of UTC, if that is said. A 60 that can be no
+    leap second there is no time."""
+    if zone is not None and stamp.second:
+        stamp = replace(stamp, second=stamp.second + 60 * ((stamp.zone or 0) - zone), zone=zone)
+    if stamp.second is None or stamp.after_us < SECOND_US:
         return stamp
-    return replace(stamp, second=stamp.second + 60 * ((stamp.zone or 0) - zone), zone=zone)
+    is_leap = stamp.second.sod == DAY - 1 and is_month_end(stamp.second.day)
+    second = Second(stamp.second.day, DAY) if is_leap else None
+    return replace(stamp, second=second, after_us=stamp.after_us - SECOND_US)
 
 
 def verdict(stamp: Stamp, zero: Zero, by: str) -> Iterator[str]:
     """What the lines that stand behind `by` say of a stamp, a sentence each."""
-    if stamp.second is None:
+    if not _is_time(stamp, zero.leaps):
         yield f"the record's stamp, {stamp.text}, is no time that can be compared with the lines"
         return
     told = Zero.of(stamp, zero.leaps)
-    late, within = _after(told, zero), AGREE_US + stamp.step_us
+    late, within, end = _after(told, zero), AGREE_US + stamp.step_us, zero.open_end(told.second)
     read = "" if stamp.zone is not None else ", read as UTC, as it names no zone"
-    yield f"the record's stamp {_late(late, within)} by {by}: it says {told} for sample 1{read}"
+    by += "" if end is None else f", if {day_text(end)} has no leap second, which --leap would say"
+    yield (f"the record's stamp {_late(late, within)} by {by}: it says {stamp.text} for sample 1, "
+           f"that is {told}{read}")
+    other = _exchanged(told)
+    if other and abs(_after(other, zero)) <= EXPLAINED_US:
+        yield f"with its day and month exchanged it {_late(_after(other, zero), within)}"
     half_hours = round(late / HALF_HOUR_US)
     rest = late - half_hours * HALF_HOUR_US
     if read and half_hours and half_hours in ZONES and abs(rest) <= EXPLAINED_US:
@@ -74,6 +101,22 @@ def verdict(stamp: Stamp, zero: Zero, by: str) -> Iterator[str]:
         yield f"by its time quality the recorder's clock was {_quality(stamp.quality)}"
 
 
+def _is_time(stamp: Stamp, leaps: Sequence[Leap]) -> bool:
+    """Whether a stamp is a time, and no 23:59:60 of a day that has a second less."""
+    second = stamp.second
+    if second is None:
+        return False
+    return not (second.is_leap and Leap(day_text(second.day), "delete") in leaps)
+
+
+def _exchanged(told: Zero) -> Optional[Zero]:
+    """The time of the same date with the month first, where that is another one."""
+    year, month, day = day_text(told.second.day).split("-")
+    if month == day or int(day) > 12 or told.second.is_leap:
+        return None
+    return told._replace(second=Second(day_number(f"{year}-{day}-{month}"), told.second.sod))
+
+
 def _after(one: Zero, other: Zero) -> float:
     """How many microseconds one is later, by the leap seconds of the other."""
     return one.second.since(other.second, other.leaps) * 1e6 + one.after_us - other.after_us
@@ -82,7 +125,15 @@ def _after(one: Zero, other: Zero) -> float:
 def _late(us: float, within: float) -> str:
     if abs(us) <= within:
         return f"agrees within {math.ceil(within / 100) / 10} ms"
-    return f"is {abs(us) / 1e6:.3f} s {'late' if us > 0 else 'early'}"
+    seconds, rest = divmod(round(abs(us) / 1000), 1000)  # of milliseconds
+    amount = f"{seconds % 60}.{rest:03} s" if rest or seconds < 60 else ""
+    long = offset_text(seconds - seconds % 60 * bool(amount)).rpartition(" ")[0]
+    return f"is {' '.join(filter(None, (long, amount)))} {'late' if us > 0 else 'early'}"
+
+
+def signed(seconds: int) -> str:
+    """An offset as `irig blame` has it, with a sign."""
+    return f"{'-' if seconds < 0 else '+'}{offset_text(seconds).rpartition(' ')[0]}"
 
 
 def _quality(code: int) -> str:
@@ -102,59 +153,95 @@ class Seen(NamedTuple):
     symbols: Dict[int, str]
 
 
-class Search(NamedTuple):
-    """Where seconds are searched: so many seconds about a stamp, by lists of leap seconds that may be,
-    and how lines are read."""
+class Reading(NamedTuple):
+    """How lines are read."""
 
-    stamp: Stamp
-    within: int
-    leaps: Sequence[Sequence[Leap]]
     sense: Sense
     free: Set[int]  # elements that say nothing
 
     @classmethod
-    def about(
-        cls, stamp: Stamp, within: int, known: Sequence[Leap], sense: Sense, sbs: str
-    ) -> Search:
+    def of(cls, sense: Sense, sbs: str) -> Reading:
+        return cls(sense, FREE | BINARY_SECONDS if sbs == "ignore" else FREE)
+
+
+class Search(NamedTuple):
+    """Where seconds are searched: so many seconds about a stamp, by lists of leap seconds that may be."""
+
+    stamp: Stamp
+    within: int
+    leaps: Sequence[Sequence[Leap]]
+    reading: Reading
+
+    @classmethod
+    def about(cls, stamp: Stamp, within: int, known: Sequence[Leap], reading: Reading) -> Search:
         """A search about a stamp. If no leap second is known, one of either kind may come."""
-        if stamp.second is None:
+        if stamp.second is None or not _is_time(stamp, known):
             raise ValueError(f"undecided: the record's stamp, {stamp.text}, is no time")
         leaps: List[Sequence[Leap]] = [known]
         end = stamp.second.plus(-within).day
         if not known and is_month_end(end):
-            leaps += [[Leap(day_text(end), kind)] for kind in KINDS]
-        free = FREE | BINARY_SECONDS if sbs == "ignore" else FREE
-        return cls(stamp, within, leaps, sense, free)
+            leaps += [[Leap(day_text(end), kind)] for kind in KINDS[: 1 if stamp.second.is_leap else 2]]
+        return cls(stamp, within, leaps, reading)
 
 
 def short_verdict(ports: Sequence[Line], search: Search) -> Iterator[str]:
     """What most ports say of the stamp of a recording that is too short for a vote of whole frames. If
     they say nothing it is a ValueError."""
     told: Dict[Line, Zero] = {}
-    heard: List[str] = []
+    heard: Dict[Line, str] = {}
+    tries: Set[str] = set()
     for line in dict.fromkeys(ports):
         seen = _seen(line.view.early)
         zeros = _fitting(seen, search) if seen else []
         if seen and _is_poor(seen):
-            heard.append(f"{line.name} says itself that its clock is off by a second or more")
+            heard[line] = f"{line.name} says itself that its clock is off by a second or more"
         elif len(zeros) == 1:
             told[line] = zeros[0]
-            heard.append(f"{line.name} has the recording begin at {zeros[0]}")
+            heard[line] = f"{line.name} has the recording begin at {zeros[0]}"
         elif seen:
-            heard.append(f"on {line.name} {len(zeros) or 'none'} of the seconds there fit")
+            heard[line] = f"on {line.name} {len(zeros) or 'none'} of the seconds there fit"
+            tries |= {"--within", "--leap" if zeros else "--zone"}
         else:
-            heard.append(f"{line.name} shows no beginning of a second")
+            heard[line] = f"{line.name} shows no beginning of a second"
     for zero in told.values():
         agreed = [line for line in ports if line in told and abs(_after(told[line], zero)) <= AGREE_US]
         if 2 * len(agreed) > len(ports):
             lines = f"{len(set(agreed))} of {len(set(ports))} lines"
             yield f"0.000 s of the recording is {zero}, by {lines}"
             yield from verdict(search.stamp, zero, f"{lines}, if it is right within {search.within} s")
+            for line in [line for line in heard if line not in agreed]:
+                off = round(_after(told[line], zero) / 1e6) if line in told else 0
+                yield f"{line.name} differs by {signed(off)}" if off else heard[line]
             yield "the recording is too short for a scenario, so none is written"
             return
     near = f"within {search.within} s of the stamp, {Zero.of(search.stamp, ())}"
-    tries = "--within, --zone or --leap may decide it"
-    raise ValueError(f"undecided: most lines do not tell the same second {near}: {'; '.join(heard)}; {tries}")
+    tries -= {"--zone"} if search.stamp.zone is not None else set()
+    tries -= {"--leap"} if len(search.leaps) == 1 else set()
+    said = [*heard.values(), *([f"{listed(sorted(tries, reverse=True))} may decide it"] if tries else [])]
+    raise ValueError(f"undecided: most lines do not tell the same second {near}: {'; '.join(said)}")
+
+
+def reckoned(
+    zero: Zero, start: Second, before_us: float, ports: Sequence[Line], reading: Reading
+) -> Optional[Zero]:
+    """When a recording begins, that long before a second. Where a month ends between them, and it is
+    not known if with a leap second, by what is seen of the lines there; None if that is not enough."""
+    day = zero.open_end(start)
+    if day is None:
+        return zero
+    days = {*zero.days, day}
+    leaps = [[*zero.leaps, *([Leap(day_text(day), kind)] if kind else [])] for kind in (None, *KINDS)]
+    zeros = [Zero.behind(start, -before_us, of, days) for of in leaps]
+    votes = [0] * len(zeros)
+    for line in ports:
+        seen = _seen(line.view.early)
+        begins = seen.begins_us * SECOND_US / line.view.second if seen else 0.0
+        fitting = [place for place, one in enumerate(zeros) if seen and _fits(
+            seen, one.second.plus(round((one.after_us + begins) / SECOND_US), one.leaps), one.leaps, reading)]
+        if len(fitting) == 1:
+            votes[fitting[0]] += 1
+    return next((one for one, count in zip(zeros, votes)
+                 if 2 * count > len(ports) and one.open_end(start) is None), None)
 
 
 def _seen(pulses: Sequence[Tuple[float, int]]) -> Optional[Seen]:
@@ -187,21 +274,27 @@ def _is_poor(seen: Seen) -> bool:
 def _fitting(seen: Seen, search: Search) -> List[Zero]:
     """The beginnings of a recording that fit all that is seen of a line."""
     found: Dict[Tuple[int, Second], Zero] = {}
-    numbers = {element // 100 for element in seen.symbols}
     for leaps, away in product(search.leaps, range(-search.within, search.within + 1)):
         told = Zero.of(search.stamp, leaps)
         second = told.second.plus(round((told.after_us + seen.begins_us) / 1e6) + away, leaps)
-        seconds = {number: second.plus(number, leaps) for number in numbers}
-        if any(_fits(seen, seconds, zone, search) for zone in ZONES):
-            found[away, second] = Zero(second, -seen.begins_us, leaps)
+        if _fits(seen, second, leaps, search.reading):
+            zero = Zero.behind(second, -seen.begins_us, leaps)
+            found.setdefault((away, zero.second), zero)
     return list(found.values())
 
 
-def _fits(seen: Seen, seconds: Dict[int, Second], zone: int, search: Search) -> bool:
-    frames = {number: _frame(second, zone, search.sense) for number, second in seconds.items()}
+def _fits(seen: Seen, second: Second, leaps: Sequence[Leap], reading: Reading) -> bool:
+    """Whether all that is seen fits, if this second is the first that begins, in a zone."""
+    numbers = {element // 100 for element in seen.symbols}
+    seconds = {number: second.plus(number, leaps) for number in numbers}
+    return any(_fits_in(zone, seen, seconds, reading) for zone in ZONES)
+
+
+def _fits_in(zone: int, seen: Seen, seconds: Dict[int, Second], reading: Reading) -> bool:
+    frames = {number: _frame(second, zone, reading.sense) for number, second in seconds.items()}
     return all(
         frames[element // 100][element % 100] == symbol for element, symbol in seen.symbols.items()
-        if symbol != "?" and element % 100 not in search.free
+        if symbol != "?" and element % 100 not in reading.free
     )
 
 

@@ -1,24 +1,24 @@
 #!/usr/bin/env python3
 """Tests of disturbance records in COMTRADE. The variants are written out here, by the text of IEEE C37.111
-and as other makers write them; records of lines are those of altered_records.py. Needs the libraries of
-`make -C c`, but for the variants."""
+and as other makers write them; so are records of lines, which owe nothing to tools/wave. Needs the libraries
+of `make -C c`, but for the variants."""
 from __future__ import annotations
 
 import os
 import struct
 import subprocess
 import unittest
-from dataclasses import replace
+from collections.abc import Callable, Iterator
+from dataclasses import dataclass, replace
 from datetime import datetime, timedelta
 from pathlib import Path
 
 from loading import ROOT, InAFolder
 
 import waves
-from altered_records import ALTERED, GOOD, Record, later, wave
 from parts.changes import Stamp
 from parts.recordings import open_recording
-from test_capture import ONE_CLOCK_AHEAD, PROGRAM, Wave, trips_of, wave_of_seconds
+from test_capture import ONE_CLOCK_AHEAD, PROGRAM, Wave, scenarios, trips_of, wave_of_seconds
 
 from irig import Second
 
@@ -233,14 +233,77 @@ class Variants(InAFolder):
             self.changes(self.pair(OLD_CFG, OLD_DAT), "IRIG V")
 
 
-class Altered(InAFolder):
-    def test_each(self) -> None:
-        for name, (alter, said) in ALTERED.items():
-            with self.subTest(name):
-                path = alter(GOOD).written(self.folder / "altered")
-                found = tool(path).stderr
-                self.assertEqual([part for part in said if part not in found], [], found)
-                self.assertNotRegex(found, "true")
+# ---- records of lines
+
+HEAD = "Bay 7,recorder,{year}\r\n{all},0A,{all}D\r\n"
+TAIL = "50\r\n1\r\n{rate},{samples}\r\n{stamp}\r\n{stamp}\r\n{form}\r\n1\r\n"
+
+
+@dataclass(frozen=True)
+class Record:
+    """Lines as digital channels from a time of their wave on; what the record says of its stamp."""
+
+    lines: Wave
+    stamp: datetime
+    begin_us: int = 300_000
+    seconds: float = 3.2
+    rate: int = 4800
+    parts: int = 0  # in a million, by which the recorder's second is too long
+    year: int = 2013
+    form: str = "BINARY"
+    zone: str = "0,0"
+    quality: str = "0,0"
+
+    def samples(self) -> Iterator[int]:
+        """The channels that are 1, a bit for each."""
+        changes, high, place = self.lines.changes, 0, 0
+        for number in range(round(self.seconds * self.rate)):
+            time = self.begin_us + number * (1_000_000 + self.parts) / self.rate
+            while place < len(changes) and changes[place][0] <= time:
+                _, line, level = changes[place]
+                high, place = high & ~(1 << line) | level << line, place + 1
+            yield high
+
+    def configuration(self) -> str:
+        count, numbers = self.lines.count, range(1, self.lines.count + 1)
+        stamp = f"{self.stamp:%d/%m/%Y,%H:%M:%S.%f}"
+        channels = "".join(f"{number},IRIG{number},,,0\r\n" for number in numbers)
+        tail = TAIL.format(rate=self.rate, samples=round(self.seconds * self.rate), stamp=stamp, form=self.form)
+        more = f"{self.zone}\r\n{self.quality}\r\n" if self.year >= 2013 else ""
+        return HEAD.format(year=self.year, all=count) + channels + tail + more
+
+    def written(self, path: Path) -> Path:
+        path.with_suffix(".cfg").write_bytes(self.configuration().encode())
+        with path.with_suffix(".dat").open("wb") as file:
+            for number, high in enumerate(self.samples()):
+                time = number * 1_000_000 // self.rate
+                bits = "".join(f",{high >> line & 1}" for line in range(self.lines.count))
+                is_text = self.form == "ASCII"
+                file.write(f"{number + 1},{time}{bits}\r\n".encode() if is_text
+                           else struct.pack("<IIH", number + 1, time, high))
+        return path.with_suffix(".cfg")
+
+
+def wave(by: int = 0, lines: tuple[int, ...] = (1,)) -> Wave:
+    """Lines of 2026-11-24T09:30:00Z, of which some are so many seconds ahead."""
+    head = ONE_CLOCK_AHEAD.split("\n")[0].replace('"local":2', '"local":0')
+    faults = "".join(f'{{"do":"fault","g":{line},"kind":"skew","by":{by}}}\n' for line in lines if by)
+    return wave_of_seconds(3, list(waves.seconds_of(f'{head}\n{faults}{{"do":"seconds","n":6}}'.splitlines())))
+
+
+def leap(record: Record) -> Record:
+    """Its first edge is that of 23:59:50, so 7.3 s on the wave are 23:59:57.250."""
+    lines = wave_of_seconds(3, list(waves.seconds_of(scenarios()["leap_inserted"].splitlines())))
+    stamp = datetime(2016, 12, 31, 23, 59, 57, 250_000)
+    return replace(record, lines=lines, begin_us=7_300_000, stamp=stamp, seconds=5)
+
+
+def later(seconds: float) -> Callable[[Record], Record]:
+    return lambda record: replace(record, stamp=record.stamp + timedelta(seconds=seconds))
+
+
+# Sample 1 is 250 ms behind the edge of 09:30:00.
+GOOD = Record(wave(), datetime(2026, 11, 24, 9, 30, 0, 250_000))
 
 
 def tool(path: Path | str, *words: Path | str) -> subprocess.CompletedProcess[str]:
@@ -264,7 +327,8 @@ class Example(InAFolder):
         for path in (self.PATH, fast):
             ran = tool(path)
             for said in (
-                "the record's stamp is 1.000 s late by 2 of 3 lines: it says 2026-11-24T09:30:01.250Z for sample 1\n",
+                "the record's stamp is 1.000 s late by 2 of 3 lines: it says 24/11/2026,09:30:01.250000 for "
+                "sample 1, that is 2026-11-24T09:30:01.250Z\n",
                 "0.000 s of the recording is 2026-11-24T09:30:00.250Z, by 2 of 3 lines, within 0 us\n",
                 "IRIG2 differs from most ports by +18 s in 2 frames; the first ended at tick 1, 1.750 s\n",
             ):
@@ -285,8 +349,20 @@ class Example(InAFolder):
     def test_a_stamp_that_no_zone_explains(self) -> None:
         record = replace(later(3 * 86_400 + 1)(GOOD), year=1999)
         said = tool(record.written(self.folder / "days.cfg")).stderr
-        self.assertIn("the record's stamp is 259201.000 s late by 3 of 3 lines", said)
+        self.assertIn("the record's stamp is 3 d 1 s late by 3 of 3 lines", said)
         self.assertNotIn("local time", said)
+
+    def test_records_that_are_odd(self) -> None:
+        """The recorder's second is longer, and begins at an odd phase; its zone is +5:30; it does not know of
+        a leap second."""
+        field = "its leap-second field says that none is in it; by the lines one is added"
+        agrees = "the record's stamp agrees within 1.3 ms by 3 of 3 lines"
+        off = replace(later(0.4183)(GOOD), begin_us=718_300, parts=100, form="ASCII")
+        for record, said in (
+            (off, agrees), (leap(GOOD), field), (leap(GOOD), agrees),
+            (replace(later(5.5 * 3600 - 2)(GOOD), zone="+5h30,x"), "stamp is 2.000 s early by 3 of 3 lines"),
+        ):
+            self.assertIn(said, tool(record.written(self.folder / "odd.cfg")).stderr)
 
     def test_a_start_that_is_said(self) -> None:
         said = tool(self.PATH, "--start=2026-11-24T09:30:19Z").stderr
@@ -362,19 +438,18 @@ class Short(InAFolder):
 
     def test_a_stamp_that_is_far_off(self) -> None:
         self.undecided("on IRIG1 none of the seconds there fit", later(90)(GOOD), 1.75, 0.6)
-        self.decided("is 90.000 s late by 3 of 3 lines", later(90)(GOOD), 1.75, 0.6, "--within=120")
+        self.decided("is 1 min 30 s late by 3 of 3 lines", later(90)(GOOD), 1.75, 0.6, "--within=120")
 
     def test_local_time(self) -> None:
         """Between 30 and 99 the elements say that the lines send UTC."""
         local = replace(later(-5 * 3600 + 1)(GOOD), year=1999)
-        self.undecided("none of the seconds there fit; --within, --zone or --leap may decide it", local, 1.35, 1.0)
+        self.undecided("none of the seconds there fit; --zone or --within may decide it", local, 1.35, 1.0)
         self.decided("is 1.000 s late by 3 of 3 lines", local, 1.35, 1.0, "--zone=-5")
 
     def test_a_leap_second(self) -> None:
         """The second at 10.05 s of the wave is 23:59:60; a stamp that goes on at 00:00:00 is two late. Its last
         elements, and the next frame, do not tell it from 23:59:59 and from 23:59:58."""
-        record = replace(ALTERED["a leap second that the recorder does not know"][0](GOOD),
-                         stamp=datetime(2016, 12, 31, 23, 59, 50, 250_000))
+        record = replace(leap(GOOD), stamp=datetime(2016, 12, 31, 23, 59, 50, 250_000))
         self.decided("agrees within 1.3 ms by 3 of 3 lines", record, 9.75, 0.6)
         self.decided("is 2.000 s late by 3 of 3 lines", later(1)(record), 9.75, 0.6)
         self.undecided("on IRIG1 3 of the seconds there fit", later(-1)(record), 10.99, 0.6)
@@ -407,8 +482,6 @@ class Words(InAFolder):
         for words, reason in (
             ([path.with_suffix(".dat")], "these are the samples of a record: name its lines.cfg"),
             ([path, "--channels=IRIG1,IRIG2,IRIG9"], "no channel 'IRIG9'; it has IRIG1, IRIG2, IRIG3"),
-            ([ALTERED["a filter of three milliseconds"][0](GOOD).written(self.folder / "filtered.cfg")],
-             "most ports never claim one second within a millisecond"),
             ([path, "--zone=east"], "'east' is no time ahead of UTC, as -5h30 or +1"),
             ([path, "--within=0"], "'0' is not a whole number from 1 to 900"),
         ):
