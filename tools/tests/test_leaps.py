@@ -38,6 +38,31 @@ def values(text: str, *options: str) -> dict:
     return json.loads("{" + run(text, *options).stdout.replace("\n", ",").rstrip(",") + "}")
 
 
+class Beside(unittest.TestCase):
+    """A scenario from 2016-06-15 on, and the list, which has one leap second from then to 2026-06-28."""
+
+    def beside(self, leaps: list) -> tuple:
+        plant = json.dumps({"version": 1, "start": "2016-06-15T12:00:00Z", "leaps": leaps})
+        with tempfile.NamedTemporaryFile("w", suffix=".jsonl") as file:
+            file.write(plant + "\n")
+            file.flush()
+            ran = run(LIST, f"--beside={file.name}")
+        return ran.returncode, ran.stdout
+
+    def test_the_same(self) -> None:
+        self.assertEqual(self.beside([{"day": "2016-12-31", "kind": "insert"}]), (0, ""))
+
+    def test_forgotten(self) -> None:
+        self.assertEqual(self.beside([]), (1, "2016-12-31: the list has insert, the scenario none\n"))
+
+    def test_other(self) -> None:
+        leaps = [{"day": "2016-12-31", "kind": "delete"}, {"day": "2017-06-30", "kind": "insert"},
+                 {"day": "2026-12-31", "kind": "insert"}]
+        self.assertEqual(self.beside(leaps), (
+            1, "2016-12-31: the list has insert, the scenario delete\n"
+            "2017-06-30: the list has none, the scenario insert\n"))
+
+
 class Leaps(unittest.TestCase):
     def test_the_list(self) -> None:
         inserted = [{"day": day, "kind": "insert"} for day in SINCE_2000]
