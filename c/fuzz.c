@@ -90,6 +90,8 @@ static void weigh_setup(const irig_setup *setup) {
     weigh(setup->redundancy);
     weigh(setup->lock_after);
     weigh(setup->holdover);
+    weigh(setup->not_before);
+    weigh(setup->poor_from);
 }
 
 static void weigh_state(const irig_state *state) {
@@ -165,6 +167,8 @@ static void tidy(irig_reader *reader) {
     reader->setup.redundancy = (uint8_t)below(3);
     reader->setup.lock_after = (uint8_t)(1 + below(60));
     reader->setup.holdover = below(1000001);
+    reader->setup.not_before = (uint16_t)(below(2) ? 0 : below(36524));
+    reader->setup.poor_from = (uint8_t)below(11);
     reader->state.kind = (uint8_t)(below(20) ? below(3) : below(256));
     reader->state.heard = (uint8_t)(below(20) ? below(4) : below(256));
     reader->state.day = 1 + below(36523);
@@ -230,6 +234,8 @@ static int try_made_reader(void) {
     setup.redundancy = (uint8_t)below(4);
     setup.lock_after = (uint8_t)(below(8) ? 1 : below(3));
     setup.holdover = below(6);
+    setup.not_before = (uint16_t)(below(2) ? 0 : below(40000));
+    setup.poor_from = (uint8_t)(below(2) ? 0 : below(12));
     if (below(2)) table.leaps[0] = (irig_leap){6209, 0};
     table.leaps[0].kind = below(3);
     if (!below(3)) second.day = 1 + below(36523);

@@ -146,9 +146,18 @@ uint8_t irig_reader_hear(irig_reader *reader, irig_sync *sync, uint8_t port, uin
     return is_there ? irig_c_reader_hear(reader, sync, port, rise_us, width_us) : NO_PORT;
 }
 
+/* What is told where a tick is refused, so that nobody takes an older report for this edge's. */
+static const irig_report silence = {.cause = IRIG_CAUSE_NO_VOTE, .quality = 15U};
+
 uint32_t irig_reader_tick(irig_reader *reader, irig_report *report) {
-    bool is_there = (reader != NULL) && (report != NULL);
-    return is_there ? irig_c_reader_tick(reader, report) : REFUSED;
+    uint32_t answer = REFUSED;
+    if ((reader != NULL) && (report != NULL)) {
+        answer = irig_c_reader_tick(reader, report);
+    }
+    if ((answer != IRIG_DONE) && (report != NULL)) {
+        *report = silence;
+    }
+    return answer;
 }
 
 void irig_reader_restart(irig_reader *reader) {
@@ -177,8 +186,14 @@ uint8_t irig_timekeeper_hear(irig_timekeeper *timekeeper, uint8_t line, uint32_t
 }
 
 uint32_t irig_timekeeper_tick(irig_timekeeper *timekeeper, uint32_t now_us, irig_second *second) {
-    bool is_there = (timekeeper != NULL) && (second != NULL);
-    return is_there ? irig_c_timekeeper_tick(timekeeper, now_us, second) : REFUSED;
+    uint32_t answer = REFUSED;
+    if ((timekeeper != NULL) && (second != NULL)) {
+        answer = irig_c_timekeeper_tick(timekeeper, now_us, second);
+    }
+    if ((answer != IRIG_DONE) && (second != NULL)) {
+        *second = (irig_second){.report = silence};
+    }
+    return answer;
 }
 
 uint32_t irig_timekeeper_wait(const irig_timekeeper *timekeeper, uint32_t now_us) {

@@ -58,9 +58,9 @@ IRIG_ASSERT(sizeof(irig_count) == 8u);
 
 /* The number of the layout: of the structures, and of what calls take and answer. The linker finds it
  * in the name of each call but irig_version, so that no program is linked with a library of another
- * layout. `undefined reference to irig_reader_init_layout_2` says that this header and the library
+ * layout. `undefined reference to irig_reader_init_layout_3` says that this header and the library
  * are of different ones: take both of one version, and compile all that includes the header. */
-#define IRIG_LAYOUT 2
+#define IRIG_LAYOUT 3
 #define IRIG_JOINED(name, number) name##_layout_##number
 #define IRIG_NAME(name, number) IRIG_JOINED(name, number)
 
@@ -88,7 +88,8 @@ enum {
     IRIG_FAULT_TABLE_LONG = 32,     /* a table with more than 64 leaps */
     IRIG_FAULT_TABLE_DAY = 33,      /* a leap on a day that is no month's last, or after `until` */
     IRIG_FAULT_TABLE_TWICE = 34,    /* a day is listed twice */
-    IRIG_FAULT_DRIFT = 35           /* a holdover longer than a timekeeper's counter can count */
+    IRIG_FAULT_DRIFT = 35,          /* a holdover longer than a timekeeper's counter can count */
+    IRIG_FAULT_EARLY = 36           /* a second before the setup's `not_before` */
 };
 
 /* The field of IRIG_FAULT_DIGIT and IRIG_FAULT_RANGE. */
@@ -164,8 +165,13 @@ typedef struct irig_setup {
     uint8_t redundancy; /* IRIG_PORTS_THREE .. */
     uint8_t lock_after; /* votes before it announces, 1 to 60 */
     uint32_t holdover;  /* edges without a vote at which it goes on, 0 to 1,000,000 */
+    uint16_t not_before; /* the first day that a frame may claim, 36,523 at most: an earlier claim is
+                          * IRIG_FAULT_EARLY. With the day of a firmware's making, no clock that
+                          * sends no year and none whose count of GPS weeks began anew has a vote */
+    uint8_t poor_from;   /* the quality from which a frame has no vote, 1 to 10; 0 is 10 */
 } irig_setup;
-IRIG_ASSERT((sizeof(irig_setup) == 12u) && (offsetof(irig_setup, holdover) == 8u));
+IRIG_ASSERT((sizeof(irig_setup) == 16u) && (offsetof(irig_setup, holdover) == 8u) &&
+            (offsetof(irig_setup, not_before) == 12u) && (offsetof(irig_setup, poor_from) == 14u));
 
 typedef struct irig_leap {
     uint32_t day;  /* a month's last day */
@@ -218,8 +224,8 @@ typedef struct irig_reader {
     irig_tally ports[5]; /* those that it does not have are fed nothing */
     uint64_t check;
 } irig_reader;
-IRIG_ASSERT((sizeof(irig_reader) == 680u) && (offsetof(irig_reader, table) == 12u) &&
-            (offsetof(irig_reader, state) == 532u) && (offsetof(irig_reader, ports) == 552u) &&
+IRIG_ASSERT((sizeof(irig_reader) == 680u) && (offsetof(irig_reader, table) == 16u) &&
+            (offsetof(irig_reader, state) == 536u) && (offsetof(irig_reader, ports) == 552u) &&
             (offsetof(irig_reader, check) == 672u));
 
 /* Where a line stands in its frame: one for each line. Whatever lies in it, on a line of true
@@ -272,10 +278,13 @@ typedef struct irig_report {
     uint8_t has_local;       /* 1 if enough of those that agreed send one zone, else 0 to the end */
     int8_t local_half_hours; /* of this zone: local time minus UTC */
     uint8_t dst;             /* 1 if daylight saving is in force there, else 0 */
+    uint8_t against_hold;    /* those that told another second than the one to which the reader had
+                              * come, voted or not; 0 if it had nothing to go on, or missed a second */
 } irig_report;
 IRIG_ASSERT((sizeof(irig_report) == 24u) && (offsetof(irig_report, agreed) == 3u) &&
             (offsetof(irig_report, lock_count) == 4u) && (offsetof(irig_report, differed) == 16u) &&
-            (offsetof(irig_report, quality) == 19u) && (offsetof(irig_report, dst) == 22u));
+            (offsetof(irig_report, quality) == 19u) && (offsetof(irig_report, dst) == 22u) &&
+            (offsetof(irig_report, against_hold) == 23u));
 
 enum { IRIG_TOLD_SILENCE = 0, IRIG_TOLD_FAULT = 1, IRIG_TOLD_POOR = 2, IRIG_TOLD_CLAIM = 3 };
 
@@ -341,7 +350,7 @@ typedef struct irig_timekeeper {
     irig_announced before; /* the one counted before it, if it was */
     uint64_t check;
 } irig_timekeeper;
-IRIG_ASSERT((sizeof(irig_timekeeper) == 936u) && (offsetof(irig_timekeeper, state) == 532u) &&
+IRIG_ASSERT((sizeof(irig_timekeeper) == 936u) && (offsetof(irig_timekeeper, state) == 536u) &&
             (offsetof(irig_timekeeper, lines) == 552u) &&
             (offsetof(irig_timekeeper, drift_us) == 872u) &&
             (offsetof(irig_timekeeper, has_edge) == 884u) &&
@@ -524,7 +533,7 @@ uint8_t irig_reader_hear(irig_reader *reader, irig_sync *sync, uint8_t port, uin
 /* An edge: what the reader says by what its ports heard; they are then empty. IRIG_FAULT_VALUE if
  * its numbers are none that these calls leave behind: the check word is not that of the others, the
  * second at which it stands is none, its votes are too many, or a number is out of its range. Then
- * the report is not written, nothing is announced, and irig_reader_init begins afresh.
+ * the report is silent, and irig_reader_init begins afresh.
  *
  * If it answers 0, a second that is announced with the cause IRIG_CAUSE_VOTED is the true one,
  * provided that the tick comes as that second begins and no two of three ports (three of five; not
@@ -559,8 +568,8 @@ uint8_t irig_timekeeper_hear(irig_timekeeper *timekeeper, uint8_t line, uint32_t
 
 /* Says which second begins, if one has begun since the last call, by frames of which enough claim one
  * second and end within a millisecond, or else by the counter alone, 5 ms later. `now_us` is the time
- * up to which pulses were told (above). IRIG_FAULT_VALUE as irig_reader_tick answers it; then nothing
- * is written, nothing is announced, and irig_timekeeper_init begins afresh.
+ * up to which pulses were told (above). IRIG_FAULT_VALUE as irig_reader_tick answers it; then the
+ * second is silent, and irig_timekeeper_init begins afresh.
  *
  * If it answers 0, a second that is announced with the cause IRIG_CAUSE_VOTED is the true one, and
  * its true edge lies at most 1,549 us behind `edge_us` or 549 before it, provided that no two of

@@ -47,7 +47,10 @@ static const words faults[] = {
     {"TableLong", "a table with more than 64 leaps"},
     {"TableDay", "a table's leap on a day that is not a month's last, or after until"},
     {"TableTwice", "a day is listed twice in a table"},
-    {"Drift", "a holdover longer than a timekeeper's counter can count"},
+    {"Drift",
+     "a holdover longer than a timekeeper's counter can count: (holdover + 2) * drift_us is "
+     "above 490,000"},
+    {"Early", "a second before the first day that the reader takes, not_before"},
 };
 static const words locks[] = {
     {"unlocked", "the reader knows nothing of the time, and announces nothing"},

@@ -41,7 +41,10 @@ class Claim(Structure):
 
 
 class Setup(Structure):
-    _fields_ = [*_of(c_uint8, "parity sense sbs redundancy lock_after"), ("holdover", c_uint32)]
+    _fields_ = [
+        *_of(c_uint8, "parity sense sbs redundancy lock_after"), ("holdover", c_uint32),
+        ("not_before", c_uint16), ("poor_from", c_uint8),
+    ]
 
 
 class Leap(Structure):
@@ -76,7 +79,7 @@ class Report(Structure):
     _fields_ = [
         *_of(c_uint8, "announces lock cause agreed"), *_of(c_uint32, "lock_count day sod"),
         *_of(c_uint8, "differed faulty poor quality has_local"), ("local_half_hours", c_int8),
-        ("dst", c_uint8),
+        *_of(c_uint8, "dst against_hold"),
     ]
 
 
@@ -154,7 +157,7 @@ def _to(structure: Any) -> Any:
 
 # A call of the first library holds Python's lock: it is short, and no other thread comes between. A
 # run of the second may be long: other threads go on meanwhile.
-LAYOUT = 2  # as in c/irig.h: of the structures above, and the calls below
+LAYOUT = 3  # as in c/irig.h: of the structures above, and the calls below
 IRIG, SCENE = f"libirig.so.{LAYOUT}", f"libirig_scene.so.{LAYOUT}"
 KINDS = {IRIG: ctypes.PyDLL, SCENE: ctypes.CDLL}
 

@@ -76,6 +76,7 @@ MEANINGS: Dict[int, Meaning] = {
         "a holdover longer than a timekeeper's counter can count:"
         " (holdover + 2) * drift_us is above 490,000",
     ),
+    36: Meaning("Early", "a second before the first day that the reader takes, not_before"),
 }
 
 VALUE = 26

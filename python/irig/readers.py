@@ -47,6 +47,8 @@ class Report:
     quality: the worst of the frames that agreed, 0, locked, to 9; 15 if nothing was voted
     zone: that of the frames that agreed, if enough of them send one and the same: two of three
         ports, three of five, one of one. None if it is not known.
+    against_hold: the ports that told another second than the one to which the reader had come,
+        voted or not; none if it had nothing to go on, or a timekeeper missed a second
     """
 
     second: Optional[Second]
@@ -59,6 +61,7 @@ class Report:
     poor: Tuple[int, ...] = ()
     quality: int = 15
     zone: Optional[Zone] = None
+    against_hold: Tuple[int, ...] = ()
 
     def __str__(self) -> str:
         return f"{self.second or '-'} {lock_text(self.lock, self.count)} {self.cause}"
@@ -120,6 +123,7 @@ def report_held(held: c.Report) -> Report:
         poor=_ports_in(held.poor),
         quality=held.quality,
         zone=Zone(held.local_half_hours, bool(held.dst)) if held.has_local else None,
+        against_hold=_ports_in(held.against_hold),
     )
 
 
@@ -145,7 +149,14 @@ def _told_held(held: c.Told) -> Told:
 
 
 def setup_of(
-    lock_after: int, holdover: int, ports: int, parity: Parity, sense: Sense, sbs: Sbs
+    lock_after: int,
+    holdover: int,
+    ports: int,
+    parity: Parity,
+    sense: Sense,
+    sbs: Sbs,
+    not_before: Optional[Day],
+    poor_from: int,
 ) -> c.Setup:
     """A setup as C holds it."""
     if ports not in PORTS:
@@ -157,6 +168,8 @@ def setup_of(
         redundancy=PORTS.index(ports),
         lock_after=within("lock_after", lock_after, 1, 60),
         holdover=within("holdover", holdover, 0, 1_000_000),
+        not_before=0 if not_before is None else day_number(not_before),
+        poor_from=within("poor_from", poor_from, 1, 10),
     )
 
 
@@ -218,9 +231,11 @@ class Reader(Ruled):
     sbs: "check" or "ignore" the straight binary seconds
     until: the last day of which `leaps` speaks: up to it there is no other leap second
     leaps: the leap seconds that it knows beforehand, 64 at most
+    not_before: the first day that a frame may claim; a frame of an earlier one is faulty
+    poor_from: the time quality from which a frame has no vote, 1 to 10
     """
 
-    _what, _form, _kind = "reader", "irig reader 3", Hearing
+    _what, _form, _kind = "reader", "irig reader 4", Hearing
 
     def __init__(
         self,
@@ -233,8 +248,12 @@ class Reader(Ruled):
         sbs: Sbs = "check",
         until: Optional[Day] = None,
         leaps: Iterable[Leap] = (),
+        not_before: Optional[Day] = None,
+        poor_from: int = 10,
     ) -> None:
-        setup = setup_of(lock_after, holdover, ports, parity, sense, sbs)
+        setup = setup_of(
+            lock_after, holdover, ports, parity, sense, sbs, not_before, poor_from
+        )
         self._held = Hearing()
         for line in self._held.lines:
             c.sync_init(line)

@@ -76,7 +76,7 @@ class Timekeeper(Ruled):
     What else it takes is what a `Reader` takes, and a port is a line.
     """
 
-    _what, _form, _kind = "timekeeper", "irig timekeeper 1", c.Timekeeper
+    _what, _form, _kind = "timekeeper", "irig timekeeper 2", c.Timekeeper
 
     def __init__(
         self,
@@ -90,8 +90,12 @@ class Timekeeper(Ruled):
         sbs: Sbs = "check",
         until: Optional[Day] = None,
         leaps: Iterable[Leap] = (),
+        not_before: Optional[Day] = None,
+        poor_from: int = 10,
     ) -> None:
-        setup = setup_of(lock_after, holdover, ports, parity, sense, sbs)
+        setup = setup_of(
+            lock_after, holdover, ports, parity, sense, sbs, not_before, poor_from
+        )
         drift = within("drift_us", drift_us, 0, 100)
         self._held = c.Timekeeper()
         check(c.timekeeper_init(self._held, setup, table_of(until, leaps), drift))

@@ -231,6 +231,8 @@ class Calls(unittest.TestCase):
             ({"parity": "none"}, "parity is 'none'; even or odd may stand here"),
             ({"sense": "plus"}, "sense is 'plus'; add or subtract may stand here"),
             ({"sbs": "no"}, "sbs is 'no'; check or ignore may stand here"),
+            ({"poor_from": 0}, "poor_from is 0; 1 to 10 may stand here"),
+            ({"poor_from": 11}, "poor_from is 11; 1 to 10 may stand here"),
         ):
             with self.subTest(words), self.assertRaises(irig.Fault) as caught:
                 Reader(**words)
@@ -255,6 +257,67 @@ class Calls(unittest.TestCase):
             with self.subTest(number), self.assertRaises(irig.Fault) as caught:
                 Reader(until=until, leaps=leaps)
             self.assertEqual(caught.exception.number, number)
+
+
+def without_a_year(frame: str) -> str:
+    """What a clock set to code B003 sends instead: neither a year nor control bits."""
+    gone = {*range(50, 59), *range(60, 79)}
+    symbols = enumerate(frame.replace(" ", ""))
+    return "".join("0" if place in gone and symbol == "1" else symbol for place, symbol in symbols)
+
+
+class Limits(unittest.TestCase):
+    """What all clocks of a plant may get wrong at once."""
+
+    def announced(self, **limits: str) -> list[Second]:
+        """What a reader announces in ten minutes by three clocks set to code B003."""
+        reader, said = Reader(2, 60, **limits), []
+        for second in seconds_from(Second.of("2016-06-15T12:00:00Z"), 600):
+            for port in range(3):
+                reader.pulses(port, irig.widths(without_a_year(irig.frame(second))))
+            said.append(reader.tick().second)
+        return [second for second in said if second]
+
+    def test_clocks_that_send_no_year(self) -> None:
+        years = [str(second)[:4] for second in self.announced()]
+        self.assertGreater(years.count("2000"), 100)
+        self.assertEqual(len(years), years.count("2000"))
+        self.assertEqual(self.announced(not_before="2016-01-01"), [])
+
+    def test_the_first_day(self) -> None:
+        for first, faulty in (("2016-06-15", ()), ("2016-06-16", (0, 1, 2))):
+            reader = Reader(1, not_before=first)
+            for port in range(3):
+                reader.pulses(port, irig.widths(irig.frame("2016-06-15T12:00:00Z")))
+            if faulty:
+                self.assertEqual(str(reader.port(0)), "fault 36 Early")
+            self.assertEqual(reader.tick().faulty, faulty)
+
+    def test_the_quality(self) -> None:
+        for poor_from, poor in ((5, ()), (4, (0, 1, 2))):
+            reader = Reader(1, poor_from=poor_from)
+            for port in range(3):
+                reader.pulses(port, irig.widths(irig.frame("2016-06-15T12:00:00Z", quality=4)))
+            self.assertEqual(reader.tick().poor, poor)
+
+
+class AgainstTheHold(unittest.TestCase):
+    def test_a_liar_has_a_name_without_a_vote(self) -> None:
+        reader = Reader(1, 20)
+        rows = (
+            (("00", "00", "00"), "voted", (0, 1, 2), ()),
+            (("01", "01", "02"), "voted", (0, 1), (2,)),
+            (("", "02", "03"), "held", (), (2,)),
+            (("03", "", "03"), "voted", (0, 2), ()),
+            (("59", "58", "04"), "held", (), (0, 1)),
+        )
+        for seconds, cause, agreed, against in rows:
+            for port, second in enumerate(seconds):
+                if second:
+                    reader.pulses(port, irig.widths(irig.frame(f"2016-06-15T12:00:{second}Z")))
+            report = reader.tick()
+            self.assertEqual((report.cause, report.agreed), (cause, agreed))
+            self.assertEqual(report.against_hold, against)
 
 
 class Copies(unittest.TestCase):

@@ -184,7 +184,7 @@ class Alone(unittest.TestCase):
         self.assertEqual(ran.stderr, "")
         self.assertEqual(ran.stdout.splitlines(), [
             "8 1 relay - unlocked no-vote",
-            "libirig.so.2 is missing: `make -C c` builds it in the sources of irig",
+            "libirig.so.3 is missing: `make -C c` builds it in the sources of irig",
         ])
 
 

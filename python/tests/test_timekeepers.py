@@ -49,6 +49,13 @@ class Ticks(unittest.TestCase):
                     self.assertEqual(beat.edge_us, end_us % WRAP)
                     self.assertEqual(beat.report.agreed, tuple(range(ports)))
 
+    def test_a_first_day(self) -> None:
+        voted = "2017-01-01T00:00:00Z locked voted"
+        for first, says in (("2016-12-31", voted), ("2017-01-01", "None")):
+            keeper = Timekeeper(lock_after=1, drift_us=0, not_before=first)
+            hear_frame(keeper, FRAME, 0, 0, 1, 2)
+            self.assertEqual(str(keeper.tick(1_000_000)), says)
+
     def test_what_frames_say_beside_the_time(self) -> None:
         keeper = Timekeeper(lock_after=2, drift_us=10)
         frame = irig.frame("2016-12-31T12:00:00Z", local=2, dst=True, quality=2)

@@ -408,7 +408,7 @@ class Devices(InAFolder):
             print("skipped: recordings against c/examples/capture.c; cc is missing")
             self.skipTest("no cc")
         sources = [ROOT / f"c/examples/{name}.c" for name in ("capture", "capture_bench")]
-        library = ROOT / "c/out/libirig.so.2"
+        library = ROOT / "c/out/libirig.so.3"
         for count in (1, 3, 5):
             subprocess.run(
                 ["cc", "-std=c11", f"-DLINES={count}", f"-I{ROOT / 'c'}", *sources, library,
@@ -726,7 +726,7 @@ class Words(InAFolder):
         ran = subprocess.run([tool, recording], capture_output=True, text=True)
         self.assertEqual((ran.returncode, ran.stdout), (2, ""))
         self.assertEqual(
-            ran.stderr, "capture: libirig.so.2 is missing: `make -C c` builds it in the sources of irig\n"
+            ran.stderr, "capture: libirig.so.3 is missing: `make -C c` builds it in the sources of irig\n"
         )
         ran = subprocess.run([tool, "--help"], capture_output=True, text=True)
         self.assertEqual((ran.returncode, ran.stderr), (0, ""))

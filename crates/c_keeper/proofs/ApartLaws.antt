@@ -38,19 +38,19 @@ unfolding check_of
 apart_told t q sealed (inl h) other =
     let parts = same_parts (changing_numbers t) (changing_numbers q) (fixed_numbers t) (fixed_numbers q) refl h.rest in
     let fixed : weighted 3 (fixed_numbers t) ≡ weighted 3 (fixed_numbers q) = ap (λ (l : List ℕ). weighted 3 l) parts.1 in
-    let changing : weighted 275 (changing_numbers t) ≡ weighted 275 (changing_numbers q) = ap (λ (l : List ℕ). weighted 275 l) parts.0 in
-    h.differ (sealed ∙ (ap (λ (n : ℕ). (n + weighted 275 (changing_numbers t)) % 18446744073709551616) fixed
+    let changing : weighted 279 (changing_numbers t) ≡ weighted 279 (changing_numbers q) = ap (λ (l : List ℕ). weighted 279 l) parts.0 in
+    h.differ (sealed ∙ (ap (λ (n : ℕ). (n + weighted 279 (changing_numbers t)) % 18446744073709551616) fixed
     ∙ (ap (λ (n : ℕ). (weighted 3 (fixed_numbers q) + n) % 18446744073709551616) changing ∙ sym other)))
 apart_told t q sealed (inr h) other =
-    let words : (weighted 3 (fixed_numbers t) + weighted 275 (changing_numbers t)) % 18446744073709551616
-    ≡ (weighted 3 (fixed_numbers q) + weighted 275 (changing_numbers q)) % 18446744073709551616 = sym sealed ∙ (h.0 ∙ other) in
+    let words : (weighted 3 (fixed_numbers t) + weighted 279 (changing_numbers t)) % 18446744073709551616
+    ≡ (weighted 3 (fixed_numbers q) + weighted 279 (changing_numbers q)) % 18446744073709551616 = sym sealed ∙ (h.0 ∙ other) in
     elim (split (changing_numbers t) (changing_numbers q) (fixed_numbers t) (fixed_numbers q) refl h.1) [
       | inl first ↦
           let fixed : weighted 3 (fixed_numbers t) ≡ weighted 3 (fixed_numbers q) = ap (λ (l : List ℕ). weighted 3 l) first.1 in
-          apart_lists 137 (changing_numbers t) (changing_numbers q) first.0 (left_out (weighted 3 (fixed_numbers t)) (weighted 3 (fixed_numbers q)) (weighted 275 (changing_numbers t)) (weighted 275 (changing_numbers q)) fixed words)
+          apart_lists 139 (changing_numbers t) (changing_numbers q) first.0 (left_out (weighted 3 (fixed_numbers t)) (weighted 3 (fixed_numbers q)) (weighted 279 (changing_numbers t)) (weighted 279 (changing_numbers q)) fixed words)
       | inr second ↦
-          let changing : weighted 275 (changing_numbers t) ≡ weighted 275 (changing_numbers q) = ap (λ (l : List ℕ). weighted 275 l) second.0 in
-          apart_lists 1 (fixed_numbers t) (fixed_numbers q) second.1 (left_out_second (weighted 3 (fixed_numbers t)) (weighted 3 (fixed_numbers q)) (weighted 275 (changing_numbers t)) (weighted 275 (changing_numbers q)) changing words)
+          let changing : weighted 279 (changing_numbers t) ≡ weighted 279 (changing_numbers q) = ap (λ (l : List ℕ). weighted 279 l) second.0 in
+          apart_lists 1 (fixed_numbers t) (fixed_numbers q) second.1 (left_out_second (weighted 3 (fixed_numbers t)) (weighted 3 (fixed_numbers q)) (weighted 279 (changing_numbers t)) (weighted 279 (changing_numbers q)) changing words)
     ]
   where
     left_out : (f g c d : ℕ) → f ≡ g → (f + c) % 18446744073709551616 ≡ (g + d) % 18446744073709551616 → c % 18446744073709551616 ≡ d % 18446744073709551616

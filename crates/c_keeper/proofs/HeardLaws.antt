@@ -1,18 +1,19 @@
 -- A line behind a pulse, and the timekeeper that has it.
-use Rattle.std.proofs.Common.{◌≡◌, ◌↔◌, ◌∙◌, ◌<◌, ℕ, List, refl, sym, ap, subst, arith, inl, inr}
+use Rattle.std.proofs.Common.{Option, ◌≡◌, ◌↔◌, ◌∙◌, ◌<◌, ℕ, List, refl, sym, ap, subst, arith, inl, inr}
 use Rattle.std.proofs.lemmas.Bool.{cases_eq}
 use Rattle.irig_frame.specs.declared.symbol.Symbol.{Symbol}
 use Rattle.irig_time.specs.declared.rules.Rules.{Rules}
 use Rattle.irig_port.specs.Hearing.{heard_at}
 use Rattle.irig_port.specs.Tallies.{IsTallyOf}
-use Rattle.irig_port.specs.Told.{told_of}
+use Rattle.irig_port.specs.declared.limits.Limits.{Limits}
+use Rattle.irig_port.specs.Limits.{told_within}
 use Rattle.irig_sync.specs.Sync.{place_of}
 use Rattle.irig_timekeeper.specs.declared.clock.ClockState.{ClockState}
 use Rattle.irig_timekeeper.specs.declared.lines.Line.{Line}
 use Rattle.irig_timekeeper.specs.declared.lines.Lines.{Lines}
 use Rattle.irig_timekeeper.specs.Keeping.{Heard, Keeping, heard_by, heard_then, one_pulse_more, with_heard, with_lines}
 use Rattle.irig_timekeeper.specs.Steps.{line_at, line_heard, with_line}
-use Rattle.c_numbers.specs.Setups.{rules_in}
+use Rattle.c_numbers.specs.Setups.{limits_in, rules_in}
 use Rattle.c_keeper.specs.declared.line.IrigLine.{IrigLine}
 use Rattle.c_keeper.specs.declared.line.IrigLines.{IrigLines}
 use Rattle.c_keeper.specs.declared.timekeeper.IrigTimekeeper.{IrigTimekeeper}
@@ -41,12 +42,12 @@ of_each P p0 p1 p2 p3 p4 port here =
 
 -- ---- the line of a port
 
-pub line_there : (rules : Rules) (ls : IrigLines) (port : ℕ) → port < 5 → line_at (lines_in rules ls) port ≡ line_in rules (numbers_at ls port)
-line_there rules ls = of_each (λ port. line_at (lines_in rules ls) port ≡ line_in rules (numbers_at ls port)) refl refl refl refl refl
+pub line_there : (limits : Option Limits) (rules : Rules) (ls : IrigLines) (port : ℕ) → port < 5 → line_at (lines_in limits rules ls) port ≡ line_in limits rules (numbers_at ls port)
+line_there limits rules ls = of_each (λ port. line_at (lines_in limits rules ls) port ≡ line_in limits rules (numbers_at ls port)) refl refl refl refl refl
 
-line_put : (rules : Rules) (ls : IrigLines) (l : IrigLine) (port : ℕ) → port < 5
-    → lines_in rules (with_numbers ls port l) ≡ with_line (lines_in rules ls) port (line_in rules l)
-line_put rules ls l = of_each (λ port. lines_in rules (with_numbers ls port l) ≡ with_line (lines_in rules ls) port (line_in rules l)) refl refl refl refl refl
+line_put : (limits : Option Limits) (rules : Rules) (ls : IrigLines) (l : IrigLine) (port : ℕ) → port < 5
+    → lines_in limits rules (with_numbers ls port l) ≡ with_line (lines_in limits rules ls) port (line_in limits rules l)
+line_put limits rules ls l = of_each (λ port. lines_in limits rules (with_numbers ls port l) ≡ with_line (lines_in limits rules ls) port (line_in limits rules l)) refl refl refl refl refl
 
 pub heard_there : (ls : IrigLines) (heard : Heard) → HaveHeard ls heard → (port : ℕ) → port < 5 → IsTallyOf (numbers_at ls port).port (heard_by heard port)
 heard_there ls heard h = of_each (λ port. IsTallyOf (numbers_at ls port).port (heard_by heard port)) h.a h.b h.c h.d h.e
@@ -65,7 +66,7 @@ heard_put ls heard l s h now =
 pub place_as : (t : IrigTimekeeper) (k : Keeping) (port rise width : ℕ) → port < 5 → IsTimekeeperOf t k
     → place_of (numbers_at t.lines port).sync rise width ≡ place_of (line_at k.state.lines port).sync rise width
 place_as t k port rise width here h =
-    ap (λ (x : Line). place_of x.sync rise width) (sym (line_there (rules_in t.setup) t.lines port here))
+    ap (λ (x : Line). place_of x.sync rise width) (sym (line_there (limits_in t.setup) (rules_in t.setup) t.lines port here))
     ∙ ap (λ (s : ClockState). place_of (line_at s.lines port).sync rise width) h.state
 
 -- ---- a pulse
@@ -73,8 +74,8 @@ place_as t k port rise width here h =
 -- a line's numbers behind a pulse with this place
 pub record IsBehindPulse (rise width place : ℕ) (before after : IrigLine) : Type 0 where
   pub at : place ≡ place_of before.sync rise width
-  pub line : (rules : Rules) (s : List Symbol) → IsTallyOf before.port s
-      → line_in rules after ≡ line_heard (line_in rules before) rise width (told_of rules (heard_at place s width))
+  pub line : (limits : Option Limits) (rules : Rules) (s : List Symbol) → IsTallyOf before.port s
+      → line_in limits rules after ≡ line_heard (line_in limits rules before) rise width (told_within limits rules (heard_at place s width))
   pub heard : (s : List Symbol) → IsTallyOf before.port s → IsTallyOf after.port (heard_at place s width)
 
 -- the timekeeper that has such a line is the value behind the pulse
@@ -84,6 +85,7 @@ pub one_more : (t q : IrigTimekeeper) (k : Keeping) (port rise width place : ℕ
 one_more t q k port rise width place l here behind is seal h =
     subst (λ (x : IrigTimekeeper). IsTimekeeperOf x (one_pulse_more k port rise width)) (sym is) (record {
       rules = h.rules;
+      limits = h.limits;
       clock = h.clock;
       table = h.table;
       heard = subst (λ (s : List Symbol). HaveHeard (with_numbers t.lines port l) (with_heard k.heard port s)) heard
@@ -102,12 +104,15 @@ one_more t q k port rise width place l here behind is seal h =
     rules : Rules
     rules = rules_in t.setup
 
+    limits : Option Limits
+    limits = limits_in t.setup
+
     was : IsTallyOf (numbers_at t.lines port).port (heard_by k.heard port)
     was = heard_there t.lines k.heard h.heard port here
 
     -- the line of the value
-    line : line_at k.state.lines port ≡ line_in rules (numbers_at t.lines port)
-    line = ap (λ (s : ClockState). line_at s.lines port) (sym h.state) ∙ line_there rules t.lines port here
+    line : line_at k.state.lines port ≡ line_in limits rules (numbers_at t.lines port)
+    line = ap (λ (s : ClockState). line_at s.lines port) (sym h.state) ∙ line_there limits rules t.lines port here
 
     place_is : place_of (line_at k.state.lines port).sync rise width ≡ place
     place_is = ap (λ (x : Line). place_of x.sync rise width) line ∙ sym behind.at
@@ -115,14 +120,15 @@ one_more t q k port rise width place l here behind is seal h =
     heard : heard_at place (heard_by k.heard port) width ≡ heard_then k port rise width
     heard = ap (λ (n : ℕ). heard_at n (heard_by k.heard port) width) (sym place_is)
 
-    new_line : line_in rules l ≡ line_heard (line_at k.state.lines port) rise width (told_of k.rules (heard_then k port rise width))
-    new_line = behind.line rules (heard_by k.heard port) was
-        ∙ (ap (λ (x : Line). line_heard x rise width (told_of rules (heard_at place (heard_by k.heard port) width))) (sym line)
-        ∙ (ap (λ (r : Rules). line_heard (line_at k.state.lines port) rise width (told_of r (heard_at place (heard_by k.heard port) width))) h.rules
-        ∙ ap (λ (s : List Symbol). line_heard (line_at k.state.lines port) rise width (told_of k.rules s)) heard))
+    new_line : line_in limits rules l ≡ line_heard (line_at k.state.lines port) rise width (told_within k.limits k.rules (heard_then k port rise width))
+    new_line = behind.line limits rules (heard_by k.heard port) was
+        ∙ (ap (λ (x : Line). line_heard x rise width (told_within limits rules (heard_at place (heard_by k.heard port) width))) (sym line)
+        ∙ (ap (λ (r : Rules). line_heard (line_at k.state.lines port) rise width (told_within limits r (heard_at place (heard_by k.heard port) width))) h.rules
+        ∙ (ap (λ (l : Option Limits). line_heard (line_at k.state.lines port) rise width (told_within l k.rules (heard_at place (heard_by k.heard port) width))) h.limits
+        ∙ ap (λ (s : List Symbol). line_heard (line_at k.state.lines port) rise width (told_within k.limits k.rules s)) heard)))
 
     whole : clock_state_in (record t { lines = with_numbers t.lines port l; check = q.check })
-        ≡ with_lines k.state (with_line k.state.lines port (line_heard (line_at k.state.lines port) rise width (told_of k.rules (heard_then k port rise width))))
-    whole = ap (λ (ls : Lines). with_lines (clock_state_in t) ls) (line_put rules t.lines l port here)
-        ∙ (ap (λ (s : ClockState). with_lines s (with_line s.lines port (line_in rules l))) h.state
+        ≡ with_lines k.state (with_line k.state.lines port (line_heard (line_at k.state.lines port) rise width (told_within k.limits k.rules (heard_then k port rise width))))
+    whole = ap (λ (ls : Lines). with_lines (clock_state_in t) ls) (line_put limits rules t.lines l port here)
+        ∙ (ap (λ (s : ClockState). with_lines s (with_line s.lines port (line_in limits rules l))) h.state
         ∙ ap (λ (x : Line). with_lines k.state (with_line k.state.lines port x)) new_line)

@@ -50,13 +50,13 @@ change_is w ms ns =
 
 -- what the numbers that calls change add up to is what their parts do
 pub by_parts : (t : IrigTimekeeper)
-    → weighted 275 (changing_numbers t) ≡ weighted 275 (state_numbers t.state) + (weighted 287 (clock_numbers t) + weighted 315 (lines_numbers t.lines))
+    → weighted 279 (changing_numbers t) ≡ weighted 279 (state_numbers t.state) + (weighted 291 (clock_numbers t) + weighted 319 (lines_numbers t.lines))
 by_parts t =
-    append_at 275 287 (state_numbers t.state) (clock_numbers t ++ lines_numbers t.lines) refl
-    ∙ ap (λ (n : ℕ). weighted 275 (state_numbers t.state) + n) (append_at 287 315 (clock_numbers t) (lines_numbers t.lines) refl)
+    append_at 279 291 (state_numbers t.state) (clock_numbers t ++ lines_numbers t.lines) refl
+    ∙ ap (λ (n : ℕ). weighted 279 (state_numbers t.state) + n) (append_at 291 319 (clock_numbers t) (lines_numbers t.lines) refl)
 
-pub fixed_parts : (t : IrigTimekeeper) → weighted 3 (fixed_numbers t) ≡ weighted 3 (setup_numbers t.setup) + weighted 15 (table_numbers t.table)
-fixed_parts t = append_at 3 15 (setup_numbers t.setup) (table_numbers t.table) refl
+pub fixed_parts : (t : IrigTimekeeper) → weighted 3 (fixed_numbers t) ≡ weighted 3 (setup_numbers t.setup) + weighted 19 (table_numbers t.table)
+fixed_parts t = append_at 3 19 (setup_numbers t.setup) (table_numbers t.table) refl
 
 -- the check word is no part of what it adds up
 without_check : (t : IrigTimekeeper) (n : ℕ) → check_of (record t { check = n }) ≡ check_of t

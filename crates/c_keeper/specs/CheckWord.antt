@@ -38,7 +38,7 @@ changing_numbers t = state_numbers t.state ++ (clock_numbers t ++ lines_numbers 
 
 -- the check word that belongs to these numbers
 unfoldable pub check_of : IrigTimekeeper → ℕ
-check_of t = (weighted 3 (fixed_numbers t) + weighted 275 (changing_numbers t)) % 2 ^ 64
+check_of t = (weighted 3 (fixed_numbers t) + weighted 279 (changing_numbers t)) % 2 ^ 64
 
 -- the timekeeper has it
 abbrev pub IsSealed : IrigTimekeeper → Type 0

@@ -2,7 +2,9 @@
 use Rattle.std.specs.Prelude.{◌≡◌, ℕ, ◌⊎◌, ◌==◌, if◌then◌else◌, List, [], ◌∷◌, Option, Some, None}
 use Rattle.irig_time.specs.declared.rules.Rules.{Rules}
 use Rattle.irig_port.specs.declared.tally.Tally.{Tally}
-use Rattle.irig_port.specs.Tallies.{IsTallyOf, tally_told}
+use Rattle.irig_port.specs.declared.limits.Limits.{Limits}
+use Rattle.irig_port.specs.Limits.{tally_told_within}
+use Rattle.irig_port.specs.Tallies.{IsTallyOf}
 use Rattle.irig_timekeeper.specs.declared.lines.KeptFrame.{KeptFrame}
 use Rattle.irig_timekeeper.specs.declared.lines.Line.{Line}
 use Rattle.irig_timekeeper.specs.declared.lines.Lines.{Lines}
@@ -11,21 +13,21 @@ use Rattle.c_keeper.specs.declared.line.IrigLine.{IrigLine}
 use Rattle.c_keeper.specs.declared.line.IrigLines.{IrigLines}
 
 -- its last whole frame, if it keeps one: what its numbers tell, and where it ends
-abbrev pub frame_in : Rules → IrigLine → Option KeptFrame
-frame_in rules l =
+abbrev pub frame_in : Option Limits → Rules → IrigLine → Option KeptFrame
+frame_in limits rules l =
     if l.has_frame == 0 then None
-    else Some (record { told = tally_told rules l.frame; end_us = l.end_us })
+    else Some (record { told = tally_told_within limits rules l.frame; end_us = l.end_us })
 
-abbrev pub line_in : Rules → IrigLine → Line
-line_in rules l = record { sync = l.sync; frame = frame_in rules l }
+abbrev pub line_in : Option Limits → Rules → IrigLine → Line
+line_in limits rules l = record { sync = l.sync; frame = frame_in limits rules l }
 
-abbrev pub lines_in : Rules → IrigLines → Lines
-lines_in rules ls = record {
-  a = line_in rules ls.a;
-  b = line_in rules ls.b;
-  c = line_in rules ls.c;
-  d = line_in rules ls.d;
-  e = line_in rules ls.e;
+abbrev pub lines_in : Option Limits → Rules → IrigLines → Lines
+lines_in limits rules ls = record {
+  a = line_in limits rules ls.a;
+  b = line_in limits rules ls.b;
+  c = line_in limits rules ls.c;
+  d = line_in limits rules ls.d;
+  e = line_in limits rules ls.e;
 }
 
 -- the frames that they keep, and of others what they kept last

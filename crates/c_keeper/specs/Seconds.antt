@@ -1,8 +1,11 @@
 -- What a timekeeper says, by numbers.
 use Rattle.std.specs.Prelude.{◌≡◌, ℕ, ◌==◌, if◌then◌else◌, Option, Some, None, pos}
+use Rattle.irig_time.specs.declared.second.UtcSecond.{UtcSecond}
+use Rattle.irig_vote.specs.declared.redundancy.Redundancy.{Redundancy}
 use Rattle.irig_timekeeper.specs.declared.clock.Beat.{Beat}
 use Rattle.irig_timekeeper.specs.declared.stamp.Stamp.{Stamp}
 use Rattle.c_numbers.specs.declared.report.IrigReport.{IrigReport}
+use Rattle.c_numbers.specs.Against.{against_of}
 use Rattle.c_numbers.specs.Reports.{report_in}
 use Rattle.c_keeper.specs.declared.second.IrigSecond.{IrigSecond}
 use Rattle.c_keeper.specs.declared.stamp.IrigStamp.{IrigStamp}
@@ -32,6 +35,7 @@ nothing_reported = record {
   has_local = 0;
   local_half_hours = pos 0;
   dst = 0;
+  against_hold = 0;
 }
 
 abbrev pub nothing_told : IrigSecond
@@ -41,6 +45,10 @@ nothing_told = record { is_told = 0; edge_us = 0; missed = 0; moved = 0; report 
 abbrev pub IsSecondOf : IrigSecond → Option Beat → Type 0
 IsSecondOf s None = s ≡ nothing_told
 IsSecondOf s (Some beat) = IsToldOf s beat
+
+-- the lines whose claims were against what was held, if no second was missed
+abbrev pub against_at : Option UtcSecond → Beat → Redundancy → ℕ
+against_at held beat r = if beat.missed == 0 then against_of held beat.told r else 0
 
 -- the stamp that a call gives which answers this
 abbrev pub stamp_in : ℕ → IrigStamp → Option Stamp

@@ -11,7 +11,7 @@ use Rattle.irig_timekeeper.specs.Clock.{clock_after, clock_answer, clock_vote, c
 use Rattle.irig_timekeeper.specs.Keeping.{Keeping}
 use Rattle.irig_timekeeper.specs.Refusals.{clock_fault}
 use Rattle.irig_timekeeper.specs.Stamps.{stamp_of}
-use Rattle.c_numbers.specs.Setups.{rules_in, reader_rules_in, redundancy_in, IsSetup}
+use Rattle.c_numbers.specs.Setups.{rules_in, limits_in, reader_rules_in, redundancy_in, IsSetup}
 use Rattle.c_numbers.specs.LeapTables.{table_in}
 use Rattle.c_numbers.specs.States.{state_in, IsState}
 use Rattle.c_keeper.specs.declared.announced.IrigAnnounced.{IrigAnnounced}
@@ -48,7 +48,7 @@ edge_in t = if t.has_edge == 0 then None else Some t.edge_us
 -- where its clock stands
 abbrev pub clock_state_in : IrigTimekeeper → ClockState
 clock_state_in t = record {
-  lines = lines_in (rules_in t.setup) t.lines;
+  lines = lines_in (limits_in t.setup) (rules_in t.setup) t.lines;
   reader = state_in t.state;
   edge_us = edge_in t;
   moved = t.moved;
@@ -92,6 +92,7 @@ stamp_for t time = stamp_of (announced_in t.last) (announced_in t.before) time
 -- the numbers are those of a timekeeper that is this value
 pub record IsTimekeeperOf (t : IrigTimekeeper) (k : Keeping) : Type 0 where
   pub rules : rules_in t.setup ≡ k.rules
+  pub limits : limits_in t.setup ≡ k.limits
   pub clock : clock_in t ≡ k.clock
   pub table : table_in t.table ≡ k.table
   pub heard : HaveHeard t.lines k.heard

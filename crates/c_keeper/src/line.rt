@@ -1,11 +1,12 @@
 //! The lines of a timekeeper, in numbers.
 
-ghost use Rattle.std.specs.Prelude.{◌≡◌, ◌≤◌, List, []};
+ghost use Rattle.std.specs.Prelude.{◌≡◌, ◌≤◌, List, [], Option};
 ghost use Rattle.irig_frame.specs.declared.symbol.Symbol.{Symbol};
 ghost use Rattle.irig_sync.specs.Sync.{place_of};
 ghost use Rattle.irig_time.specs.declared.rules.Rules.{Rules};
+ghost use Rattle.irig_port.specs.declared.limits.Limits.{Limits};
 ghost use Rattle.irig_port.specs.Hearing.{heard_at};
-ghost use Rattle.irig_port.specs.Told.{told_of};
+ghost use Rattle.irig_port.specs.Limits.{told_within};
 ghost use Rattle.irig_port.specs.Heard.{with_symbol};
 ghost use Rattle.irig_port.specs.Tallies.{IsTallyOf};
 ghost use Rattle.irig_frame.specs.Symbols.{symbol_of};
@@ -13,7 +14,7 @@ ghost use Rattle.irig_timekeeper.specs.Keeping.{Heard, nothing_heard};
 ghost use Rattle.irig_timekeeper.specs.Steps.{line_heard, IsKeptOfUtc, IsNewLine, AreKeptOfUtc, AreNewLines};
 ghost use Rattle.c_keeper.specs.Lines.{frame_in, frames_in, line_in, lines_in, numbers_at, with_numbers, HaveHeard, IsKeptFrom, AreKeptFrom};
 
-use irig_port::Tally;
+use irig_port::{Limits, Tally};
 use irig_sync::Sync;
 use irig_time::Rules;
 use irig_timekeeper::{KeptFrame, Line, Lines};
@@ -46,7 +47,7 @@ pub struct IrigLines {
 }
 
 fn line_of_nothing() -> IrigLine
-    ensures new { (rules : Rules) → IsNewLine (line_in rules result) }
+    ensures new { (limits : Option Limits) (rules : Rules) → IsNewLine (line_in limits rules result) }
     ensures heard { IsTallyOf result.port [] }
 {
     IrigLine {
@@ -60,7 +61,7 @@ fn line_of_nothing() -> IrigLine
 
 /// Lines on which nothing came.
 pub(crate) fn lines_of_nothing() -> IrigLines
-    ensures new { (rules : Rules) → AreNewLines (lines_in rules result) }
+    ensures new { (limits : Option Limits) (rules : Rules) → AreNewLines (lines_in limits rules result) }
     ensures heard { HaveHeard result nothing_heard }
 {
     IrigLines {
@@ -101,9 +102,9 @@ pub(crate) fn put_line(lines: &mut IrigLines, port: u8, line: &IrigLine)
 pub fn hear(line: &mut IrigLine, rise_us: u32, width_us: u32) -> u8
     ensures place { result ≡ place_of line.old.sync rise_us width_us }
     ensures few { result ≤ 100 }
-    ensures line { (rules : Rules) (s : List Symbol) → IsTallyOf line.old.port s
-        → line_in rules line.new ≡ line_heard (line_in rules line.old) rise_us width_us
-        (told_of rules (heard_at result s width_us)) }
+    ensures line { (limits : Option Limits) (rules : Rules) (s : List Symbol) → IsTallyOf line.old.port s
+        → line_in limits rules line.new ≡ line_heard (line_in limits rules line.old) rise_us width_us
+        (told_within limits rules (heard_at result s width_us)) }
     ensures heard { (s : List Symbol) → IsTallyOf line.old.port s
         → IsTallyOf line.new.port (heard_at result s width_us) }
 {
@@ -135,40 +136,40 @@ fn with_pulse(mut tally: Tally, width_us: u32) -> Tally
     tally
 }
 
-fn frame_of(rules: &Rules, line: &IrigLine) -> Option<KeptFrame>
-    ensures value { result ≡ frame_in rules.now line.now }
+fn frame_of(limits: Option<Limits>, rules: &Rules, line: &IrigLine) -> Option<KeptFrame>
+    ensures value { result ≡ frame_in limits rules.now line.now }
     ensures valid { IsKeptOfUtc result }
 {
     if line.has_frame == 0 {
         return None;
     }
     Some(KeptFrame {
-        told: line.frame.tell(rules),
+        told: line.frame.tell_within(rules, limits),
         end_us: line.end_us,
     })
 }
 
-fn line_of(rules: &Rules, line: &IrigLine) -> Line
-    ensures value { result ≡ line_in rules.now line.now }
+fn line_of(limits: Option<Limits>, rules: &Rules, line: &IrigLine) -> Line
+    ensures value { result ≡ line_in limits rules.now line.now }
     ensures valid { IsKeptOfUtc result.frame }
 {
     Line {
         sync: line.sync,
-        frame: frame_of(rules, line),
+        frame: frame_of(limits, rules, line),
     }
 }
 
 /// Where lines stand. What a line keeps is read here.
-pub(crate) fn lines_of(rules: &Rules, lines: &IrigLines) -> Lines
-    ensures value { result ≡ lines_in rules.now lines.now }
+pub(crate) fn lines_of(limits: Option<Limits>, rules: &Rules, lines: &IrigLines) -> Lines
+    ensures value { result ≡ lines_in limits rules.now lines.now }
     ensures valid { AreKeptOfUtc result }
 {
     Lines {
-        a: line_of(rules, &lines.a),
-        b: line_of(rules, &lines.b),
-        c: line_of(rules, &lines.c),
-        d: line_of(rules, &lines.d),
-        e: line_of(rules, &lines.e),
+        a: line_of(limits, rules, &lines.a),
+        b: line_of(limits, rules, &lines.b),
+        c: line_of(limits, rules, &lines.c),
+        d: line_of(limits, rules, &lines.d),
+        e: line_of(limits, rules, &lines.e),
     }
 }
 
@@ -187,8 +188,8 @@ pub(crate) fn frames_of(lines: &IrigLines) -> [Tally; 5]
 
 // A line as a tick leaves it, which drops a frame or keeps it.
 fn keep_line(line: &mut IrigLine, kept: &Line)
-    ensures line { (rules : Rules) → IsKeptFrom (frame_in rules line.old) kept.now.frame
-        → line_in rules line.new ≡ kept.now }
+    ensures line { (limits : Option Limits) (rules : Rules) → IsKeptFrom (frame_in limits rules line.old) kept.now.frame
+        → line_in limits rules line.new ≡ kept.now }
     ensures port { line.new.port ≡ line.old.port }
 {
     line.sync = kept.sync;
@@ -199,8 +200,8 @@ fn keep_line(line: &mut IrigLine, kept: &Line)
 
 /// Lines as a tick leaves them.
 pub(crate) fn keep_lines(lines: &mut IrigLines, kept: &Lines)
-    ensures lines { (rules : Rules) → AreKeptFrom (lines_in rules lines.old) kept.now
-        → lines_in rules lines.new ≡ kept.now }
+    ensures lines { (limits : Option Limits) (rules : Rules) → AreKeptFrom (lines_in limits rules lines.old) kept.now
+        → lines_in limits rules lines.new ≡ kept.now }
     ensures heard { (heard : Heard) → HaveHeard lines.old heard → HaveHeard lines.new heard }
 {
     keep_line(&mut lines.a, &kept.a);

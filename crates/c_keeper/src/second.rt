@@ -6,12 +6,16 @@ ghost use Rattle.c_numbers.specs.Reports.{report_in, voices_in};
 ghost use Rattle.c_numbers.specs.Setups.{redundancy_in};
 ghost use Rattle.c_numbers.specs.Voices.{voices_to};
 ghost use Rattle.c_keeper.specs.Lines.{frames_in};
-ghost use Rattle.c_keeper.specs.Seconds.{IsSecondOf, IsToldOf};
+ghost use Rattle.c_keeper.specs.Seconds.{against_at, IsSecondOf, IsToldOf};
 
 use crate::line::frames_of;
 use crate::timekeeper::IrigTimekeeper;
-use c_numbers::{IrigReport, Voices, redundancy_of, report_for_c, sense_of, voices_of};
+use c_numbers::{
+    IrigReport, Voices, against_hold, redundancy_of, report_for_c, sense_of, voices_of,
+};
+use irig_time::UtcSecond;
 use irig_timekeeper::{Beat, Ticked};
+use irig_vote::Redundancy;
 
 /// What a timekeeper says at a tick.
 #[repr(C)]
@@ -45,6 +49,7 @@ const NOTHING_REPORTED: IrigReport = IrigReport {
     has_local: 0,
     local_half_hours: 0,
     dst: 0,
+    against_hold: 0,
 };
 
 const NOTHING_TOLD: IrigSecond = IrigSecond {
@@ -55,9 +60,16 @@ const NOTHING_TOLD: IrigSecond = IrigSecond {
     report: NOTHING_REPORTED,
 };
 
-/// What a tick answers, as C is given it, with what lines told by the frames that they kept.
-pub fn second_of(timekeeper: &IrigTimekeeper, ticked: &Ticked) -> IrigSecond
+/// What a tick answers, as C is given it, with what lines told by the frames that they kept, and
+/// which of them were against what was held.
+pub fn second_of(
+    timekeeper: &IrigTimekeeper,
+    ticked: &Ticked,
+    held: Option<UtcSecond>,
+) -> IrigSecond
     ensures told { IsSecondOf result ticked.now.beat }
+    ensures against { (beat : Beat) → ticked.now.beat ≡ Some beat → result.report.against_hold
+        ≡ against_at held beat (redundancy_in timekeeper.now.setup) }
     ensures voices { (beat : Beat) → ticked.now.beat ≡ Some beat → voices_in result.report
         ≡ voices_to ticked.now.vote beat.told (redundancy_in timekeeper.now.setup)
         (sense_in timekeeper.now.setup.sense) (frames_in timekeeper.now.lines) }
@@ -72,18 +84,31 @@ pub fn second_of(timekeeper: &IrigTimekeeper, ticked: &Ticked) -> IrigSecond
         sense_of(timekeeper.setup.sense),
         &frames_of(&timekeeper.lines),
     );
-    second_for_c(&beat, &voices)
+    let against = against_at(held, &beat, redundancy_of(&timekeeper.setup));
+    second_for_c(&beat, &voices, against)
 }
 
-fn second_for_c(beat: &Beat, voices: &Voices) -> IrigSecond
+// Behind seconds that were missed nothing is said of what was held before them.
+fn against_at(held: Option<UtcSecond>, beat: &Beat, redundancy: Redundancy) -> u8
+    ensures { result ≡ against_at held beat.now redundancy }
+{
+    if beat.missed == 0 {
+        against_hold(held, &beat.told, redundancy)
+    } else {
+        0
+    }
+}
+
+fn second_for_c(beat: &Beat, voices: &Voices, against: u8) -> IrigSecond
     ensures told { IsToldOf result beat.now }
     ensures voices { voices_in result.report ≡ voices.now }
+    ensures against { result.report.against_hold ≡ against }
 {
     IrigSecond {
         is_told: 1,
         edge_us: beat.edge_us,
         missed: beat.missed,
         moved: beat.moved,
-        report: report_for_c(&beat.report, voices),
+        report: report_for_c(&beat.report, voices, against),
     }
 }

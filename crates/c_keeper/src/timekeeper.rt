@@ -1,7 +1,8 @@
 //! A timekeeper in numbers.
 
-ghost use Rattle.std.specs.Prelude.{◌≡◌, ◌↔◌, ◌+◌, ◌*◌, ◌%◌, ◌^◌, ◌<◌, ◌≤◌, IfSome, IsTrue, None, is_some};
+ghost use Rattle.std.specs.Prelude.{◌≡◌, ◌↔◌, ◌+◌, ◌*◌, ◌%◌, ◌^◌, ◌<◌, ◌≤◌, IfSome, IsTrue, Option, None, is_some};
 ghost use Rattle.irig_time.specs.declared.rules.Rules.{Rules};
+ghost use Rattle.irig_port.specs.declared.limits.Limits.{Limits};
 ghost use Rattle.irig_time.specs.Seconds.{IsValid};
 ghost use Rattle.irig_reader.specs.Rule.{count_of};
 ghost use Rattle.irig_timekeeper.specs.Clock.{AnnouncedOfUtc};
@@ -9,7 +10,7 @@ ghost use Rattle.irig_timekeeper.specs.Keeping.{Heard, new_state, nothing_heard}
 ghost use Rattle.irig_timekeeper.specs.Stamps.{stamp_of};
 ghost use Rattle.irig_timekeeper.specs.Steps.{AreKeptOfUtc, AreNewLines};
 ghost use Rattle.c_numbers.specs.CheckWord.{setup_numbers, table_numbers, weighted};
-ghost use Rattle.c_numbers.specs.Setups.{rules_in, reader_rules_in, IsSetup};
+ghost use Rattle.c_numbers.specs.Setups.{rules_in, limits_in, reader_rules_in, IsSetup};
 ghost use Rattle.c_numbers.specs.States.{state_in, IsState};
 ghost use Rattle.c_keeper.specs.Lines.{lines_in, AreKeptFrom, HaveHeard};
 ghost use Rattle.c_numbers.specs.declared.state.TheConstants.{IDLE};
@@ -23,8 +24,8 @@ use crate::announced::{
 use crate::check_word::{changing_sum, check_of};
 use crate::line::{IrigLines, keep_lines, lines_of, lines_of_nothing};
 use c_numbers::{
-    IDLE, IrigSetup, IrigState, IrigTable, is_setup, reader_rules_of, redundancy_of, rules_of,
-    state_for_c, state_of,
+    IDLE, IrigSetup, IrigState, IrigTable, is_setup, limits_of, reader_rules_of, redundancy_of,
+    rules_of, state_for_c, state_of,
 };
 use irig_reader::State;
 use irig_timekeeper::{ClockRules, ClockState, Stamp, clock_fault, stamp_of};
@@ -73,7 +74,7 @@ pub fn clock_rules_of(timekeeper: &IrigTimekeeper) -> ClockRules
 // of its numbers, if `fixed` is what setup and table add to it.
 fn is_sound(fixed: u64, timekeeper: &IrigTimekeeper) -> bool
     requires { fixed ≡ (weighted 3 (setup_numbers timekeeper.now.setup)
-        + weighted 15 (table_numbers timekeeper.now.table)) % 2 ^ 64 }
+        + weighted 19 (table_numbers timekeeper.now.table)) % 2 ^ 64 }
     ensures { IsTrue result ↔ (IsSetup timekeeper.now.setup
         × ((clock_fault (reader_rules_in timekeeper.now.setup) timekeeper.now.drift_us ≡ None)
         × (IsAnnounced timekeeper.now.last × (IsAnnounced timekeeper.now.before
@@ -89,7 +90,7 @@ fn is_sound(fixed: u64, timekeeper: &IrigTimekeeper) -> bool
 /// Whether its calls accept the numbers, if `fixed` is what setup and table add to the check word.
 pub fn is_accepted(fixed: u64, timekeeper: &IrigTimekeeper) -> bool
     requires { fixed ≡ (weighted 3 (setup_numbers timekeeper.now.setup)
-        + weighted 15 (table_numbers timekeeper.now.table)) % 2 ^ 64 }
+        + weighted 19 (table_numbers timekeeper.now.table)) % 2 ^ 64 }
     ensures { IsTrue result ↔ IsAccepted timekeeper.now }
 {
     is_sound(fixed, timekeeper)
@@ -105,7 +106,11 @@ pub fn clock_state_of(timekeeper: &IrigTimekeeper) -> ClockState
     ensures announced { AnnouncedOfUtc result }
 {
     ClockState {
-        lines: lines_of(&rules_of(&timekeeper.setup), &timekeeper.lines),
+        lines: lines_of(
+            limits_of(&timekeeper.setup),
+            &rules_of(&timekeeper.setup),
+            &timekeeper.lines,
+        ),
         reader: reader_of(timekeeper),
         edge_us: edge_of(timekeeper),
         moved: timekeeper.moved,
@@ -171,7 +176,8 @@ pub fn stamp_at(timekeeper: &IrigTimekeeper, time_us: u32) -> Option<Stamp>
 
 /// Takes up where a tick leaves its clock. The check word stays.
 pub fn keep(timekeeper: &mut IrigTimekeeper, state: &ClockState)
-    requires kept { AreKeptFrom (lines_in (rules_in timekeeper.old.setup) timekeeper.old.lines)
+    requires kept { AreKeptFrom (lines_in (limits_in timekeeper.old.setup)
+        (rules_in timekeeper.old.setup) timekeeper.old.lines)
         state.now.lines }
     requires counting { count_of state.now.reader < timekeeper.old.setup.lock_after }
     ensures state { clock_state_in timekeeper.new ≡ state.now }
@@ -194,8 +200,10 @@ pub fn keep(timekeeper: &mut IrigTimekeeper, state: &ClockState)
 /// Forgets all that happened to it. The check word stays.
 pub fn forget(timekeeper: &mut IrigTimekeeper)
     ensures state { clock_state_in timekeeper.new
-        ≡ new_state (lines_in (rules_in timekeeper.new.setup) timekeeper.new.lines) }
-    ensures lines { (rules : Rules) → AreNewLines (lines_in rules timekeeper.new.lines) }
+        ≡ new_state (lines_in (limits_in timekeeper.new.setup)
+        (rules_in timekeeper.new.setup) timekeeper.new.lines) }
+    ensures lines { (limits : Option Limits) (rules : Rules)
+        → AreNewLines (lines_in limits rules timekeeper.new.lines) }
     ensures heard { HaveHeard timekeeper.new.lines nothing_heard }
     ensures is_state { timekeeper.new.state ≡ IDLE }
     ensures last { timekeeper.new.last.is_told ≡ 0 }
@@ -216,8 +224,10 @@ pub fn forget(timekeeper: &mut IrigTimekeeper)
 /// Forgets all that happened to it. A check word that is wrong stays so.
 pub fn restart(timekeeper: &mut IrigTimekeeper)
     ensures state { clock_state_in timekeeper.new
-        ≡ new_state (lines_in (rules_in timekeeper.new.setup) timekeeper.new.lines) }
-    ensures lines { (rules : Rules) → AreNewLines (lines_in rules timekeeper.new.lines) }
+        ≡ new_state (lines_in (limits_in timekeeper.new.setup)
+        (rules_in timekeeper.new.setup) timekeeper.new.lines) }
+    ensures lines { (limits : Option Limits) (rules : Rules)
+        → AreNewLines (lines_in limits rules timekeeper.new.lines) }
     ensures heard { HaveHeard timekeeper.new.lines nothing_heard }
     ensures is_state { timekeeper.new.state ≡ IDLE }
     ensures last { timekeeper.new.last.is_told ≡ 0 }

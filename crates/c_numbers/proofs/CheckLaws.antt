@@ -71,7 +71,7 @@ length-leaps (l ∷ ls) = omega (arith, length-leaps ls)
 
 -- what all numbers add up to is what their parts do
 pub by_parts : (r : IrigReader) → length r.table.leaps ≡ 64
-    → weighted 3 (numbers_of r) ≡ weighted 3 (setup_numbers r.setup) + weighted 15 (table_numbers r.table) + weighted 275 (state_numbers r.state) + weighted 287 (port_numbers r.ports)
+    → weighted 3 (numbers_of r) ≡ weighted 3 (setup_numbers r.setup) + weighted 19 (table_numbers r.table) + weighted 279 (state_numbers r.state) + weighted 291 (port_numbers r.ports)
 by_parts r long =
     let setup = setup_numbers r.setup in
     let table = table_numbers r.table in
@@ -80,6 +80,6 @@ by_parts r long =
     let leaps = length-leaps r.table.leaps in
     let two = length-append setup table in
     let three = length-append (setup ++ table) state in
-    append_at 3 287 (setup ++ table ++ state) ports (omega (arith, leaps, long, two, three))
-    ∙ ap (λ (n : ℕ). n + weighted 287 ports)
-    (append_at 3 275 (setup ++ table) state (omega (arith, leaps, long, two)) ∙ ap (λ (n : ℕ). n + weighted 275 state) (append_at 3 15 setup table (omega arith)))
+    append_at 3 291 (setup ++ table ++ state) ports (omega (arith, leaps, long, two, three))
+    ∙ ap (λ (n : ℕ). n + weighted 291 ports)
+    (append_at 3 279 (setup ++ table) state (omega (arith, leaps, long, two)) ∙ ap (λ (n : ℕ). n + weighted 279 state) (append_at 3 19 setup table (omega arith)))

@@ -2,4 +2,5 @@ pub mod SymbolsBack
 pub mod CheckLaws
 pub mod PortSums
 pub mod ApartLaws
+pub mod AgainstLaws
 pub mod StandardFacts

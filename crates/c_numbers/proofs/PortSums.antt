@@ -10,21 +10,21 @@ use Rattle.c_numbers.specs.Tallies.{no_tally, tally_at}
 
 -- what a port adds
 abbrev part : ℕ → List Tally → ℕ → ℕ
-part port ports at = weighted (287 + 10 * port) (tally_numbers (tally_at ports at))
+part port ports at = weighted (291 + 10 * port) (tally_numbers (tally_at ports at))
 
 other_part : (port at : ℕ) (ports : List Tally) (t : Tally) → (at ≡ port → ⊥) → part at (slice_set ports port t) at ≡ part at ports at
-other_part port at ports t apart = ap (λ (x : Tally). weighted (287 + 10 * at) (tally_numbers x)) (get_or-set_other ports port at t no_tally apart)
+other_part port at ports t apart = ap (λ (x : Tally). weighted (291 + 10 * at) (tally_numbers x)) (get_or-set_other ports port at t no_tally apart)
 
-own_part : (port : ℕ) (ports : List Tally) (t : Tally) → length ports ≡ 5 → port < 5 → part port (slice_set ports port t) port ≡ weighted (287 + 10 * port) (tally_numbers t)
-own_part port ports t five here = ap (λ (x : Tally). weighted (287 + 10 * port) (tally_numbers x)) (get_or-set_same ports port t no_tally (omega (arith, five, here)))
+own_part : (port : ℕ) (ports : List Tally) (t : Tally) → length ports ≡ 5 → port < 5 → part port (slice_set ports port t) port ≡ weighted (291 + 10 * port) (tally_numbers t)
+own_part port ports t five here = ap (λ (x : Tally). weighted (291 + 10 * port) (tally_numbers x)) (get_or-set_same ports port t no_tally (omega (arith, five, here)))
 
-all_parts : (ports : List Tally) → weighted 287 (port_numbers ports) ≡ part 0 ports 0 + part 1 ports 1 + part 2 ports 2 + part 3 ports 3 + part 4 ports 4
+all_parts : (ports : List Tally) → weighted 291 (port_numbers ports) ≡ part 0 ports 0 + part 1 ports 1 + part 2 ports 2 + part 3 ports 3 + part 4 ports 4
 all_parts ports = omega arith
 
 abbrev IsSet : List Tally → Tally → ℕ → Type 0
 IsSet ports t port =
-    weighted 287 (port_numbers (slice_set ports port t)) + weighted (287 + 10 * port) (tally_numbers (tally_at ports port))
-    ≡ weighted 287 (port_numbers ports) + weighted (287 + 10 * port) (tally_numbers t)
+    weighted 291 (port_numbers (slice_set ports port t)) + weighted (291 + 10 * port) (tally_numbers (tally_at ports port))
+    ≡ weighted 291 (port_numbers ports) + weighted (291 + 10 * port) (tally_numbers t)
 
 first_set : (ports : List Tally) (t : Tally) → length ports ≡ 5 → IsSet ports t 0
 first_set ports t five =

@@ -67,8 +67,8 @@ known_voices = (refl, refl, refl, refl, refl)
 abbrev none : IrigLeap
 none = record { day = 0; kind = 0 }
 
-pub known_weights : (weighted 3 (setup_numbers (record { parity = 1; sense = 0; sbs = 0; redundancy = 0; lock_after = 0; holdover = 100 })) ≡ 1303)
-    × (weighted 15 (table_numbers (record { until = 1; len = 0; leaps = replicate 63 none ++ record { day = 0; kind = 100 } ∷ [] })) ≡ 27315)
-    × (weighted 275 (state_numbers (record { kind = 1; count = 0; heard = 0; day = 0; sod = 0; age = 1000 })) ≡ 285275)
-    × (weighted 287 (port_numbers (record no_tally { count = 1 } ∷ no_tally ∷ no_tally ∷ no_tally ∷ record no_tally { control = 1000 } ∷ [])) ≡ 335287)
+pub known_weights : (weighted 3 (setup_numbers (record { parity = 1; sense = 0; sbs = 0; redundancy = 0; lock_after = 0; holdover = 0; not_before = 0; poor_from = 100 })) ≡ 1703)
+    × (weighted 19 (table_numbers (record { until = 1; len = 0; leaps = replicate 63 none ++ record { day = 0; kind = 100 } ∷ [] })) ≡ 27719)
+    × (weighted 279 (state_numbers (record { kind = 1; count = 0; heard = 0; day = 0; sod = 0; age = 1000 })) ≡ 289279)
+    × (weighted 291 (port_numbers (record no_tally { count = 1 } ∷ no_tally ∷ no_tally ∷ no_tally ∷ record no_tally { control = 1000 } ∷ [])) ≡ 339291)
 known_weights = (refl, refl, refl, refl)

@@ -12,7 +12,8 @@ use Rattle.c_numbers.specs.Tallies.{tally_at}
 -- the numbers of a setup
 abbrev pub setup_numbers : IrigSetup → List ℕ
 setup_numbers s =
-    s.parity ∷ s.sense ∷ s.sbs ∷ s.redundancy ∷ s.lock_after ∷ s.holdover ∷ []
+    s.parity ∷ s.sense ∷ s.sbs ∷ s.redundancy ∷ s.lock_after ∷ s.holdover ∷ s.not_before
+    ∷ s.poor_from ∷ []
 
 -- the numbers of leaps
 abbrev pub leap_numbers : List IrigLeap → List ℕ

@@ -7,4 +7,5 @@ pub mod Tallies
 pub mod CheckWord
 pub mod Standings
 pub mod Voices
+pub mod Against
 pub mod Reports

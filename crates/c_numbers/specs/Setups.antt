@@ -1,7 +1,9 @@
 -- The rules that a setup gives, and which of its numbers have a meaning.
-use Rattle.std.specs.Prelude.{ℕ, ◌≤◌, ◌<◌, ◌==◌, if◌then◌else◌}
+use Rattle.std.specs.Prelude.{ℕ, ◌≤◌, ◌<◌, ◌==◌, ◌&&◌, if◌then◌else◌, Option, Some, None}
 use Rattle.irig_time.specs.declared.rules.Rules.{Rules}
 use Rattle.irig_time.specs.declared.rules.SbsUse.TheVariants as sbs
+use Rattle.irig_time.specs.declared.second.TheConstants.{LAST_DAY}
+use Rattle.irig_port.specs.declared.limits.Limits.{Limits}
 use Rattle.irig_vote.specs.declared.redundancy.Redundancy.{Redundancy}
 use Rattle.irig_vote.specs.declared.redundancy.Redundancy.TheVariants.{One, Three, Five}
 use Rattle.irig_vote.specs.Vote.{ports_in}
@@ -22,6 +24,15 @@ rules_in s = record {
 abbrev pub reader_rules_in : IrigSetup → ReaderRules
 reader_rules_in s = record { lock_after = s.lock_after; holdover = s.holdover }
 
+-- the limits of what has a vote, if it names any
+abbrev pub limits_in : IrigSetup → Option Limits
+limits_in s =
+    if s.not_before == 0 && s.poor_from == 0 then None
+    else Some (record {
+      not_before = s.not_before;
+      poor_from = if s.poor_from == 0 then 10 else s.poor_from;
+    })
+
 -- how many ports it has
 abbrev pub redundancy_in : IrigSetup → Redundancy
 redundancy_in s = if s.redundancy == 0 then Three else (if s.redundancy == 1 then Five else One)
@@ -33,6 +44,8 @@ pub record IsSetup (s : IrigSetup) : Type 0 where
   pub sbs : s.sbs ≤ 1
   pub redundancy : s.redundancy ≤ 2
   pub rules : IsReaderRules (reader_rules_in s)
+  pub not_before : s.not_before ≤ LAST_DAY
+  pub poor_from : s.poor_from ≤ 10
 
 -- there is such a port
 abbrev pub IsPort : IrigSetup → ℕ → Type 0

@@ -12,7 +12,7 @@ use irig_port::Tally;
 /// What setup and table add to the check word. They never change.
 pub fn fixed_sum(setup: &IrigSetup, table: &IrigTable) -> u64
     ensures { result ≡ (weighted 3 (setup_numbers setup.now)
-        + weighted 15 (table_numbers table.now)) % 2 ^ 64 }
+        + weighted 19 (table_numbers table.now)) % 2 ^ 64 }
 {
     setup_sum(setup).wrapping_add(table_sum(table))
 }
@@ -27,22 +27,24 @@ fn setup_sum(setup: &IrigSetup) -> u64
         + 9 * u64::from(setup.redundancy)
         + 11 * u64::from(setup.lock_after)
         + 13 * u64::from(setup.holdover)
+        + 15 * u64::from(setup.not_before)
+        + 17 * u64::from(setup.poor_from)
 }
 
 fn table_sum(table: &IrigTable) -> u64
-    ensures { result ≡ weighted 15 (table_numbers table.now) % 2 ^ 64 }
+    ensures { result ≡ weighted 19 (table_numbers table.now) % 2 ^ 64 }
 {
-    let numbers = 15 * u64::from(table.until) + 17 * u64::from(table.len);
+    let numbers = 19 * u64::from(table.until) + 21 * u64::from(table.len);
     numbers.wrapping_add(leaps_sum(&table.leaps))
 }
 
 #[inline(never)]
 fn leaps_sum(leaps: &[IrigLeap]) -> u64
     requires { length leaps.now ≤ 64 }
-    ensures { result ≡ weighted 19 (leap_numbers leaps.now) % 2 ^ 64 }
+    ensures { result ≡ weighted 23 (leap_numbers leaps.now) % 2 ^ 64 }
 {
     let mut sum: u64 = 0;
-    let mut weight: u64 = 19;
+    let mut weight: u64 = 23;
     for leap in leaps {
         sum = sum.wrapping_add(leap_sum(weight, leap));
         weight += 4;
@@ -59,23 +61,23 @@ fn leap_sum(weight: u64, leap: &IrigLeap) -> u64
 
 /// What a state adds.
 pub fn state_sum(state: &IrigState) -> u64
-    ensures value { result ≡ weighted 275 (state_numbers state.now) }
+    ensures value { result ≡ weighted 279 (state_numbers state.now) }
     ensures few { result < 2 ^ 60 }
 {
-    275 * u64::from(state.kind)
-        + 277 * u64::from(state.count)
-        + 279 * u64::from(state.heard)
-        + 281 * u64::from(state.day)
-        + 283 * u64::from(state.sod)
-        + 285 * u64::from(state.age)
+    279 * u64::from(state.kind)
+        + 281 * u64::from(state.count)
+        + 283 * u64::from(state.heard)
+        + 285 * u64::from(state.day)
+        + 287 * u64::from(state.sod)
+        + 289 * u64::from(state.age)
 }
 
 #[inline(never)]
 fn tally_sum(port: u8, tally: &Tally) -> u64
     requires { port < 5 }
-    ensures { result ≡ weighted (287 + 10 * port) (tally_numbers tally.now) % 2 ^ 64 }
+    ensures { result ≡ weighted (291 + 10 * port) (tally_numbers tally.now) % 2 ^ 64 }
 {
-    let weight = 287 + 10 * u64::from(port);
+    let weight = 291 + 10 * u64::from(port);
     weight
         .wrapping_mul(plain_sum(tally))
         .wrapping_add(slope(tally))
@@ -86,10 +88,10 @@ fn tally_sum(port: u8, tally: &Tally) -> u64
 #[inline]
 pub fn tally_change(port: u8, before: &Tally, after: &Tally) -> u64
     requires { port < 5 }
-    ensures { (weighted (287 + 10 * port) (tally_numbers before.now) + result) % 2 ^ 64
-        ≡ weighted (287 + 10 * port) (tally_numbers after.now) % 2 ^ 64 }
+    ensures { (weighted (291 + 10 * port) (tally_numbers before.now) + result) % 2 ^ 64
+        ≡ weighted (291 + 10 * port) (tally_numbers after.now) % 2 ^ 64 }
 {
-    let weight = 287 + 10 * u64::from(port);
+    let weight = 291 + 10 * u64::from(port);
     let all = plain_sum(after).wrapping_sub(plain_sum(before));
     let more = slope(after).wrapping_sub(slope(before));
     weight.wrapping_mul(all).wrapping_add(more)
@@ -116,7 +118,7 @@ fn slope(tally: &Tally) -> u64
 }
 
 fn ports_sum(ports: &[Tally; 5]) -> u64
-    ensures { result ≡ weighted 287 (port_numbers ports.now) % 2 ^ 64 }
+    ensures { result ≡ weighted 291 (port_numbers ports.now) % 2 ^ 64 }
 {
     tally_sum(0, &ports[0])
         .wrapping_add(tally_sum(1, &ports[1]))
@@ -128,7 +130,7 @@ fn ports_sum(ports: &[Tally; 5]) -> u64
 /// What state and ports add to the check word, beside setup and table.
 pub fn changing_sum(reader: &IrigReader) -> u64
     ensures { check_of reader.now ≡ (weighted 3 (setup_numbers reader.now.setup)
-        + weighted 15 (table_numbers reader.now.table) + result) % 2 ^ 64 }
+        + weighted 19 (table_numbers reader.now.table) + result) % 2 ^ 64 }
 {
     state_sum(&reader.state).wrapping_add(ports_sum(&reader.ports))
 }
@@ -137,7 +139,7 @@ pub fn changing_sum(reader: &IrigReader) -> u64
 /// add to it.
 pub fn check_of(fixed: u64, reader: &IrigReader) -> u64
     requires { fixed ≡ (weighted 3 (setup_numbers reader.now.setup)
-        + weighted 15 (table_numbers reader.now.table)) % 2 ^ 64 }
+        + weighted 19 (table_numbers reader.now.table)) % 2 ^ 64 }
     ensures { result ≡ check_of reader.now }
 {
     fixed.wrapping_add(changing_sum(reader))

@@ -6,6 +6,7 @@
 //! `state_of`; a conversion takes any. There is no memory to ask for.
 #![tactic(auto)]
 
+mod against;
 mod check_word;
 mod claim;
 mod control;
@@ -21,17 +22,19 @@ mod table;
 mod voices;
 mod zone;
 
+pub use against::{against_hold, held_by};
 pub use check_word::{changing_sum, check_of, fixed_sum, state_sum, tally_change};
 pub use claim::{IrigClaim, NO_CLAIM, claim_for_c};
 pub use control::{IrigControl, control_for_c, control_of_c};
 pub use fault::{OUT_OF_RANGE, fault_code};
-pub use laws::another_number_is_told;
+pub use laws::{another_number_is_told, who_is_against_the_truth_is_untrue};
 pub use reader::IrigReader;
 pub use report::{
     IrigReport, IrigTold, cause_number, lock_count, lock_number, report_for_c, told_for_c,
 };
 pub use setup::{
-    IrigSetup, is_port, is_setup, parity_of, reader_rules_of, redundancy_of, rules_of, sense_of,
+    IrigSetup, is_port, is_setup, limits_of, parity_of, reader_rules_of, redundancy_of, rules_of,
+    sense_of,
 };
 pub use state::{IDLE, IrigState, mark_of, state_for_c, state_of};
 pub use symbols::{numbers_of, symbol_number, symbol_of, symbols_of};

@@ -44,6 +44,9 @@ pub struct IrigReport {
     pub local_half_hours: i8,
     /// 1 if it is daylight saving time there, else 0.
     pub dst: u8,
+    /// The ports that told another second than the one to which the reader had come, 0 if it had
+    /// nothing to go on.
+    pub against_hold: u8,
 }
 
 /// What a port tells.
@@ -60,10 +63,11 @@ pub struct IrigTold {
     pub claim: IrigClaim,
 }
 
-/// A report as C is given it, and what the ports told.
-pub fn report_for_c(report: &Report, voices: &Voices) -> IrigReport
+/// A report as C is given it, what the ports told, and which of them are against the hold.
+pub fn report_for_c(report: &Report, voices: &Voices, against_hold: u8) -> IrigReport
     ensures report { report_in result ≡ report.now }
     ensures voices { voices_in result ≡ voices.now }
+    ensures against { result.against_hold ≡ against_hold }
 {
     let utc = match report.announce {
         Some(utc) => utc,
@@ -88,6 +92,7 @@ pub fn report_for_c(report: &Report, voices: &Voices) -> IrigReport
         has_local: u8::from(voices.zone.is_some()),
         local_half_hours: zone.local_half_hours,
         dst: u8::from(zone.dst),
+        against_hold,
     }
 }
 

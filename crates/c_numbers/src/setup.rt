@@ -2,11 +2,12 @@
 
 ghost use Rattle.std.specs.Prelude.{◌≡◌, ◌↔◌, ◌<◌, IsTrue};
 ghost use Rattle.c_numbers.specs.Numbers.{parity_in, sense_in};
-ghost use Rattle.c_numbers.specs.Setups.{rules_in, reader_rules_in, redundancy_in, IsPort, IsSetup};
+ghost use Rattle.c_numbers.specs.Setups.{rules_in, reader_rules_in, redundancy_in, limits_in, IsPort, IsSetup};
 
 use irig_control::Parity;
+use irig_port::Limits;
 use irig_reader::{ReaderRules, in_range};
-use irig_time::{Rules, SbsUse, Sense};
+use irig_time::{LAST_DAY, Rules, SbsUse, Sense};
 use irig_vote::Redundancy;
 
 /// The rules of the frames, and of the reader.
@@ -25,6 +26,11 @@ pub struct IrigSetup {
     pub lock_after: u8,
     /// The edges without a vote at which it goes on announcing, 0 to 1,000,000.
     pub holdover: u32,
+    /// The first day that a frame may claim, counted from 2000-01-01 as day 0, at most
+    /// [`LAST_DAY`].
+    pub not_before: u16,
+    /// The time quality from which a frame has no vote, 1 to 10; 0 is 10.
+    pub poor_from: u8,
 }
 
 /// The parity with this number: 0 is even, any other odd.
@@ -72,6 +78,23 @@ pub fn reader_rules_of(setup: &IrigSetup) -> ReaderRules
     }
 }
 
+/// The limits of what has a vote, if it names any.
+pub fn limits_of(setup: &IrigSetup) -> Option<Limits>
+    ensures { result ≡ limits_in setup.now }
+{
+    if setup.not_before == 0 && setup.poor_from == 0 {
+        return None;
+    }
+    Some(Limits {
+        not_before: u32::from(setup.not_before),
+        poor_from: if setup.poor_from == 0 {
+            10
+        } else {
+            setup.poor_from
+        },
+    })
+}
+
 /// How many ports it has. A number without a meaning is one port.
 pub fn redundancy_of(setup: &IrigSetup) -> Redundancy
     ensures { result ≡ redundancy_in setup.now }
@@ -105,4 +128,6 @@ pub fn is_setup(setup: &IrigSetup) -> bool
         && setup.sbs <= 1
         && setup.redundancy <= 2
         && in_range(&reader_rules_of(setup))
+        && u32::from(setup.not_before) <= LAST_DAY
+        && setup.poor_from <= 10
 }

@@ -3,14 +3,15 @@ use Rattle.std.specs.Prelude.{◌≡◌, ◌<◌, ℕ, List}
 use Rattle.irig_port.specs.declared.tally.Tally.{Tally}
 use Rattle.irig_port.specs.declared.told.Told.{Told}
 use Rattle.irig_port.specs.Heard.{symbols_heard}
-use Rattle.irig_port.specs.Tallies.{IsTallyOf, tally_told}
+use Rattle.irig_port.specs.Limits.{tally_told_within}
+use Rattle.irig_port.specs.Tallies.{IsTallyOf}
 use Rattle.irig_vote.specs.declared.votes.Tells.{Tells}
 use Rattle.irig_vote.specs.Vote.{vote_of}
 use Rattle.irig_reader.specs.declared.rule.Step.{Step}
 use Rattle.irig_reader.specs.History.{Fed, fed_to, ReaderHistory}
 use Rattle.irig_reader.specs.Rule.{state_of, step_of}
 use Rattle.c_numbers.specs.declared.reader.IrigReader.{IrigReader}
-use Rattle.c_numbers.specs.Setups.{rules_in, reader_rules_in, redundancy_in, IsSetup}
+use Rattle.c_numbers.specs.Setups.{rules_in, limits_in, reader_rules_in, redundancy_in, IsSetup}
 use Rattle.c_numbers.specs.LeapTables.{table_in}
 use Rattle.c_numbers.specs.States.{state_in, IsState}
 use Rattle.c_numbers.specs.Tallies.{tally_at}
@@ -23,11 +24,13 @@ HaveHeard ports fed =
 
 -- what a port tells
 abbrev pub told_at : IrigReader → ℕ → Told
-told_at r port = tally_told (rules_in r.setup) (tally_at r.ports port)
+told_at r port =
+    tally_told_within (limits_in r.setup) (rules_in r.setup) (tally_at r.ports port)
 
 -- the numbers are where the history leaves a reader
 pub record IsReaderOf (r : IrigReader) (h : ReaderHistory) : Type 0 where
   pub rules : rules_in r.setup ≡ h.rules
+  pub limits : limits_in r.setup ≡ h.limits
   pub reader_rules : reader_rules_in r.setup ≡ h.reader_rules
   pub table : table_in r.table ≡ h.table
   pub redundancy : redundancy_in r.setup ≡ h.redundancy

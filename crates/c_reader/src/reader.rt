@@ -9,7 +9,7 @@ ghost use Rattle.irig_time.specs.Timelines.{TimelineValue, IsSecond};
 ghost use Rattle.irig_time.specs.TimelineFaults.{IsTimeline};
 ghost use Rattle.irig_port.specs.Heard.{symbols_heard, with_symbol};
 ghost use Rattle.irig_port.specs.Tallies.{IsTallyOf};
-ghost use Rattle.irig_port.specs.Told.{told_of_widths};
+ghost use Rattle.irig_port.specs.Limits.{widths_told_within};
 ghost use Rattle.irig_vote.specs.Vote.{AreOfUtc};
 ghost use Rattle.irig_hold.specs.Truth.{IsTrueTable};
 ghost use Rattle.irig_reader.specs.declared.report.Lock.TheVariants as Lock;
@@ -17,22 +17,23 @@ ghost use Rattle.irig_reader.specs.declared.report.Cause.TheVariants as Cause;
 ghost use Rattle.irig_reader.specs.Clean.{IsClean};
 ghost use Rattle.irig_reader.specs.Held.{AreMarkedLate, IsSince, IsTrueSince};
 ghost use Rattle.irig_reader.specs.Rule.{count_of};
-ghost use Rattle.irig_reader.specs.History.{fed_to, no_pulses, with_port, ReaderHistory, new_history, after_pulse, after_pulses, after_tick, after_restart, report_at_tick, told_at_tick};
+ghost use Rattle.irig_reader.specs.History.{fed_to, no_pulses, with_port, ReaderHistory, new_history, limited_history, after_pulse, after_pulses, after_tick, after_restart, report_at_tick, told_at_tick};
 ghost use Rattle.c_numbers.specs.declared.state.TheConstants.{IDLE};
 ghost use Rattle.c_numbers.specs.Numbers.{sense_in};
-ghost use Rattle.c_numbers.specs.Setups.{rules_in, reader_rules_in, redundancy_in, IsPort, IsSetup};
+ghost use Rattle.c_numbers.specs.Setups.{rules_in, limits_in, reader_rules_in, redundancy_in, IsPort, IsSetup};
 ghost use Rattle.c_numbers.specs.LeapTables.{table_in, HasKinds, IsTable, code_of_table};
 ghost use Rattle.c_numbers.specs.States.{state_in};
 ghost use Rattle.c_numbers.specs.CheckWord.{IsSealed, setup_numbers, table_numbers, weighted};
 ghost use Rattle.c_numbers.specs.Reports.{report_in, told_in, voices_in};
 ghost use Rattle.c_numbers.specs.Voices.{voices_of};
+ghost use Rattle.c_numbers.specs.Against.{against_of, held_by};
 ghost use Rattle.c_reader.specs.Readers.{IsAccepted, IsReaderOf, HaveHeard, tells_in, told_at, step_in};
 
 use c_numbers::{
-    IDLE, IrigReader, IrigReport, IrigSetup, IrigTable, IrigTold, OUT_OF_RANGE, changing_sum,
-    check_of, fixed_sum, has_kinds, is_port, is_setup, reader_rules_of, redundancy_of,
-    report_for_c, rules_of, sense_of, state_for_c, state_of, table_fault, tally_change, told_for_c,
-    voices_of,
+    IDLE, IrigReader, IrigReport, IrigSetup, IrigTable, IrigTold, OUT_OF_RANGE, against_hold,
+    changing_sum, check_of, fixed_sum, has_kinds, held_by, is_port, is_setup, limits_of,
+    reader_rules_of, redundancy_of, report_for_c, rules_of, sense_of, state_for_c, state_of,
+    table_fault, tally_change, told_for_c, voices_of,
 };
 use irig_port::Tally;
 use irig_reader::{State, step_of};
@@ -51,8 +52,9 @@ pub extern "C" fn irig_c_reader_init(
         ↔ (IsSetup setup.now × (HasKinds table.now × IsTable table.now)) }
     ensures fault { IsSetup setup.now → HasKinds table.now → result ≡ code_of_table table.now }
     ensures refused { (result ≡ 0 → ⊥) → reader.new ≡ reader.old }
-    ensures fresh { result ≡ 0 → IsReaderOf reader.new (new_history (rules_in setup.now)
-        (reader_rules_in setup.now) (table_in table.now) (redundancy_in setup.now)) }
+    ensures fresh { result ≡ 0 → IsReaderOf reader.new (limited_history (limits_in setup.now)
+        (new_history (rules_in setup.now) (reader_rules_in setup.now) (table_in table.now)
+        (redundancy_in setup.now))) }
 {
     if !is_setup(setup) || !has_kinds(table) {
         return OUT_OF_RANGE;
@@ -153,6 +155,10 @@ pub extern "C" fn irig_c_reader_tick(reader: &mut IrigReader, report: &mut IrigR
     // the same by what was fed to them
     ensures heard { (h : ReaderHistory) → IsReaderOf reader.old h → voices_in report.new
         ≡ voices_of (told_at_tick h) h.redundancy h.rules.sense reader.old.ports }
+    // the ports that told another second than the one to which the reader had come
+    ensures against { result ≡ 0 → report.new.against_hold
+        ≡ against_of (held_by (state_in reader.old.state)) (tells_in reader.old)
+        (redundancy_in reader.old.setup) }
     // A second that is announced by the vote of a clean edge is the true one, whatever lies in the
     // numbers: this needs nothing of the past.
     ensures truth { (t : TimelineValue) (n : ℕ) (u : UtcSecond) → IsTimeline t
@@ -178,6 +184,7 @@ pub extern "C" fn irig_c_reader_tick(reader: &mut IrigReader, report: &mut IrigR
     let reader_rules = reader_rules_of(&reader.setup);
     let tells = tells_of(reader);
     let redundancy = redundancy_of(&reader.setup);
+    let against = against_hold(held_by(&state), &tells, redundancy);
     let vote = vote(&tells, redundancy);
     let step = step_of(reader_rules, &reader.table, state, vote);
     let voices = voices_of(
@@ -187,7 +194,7 @@ pub extern "C" fn irig_c_reader_tick(reader: &mut IrigReader, report: &mut IrigR
         sense_of(reader.setup.sense),
         &reader.ports,
     );
-    *report = report_for_c(&step.report, &voices);
+    *report = report_for_c(&step.report, &voices, against);
     empty(reader);
     reader.state = state_for_c(&step.state);
     reader.check = check_of(fixed, reader);
@@ -198,7 +205,7 @@ pub extern "C" fn irig_c_reader_tick(reader: &mut IrigReader, report: &mut IrigR
 /// word.
 fn accepted_state(fixed: u64, reader: &IrigReader) -> Option<State>
     requires { fixed ≡ (weighted 3 (setup_numbers reader.now.setup)
-        + weighted 15 (table_numbers reader.now.table)) % 2 ^ 64 }
+        + weighted 19 (table_numbers reader.now.table)) % 2 ^ 64 }
     ensures accepted { IsTrue (is_some result) ↔ IsAccepted reader.now }
     ensures is { IfSome result (λ s. s ≡ state_in reader.now.state) }
     ensures counting { IfSome result (λ s. count_of s < reader.now.setup.lock_after) }
@@ -215,12 +222,13 @@ fn tells_of(reader: &IrigReader) -> Tells
     ensures claims { AreOfUtc result }
 {
     let rules = rules_of(&reader.setup);
+    let limits = limits_of(&reader.setup);
     Tells {
-        a: reader.ports[0].tell(&rules),
-        b: reader.ports[1].tell(&rules),
-        c: reader.ports[2].tell(&rules),
-        d: reader.ports[3].tell(&rules),
-        e: reader.ports[4].tell(&rules),
+        a: reader.ports[0].tell_within(&rules, limits),
+        b: reader.ports[1].tell_within(&rules, limits),
+        c: reader.ports[2].tell_within(&rules, limits),
+        d: reader.ports[3].tell_within(&rules, limits),
+        e: reader.ports[4].tell_within(&rules, limits),
     }
 }
 
@@ -268,13 +276,14 @@ pub extern "C" fn irig_c_reader_port(reader: &IrigReader, port: u8, told: &mut I
     ensures told { result ≡ 0 → told.new ≡ told_in (told_at reader.now port) }
     // of a reader that has a history: what the pulses say that were fed to the port
     ensures heard { result ≡ 0 → (h : ReaderHistory) → IsReaderOf reader.now h
-        → told.new ≡ told_in (told_of_widths h.rules (fed_to h.fed port)) }
+        → told.new ≡ told_in (widths_told_within h.limits h.rules (fed_to h.fed port)) }
     ensures refused { (result ≡ 0 → ⊥) → told.new ≡ told.old }
 {
     if !is_setup(&reader.setup) || !is_port(&reader.setup, port) {
         return OUT_OF_RANGE;
     }
     let rules = rules_of(&reader.setup);
-    *told = told_for_c(&reader.ports[usize::from(port)].tell(&rules));
+    let limits = limits_of(&reader.setup);
+    *told = told_for_c(&reader.ports[usize::from(port)].tell_within(&rules, limits));
     0
 }

@@ -1,9 +1,10 @@
 //! A timekeeper that C holds.
 
-ghost use Rattle.std.specs.Prelude.{◌≡◌, ◌↔◌, ◌%◌, ◌^◌, ◌<◌, ◌≤◌, if◌then◌else◌, ℕ, List, IfSome, IsTrue, None, Some, is_some};
+ghost use Rattle.std.specs.Prelude.{◌≡◌, ◌↔◌, ◌%◌, ◌^◌, ◌<◌, ◌≤◌, if◌then◌else◌, ℕ, List, IfSome, IsTrue, Option, None, Some, is_some};
 ghost use Rattle.irig_sync.specs.Lines.{Pulse};
 ghost use Rattle.irig_sync.specs.Sync.{place_of};
 ghost use Rattle.irig_time.specs.declared.rules.Rules.{Rules};
+ghost use Rattle.irig_port.specs.declared.limits.Limits.{Limits};
 ghost use Rattle.irig_time.specs.declared.second.UtcSecond.{UtcSecond};
 ghost use Rattle.irig_time.specs.Seconds.{IsValid};
 ghost use Rattle.irig_time.specs.Timelines.{TimelineValue};
@@ -20,12 +21,13 @@ ghost use Rattle.irig_timekeeper.specs.Truth.{AreHeardTruly, IsToldTruly};
 ghost use Rattle.c_numbers.specs.LeapTables.{table_in, HasKinds, IsTable, code_of_table};
 ghost use Rattle.c_numbers.specs.Numbers.{sense_in};
 ghost use Rattle.c_numbers.specs.Reports.{report_in, voices_in};
-ghost use Rattle.c_numbers.specs.Setups.{rules_in, reader_rules_in, redundancy_in, IsPort, IsSetup};
-ghost use Rattle.c_numbers.specs.States.{IsState};
+ghost use Rattle.c_numbers.specs.Setups.{rules_in, limits_in, reader_rules_in, redundancy_in, IsPort, IsSetup};
+ghost use Rattle.c_numbers.specs.States.{state_in, IsState};
+ghost use Rattle.c_numbers.specs.Against.{held_by};
 ghost use Rattle.c_numbers.specs.Voices.{voices_to};
 ghost use Rattle.c_keeper.specs.CheckWord.{IsSealed};
 ghost use Rattle.c_keeper.specs.Lines.{frames_in, lines_in, numbers_at, HaveHeard};
-ghost use Rattle.c_keeper.specs.Seconds.{stamp_in, IsSecondOf, IsToldOf};
+ghost use Rattle.c_keeper.specs.Seconds.{against_at, stamp_in, IsSecondOf, IsToldOf};
 ghost use Rattle.c_keeper.specs.Timekeepers.{answer_in, clock_in, clock_state_in, stamp_for, state_behind, vote_in, wait_in, IsAccepted, IsAnnounced, IsTimekeeperOf};
 
 use crate::line::NO_PORT;
@@ -34,8 +36,8 @@ use c_keeper::{
     is_accepted, keep, line_at, restart, second_of, set_line, stamp_at, stamp_for_c,
 };
 use c_numbers::{
-    IrigSetup, IrigTable, OUT_OF_RANGE, fixed_sum, has_kinds, is_port, is_setup, reader_rules_of,
-    table_fault,
+    IrigSetup, IrigTable, OUT_OF_RANGE, fixed_sum, has_kinds, held_by, is_port, is_setup,
+    reader_rules_of, table_fault,
 };
 use irig_timekeeper::{clock_fault, is_pulse, tick, wait_of};
 
@@ -60,16 +62,16 @@ pub extern "C" fn irig_c_timekeeper_init(
     ensures drift { IsSetup setup.now → HasKinds table.now → drift_us ≤ 100 → IsTable table.now
         → (clock_fault (reader_rules_in setup.now) drift_us ≡ None → ⊥) → result ≡ 35 }
     ensures refused { (result ≡ 0 → ⊥) → timekeeper.new ≡ timekeeper.old }
-    ensures fresh { result ≡ 0 → IsTimekeeperOf timekeeper.new (new_keeping (rules_in setup.now)
-        (clock_in timekeeper.new) (table_in table.now)
-        (lines_in (rules_in setup.now) timekeeper.new.lines)) }
+    ensures fresh { result ≡ 0 → IsTimekeeperOf timekeeper.new (new_keeping (limits_in setup.now)
+        (rules_in setup.now) (clock_in timekeeper.new) (table_in table.now)
+        (lines_in (limits_in setup.now) (rules_in setup.now) timekeeper.new.lines)) }
     ensures clock { result ≡ 0 → clock_in timekeeper.new ≡ record {
       reader_rules = reader_rules_in setup.now;
       redundancy = redundancy_in setup.now;
       drift_us = drift_us;
     } }
-    ensures lines { (rules : Rules) → result ≡ 0
-        → AreNewLines (lines_in rules timekeeper.new.lines) }
+    ensures lines { (limits : Option Limits) (rules : Rules) → result ≡ 0
+        → AreNewLines (lines_in limits rules timekeeper.new.lines) }
 {
     if !is_setup(setup) || !has_kinds(table) || drift_us > 100 {
         return OUT_OF_RANGE;
@@ -165,6 +167,10 @@ pub extern "C" fn irig_c_timekeeper_tick(
         → voices_in second.new.report ≡ voices_to (vote_in timekeeper.old now_us) beat.told
         (redundancy_in timekeeper.old.setup) (sense_in timekeeper.old.setup.sense)
         (frames_in timekeeper.old.lines) }
+    // the lines that told another second than the one to which it had come
+    ensures against { (beat : Beat) → result ≡ 0 → answer_in timekeeper.old now_us ≡ Some beat
+        → second.new.report.against_hold ≡ against_at (held_by (state_in timekeeper.old.state))
+        beat (redundancy_in timekeeper.old.setup) }
     // A second that is announced by a vote is the true one, whatever lies in the numbers, if all lines
     // but f were true in the last 1.2 s and keep what they then heard: this needs nothing of the past
     // (irig_timekeeper, the law `votes_are_true`).
@@ -173,7 +179,8 @@ pub extern "C" fn irig_c_timekeeper_tick(
         → IsQuartz d edges → IsTimeline t
         → AreHeardTruly (IsTrueLately (rules_in timekeeper.old.setup) t edges now)
         (rules_in timekeeper.old.setup) (f_of (redundancy_in timekeeper.old.setup)) now
-        (lines_in (rules_in timekeeper.old.setup) timekeeper.old.lines) pulses
+        (lines_in (limits_in timekeeper.old.setup) (rules_in timekeeper.old.setup)
+        timekeeper.old.lines) pulses
         → second.new.is_told ≡ 1 → (report_in second.new.report).cause ≡ Cause.Voted
         → (report_in second.new.report).announce ≡ Some u
         → (beat : Beat) × IsToldOf second.new beat × IsToldTruly t edges 1549 549 now beat u }
@@ -196,6 +203,9 @@ fn tick_accepted(timekeeper: &mut IrigTimekeeper, now_us: u32) -> IrigSecond
         → voices_in result.report ≡ voices_to (vote_in timekeeper.old now_us) beat.told
         (redundancy_in timekeeper.old.setup) (sense_in timekeeper.old.setup.sense)
         (frames_in timekeeper.old.lines) }
+    ensures against { (beat : Beat) → answer_in timekeeper.old now_us ≡ Some beat
+        → result.report.against_hold ≡ against_at (held_by (state_in timekeeper.old.state)) beat
+        (redundancy_in timekeeper.old.setup) }
     ensures stands { clock_state_in timekeeper.new ≡ state_behind timekeeper.old now_us }
     ensures heard { (heard : Heard) → HaveHeard timekeeper.old.lines heard
         → HaveHeard timekeeper.new.lines heard }
@@ -208,8 +218,9 @@ fn tick_accepted(timekeeper: &mut IrigTimekeeper, now_us: u32) -> IrigSecond
 {
     let rules = clock_rules_of(timekeeper);
     let mut state = clock_state_of(timekeeper);
+    let held = held_by(&state.reader);
     let ticked = tick(&rules, &timekeeper.table, &mut state, now_us);
-    let second = second_of(timekeeper, &ticked);
+    let second = second_of(timekeeper, &ticked, held);
     keep(timekeeper, &state);
     second
 }
@@ -264,8 +275,10 @@ pub extern "C" fn irig_c_timekeeper_stamp(
 #[unsafe(no_mangle)]
 pub extern "C" fn irig_c_timekeeper_restart(timekeeper: &mut IrigTimekeeper)
     ensures restarted { (k : Keeping) → IsTimekeeperOf timekeeper.old k
-        → IsTimekeeperOf timekeeper.new (restarted k (lines_in k.rules timekeeper.new.lines)) }
-    ensures lines { (rules : Rules) → AreNewLines (lines_in rules timekeeper.new.lines) }
+        → IsTimekeeperOf timekeeper.new (restarted k
+        (lines_in k.limits k.rules timekeeper.new.lines)) }
+    ensures lines { (limits : Option Limits) (rules : Rules)
+        → AreNewLines (lines_in limits rules timekeeper.new.lines) }
     // the check word is right exactly if it was
     ensures sealed { IsSealed timekeeper.new ↔ IsSealed timekeeper.old }
 {

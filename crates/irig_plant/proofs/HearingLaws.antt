@@ -15,7 +15,7 @@ use Rattle.irig_plant.specs.Hearing.{hearing_of, HearAlike}
 
 abbrev history_by : Rules → ReaderSetup → Redundancy → Fed → List (Option Claim) → ReaderHistory
 history_by rules reader_rules redundancy fed votes =
-    record { rules = rules; reader_rules = reader_rules.rules; table = reader_rules.table; redundancy = redundancy; fed = fed; votes = votes }
+    record { rules = rules; reader_rules = reader_rules.rules; table = reader_rules.table; redundancy = redundancy; limits = None; fed = fed; votes = votes }
 
 -- the votes that a hearing gives
 abbrev votes_by : Rules → ReaderSetup → Redundancy → List (Option Fed) → List (Option Claim)

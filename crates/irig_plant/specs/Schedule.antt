@@ -168,6 +168,7 @@ history_with s r fed votes = record {
   reader_rules = (setup_at s.readers r).rules;
   table = (setup_at s.readers r).table;
   redundancy = redundancy_of (length s.generators);
+  limits = None;
   fed = fed;
   votes = votes;
 }

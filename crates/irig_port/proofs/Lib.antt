@@ -6,6 +6,7 @@ pub mod SumLaws
 pub mod BitLaws
 pub mod TableLaws
 pub mod NumberLaws
+pub mod LimitLaws
 pub mod FrameLaws
 pub mod ValueLaws
 pub mod DamageLaws

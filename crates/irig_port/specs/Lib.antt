@@ -1,5 +1,6 @@
 pub mod Heard
 pub mod Told
+pub mod Limits
 pub mod Hearing
 pub mod OwnClaims
 pub mod Early

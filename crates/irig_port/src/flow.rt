@@ -11,7 +11,7 @@ ghost use Rattle.irig_port.specs.Tallies.{tally_told};
 use crate::port::Port;
 use crate::tally::Tally;
 use crate::told::Told;
-use irig_control::Parity;
+use irig_control::{Parity, unpack};
 use irig_frame::Coded;
 use irig_time::Rules;
 
@@ -78,6 +78,10 @@ impl Port for FlowPort {
 
     fn is_empty(&self) -> bool {
         self.tally.count == 0
+    }
+
+    fn quality(&self) -> u8 {
+        unpack(self.tally.control_word()).quality
     }
 
     fn take_over(&mut self, other: &mut Self) {

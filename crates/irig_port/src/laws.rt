@@ -1,6 +1,6 @@
 //! Laws of what a port tells, over the definitions, for the crates above. They have no code.
 
-ghost use Rattle.std.specs.Prelude.{◌≡◌, ◌↔◌, ◌<◌, ◌≤◌, ℕ, if◌then◌else◌, List, [], ◌∷◌, ◌++◌, Some, slice_get, slice_set};
+ghost use Rattle.std.specs.Prelude.{◌≡◌, ◌↔◌, ◌<◌, ◌≤◌, ℕ, if◌then◌else◌, List, [], ◌∷◌, ◌++◌, Option, Some, slice_get, slice_set};
 ghost use Rattle.std.specs.List.{Contains};
 ghost use Rattle.irig_frame.specs.Symbols.{symbol_of};
 ghost use Rattle.irig_frame.specs.Decoder.{Reads};
@@ -9,8 +9,10 @@ ghost use Rattle.irig_control.specs.Parity.{HasParity};
 ghost use Rattle.irig_time.specs.Carries.{Carries};
 ghost use Rattle.irig_port.specs.Heard.{with_symbol, symbols_heard};
 ghost use Rattle.irig_port.specs.Told.{told_of, told_of_widths, coded_told};
+ghost use Rattle.irig_port.specs.Limits.{told_within, IsWithin};
 ghost use Rattle.irig_port.specs.Damage.{IsFaultOr, IsOtherBit, compares_seconds, unread_places};
 
+use crate::limits::Limits;
 use crate::told::{PortFault, Told};
 use irig_frame::{Coded, FrameFault, Symbol};
 use irig_time::{Claim, Rules};
@@ -59,4 +61,16 @@ pub fn one_damaged_pulse()
     ensures unread { (rules : Rules) (s : List Symbol) (c : Claim) (i : ℕ) (x : Symbol)
         → told_of rules s ≡ Told.Claim c → Contains unread_places i
         → IsOtherBit (slice_get s i) x → told_of rules (slice_set s i x) ≡ Told.Claim c }
+{}
+
+/// Limits take votes, and nothing else: what is told within them is a claim exactly if it is one
+/// without them and lies within. Anything else stands as it is.
+pub fn limits_only_take_claims()
+    ensures claim { (limits : Option Limits) (rules : Rules) (s : List Symbol) (c : Claim)
+        → (told_within limits rules s ≡ Told.Claim c)
+        ↔ ((told_of rules s ≡ Told.Claim c) × IsWithin limits s c) }
+    // Those that go without saying.
+    ensures least { (rules : Rules) (s : List Symbol)
+        → told_within (Some (record { not_before = 0; poor_from = 10 })) rules s
+        ≡ told_of rules s }
 {}

@@ -2,13 +2,15 @@
 
 ghost use Rattle.std.specs.Prelude.{◌≡◌, ◌==◌, ◌++◌, ◌<◌, ◌^◌, length, ℕ, List, []};
 ghost use Rattle.irig_frame.specs.declared.symbol.Symbol.{Symbol};
-ghost use Rattle.irig_frame.specs.Decoder.{IsCoded};
+ghost use Rattle.irig_frame.specs.declared.coded.Coded.{Coded};
+ghost use Rattle.irig_frame.specs.Decoder.{IsCoded, Reads};
 ghost use Rattle.irig_frame.specs.Encoder.{frame_of_coded};
 ghost use Rattle.irig_frame.specs.Symbols.{symbol_of};
 ghost use Rattle.irig_control.specs.Parity.{with_parity};
 ghost use Rattle.irig_time.specs.declared.rules.Rules.{Rules};
 ghost use Rattle.irig_time.specs.Seconds.{IsValid};
 ghost use Rattle.irig_port.specs.Heard.{with_symbol, symbols_heard};
+ghost use Rattle.irig_port.specs.Limits.{quality_in};
 ghost use Rattle.irig_port.specs.Told.{told_of, IfClaim};
 
 use crate::told::Told;
@@ -64,6 +66,11 @@ pub trait Port: Drop {
     fn is_empty(&self) -> bool
         ensures { (rules : Rules) (s : List Symbol) → stands_for self.now rules s
             → result ≡ (length s == 0) };
+
+    /// The time quality that the pulses say, if they are a frame; of others it is any number.
+    fn quality(&self) -> u8
+        ensures { (rules : Rules) (s : List Symbol) (coded : Coded)
+            → stands_for self.now rules s → Reads s coded → result ≡ quality_in s };
 
     /// Takes over what another port heard, in place of its own pulses, and keeps its rules. The
     /// other is as it was, but that it may work out here what it will tell, so that each port that

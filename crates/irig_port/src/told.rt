@@ -17,6 +17,8 @@ pub enum PortFault {
     Sbs,
     /// The time that the frame codes is no second of UTC.
     Time(TimeFault),
+    /// The frame claims a second before the first day that may be claimed.
+    Early,
 }
 
 /// What a port tells at an edge.

@@ -10,7 +10,7 @@ use crate::port::Port;
 use crate::told::{PortFault, Told};
 use crate::verdict::tell_values;
 use arrayvec::ArrayVec;
-use irig_control::{Parity, encode_with_parity, parity_ok};
+use irig_control::{Parity, encode_with_parity, parity_ok, unpack};
 use irig_frame::{Coded, FrameFault, Symbol, classify, decode};
 use irig_time::Rules;
 
@@ -65,6 +65,13 @@ impl Port for WholePort {
 
     fn is_empty(&self) -> bool {
         self.symbols.is_empty()
+    }
+
+    fn quality(&self) -> u8 {
+        match decode(self.symbols.as_slice()) {
+            Ok(coded) => unpack(coded.control).quality,
+            Err(_) => 15,
+        }
     }
 
     fn take_over(&mut self, other: &mut Self) {

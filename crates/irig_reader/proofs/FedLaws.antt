@@ -6,7 +6,8 @@ use Rattle.std.proofs.lemmas.List.{length-map, length-take}
 use Rattle.irig_frame.specs.Symbols.{symbol_of}
 use Rattle.irig_port.specs.Heard.{symbols_heard, symbols_of}
 use Rattle.irig_port.specs.Hearing.{heard_at, IsHearing, IsOfRun}
-use Rattle.irig_port.specs.Told.{told_of_widths}
+use Rattle.irig_port.specs.Limits.{widths_told_within}
+use Rattle.irig_port.proofs.LimitLaws.{claim_within}
 use Rattle.irig_port.specs.declared.told.Told.TheVariants as tells
 use Rattle.irig_port.proofs.HeardLaws.{heard-push, told_of-heard}
 use Rattle.irig_port.proofs.RunLaws.{claim_of_run}
@@ -56,6 +57,7 @@ pub heard-hearing : (h : ReaderHistory) (port place w : ℕ) → symbols_heard (
 heard-hearing h port place w = ap symbols_heard (port-here h.fed port (widths_at place (fed_to h.fed port) w)) ∙ heard-place place (fed_to h.fed port) w
 
 pub claim_is_of_run : (h : ReaderHistory) (port : ℕ) (s : Sync) (pulses : List Pulse) (now : ℕ) (claim : Claim) → IsHearing (symbols_heard (fed_to h.fed port)) s pulses now
-    → told_of_widths h.rules (fed_to h.fed port) ≡ tells.Claim claim → IsOfRun h.rules claim (symbols_heard (fed_to h.fed port)) s.place pulses
+    → widths_told_within h.limits h.rules (fed_to h.fed port) ≡ tells.Claim claim → IsOfRun h.rules claim (symbols_heard (fed_to h.fed port)) s.place pulses
 claim_is_of_run h port s pulses now claim hearing told =
-    claim_of_run h.rules claim (symbols_heard (fed_to h.fed port)) s pulses now hearing (told_of-heard h.rules (fed_to h.fed port) ∙ told)
+    claim_of_run h.rules claim (symbols_heard (fed_to h.fed port)) s pulses now hearing
+    (told_of-heard h.rules (fed_to h.fed port) ∙ ((claim_within h.limits h.rules (symbols_of (fed_to h.fed port)) claim).0 told).0)

@@ -5,7 +5,7 @@ use Rattle.irig_vote.specs.declared.redundancy.Redundancy.TheVariants.{One, Thre
 use Rattle.irig_vote.specs.declared.votes.Tells.{Tells}
 use Rattle.irig_vote.specs.Vote.{vote_of}
 use Rattle.irig_port.specs.declared.told.Told.TheVariants as tells
-use Rattle.irig_port.specs.Told.{told_of}
+use Rattle.irig_port.proofs.LimitLaws.{none_within}
 use Rattle.irig_reader.specs.History.{ReaderHistory, no_pulses, told_at_tick, vote_at_tick}
 
 abbrev pub silent : Tells
@@ -13,8 +13,7 @@ silent = record { a = tells.Silence; b = tells.Silence; c = tells.Silence; d = t
 
 -- every port tells silence
 pub told_silent : (h : ReaderHistory) → h.fed ≡ no_pulses → told_at_tick h ≡ silent
-unfolding told_of
-told_silent h e = rw e refl
+told_silent h e = rw (e, none_within h.limits h.rules) refl
 
 -- and nothing is voted
 pub no_vote : (r : Redundancy) → vote_of silent r ≡ None

@@ -225,7 +225,7 @@ known_end = (rw last_day refl, rw last_day refl, rw last_day refl)
 -- of any reader under three
 module _ (history : ReaderHistory) where
   abbrev fresh : ReaderHistory
-  fresh = record (after_restart history) { redundancy = Three }
+  fresh = record (after_restart history) { redundancy = Three; limits = None }
 
   -- a restart forgets the votes and what was fed, and nothing else; a tick what was fed alone
   pub restart : ((after_restart history).votes ≡ []) × (after_restart history ≡ record history { fed = fresh.fed; votes = [] }) × ((after_tick history).fed ≡ fresh.fed)

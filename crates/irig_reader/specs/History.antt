@@ -1,10 +1,11 @@
 -- What a reader was given, fed and voted: all that its answers depend on.
 -- Source: docs/READER.md; this project's profile.
-use Rattle.std.specs.Prelude.{ℕ, ◌==◌, if◌then◌else◌, List, [], ◌∷◌, ◌++◌, Option}
+use Rattle.std.specs.Prelude.{ℕ, ◌==◌, if◌then◌else◌, List, [], ◌∷◌, ◌++◌, Option, None}
 use Rattle.irig_time.specs.declared.rules.Rules.{Rules}
 use Rattle.irig_time.specs.declared.claim.Claim.{Claim}
 use Rattle.irig_time.specs.Tables.{TableValue}
-use Rattle.irig_port.specs.Told.{told_of_widths}
+use Rattle.irig_port.specs.declared.limits.Limits.{Limits}
+use Rattle.irig_port.specs.Limits.{widths_told_within}
 use Rattle.irig_vote.specs.declared.redundancy.Redundancy.{Redundancy}
 use Rattle.irig_vote.specs.declared.votes.Tells.{Tells}
 use Rattle.irig_vote.specs.Vote.{vote_of}
@@ -31,6 +32,7 @@ pub record ReaderHistory : Type 0 where
   pub reader_rules : ReaderRules
   pub table : TableValue
   pub redundancy : Redundancy
+  pub limits : Option Limits
   pub fed : Fed
   pub votes : List (Option Claim)
 
@@ -41,9 +43,14 @@ new_history rules reader_rules table redundancy = record {
   reader_rules = reader_rules;
   table = table;
   redundancy = redundancy;
+  limits = None;
   fed = no_pulses;
   votes = [];
 }
+
+-- so within limits
+abbrev pub limited_history : Option Limits → ReaderHistory → ReaderHistory
+limited_history limits history = record history { limits = limits }
 
 -- what was fed to a port since it was last empty
 abbrev pub fed_to : Fed → ℕ → List ℕ
@@ -100,11 +107,11 @@ after_hearing history port place width =
 -- what the ports tell at a tick that comes now
 abbrev pub told_at_tick : ReaderHistory → Tells
 told_at_tick history = record {
-  a = told_of_widths history.rules history.fed.a;
-  b = told_of_widths history.rules history.fed.b;
-  c = told_of_widths history.rules history.fed.c;
-  d = told_of_widths history.rules history.fed.d;
-  e = told_of_widths history.rules history.fed.e;
+  a = widths_told_within history.limits history.rules history.fed.a;
+  b = widths_told_within history.limits history.rules history.fed.b;
+  c = widths_told_within history.limits history.rules history.fed.c;
+  d = widths_told_within history.limits history.rules history.fed.d;
+  e = widths_told_within history.limits history.rules history.fed.e;
 }
 
 -- the vote over what they tell

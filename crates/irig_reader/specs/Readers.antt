@@ -18,6 +18,7 @@ pub record HasReaderHistory {P : Type 0} {g : Ghosts P} (reader : Reader P g)
   pub reader_rules : reader.reader_rules ≡ history.reader_rules
   pub table : reader.table ≡ history.table
   pub redundancy : reader.redundancy ≡ history.redundancy
+  pub limits : reader.limits ≡ history.limits
   pub state : reader.state ≡ state_of history.reader_rules history.table history.votes
 
 -- a fact of each history that the reader may have

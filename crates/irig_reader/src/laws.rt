@@ -10,21 +10,22 @@ ghost use Rattle.irig_time.specs.Timelines.{TimelineValue, EndsAt, IsSecond, IsT
 ghost use Rattle.irig_time.specs.TimelineFaults.{IsTimeline};
 ghost use Rattle.irig_port.specs.Heard.{symbols_heard};
 ghost use Rattle.irig_port.specs.Hearing.{IsHearing, IsOfRun};
-ghost use Rattle.irig_port.specs.Told.{told_of_widths};
+ghost use Rattle.irig_port.specs.Limits.{widths_told_within};
 ghost use Rattle.irig_vote.specs.Vote.{carriers, f_of, others, ports_of, vote_of};
+ghost use Rattle.irig_vote.specs.Counts.{AtLeast};
 ghost use Rattle.irig_hold.specs.Steps.{HoldValue};
 ghost use Rattle.irig_hold.specs.Truth.{IsTrueTable};
 ghost use Rattle.irig_reader.specs.declared.rule.State.{State};
-ghost use Rattle.irig_reader.specs.Clean.{IsClean, HaveHeardCleanly};
+ghost use Rattle.irig_reader.specs.Clean.{IsCarrier, IsClean, HaveHeardCleanly};
 ghost use Rattle.irig_reader.specs.Held.{AreMarkedLate, IsSince, then_none};
-ghost use Rattle.irig_reader.specs.History.{ReaderHistory, fed_to, told_at_tick, after_tick};
+ghost use Rattle.irig_reader.specs.History.{ReaderHistory, fed_to, told_at_tick, vote_at_tick, after_tick};
 ghost use Rattle.irig_reader.specs.Locking.{IsSilentAfter, FollowsVotes, then_true, voted_report};
 ghost use Rattle.irig_reader.specs.Rule.{report_of, step_of, stop_step};
 ghost use Rattle.irig_reader.specs.Standing.{StandsAtTruth};
 
 use crate::report::{Cause, Lock};
 use crate::rules::ReaderRules;
-use irig_port::Told;
+use irig_port::{Limits, Told};
 use irig_time::{Claim, UtcSecond};
 use irig_vote::{Redundancy, Tells};
 
@@ -48,7 +49,7 @@ pub fn voted_seconds_are_true()
     // The same, said of the pulses that the ports heard.
     ensures heard { (t : TimelineValue) (n : ℕ) (h : ReaderHistory)
         → IsClean t n (told_at_tick h) h.redundancy
-        ↔ HaveHeardCleanly t n h.rules h.redundancy (fed_to h.fed) }
+        ↔ HaveHeardCleanly t n h.limits h.rules h.redundancy (fed_to h.fed) }
 {}
 
 /// To mislead takes a majority: if a reader announces another second than T(n + 1) by a vote, then
@@ -161,6 +162,16 @@ pub fn true_votes_in_a_row_lock()
 pub fn a_claim_is_of_a_run()
     ensures { (h : ReaderHistory) (port : ℕ) (s : Sync) (pulses : List Pulse) (now : ℕ)
         (claim : Claim) → IsHearing (symbols_heard (fed_to h.fed port)) s pulses now
-        → told_of_widths h.rules (fed_to h.fed port) ≡ Told.Claim claim
+        → widths_told_within h.limits h.rules (fed_to h.fed port) ≡ Told.Claim claim
         → IsOfRun h.rules claim (symbols_heard (fed_to h.fed port)) s.place pulses }
+{}
+
+/// Within limits nothing is voted that they refuse: f + 1 ports carry what is voted, and each of
+/// their frames lies within the limits. So no second before their first day is voted.
+pub fn votes_lie_within_limits()
+    ensures carried { (h : ReaderHistory) (c : Claim) → vote_at_tick h ≡ Some c
+        → AtLeast (f_of h.redundancy + 1)
+        (IsCarrier h.limits h.rules h.redundancy (fed_to h.fed) c) }
+    ensures day { (h : ReaderHistory) (limits : Limits) (c : Claim) → h.limits ≡ Some limits
+        → vote_at_tick h ≡ Some c → limits.not_before ≤ c.at.day }
 {}

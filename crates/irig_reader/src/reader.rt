@@ -19,7 +19,7 @@ ghost use Rattle.irig_reader.specs.declared.report.Cause.TheVariants as Cause;
 use crate::report::Report;
 use crate::rule::{State, step_of};
 use crate::rules::ReaderRules;
-use irig_port::{Port, hear};
+use irig_port::{Limits, Port, edge_within, hear};
 use irig_sync::Sync;
 use irig_time::{Claim, LeapTable, Rules};
 use irig_vote::{Redundancy, Tells, vote};
@@ -47,12 +47,13 @@ pub struct Reader<P: Port> {
     reader_rules: ReaderRules,
     table: LeapTable,
     pub(crate) redundancy: Redundancy,
+    limits: Option<Limits>,
     state: State,
     ghost counting: { count_of state < reader_rules.lock_after },
 }
 
 impl<P: Port> Reader<P> {
-    ghost use Rattle.irig_reader.specs.History.{ReaderHistory, new_history, no_pulses, after_pulse, after_pulses, after_hearing, told_at_tick, report_at_tick, after_tick, after_restart, fed_to};
+    ghost use Rattle.irig_reader.specs.History.{ReaderHistory, new_history, limited_history, no_pulses, after_pulse, after_pulses, after_hearing, told_at_tick, report_at_tick, after_tick, after_restart, fed_to};
     ghost use Rattle.irig_reader.specs.Readers.{Advances, ForReaderHistory, HasReaderHistory};
 
     /// A reader to which nothing has happened, with rules that are [`in_range`](crate::in_range).
@@ -66,6 +67,23 @@ impl<P: Port> Reader<P> {
         ensures unfed { HasReaderHistory result (new_history rules reader_rules table redundancy) }
         ensures ports { result.redundancy ≡ redundancy }
     {
+        Reader::fresh_within(rules, reader_rules, table, redundancy, None)
+    }
+
+    /// The same, whose ports give no frame a vote that does not lie within the limits, if there are
+    /// any ([`edge_within`]).
+    pub fn fresh_within(
+        rules: Rules,
+        reader_rules: ReaderRules,
+        table: LeapTable,
+        redundancy: Redundancy,
+        limits: Option<Limits>,
+    ) -> Self
+        requires { IsReaderRules reader_rules }
+        ensures unfed { HasReaderHistory result
+            (limited_history limits (new_history rules reader_rules table redundancy)) }
+        ensures ports { result.redundancy ≡ redundancy }
+    {
         Reader {
             a: P::fresh(rules),
             b: P::fresh(rules),
@@ -75,6 +93,7 @@ impl<P: Port> Reader<P> {
             reader_rules,
             table,
             redundancy,
+            limits,
             state: State::Idle,
         }
     }
@@ -192,11 +211,11 @@ impl<P: Port> Reader<P> {
             → result.report.announce ≡ Some u → IsSecond t (n + 1) u }
     {
         let told = Tells {
-            a: self.a.edge(),
-            b: self.b.edge(),
-            c: self.c.edge(),
-            d: self.d.edge(),
-            e: self.e.edge(),
+            a: edge_within(&mut self.a, self.limits),
+            b: edge_within(&mut self.b, self.limits),
+            c: edge_within(&mut self.c, self.limits),
+            d: edge_within(&mut self.d, self.limits),
+            e: edge_within(&mut self.e, self.limits),
         };
         let vote = vote(&told, self.redundancy);
         let report = self.go_on(vote);

@@ -12,12 +12,13 @@ use Rattle.irig_sync.proofs.LineLaws.{marks, step_at, on_time_is, place_at_time}
 use Rattle.irig_sync.proofs.EdgeLaws.{next_apart}
 use Rattle.irig_sync.specs.Sync.{clock_gap}
 use Rattle.irig_sync.specs.Lines.{pulse_at, IsSyncAt, IsAfter, IsSoon, symbols_of_last}
+use Rattle.irig_port.specs.declared.limits.Limits.{Limits}
 use Rattle.irig_time.specs.declared.rules.Rules.{Rules}
 use Rattle.irig_time.specs.declared.claim.Claim.{Claim}
 use Rattle.irig_time.specs.Timelines.{TimelineValue, IsTrueClaim}
 use Rattle.irig_port.specs.declared.told.Told.{Told}
 use Rattle.irig_port.specs.declared.told.Told.TheVariants as tells
-use Rattle.irig_port.specs.Told.{told_of}
+use Rattle.irig_port.specs.Limits.{told_within}
 use Rattle.irig_port.specs.Hearing.{heard_at, heard_of_last}
 use Rattle.irig_port.proofs.RunLaws.{holds_place}
 use Rattle.irig_timekeeper.specs.declared.lines.KeptFrame.{KeptFrame}
@@ -121,8 +122,8 @@ pub record EndsWhole (edges : ℕ → ℕ) (m : ℕ) (pulses : List Pulse) : Typ
   pub close_least : edges (m - 1) + 1000000 ≤ p.rise + 10000 + 449
   pub close_most : p.rise + 10000 ≤ edges (m - 1) + 1000000 + 449
 
-ends_whole : (rules : Rules) (t : TimelineValue) (d : ℕ) (edges : ℕ → ℕ) (m : ℕ) (pulses : List Pulse) → IsQuartz d edges → (w : IsWhole rules t edges m pulses) → EndsWhole edges m pulses
-ends_whole rules t d edges m pulses quartz w = of w.frame w.parts w.hundred w.are
+ends_whole : (limits : Option Limits) (rules : Rules) (t : TimelineValue) (d : ℕ) (edges : ℕ → ℕ) (m : ℕ) (pulses : List Pulse) → IsQuartz d edges → (w : IsWhole limits rules t edges m pulses) → EndsWhole edges m pulses
+ends_whole limits rules t d edges m pulses quartz w = of w.frame w.parts w.hundred w.are
   where
     of : (frame : List Pulse) → pulses ≡ frame ++ w.earlier → length frame ≡ 100 → ArePulsesBefore w.line edges 450 (100 * w.f + 100) frame → EndsWhole edges m pulses
     of [] parts hundred are = absurd cc
@@ -230,7 +231,7 @@ module _ (t : TimelineValue) (d : ℕ) (edges : ℕ → ℕ) (quartz : IsQuartz 
 
   -- the hundredth
   module _ (port time rise width : ℕ) (calls : List Call) (order : AreInOrder start new.clock.redundancy (Hear port time rise width ∷ calls)) (narrow : is_pulse width ≡ true) (same : (i == port) ≡ true)
-      (w : IsWhole new.rules t edges m (pulses_on i (Hear port time rise width ∷ calls))) (ends : EndsWhole edges m (pulses_on i (Hear port time rise width ∷ calls))) where
+      (w : IsWhole new.limits new.rules t edges m (pulses_on i (Hear port time rise width ∷ calls))) (ends : EndsWhole edges m (pulses_on i (Hear port time rise width ∷ calls))) where
     abbrev k : Keeping
     k = after_calls new calls
 
@@ -282,14 +283,15 @@ module _ (t : TimelineValue) (d : ℕ) (edges : ℕ → ℕ) (quartz : IsQuartz 
         ∙ holds_place (suc (length pulses)) (p ∷ pulses) (omega (arith, hundred)) (omega (arith, hundred, long))
         ∙ ap (λ (n : ℕ). symbols_of_last n (p ∷ pulses)) hundred
 
-    tells_it : told_of k.rules (heard_then k i (rise % 2 ^ 32) width) ≡ tells.Claim w.claim
+    tells_it : told_within k.limits k.rules (heard_then k i (rise % 2 ^ 32) width) ≡ tells.Claim w.claim
     tells_it =
-        ap (λ (r : Rules). told_of r (heard_then k i (rise % 2 ^ 32) width)) (lines_after new start begun calls order.4).same.rules
-        ∙ ap (told_of new.rules) (heard ∙ ap (symbols_of_last 100) (sym on)) ∙ w.tells
+        ap (λ (r : Rules). told_within k.limits r (heard_then k i (rise % 2 ^ 32) width)) (lines_after new start begun calls order.4).same.rules
+        ∙ ap (λ (l : Option Limits). told_within l new.rules (heard_then k i (rise % 2 ^ 32) width)) (lines_after new start begun calls order.4).same.limits
+        ∙ ap (told_within new.limits new.rules) (heard ∙ ap (symbols_of_last 100) (sym on)) ∙ w.tells
 
-    own_line : line_at (after_pulse k port (rise % 2 ^ 32) width).state.lines i ≡ line_heard line (rise % 2 ^ 32) width (told_of k.rules (heard_then k i (rise % 2 ^ 32) width))
+    own_line : line_at (after_pulse k port (rise % 2 ^ 32) width).state.lines i ≡ line_heard line (rise % 2 ^ 32) width (told_within k.limits k.rules (heard_then k i (rise % 2 ^ 32) width))
     own_line =
-        subst (λ (j : ℕ). line_at (after_pulse k j (rise % 2 ^ 32) width).state.lines i ≡ line_heard line (rise % 2 ^ 32) width (told_of k.rules (heard_then k i (rise % 2 ^ 32) width))) at
+        subst (λ (j : ℕ). line_at (after_pulse k j (rise % 2 ^ 32) width).state.lines i ≡ line_heard line (rise % 2 ^ 32) width (told_within k.limits k.rules (heard_then k i (rise % 2 ^ 32) width))) at
         (rw narrow (line_same k.state.lines i _ small))
 
     kept_then : (place rise : ℕ) (told : Told) (frame : Option KeptFrame) (claim : Claim) → place ≡ 100 → told ≡ tells.Claim claim → claim_kept (frame_behind place (rise % 2 ^ 32) told frame) ≡ Some (record { claim = claim; end_us = (rise + 10000) % 2 ^ 32 })
@@ -304,7 +306,7 @@ module _ (t : TimelineValue) (d : ℕ) (edges : ℕ → ℕ) (quartz : IsQuartz 
           claim = w.claim;
           truth = w.truth;
           end = rise + 10000;
-          keeps = ap (λ (x : Line). claim_kept x.frame) own_line ∙ kept_then (place_of line.sync (rise % 2 ^ 32) width) rise (told_of k.rules (heard_then k i (rise % 2 ^ 32) width)) line.frame w.claim (place ∙ hundred) tells_it;
+          keeps = ap (λ (x : Line). claim_kept x.frame) own_line ∙ kept_then (place_of line.sync (rise % 2 ^ 32) width) rise (told_within k.limits k.rules (heard_then k i (rise % 2 ^ 32) width)) line.frame w.claim (place ∙ hundred) tells_it;
           least = omega (arith, rises, ends.least);
           most = omega (arith, rises, ends.most);
           told = omega (arith, (order.3 narrow).risen);
@@ -336,9 +338,9 @@ module _ (t : TimelineValue) (d : ℕ) (edges : ℕ → ℕ) (quartz : IsQuartz 
         is = k.is;
       }
 
-  pub whole_kept : (later : List Call) → AreInOrder start new.clock.redundancy (later ++ older) → HaveNoVotes new (edges m - 11000) later older → last_call start (later ++ older) ≤ edges m + 98000 → IsWhole new.rules t edges m (pulses_on i (later ++ older)) → Keeps (later ++ older)
+  pub whole_kept : (later : List Call) → AreInOrder start new.clock.redundancy (later ++ older) → HaveNoVotes new (edges m - 11000) later older → last_call start (later ++ older) ≤ edges m + 98000 → IsWhole new.limits new.rules t edges m (pulses_on i (later ++ older)) → Keeps (later ++ older)
   whole_kept [] order none upto w =
-      let ends = ends_whole new.rules t d edges m (pulses_on i older) quartz w in
+      let ends = ends_whole new.limits new.rules t d edges m (pulses_on i older) quartz w in
       absurd (omega (arith, risen older order ends.p ends.ps ends.are, ends.least, past))
   whole_kept (Tick now ∷ later) order none upto w =
       let before = whole_kept later order.2 none.1 (omega (arith, order.0, upto)) w in
@@ -346,13 +348,13 @@ module _ (t : TimelineValue) (d : ℕ) (edges : ℕ → ℕ) (quartz : IsQuartz 
   whole_kept (Hear port time rise width ∷ later) order none upto w = elim (cases_Bool (i == port)) [
     | inr other ↦
         let same = others_pulses i port time rise width (later ++ older) other in
-        let before = whole_kept later order.4 none (omega (arith, order.1, upto)) (subst (IsWhole new.rules t edges m) same w) in
+        let before = whole_kept later order.4 none (omega (arith, order.1, upto)) (subst (IsWhole new.limits new.rules t edges m) same w) in
         let line = others_pulse (after_calls new (later ++ older)) port i (rise % 2 ^ 32) width (omega (arith, order.0, five new.clock.redundancy)) small (eqb-false i port other) in
         passes (Hear port time rise width) (later ++ older) (ap (λ (x : Line). claim_kept x.frame) line) same order.1 before
     | inl same ↦ elim (cases_Bool (is_pulse width)) [
       | inr wide ↦
-          let before = whole_kept later order.4 none (omega (arith, order.1, upto)) (subst (IsWhole new.rules t edges m) (no_pulse i port time rise width (later ++ older) wide) w) in
+          let before = whole_kept later order.4 none (omega (arith, order.1, upto)) (subst (IsWhole new.limits new.rules t edges m) (no_pulse i port time rise width (later ++ older) wide) w) in
           passes (Hear port time rise width) (later ++ older) (passes_wide port (rise % 2 ^ 32) width (later ++ older) wide) (no_pulse i port time rise width (later ++ older) wide) order.1 before
-      | inl narrow ↦ keeps_whole port time rise width (later ++ older) order narrow same w (ends_whole new.rules t d edges m _ quartz w)
+      | inl narrow ↦ keeps_whole port time rise width (later ++ older) order narrow same w (ends_whole new.limits new.rules t d edges m _ quartz w)
     ]
   ]

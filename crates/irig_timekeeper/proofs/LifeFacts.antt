@@ -439,7 +439,7 @@ unfolding calls_3 elements_before with_element with_tick width_of lie truly four
 truth_4 = truly_is life_4 refl
 
 abbrev device : Keeping
-device = new_keeping rules clock no_table new_lines
+device = new_keeping None rules clock no_table new_lines
 
 abbrev silence : Tells
 silence = record { a = tells.Silence; b = tells.Silence; c = tells.Silence; d = tells.Silence; e = tells.Silence }
@@ -475,10 +475,10 @@ truly_told : TellAlwaysTruly (IsTrueLately rules noon edges) rules noon edges 54
 truly_told now end pulses claim is frame soon = true_lately rules noon 100 edges now end pulses claim steady is frame soon
 
 told_4 : IsToldInHoldover noon edges 1549 549 100 100 now_4 beat_4 (at 43204)
-told_4 = device_true rules clock no_table new_lines 4293400000 are_new (IsTrueLately rules noon edges) noon edges 549 549 is_device (omega arith) truly_told (Tick now_3 ∷ calls_3) now_4 beat_4 (at 43204) order_4 truth_4 answer_4 refl
+told_4 = device_true None rules clock no_table new_lines 4293400000 are_new (IsTrueLately rules noon edges) noon edges 549 549 is_device (omega arith) truly_told (Tick now_3 ∷ calls_3) now_4 beat_4 (at 43204) order_4 truth_4 answer_4 refl
 
 later_4 : IsLaterSecond noon (at 43203) (at 43204)
-later_4 = device_in_order rules clock no_table new_lines 4293400000 are_new (IsTrueLately rules noon edges) noon edges 549 549 is_device (omega arith) truly_told calls_3 [] now_3 now_4 beat_3 beat_4 (at 43203) (at 43204) order_4 truth_4 answer_3 refl answer_4 refl
+later_4 = device_in_order None rules clock no_table new_lines 4293400000 are_new (IsTrueLately rules noon edges) noon edges 549 549 is_device (omega arith) truly_told calls_3 [] now_3 now_4 beat_3 beat_4 (at 43203) (at 43204) order_4 truth_4 answer_3 refl answer_4 refl
 
 -- an event 0.25 s behind the last edge is stamped with its second, 2 ms before it with the one before
 stamp_4 : (stamp_at (after_tick (after_calls device (Tick now_3 ∷ calls_3)) (now_4 % 2 ^ 32)) 2782504 ≡ Some (record { second = at 43204; offset_us = 250000; bound_us = 1649 }))
@@ -560,7 +560,7 @@ power_cut : (start : ℕ) (calls : List Call) → ¬ AreInOrder start of.Three (
 power_cut start calls order = omega (arith, order.1)
 
 -- a restart leaves what is new
-as_new : (k : Keeping) (lines : Lines) → restarted k lines ≡ new_keeping k.rules k.clock k.table lines
+as_new : (k : Keeping) (lines : Lines) → restarted k lines ≡ new_keeping k.limits k.rules k.clock k.table lines
 as_new k lines = refl
 
 -- a line that is stuck high for half a second or longer changes nothing, and ends nothing that the

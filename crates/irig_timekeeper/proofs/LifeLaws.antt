@@ -7,10 +7,11 @@ use Rattle.irig_sync.specs.Sync.{place_of}
 use Rattle.irig_sync.specs.Lines.{Pulse, pulse_at, place_after, IsAfter, IsSoon}
 use Rattle.irig_sync.proofs.LineLaws.{place_at_time}
 use Rattle.irig_time.specs.declared.second.UtcSecond.{UtcSecond}
+use Rattle.irig_port.specs.declared.limits.Limits.{Limits}
 use Rattle.irig_time.specs.declared.rules.Rules.{Rules}
 use Rattle.irig_time.specs.Timelines.{TimelineValue}
 use Rattle.irig_time.specs.Tables.{TableValue}
-use Rattle.irig_port.specs.Told.{told_of}
+use Rattle.irig_port.specs.Limits.{told_within}
 use Rattle.irig_port.specs.Hearing.{heard_at, heard_of_last, IsHearing}
 use Rattle.irig_port.proofs.RunLaws.{hears, first_hears, idle_hears}
 use Rattle.irig_vote.specs.declared.redundancy.Redundancy.{Redundancy}
@@ -56,10 +57,10 @@ pub record IsLineAt (rules : Rules) (heard : List Symbol) (line : Line) (pulses 
   pub near : tick ≤ told + 500000
 
 module _ (rules : Rules) where
-  line_hears : (heard : List Symbol) (line : Line) (pulses : List Pulse) (tick now time rise width : ℕ) → IsLineAt rules heard line pulses tick now → tick ≤ now
+  line_hears : (limits : Option Limits) (heard : List Symbol) (line : Line) (pulses : List Pulse) (tick now time rise width : ℕ) → IsLineAt rules heard line pulses tick now → tick ≤ now
       → rise ≤ time → time ≤ rise + 500000 → now ≤ time → time + 500000 < tick + 1800000000 → IsAfter pulses rise
-      → IsLineAt rules (heard_at (place_of line.sync (rise % 2 ^ 32) width) heard width) (line_heard line (rise % 2 ^ 32) width (told_of rules (heard_at (place_of line.sync (rise % 2 ^ 32) width) heard width))) (pulse_at rise width ∷ pulses) tick time
-  line_hears heard line pulses tick now time rise width l order risen late on half after =
+      → IsLineAt rules (heard_at (place_of line.sync (rise % 2 ^ 32) width) heard width) (line_heard line (rise % 2 ^ 32) width (told_within limits rules (heard_at (place_of line.sync (rise % 2 ^ 32) width) heard width))) (pulse_at rise width ∷ pulses) tick time
+  line_hears limits heard line pulses tick now time rise width l order risen late on half after =
       let soon : IsSoon l.told rise = (omega (arith, l.past, on, late), omega (arith, l.near, half, risen)) in
       let hearing = hears heard line.sync _ pulses l.told rise _ width _ refl refl l.hearing refl after soon in
       let p : Pulse = pulse_at rise width in
@@ -71,7 +72,7 @@ module _ (rules : Rules) where
         sorted = (after, l.sorted);
         kept = kept_more (IsEndAt pulses tick now) (IsEndAt (p ∷ pulses) tick time) _
             (λ inside end e. (omega (arith, e.0, on), e.1, e.2 ∙ sym (not_whole p pulses (λ at. inside (place ∙ at)))))
-            rules line.frame _ rise width pulses hearing.run l.kept
+            limits rules line.frame _ rise width pulses hearing.run l.kept
             (λ at. (omega (arith, risen), omega (arith, order, on, late), sym (whole_here p pulses (sym place ∙ at))));
         past = risen;
         near = omega (arith, order, on, late);
@@ -216,6 +217,7 @@ ticked k clock = of (vote_at k clock)
 
 pub record IsSameSetup (old new : Keeping) : Type 0 where
   pub rules : new.rules ≡ old.rules
+  pub limits : new.limits ≡ old.limits
   pub clock : new.clock ≡ old.clock
   pub table : new.table ≡ old.table
 
@@ -244,10 +246,10 @@ module _ (new k : Keeping) (calls : List Call) (tick now port time rise width : 
 
   module _ (low : port < 5) (half : time + 500000 < tick + 1800000000) (narrow : is_pulse width ≡ true) (told : IsToldInTime time rise (pulses_on port calls)) where
     abbrev there_line : Line
-    there_line = line_heard (line_at k.state.lines port) (rise % 2 ^ 32) width (told_of k.rules (heard_then k port (rise % 2 ^ 32) width))
+    there_line = line_heard (line_at k.state.lines port) (rise % 2 ^ 32) width (told_within k.limits k.rules (heard_then k port (rise % 2 ^ 32) width))
 
     there : IsLineAt k.rules (heard_then k port (rise % 2 ^ 32) width) there_line (pulse_at rise width ∷ pulses_on port calls) tick time
-    there = line_hears k.rules (heard_by k.heard port) (line_at k.state.lines port) (pulses_on port calls) tick now time rise width (l.lines port low) l.order told.risen told.soon on half told.after
+    there = line_hears k.rules k.limits (heard_by k.heard port) (line_at k.state.lines port) (pulses_on port calls) tick now time rise width (l.lines port low) l.order told.risen told.soon on half told.after
 
     on_it : (i : ℕ) → (i == port) ≡ true → pulse_at rise width ∷ pulses_on i calls ≡ pulses_on i (Hear port time rise width ∷ calls)
     on_it i same = rw (same, narrow) refl
@@ -277,7 +279,7 @@ module _ (new k : Keeping) (calls : List Call) (tick now port time rise width : 
     one_more =
         let more : one_pulse_more k port (rise % 2 ^ 32) width ≡ after_pulse k port (rise % 2 ^ 32) width = rw narrow refl in
         subst (λ (x : Keeping). AreLinesAt new x (λ i. pulses_on i (Hear port time rise width ∷ calls)) tick time) more (record {
-          same = record { rules = l.same.rules; clock = l.same.clock; table = l.same.table };
+          same = record { rules = l.same.rules; limits = l.same.limits; clock = l.same.clock; table = l.same.table };
           lines = then;
           order = omega (arith, l.order, on);
         })
@@ -286,7 +288,7 @@ module _ (new k : Keeping) (calls : List Call) (tick now port time rise width : 
 lines_tick : (new k : Keeping) (calls : List Call) (tick now time : ℕ) → AreLinesAt new k (λ i. pulses_on i calls) tick now → now ≤ time → time + 500000 < tick + 1800000000
     → AreLinesAt new (after_tick k (time % 2 ^ 32)) (λ i. pulses_on i (Tick time ∷ calls)) time time
 lines_tick new k calls tick now time l on half = record {
-  same = record { rules = l.same.rules; clock = l.same.clock; table = l.same.table };
+  same = record { rules = l.same.rules; limits = l.same.limits; clock = l.same.clock; table = l.same.table };
   lines = λ i low.
       let settles = line_ticks k.rules (heard_by k.heard i) (line_at k.state.lines i) (pulses_on i calls) tick now time (l.lines i low) on half in
       elim (ticked k (time % 2 ^ 32)) [
@@ -419,13 +421,13 @@ each_new lines fresh (suc (suc (suc zero))) low = fresh.d
 each_new lines fresh (suc (suc (suc (suc zero)))) low = fresh.e
 each_new lines fresh (suc (suc (suc (suc (suc i))))) low = absurd (omega (arith, low))
 
-module _ (rules : Rules) (clock : ClockRules) (table : TableValue) (lines : Lines) (start : ℕ) (fresh : AreNewLines lines) where
+module _ (limits : Option Limits) (rules : Rules) (clock : ClockRules) (table : TableValue) (lines : Lines) (start : ℕ) (fresh : AreNewLines lines) where
   abbrev new : Keeping
-  new = new_keeping rules clock table lines
+  new = new_keeping limits rules clock table lines
 
   pub begins : AreLinesAt new new (λ i. []) start start
   begins = record {
-    same = record { rules = refl; clock = refl; table = refl };
+    same = record { rules = refl; limits = refl; clock = refl; table = refl };
     lines = λ i low. moved rules rules _ _ _ _ _ _ start start refl (sym (nothing_by i low)) refl refl (new_line rules (line_at lines i) start (each_new lines fresh i low));
     order = omega arith;
   }

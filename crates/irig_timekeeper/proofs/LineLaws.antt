@@ -9,15 +9,17 @@ use Rattle.irig_sync.specs.Edges.{element_at, IsClock}
 use Rattle.irig_sync.specs.FaultyLines.{IsPulseOf}
 use Rattle.irig_sync.proofs.LineLaws.{on_time_is, only_whole}
 use Rattle.irig_sync.proofs.EdgeLaws.{is_next}
+use Rattle.irig_port.specs.declared.limits.Limits.{Limits}
 use Rattle.irig_time.specs.declared.rules.Rules.{Rules}
 use Rattle.irig_time.specs.declared.claim.Claim.{Claim}
 use Rattle.irig_time.specs.Carries.{Carries}
 use Rattle.irig_time.specs.Timelines.{TimelineValue}
 use Rattle.irig_port.specs.declared.told.Told.{Told}
 use Rattle.irig_port.specs.declared.told.Told.TheVariants as tells
-use Rattle.irig_port.specs.Told.{told_of}
+use Rattle.irig_port.specs.Limits.{told_within}
 use Rattle.irig_port.specs.Hearing.{IsRun}
 use Rattle.irig_port.proofs.CarriesLaws.{carries_is_told}
+use Rattle.irig_port.proofs.LimitLaws.{claim_within}
 use Rattle.irig_timekeeper.specs.Edges.{IsQuartz, IsTrueNear}
 use Rattle.irig_timekeeper.specs.declared.lines.KeptFrame.{KeptFrame}
 use Rattle.irig_timekeeper.specs.declared.lines.KeptClaim.{KeptClaim}
@@ -159,17 +161,17 @@ one_late EndsSo Ends more rules (Some kept) p pulses before =
     (before.0, before.1, record { late = suc frame.late; on_time = frame.on_time; carries = frame.carries; last = frame.last }, more before.0 before.3)
 
 -- a frame's last pulse: what the port then tells
-told_here : (Ends : ℕ → Type 0) (rules : Rules) (told : Told) (heard : List Symbol) (place time width : ℕ) (pulses : List Pulse) → told_of rules heard ≡ told → 1 ≤ place → IsRun heard place (pulse_at time width ∷ pulses) → Ends (time + 10000)
+told_here : (Ends : ℕ → Type 0) (limits : Option Limits) (rules : Rules) (told : Told) (heard : List Symbol) (place time width : ℕ) (pulses : List Pulse) → told_within limits rules heard ≡ told → 1 ≤ place → IsRun heard place (pulse_at time width ∷ pulses) → Ends (time + 10000)
     → IfKept Ends rules (claim_told told ((time % 2 ^ 32 + 10000) % 2 ^ 32)) (pulse_at time width ∷ pulses)
-told_here Ends rules tells.Silence heard place time width pulses e some run ends = tt
-told_here Ends rules (tells.Fault f) heard place time width pulses e some run ends = tt
-told_here Ends rules (tells.Poor q) heard place time width pulses e some run ends = tt
-told_here Ends rules (tells.Claim c) heard place time width pulses e some run ends = elim run.step [
+told_here Ends limits rules tells.Silence heard place time width pulses e some run ends = tt
+told_here Ends limits rules (tells.Fault f) heard place time width pulses e some run ends = tt
+told_here Ends limits rules (tells.Poor q) heard place time width pulses e some run ends = tt
+told_here Ends limits rules (tells.Claim c) heard place time width pulses e some run ends = elim run.step [
   | inl out ↦ absurd (omega (arith, out, some))
   | inr inside ↦
       let all : List Pulse = pulse_at time width ∷ pulses in
       let none : drop run.late all ≡ all = ap (λ (n : ℕ). drop n all) inside.0 in
-      let carries = (carries_is_told rules heard c).0 e in
+      let carries = (carries_is_told rules heard c).0 ((claim_within limits rules heard c).0 e).0 in
       let whole : run.count ≡ 100 = sym run.all ∙ carries.reads.len in
       let symbols : heard ≡ symbols_of_last 100 all = run.symbols ∙ ap (symbols_of_last run.count) none ∙ ap (λ (n : ℕ). symbols_of_last n all) whole in (
         time + 10000,
@@ -184,11 +186,11 @@ told_here Ends rules (tells.Claim c) heard place time width pulses e some run en
       )
 ]
 
-pub kept_more : (EndsSo Ends : ℕ → Type 0) → (place : ℕ) → (¬ (place ≡ 100) → (end : ℕ) → EndsSo end → Ends end) → (rules : Rules) (frame : Option KeptFrame) (heard : List Symbol) (time width : ℕ) (pulses : List Pulse) → IsRun heard place (pulse_at time width ∷ pulses) → IfKept EndsSo rules (claim_kept frame) pulses → (place ≡ 100 → Ends (time + 10000))
-    → IfKept Ends rules (claim_kept (frame_behind place (time % 2 ^ 32) (told_of rules heard) frame)) (pulse_at time width ∷ pulses)
-kept_more EndsSo Ends place more rules frame heard time width pulses run before ends = elim (cases_Bool (place == 100)) [
+pub kept_more : (EndsSo Ends : ℕ → Type 0) → (place : ℕ) → (¬ (place ≡ 100) → (end : ℕ) → EndsSo end → Ends end) → (limits : Option Limits) (rules : Rules) (frame : Option KeptFrame) (heard : List Symbol) (time width : ℕ) (pulses : List Pulse) → IsRun heard place (pulse_at time width ∷ pulses) → IfKept EndsSo rules (claim_kept frame) pulses → (place ≡ 100 → Ends (time + 10000))
+    → IfKept Ends rules (claim_kept (frame_behind place (time % 2 ^ 32) (told_within limits rules heard) frame)) (pulse_at time width ∷ pulses)
+kept_more EndsSo Ends place more limits rules frame heard time width pulses run before ends = elim (cases_Bool (place == 100)) [
   | inl whole ↦
       let at : place ≡ 100 = eqb-true place 100 whole in
-      rw whole (told_here Ends rules (told_of rules heard) heard place time width pulses refl (omega (arith, at)) run (ends at))
+      rw whole (told_here Ends limits rules (told_within limits rules heard) heard place time width pulses refl (omega (arith, at)) run (ends at))
   | inr inside ↦ rw inside (one_late EndsSo Ends (more (eqb-false place 100 inside)) rules (claim_kept frame) (pulse_at time width) pulses before)
 ]

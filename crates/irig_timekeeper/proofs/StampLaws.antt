@@ -6,6 +6,7 @@ use Rattle.std.proofs.Math.Nat.{mul-le-mul_left}
 use Rattle.irig_sync.specs.Lines.{Pulse}
 use Rattle.irig_sync.specs.Sync.{clock_gap}
 use Rattle.irig_time.specs.declared.second.UtcSecond.{UtcSecond}
+use Rattle.irig_port.specs.declared.limits.Limits.{Limits}
 use Rattle.irig_time.specs.declared.rules.Rules.{Rules}
 use Rattle.irig_time.specs.Timelines.{TimelineValue, IsSecond}
 use Rattle.irig_time.specs.Tables.{TableValue}
@@ -214,13 +215,13 @@ none_stays k clock edge none = of (vote_at k clock) (settled_at k.state clock) e
 
 -- ---- a life
 
-module _ (rules : Rules) (clock : ClockRules) (table : TableValue) (lines : Lines) (start : ℕ) (new_lines : AreNewLines lines) (IsTrue : ℕ → List Pulse → Type 0) (t : TimelineValue) (edges : ℕ → ℕ) (early late more : ℕ)
+module _ (limits : Option Limits) (rules : Rules) (clock : ClockRules) (table : TableValue) (lines : Lines) (start : ℕ) (new_lines : AreNewLines lines) (IsTrue : ℕ → List Pulse → Type 0) (t : TimelineValue) (edges : ℕ → ℕ) (early late more : ℕ)
     (is : IsDevice t clock.drift_us edges clock.reader_rules table) (room : early + late ≤ 4098) (low : early + 1000 ≤ 1549 + more) (high : late ≤ 1549 + more) (truly : TellAlwaysTruly IsTrue rules t edges early late) where
   abbrev new : Keeping
-  new = new_keeping rules clock table lines
+  new = new_keeping limits rules clock table lines
 
   begun : AreLinesAt new new (λ i. []) start start
-  begun = begins rules clock table lines start new_lines
+  begun = begins limits rules clock table lines start new_lines
 
   abbrev state : List Call → ClockState
   state calls = (after_calls new calls).state
@@ -294,7 +295,7 @@ module _ (rules : Rules) (clock : ClockRules) (table : TableValue) (lines : Line
     tells : (b : Beat) → answer ≡ Some b → (edge : ℕ) → IsEdgeAt b.edge_us edge now → (a : Announced) → announced clock.drift_us b.report b.edge_us ≡ Some a → Told edge a
     tells b e edge at =
         let lasts : lasted b.report.lock ≤ clock.reader_rules.holdover = subst (λ (c : ClockRules). lasted b.report.lock ≤ c.reader_rules.holdover) same_clock (beat_lasts keeper (now % 2 ^ 32) b e) in
-        let true_ticks = ticks rules clock table lines start new_lines IsTrue t edges early late is room truly calls now order truth in
+        let true_ticks = ticks limits rules clock table lines start new_lines IsTrue t edges early late is room truly calls now order truth in
         told_so t edges (early + 1000) late clock.drift_us clock.reader_rules.holdover more now b edge low high is.short lasts (λ u says. (true_ticks.told b u e says).told) at
 
     first_stamps : (o : Option ℕ) → keeper.state.edge_us ≡ o → IfStamps calls o → (paced : IsPaced new start begun 0 calls keeper.state.edge_us) → (b : Beat) → answer ≡ Some b → AreStamps (Tick now ∷ calls) b.edge_us

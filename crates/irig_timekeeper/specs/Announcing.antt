@@ -1,7 +1,7 @@
 -- What has to come for a device to announce: more than f lines send a frame whole, and a tick comes
 -- soon behind its end.
 -- Source: IRIG Standard 200-16, format B; this project's profile.
-use Rattle.std.specs.Prelude.{◌≡◌, ℕ, zero, suc, ◌+◌, ◌*◌, ◌%◌, ◌^◌, ◌<◌, ◌≤◌, ◌⊎◌, Bool, true, List, [], ◌∷◌, ◌++◌, length, count_by, Some, ⊤}
+use Rattle.std.specs.Prelude.{◌≡◌, ℕ, zero, suc, ◌+◌, ◌*◌, ◌%◌, ◌^◌, ◌<◌, ◌≤◌, ◌⊎◌, Bool, true, List, Option, [], ◌∷◌, ◌++◌, length, count_by, Some, ⊤}
 use Rattle.std.specs.List.{range_with_len}
 use Rattle.irig_frame.specs.declared.symbol.Symbol.{Symbol}
 use Rattle.irig_sync.specs.Sync.{is_marker}
@@ -11,7 +11,8 @@ use Rattle.irig_time.specs.declared.rules.Rules.{Rules}
 use Rattle.irig_time.specs.declared.second.UtcSecond.{UtcSecond}
 use Rattle.irig_time.specs.declared.claim.Claim.{Claim}
 use Rattle.irig_time.specs.Timelines.{TimelineValue, IsTrueClaim}
-use Rattle.irig_port.specs.Told.{told_of}
+use Rattle.irig_port.specs.declared.limits.Limits.{Limits}
+use Rattle.irig_port.specs.Limits.{told_within}
 use Rattle.irig_port.specs.declared.told.Told.TheVariants as tells
 use Rattle.irig_vote.specs.Vote.{f_of}
 use Rattle.irig_reader.specs.Locking.{voted_report}
@@ -28,8 +29,8 @@ LeavesTheFirst begin (q ∷ qs) = (is_marker q.width ≡ true) ⊎ (q.rise + 114
 
 -- the newest hundred of these pulses are the whole frame that ends at the m-th edge, each less than
 -- 450 us off, and tell the true claim of the second before it
-pub record IsWhole (rules : Rules) (t : TimelineValue) (edges : ℕ → ℕ) (m : ℕ)
-    (pulses : List Pulse) : Type 0 where
+pub record IsWhole (limits : Option Limits) (rules : Rules) (t : TimelineValue) (edges : ℕ → ℕ)
+    (m : ℕ) (pulses : List Pulse) : Type 0 where
   pub line : ℕ → Symbol
   pub right : IsTrueLine line
   pub f : ℕ
@@ -41,7 +42,7 @@ pub record IsWhole (rules : Rules) (t : TimelineValue) (edges : ℕ → ℕ) (m 
   pub are : ArePulsesBefore line edges 450 (100 * f + 100) frame
   pub first : LeavesTheFirst (edges f) earlier
   pub claim : Claim
-  pub tells : told_of rules (symbols_of_last 100 pulses) ≡ tells.Claim claim
+  pub tells : told_within limits rules (symbols_of_last 100 pulses) ≡ tells.Claim claim
   pub truth : IsTrueClaim t m claim
 
 -- the calls of the m-th second, behind others: the last of them is the first tick that comes 549 us
@@ -59,7 +60,7 @@ pub record IsWellHeard (IsTrue : ℕ → List Pulse → Type 0) (t : TimelineVal
   pub whole : ℕ → Bool
   pub many : f_of new.clock.redundancy < count_by whole (range_with_len 0 5)
   pub frames : (i : ℕ) → i < 5 → whole i ≡ true
-      → IsWhole new.rules t edges m (pulses_on i (others ++ before))
+      → IsWhole new.limits new.rules t edges m (pulses_on i (others ++ before))
   pub truth : AreTrueOver IsTrue (f_of new.clock.redundancy) calls before
 
 -- so many seconds in a row, from the m-th on

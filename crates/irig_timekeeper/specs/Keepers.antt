@@ -12,6 +12,7 @@ pub record IsKeeping {P : Type 0} {g : Ghosts P} (keeper : Timekeeper P g) (k : 
   pub d : g.stands_for keeper.d k.rules k.heard.d
   pub e : g.stands_for keeper.e k.rules k.heard.e
   pub rules : keeper.rules ≡ k.rules
+  pub limits : keeper.limits ≡ k.limits
   pub clock : keeper.clock ≡ k.clock
   pub table : keeper.table ≡ k.table
   pub state : keeper.state ≡ k.state

@@ -5,7 +5,8 @@ use Rattle.irig_frame.specs.declared.symbol.Symbol.{Symbol}
 use Rattle.irig_sync.specs.Sync.{place_of}
 use Rattle.irig_time.specs.declared.rules.Rules.{Rules}
 use Rattle.irig_time.specs.Tables.{TableValue}
-use Rattle.irig_port.specs.Told.{told_of}
+use Rattle.irig_port.specs.declared.limits.Limits.{Limits}
+use Rattle.irig_port.specs.Limits.{told_within}
 use Rattle.irig_port.specs.Hearing.{heard_at}
 use Rattle.irig_reader.specs.declared.rule.State.TheVariants.{Idle}
 use Rattle.irig_timekeeper.specs.declared.lines.KeptClaim.{KeptClaim}
@@ -45,6 +46,7 @@ with_heard heard port s =
 -- what it was made of, what its ports heard, and where its clock stands
 pub record Keeping : Type 0 where
   pub rules : Rules
+  pub limits : Option Limits
   pub clock : ClockRules
   pub table : TableValue
   pub heard : Heard
@@ -65,9 +67,10 @@ new_state lines = record {
 }
 
 -- nothing has happened, on lines on which nothing came
-abbrev pub new_keeping : Rules → ClockRules → TableValue → Lines → Keeping
-new_keeping rules clock table lines = record {
+abbrev pub new_keeping : Option Limits → Rules → ClockRules → TableValue → Lines → Keeping
+new_keeping limits rules clock table lines = record {
   rules = rules;
+  limits = limits;
   clock = clock;
   table = table;
   heard = nothing_heard;
@@ -95,7 +98,7 @@ one_pulse_more k port rise width = record k {
   heard = with_heard k.heard port (heard_then k port rise width);
   state = with_lines k.state (with_line k.state.lines port
       (line_heard (line_at k.state.lines port) rise width
-      (told_of k.rules (heard_then k port rise width))));
+      (told_within k.limits k.rules (heard_then k port rise width))));
 }
 
 abbrev pub after_pulse : Keeping → ℕ → ℕ → ℕ → Keeping

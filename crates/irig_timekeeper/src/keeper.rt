@@ -1,11 +1,12 @@
 //! A timekeeper.
 
-ghost use Rattle.std.specs.Prelude.{◌≡◌, ◌<◌, ◌≤◌, ◌+◌, ◌*◌, List, MatchResult, None, Some};
+ghost use Rattle.std.specs.Prelude.{◌≡◌, ◌<◌, ◌≤◌, ◌+◌, ◌*◌, List, MatchResult, None, Option, Some};
 ghost use Rattle.irig_frame.specs.declared.symbol.Symbol.{Symbol};
 ghost use Rattle.irig_sync.specs.Sync.{place_of};
 ghost use Rattle.irig_time.specs.declared.rules.Rules.{Rules};
 ghost use Rattle.irig_time.specs.Seconds.{IsValid};
-ghost use Rattle.irig_port.specs.Told.{told_of, IfClaim};
+ghost use Rattle.irig_port.specs.Limits.{told_within};
+ghost use Rattle.irig_port.specs.Told.{IfClaim};
 ghost use Rattle.irig_port.specs.Hearing.{heard_at};
 ghost use Rattle.irig_vote.specs.Vote.{ports_in};
 ghost use Rattle.irig_reader.specs.Rule.{count_of};
@@ -16,7 +17,7 @@ use crate::clock::{Beat, ClockRules, ClockState, clock_of_nothing, tick, wait_of
 use crate::lines::{KeptFrame, Line, is_pulse, line_at, with_line};
 use crate::setup::{ClockFault, clock_fault};
 use crate::stamp::{Stamp, stamp_of};
-use irig_port::{Port, Told, hear};
+use irig_port::{Limits, Port, Told, edge_within, hear};
 use irig_reader::ReaderRules;
 use irig_time::{LeapTable, Rules};
 use irig_vote::Redundancy;
@@ -32,6 +33,7 @@ pub struct Timekeeper<P: Port> {
     pub(crate) d: P,
     pub(crate) e: P,
     pub(crate) rules: Rules,
+    pub(crate) limits: Option<Limits>,
     pub(crate) clock: ClockRules,
     pub(crate) table: LeapTable,
     pub(crate) state: ClockState,
@@ -58,7 +60,30 @@ impl<P: Port> Timekeeper<P> {
         requires { IsReaderRules reader_rules }
         ensures { MatchResult result
             (λ keeper. (clock_fault reader_rules drift_us ≡ None)
-            × (IsKeeping keeper (new_keeping rules (record {
+            × (IsKeeping keeper (new_keeping None rules (record {
+              reader_rules = reader_rules;
+              redundancy = redundancy;
+              drift_us = drift_us;
+            }) table keeper.state.lines) × AreNewLines keeper.state.lines))
+            (λ fault. clock_fault reader_rules drift_us ≡ Some fault) }
+    {
+        Timekeeper::new_within(rules, reader_rules, table, redundancy, drift_us, None)
+    }
+
+    /// The same, whose lines give no frame a vote that does not lie within the limits, if there are
+    /// any ([`edge_within`]).
+    pub fn new_within(
+        rules: Rules,
+        reader_rules: ReaderRules,
+        table: LeapTable,
+        redundancy: Redundancy,
+        drift_us: u32,
+        limits: Option<Limits>,
+    ) -> Result<Self, ClockFault>
+        requires { IsReaderRules reader_rules }
+        ensures { MatchResult result
+            (λ keeper. (clock_fault reader_rules drift_us ≡ None)
+            × (IsKeeping keeper (new_keeping limits rules (record {
               reader_rules = reader_rules;
               redundancy = redundancy;
               drift_us = drift_us;
@@ -75,6 +100,7 @@ impl<P: Port> Timekeeper<P> {
             d: P::fresh(rules),
             e: P::fresh(rules),
             rules,
+            limits,
             clock: ClockRules {
                 reader_rules,
                 redundancy,
@@ -125,17 +151,52 @@ impl<P: Port> Timekeeper<P> {
           heard = with_heard k.heard port (heard_at result (heard_by k.heard port) width_us);
         }) }
         ensures line { ForKeeping self.old (λ k. line.new ≡ line_heard line.old rise_us width_us
-            (told_of k.rules (heard_at result (heard_by k.heard port) width_us))) }
+            (told_within k.limits k.rules (heard_at result (heard_by k.heard port) width_us))) }
         ensures valid { IsKeptOfUtc line.new.frame }
         ensures state { self.new.state ≡ self.old.state }
         ensures lines { self.new.clock ≡ self.old.clock }
     {
         match port {
-            0 => hear_line(self.rules, &mut self.a, line, rise_us, width_us),
-            1 => hear_line(self.rules, &mut self.b, line, rise_us, width_us),
-            2 => hear_line(self.rules, &mut self.c, line, rise_us, width_us),
-            3 => hear_line(self.rules, &mut self.d, line, rise_us, width_us),
-            _ => hear_line(self.rules, &mut self.e, line, rise_us, width_us),
+            0 => hear_line(
+                self.rules,
+                self.limits,
+                &mut self.a,
+                line,
+                rise_us,
+                width_us,
+            ),
+            1 => hear_line(
+                self.rules,
+                self.limits,
+                &mut self.b,
+                line,
+                rise_us,
+                width_us,
+            ),
+            2 => hear_line(
+                self.rules,
+                self.limits,
+                &mut self.c,
+                line,
+                rise_us,
+                width_us,
+            ),
+            3 => hear_line(
+                self.rules,
+                self.limits,
+                &mut self.d,
+                line,
+                rise_us,
+                width_us,
+            ),
+            _ => hear_line(
+                self.rules,
+                self.limits,
+                &mut self.e,
+                line,
+                rise_us,
+                width_us,
+            ),
         }
     }
 
@@ -184,6 +245,7 @@ impl<P: Port> Timekeeper<P> {
 // A pulse on a line and at its port; at a frame's last one the line keeps what the port tells.
 fn hear_line<P: Port>(
     rules: Rules,
+    limits: Option<Limits>,
     port: &mut P,
     line: &mut Line,
     rise_us: u32,
@@ -191,15 +253,16 @@ fn hear_line<P: Port>(
 ) -> u8
     requires { IsKeptOfUtc line.old.frame }
     ensures place { result ≡ place_of line.old.sync rise_us width_us }
-    ensures line { (r : Rules) (s : List Symbol) → P.stands_for port.old r s → rules ≡ r
-        → line.new ≡ line_heard line.old rise_us width_us (told_of r (heard_at result s width_us)) }
+    ensures line { (l : Option Limits) (r : Rules) (s : List Symbol) → P.stands_for port.old r s
+        → limits ≡ l → rules ≡ r → line.new ≡ line_heard line.old rise_us width_us
+        (told_within l r (heard_at result s width_us)) }
     ensures heard { (r : Rules) (s : List Symbol) → P.stands_for port.old r s
         → P.stands_for port.new r (heard_at result s width_us) }
     ensures valid { IsKeptOfUtc line.new.frame }
 {
     let place = hear(port, &mut line.sync, rise_us, width_us);
     if place == 100 {
-        let told = told_by(rules, port);
+        let told = told_by(rules, limits, port);
         line.frame = Some(KeptFrame {
             told,
             end_us: rise_us.wrapping_add(10_000),
@@ -209,14 +272,14 @@ fn hear_line<P: Port>(
 }
 
 // What a port would tell; it keeps what it heard.
-fn told_by<P: Port>(rules: Rules, port: &mut P) -> Told
+fn told_by<P: Port>(rules: Rules, limits: Option<Limits>, port: &mut P) -> Told
     ensures told { (r : Rules) (s : List Symbol) → P.stands_for port.old r s
-        → result ≡ told_of rules s }
+        → result ≡ told_within limits rules s }
     ensures kept { (r : Rules) (s : List Symbol) → P.stands_for port.old r s
         → P.stands_for port.new r s }
     ensures valid { IfClaim result (λ claim. IsValid claim.at) }
 {
     let mut other = P::fresh(rules);
     other.take_over(port);
-    other.edge()
+    edge_within(&mut other, limits)
 }

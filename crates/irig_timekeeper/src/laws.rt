@@ -15,7 +15,7 @@ ghost use Rattle.irig_timekeeper.specs.Rule.{step_behind};
 ghost use Rattle.irig_time.specs.TimelineFaults.{IsTimeline};
 ghost use Rattle.irig_time.specs.Tables.{TableValue};
 ghost use Rattle.irig_vote.specs.Vote.{f_of};
-ghost use Rattle.irig_port.specs.Told.{told_of};
+ghost use Rattle.irig_port.specs.Limits.{told_within};
 ghost use Rattle.irig_port.specs.Hearing.{heard_at, IsHearing};
 ghost use Rattle.irig_timekeeper.specs.Edges.{IsQuartz, IsNear, IsTrueNear};
 ghost use Rattle.irig_timekeeper.specs.Lines.{IsTrueLately, IsFrameOf, IfKept, IsAnyEnd, HasJustCome};
@@ -32,6 +32,7 @@ ghost use Rattle.irig_timekeeper.specs.Life.Call.{Tick};
 use crate::clock::{Beat, ClockRules};
 use crate::lines::{KeptClaim, KeptFrame, Lines};
 use crate::stamp::Stamp;
+use irig_port::Limits;
 use irig_reader::{Cause, ReaderRules};
 use irig_time::{Claim, Rules, UtcSecond};
 
@@ -51,12 +52,13 @@ pub fn counting_is_right()
 /// What a line keeps is a frame of its pulses: none at first, and a pulse more goes on, as a
 /// timekeeper hears it, whether its port was emptied before or not.
 pub fn lines_keep_frames()
-    ensures { (rules : Rules) (frame : Option KeptFrame) (heard : List Symbol) (s : Sync)
+    ensures { (limits : Option Limits) (rules : Rules) (frame : Option KeptFrame) (heard : List Symbol) (s : Sync)
         (pulses : List Pulse) (now time width : ℕ) → IsHearing heard s pulses now
         → IfKept IsAnyEnd rules (claim_kept frame) pulses → IsAfter pulses time
         → IsSoon now time → IfKept IsAnyEnd rules (claim_kept (frame_behind
         (place_of s (time % 2 ^ 32) width) (time % 2 ^ 32)
-        (told_of rules (heard_at (place_of s (time % 2 ^ 32) width) heard width)) frame))
+        (told_within limits rules
+        (heard_at (place_of s (time % 2 ^ 32) width) heard width)) frame))
         (pulse_at time width ∷ pulses) }
 {}
 
@@ -95,34 +97,34 @@ pub fn votes_are_true()
 /// many edges more as a holdover may last, which is less than half a second. The edge that is told
 /// has come, less than 1.005 s before the tick.
 pub fn a_device_tells_the_truth()
-    ensures life { (t : TimelineValue) (edges : ℕ → ℕ) (rules : Rules) (clock : ClockRules)
+    ensures life { (t : TimelineValue) (edges : ℕ → ℕ) (limits : Option Limits) (rules : Rules) (clock : ClockRules)
         (table : TableValue) (lines : Lines) (start now : ℕ) (calls : List Call) (beat : Beat)
         (u : UtcSecond) → IsDevice t clock.drift_us edges clock.reader_rules table
         → AreNewLines lines → AreInOrder start clock.redundancy (Tick now ∷ calls)
         → AreTrueAtTicks (IsTrueLately rules t edges) (f_of clock.redundancy) (Tick now ∷ calls)
-        → answer_at (after_calls (new_keeping rules clock table lines) calls) (now % 2 ^ 32)
+        → answer_at (after_calls (new_keeping limits rules clock table lines) calls) (now % 2 ^ 32)
         ≡ Some beat → beat.report.announce ≡ Some u
         → IsToldInHoldover t edges 1549 549 clock.drift_us clock.reader_rules.holdover now beat u }
     // In order: what a later tick announces is a later second, so that none is announced twice.
-    ensures order { (t : TimelineValue) (edges : ℕ → ℕ) (rules : Rules) (clock : ClockRules)
+    ensures order { (t : TimelineValue) (edges : ℕ → ℕ) (limits : Option Limits) (rules : Rules) (clock : ClockRules)
         (table : TableValue) (lines : Lines) (start before now : ℕ) (earlier later : List Call)
         (beat then : Beat) (u v : UtcSecond)
         → IsDevice t clock.drift_us edges clock.reader_rules table → AreNewLines lines
         → AreInOrder start clock.redundancy (Tick now ∷ (later ++ (Tick before ∷ earlier)))
         → AreTrueAtTicks (IsTrueLately rules t edges) (f_of clock.redundancy)
         (Tick now ∷ (later ++ (Tick before ∷ earlier)))
-        → answer_at (after_calls (new_keeping rules clock table lines) earlier)
+        → answer_at (after_calls (new_keeping limits rules clock table lines) earlier)
         (before % 2 ^ 32) ≡ Some beat → beat.report.announce ≡ Some u
-        → answer_at (after_calls (new_keeping rules clock table lines)
+        → answer_at (after_calls (new_keeping limits rules clock table lines)
         (later ++ (Tick before ∷ earlier))) (now % 2 ^ 32) ≡ Some then
         → then.report.announce ≡ Some v → IsLaterSecond t u v }
     // And no report has the cause `Jump`.
-    ensures calm { (t : TimelineValue) (edges : ℕ → ℕ) (rules : Rules) (clock : ClockRules)
+    ensures calm { (t : TimelineValue) (edges : ℕ → ℕ) (limits : Option Limits) (rules : Rules) (clock : ClockRules)
         (table : TableValue) (lines : Lines) (start now : ℕ) (calls : List Call) (beat : Beat)
         → IsDevice t clock.drift_us edges clock.reader_rules table → AreNewLines lines
         → AreInOrder start clock.redundancy (Tick now ∷ calls)
         → AreTrueAtTicks (IsTrueLately rules t edges) (f_of clock.redundancy) (Tick now ∷ calls)
-        → answer_at (after_calls (new_keeping rules clock table lines) calls) (now % 2 ^ 32)
+        → answer_at (after_calls (new_keeping limits rules clock table lines) calls) (now % 2 ^ 32)
         ≡ Some beat → ¬ (beat.report.cause ≡ Cause.Jump) }
     // A setup without a fault is one of these.
     ensures setup { (rules : ReaderRules) (d : ℕ) → clock_fault rules d ≡ None
@@ -147,12 +149,12 @@ pub fn a_device_tells_the_truth()
 /// In order, whatever lines carry and however the counter drifts: the edges that are told lie half a
 /// second apart at least, and none lies ahead of its tick, nor 1.005 s behind it.
 pub fn edges_lie_apart()
-    ensures { (rules : Rules) (clock : ClockRules) (table : TableValue) (lines : Lines)
+    ensures { (limits : Option Limits) (rules : Rules) (clock : ClockRules) (table : TableValue) (lines : Lines)
         (start before now : ℕ) (earlier later : List Call) (beat then : Beat) → AreNewLines lines
         → AreInOrder start clock.redundancy (Tick now ∷ (later ++ (Tick before ∷ earlier)))
-        → answer_at (after_calls (new_keeping rules clock table lines) earlier)
+        → answer_at (after_calls (new_keeping limits rules clock table lines) earlier)
         (before % 2 ^ 32) ≡ Some beat
-        → answer_at (after_calls (new_keeping rules clock table lines)
+        → answer_at (after_calls (new_keeping limits rules clock table lines)
         (later ++ (Tick before ∷ earlier))) (now % 2 ^ 32) ≡ Some then
         → AreApartBeats before now beat then }
 {}
@@ -162,7 +164,7 @@ pub fn edges_lie_apart()
 /// tick from there on at most f are. (Until then it may hold over what is untrue, for as many
 /// edges as its rules allow.)
 pub fn a_device_heals()
-    ensures { (t : TimelineValue) (edges : ℕ → ℕ) (rules : Rules) (clock : ClockRules)
+    ensures { (t : TimelineValue) (edges : ℕ → ℕ) (limits : Option Limits) (rules : Rules) (clock : ClockRules)
         (table : TableValue) (lines : Lines) (start mend now : ℕ) (earlier later : List Call)
         (vote : KeptClaim) (beat then : Beat) (u : UtcSecond)
         → IsDevice t clock.drift_us edges clock.reader_rules table → AreNewLines lines
@@ -170,11 +172,11 @@ pub fn a_device_heals()
         → AreTrueLately (IsTrueLately rules t edges) (f_of clock.redundancy) mend earlier
         → AreTrueOver (IsTrueLately rules t edges) (f_of clock.redundancy) (Tick now ∷ later)
         (Tick mend ∷ earlier)
-        → vote_at (after_calls (new_keeping rules clock table lines) earlier) (mend % 2 ^ 32)
+        → vote_at (after_calls (new_keeping limits rules clock table lines) earlier) (mend % 2 ^ 32)
         ≡ Some vote
-        → answer_at (after_calls (new_keeping rules clock table lines) earlier) (mend % 2 ^ 32)
+        → answer_at (after_calls (new_keeping limits rules clock table lines) earlier) (mend % 2 ^ 32)
         ≡ Some beat
-        → answer_at (after_calls (new_keeping rules clock table lines)
+        → answer_at (after_calls (new_keeping limits rules clock table lines)
         (later ++ (Tick mend ∷ earlier))) (now % 2 ^ 32) ≡ Some then
         → then.report.announce ≡ Some u
         → IsToldInHoldover t edges 1549 549 clock.drift_us clock.reader_rules.holdover now then u }
@@ -228,17 +230,17 @@ pub fn beats_are_votes()
 /// later, by 98 ms behind that frame's end, has a vote, which answers or sets the edge right. Without
 /// one it counts an edge by the own counter. A device says 0 only if a tick at once does so.
 pub fn waiting_is_right()
-    ensures votes { (rules : Rules) (clock : ClockRules) (table : TableValue) (lines : Lines)
+    ensures votes { (limits : Option Limits) (rules : Rules) (clock : ClockRules) (table : TableValue) (lines : Lines)
         (start now then edge : ℕ) (calls : List Call) (vote : KeptClaim) → AreNewLines lines
         → AreInOrder start clock.redundancy (Tick now ∷ calls)
         → AreInOrder start clock.redundancy (Tick then ∷ calls)
-        → agreed (f_of (after_calls (new_keeping rules clock table lines) calls).clock.redundancy)
+        → agreed (f_of (after_calls (new_keeping limits rules clock table lines) calls).clock.redundancy)
         (settled (now % 2 ^ 32)
-        (after_calls (new_keeping rules clock table lines) calls).state.lines) ≡ Some vote
+        (after_calls (new_keeping limits rules clock table lines) calls).state.lines) ≡ Some vote
         → vote.end_us ≡ edge % 2 ^ 32 → edge ≤ now + 10000 → now ≤ edge + 98000
-        → now + wait_at (after_calls (new_keeping rules clock table lines) calls) (now % 2 ^ 32)
+        → now + wait_at (after_calls (new_keeping limits rules clock table lines) calls) (now % 2 ^ 32)
         ≤ then → then ≤ edge + 98000
-        → (v : KeptClaim) × (vote_at (after_calls (new_keeping rules clock table lines) calls)
+        → (v : KeptClaim) × (vote_at (after_calls (new_keeping limits rules clock table lines) calls)
         (then % 2 ^ 32) ≡ Some v) }
     ensures counts { (e edge tick now more : ℕ) → IsEdgeAt e edge tick → tick ≤ now
         → now + wait_by (now % 2 ^ 32) (Some e) None + more ≤ tick + 1800000000
@@ -253,13 +255,13 @@ pub fn waiting_is_right()
 /// of an event of the last half hour has a second T(m) and an offset that lie no further from the
 /// event than the stamp's bound, by the device's counter.
 pub fn stamps_are_true()
-    ensures stamp { (t : TimelineValue) (edges : ℕ → ℕ) (rules : Rules) (clock : ClockRules)
+    ensures stamp { (t : TimelineValue) (edges : ℕ → ℕ) (limits : Option Limits) (rules : Rules) (clock : ClockRules)
         (table : TableValue) (lines : Lines) (start time now : ℕ) (calls : List Call)
         (stamp : Stamp) → IsDevice t clock.drift_us edges clock.reader_rules table
         → AreNewLines lines → AreInOrder start clock.redundancy (Tick now ∷ calls)
         → AreTrueAtTicks (IsTrueLately rules t edges) (f_of clock.redundancy) calls
         → time ≤ now → now ≤ time + 1800000000
-        → stamp_at (after_calls (new_keeping rules clock table lines) calls) (time % 2 ^ 32)
+        → stamp_at (after_calls (new_keeping limits rules clock table lines) calls) (time % 2 ^ 32)
         ≡ Some stamp → IsStampedTruly t edges 0 time stamp }
     // So two devices stamp one instant alike, whatever their counters show: what their stamps name
     // lies no further apart than the sum of their bounds and the drift of two seconds of each.
@@ -277,14 +279,14 @@ pub fn stamps_are_true()
 /// have told it. Then a tick of the last of these seconds announces it by a vote, whatever the other
 /// lines send.
 pub fn a_device_announces()
-    ensures { (t : TimelineValue) (edges : ℕ → ℕ) (rules : Rules) (clock : ClockRules)
+    ensures { (t : TimelineValue) (edges : ℕ → ℕ) (limits : Option Limits) (rules : Rules) (clock : ClockRules)
         (table : TableValue) (lines : Lines) (start m : ℕ) (calls before : List Call)
         (u : UtcSecond) → IsDevice t clock.drift_us edges clock.reader_rules table
         → AreNewLines lines → AreInOrder start clock.redundancy calls → 1 ≤ m
         → 1 ≤ clock.reader_rules.lock_after → last_call start before + 11000 < edges m
-        → AreWellHeard (IsTrueLately rules t edges) t edges (new_keeping rules clock table lines)
+        → AreWellHeard (IsTrueLately rules t edges) t edges (new_keeping limits rules clock table lines)
         start m (suc (suc clock.reader_rules.lock_after)) calls before
         → IsSecond t (m + 1 + clock.reader_rules.lock_after) u
-        → Announces edges (new_keeping rules clock table lines)
+        → Announces edges (new_keeping limits rules clock table lines)
         (m + 1 + clock.reader_rules.lock_after) u calls }
 {}

@@ -1,6 +1,6 @@
 //! Laws of a timekeeper whose lines have faults, over its definitions. They have no code.
 
-ghost use Rattle.std.specs.Prelude.{◌≡◌, ◌+◌, ◌*◌, ◌%◌, ◌^◌, ◌<◌, ◌≤◌, ℕ, List, ◌∷◌, ◌++◌, Some};
+ghost use Rattle.std.specs.Prelude.{◌≡◌, ◌+◌, ◌*◌, ◌%◌, ◌^◌, ◌<◌, ◌≤◌, ℕ, List, ◌∷◌, ◌++◌, Option, Some};
 ghost use Rattle.irig_frame.specs.declared.symbol.Symbol.{Symbol};
 ghost use Rattle.irig_sync.specs.Lines.{Pulse};
 ghost use Rattle.irig_sync.specs.FaultyLines.{ArePulsesBefore};
@@ -18,6 +18,7 @@ ghost use Rattle.irig_timekeeper.specs.Life.Call.{Tick};
 
 use crate::clock::{Beat, ClockRules};
 use crate::lines::Lines;
+use irig_port::Limits;
 use irig_reader::{Cause, ReaderRules};
 use irig_time::{Claim, Rules, UtcSecond};
 
@@ -34,45 +35,45 @@ pub fn lines_with_faults_tell_truly()
         → now ≤ end + 100000 → IsTrueNear t edges (2449 + d) (1448 + d) end claim }
     // So a device tells the truth all its life: the edge that it tells lies from 3.549 ms before
     // the true one to 1.549 ms behind, and as much further off as a holdover drifts.
-    ensures life { (t : TimelineValue) (edges : ℕ → ℕ) (rules : Rules) (clock : ClockRules)
+    ensures life { (t : TimelineValue) (edges : ℕ → ℕ) (limits : Option Limits) (rules : Rules) (clock : ClockRules)
         (table : TableValue) (lines : Lines) (start now : ℕ) (calls : List Call) (beat : Beat)
         (u : UtcSecond) → IsDevice t clock.drift_us edges clock.reader_rules table
         → AreNewLines lines → AreInOrder start clock.redundancy (Tick now ∷ calls)
         → AreTrueAtTicks (IsTrueButForFaults rules t edges) (f_of clock.redundancy)
         (Tick now ∷ calls)
-        → answer_at (after_calls (new_keeping rules clock table lines) calls) (now % 2 ^ 32)
+        → answer_at (after_calls (new_keeping limits rules clock table lines) calls) (now % 2 ^ 32)
         ≡ Some beat → beat.report.announce ≡ Some u
         → IsToldInHoldover t edges 3549 1549 clock.drift_us clock.reader_rules.holdover now beat u }
     // Some of its lines may have faults while others lose any pulses.
-    ensures either { (t : TimelineValue) (edges : ℕ → ℕ) (rules : Rules) (clock : ClockRules)
+    ensures either { (t : TimelineValue) (edges : ℕ → ℕ) (limits : Option Limits) (rules : Rules) (clock : ClockRules)
         (table : TableValue) (lines : Lines) (start now : ℕ) (calls : List Call) (beat : Beat)
         (u : UtcSecond) → IsDevice t clock.drift_us edges clock.reader_rules table
         → AreNewLines lines → AreInOrder start clock.redundancy (Tick now ∷ calls)
         → AreTrueAtTicks (IsTrueOrFaulty rules t edges) (f_of clock.redundancy) (Tick now ∷ calls)
-        → answer_at (after_calls (new_keeping rules clock table lines) calls) (now % 2 ^ 32)
+        → answer_at (after_calls (new_keeping limits rules clock table lines) calls) (now % 2 ^ 32)
         ≡ Some beat → beat.report.announce ≡ Some u
         → IsToldInHoldover t edges 3549 1549 clock.drift_us clock.reader_rules.holdover now beat u }
     // In order: what a later tick announces is a later second.
-    ensures order { (t : TimelineValue) (edges : ℕ → ℕ) (rules : Rules) (clock : ClockRules)
+    ensures order { (t : TimelineValue) (edges : ℕ → ℕ) (limits : Option Limits) (rules : Rules) (clock : ClockRules)
         (table : TableValue) (lines : Lines) (start before now : ℕ) (earlier later : List Call)
         (beat then : Beat) (u v : UtcSecond)
         → IsDevice t clock.drift_us edges clock.reader_rules table → AreNewLines lines
         → AreInOrder start clock.redundancy (Tick now ∷ (later ++ (Tick before ∷ earlier)))
         → AreTrueAtTicks (IsTrueButForFaults rules t edges) (f_of clock.redundancy)
         (Tick now ∷ (later ++ (Tick before ∷ earlier)))
-        → answer_at (after_calls (new_keeping rules clock table lines) earlier)
+        → answer_at (after_calls (new_keeping limits rules clock table lines) earlier)
         (before % 2 ^ 32) ≡ Some beat → beat.report.announce ≡ Some u
-        → answer_at (after_calls (new_keeping rules clock table lines)
+        → answer_at (after_calls (new_keeping limits rules clock table lines)
         (later ++ (Tick before ∷ earlier))) (now % 2 ^ 32) ≡ Some then
         → then.report.announce ≡ Some v → IsLaterSecond t u v }
     // And no report has the cause `Jump`.
-    ensures calm { (t : TimelineValue) (edges : ℕ → ℕ) (rules : Rules) (clock : ClockRules)
+    ensures calm { (t : TimelineValue) (edges : ℕ → ℕ) (limits : Option Limits) (rules : Rules) (clock : ClockRules)
         (table : TableValue) (lines : Lines) (start now : ℕ) (calls : List Call) (beat : Beat)
         → IsDevice t clock.drift_us edges clock.reader_rules table → AreNewLines lines
         → AreInOrder start clock.redundancy (Tick now ∷ calls)
         → AreTrueAtTicks (IsTrueButForFaults rules t edges) (f_of clock.redundancy)
         (Tick now ∷ calls)
-        → answer_at (after_calls (new_keeping rules clock table lines) calls) (now % 2 ^ 32)
+        → answer_at (after_calls (new_keeping limits rules clock table lines) calls) (now % 2 ^ 32)
         ≡ Some beat → ¬ (beat.report.cause ≡ Cause.Jump) }
     // The bound is less than half a second.
     ensures half { (t : TimelineValue) (d : ℕ) (edges : ℕ → ℕ) (rules : ReaderRules)

@@ -19,7 +19,7 @@ use Rattle.irig_time.specs.TextValues.{second_text}
 use Rattle.irig_port.specs.declared.told.Told.{Told}
 use Rattle.irig_port.specs.declared.told.Told.TheVariants as tells
 use Rattle.irig_port.specs.declared.told.PortFault.{PortFault}
-use Rattle.irig_port.specs.declared.told.PortFault.TheVariants.{Frame, Parity, Sbs, Time}
+use Rattle.irig_port.specs.declared.told.PortFault.TheVariants.{Frame, Parity, Sbs, Time, Early}
 use Rattle.text_faults.specs.declared.port_fault.FaultDetail.{FaultDetail}
 use Rattle.text_faults.specs.declared.port_fault.FaultDetail.TheVariants as detail
 use Rattle.irig_time.specs.MarkWords.{mark_word}
@@ -62,6 +62,7 @@ fault_name_word (Time Second60) = word_by_test (codes "Second60") refl
 fault_name_word (Time DeletedSecond) = word_by_test (codes "DeletedSecond") refl
 fault_name_word Parity = word_by_test (codes "Parity") refl
 fault_name_word Sbs = word_by_test (codes "Sbs") refl
+fault_name_word Early = word_by_test (codes "Early") refl
 
 field_is_word : (field : Field) → IsWord (field_word field)
 field_is_word Second = word_by_test (codes "second") refl

@@ -1,7 +1,7 @@
 use crate::texts::{LEAP_DAY, LEAP_DAY_VALUE, frame};
 use irig_control::Parity;
-use irig_frame::{FrameFault, Symbol};
-use irig_port::{FlowPort, Port, PortFault, Told, WholePort, hear};
+use irig_frame::{Coded, FrameFault, Symbol};
+use irig_port::{FlowPort, Limits, Port, PortFault, Told, WholePort, edge_within, hear};
 use irig_sync::Sync;
 use irig_time::{Claim, Mark, Rules, UtcSecond};
 use std::process::Abort;
@@ -54,6 +54,42 @@ fn tells_of_a_frame_by_its_value<P: Port>(rt: &impl Abort) {
 fn a_frame_comes_whole_by_its_value(rt: HostRuntime) {
     tells_of_a_frame_by_its_value::<WholePort>(&rt);
     tells_of_a_frame_by_its_value::<FlowPort>(&rt);
+}
+
+/// The same second, of quality 4.
+const FAIR_VALUE: Coded = Coded {
+    second: 59,
+    minute: 59,
+    hour: 23,
+    day: 366,
+    year: 16,
+    control: 4097,
+    sbs: 86_399,
+};
+
+// The second is of day 6209.
+fn tells_within_limits<P: Port>(rt: &impl Abort) {
+    let rows = [
+        (6209, 5, LEAP_DAY_TOLD),
+        (6209, 4, Told::Poor(4)),
+        (6210, 4, Told::Poor(4)),
+        (6210, 5, Told::Fault(PortFault::Early)),
+    ];
+    for (not_before, poor_from, told) in rows {
+        let limits = Limits {
+            not_before,
+            poor_from,
+        };
+        let mut port = P::with_frame(Rules::PLAIN, &FAIR_VALUE, Parity::Even);
+        assert!(rt; edge_within(&mut port, Some(limits)) == told);
+        assert!(rt; port.edge() == Told::Silence);
+    }
+}
+
+#[test]
+fn beyond_limits_there_is_no_vote(rt: HostRuntime) {
+    tells_within_limits::<WholePort>(&rt);
+    tells_within_limits::<FlowPort>(&rt);
 }
 
 /// Hears a pulse each 10 ms, and answers the last one's place.

@@ -1,5 +1,6 @@
+use crate::texts::{LEAP_DAY, frame};
 use irig_frame::FrameFault;
-use irig_port::{FlowPort, Port, PortFault, Told};
+use irig_port::{FlowPort, Limits, Port, PortFault, Told};
 use irig_reader::{Reader, ReaderRules, in_range};
 use irig_time::{Claim, LeapTable, Mark, Rules, UtcSecond};
 use irig_vote::{Redundancy, Tells, vote};
@@ -107,4 +108,33 @@ fn an_empty_port_takes_over_what_another_heard(rt: HostRuntime) {
     let short = Told::Fault(PortFault::Frame(FrameFault::Short(1)));
     assert!(rt; reader.tick().told.a == short);
     assert!(rt; heard.edge() == short);
+}
+
+#[test]
+fn clocks_before_the_first_day_have_no_vote(rt: HostRuntime) {
+    let reader_rules = ReaderRules {
+        lock_after: 1,
+        holdover: 0,
+    };
+    let inserted = UtcSecond {
+        day: 6209,
+        sod: 86400,
+    };
+    for (not_before, second) in [(6209, Some(inserted)), (6210, None)] {
+        let limits = Limits {
+            not_before,
+            poor_from: 10,
+        };
+        let mut reader: Reader<FlowPort> = Reader::fresh_within(
+            Rules::PLAIN,
+            reader_rules,
+            LeapTable::empty(),
+            Redundancy::One,
+            Some(limits),
+        );
+        for symbol in frame(LEAP_DAY) {
+            reader.pulse(0, symbol.width_us());
+        }
+        assert!(rt; reader.tick().report.announce == second);
+    }
 }

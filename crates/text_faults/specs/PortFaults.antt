@@ -7,7 +7,7 @@ use Rattle.irig_frame.specs.declared.layout.Field.TheVariants.{Second, Minute, H
 use Rattle.irig_frame.specs.declared.fault.FrameFault.TheVariants.{Short, Long, Pulse, Marker, Digit, Range}
 use Rattle.irig_time.specs.declared.claim.TimeFault.TheVariants.{NoSuchDay, OutOfYears, Second60, DeletedSecond}
 use Rattle.irig_port.specs.declared.told.PortFault.{PortFault}
-use Rattle.irig_port.specs.declared.told.PortFault.TheVariants.{Frame, Parity, Sbs, Time}
+use Rattle.irig_port.specs.declared.told.PortFault.TheVariants.{Frame, Parity, Sbs, Time, Early}
 use Rattle.text_faults.specs.declared.port_fault.FaultDetail.{FaultDetail}
 use Rattle.text_faults.specs.declared.port_fault.FaultDetail.TheVariants as detail
 
@@ -25,6 +25,7 @@ number_of (Time Second60) = 9
 number_of (Time DeletedSecond) = 10
 number_of Parity = 17
 number_of Sbs = 18
+number_of Early = 36
 
 -- its name
 abbrev pub name_of : PortFault → List ℕ
@@ -40,6 +41,7 @@ name_of (Time Second60) = codes "Second60"
 name_of (Time DeletedSecond) = codes "DeletedSecond"
 name_of Parity = codes "Parity"
 name_of Sbs = codes "Sbs"
+name_of Early = codes "Early"
 
 -- what it says beside its name
 abbrev pub detail_of : PortFault → Option FaultDetail
@@ -52,6 +54,7 @@ detail_of (Frame (Range field)) = Some (detail.Field field)
 detail_of (Time fault) = None
 detail_of Parity = None
 detail_of Sbs = None
+detail_of Early = None
 
 -- the word for a field
 abbrev pub field_word : Field → List ℕ

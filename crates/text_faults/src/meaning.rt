@@ -18,7 +18,7 @@ pub struct Meaning {
     pub cure: &'static str,
 }
 
-static MEANINGS: [Meaning; 34] = [
+static MEANINGS: [Meaning; 36] = [
     // 1
     Meaning {
         name: "Short n",
@@ -257,9 +257,24 @@ static MEANINGS: [Meaning; 34] = [
         example: "\"leaps\":[{\"day\":\"2016-12-31\",\"kind\":\"insert\"},{\"day\":\"2016-12-31\",\"kind\":\"insert\"}] in a table",
         cure: "leave one out",
     },
+    // 35
+    Meaning {
+        name: "Drift",
+        cause: "a holdover longer than a timekeeper's counter can count: (holdover + 2) * drift_us is above 490,000",
+        example: "a holdover of a day by a counter that is 50 microseconds a second wrong",
+        cure: "ask for a shorter holdover, or use a better oscillator",
+    },
+    // 36
+    Meaning {
+        name: "Early",
+        cause: "a second before the first day that the reader takes, not_before",
+        example: "day 366 of 2000 from a clock that sends no year",
+        cure: "set the clock to B004; if it has the wrong year, see if its count of GPS weeks began anew",
+    },
 ];
 
-/// What the number of a fault of a frame (1 to 10, 17, 18) or of a refusal (11 to 16, 19 to 34)
+/// What the number of a fault of a frame (1 to 10, 17, 18, 36), of a refusal
+/// (11 to 16, 19 to 34) or of a setup (35)
 /// means; none of another number.
 pub fn meaning_of(number: u8) -> Option<&'static Meaning>
     ensures known { is_some result ≡ is_number number }

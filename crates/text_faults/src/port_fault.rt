@@ -19,7 +19,7 @@ pub enum FaultDetail {
     Field(Field),
 }
 
-/// The number by which users know a fault of a frame: 1 to 10, 17 or 18.
+/// The number by which users know a fault of a frame: 1 to 10, 17, 18 or 36.
 pub fn number_of(fault: PortFault) -> u8
     ensures { result ≡ number_of fault }
 {
@@ -36,6 +36,7 @@ pub fn number_of(fault: PortFault) -> u8
         PortFault::Time(TimeFault::DeletedSecond) => 10,
         PortFault::Parity => 17,
         PortFault::Sbs => 18,
+        PortFault::Early => 36,
     }
 }
 
@@ -56,6 +57,7 @@ pub fn name_of(fault: PortFault) -> &'static str
         PortFault::Time(TimeFault::DeletedSecond) => "DeletedSecond",
         PortFault::Parity => "Parity",
         PortFault::Sbs => "Sbs",
+        PortFault::Early => "Early",
     }
 }
 

@@ -6,6 +6,6 @@ use Rattle.c_keeper.specs.Lines.{lines_in}
 use Rattle.c_keeper.proofs.timekeeper.forget.Goals as goal
 
 pub returns-clause-lines : goal.returns-clause-lines
-returns-clause-lines c rules =
-    subst (λ (ls : IrigLines). AreNewLines (lines_in rules ls)) (sym (ap (λ (t : IrigTimekeeper). t.lines) c.set_edge.ensures.others))
-    (c.lines_of_nothing-timekeeper.ensures.new rules)
+returns-clause-lines c limits rules =
+    subst (λ (ls : IrigLines). AreNewLines (lines_in limits rules ls)) (sym (ap (λ (t : IrigTimekeeper). t.lines) c.set_edge.ensures.others))
+    (c.lines_of_nothing-timekeeper.ensures.new limits rules)

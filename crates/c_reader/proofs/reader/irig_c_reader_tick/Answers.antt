@@ -22,7 +22,7 @@ use Rattle.c_numbers.specs.declared.table.IrigTable.{IrigTable}
 use Rattle.c_numbers.specs.LeapTables.{table_in}
 use Rattle.c_numbers.specs.declared.setup.IrigSetup.{IrigSetup}
 use Rattle.c_numbers.specs.CheckWord.{check_of}
-use Rattle.c_numbers.specs.Setups.{rules_in, reader_rules_in, redundancy_in, IsSetup}
+use Rattle.c_numbers.specs.Setups.{limits_in, rules_in, reader_rules_in, redundancy_in, IsSetup}
 use Rattle.c_numbers.specs.States.{IsState}
 use Rattle.c_reader.proofs.TellsLaws.{tells_are}
 use Rattle.c_reader.proofs.reader.irig_c_reader_tick.Goals as goal
@@ -83,6 +83,7 @@ returns-clause-after c h s =
     let ports = c.empty.ensures.ports in
     record {
       rules = ap (λ (x : IrigSetup). rules_in x) setup ∙ s.rules;
+      limits = ap (λ (x : IrigSetup). limits_in x) setup ∙ s.limits;
       reader_rules = ap (λ (x : IrigSetup). reader_rules_in x) setup ∙ s.reader_rules;
       table = ap (λ (x : IrigTable). table_in x) kept ∙ s.table;
       redundancy = ap (λ (x : IrigSetup). redundancy_in x) setup ∙ s.redundancy;

@@ -16,13 +16,13 @@ returns-clause-sealed c =
     let fits : r.check < 18446744073709551616 = search rules in
     let place : c.from-place.result ≡ c.args.port = c.from-place.ensures in
     let q : IrigReader = record r { ports = slice_set r.ports c.from-place.result c.args.tally } in
-    let rest : ℕ = weighted 3 (setup_numbers r.setup) + weighted 15 (table_numbers r.table) + weighted 275 (state_numbers r.state) in
-    let before : ℕ = weighted (287 + 10 * c.args.port) (tally_numbers (tally_at r.ports c.args.port)) in
-    let after : ℕ = weighted (287 + 10 * c.args.port) (tally_numbers c.args.tally) in
+    let rest : ℕ = weighted 3 (setup_numbers r.setup) + weighted 19 (table_numbers r.table) + weighted 279 (state_numbers r.state) in
+    let before : ℕ = weighted (291 + 10 * c.args.port) (tally_numbers (tally_at r.ports c.args.port)) in
+    let after : ℕ = weighted (291 + 10 * c.args.port) (tally_numbers c.args.tally) in
     let adds : (before + c.tally_change-change.result) % 18446744073709551616 ≡ after % 18446744073709551616 = search rules in
     let set = port_set r.ports c.args.port c.args.tally five c.requires in
     rw (by_parts r long, by_parts q long, place)
-    (renewed r.check rest before after (weighted 287 (port_numbers r.ports)) (weighted 287 (port_numbers (slice_set r.ports c.args.port c.args.tally))) c.tally_change-change.result set fits adds)
+    (renewed r.check rest before after (weighted 291 (port_numbers r.ports)) (weighted 291 (port_numbers (slice_set r.ports c.args.port c.args.tally))) c.tally_change-change.result set fits adds)
 
 pub returns-clause-heard : goal.returns-clause-heard
 returns-clause-heard c h widths s tally =
@@ -30,6 +30,7 @@ returns-clause-heard c h widths s tally =
     let five : length r.ports ≡ 5 = search rules in
     record {
       rules = s.rules;
+      limits = s.limits;
       reader_rules = s.reader_rules;
       table = s.table;
       redundancy = s.redundancy;

@@ -5,7 +5,7 @@ use Rattle.c_numbers.specs.declared.setup.IrigSetup.{IrigSetup}
 use Rattle.c_numbers.specs.declared.state.IrigState.{IrigState}
 use Rattle.c_numbers.specs.declared.table.IrigTable.{IrigTable}
 use Rattle.c_numbers.specs.LeapTables.{table_in}
-use Rattle.c_numbers.specs.Setups.{rules_in, reader_rules_in, IsSetup}
+use Rattle.c_numbers.specs.Setups.{limits_in, rules_in, reader_rules_in, IsSetup}
 use Rattle.c_keeper.specs.CheckWord.{check_of}
 use Rattle.c_keeper.specs.Lines.{lines_in}
 use Rattle.c_keeper.proofs.ValueLaws.{none_announced}
@@ -20,10 +20,11 @@ returns-clause-fresh c done =
     let steady : clock_fault (reader_rules_in c.args.setup.now) c.args.drift_us ≡ None = search rules in
     record {
       rules = ap (λ (s : IrigSetup). rules_in s) new.setup;
+      limits = ap (λ (s : IrigSetup). limits_in s) new.setup;
       clock = refl;
       table = ap (λ (t : IrigTable). table_in t) new.table;
       heard = new.heard;
-      state = new.state ∙ ap (λ (s : IrigSetup). new_state (lines_in (rules_in s) q.lines)) new.setup;
+      state = new.state ∙ ap (λ (s : IrigSetup). new_state (lines_in (limits_in s) (rules_in s) q.lines)) new.setup;
       accepted = record {
         setup = subst (λ (s : IrigSetup). IsSetup s) (sym new.setup) is_setup;
         steady = ap (λ (s : IrigSetup). clock_fault (reader_rules_in s) q.drift_us) new.setup

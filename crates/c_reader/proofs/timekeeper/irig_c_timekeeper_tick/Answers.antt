@@ -8,7 +8,7 @@ use Rattle.irig_timekeeper.proofs.VotedLaws.{tick_voted}
 use Rattle.c_numbers.specs.declared.setup.IrigSetup.{IrigSetup}
 use Rattle.c_numbers.specs.declared.table.IrigTable.{IrigTable}
 use Rattle.c_numbers.specs.LeapTables.{table_in}
-use Rattle.c_numbers.specs.Setups.{rules_in, IsSetup}
+use Rattle.c_numbers.specs.Setups.{limits_in, rules_in, IsSetup}
 use Rattle.c_keeper.specs.CheckWord.{check_of}
 use Rattle.c_keeper.specs.Seconds.{IsSecondOf}
 use Rattle.c_keeper.specs.Timekeepers.{answer_in, clock_in, clock_state_in}
@@ -42,6 +42,7 @@ returns-clause-after c k h =
     let new = c.tick_accepted.ensures in
     record {
       rules = ap (λ (s : IrigSetup). rules_in s) new.setup ∙ h.rules;
+      limits = ap (λ (s : IrigSetup). limits_in s) new.setup ∙ h.limits;
       clock = clock_as t q new.setup new.drift ∙ h.clock;
       table = ap (λ (x : IrigTable). table_in x) new.table ∙ h.table;
       heard = new.heard k.heard h.heard;
@@ -59,7 +60,7 @@ returns-clause-after c k h =
 pub returns-clause-truth : goal.returns-clause-truth
 returns-clause-truth c t d edges now pulses u done clock steady sound heard told voted says =
     let numbers = c.args.timekeeper.now in
-    let k : Keeping = record { rules = rules_in numbers.setup; clock = clock_in numbers; table = table_in numbers.table; heard = nothing_heard; state = clock_state_in numbers } in
+    let k : Keeping = record { rules = rules_in numbers.setup; limits = limits_in numbers.setup; clock = clock_in numbers; table = table_in numbers.table; heard = nothing_heard; state = clock_state_in numbers } in
     let found = beat_of c.tick_accepted.result (answer_in numbers c.args.now_us) c.tick_accepted.ensures.said told in
     let beat = found.0 in (
       beat,

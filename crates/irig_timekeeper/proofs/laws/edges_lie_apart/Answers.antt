@@ -5,5 +5,5 @@ use Rattle.irig_timekeeper.proofs.OrderLaws.{edges_apart}
 use Rattle.irig_timekeeper.proofs.laws.edges_lie_apart.Goals as goal
 
 pub returns : goal.returns
-returns _ rules clock table lines start before now earlier later beat then fresh order answer answers =
-    edges_apart (new_keeping rules clock table lines) start (begins rules clock table lines start fresh) refl earlier later before now beat then order answer answers
+returns _ limits rules clock table lines start before now earlier later beat then fresh order answer answers =
+    edges_apart (new_keeping limits rules clock table lines) start (begins limits rules clock table lines start fresh) refl earlier later before now beat then order answer answers

@@ -18,8 +18,8 @@ returns-in-0 g c =
       answer = λ h s. rw at (took.answer _ _ s.a ∙ none_heard h.fed.a);
       fed = λ empty rules widths heard h s.
           let port = taken g.P.Port _ _ h.fed.a widths (took.empty empty _ _ s.a) (took.taken empty _ _ _ _ s.a heard) in
-          rw at (record { a = port; b = s.b; c = s.c; d = s.d; e = s.e; reader_rules = s.reader_rules; table = s.table; redundancy = s.redundancy; state = s.state });
-      unchanged = λ full h s. record { a = rw (took.unchanged full) s.a; b = s.b; c = s.c; d = s.d; e = s.e; reader_rules = s.reader_rules; table = s.table; redundancy = s.redundancy; state = s.state };
+          rw at (record { a = port; b = s.b; c = s.c; d = s.d; e = s.e; reader_rules = s.reader_rules; table = s.table; redundancy = s.redundancy; limits = s.limits; state = s.state });
+      unchanged = λ full h s. record { a = rw (took.unchanged full) s.a; b = s.b; c = s.c; d = s.d; e = s.e; reader_rules = s.reader_rules; table = s.table; redundancy = s.redundancy; limits = s.limits; state = s.state };
       kept = took.kept;
       ports = refl;
     }
@@ -32,8 +32,8 @@ returns-in-1 g c =
       answer = λ h s. rw at (took.answer _ _ s.b ∙ none_heard h.fed.b);
       fed = λ empty rules widths heard h s.
           let port = taken g.P.Port _ _ h.fed.b widths (took.empty empty _ _ s.b) (took.taken empty _ _ _ _ s.b heard) in
-          rw at (record { a = s.a; b = port; c = s.c; d = s.d; e = s.e; reader_rules = s.reader_rules; table = s.table; redundancy = s.redundancy; state = s.state });
-      unchanged = λ full h s. record { a = s.a; b = rw (took.unchanged full) s.b; c = s.c; d = s.d; e = s.e; reader_rules = s.reader_rules; table = s.table; redundancy = s.redundancy; state = s.state };
+          rw at (record { a = s.a; b = port; c = s.c; d = s.d; e = s.e; reader_rules = s.reader_rules; table = s.table; redundancy = s.redundancy; limits = s.limits; state = s.state });
+      unchanged = λ full h s. record { a = s.a; b = rw (took.unchanged full) s.b; c = s.c; d = s.d; e = s.e; reader_rules = s.reader_rules; table = s.table; redundancy = s.redundancy; limits = s.limits; state = s.state };
       kept = took.kept;
       ports = refl;
     }
@@ -46,8 +46,8 @@ returns-in-2 g c =
       answer = λ h s. rw at (took.answer _ _ s.c ∙ none_heard h.fed.c);
       fed = λ empty rules widths heard h s.
           let port = taken g.P.Port _ _ h.fed.c widths (took.empty empty _ _ s.c) (took.taken empty _ _ _ _ s.c heard) in
-          rw at (record { a = s.a; b = s.b; c = port; d = s.d; e = s.e; reader_rules = s.reader_rules; table = s.table; redundancy = s.redundancy; state = s.state });
-      unchanged = λ full h s. record { a = s.a; b = s.b; c = rw (took.unchanged full) s.c; d = s.d; e = s.e; reader_rules = s.reader_rules; table = s.table; redundancy = s.redundancy; state = s.state };
+          rw at (record { a = s.a; b = s.b; c = port; d = s.d; e = s.e; reader_rules = s.reader_rules; table = s.table; redundancy = s.redundancy; limits = s.limits; state = s.state });
+      unchanged = λ full h s. record { a = s.a; b = s.b; c = rw (took.unchanged full) s.c; d = s.d; e = s.e; reader_rules = s.reader_rules; table = s.table; redundancy = s.redundancy; limits = s.limits; state = s.state };
       kept = took.kept;
       ports = refl;
     }
@@ -60,8 +60,8 @@ returns-in-3 g c =
       answer = λ h s. rw at (took.answer _ _ s.d ∙ none_heard h.fed.d);
       fed = λ empty rules widths heard h s.
           let port = taken g.P.Port _ _ h.fed.d widths (took.empty empty _ _ s.d) (took.taken empty _ _ _ _ s.d heard) in
-          rw at (record { a = s.a; b = s.b; c = s.c; d = port; e = s.e; reader_rules = s.reader_rules; table = s.table; redundancy = s.redundancy; state = s.state });
-      unchanged = λ full h s. record { a = s.a; b = s.b; c = s.c; d = rw (took.unchanged full) s.d; e = s.e; reader_rules = s.reader_rules; table = s.table; redundancy = s.redundancy; state = s.state };
+          rw at (record { a = s.a; b = s.b; c = s.c; d = port; e = s.e; reader_rules = s.reader_rules; table = s.table; redundancy = s.redundancy; limits = s.limits; state = s.state });
+      unchanged = λ full h s. record { a = s.a; b = s.b; c = s.c; d = rw (took.unchanged full) s.d; e = s.e; reader_rules = s.reader_rules; table = s.table; redundancy = s.redundancy; limits = s.limits; state = s.state };
       kept = took.kept;
       ports = refl;
     }
@@ -74,8 +74,8 @@ returns-in_default g c =
       answer = λ h s. rw at (took.answer _ _ s.e ∙ none_heard h.fed.e);
       fed = λ empty rules widths heard h s.
           let port = taken g.P.Port _ _ h.fed.e widths (took.empty empty _ _ s.e) (took.taken empty _ _ _ _ s.e heard) in
-          rw at (record { a = s.a; b = s.b; c = s.c; d = s.d; e = port; reader_rules = s.reader_rules; table = s.table; redundancy = s.redundancy; state = s.state });
-      unchanged = λ full h s. record { a = s.a; b = s.b; c = s.c; d = s.d; e = rw (took.unchanged full) s.e; reader_rules = s.reader_rules; table = s.table; redundancy = s.redundancy; state = s.state };
+          rw at (record { a = s.a; b = s.b; c = s.c; d = s.d; e = port; reader_rules = s.reader_rules; table = s.table; redundancy = s.redundancy; limits = s.limits; state = s.state });
+      unchanged = λ full h s. record { a = s.a; b = s.b; c = s.c; d = s.d; e = rw (took.unchanged full) s.e; reader_rules = s.reader_rules; table = s.table; redundancy = s.redundancy; limits = s.limits; state = s.state };
       kept = took.kept;
       ports = refl;
     }
