@@ -1,9 +1,10 @@
-# Proves and builds the program, installs it, and makes a Debian package of it.
+# Proves and builds the program, installs it, and makes a Debian package and a release of it.
 #
 #     make                        proves and builds the program by ./build, if a source is newer
 #     make install PREFIX=/usr    the program, its manual and completion, the pages and the examples
 #     make uninstall PREFIX=/usr  takes them away again
 #     make deb                    out/irig_VERSION_ARCHITECTURE.deb, by Debian's package dpkg-dev
+#     make release                out/release, with libraries for all processors; proves what is missing
 #
 # DESTDIR stands before PREFIX where files are put, and in no file.
 
@@ -17,7 +18,9 @@ manual = share/man/man1/irig.1
 completion = share/bash-completion/completions/irig
 doc = share/doc/irig
 
-.PHONY: all install uninstall deb
+of_page = $(shell find web toolchain tools/parts docs examples -type f -not -path '*/out/*')
+
+.PHONY: all install uninstall deb release
 
 all: $(program)
 	@$(program) --version
@@ -38,3 +41,9 @@ uninstall:
 
 deb: all
 	packaging/deb
+
+release: all
+	packaging/release
+
+web/out/irig.html: $(sources) $(of_page)
+	web/build
