@@ -5,6 +5,7 @@
 #     make uninstall PREFIX=/usr  takes them away again
 #     make deb                    out/irig_VERSION_ARCHITECTURE.deb, by Debian's package dpkg-dev
 #     make release                out/release, with libraries for all processors; proves what is missing
+#     make reproduce              makes it again in a clone elsewhere, with all proofs, and compares
 #
 # DESTDIR stands before PREFIX where files are put, and in no file.
 
@@ -20,7 +21,7 @@ doc = share/doc/irig
 
 of_page = $(shell find web toolchain tools/parts docs examples -type f -not -path '*/out/*')
 
-.PHONY: all install uninstall deb release
+.PHONY: all install uninstall deb release reproduce
 
 all: $(program)
 	@$(program) --version
@@ -44,6 +45,10 @@ deb: all
 
 release: all
 	packaging/release
+
+reproduce: release
+	there=$$(mktemp -d) && trap 'rm -rf "$$there"' EXIT && git clone -q . "$$there/irig" && \
+		$(MAKE) -C "$$there/irig" release && diff -r out/release "$$there/irig/out/release"
 
 web/out/irig.html: $(sources) $(of_page)
 	web/build
