@@ -19,7 +19,7 @@ manual = share/man/man1/irig.1
 completion = share/bash-completion/completions/irig
 doc = share/doc/irig
 
-of_page = $(shell find web toolchain tools/parts docs examples -type f -not -path '*/out/*')
+of_page = $(shell find web toolchain tools/parts docs examples -type f -not -path '*/out/*' -not -name '*.pyc')
 
 .PHONY: all install uninstall deb release reproduce
 

@@ -14,7 +14,9 @@ if(NOT IRIG_TARGET)
             "aarch64-linux-gnu __aarch64__ __linux__"
             "armv7-linux-gnueabihf __ARM_ARCH_7A__ __linux__ __ARM_PCS_VFP"
             "thumbv6m __ARM_ARCH_6M__"
+            "thumbv7m __ARM_ARCH_7M__"
             "thumbv7em __ARM_ARCH_7EM__"
+            "thumbv8m.main __ARM_ARCH_8M_MAIN__"
             "riscv32 __riscv_xlen.32 __riscv_float_abi_soft")
         string(REPLACE " " ";" _irig_macros "${_irig_known}")
         list(GET _irig_macros 0 _irig_target)

@@ -150,8 +150,10 @@ class Installed(unittest.TestCase):
 # The processors of firmware: the folder of a release that serves one, and the board of QEMU to try it on.
 BOARDS = {
     "cortex-m0": ("thumbv6m", "microbit"),
+    "cortex-m3": ("thumbv7m", "mps2-an385"),
     "cortex-m4": ("thumbv7em", "mps2-an386"),
     "cortex-m7": ("thumbv7em", "mps2-an500"),
+    "cortex-m33": ("thumbv8m.main", "mps2-an505"),
 }
 
 
@@ -285,6 +287,20 @@ class Release(unittest.TestCase):
         for name, entry in files.items():
             sums = {one["algorithm"]: one["checksumValue"] for one in entry["checksums"]}
             self.assertEqual(sums["SHA256"], hashlib.sha256((self.top / name).read_bytes()).hexdigest())
+
+    def test_what_is_linked(self) -> None:
+        """The bill has each crate of others that the linker's names show."""
+        kit = Path(self.said("rt", "doc").strip()).parent
+        bill = json.loads((self.top / "irig.spdx.json").read_text())
+        for name, example in (("bin/irig", "clap"), ("lib/libirig_scene.a", "indexmap")):
+            name = f"x86_64-linux-gnu/{name}"
+            shown = set(re.findall(r" [tT] [<&(]*(\w+)::", self.said("nm", self.top / name)))
+            others = {crate for crate in shown if any((kit / "rattle" / crate).glob("LICENSE*"))}
+            self.assertIn(example, others)
+            identity = "SPDXRef-" + re.sub(r"[^A-Za-z0-9.-]", "-", name)
+            told = {one["relatedSpdxElement"] for one in bill["relationships"]
+                    if (one["spdxElementId"], one["relationshipType"]) == (identity, "STATIC_LINK")}
+            self.assertLessEqual({"SPDXRef-" + re.sub("_", "-", crate) for crate in others}, told)
 
 
 BUILD = """#!/bin/bash

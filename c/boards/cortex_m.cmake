@@ -9,3 +9,7 @@ endif()
 set(CMAKE_C_FLAGS_INIT "-mcpu=${PROCESSOR} -mthumb --specs=rdimon.specs")
 set(CMAKE_EXE_LINKER_FLAGS_INIT
     "-T ${CMAKE_CURRENT_LIST_DIR}/cortex_m.ld -Wl,--gc-sections,-z,noexecstack,--no-warn-execstack")
+if(PROCESSOR STREQUAL cortex-m33)
+    # where QEMU's mps2-an505 has its memory
+    string(APPEND CMAKE_EXE_LINKER_FLAGS_INIT " -Wl,--defsym=flash=0x10000000,--defsym=ram=0x80000000")
+endif()
