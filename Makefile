@@ -14,6 +14,7 @@ DESTDIR =
 
 to = $(DESTDIR)$(PREFIX)
 program = crates/irig_main/out/irig_main
+for_aarch64 = crates/irig_main/out/aarch64-unknown-linux-gnu/irig_main
 sources = crates.txt $(shell find crates/*/src crates/*/specs crates/*/proofs 2> /dev/null)
 manual = share/man/man1/irig.1
 completion = share/bash-completion/completions/irig
@@ -45,6 +46,9 @@ deb: all
 
 release: all
 	packaging/release
+
+$(for_aarch64): $(sources) toolchain/system.c c/irig_heap.c
+	./build --target aarch64-unknown-linux-gnu irig_main > /dev/null
 
 reproduce: release
 	there=$$(mktemp -d) && trap 'rm -rf "$$there"' EXIT && git clone -q . "$$there/irig" && \

@@ -197,6 +197,16 @@ class Release(unittest.TestCase):
         listed = {line.split("  ", 1)[1] for line in (self.top / "SHA256SUMS").read_text().splitlines()}
         self.assertEqual(listed, files_below(self.top) - {"SHA256SUMS"})
 
+    def test_program_for_aarch64(self) -> None:
+        if not shutil.which("qemu-aarch64"):
+            print("skipped: the program for aarch64; Debian's package qemu-user is missing")
+            self.skipTest("qemu-user")
+        wrapped = self.folder / "irig_for_aarch64"
+        program = self.top / "aarch64-linux-gnu/bin/irig"
+        wrapped.write_text(f'#!/bin/sh\nexec qemu-aarch64 -L /usr/aarch64-linux-gnu {program} "$@"\n')
+        wrapped.chmod(0o755)
+        self.said(ROOT / "tests/cases", "--on", wrapped)
+
     def test_cmake_here(self) -> None:
         built, examples = self.built("here"), self.top / "doc/c/examples"
         wanted = self.log(examples / "leap_second.jsonl", "--all").splitlines()[:-1]
