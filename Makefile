@@ -20,7 +20,7 @@ manual = share/man/man1/irig.1
 completion = share/bash-completion/completions/irig
 doc = share/doc/irig
 
-of_page = $(shell find web toolchain tools/parts docs examples -type f -not -path '*/out/*' -not -name '*.pyc')
+of_page = $(wildcard web/*.* tools/*.py tools/parts/*.* python/irig/*.py docs/*.md examples/*.*)
 
 .PHONY: all install uninstall deb release reproduce
 
@@ -54,5 +54,8 @@ reproduce: release
 	there=$$(mktemp -d) && trap 'rm -rf "$$there"' EXIT && git clone -q . "$$there/irig" && \
 		$(MAKE) -C "$$there/irig" release && diff -r out/release "$$there/irig/out/release"
 
-web/out/irig.html: $(sources) $(of_page)
+web/out/irig.html: web/out/c_scenario.wasm $(of_page)
+	web/page.py web/out
+
+web/out/c_scenario.wasm: $(sources) $(wildcard toolchain/*)
 	web/build

@@ -35,6 +35,6 @@ if(EXISTS "${CMAKE_CURRENT_LIST_DIR}/${IRIG_TARGET}/lib/cmake/irig/irigConfig.cm
     include("${CMAKE_CURRENT_LIST_DIR}/${IRIG_TARGET}/lib/cmake/irig/irigConfig.cmake")
 else()
     set(irig_FOUND FALSE)
-    set(irig_NOT_FOUND_MESSAGE "no library for what ${CMAKE_C_COMPILER} compiles for:"
+    string(CONCAT irig_NOT_FOUND_MESSAGE "no library for what ${CMAKE_C_COMPILER} compiles for:"
         " set IRIG_TARGET to a folder of ${CMAKE_CURRENT_LIST_DIR}")
 endif()
