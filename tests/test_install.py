@@ -228,6 +228,12 @@ class Release(unittest.TestCase):
             ran = self.said("qemu-system-arm", *options.split(), "-kernel", built / "leap_second")
             self.assertEqual(ran.splitlines(), wanted, processor)
 
+    def test_cmake_knows_each_processor(self) -> None:
+        known = (self.top / "irigConfig.cmake").read_text()
+        targets = [library.parent.parent.name for library in self.top.glob("*/lib/libirig.a")]
+        self.assertGreater(len(targets), 6)
+        self.assertEqual([target for target in targets if f'"{target} __' not in known], [])
+
     def test_cmake_refuses(self) -> None:
         before = self.folder / "before.cmake"
         for line, told in (
