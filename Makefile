@@ -1,9 +1,11 @@
-# Proves and builds the program, installs it, and makes a Debian package of it.
+# Proves and builds the program, installs it, and makes a Debian package and a release of it.
 #
 #     make                        proves and builds the program by ./build, if a source is newer
 #     make install PREFIX=/usr    the program, its manual and completion, the pages and the examples
 #     make uninstall PREFIX=/usr  takes them away again
 #     make deb                    out/irig_VERSION_ARCHITECTURE.deb, by Debian's package dpkg-dev
+#     make release                out/release, with libraries for all processors; proves what is missing
+#     make reproduce              makes it again in a clone elsewhere, with all proofs, and compares
 #
 # DESTDIR stands before PREFIX where files are put, and in no file.
 
@@ -12,12 +14,15 @@ DESTDIR =
 
 to = $(DESTDIR)$(PREFIX)
 program = crates/irig_main/out/irig_main
+for_aarch64 = crates/irig_main/out/aarch64-unknown-linux-gnu/irig_main
 sources = crates.txt $(shell find crates/*/src crates/*/specs crates/*/proofs 2> /dev/null)
 manual = share/man/man1/irig.1
 completion = share/bash-completion/completions/irig
 doc = share/doc/irig
 
-.PHONY: all install uninstall deb
+of_page = $(wildcard web/*.* tools/*.py tools/parts/*.* python/irig/*.py docs/*.md examples/*.*)
+
+.PHONY: all install uninstall deb release reproduce
 
 all: $(program)
 	@$(program) --version
@@ -38,3 +43,19 @@ uninstall:
 
 deb: all
 	packaging/deb
+
+release: all
+	packaging/release
+
+$(for_aarch64): $(sources) toolchain/system.c c/irig_heap.c
+	./build --target aarch64-unknown-linux-gnu irig_main > /dev/null
+
+reproduce: release
+	there=$$(mktemp -d) && trap 'rm -rf "$$there"' EXIT && git clone -q . "$$there/irig" && \
+		$(MAKE) -C "$$there/irig" release && diff -r out/release "$$there/irig/out/release"
+
+web/out/irig.html: web/out/c_scenario.wasm $(of_page)
+	web/page.py web/out
+
+web/out/c_scenario.wasm: $(sources) $(wildcard toolchain/*)
+	web/build

@@ -1,15 +1,23 @@
 #!/usr/bin/env python3
-"""Tests of `make install`, `make uninstall` and `make deb`: which files stand where, that what was put
-there runs with an empty environment, as on a machine without the toolchain, and that it is proved."""
+"""Tests of `make install`, `make uninstall`, `make deb` and packaging/release: which files stand where, that
+what was put there runs with an empty environment, as on a machine without the toolchain, and that it is
+proved."""
 import gzip
+import hashlib
+import json
 import os
+import re
 import shutil
 import subprocess
+import sys
 import tempfile
 import unittest
 from pathlib import Path
 
 ROOT = Path(__file__).resolve().parent.parent
+sys.path.insert(0, str(ROOT / "tools/tests"))
+
+import browser  # noqa: E402
 
 # docs/QUICKSTART.md: the first frame of the page.
 FRAME = (
@@ -138,6 +146,177 @@ class Installed(unittest.TestCase):
     def test_the_same_package_each_time(self) -> None:
         first = self.package().read_bytes()
         self.assertEqual(self.package().read_bytes(), first)
+
+# The processors of firmware: the folder of a release that serves one, and the board of QEMU to try it on.
+BOARDS = {
+    "cortex-m0": ("thumbv6m", "microbit"),
+    "cortex-m3": ("thumbv7m", "mps2-an385"),
+    "cortex-m4": ("thumbv7em", "mps2-an386"),
+    "cortex-m7": ("thumbv7em", "mps2-an500"),
+    "cortex-m33": ("thumbv8m.main", "mps2-an505"),
+}
+
+
+class Release(unittest.TestCase):
+    """A release, as who has nothing else uses it."""
+    folder: Path
+    top: Path
+
+    @classmethod
+    def setUpClass(cls) -> None:
+        commands = ("dpkg-shlibdeps", "wasm-opt", "aarch64-linux-gnu-gcc", "cmake")
+        if missing := [command for command in commands if not shutil.which(command)]:
+            print(f"skipped: a release: {missing[0]} is missing")
+            raise unittest.SkipTest(missing[0])
+        folder = tempfile.TemporaryDirectory()
+        cls.addClassCleanup(folder.cleanup)
+        cls.folder = Path(folder.name)
+        cls.top = cls.folder / "release"
+        cls.said(ROOT / "packaging/release", cls.top)
+
+    @classmethod
+    def said(cls, *words: str | Path, **more: object) -> str:
+        more = {"cwd": cls.folder, **more}
+        ran = subprocess.run(words, capture_output=True, text=True, timeout=600, **more)
+        if ran.returncode:
+            raise AssertionError(f"{words}: {ran.stdout}{ran.stderr}")
+        return ran.stdout
+
+    def log(self, *words: str | Path) -> str:
+        return self.said(self.top / "x86_64-linux-gnu/bin/irig", "run", *words, env={})
+
+    def built(self, name: str, *words: str) -> Path:
+        """The examples, configured and built by CMake with these words."""
+        to = self.folder / name
+        self.said("cmake", "-S", self.top / "doc/c/examples", "-B", to, f"-DCMAKE_PREFIX_PATH={self.top}", *words)
+        self.said("cmake", "--build", to)
+        return to
+
+    def test_sums(self) -> None:
+        self.said("sha256sum", "--check", "--strict", "--quiet", "SHA256SUMS", cwd=self.top)
+        listed = {line.split("  ", 1)[1] for line in (self.top / "SHA256SUMS").read_text().splitlines()}
+        self.assertEqual(listed, files_below(self.top) - {"SHA256SUMS"})
+
+    def test_program_for_aarch64(self) -> None:
+        if not shutil.which("qemu-aarch64"):
+            print("skipped: the program for aarch64; Debian's package qemu-user is missing")
+            self.skipTest("qemu-user")
+        wrapped = self.folder / "irig_for_aarch64"
+        program = self.top / "aarch64-linux-gnu/bin/irig"
+        wrapped.write_text(f'#!/bin/sh\nexec qemu-aarch64 -L /usr/aarch64-linux-gnu {program} "$@"\n')
+        wrapped.chmod(0o755)
+        self.said(ROOT / "tests/cases", "--on", wrapped)
+
+    def test_cmake_here(self) -> None:
+        built, examples = self.built("here"), self.top / "doc/c/examples"
+        wanted = self.log(examples / "leap_second.jsonl", "--all").splitlines()[:-1]
+        self.assertEqual(self.said(built / "leap_second").splitlines(), wanted)
+        scenario = self.top / "doc/examples/leap_inserted.jsonl"
+        self.assertEqual(self.said(built / "run", scenario), self.log(scenario))
+
+    def test_cmake_for_boards(self) -> None:
+        if not shutil.which("arm-none-eabi-gcc") or not shutil.which("qemu-system-arm"):
+            print("skipped: a release on boards: arm-none-eabi-gcc or qemu-system-arm is missing")
+            self.skipTest("arm-none-eabi-gcc")
+        toolchain = self.top / "doc/c/boards/cortex_m.cmake"
+        wanted = self.log(self.top / "doc/c/examples/leap_second.jsonl", "--all").splitlines()[:-1]
+        self.assertIn("4 relay 2016-12-31T23:59:60Z holdover:1 held", wanted)
+        for processor, (target, board) in BOARDS.items():
+            built = self.built(processor, "--toolchain", str(toolchain), f"-DPROCESSOR={processor}")
+            self.assertIn(f"/{target}/", (built / "CMakeFiles/leap_second.dir/link.txt").read_text())
+            options = f"-M {board} -display none -monitor none -serial none -semihosting-config enable=on,target=native"
+            ran = self.said("qemu-system-arm", *options.split(), "-kernel", built / "leap_second")
+            self.assertEqual(ran.splitlines(), wanted, processor)
+
+    def test_cmake_knows_each_processor(self) -> None:
+        known = (self.top / "irigConfig.cmake").read_text()
+        targets = [library.parent.parent.name for library in self.top.glob("*/lib/libirig.a")]
+        self.assertGreater(len(targets), 6)
+        self.assertEqual([target for target in targets if f'"{target} __' not in known], [])
+
+    def test_cmake_refuses(self) -> None:
+        before = self.folder / "before.cmake"
+        for line, told in (
+            ("set(IRIG_TARGET another)", "set IRIG_TARGET to a folder"),
+            ("set(IRIG_TARGET thumbv6m)\nfind_package(irig REQUIRED scene)", "no library for irig::scene"),
+            ("find_package(irig 2.9 REQUIRED)", "requested version"),
+            ("find_package(irig 1.0 REQUIRED)", "requested version"),
+        ):
+            before.write_text(line)
+            with self.assertRaisesRegex(AssertionError, told):
+                self.built(f"refused {line[-9:]}", f"-DCMAKE_PROJECT_INCLUDE={before}")
+
+    def test_pkg_config(self) -> None:
+        lib = self.top / "x86_64-linux-gnu/lib"
+        path = {**os.environ, "PKG_CONFIG_PATH": str(lib / "pkgconfig"), "LD_LIBRARY_PATH": str(lib)}
+        flags = self.said("pkg-config", "--cflags", "--libs", "irig", env=path).split()
+        source = self.top / "doc/c/examples/leap_second.c"
+        self.said("cc", source, *flags, "-o", "by_pkg_config")
+        self.assertIn("23:59:60Z", self.said(self.folder / "by_pkg_config", env=path))
+
+    def test_wheel(self) -> None:
+        (wheel,) = self.top.glob("irig-*.whl")
+        try:
+            self.said(sys.executable, "-m", "venv", "venv")
+        except AssertionError:
+            print("skipped: the wheel of a release; Debian's package python3-venv is missing")
+            self.skipTest("python3-venv")
+        self.said("venv/bin/pip", "install", "--no-index", wheel)
+        words = "import irig, sys; print(irig.run(open(sys.argv[1]).read()).text, end='')"
+        scenario = self.top / "doc/examples/leap_inserted.jsonl"
+        self.assertEqual(self.said("venv/bin/python", "-c", words, scenario, env={}), self.log(scenario))
+
+    def test_deb(self) -> None:
+        (package,) = self.top.glob("irig_*.deb")
+        self.said("dpkg-deb", "-x", package, "unpacked")
+        scenario = self.top / "doc/examples/leap_inserted.jsonl"
+        ran = self.said(self.folder / "unpacked/usr/bin/irig", "run", scenario, env={})
+        self.assertEqual(ran, self.log(scenario))
+
+    def test_page(self) -> None:
+        """The page runs the example that it shows first."""
+        if told := browser.missing():
+            print(f"skipped: the page of a release: {told}")
+            self.skipTest(told)
+        page = browser.Browser()
+        self.addCleanup(page.close)
+        page.open(self.top / "irig.html")
+        page.ask("ready.then(() => 0)")
+        while page.ask("part('run').disabled"):
+            page.settle()
+        example = self.top / f"doc/examples/{page.ask('part(`example`).value')}.jsonl"
+        options = [f"--{name}" for name in ("all", "ports") if page.ask(f"part('{name}').checked")]
+        log = page.ask("new TextDecoder().decode(tab.log.lines.bytes)")
+        self.assertEqual(log, self.log(example, *options))
+        self.assertEqual(page.errors, [])
+
+    def test_bill_of_materials(self) -> None:
+        """It has every file, with its sum, and of each crate that the linker's names show a package."""
+        bill = json.loads((self.top / "irig.spdx.json").read_text())
+        files = {entry["fileName"].removeprefix("./"): entry for entry in bill["files"]}
+        self.assertEqual(files.keys(), files_below(self.top) - {"SHA256SUMS", "irig.spdx.json"})
+        names = [entry["SPDXID"] for entry in (bill, *bill["files"], *bill["packages"])]
+        self.assertEqual(len(names), len(set(names)))
+        for relation in bill["relationships"]:
+            self.assertIn(relation["spdxElementId"], names)
+            self.assertIn(relation["relatedSpdxElement"], names)
+        for name, entry in files.items():
+            sums = {one["algorithm"]: one["checksumValue"] for one in entry["checksums"]}
+            self.assertEqual(sums["SHA256"], hashlib.sha256((self.top / name).read_bytes()).hexdigest())
+
+    def test_what_is_linked(self) -> None:
+        """The bill has each crate of others that the linker's names show."""
+        kit = Path(self.said("rt", "doc").strip()).parent
+        bill = json.loads((self.top / "irig.spdx.json").read_text())
+        for name, example in (("bin/irig", "clap"), ("lib/libirig_scene.a", "indexmap")):
+            name = f"x86_64-linux-gnu/{name}"
+            shown = set(re.findall(r" [tT] [<&(]*(\w+)::", self.said("nm", self.top / name)))
+            others = {crate for crate in shown if any((kit / "rattle" / crate).glob("LICENSE*"))}
+            self.assertIn(example, others)
+            identity = "SPDXRef-" + re.sub(r"[^A-Za-z0-9.-]", "-", name)
+            told = {one["relatedSpdxElement"] for one in bill["relationships"]
+                    if (one["spdxElementId"], one["relationshipType"]) == (identity, "STATIC_LINK")}
+            self.assertLessEqual({"SPDXRef-" + re.sub("_", "-", crate) for crate in others}, told)
 
 
 BUILD = """#!/bin/bash

@@ -1,6 +1,6 @@
 /* Flash at 0 and RAM at 0x20000000, as a Cortex-M has them, and what newlib asks of a layout. */
 MEMORY {
-    FLASH (rx) : ORIGIN = 0, LENGTH = 256K
+    FLASH (rx) : ORIGIN = DEFINED(flash) ? flash : 0, LENGTH = 256K
     RAM (rwx) : ORIGIN = DEFINED(ram) ? ram : 0x20000000, LENGTH = DEFINED(ram_size) ? ram_size : 16K
 }
 ENTRY(_start)
