@@ -11,7 +11,7 @@ use Rattle.report_blame.specs.declared.stretch.Silence.{Silence}
 use Rattle.report_blame.specs.declared.stretch.Stretch.{Stretch}
 use Rattle.report_blame.specs.declared.tick.Tick.{Tick}
 use Rattle.report_blame.specs.Kinds.{same_kind}
-use Rattle.report_blame.specs.Offsets.{same_offset}
+use Rattle.report_log.specs.Offsets.{same_offset}
 use Rattle.report_blame.specs.Ticks.{kind_at, is_announced, is_untrue, offset_at}
 use Rattle.report_blame.specs.Stretches.{one_if, begun, more, IsBelow, stretch_past, stretch_after, stretch_of, silence_of, last_vote, misled_of}
 use Rattle.report_blame.specs.Accounts.{count_of, port_account, account_of}

@@ -8,7 +8,7 @@ use Rattle.report_blame.specs.declared.kind.Kind.TheVariants.{Agreed}
 use Rattle.report_blame.specs.declared.stretch.Stretch.{Stretch}
 use Rattle.report_blame.specs.declared.tick.Tick.{Tick}
 use Rattle.report_blame.specs.Kinds.{same_kind}
-use Rattle.report_blame.specs.Offsets.{same_offset}
+use Rattle.report_log.specs.Offsets.{same_offset}
 use Rattle.report_blame.specs.Ticks.{kind_at, is_announced, is_untrue, offset_at}
 use Rattle.report_blame.specs.Stretches.{one_if, begun, more, stretch_past, stretch_after, stretch_of}
 use Rattle.report_blame.specs.LongestRuns.{IsBroken, IsLongest}

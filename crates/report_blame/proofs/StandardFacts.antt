@@ -13,8 +13,9 @@ use Rattle.report_blame.specs.declared.stretch.Stretch.{Stretch}
 use Rattle.report_blame.specs.declared.tick.Tick.{Tick}
 use Rattle.report_blame.specs.Accounts.{count_of}
 use Rattle.report_blame.specs.Stretches.{begun, ended_by, stretch_of, silence_of}
-use Rattle.report_blame.specs.Offsets.{offset_from}
-use Rattle.report_blame.specs.Text.{edges_text, seconds_text, port_text, unit_text, span_text, offset_text}
+use Rattle.report_log.specs.Offsets.{offset_from}
+use Rattle.report_blame.specs.Text.{seconds_text, port_text}
+use Rattle.report_log.specs.Whens.{edges_text, unit_text, span_text, offset_text}
 
 pub known_edges : edges_text 3 8 ≡ codes "edges 3 to 8: "
 unfolding edges_text digits

@@ -1,5 +1,4 @@
 pub mod Kinds
-pub mod Offsets
 pub mod Ticks
 pub mod Stretches
 pub mod Soundness

@@ -6,7 +6,7 @@ use Rattle.report_blame.specs.declared.stretch.Silence.{Silence}
 use Rattle.report_blame.specs.declared.stretch.Stretch.{Stretch}
 use Rattle.report_blame.specs.declared.tick.Tick.{Tick}
 use Rattle.report_blame.specs.Kinds.{same_kind}
-use Rattle.report_blame.specs.Offsets.{same_offset}
+use Rattle.report_log.specs.Offsets.{same_offset}
 use Rattle.report_blame.specs.Stretches.{goes_on}
 use Rattle.report_blame.specs.Ticks.{kind_at, is_announced, is_untrue, offset_at}
 

@@ -8,12 +8,13 @@ use Rattle.irig_reader.specs.declared.report.Cause.TheVariants as cause
 use Rattle.irig_time.specs.declared.second.UtcSecond.{UtcSecond}
 use Rattle.irig_time.specs.TextValues.{second_text}
 use Rattle.report_log.specs.Text.{cause_text, port_word}
+use Rattle.report_log.specs.Whens.{when_text, edges_text, offsets_text, span_text}
 use Rattle.report_blame.specs.declared.account.Account.{Account}
 use Rattle.report_blame.specs.declared.account.PortAccount.{PortAccount}
 use Rattle.report_blame.specs.declared.kind.Kind.{Kind}
 use Rattle.report_blame.specs.declared.kind.Kind.TheVariants.{Agreed, Silent, Faulty, Poor, AnotherSecond, AnotherMark}
 use Rattle.report_blame.specs.declared.misled.Misled.{Misled}
-use Rattle.report_blame.specs.declared.offset.Offset.{Offset}
+use Rattle.report_log.specs.declared.offset.Offset.{Offset}
 use Rattle.report_blame.specs.declared.stretch.Silence.{Silence}
 use Rattle.report_blame.specs.declared.stretch.Stretch.{Stretch}
 use Rattle.report_blame.specs.declared.tick.Tick.{Tick}
@@ -28,48 +29,6 @@ use Rattle.report_blame.specs.Accounts.{port_of}
 abbrev pub texts_below : (ℕ → List ℕ) → ℕ → List ℕ
 texts_below text zero = []
 texts_below text (suc n) = texts_below text n ++ text n
-
--- UTC of the first and of the last second, if they are known
-abbrev pub seconds_from : Bool → Option UtcSecond → Option UtcSecond → List ℕ
-seconds_from single (Some u) (Some v) =
-    if single then second_text u ++ codes ", "
-    else second_text u ++ (codes " to " ++ (second_text v ++ codes ", "))
-seconds_from single (Some u) None = []
-seconds_from single None v = []
-
--- the edges
-unfoldable pub edges_text : ℕ → ℕ → List ℕ
-edges_text first last =
-    if first == last then codes "edge " ++ (decimal first ++ codes ": ")
-    else codes "edges " ++ (decimal first ++ (codes " to " ++ (decimal last ++ codes ": ")))
-
--- UTC and edges, from a first tick to a last one
-abbrev pub when_text : ℕ → ℕ → Option UtcSecond → Option UtcSecond → List ℕ
-when_text first last from to = seconds_from (first == last) from to ++ edges_text first last
-
--- so many of a unit, unless there are none
-unfoldable pub unit_text : ℕ → List ℕ → List ℕ
-unit_text n unit = if n == 0 then [] else decimal n ++ (codes " " ++ (unit ++ codes " "))
-
--- seconds, as days, hours, minutes and seconds
-unfoldable pub span_text : ℕ → List ℕ
-span_text n =
-    unit_text (n / 86400) (codes "d") ++ (unit_text ((n / 3600) % 24) (codes "h")
-    ++ (unit_text ((n / 60) % 60) (codes "min") ++ unit_text (n % 60) (codes "s")))
-
--- how far a second is from the true one
-abbrev pub offset_text : Offset → List ℕ
-offset_text o =
-    if o.behind == 0 then span_text o.ahead ++ codes "ahead"
-    else span_text o.behind ++ codes "behind"
-
--- how far at all ticks, or at the first and at the last
-abbrev pub offsets_text : Bool → Option Offset → Option Offset → List ℕ
-offsets_text steady (Some a) (Some b) =
-    if steady then codes ", " ++ offset_text a
-    else codes ", " ++ (offset_text a ++ (codes " at first, " ++ (offset_text b ++ codes " at last")))
-offsets_text steady (Some a) None = []
-offsets_text steady None b = []
 
 -- ---- words of a scenario, or of a recording of these lines: their names, after one another with a
 -- comma between them, and none of a scenario

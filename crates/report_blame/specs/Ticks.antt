@@ -12,10 +12,10 @@ use Rattle.irig_port.specs.declared.told.Told.TheVariants as tells
 use Rattle.irig_vote.specs.Vote.{is_told, vote_of}
 use Rattle.report_blame.specs.declared.kind.Kind.{Kind}
 use Rattle.report_blame.specs.declared.kind.Kind.TheVariants.{Agreed}
-use Rattle.report_blame.specs.declared.offset.Offset.{Offset}
+use Rattle.report_log.specs.declared.offset.Offset.{Offset}
 use Rattle.report_blame.specs.declared.tick.Tick.{Tick}
 use Rattle.report_blame.specs.Kinds.{kind_of_claim, kind_of, same_kind}
-use Rattle.report_blame.specs.Offsets.{offset_between}
+use Rattle.report_log.specs.Offsets.{offset_between}
 
 -- what a port told, 0 to 4
 abbrev pub told_by : ℕ → Tick → Told

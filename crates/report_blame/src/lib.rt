@@ -10,12 +10,10 @@ mod line_text;
 mod misled;
 mod misled_text;
 mod observer;
-mod offset;
 mod run;
 mod stretch;
 mod text;
 mod tick;
-mod when_text;
 
 pub use laws::{
     agreed_ports_are_ok, silences_are_longest_runs, stretches_are_longest_runs,

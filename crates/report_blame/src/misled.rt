@@ -3,10 +3,10 @@
 ghost use Rattle.std.specs.Prelude.{◌≡◌};
 ghost use Rattle.report_blame.specs.Stretches.{vote_after, misled_at, misled_more, misled_after, ended_misled};
 
-use crate::offset::same_offset;
 use crate::stretch::same_cause;
 use crate::tick::Tick;
 use irig_reader::Cause;
+use report_log::same_offset;
 
 /// Ticks of a reader, one after another, at which it announced an untrue second.
 #[derive(Clone, Copy)]

@@ -2,12 +2,13 @@
 
 ghost use Rattle.std.specs.Prelude.{◌≡◌, ◌++◌, OnOk, string_bytes};
 ghost use Rattle.report_blame.specs.Ticks.{offset_announced};
-ghost use Rattle.report_blame.specs.Text.{offsets_text, texts_below, carrier_text, ground_text, ground_line, misled_text, misled_line, numbered};
+ghost use Rattle.report_blame.specs.Text.{texts_below, carrier_text, ground_text, ground_line, misled_text, misled_line, numbered};
+ghost use Rattle.report_log.specs.Whens.{offsets_text};
 
 use crate::line_text::{push_port, untrue_seconds};
 use crate::misled::Misled;
 use crate::tick::Tick;
-use crate::when_text::{push_offsets, push_when};
+use report_log::{push_offsets, push_when};
 use std::alloc::AllocError;
 
 /// Pushes the line of untrue seconds of a reader with so many ports, if there are any.

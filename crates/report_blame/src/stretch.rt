@@ -1,15 +1,15 @@
 //! Stretches of ticks at which a port told one kind of wrong, and silences of a reader.
 
 ghost use Rattle.std.specs.Prelude.{◌≡◌, ◌+◌, ◌<◌, ◌&&◌, IfSome};
-ghost use Rattle.report_blame.specs.Offsets.{same_offset};
+ghost use Rattle.report_log.specs.Offsets.{same_offset};
 ghost use Rattle.report_blame.specs.Ticks.{offset_at};
 ghost use Rattle.report_blame.specs.Stretches.{one_if, begun, more, IsBelow, stretch_after, ended_by, same_cause, silence_at, goes_on, silence_after, ended_silence};
 ghost use Rattle.report_blame.specs.Soundness.{IsSoundTick, IsSoundOpen};
 
 use crate::kind::Kind;
-use crate::offset::same_offset;
 use crate::tick::Tick;
 use irig_reader::Cause;
+use report_log::same_offset;
 
 /// Ticks of a reader, one after another, at which a port told one kind.
 #[derive(Clone, Copy)]

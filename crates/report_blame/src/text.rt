@@ -27,9 +27,8 @@ use crate::misled::ended_misled;
 use crate::misled_text::push_misled;
 use crate::stretch::{Silence, Stretch, ended_by, ended_silence};
 use crate::tick::Tick;
-use crate::when_text::{push_offsets, push_when};
 use irig_reader::Cause;
-use report_log::{cause_word, push_word};
+use report_log::{cause_word, push_offsets, push_when, push_word};
 use std::alloc::AllocError;
 
 /// Pushes the lines of all that a tick of a reader with so many ports ends.

@@ -5,11 +5,11 @@ ghost use Rattle.irig_time.specs.Seconds.{IsValid};
 ghost use Rattle.report_blame.specs.Ticks.{told_by, kind_at, is_announced, second_after, is_untrue, frame_of, frame_at, second_at, claimed, offset_at, offset_announced, is_carrier, vote_at, votes_truly};
 
 use crate::kind::Kind;
-use crate::offset::{Offset, offset_between};
 use irig_plant::Entry;
 use irig_port::Told;
 use irig_time::{Claim, UtcSecond, next, valid};
 use irig_vote::vote;
+use report_log::{Offset, offset_between};
 
 /// What was logged of a tick.
 #[derive(Clone, Copy)]

@@ -1,3 +1,5 @@
 pub mod Text
+pub mod Offsets
+pub mod Whens
 pub mod LogLines
 pub mod PortWords

@@ -2,7 +2,7 @@
 -- Source: docs/OUTPUT.md.
 use Rattle.std.specs.Prelude.{ℕ, ◌+◌, ◌-◌, ◌*◌, ◌==◌, ◌&&◌, Bool, true, false, nat_lt, if◌then◌else◌, Option, Some, None}
 use Rattle.irig_time.specs.declared.second.UtcSecond.{UtcSecond}
-use Rattle.report_blame.specs.declared.offset.Offset.{Offset}
+use Rattle.report_log.specs.declared.offset.Offset.{Offset}
 
 -- the place of a second, if every day has 86,400
 abbrev pub place : UtcSecond → ℕ

@@ -1,21 +1,21 @@
 //! How far a second is from the true one.
 
 ghost use Rattle.std.specs.Prelude.{◌≡◌};
-ghost use Rattle.report_blame.specs.Offsets.{place, seconds_after, offset_from, offset_between, same_offset};
+ghost use Rattle.report_log.specs.Offsets.{place, seconds_after, offset_from, offset_between, same_offset};
 
 use irig_time::UtcSecond;
 
 /// How far a second is from another. One of the two numbers is 0.
 #[derive(Clone, Copy)]
-pub(crate) struct Offset {
+pub struct Offset {
     /// How many seconds it is after the other.
-    pub(crate) ahead: u64,
+    pub ahead: u64,
     /// How many seconds it is before the other.
-    pub(crate) behind: u64,
+    pub behind: u64,
 }
 
 /// How far a second is from the true one, if there are both.
-pub(crate) fn offset_between(truth: Option<UtcSecond>, told: Option<UtcSecond>) -> Option<Offset>
+pub fn offset_between(truth: Option<UtcSecond>, told: Option<UtcSecond>) -> Option<Offset>
     ensures { result ≡ offset_between truth told }
 {
     match (truth, told) {
@@ -48,7 +48,7 @@ fn place(second: UtcSecond) -> u64
 }
 
 /// Whether two offsets are the same.
-pub(crate) fn same_offset(one: Option<Offset>, other: Option<Offset>) -> bool
+pub fn same_offset(one: Option<Offset>, other: Option<Offset>) -> bool
     ensures { result ≡ same_offset one other }
 {
     match (one, other) {

@@ -2,14 +2,14 @@
 
 ghost use Rattle.std.specs.Prelude.{◌≡◌, ◌++◌, IfSome, OnOk, string_bytes};
 ghost use Rattle.irig_time.specs.Seconds.{IsValid};
-ghost use Rattle.report_blame.specs.Text.{seconds_from, edges_text, when_text, unit_text, span_text, offset_text, offsets_text};
+ghost use Rattle.report_log.specs.Whens.{seconds_from, edges_text, when_text, unit_text, span_text, offset_text, offsets_text};
 
 use crate::offset::Offset;
 use irig_time::{UtcSecond, push_text};
 use std::alloc::AllocError;
 
 /// Pushes the seconds, if they are known, and the edges, from the first tick to the last.
-pub(crate) fn push_when(
+pub fn push_when(
     text: &mut String,
     edges: (u64, u64),
     seconds: (Option<UtcSecond>, Option<UtcSecond>),
@@ -45,7 +45,7 @@ fn push_seconds_from(
     text.push_str(", ")
 }
 
-#[tactic(auto, unfolding(crate::specs::Text::edges_text))]
+#[tactic(auto, unfolding(crate::specs::Whens::edges_text))]
 fn push_edges(text: &mut String, first: u64, last: u64) -> Result<(), AllocError>
     ensures { OnOk result (string_bytes text.new
         ≡ string_bytes text.old ++ edges_text first last) }
@@ -58,7 +58,7 @@ fn push_edges(text: &mut String, first: u64, last: u64) -> Result<(), AllocError
 }
 
 /// Pushes how far a second was from the true one, at all ticks or at the first and at the last.
-pub(crate) fn push_offsets(
+pub fn push_offsets(
     text: &mut String,
     steady: bool,
     first: Option<Offset>,
@@ -93,7 +93,7 @@ fn push_offset(text: &mut String, offset: Offset) -> Result<(), AllocError>
     }
 }
 
-#[tactic(auto, unfolding(crate::specs::Text::span_text))]
+#[tactic(auto, unfolding(crate::specs::Whens::span_text))]
 fn push_span(text: &mut String, seconds: u64) -> Result<(), AllocError>
     ensures { OnOk result (string_bytes text.new
         ≡ string_bytes text.old ++ span_text seconds) }
@@ -104,7 +104,7 @@ fn push_span(text: &mut String, seconds: u64) -> Result<(), AllocError>
     push_unit(text, seconds % 60, "s")
 }
 
-#[tactic(auto, unfolding(crate::specs::Text::unit_text))]
+#[tactic(auto, unfolding(crate::specs::Whens::unit_text))]
 fn push_unit(text: &mut String, number: u64, unit: &str) -> Result<(), AllocError>
     ensures { OnOk result (string_bytes text.new
         ≡ string_bytes text.old ++ unit_text number unit.now) }
