@@ -6,13 +6,13 @@
  * call takes less than 2 KB of stack.
  *
  * Pointers. A pointer must lead to one whole, aligned object that no other call reads or writes
- * meanwhile, and no two pointers of one call into the same object: also not into a part of it. A null
- * pointer is answered with IRIG_FAULT_VALUE; by `irig_has_parity` with no, by
- * `irig_sync_pulse` and `irig_timekeeper_wait` with 0, by `irig_reader_hear` and
- * `irig_timekeeper_hear` with IRIG_NO_PORT; and a call without an answer then does nothing. What a
- * structure holds is no duty of the caller: any numbers may lie in it, each call returns, and what is
- * announced is a valid second. A reader or a timekeeper whose numbers were changed by anything but
- * these calls is refused (`irig_reader`).
+ * meanwhile, and no two pointers of one call into the same object: also not into a part of it. A
+ * null pointer is answered with IRIG_FAULT_VALUE; by `irig_has_parity` with no, by `irig_sync_pulse`
+ * and `irig_timekeeper_wait` with 0, by `irig_reader_hear` and `irig_timekeeper_hear` with
+ * IRIG_NO_PORT; and a call without an answer then does nothing. What a structure holds is no duty of
+ * the caller: any numbers may lie in it, each call returns, and what is announced is a valid second.
+ * A reader or a timekeeper whose numbers were changed by anything but these calls is refused
+ * (`irig_reader`).
  *
  * Answers. 0 is done. Any other answer is the number of a fault, and nothing was changed; those of
  * a frame have more beside it: `IRIG_FAULT(answer)` is the number, `IRIG_DETAIL(answer)` what it
@@ -207,7 +207,7 @@ IRIG_ASSERT((sizeof(irig_state) == 16u) && (offsetof(irig_state, day) == 4u));
 /* What a port heard since the last edge: a bit for each symbol. */
 typedef struct irig_tally {
     uint32_t count;     /* how many symbols, 101 at most */
-    uint8_t wrong_kind; /* 0 none, IRIG_FAULT_PULSE, or any other for IRIG_FAULT_MARKER */
+    uint8_t wrong_kind;    /* 0 none, IRIG_FAULT_PULSE, or any other for IRIG_FAULT_MARKER */
     uint8_t wrong_element; /* the lowest wrong one */
     uint64_t time;    /* bit i is a one at element i, 0 to 59 */
     uint64_t control; /* bit i is a one at element 60 + i */
@@ -218,9 +218,9 @@ IRIG_ASSERT((sizeof(irig_tally) == 24u) && (offsetof(irig_tally, wrong_kind) == 
 /* A reader. It may be copied, kept as its bytes, and taken up again by a machine of the same byte
  * order for which these assertions hold, with the same IRIG_LAYOUT: no field has that, so keep it
  * beside. Its fields are there to be looked at, between calls and not while one runs, as from another
- * task; the calls alone may change them. `check` is made of all numbers before it, and each call renews
- * it. If any one number was changed by anything else, the next
- * tick, and each one behind it, answers IRIG_FAULT_VALUE. */
+ * task; the calls alone may change them. Compare two by their fields: what lies between these means
+ * nothing. `check` is made of all numbers before it, and each call renews it. If any one number was
+ * changed by anything else, the next tick, and each one behind it, answers IRIG_FAULT_VALUE. */
 typedef struct irig_reader {
     irig_setup setup;
     irig_table table;
@@ -560,10 +560,10 @@ void irig_reader_restart(irig_reader *reader);
 uint32_t irig_reader_port(const irig_reader *reader, uint8_t port, irig_told *told);
 
 /* Makes a timekeeper to which nothing has happened, by a counter that is at most `drift_us`
- * microseconds wrong in a second, 0 to 100. Setup and table must not be those in it. IRIG_FAULT_VALUE, IRIG_FAULT_TABLE_END to
- * IRIG_FAULT_TABLE_TWICE; IRIG_FAULT_DRIFT if (holdover + 2) * drift_us is above 490,000, as the
- * counter could be half a second wrong by then. At 100 us a holdover may be 4,898 seconds, at 10 us
- * 48,998, at 1 us 489,998. */
+ * microseconds wrong in a second, 0 to 100. Setup and table must not be those in it.
+ * IRIG_FAULT_VALUE, IRIG_FAULT_TABLE_END to IRIG_FAULT_TABLE_TWICE; IRIG_FAULT_DRIFT if (holdover +
+ * 2) * drift_us is above 490,000, as the counter could be half a second wrong by then. At 100 us a
+ * holdover may be 4,898 seconds, at 10 us 48,998, at 1 us 489,998. */
 uint32_t irig_timekeeper_init(irig_timekeeper *timekeeper, const irig_setup *setup,
                               const irig_table *table, uint32_t drift_us);
 
