@@ -273,7 +273,7 @@ class Text:
         if label in self.kinds:
             self.code = self.functions[label.strip('"')] = Code(label.strip('"'))
             self.code.begin("start", False)
-            self.mentioned = ""
+            self.follows, self.mentioned = True, ""
         elif label.startswith((".LBB", ".LAT")):
             self.code.begin(label, self.follows)
         elif label.startswith(".LJTI") and self.code.block[:-1] in self.code.tables:
