@@ -60,7 +60,7 @@ static void restart_reader(device *d) { irig_reader_restart(&d->reader); }
 static bool is_padding_of_reader(size_t byte) {
     size_t state_at = offsetof(irig_reader, state), ports_at = offsetof(irig_reader, ports);
     size_t of_port = (byte - ports_at) % sizeof(irig_tally);
-    if (byte < state_at) return byte >= 5 && byte < 8;
+    if (byte < state_at) return (byte >= 5 && byte < 8) || byte == sizeof(irig_setup) - 1;
     if (byte < ports_at) return byte == state_at + 3 || byte >= state_at + sizeof(irig_state);
     return byte < offsetof(irig_reader, check) && (of_port == 6 || of_port == 7);
 }
@@ -89,7 +89,7 @@ static bool is_padding_of_timekeeper(size_t byte) {
     static const size_t last_at = offsetof(irig_timekeeper, last);
     size_t of_line = (byte - lines_at) % sizeof(irig_line);
     size_t of_second = (byte - last_at) % sizeof(irig_announced);
-    if (byte < state_at) return byte >= 5 && byte < 8;
+    if (byte < state_at) return (byte >= 5 && byte < 8) || byte == sizeof(irig_setup) - 1;
     if (byte < lines_at) return byte == state_at + 3 || byte >= state_at + sizeof(irig_state);
     if (byte < offsetof(irig_timekeeper, drift_us))
         return of_line == 6 || of_line == 7 || of_line == 14 || of_line == 15 || of_line == 38 ||
