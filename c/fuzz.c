@@ -245,7 +245,8 @@ static int try_made_reader(void) {
         for (uint8_t port = 0; port < 5; port++) feed_frame(reader, port, &second);
         announced += note_tick(reader, report);
         if (!below(20)) irig_reader_restart(reader);
-        note(irig_second_next(&second, (uint8_t)below(5), &second));
+        irig_utc before = second;
+        note(irig_second_next(&before, (uint8_t)below(5), &second));
     }
     free(report);
     free(reader);

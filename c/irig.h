@@ -1,4 +1,4 @@
-/* irig.h: the proved IRIG-B codec, reader and timekeeper, for C11 and C++.
+/* irig.h: the proved IRIG-B codec, reader and timekeeper, for C99, C11 and C++.
  *
  * IRIG Standard 200-16, format B, code B004, with the control bits of IEEE 1344-1995. Link with
  * libirig (`make -C c`; docs/C.md). It asks for no memory, keeps nothing between calls, and needs
@@ -6,12 +6,13 @@
  * call takes less than 2 KB of stack.
  *
  * Pointers. A pointer must lead to one whole, aligned object that no other call reads or writes
- * meanwhile. A null pointer is answered with IRIG_FAULT_VALUE; by `irig_has_parity` with no, by
- * `irig_sync_pulse` and `irig_timekeeper_wait` with 0, by `irig_reader_hear` and
- * `irig_timekeeper_hear` with IRIG_NO_PORT; and a call without an answer then does nothing. What a
- * structure holds is no duty of the caller: any numbers may lie in it, each call returns, and what is
- * announced is a valid second. A reader or a timekeeper whose numbers were changed by anything but
- * these calls is refused (`irig_reader`).
+ * meanwhile, and no two pointers of one call into the same object: also not into a part of it. A
+ * null pointer is answered with IRIG_FAULT_VALUE; by `irig_has_parity` with no, by `irig_sync_pulse`
+ * and `irig_timekeeper_wait` with 0, by `irig_reader_hear` and `irig_timekeeper_hear` with
+ * IRIG_NO_PORT; and a call without an answer then does nothing. What a structure holds is no duty of
+ * the caller: any numbers may lie in it, each call returns, and what is announced is a valid second.
+ * A reader or a timekeeper whose numbers were changed by anything but these calls is refused
+ * (`irig_reader`).
  *
  * Answers. 0 is done. Any other answer is the number of a fault, and nothing was changed; those of
  * a frame have more beside it: `IRIG_FAULT(answer)` is the number, `IRIG_DETAIL(answer)` what it
@@ -24,7 +25,7 @@
  * timekeeper (its lines and its tick) one priority, or keep the others away meanwhile. No call
  * waits, locks, or turns interrupts off. Those of a single pulse are short (irig_reader_hear,
  * irig_timekeeper_hear, irig_reader_pulse, irig_sync_pulse, irig_sync_idle); those of a frame or an
- * edge take many times as long. docs/C.md has the most that was seen of each.
+ * edge take many times as long. docs/SAFETY.md bounds the instructions and the stack of each.
  *
  * Days are counted from 2000-01-01 as day 0; `sod` is the second of the day, and 86400 is 23:59:60.
  */
@@ -38,8 +39,10 @@
 #ifdef __cplusplus
 extern "C" {
 #define IRIG_ASSERT(fact) static_assert(fact, "the layout that the library was built for")
-#else
+#elif defined(__STDC_VERSION__) && (__STDC_VERSION__ >= 201112L)
 #define IRIG_ASSERT(fact) _Static_assert(fact, "the layout that the library was built for")
+#else /* C99 has no such word: an array of -1 is refused */
+#define IRIG_ASSERT(fact) extern char irig_asserted[(fact) ? 1 : -1]
 #endif
 
 /* How many of something: 64 bits on every machine, as the library counts. */
@@ -204,8 +207,8 @@ IRIG_ASSERT((sizeof(irig_state) == 16u) && (offsetof(irig_state, day) == 4u));
 /* What a port heard since the last edge: a bit for each symbol. */
 typedef struct irig_tally {
     uint32_t count;     /* how many symbols, 101 at most */
-    uint8_t wrong_kind; /* 0 none, 3 a bad pulse, any other a marker fault */
-    uint8_t wrong_element;
+    uint8_t wrong_kind;    /* 0 none, IRIG_FAULT_PULSE, or any other for IRIG_FAULT_MARKER */
+    uint8_t wrong_element; /* the lowest wrong one */
     uint64_t time;    /* bit i is a one at element i, 0 to 59 */
     uint64_t control; /* bit i is a one at element 60 + i */
 } irig_tally;
@@ -214,9 +217,10 @@ IRIG_ASSERT((sizeof(irig_tally) == 24u) && (offsetof(irig_tally, wrong_kind) == 
 
 /* A reader. It may be copied, kept as its bytes, and taken up again by a machine of the same byte
  * order for which these assertions hold, with the same IRIG_LAYOUT: no field has that, so keep it
- * beside. Its fields are there to be looked at: the calls alone may change them. `check` is made of all
- * numbers before it, and each call renews it. If any one number was changed by anything else, the next
- * tick, and each one behind it, answers IRIG_FAULT_VALUE. */
+ * beside. Its fields are there to be looked at, between calls and not while one runs, as from another
+ * task; the calls alone may change them. Compare two by their fields: what lies between these means
+ * nothing. `check` is made of all numbers before it, and each call renews it. If any one number was
+ * changed by anything else, the next tick, and each one behind it, answers IRIG_FAULT_VALUE. */
 typedef struct irig_reader {
     irig_setup setup;
     irig_table table;
@@ -228,8 +232,9 @@ IRIG_ASSERT((sizeof(irig_reader) == 680u) && (offsetof(irig_reader, table) == 16
             (offsetof(irig_reader, state) == 536u) && (offsetof(irig_reader, ports) == 552u) &&
             (offsetof(irig_reader, check) == 672u));
 
-/* Where a line stands in its frame: one for each line. Whatever lies in it, on a line of true
- * frames each pulse from the 101st on has its place. */
+/* Where a line stands in its frame: one for each line. It has no check word, so nothing tells if
+ * anything else changes it. Whatever lies in it, on a line of true frames each pulse from the 101st on
+ * has its place. */
 typedef struct irig_sync {
     uint32_t rise_us;   /* the leading edge of its last pulse */
     uint8_t place;      /* of that pulse in its frame, 1 to 100; any other is out of step */
@@ -336,7 +341,7 @@ typedef struct irig_announced {
 IRIG_ASSERT((sizeof(irig_announced) == 20u) && (offsetof(irig_announced, is_told) == 16u));
 
 /* A timekeeper. All that is said of an irig_reader is true of it: its fields are there to be looked
- * at, it may be copied and kept, and `check` is made of all numbers before it. */
+ * at between calls, it may be copied and kept, and `check` is made of all numbers before it. */
 typedef struct irig_timekeeper {
     irig_setup setup;
     irig_table table;
@@ -489,7 +494,8 @@ uint32_t irig_coded_of(const irig_utc *second, int8_t local_half_hours, irig_cod
 uint32_t irig_claim_of(const irig_coded *coded, const irig_control *control, uint8_t sense,
                        irig_claim *claim);
 
-/* Makes a reader to which nothing has happened. IRIG_FAULT_VALUE, IRIG_FAULT_TABLE_END to
+/* Makes a reader to which nothing has happened. Setup and table must not be those in the reader: to
+ * begin afresh keep both elsewhere. IRIG_FAULT_VALUE, IRIG_FAULT_TABLE_END to
  * IRIG_FAULT_TABLE_TWICE. */
 uint32_t irig_reader_init(irig_reader *reader, const irig_setup *setup, const irig_table *table);
 
@@ -506,9 +512,11 @@ void irig_sync_init(irig_sync *sync);
 /* The place in its frame of the next pulse of a line, once it has ended:
  *
  *     0           out of step: it belongs to no frame that is known
- *     1           the first of a frame, element 0: it rose at a second's edge
+ *     1           the first of a frame, element 0: it rose at a second's edge, and is too late for
+ *                 the tick of that edge, since irig_reader_hear has emptied the port. Take 100
  *     2 to 99
- *     100         the last, element 99: an edge comes 10 ms after it rose
+ *     100         the last, element 99: an edge comes 10 ms after it rose. A reader's tick belongs
+ *                 behind this pulse of all lines that come (docs/WIRES.md)
  *
  * `rise_us` is the time of its leading edge, by a clock of microseconds that wraps at 2^32, and
  * `width_us` its width. A pulse is on time if it rises 9,000 to 10,999 us after the one before. A
@@ -552,10 +560,10 @@ void irig_reader_restart(irig_reader *reader);
 uint32_t irig_reader_port(const irig_reader *reader, uint8_t port, irig_told *told);
 
 /* Makes a timekeeper to which nothing has happened, by a counter that is at most `drift_us`
- * microseconds wrong in a second, 0 to 100. IRIG_FAULT_VALUE, IRIG_FAULT_TABLE_END to
- * IRIG_FAULT_TABLE_TWICE; IRIG_FAULT_DRIFT if (holdover + 2) * drift_us is above 490,000, as the
- * counter could be half a second wrong by then. At 100 us a holdover may be 4,898 seconds, at 10 us
- * 48,998, at 1 us 489,998. */
+ * microseconds wrong in a second, 0 to 100. Setup and table must not be those in it.
+ * IRIG_FAULT_VALUE, IRIG_FAULT_TABLE_END to IRIG_FAULT_TABLE_TWICE; IRIG_FAULT_DRIFT if (holdover +
+ * 2) * drift_us is above 490,000, as the counter could be half a second wrong by then. At 100 us a
+ * holdover may be 4,898 seconds, at 10 us 48,998, at 1 us 489,998. */
 uint32_t irig_timekeeper_init(irig_timekeeper *timekeeper, const irig_setup *setup,
                               const irig_table *table, uint32_t drift_us);
 

@@ -1,4 +1,4 @@
-/* irig_scene.h: the proved runner of scenarios, and the texts of frames, for C11 and C++.
+/* irig_scene.h: the proved runner of scenarios, and the texts of frames, for C99, C11 and C++.
  *
  * From the text of a scenario to the text of its log, both in memory: byte for byte what `irig run`
  * writes to standard output. docs/SCENARIOS.md says how a scenario is written, docs/OUTPUT.md what

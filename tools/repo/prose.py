@@ -1,5 +1,5 @@
-"""What is measured of the pages: their sentences, the runs of words that two pages share, and the crates
-that they name."""
+"""What is measured of the pages: their sentences, the runs of words that two pages share, and the crates,
+hazards and conditions that they name."""
 from __future__ import annotations
 
 import re
@@ -29,6 +29,11 @@ FIRST_CELL = re.compile(r"^\| ([^|]+) \|", re.MULTILINE)
 BUILD = re.compile(r"`(?:\./build|\./check|\.ci/run|rt ci|make -C c|\./irig)[^`]*`")
 TIME = re.compile(r"\b(?:an?|\d[\d,.]*(?: to \d[\d,.]*)?) (?:s|seconds?|minutes?|hours?)\b")
 NAME = re.compile(r"`[^`]*`|\b(irig_[a-z]\w*)\b")
+# A row of a hazard or of a condition of use, and conditions that a row names: one, or from one to another.
+NUMBERED = re.compile(r"^\| ([HC])(\d+) \|(.*)\|$", re.MULTILINE)
+CONDITIONS = re.compile(r"\bC(\d+)(?: to C(\d+))?\b")
+# What is under test by its path.
+TRIED = ("cases/", "examples/", "tests/")
 
 
 def mark_of(line: str) -> str | None:
@@ -156,3 +161,44 @@ def gone_crates(crates: str, text: str) -> list[str]:
     known = CRATE.findall(crates)
     told = [name for name in NAME.findall(" ".join(passages(text))) if name]
     return [name for name in told + drawn_crates(text) if name not in known]
+
+
+def rows_numbered(letter: str, page: str) -> list[list[str]]:
+    """The cells behind the number of each row of this letter. Stops at rows out of order."""
+    found = [(int(number), cells) for of, number, cells in NUMBERED.findall(page) if of == letter]
+    numbers = [number for number, _ in found]
+    if not found or numbers != list(range(1, len(found) + 1)):
+        raise SystemExit(f"pages: the rows {letter}1 and so on are not in order: {numbers}")
+    return [[cell.strip() for cell in CELL_END.split(cells)] for _, cells in found]
+
+
+def unknown_laws(cell: str, contracts: dict[str, set[str]]) -> list[str]:
+    """What no source has of `law`; `law`: `clause`, `clause`; .."""
+    wrong = []
+    for entry in filter(None, cell.split("; ")):
+        law, *clauses = re.findall(r"`([^`]*)`", entry)
+        known = contracts.get(law)
+        wrong += [law] if known is None else [f"{law}: {name}" for name in clauses if name not in known]
+    return wrong
+
+
+def unknown_tests(cell: str, tests: set[str]) -> list[str]:
+    names = re.findall(r"`([^`]*)`", cell)
+    return [name for name in names if name not in tests and not name.startswith(TRIED)]
+
+
+def wrong_hazards(page: str, contracts: dict[str, set[str]], tests: set[str]) -> Iterator[str]:
+    """What is amiss in a page of hazards, whose cells are the hazard, what is promised, laws, tests, and
+    what remains by which conditions of use. That a test's path leads somewhere is seen of all pages."""
+    conditions = range(1, len(rows_numbered("C", page)) + 1)
+    named: set[int] = set()
+    for number, cells in enumerate(rows_numbered("H", page), 1):
+        laws, tried, remains = cells[2:]
+        if "`" not in laws + tried:
+            yield f"H{number} has no law and no test"
+        yield from (f"H{number}: no law or clause {name}" for name in unknown_laws(laws, contracts))
+        yield from (f"H{number}: no test {name}" for name in unknown_tests(tried, tests))
+        for first, last in CONDITIONS.findall(remains):
+            named.update(range(int(first), int(last or first) + 1))
+    yield from (f"no hazard refers to C{number}" for number in conditions if number not in named)
+    yield from (f"there is no C{number}" for number in sorted(named) if number not in conditions)

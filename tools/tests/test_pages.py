@@ -116,6 +116,38 @@ class Crates(unittest.TestCase):
         self.assertEqual(prose.gone_crates(CRATES, text), ["irig_first", "irig_second"])
 
 
+HAZARDS = """| No. | Hazard | Promise | Laws | Tests | Remains |
+| H1 | A | B | `law`; `other`: `one`, `two` | `gate`, `cases/a` | C1 to C2 |
+| H2 | A | B | | `gate` | D: C3 |
+| C1 | see | show |
+| C2 | see | show |
+| C3 | see | show |
+"""
+
+
+class Hazards(unittest.TestCase):
+    def wrong(self, old: str = "", new: str = "") -> list[str]:
+        self.assertIn(old, HAZARDS)
+        contracts = {"law": {"three"}, "other": {"one", "two"}}
+        return list(prose.wrong_hazards(HAZARDS.replace(old, new), contracts, {"gate"}))
+
+    def test_each_has_a_law_or_a_test_that_is_there(self) -> None:
+        self.assertEqual(self.wrong(), [])
+        self.assertEqual(self.wrong("| | `gate` |", "| | |"), ["H2 has no law and no test"])
+        self.assertEqual(self.wrong("`law`", "`gone`"), ["H1: no law or clause gone"])
+        self.assertEqual(self.wrong("`two`", "`three`"), ["H1: no law or clause other: three"])
+        self.assertEqual(self.wrong("`gate`, ", "`door`, "), ["H1: no test door"])
+
+    def test_hazards_and_conditions_refer_to_each_other(self) -> None:
+        self.assertEqual(self.wrong(" to C2", ""), ["no hazard refers to C2"])
+        self.assertEqual(self.wrong("D: C3", "C3, C4"), ["there is no C4"])
+
+    def test_rows_are_in_order(self) -> None:
+        for old, new in (("| H2 |", "| H3 |"), ("| C2 |", "| C1 |"), ("| H", "| X"), ("| C", "| X")):
+            with self.assertRaises(SystemExit):
+                self.wrong(old, new)
+
+
 class TheNumberThatMayFall(InAFolder):
     def test_it_falls_and_never_rises(self) -> None:
         kept, page = self.folder / "shared_runs", self.folder / "a.md"
