@@ -3,9 +3,9 @@
     refclock SOCK /run/chrony.irig.sock refid IRIG poll 2 delay 0.0031
 
 in chrony.conf, and then `capture | python3 feed_chrony.py /run/chrony.irig.sock`. What captures three
-lines writes a row `line,rise_us,width_us` when a pulse has ended, by CLOCK_MONOTONIC, which does not wrap. The delay is twice
-the bound of a voted edge, 1,549 us. Of three clocks 123.456 ms ahead of the system's (tests/chrony)
-`chronyc tracking` of chrony 4.3 then says
+lines writes a row `line,rise_us,width_us` when a pulse has ended, by CLOCK_MONOTONIC, which does not
+wrap. The delay is twice the bound of a voted edge, 1,549 us. Of three clocks 123.456 ms ahead of the
+system's (tests/chrony) `chronyc tracking` of chrony 4.3 then says
 
     Reference ID    : 49524947 (IRIG)
     Stratum         : 1
