@@ -13,6 +13,7 @@ if(NOT IRIG_TARGET)
             "x86_64-linux-gnu __x86_64__ __linux__"
             "aarch64-linux-gnu __aarch64__ __linux__"
             "armv7-linux-gnueabihf __ARM_ARCH_7A__ __linux__ __ARM_PCS_VFP"
+            "armv7r __ARM_ARCH_7R__"
             "thumbv6m __ARM_ARCH_6M__"
             "thumbv7m __ARM_ARCH_7M__"
             "thumbv7em __ARM_ARCH_7EM__"

@@ -1,5 +1,6 @@
-/* Where bare.c begins, and how it ends with its status: Linux on x86-64 and aarch64, and a Cortex-M or
- * a RISC-V without an operating system, whose emulator (or debugger) hears such calls as semihosting. */
+/* Where bare.c begins, and how it ends with its status: Linux on x86-64 and aarch64, and a Cortex-M, a
+ * Cortex-R or a RISC-V without an operating system, whose emulator (or debugger) hears such calls as
+ * semihosting. */
 #include <stdint.h>
 
 int main(void);
@@ -29,10 +30,16 @@ enum { EXIT_EXTENDED = 0x20, APPLICATION_EXIT = 0x20026 };
 
 #ifdef __arm__
 
+#if __ARM_ARCH_PROFILE == 'M'
+#define SEMIHOSTING "bkpt 0xab"
+#else
+#define SEMIHOSTING "svc 0xab"
+#endif
+
 static void semihost(uint32_t call, const void *words) {
     register uint32_t r0 __asm__("r0") = call;
     register const void *r1 __asm__("r1") = words;
-    __asm__ volatile("bkpt 0xab" : "+r"(r0) : "r"(r1) : "memory");
+    __asm__ volatile(SEMIHOSTING : "+r"(r0) : "r"(r1) : "memory");
 }
 
 __attribute__((noreturn)) void _start(void) {

@@ -48,6 +48,7 @@ typedef struct life {
     irig_table table;
     device device;
     judge judge;
+    uint64_t kinds;           /* what kinds of settings, lines, lies and ticks it has, a bit for each */
     bool is_told_aloud;       /* each second is printed */
     entry told[MOST_ENTRIES]; /* the first of them */
     int tolds;
@@ -63,6 +64,8 @@ void play(life *l, const subject *s);
 
 /* Makes the life of this number; the seed is that of a whole run. */
 void plan(life *l, uint64_t seed, uint64_t number);
+
+enum { KINDS = 60 };
 
 /* Makes edges, and lines that send nominal frames at their time, of a life that has its settings,
  * first second, leap and length. */

@@ -6,6 +6,7 @@
  *     --seed N         of all chance; 1 without it
  *     --seconds N      plays so many in which a line sends; 10,000 without it
  *     --life N         that life alone
+ *     --kinds          of the first 1,000 lives those that have what none had that was played before
  *     --wrong NAME     what is wrong with the model
  *     --overrun        one liar more than may be, so that lives have to fail
  *     --aloud          prints each second that is told
@@ -20,7 +21,7 @@
 #include <stdlib.h>
 #include <string.h>
 
-enum { FAILURES_SAID = 10, ENOUGH_S = 300000 };
+enum { FAILURES_SAID = 10, ENOUGH_S = 300000, MOST_PLANNED = 1000 };
 
 static life one;
 static uint64_t *const counts = one.judge.counts;
@@ -29,7 +30,7 @@ static unsigned long passed, failed;
 static struct {
     const subject *subject;
     uint64_t seed, seconds, life;
-    bool has_life;
+    bool has_life, is_by_kind;
     const char *other; /* in place of lives */
 } options = {.subject = &library_subject, .seed = 1, .seconds = 10000};
 
@@ -58,15 +59,35 @@ static bool play_life(uint64_t number) {
     return !one.judge.is_failed;
 }
 
+static void add_life(uint64_t number) {
+    bool is_passed = play_life(number);
+    add(is_passed);
+    if (!is_passed) say_failed(number);
+}
+
 /* Plays lives up to so many seconds in which a line sends. */
-static void play_lives(void) {
+static void play_up_to_seconds(void) {
     uint64_t number = options.has_life ? options.life : 0;
-    do {
-        bool is_passed = play_life(number);
-        add(is_passed);
-        if (!is_passed) say_failed(number);
-        number++;
-    } while (counts[LIT] < options.seconds && failed < FAILURES_SAID && !options.has_life);
+    do add_life(number++);
+    while (counts[LIT] < options.seconds && failed < FAILURES_SAID && !options.has_life);
+}
+
+/* All kinds have to be among them. */
+static void play_kinds(void) {
+    static const uint64_t ALL = (UINT64_C(1) << KINDS) - 1;
+    uint64_t played = 0;
+    for (uint64_t number = 0; played != ALL && number < MOST_PLANNED; number++) {
+        plan(&one, options.seed, number);
+        if ((one.kinds & ~played) == 0) continue;
+        played |= one.kinds;
+        add_life(number);
+    }
+    add(played == ALL);
+}
+
+static void play_lives(void) {
+    if (options.is_by_kind) play_kinds();
+    else play_up_to_seconds();
     printf("%s, seed %lu\n", options.subject->name, (unsigned long)options.seed);
     for (int i = 0; i < COUNTED; i++)
         printf("  %-34s %lu\n", COUNTED_SAID[i], (unsigned long)counts[i]);
@@ -138,6 +159,7 @@ int main(int count, char **words) {
         const char *word = words[i];
         if (are_same(word, "--aloud")) one.is_told_aloud = true;
         else if (are_same(word, "--overrun")) one.judge.is_overrun = true;
+        else if (are_same(word, "--kinds")) options.is_by_kind = true;
         else if (are_same(word, "--rows") || are_same(word, "--flips") ||
                  are_same(word, "--wrongs"))
             options.other = word;

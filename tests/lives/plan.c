@@ -274,6 +274,44 @@ static uint32_t plan_length(life *l, chance *luck, bool is_turn, bool is_long) {
     return 15 + of_any_size(luck, is_once_in(luck, 300) ? 3000 : 200);
 }
 
+/* ---- what kinds of things a life has */
+
+/* One of some, of which each has a bit, behind those before. */
+static uint64_t bit_of(uint32_t one, uint32_t count, uint32_t *before) {
+    uint64_t bit = UINT64_C(1) << (*before + one);
+    *before += count;
+    return bit;
+}
+
+static uint64_t kinds_of_line(const line *l, uint32_t before) {
+    return bit_of(l->spread, SPREADS, &before) | bit_of(l->width, WIDTHS, &before);
+}
+
+static uint64_t kinds_of_lie(const lie *told, uint32_t before) {
+    before += SPREADS + WIDTHS;
+    if (told->manner != FRAMES) return bit_of(told->manner - NOISE, 2, &before);
+    before += 2;
+    return bit_of(told->saying, 6, &before) | bit_of(told->aim, AIMS, &before) |
+           bit_of(told->harm, 6, &before);
+}
+
+static uint64_t kinds_of(const life *l, walk kind_of_walk, uint32_t length) {
+    const irig_setup *setup = &l->setup;
+    const world *w = &l->world;
+    uint32_t before = 0;
+    uint64_t kinds = bit_of(setup->redundancy, 3, &before) | bit_of(setup->parity, 2, &before) |
+                     bit_of(setup->sense, 2, &before) | bit_of(setup->sbs, 2, &before) |
+                     bit_of(l->table.until > 0 ? 1 + (l->table.len > 0) : 0, 3, &before) |
+                     bit_of((uint32_t)(w->leap + 1), 3, &before) |
+                     bit_of(w->first.day == LAST_DAY, 2, &before) |
+                     bit_of(kind_of_walk, WALKS, &before) | bit_of(length, 3, &before) |
+                     bit_of(l->device.pace, PACES, &before) |
+                     bit_of(l->device.restart_one_in > 0, 2, &before);
+    for (int i = 0; i < l->sky.lines; i++) kinds |= kinds_of_line(&l->sky.line[i], before);
+    for (int i = 0; i < l->sky.lies; i++) kinds |= kinds_of_lie(&l->sky.lie[i], before);
+    return kinds;
+}
+
 void plan(life *l, uint64_t seed, uint64_t number) {
     chance luck = {seed * UINT64_C(0x2545f4914f6cdd1d) + number};
     draw(&luck);
@@ -293,4 +331,5 @@ void plan(life *l, uint64_t seed, uint64_t number) {
     else plan_short(l, &luck);
     for (uint8_t i = 0; i < l->sky.lines; i++) begin_line(&l->sky.line[i], &l->sky, i, draw(&luck));
     plan_device(l, &luck, is_turn || is_long);
+    l->kinds = kinds_of(l, kind_of_walk, is_turn ? 2 : is_long);
 }

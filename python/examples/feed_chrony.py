@@ -1,0 +1,106 @@
+"""Feeds a chronyd with what a timekeeper says of IRIG-B lines, by chrony's reference clock SOCK:
+
+    refclock SOCK /run/chrony.irig.sock refid IRIG poll 2 delay 0.0031
+
+in chrony.conf, and then `capture | python3 feed_chrony.py /run/chrony.irig.sock`. What captures three
+lines writes a row `line,rise_us,width_us` when a pulse has ended, by CLOCK_MONOTONIC, which does not
+wrap. The delay is twice the bound of a voted edge, 1,549 us. Of three clocks 123.456 ms ahead of the
+system's (tests/chrony) `chronyc tracking` of chrony 4.3 then says
+
+    Reference ID    : 49524947 (IRIG)
+    Stratum         : 1
+    System time     : 0.123452038 seconds slow of NTP time
+    Root delay      : 0.003100000 seconds
+    Leap status     : Normal
+
+**An example, of which nothing is promised**: how well a pulse is captured, when its row is read, and
+what chronyd makes of it are matters of the machine. It says nothing of leap seconds that will come, for
+which chronyd has `leapsectz`, and nothing in a 23:59:60."""
+from __future__ import annotations
+
+import os
+import select
+import socket
+import struct
+import sys
+import time
+from typing import Callable, Iterator, List, Tuple
+
+from irig import Second, Timekeeper
+
+LATE_US = 200_000  # so long behind a pulse's end its row may come
+WORD = 1 << 32
+MAGIC = 0x534F434B
+SAMPLE = struct.Struct("@lldiiii")  # sock_sample of chrony: a timeval, an offset, pulse, leap, -, magic
+
+Pulse = Tuple[int, int, int]
+Send = Callable[[Second, int], None]
+
+
+def now_us() -> int:
+    return time.monotonic_ns() // 1000
+
+
+def sample(second: Second, edge_us: int) -> bytes:
+    """When the second began by the system's clock, and by how much that is behind it."""
+    behind_ns = (now_us() - edge_us) % WORD * 1000
+    began_ns = time.time_ns() - behind_ns
+    offset = (int(second.to_datetime().timestamp()) * 10**9 - began_ns) / 1e9
+    return SAMPLE.pack(began_ns // 10**9, began_ns % 10**9 // 1000, offset, 0, 0, 0, MAGIC)
+
+
+def batches(file: int, keep_time: Callable[[], float]) -> Iterator[List[Pulse]]:
+    """The pulses that have come, and none where nothing came for as long as `keep_time` says."""
+    rest = b""
+    while True:
+        if not select.select([file], [], [], keep_time())[0]:
+            yield []
+            continue
+        data = os.read(file, 65536)
+        if not data:
+            return
+        *rows, rest = (rest + data).split(b"\n")
+        yield [(int(line), int(rise), int(width)) for line, rise, width in (row.split(b",") for row in rows)]
+
+
+class Feeder:
+    """A timekeeper that is ticked for the times up to which pulses were told."""
+
+    def __init__(self, send: Send) -> None:
+        self.timekeeper = Timekeeper(lock_after=3, drift_us=100)
+        self.send = send
+        self.told_us = now_us()
+
+    def due_us(self) -> int:
+        return self.told_us + self.timekeeper.wait(self.told_us)
+
+    def come_to(self, time_us: int) -> None:
+        while self.due_us() <= time_us:
+            self.told_us = self.due_us()
+            beat = self.timekeeper.tick(self.told_us)
+            if beat and beat.report.second and beat.report.cause == "voted" and not beat.report.second.is_leap:
+                self.send(beat.report.second, beat.edge_us)
+        self.told_us = max(self.told_us, time_us)
+
+    def feed(self, file: int) -> None:
+        for pulses in batches(file, lambda: max(0, self.due_us() + LATE_US - now_us()) / 1e6):
+            for line, rise_us, width_us in pulses:
+                self.come_to(rise_us + width_us)
+                self.timekeeper.hear(line, rise_us, width_us)
+            if not pulses:
+                self.come_to(self.due_us())
+
+
+def main() -> None:
+    chrony = socket.socket(socket.AF_UNIX, socket.SOCK_DGRAM)
+    chrony.connect(sys.argv[1])
+
+    def send(second: Second, edge_us: int) -> None:
+        chrony.send(sample(second, edge_us))
+        print(second, flush=True)
+
+    Feeder(send).feed(sys.stdin.fileno())
+
+
+if __name__ == "__main__":
+    main()
