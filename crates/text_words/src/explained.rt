@@ -323,8 +323,8 @@ For more information, try '--help'.";
 
 fn what_may_stand(word: &str) -> &'static str {
     match word.parse::<i64>() {
-        Ok(_) => "a number from 1 to 34",
-        Err(_) => "a number from 1 to 34, a name or a word of a log",
+        Ok(_) => "a number from 1 to 36",
+        Err(_) => "a number from 1 to 36, a name or a word of a log",
     }
 }
 
