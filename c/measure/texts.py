@@ -169,7 +169,7 @@ RETURN = re.compile(rf"ret[lq]?$|bx({COND})? lr|(?:pop|ldm\w*?)({COND})?(?:\.w)?
 TRAP = re.compile(r"udf|ud2|brk|unimp|ebreak|\.inst")
 BY_TABLE = re.compile(r"tb[bh] |(?:mov|add|ldr)\S* pc,|jr |br |jmpq? \*")
 # What else may go elsewhere.
-OTHER = re.compile(r"b(?!f|ic|s|t)|j|call|ret|tail|tb")
+OTHER = re.compile(r"b(?!f|ic|s|t)|j|call|ret|tail|tb(?![lx])")
 LABEL = re.compile(r"\.L(?:BB|AT)\w+")
 LOADS = re.compile(r"(?:mov\S*|ldr(?:\.w)?|li|mv) (\w+), (?:#?(\d+)|(\.LCPI\w+)|(\w+))$|mov[lq] \$(\d+), %[er]dx$")
 THIRD = re.compile(r"\b(?:r2|a2|[wx]2|[er]?dx)\b")
