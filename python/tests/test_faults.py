@@ -22,7 +22,7 @@ class Faults(unittest.TestCase):
                 found[int(number)] = (name, cause.replace("`", ""))
                 self.assertEqual(MEANINGS[int(number)].cause.format(detail), found[int(number)][1])
                 self.assertEqual(MEANINGS[int(number)].name, name)
-        self.assertEqual(sorted(found), list(range(1, 36)))
+        self.assertEqual(sorted(found), list(range(1, 37)))
         self.assertEqual(sorted(MEANINGS), sorted(found))
 
     def test_texts(self) -> None:
