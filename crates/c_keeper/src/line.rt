@@ -47,7 +47,8 @@ pub struct IrigLines {
 }
 
 fn line_of_nothing() -> IrigLine
-    ensures new { (limits : Option Limits) (rules : Rules) → IsNewLine (line_in limits rules result) }
+    ensures new { (limits : Option Limits) (rules : Rules)
+        → IsNewLine (line_in limits rules result) }
     ensures heard { IsTallyOf result.port [] }
 {
     IrigLine {
@@ -61,7 +62,8 @@ fn line_of_nothing() -> IrigLine
 
 /// Lines on which nothing came.
 pub(crate) fn lines_of_nothing() -> IrigLines
-    ensures new { (limits : Option Limits) (rules : Rules) → AreNewLines (lines_in limits rules result) }
+    ensures new { (limits : Option Limits) (rules : Rules)
+        → AreNewLines (lines_in limits rules result) }
     ensures heard { HaveHeard result nothing_heard }
 {
     IrigLines {
@@ -102,8 +104,9 @@ pub(crate) fn put_line(lines: &mut IrigLines, port: u8, line: &IrigLine)
 pub fn hear(line: &mut IrigLine, rise_us: u32, width_us: u32) -> u8
     ensures place { result ≡ place_of line.old.sync rise_us width_us }
     ensures few { result ≤ 100 }
-    ensures line { (limits : Option Limits) (rules : Rules) (s : List Symbol) → IsTallyOf line.old.port s
-        → line_in limits rules line.new ≡ line_heard (line_in limits rules line.old) rise_us width_us
+    ensures line { (limits : Option Limits) (rules : Rules) (s : List Symbol)
+        → IsTallyOf line.old.port s → line_in limits rules line.new
+        ≡ line_heard (line_in limits rules line.old) rise_us width_us
         (told_within limits rules (heard_at result s width_us)) }
     ensures heard { (s : List Symbol) → IsTallyOf line.old.port s
         → IsTallyOf line.new.port (heard_at result s width_us) }
@@ -188,7 +191,8 @@ pub(crate) fn frames_of(lines: &IrigLines) -> [Tally; 5]
 
 // A line as a tick leaves it, which drops a frame or keeps it.
 fn keep_line(line: &mut IrigLine, kept: &Line)
-    ensures line { (limits : Option Limits) (rules : Rules) → IsKeptFrom (frame_in limits rules line.old) kept.now.frame
+    ensures line { (limits : Option Limits) (rules : Rules)
+        → IsKeptFrom (frame_in limits rules line.old) kept.now.frame
         → line_in limits rules line.new ≡ kept.now }
     ensures port { line.new.port ≡ line.old.port }
 {
@@ -200,7 +204,8 @@ fn keep_line(line: &mut IrigLine, kept: &Line)
 
 /// Lines as a tick leaves them.
 pub(crate) fn keep_lines(lines: &mut IrigLines, kept: &Lines)
-    ensures lines { (limits : Option Limits) (rules : Rules) → AreKeptFrom (lines_in limits rules lines.old) kept.now
+    ensures lines { (limits : Option Limits) (rules : Rules)
+        → AreKeptFrom (lines_in limits rules lines.old) kept.now
         → lines_in limits rules lines.new ≡ kept.now }
     ensures heard { (heard : Heard) → HaveHeard lines.old heard → HaveHeard lines.new heard }
 {

@@ -1,8 +1,13 @@
 -- What it is for a timekeeper to be such a value.
-use Rattle.std.specs.Prelude.{◌≡◌}
+use Rattle.std.specs.Prelude.{◌≡◌, Option}
+use Rattle.irig_time.specs.declared.rules.Rules.{Rules}
+use Rattle.irig_time.specs.Tables.{TableValue}
+use Rattle.irig_port.specs.declared.limits.Limits.{Limits}
 use Rattle.irig_port.specs.declared.port.Port.{Ghosts}
+use Rattle.irig_timekeeper.specs.declared.clock.ClockRules.{ClockRules}
 use Rattle.irig_timekeeper.specs.declared.keeper.Timekeeper.{Timekeeper}
-use Rattle.irig_timekeeper.specs.Keeping.{Keeping}
+use Rattle.irig_timekeeper.specs.Steps.{AreNewLines}
+use Rattle.irig_timekeeper.specs.Keeping.{Keeping, new_keeping}
 
 pub record IsKeeping {P : Type 0} {g : Ghosts P} (keeper : Timekeeper P g) (k : Keeping)
     : Type 0 where
@@ -16,6 +21,13 @@ pub record IsKeeping {P : Type 0} {g : Ghosts P} (keeper : Timekeeper P g) (k : 
   pub clock : keeper.clock ≡ k.clock
   pub table : keeper.table ≡ k.table
   pub state : keeper.state ≡ k.state
+
+-- it was made of these, and nothing has happened to it
+abbrev pub IsNew : {P : Type 0} {g : Ghosts P} → Timekeeper P g → Option Limits → Rules
+    → ClockRules → TableValue → Type 0
+IsNew keeper limits rules clock table =
+    IsKeeping keeper (new_keeping limits rules clock table keeper.state.lines)
+    × AreNewLines keeper.state.lines
 
 -- a fact of each value that the timekeeper may be
 abbrev pub ForKeeping : {P : Type 0} {g : Ghosts P} → Timekeeper P g → (Keeping → Type 0) → Type 0

@@ -1,13 +1,18 @@
 -- The life of a device since it was made or restarted, by its calls. Times are local ones, by a
 -- clock that does not wrap; the device is given them by one of 32 bits.
 -- Source: this project's profile.
-use Rattle.std.specs.Prelude.{◌≡◌, ℕ, ◌+◌, ◌%◌, ◌^◌, ◌<◌, ◌≤◌, ◌==◌, Bool, true, false, ◌&&◌, if◌then◌else◌, List, [], ◌∷◌, ◌++◌, count_by, ⊤}
+use Rattle.std.specs.Prelude.{◌≡◌, ℕ, ◌+◌, ◌%◌, ◌^◌, ◌<◌, ◌≤◌, ◌==◌, Bool, true, false, ◌&&◌, if◌then◌else◌, List, [], ◌∷◌, ◌++◌, count_by, Option, ⊤}
 use Rattle.std.specs.List.{range_with_len}
 use Rattle.irig_sync.specs.Lines.{Pulse, pulse_at, IsAfter}
+use Rattle.irig_time.specs.declared.rules.Rules.{Rules}
+use Rattle.irig_time.specs.Tables.{TableValue}
+use Rattle.irig_port.specs.declared.limits.Limits.{Limits}
 use Rattle.irig_vote.specs.declared.redundancy.Redundancy.{Redundancy}
 use Rattle.irig_vote.specs.Vote.{ports_in}
-use Rattle.irig_timekeeper.specs.Steps.{is_pulse}
-use Rattle.irig_timekeeper.specs.Keeping.{Keeping, after_pulse, after_tick}
+use Rattle.irig_timekeeper.specs.declared.clock.ClockRules.{ClockRules}
+use Rattle.irig_timekeeper.specs.declared.lines.Lines.{Lines}
+use Rattle.irig_timekeeper.specs.Steps.{is_pulse, AreNewLines}
+use Rattle.irig_timekeeper.specs.Keeping.{Keeping, new_keeping, after_pulse, after_tick}
 
 -- a pulse on the line of a port, told at this time: it rose then, and is so wide; or a tick
 pub data Call : Type 0 where
@@ -22,6 +27,22 @@ after_call k (Tick now) = after_tick k (now % 2 ^ 32)
 abbrev pub after_calls : Keeping → List Call → Keeping
 after_calls k [] = k
 after_calls k (call ∷ calls) = after_call (after_calls k calls) call
+
+-- what a device was made of, and its lines, on which nothing came
+pub record Made : Type 0 where
+  pub limits : Option Limits
+  pub rules : Rules
+  pub clock : ClockRules
+  pub table : TableValue
+  pub lines : Lines
+  pub fresh : AreNewLines lines
+
+-- that device, and what it is after these calls, the newest first
+abbrev pub device_of : Made → Keeping
+device_of made = new_keeping made.limits made.rules made.clock made.table made.lines
+
+abbrev pub life_of : Made → List Call → Keeping
+life_of made calls = after_calls (device_of made) calls
 
 -- the pulses on the line of a port, the newest first
 abbrev pub pulses_on : ℕ → List Call → List Pulse

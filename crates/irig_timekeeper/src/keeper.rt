@@ -44,8 +44,8 @@ pub struct Timekeeper<P: Port> {
 
 impl<P: Port> Timekeeper<P> {
     ghost use Rattle.irig_timekeeper.specs.Refusals.{clock_fault};
-    ghost use Rattle.irig_timekeeper.specs.Keeping.{new_keeping, place_told, one_pulse_more, after_pulse, after_tick, answer_at, restarted, heard_by, with_heard, wait_at, stamp_at};
-    ghost use Rattle.irig_timekeeper.specs.Keepers.{IsKeeping, ForKeeping, Goes};
+    ghost use Rattle.irig_timekeeper.specs.Keeping.{place_told, one_pulse_more, after_pulse, after_tick, answer_at, restarted, heard_by, with_heard, wait_at, stamp_at};
+    ghost use Rattle.irig_timekeeper.specs.Keepers.{IsKeeping, IsNew, ForKeeping, Goes};
 
     /// A timekeeper to which nothing has happened, with rules that are
     /// [`in_range`](irig_reader::in_range), by a counter that is at most `drift_us` microseconds a
@@ -60,11 +60,11 @@ impl<P: Port> Timekeeper<P> {
         requires { IsReaderRules reader_rules }
         ensures { MatchResult result
             (λ keeper. (clock_fault reader_rules drift_us ≡ None)
-            × (IsKeeping keeper (new_keeping None rules (record {
+            × IsNew keeper None rules (record {
               reader_rules = reader_rules;
               redundancy = redundancy;
               drift_us = drift_us;
-            }) table keeper.state.lines) × AreNewLines keeper.state.lines))
+            }) table)
             (λ fault. clock_fault reader_rules drift_us ≡ Some fault) }
     {
         Timekeeper::new_within(rules, reader_rules, table, redundancy, drift_us, None)
@@ -83,11 +83,11 @@ impl<P: Port> Timekeeper<P> {
         requires { IsReaderRules reader_rules }
         ensures { MatchResult result
             (λ keeper. (clock_fault reader_rules drift_us ≡ None)
-            × (IsKeeping keeper (new_keeping limits rules (record {
+            × IsNew keeper limits rules (record {
               reader_rules = reader_rules;
               redundancy = redundancy;
               drift_us = drift_us;
-            }) table keeper.state.lines) × AreNewLines keeper.state.lines))
+            }) table)
             (λ fault. clock_fault reader_rules drift_us ≡ Some fault) }
     {
         if let Some(fault) = clock_fault(reader_rules, drift_us) {

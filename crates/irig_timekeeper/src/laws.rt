@@ -21,15 +21,15 @@ ghost use Rattle.irig_timekeeper.specs.Edges.{IsQuartz, IsNear, IsTrueNear};
 ghost use Rattle.irig_timekeeper.specs.Lines.{IsTrueLately, IsFrameOf, IfKept, IsAnyEnd, HasJustCome};
 ghost use Rattle.irig_timekeeper.specs.Counting.{edges_between, edges_to, edges_own};
 ghost use Rattle.irig_timekeeper.specs.Refusals.{clock_fault};
-ghost use Rattle.irig_timekeeper.specs.Steps.{frame_behind, claim_kept, line_at, all_kept, agrees, agreed, settled, tells_of, AreNewLines, wait_by};
+ghost use Rattle.irig_timekeeper.specs.Steps.{frame_behind, claim_kept, line_at, all_kept, agrees, agreed, settled, tells_of, wait_by};
 ghost use Rattle.irig_timekeeper.specs.Clock.{answer_to_vote};
-ghost use Rattle.irig_timekeeper.specs.Keeping.{Keeping, new_keeping, vote_at, after_tick, answer_at, wait_at, stamp_at};
+ghost use Rattle.irig_timekeeper.specs.Keeping.{Keeping, vote_at, after_tick, answer_at, wait_at, stamp_at};
 ghost use Rattle.irig_timekeeper.specs.Truth.{AreHeardTruly, IsTrueVote, IsOnTrack, IsToldTruly, IsToldInHoldover, IsLaterSecond, IsDevice, IsEdgeAt, AreApartBeats, IsStampedTruly, IsInstant};
 ghost use Rattle.irig_timekeeper.specs.Announcing.{AreWellHeard, Announces};
-ghost use Rattle.irig_timekeeper.specs.Life.{Call, AreInOrder, AreTrueLately, AreTrueAtTicks, AreTrueOver, after_calls, last_call};
+ghost use Rattle.irig_timekeeper.specs.Life.{Call, Made, AreInOrder, AreTrueLately, AreTrueAtTicks, AreTrueOver, device_of, life_of, last_call};
 ghost use Rattle.irig_timekeeper.specs.Life.Call.{Tick};
 
-use crate::clock::{Beat, ClockRules};
+use crate::clock::Beat;
 use crate::lines::{KeptClaim, KeptFrame, Lines};
 use crate::stamp::Stamp;
 use irig_port::Limits;
@@ -52,10 +52,10 @@ pub fn counting_is_right()
 /// What a line keeps is a frame of its pulses: none at first, and a pulse more goes on, as a
 /// timekeeper hears it, whether its port was emptied before or not.
 pub fn lines_keep_frames()
-    ensures { (limits : Option Limits) (rules : Rules) (frame : Option KeptFrame) (heard : List Symbol) (s : Sync)
-        (pulses : List Pulse) (now time width : ℕ) → IsHearing heard s pulses now
-        → IfKept IsAnyEnd rules (claim_kept frame) pulses → IsAfter pulses time
-        → IsSoon now time → IfKept IsAnyEnd rules (claim_kept (frame_behind
+    ensures { (limits : Option Limits) (rules : Rules) (frame : Option KeptFrame)
+        (heard : List Symbol) (s : Sync) (pulses : List Pulse) (now time width : ℕ)
+        → IsHearing heard s pulses now → IfKept IsAnyEnd rules (claim_kept frame) pulses
+        → IsAfter pulses time → IsSoon now time → IfKept IsAnyEnd rules (claim_kept (frame_behind
         (place_of s (time % 2 ^ 32) width) (time % 2 ^ 32)
         (told_within limits rules
         (heard_at (place_of s (time % 2 ^ 32) width) heard width)) frame))
@@ -93,39 +93,38 @@ pub fn votes_are_true()
 /// A device tells the truth all its life: of every list of calls in order, whenever it was ticked,
 /// if at each tick at most f lines were untrue in the last 1.2 s, its counter is as steady as its
 /// setup says and its leap table is true. What a tick announces is T(m), for an edge m near which
-/// the edge that is told lies, from 1.549 ms before it to 0.549 ms behind, and off by the drift of as
-/// many edges more as a holdover may last, which is less than half a second. The edge that is told
-/// has come, less than 1.005 s before the tick.
+/// the edge that is told lies, from 1.549 ms before it to 0.549 ms behind, and off by the drift of
+/// as many edges more as a holdover may last, which is less than half a second. The edge that is
+/// told has come, less than 1.005 s before the tick.
 pub fn a_device_tells_the_truth()
-    ensures life { (t : TimelineValue) (edges : ℕ → ℕ) (limits : Option Limits) (rules : Rules) (clock : ClockRules)
-        (table : TableValue) (lines : Lines) (start now : ℕ) (calls : List Call) (beat : Beat)
-        (u : UtcSecond) → IsDevice t clock.drift_us edges clock.reader_rules table
-        → AreNewLines lines → AreInOrder start clock.redundancy (Tick now ∷ calls)
-        → AreTrueAtTicks (IsTrueLately rules t edges) (f_of clock.redundancy) (Tick now ∷ calls)
-        → answer_at (after_calls (new_keeping limits rules clock table lines) calls) (now % 2 ^ 32)
-        ≡ Some beat → beat.report.announce ≡ Some u
-        → IsToldInHoldover t edges 1549 549 clock.drift_us clock.reader_rules.holdover now beat u }
+    ensures life { (t : TimelineValue) (edges : ℕ → ℕ) (made : Made) (start now : ℕ)
+        (calls : List Call) (beat : Beat) (u : UtcSecond)
+        → IsDevice t made.clock.drift_us edges made.clock.reader_rules made.table
+        → AreInOrder start made.clock.redundancy (Tick now ∷ calls)
+        → AreTrueAtTicks (IsTrueLately made.rules t edges) (f_of made.clock.redundancy)
+        (Tick now ∷ calls) → answer_at (life_of made calls) (now % 2 ^ 32) ≡ Some beat
+        → beat.report.announce ≡ Some u
+        → IsToldInHoldover t edges 1549 549 made.clock.drift_us made.clock.reader_rules.holdover
+        now beat u }
     // In order: what a later tick announces is a later second, so that none is announced twice.
-    ensures order { (t : TimelineValue) (edges : ℕ → ℕ) (limits : Option Limits) (rules : Rules) (clock : ClockRules)
-        (table : TableValue) (lines : Lines) (start before now : ℕ) (earlier later : List Call)
-        (beat then : Beat) (u v : UtcSecond)
-        → IsDevice t clock.drift_us edges clock.reader_rules table → AreNewLines lines
-        → AreInOrder start clock.redundancy (Tick now ∷ (later ++ (Tick before ∷ earlier)))
-        → AreTrueAtTicks (IsTrueLately rules t edges) (f_of clock.redundancy)
+    ensures order { (t : TimelineValue) (edges : ℕ → ℕ) (made : Made) (start before now : ℕ)
+        (earlier later : List Call) (beat then : Beat) (u v : UtcSecond)
+        → IsDevice t made.clock.drift_us edges made.clock.reader_rules made.table
+        → AreInOrder start made.clock.redundancy (Tick now ∷ (later ++ (Tick before ∷ earlier)))
+        → AreTrueAtTicks (IsTrueLately made.rules t edges) (f_of made.clock.redundancy)
         (Tick now ∷ (later ++ (Tick before ∷ earlier)))
-        → answer_at (after_calls (new_keeping limits rules clock table lines) earlier)
-        (before % 2 ^ 32) ≡ Some beat → beat.report.announce ≡ Some u
-        → answer_at (after_calls (new_keeping limits rules clock table lines)
-        (later ++ (Tick before ∷ earlier))) (now % 2 ^ 32) ≡ Some then
+        → answer_at (life_of made earlier) (before % 2 ^ 32) ≡ Some beat
+        → beat.report.announce ≡ Some u
+        → answer_at (life_of made (later ++ (Tick before ∷ earlier))) (now % 2 ^ 32) ≡ Some then
         → then.report.announce ≡ Some v → IsLaterSecond t u v }
     // And no report has the cause `Jump`.
-    ensures calm { (t : TimelineValue) (edges : ℕ → ℕ) (limits : Option Limits) (rules : Rules) (clock : ClockRules)
-        (table : TableValue) (lines : Lines) (start now : ℕ) (calls : List Call) (beat : Beat)
-        → IsDevice t clock.drift_us edges clock.reader_rules table → AreNewLines lines
-        → AreInOrder start clock.redundancy (Tick now ∷ calls)
-        → AreTrueAtTicks (IsTrueLately rules t edges) (f_of clock.redundancy) (Tick now ∷ calls)
-        → answer_at (after_calls (new_keeping limits rules clock table lines) calls) (now % 2 ^ 32)
-        ≡ Some beat → ¬ (beat.report.cause ≡ Cause.Jump) }
+    ensures calm { (t : TimelineValue) (edges : ℕ → ℕ) (made : Made) (start now : ℕ)
+        (calls : List Call) (beat : Beat)
+        → IsDevice t made.clock.drift_us edges made.clock.reader_rules made.table
+        → AreInOrder start made.clock.redundancy (Tick now ∷ calls)
+        → AreTrueAtTicks (IsTrueLately made.rules t edges) (f_of made.clock.redundancy)
+        (Tick now ∷ calls) → answer_at (life_of made calls) (now % 2 ^ 32) ≡ Some beat
+        → ¬ (beat.report.cause ≡ Cause.Jump) }
     // A setup without a fault is one of these.
     ensures setup { (rules : ReaderRules) (d : ℕ) → clock_fault rules d ≡ None
         → (d ≤ 100) × ((rules.holdover + 2) * d ≤ 490000) }
@@ -146,40 +145,35 @@ pub fn a_device_tells_the_truth()
         (after_tick k (now % 2 ^ 32)).state.reader (after_tick k (now % 2 ^ 32)).state.edge_us }
 {}
 
-/// In order, whatever lines carry and however the counter drifts: the edges that are told lie half a
-/// second apart at least, and none lies ahead of its tick, nor 1.005 s behind it.
+/// In order, whatever lines carry and however the counter drifts: the edges that are told lie half
+/// a second apart at least, and none lies ahead of its tick, nor 1.005 s behind it.
 pub fn edges_lie_apart()
-    ensures { (limits : Option Limits) (rules : Rules) (clock : ClockRules) (table : TableValue) (lines : Lines)
-        (start before now : ℕ) (earlier later : List Call) (beat then : Beat) → AreNewLines lines
-        → AreInOrder start clock.redundancy (Tick now ∷ (later ++ (Tick before ∷ earlier)))
-        → answer_at (after_calls (new_keeping limits rules clock table lines) earlier)
-        (before % 2 ^ 32) ≡ Some beat
-        → answer_at (after_calls (new_keeping limits rules clock table lines)
-        (later ++ (Tick before ∷ earlier))) (now % 2 ^ 32) ≡ Some then
+    ensures { (made : Made) (start before now : ℕ) (earlier later : List Call) (beat then : Beat)
+        → AreInOrder start made.clock.redundancy (Tick now ∷ (later ++ (Tick before ∷ earlier)))
+        → answer_at (life_of made earlier) (before % 2 ^ 32) ≡ Some beat
+        → answer_at (life_of made (later ++ (Tick before ∷ earlier))) (now % 2 ^ 32) ≡ Some then
         → AreApartBeats before now beat then }
 {}
 
-/// A device heals: whatever its lines carried, however long, the first vote that counts an edge at a
-/// tick at which at most f lines were untrue in the last 1.2 s brings the truth back, if at each
-/// tick from there on at most f are. (Until then it may hold over what is untrue, for as many
-/// edges as its rules allow.)
+/// A device heals: whatever its lines carried, however long, the first vote that counts an edge at
+/// a tick at which at most f lines were untrue in the last 1.2 s brings the truth back, if at each
+/// tick from there on at most f are. (Until then it may hold over what is untrue, for as many edges
+/// as its rules allow.)
 pub fn a_device_heals()
-    ensures { (t : TimelineValue) (edges : ℕ → ℕ) (limits : Option Limits) (rules : Rules) (clock : ClockRules)
-        (table : TableValue) (lines : Lines) (start mend now : ℕ) (earlier later : List Call)
-        (vote : KeptClaim) (beat then : Beat) (u : UtcSecond)
-        → IsDevice t clock.drift_us edges clock.reader_rules table → AreNewLines lines
-        → AreInOrder start clock.redundancy (Tick now ∷ (later ++ (Tick mend ∷ earlier)))
-        → AreTrueLately (IsTrueLately rules t edges) (f_of clock.redundancy) mend earlier
-        → AreTrueOver (IsTrueLately rules t edges) (f_of clock.redundancy) (Tick now ∷ later)
-        (Tick mend ∷ earlier)
-        → vote_at (after_calls (new_keeping limits rules clock table lines) earlier) (mend % 2 ^ 32)
-        ≡ Some vote
-        → answer_at (after_calls (new_keeping limits rules clock table lines) earlier) (mend % 2 ^ 32)
-        ≡ Some beat
-        → answer_at (after_calls (new_keeping limits rules clock table lines)
-        (later ++ (Tick mend ∷ earlier))) (now % 2 ^ 32) ≡ Some then
+    ensures { (t : TimelineValue) (edges : ℕ → ℕ) (made : Made) (start mend now : ℕ)
+        (earlier later : List Call) (vote : KeptClaim) (beat then : Beat) (u : UtcSecond)
+        → IsDevice t made.clock.drift_us edges made.clock.reader_rules made.table
+        → AreInOrder start made.clock.redundancy (Tick now ∷ (later ++ (Tick mend ∷ earlier)))
+        → AreTrueLately (IsTrueLately made.rules t edges) (f_of made.clock.redundancy) mend
+        earlier
+        → AreTrueOver (IsTrueLately made.rules t edges) (f_of made.clock.redundancy)
+        (Tick now ∷ later) (Tick mend ∷ earlier)
+        → vote_at (life_of made earlier) (mend % 2 ^ 32) ≡ Some vote
+        → answer_at (life_of made earlier) (mend % 2 ^ 32) ≡ Some beat
+        → answer_at (life_of made (later ++ (Tick mend ∷ earlier))) (now % 2 ^ 32) ≡ Some then
         → then.report.announce ≡ Some u
-        → IsToldInHoldover t edges 1549 549 clock.drift_us clock.reader_rules.holdover now then u }
+        → IsToldInHoldover t edges 1549 549 made.clock.drift_us made.clock.reader_rules.holdover
+        now then u }
 {}
 
 /// No f lines can keep a device from a vote: if more than f lines keep frames of one claim that end
@@ -201,9 +195,9 @@ pub fn enough_lines_vote()
         → vote_at k (now % 2 ^ 32) ≡ Some vote }
 {}
 
-/// Beats are votes, as irig_reader counts them: a beat behind some missed seconds is a vote behind as
-/// many that are none. So its laws of votes are laws of beats, as that true votes in a row lock: at
-/// the last of so many as the rules ask, none of them missed, a device announces the second that
+/// Beats are votes, as irig_reader counts them: a beat behind some missed seconds is a vote behind
+/// as many that are none. So its laws of votes are laws of beats, as that true votes in a row lock:
+/// at the last of so many as the rules ask, none of them missed, a device announces the second that
 /// begins.
 pub fn beats_are_votes()
     ensures step { (rules : ReaderRules) (table : TableValue) (missed : ℕ) (state : State)
@@ -227,21 +221,18 @@ pub fn beats_are_votes()
 {}
 
 /// Waiting is right: with a frame on which lines agree, a tick after as long as a device says, or
-/// later, by 98 ms behind that frame's end, has a vote, which answers or sets the edge right. Without
-/// one it counts an edge by the own counter. A device says 0 only if a tick at once does so.
+/// later, by 98 ms behind that frame's end, has a vote, which answers or sets the edge right.
+/// Without one it counts an edge by the own counter. A device says 0 only if a tick at once does
+/// so.
 pub fn waiting_is_right()
-    ensures votes { (limits : Option Limits) (rules : Rules) (clock : ClockRules) (table : TableValue) (lines : Lines)
-        (start now then edge : ℕ) (calls : List Call) (vote : KeptClaim) → AreNewLines lines
-        → AreInOrder start clock.redundancy (Tick now ∷ calls)
-        → AreInOrder start clock.redundancy (Tick then ∷ calls)
-        → agreed (f_of (after_calls (new_keeping limits rules clock table lines) calls).clock.redundancy)
-        (settled (now % 2 ^ 32)
-        (after_calls (new_keeping limits rules clock table lines) calls).state.lines) ≡ Some vote
+    ensures votes { (made : Made) (start now then edge : ℕ) (calls : List Call) (vote : KeptClaim)
+        → AreInOrder start made.clock.redundancy (Tick now ∷ calls)
+        → AreInOrder start made.clock.redundancy (Tick then ∷ calls)
+        → agreed (f_of (life_of made calls).clock.redundancy)
+        (settled (now % 2 ^ 32) (life_of made calls).state.lines) ≡ Some vote
         → vote.end_us ≡ edge % 2 ^ 32 → edge ≤ now + 10000 → now ≤ edge + 98000
-        → now + wait_at (after_calls (new_keeping limits rules clock table lines) calls) (now % 2 ^ 32)
-        ≤ then → then ≤ edge + 98000
-        → (v : KeptClaim) × (vote_at (after_calls (new_keeping limits rules clock table lines) calls)
-        (then % 2 ^ 32) ≡ Some v) }
+        → now + wait_at (life_of made calls) (now % 2 ^ 32) ≤ then → then ≤ edge + 98000
+        → (v : KeptClaim) × (vote_at (life_of made calls) (then % 2 ^ 32) ≡ Some v) }
     ensures counts { (e edge tick now more : ℕ) → IsEdgeAt e edge tick → tick ≤ now
         → now + wait_by (now % 2 ^ 32) (Some e) None + more ≤ tick + 1800000000
         → 1 ≤ edges_own (Some e) ((now + wait_by (now % 2 ^ 32) (Some e) None + more) % 2 ^ 32) }
@@ -255,14 +246,14 @@ pub fn waiting_is_right()
 /// of an event of the last half hour has a second T(m) and an offset that lie no further from the
 /// event than the stamp's bound, by the device's counter.
 pub fn stamps_are_true()
-    ensures stamp { (t : TimelineValue) (edges : ℕ → ℕ) (limits : Option Limits) (rules : Rules) (clock : ClockRules)
-        (table : TableValue) (lines : Lines) (start time now : ℕ) (calls : List Call)
-        (stamp : Stamp) → IsDevice t clock.drift_us edges clock.reader_rules table
-        → AreNewLines lines → AreInOrder start clock.redundancy (Tick now ∷ calls)
-        → AreTrueAtTicks (IsTrueLately rules t edges) (f_of clock.redundancy) calls
+    ensures stamp { (t : TimelineValue) (edges : ℕ → ℕ) (made : Made) (start time now : ℕ)
+        (calls : List Call) (stamp : Stamp)
+        → IsDevice t made.clock.drift_us edges made.clock.reader_rules made.table
+        → AreInOrder start made.clock.redundancy (Tick now ∷ calls)
+        → AreTrueAtTicks (IsTrueLately made.rules t edges) (f_of made.clock.redundancy) calls
         → time ≤ now → now ≤ time + 1800000000
-        → stamp_at (after_calls (new_keeping limits rules clock table lines) calls) (time % 2 ^ 32)
-        ≡ Some stamp → IsStampedTruly t edges 0 time stamp }
+        → stamp_at (life_of made calls) (time % 2 ^ 32) ≡ Some stamp
+        → IsStampedTruly t edges 0 time stamp }
     // So two devices stamp one instant alike, whatever their counters show: what their stamps name
     // lies no further apart than the sum of their bounds and the drift of two seconds of each.
     ensures together { (t : TimelineValue) (d e n tau time other : ℕ) (edges others : ℕ → ℕ)
@@ -273,20 +264,19 @@ pub fn stamps_are_true()
         ≤ two.m * 1000000 + y.offset_us + x.bound_us + y.bound_us + 2 * d + 2 * e }
 {}
 
-/// A device announces, and f lines cannot stop it: wherever it stands, let there be seconds in a row,
-/// two more than it locks after, of each of which more than f lines send the frame whole, and let the
-/// first tick that comes 549 us behind its edge or later come at most 98 ms behind, when those lines
-/// have told it. Then a tick of the last of these seconds announces it by a vote, whatever the other
-/// lines send.
+/// A device announces, and f lines cannot stop it: wherever it stands, let there be seconds in a
+/// row, two more than it locks after, of each of which more than f lines send the frame whole, and
+/// let the first tick that comes 549 us behind its edge or later come at most 98 ms behind, when
+/// those lines have told it. Then a tick of the last of these seconds announces it by a vote,
+/// whatever the other lines send.
 pub fn a_device_announces()
-    ensures { (t : TimelineValue) (edges : ℕ → ℕ) (limits : Option Limits) (rules : Rules) (clock : ClockRules)
-        (table : TableValue) (lines : Lines) (start m : ℕ) (calls before : List Call)
-        (u : UtcSecond) → IsDevice t clock.drift_us edges clock.reader_rules table
-        → AreNewLines lines → AreInOrder start clock.redundancy calls → 1 ≤ m
-        → 1 ≤ clock.reader_rules.lock_after → last_call start before + 11000 < edges m
-        → AreWellHeard (IsTrueLately rules t edges) t edges (new_keeping limits rules clock table lines)
-        start m (suc (suc clock.reader_rules.lock_after)) calls before
-        → IsSecond t (m + 1 + clock.reader_rules.lock_after) u
-        → Announces edges (new_keeping limits rules clock table lines)
-        (m + 1 + clock.reader_rules.lock_after) u calls }
+    ensures { (t : TimelineValue) (edges : ℕ → ℕ) (made : Made) (start m : ℕ)
+        (calls before : List Call) (u : UtcSecond)
+        → IsDevice t made.clock.drift_us edges made.clock.reader_rules made.table
+        → AreInOrder start made.clock.redundancy calls → 1 ≤ m
+        → 1 ≤ made.clock.reader_rules.lock_after → last_call start before + 11000 < edges m
+        → AreWellHeard (IsTrueLately made.rules t edges) t edges (device_of made) start m
+        (suc (suc made.clock.reader_rules.lock_after)) calls before
+        → IsSecond t (m + 1 + made.clock.reader_rules.lock_after) u
+        → Announces edges (device_of made) (m + 1 + made.clock.reader_rules.lock_after) u calls }
 {}

@@ -10,15 +10,12 @@ ghost use Rattle.irig_vote.specs.Vote.{f_of};
 ghost use Rattle.irig_port.specs.OwnClaims.{TellsClaims};
 ghost use Rattle.irig_timekeeper.specs.Edges.{IsQuartz, IsTrueNear};
 ghost use Rattle.irig_timekeeper.specs.Lines.{IsFrameOf, IsCheckedLineOf, IsTrueButForFaults, IsTrueOrFaulty};
-ghost use Rattle.irig_timekeeper.specs.Steps.{AreNewLines};
-ghost use Rattle.irig_timekeeper.specs.Keeping.{new_keeping, answer_at};
+ghost use Rattle.irig_timekeeper.specs.Keeping.{answer_at};
 ghost use Rattle.irig_timekeeper.specs.Truth.{IsToldInHoldover, IsLaterSecond, IsDevice};
-ghost use Rattle.irig_timekeeper.specs.Life.{Call, AreInOrder, AreTrueAtTicks, after_calls};
+ghost use Rattle.irig_timekeeper.specs.Life.{Call, Made, AreInOrder, AreTrueAtTicks, life_of};
 ghost use Rattle.irig_timekeeper.specs.Life.Call.{Tick};
 
-use crate::clock::{Beat, ClockRules};
-use crate::lines::Lines;
-use irig_port::Limits;
+use crate::clock::Beat;
 use irig_reader::{Cause, ReaderRules};
 use irig_time::{Claim, Rules, UtcSecond};
 
@@ -35,46 +32,44 @@ pub fn lines_with_faults_tell_truly()
         → now ≤ end + 100000 → IsTrueNear t edges (2449 + d) (1448 + d) end claim }
     // So a device tells the truth all its life: the edge that it tells lies from 3.549 ms before
     // the true one to 1.549 ms behind, and as much further off as a holdover drifts.
-    ensures life { (t : TimelineValue) (edges : ℕ → ℕ) (limits : Option Limits) (rules : Rules) (clock : ClockRules)
-        (table : TableValue) (lines : Lines) (start now : ℕ) (calls : List Call) (beat : Beat)
-        (u : UtcSecond) → IsDevice t clock.drift_us edges clock.reader_rules table
-        → AreNewLines lines → AreInOrder start clock.redundancy (Tick now ∷ calls)
-        → AreTrueAtTicks (IsTrueButForFaults rules t edges) (f_of clock.redundancy)
-        (Tick now ∷ calls)
-        → answer_at (after_calls (new_keeping limits rules clock table lines) calls) (now % 2 ^ 32)
-        ≡ Some beat → beat.report.announce ≡ Some u
-        → IsToldInHoldover t edges 3549 1549 clock.drift_us clock.reader_rules.holdover now beat u }
+    ensures life { (t : TimelineValue) (edges : ℕ → ℕ) (made : Made) (start now : ℕ)
+        (calls : List Call) (beat : Beat) (u : UtcSecond)
+        → IsDevice t made.clock.drift_us edges made.clock.reader_rules made.table
+        → AreInOrder start made.clock.redundancy (Tick now ∷ calls)
+        → AreTrueAtTicks (IsTrueButForFaults made.rules t edges) (f_of made.clock.redundancy)
+        (Tick now ∷ calls) → answer_at (life_of made calls) (now % 2 ^ 32) ≡ Some beat
+        → beat.report.announce ≡ Some u
+        → IsToldInHoldover t edges 3549 1549 made.clock.drift_us made.clock.reader_rules.holdover
+        now beat u }
     // Some of its lines may have faults while others lose any pulses.
-    ensures either { (t : TimelineValue) (edges : ℕ → ℕ) (limits : Option Limits) (rules : Rules) (clock : ClockRules)
-        (table : TableValue) (lines : Lines) (start now : ℕ) (calls : List Call) (beat : Beat)
-        (u : UtcSecond) → IsDevice t clock.drift_us edges clock.reader_rules table
-        → AreNewLines lines → AreInOrder start clock.redundancy (Tick now ∷ calls)
-        → AreTrueAtTicks (IsTrueOrFaulty rules t edges) (f_of clock.redundancy) (Tick now ∷ calls)
-        → answer_at (after_calls (new_keeping limits rules clock table lines) calls) (now % 2 ^ 32)
-        ≡ Some beat → beat.report.announce ≡ Some u
-        → IsToldInHoldover t edges 3549 1549 clock.drift_us clock.reader_rules.holdover now beat u }
+    ensures either { (t : TimelineValue) (edges : ℕ → ℕ) (made : Made) (start now : ℕ)
+        (calls : List Call) (beat : Beat) (u : UtcSecond)
+        → IsDevice t made.clock.drift_us edges made.clock.reader_rules made.table
+        → AreInOrder start made.clock.redundancy (Tick now ∷ calls)
+        → AreTrueAtTicks (IsTrueOrFaulty made.rules t edges) (f_of made.clock.redundancy)
+        (Tick now ∷ calls) → answer_at (life_of made calls) (now % 2 ^ 32) ≡ Some beat
+        → beat.report.announce ≡ Some u
+        → IsToldInHoldover t edges 3549 1549 made.clock.drift_us made.clock.reader_rules.holdover
+        now beat u }
     // In order: what a later tick announces is a later second.
-    ensures order { (t : TimelineValue) (edges : ℕ → ℕ) (limits : Option Limits) (rules : Rules) (clock : ClockRules)
-        (table : TableValue) (lines : Lines) (start before now : ℕ) (earlier later : List Call)
-        (beat then : Beat) (u v : UtcSecond)
-        → IsDevice t clock.drift_us edges clock.reader_rules table → AreNewLines lines
-        → AreInOrder start clock.redundancy (Tick now ∷ (later ++ (Tick before ∷ earlier)))
-        → AreTrueAtTicks (IsTrueButForFaults rules t edges) (f_of clock.redundancy)
+    ensures order { (t : TimelineValue) (edges : ℕ → ℕ) (made : Made) (start before now : ℕ)
+        (earlier later : List Call) (beat then : Beat) (u v : UtcSecond)
+        → IsDevice t made.clock.drift_us edges made.clock.reader_rules made.table
+        → AreInOrder start made.clock.redundancy (Tick now ∷ (later ++ (Tick before ∷ earlier)))
+        → AreTrueAtTicks (IsTrueButForFaults made.rules t edges) (f_of made.clock.redundancy)
         (Tick now ∷ (later ++ (Tick before ∷ earlier)))
-        → answer_at (after_calls (new_keeping limits rules clock table lines) earlier)
-        (before % 2 ^ 32) ≡ Some beat → beat.report.announce ≡ Some u
-        → answer_at (after_calls (new_keeping limits rules clock table lines)
-        (later ++ (Tick before ∷ earlier))) (now % 2 ^ 32) ≡ Some then
+        → answer_at (life_of made earlier) (before % 2 ^ 32) ≡ Some beat
+        → beat.report.announce ≡ Some u
+        → answer_at (life_of made (later ++ (Tick before ∷ earlier))) (now % 2 ^ 32) ≡ Some then
         → then.report.announce ≡ Some v → IsLaterSecond t u v }
     // And no report has the cause `Jump`.
-    ensures calm { (t : TimelineValue) (edges : ℕ → ℕ) (limits : Option Limits) (rules : Rules) (clock : ClockRules)
-        (table : TableValue) (lines : Lines) (start now : ℕ) (calls : List Call) (beat : Beat)
-        → IsDevice t clock.drift_us edges clock.reader_rules table → AreNewLines lines
-        → AreInOrder start clock.redundancy (Tick now ∷ calls)
-        → AreTrueAtTicks (IsTrueButForFaults rules t edges) (f_of clock.redundancy)
-        (Tick now ∷ calls)
-        → answer_at (after_calls (new_keeping limits rules clock table lines) calls) (now % 2 ^ 32)
-        ≡ Some beat → ¬ (beat.report.cause ≡ Cause.Jump) }
+    ensures calm { (t : TimelineValue) (edges : ℕ → ℕ) (made : Made) (start now : ℕ)
+        (calls : List Call) (beat : Beat)
+        → IsDevice t made.clock.drift_us edges made.clock.reader_rules made.table
+        → AreInOrder start made.clock.redundancy (Tick now ∷ calls)
+        → AreTrueAtTicks (IsTrueButForFaults made.rules t edges) (f_of made.clock.redundancy)
+        (Tick now ∷ calls) → answer_at (life_of made calls) (now % 2 ^ 32) ≡ Some beat
+        → ¬ (beat.report.cause ≡ Cause.Jump) }
     // The bound is less than half a second.
     ensures half { (t : TimelineValue) (d : ℕ) (edges : ℕ → ℕ) (rules : ReaderRules)
         (table : TableValue) (far : ℕ) → IsDevice t d edges rules table → far ≤ rules.holdover

@@ -5,9 +5,9 @@ use Rattle.irig_timekeeper.proofs.StampLaws.{stamped, near_instant}
 use Rattle.irig_timekeeper.proofs.laws.stamps_are_true.Goals as goal
 
 pub returns-clause-stamp : goal.returns-clause-stamp
-returns-clause-stamp _ t edges limits rules clock table lines start time now calls stamp is fresh order truth past young e =
-    stamped limits rules clock table lines start fresh (IsTrueLately rules t edges) t edges 549 549 0 is (omega arith) (omega arith) (omega arith)
-    (λ now end pulses claim is_true frame soon. true_lately rules t clock.drift_us edges now end pulses claim is.steady is_true frame soon)
+returns-clause-stamp _ t edges made start time now calls stamp is order truth past young e =
+    stamped made.limits made.rules made.clock made.table made.lines start made.fresh (IsTrueLately made.rules t edges) t edges 549 549 0 is (omega arith) (omega arith) (omega arith)
+    (λ now end pulses claim is_true frame soon. true_lately made.rules t made.clock.drift_us edges now end pulses claim is.steady is_true frame soon)
     calls time now order truth past young stamp e
 
 pub returns-clause-together : goal.returns-clause-together
