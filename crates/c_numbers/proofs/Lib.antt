@@ -4,3 +4,4 @@ pub mod PortSums
 pub mod ApartLaws
 pub mod AgainstLaws
 pub mod StandardFacts
+pub mod SentLaws

@@ -1,7 +1,10 @@
 -- How ports stand to a vote, and what the frames of those that agree say beside the time.
 -- Source: this library's own; docs/FRAME.md for the control bits.
-use Rattle.std.specs.Prelude.{ℕ, ◌+◌, ◌*◌, ◌&&◌, Bool, true, false, not, nat_lt, if◌then◌else◌, max, List, [], ◌∷◌, count_by, Option, Some, None, neg_ℤ}
+use Rattle.std.specs.Prelude.{ℕ, ◌+◌, ◌*◌, ◌&&◌, Bool, true, false, not, nat_lt, if◌then◌else◌, max, List, [], ◌∷◌, count_by, Option, Some, None, Result, Ok, Err, neg_ℤ}
 use Rattle.std.specs.Ordering.{int_eq}
+use Rattle.irig_frame.specs.declared.coded.Coded.{Coded}
+use Rattle.irig_frame.specs.declared.fault.FrameFault.{FrameFault}
+use Rattle.irig_frame.specs.Faults.{decode_result}
 use Rattle.irig_control.specs.declared.control.Control.{Control}
 use Rattle.irig_control.specs.Control.{control_of}
 use Rattle.irig_time.specs.declared.claim.Claim.{Claim}
@@ -11,10 +14,12 @@ use Rattle.irig_time.specs.Claims.{same_claim}
 use Rattle.irig_port.specs.declared.told.Told.{Told}
 use Rattle.irig_port.specs.declared.told.Told.TheVariants as tells
 use Rattle.irig_port.specs.declared.tally.Tally.{Tally}
+use Rattle.irig_port.specs.Heard.{symbols_of}
 use Rattle.irig_port.specs.Tallies.{control_word_in}
 use Rattle.irig_vote.specs.declared.redundancy.Redundancy.{Redundancy}
 use Rattle.irig_vote.specs.declared.votes.Tells.{Tells}
 use Rattle.irig_vote.specs.Vote.{ports_in, vote_of}
+use Rattle.irig_reader.specs.History.{Fed}
 use Rattle.c_numbers.specs.declared.standing.Standing.{Standing}
 use Rattle.c_numbers.specs.declared.standing.Standing.TheVariants.{Silent, Agreed, Differed, Faulty, Poor}
 use Rattle.c_numbers.specs.declared.standing.Standings.{Standings}
@@ -90,6 +95,21 @@ sent_by x sense ports =
     sent_if x.a sense (tally_at ports 0) ∷ sent_if x.b sense (tally_at ports 1)
     ∷ sent_if x.c sense (tally_at ports 2) ∷ sent_if x.d sense (tally_at ports 3)
     ∷ sent_if x.e sense (tally_at ports 4) ∷ []
+
+-- the same by the pulses of a port
+abbrev pub sent_of_frame : Sense → Result Coded FrameFault → Option Sent
+sent_of_frame sense (Ok coded) = Some (sent_of sense (control_of coded.control))
+sent_of_frame sense (Err fault) = None
+
+abbrev pub sent_if_heard : Standing → Sense → List ℕ → Option Sent
+sent_if_heard Agreed sense widths = sent_of_frame sense (decode_result (symbols_of widths))
+sent_if_heard _ sense widths = None
+
+abbrev pub sent_by_heard : Standings → Sense → Fed → List (Option Sent)
+sent_by_heard x sense fed =
+    sent_if_heard x.a sense fed.a ∷ sent_if_heard x.b sense fed.b
+    ∷ sent_if_heard x.c sense fed.c ∷ sent_if_heard x.d sense fed.d
+    ∷ sent_if_heard x.e sense fed.e ∷ []
 
 -- whether two zones are the same
 abbrev pub same_zone : Zone → Zone → Bool

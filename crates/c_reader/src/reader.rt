@@ -11,13 +11,13 @@ ghost use Rattle.irig_port.specs.Heard.{symbols_heard, with_symbol};
 ghost use Rattle.irig_port.specs.Tallies.{IsTallyOf};
 ghost use Rattle.irig_port.specs.Limits.{widths_told_within};
 ghost use Rattle.irig_vote.specs.Vote.{AreOfUtc};
-ghost use Rattle.irig_hold.specs.Truth.{IsTrueTable};
 ghost use Rattle.irig_reader.specs.declared.report.Lock.TheVariants as Lock;
 ghost use Rattle.irig_reader.specs.declared.report.Cause.TheVariants as Cause;
-ghost use Rattle.irig_reader.specs.Clean.{IsClean};
+ghost use Rattle.irig_reader.specs.Clean.{IsClean, HaveHeardCleanly};
 ghost use Rattle.irig_reader.specs.Held.{AreMarkedLate, IsSince, IsTrueSince};
+ghost use Rattle.irig_reader.specs.Lives.{KnowsMonthEnds};
 ghost use Rattle.irig_reader.specs.Rule.{count_of};
-ghost use Rattle.irig_reader.specs.History.{fed_to, no_pulses, with_port, ReaderHistory, new_history, limited_history, after_pulse, after_pulses, after_tick, after_restart, report_at_tick, told_at_tick};
+ghost use Rattle.irig_reader.specs.History.{fed_to, no_pulses, with_port, ReaderHistory, new_history, limited_history, after_pulse, after_pulses, after_tick, after_restart, report_at_tick};
 ghost use Rattle.c_numbers.specs.declared.state.TheConstants.{IDLE};
 ghost use Rattle.c_numbers.specs.Numbers.{sense_in};
 ghost use Rattle.c_numbers.specs.Setups.{rules_in, limits_in, reader_rules_in, redundancy_in, IsPort, IsSetup};
@@ -25,7 +25,7 @@ ghost use Rattle.c_numbers.specs.LeapTables.{table_in, HasKinds, IsTable, code_o
 ghost use Rattle.c_numbers.specs.States.{state_in};
 ghost use Rattle.c_numbers.specs.CheckWord.{IsSealed, setup_numbers, table_numbers, weighted};
 ghost use Rattle.c_numbers.specs.Reports.{report_in, told_in, voices_in};
-ghost use Rattle.c_numbers.specs.Voices.{voices_of};
+ghost use Rattle.c_numbers.specs.Voices.{voices_of, voices_at_tick};
 ghost use Rattle.c_numbers.specs.Against.{against_of, held_by};
 ghost use Rattle.c_reader.specs.Readers.{IsAccepted, IsReaderOf, HaveHeard, tells_in, told_at, step_in};
 
@@ -152,9 +152,9 @@ pub extern "C" fn irig_c_reader_tick(reader: &mut IrigReader, report: &mut IrigR
     // how the ports stand to the vote, and what the frames of those that agree say beside the time
     ensures voices { result ≡ 0 → voices_in report.new ≡ voices_of (tells_in reader.old)
         (redundancy_in reader.old.setup) (sense_in reader.old.setup.sense) reader.old.ports }
-    // the same by what was fed to them
-    ensures heard { (h : ReaderHistory) → IsReaderOf reader.old h → voices_in report.new
-        ≡ voices_of (told_at_tick h) h.redundancy h.rules.sense reader.old.ports }
+    // the same by the pulses that were fed to them
+    ensures heard { (h : ReaderHistory) → IsReaderOf reader.old h
+        → voices_in report.new ≡ voices_at_tick h }
     // the ports that told another second than the one to which the reader had come
     ensures against { result ≡ 0 → report.new.against_hold
         ≡ against_of (held_by (state_in reader.old.state)) (tells_in reader.old)
@@ -165,13 +165,19 @@ pub extern "C" fn irig_c_reader_tick(reader: &mut IrigReader, report: &mut IrigR
         → IsClean t n (tells_in reader.old) (redundancy_in reader.old.setup) → result ≡ 0
         → (report_in report.new).cause ≡ Cause.Voted
         → (report_in report.new).announce ≡ Some u → IsSecond t (n + 1) u }
+    // The same by the pulses that were fed to a reader with a history.
+    ensures heard_truth { (h : ReaderHistory) (t : TimelineValue) (n : ℕ) (u : UtcSecond)
+        → IsReaderOf reader.old h → IsTimeline t
+        → HaveHeardCleanly t n h.limits h.rules h.redundancy (fed_to h.fed)
+        → (report_in report.new).cause ≡ Cause.Voted
+        → (report_in report.new).announce ≡ Some u → IsSecond t (n + 1) u }
     // A second that a reader with a history announces without a vote is true by the last one: if
-    // that vote, so many edges back, was true, and so is the table. The votes of the history have
-    // to be such as ports tell; those that these calls make are (irig_reader, the law
-    // `held_seconds_are_true`).
+    // that vote, so many edges back, was true, and so is the table, or the holdover at most 57. The
+    // votes of the history have to be such as ports tell; those that these calls make are
+    // (irig_reader, the law `held_seconds_are_true`).
     ensures held { (h : ReaderHistory) (t : TimelineValue) (n edges : ℕ) (u : UtcSecond)
-        → IsReaderOf reader.old h → AreMarkedLate h.votes → IsTimeline t → IsTrueTable t h.table
-        → IsTrueSince t n (after_tick h).votes edges → 0 < edges
+        → IsReaderOf reader.old h → AreMarkedLate h.votes → IsTimeline t
+        → KnowsMonthEnds t h.reader_rules h.table → IsTrueSince t n (after_tick h).votes edges → 0 < edges
         → (report_in report.new).announce ≡ Some u → IsSecond t (n + 1 + edges) u }
     // The lock says how far back the last vote lies.
     ensures last { (h : ReaderHistory) (edges : ℕ) → IsReaderOf reader.old h

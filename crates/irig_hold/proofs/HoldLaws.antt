@@ -315,13 +315,10 @@ voted_second t table n h c u sound claim e =
     rw vote.for (outcome_second t n h h.last 0 mark (next_of h.last (spoken_mark table mark h.last.day)) u (leads_on t table n h.last mark sound at leads) answered)
 
 -- a vote for T(n) is not for a hold at another second
-pub voted_other : (t : TimelineValue) (table : TableValue) (m n : ℕ) (h : HoldValue) (c : Claim) → IsSecond t m h.last → IsTrueClaim t (n + 1) c → ¬ (m ≡ n)
-    → (voted_by table h c).answer ≡ Jump
-voted_other t table m n h c at claim apart =
+pub voted_other : (t : TimelineValue) (table : TableValue) (n : ℕ) (h : HoldValue) (c : Claim) → IsTrueClaim t (n + 1) c → ¬ IsSecond t n h.last → (voted_by table h c).answer ≡ Jump
+voted_other t table n h c claim apart =
     elim (cases_Bool ((c.at.day == h.last.day) && (c.at.sod == h.last.sod))) [
-      | inl for ↦
-          let here : IsSecond t n h.last = subst (IsSecond t n) (tested c h for) (claimed t n c claim) in
-          absurd (apart (omega (arith, at.sum, here.sum)))
+      | inl for ↦ absurd (apart (subst (IsSecond t n) (tested c h for) (claimed t n c claim)))
       | inr other ↦ rw other refl
     ]
 
@@ -350,7 +347,7 @@ moved_late u v age mark from e speaks =
             | inl none ↦ inl none
             | inr end ↦ inr (subst (λ (d : ℕ). is_month_end d ≡ true) (sym same.0) end.0, omega (arith, same.1, end.1))
           ])
-      | inr next ↦ rw (ne_eqb u.day v.day (other_day u v next)) (inl refl)
+      | inr next ↦ rw (ne_eqb u.day v.day (other_day u v next.0)) (inl refl)
     ]
 
 outcome_late : (h : HoldValue) (u : UtcSecond) (age : ℕ) (mark : Mark) (o : Option UtcSecond) → HasHeardLate h → ((v : UtcSecond) → o ≡ Some v → HasHeardLate (hold_after u age mark v))
@@ -407,7 +404,7 @@ moved_by_vote t n u v mark before from told speaks e there = record {
   last = there;
   heard = elim (next_follows u v from e) [
     | inl same ↦ kept_honest t u v (mark_or mark before) (late_honest t u mark before told speaks same.2)
-    | inr next ↦ rw (ne_eqb u.day v.day (other_day u v next)) (inl refl)
+    | inr next ↦ rw (ne_eqb u.day v.day (other_day u v next.0)) (inl refl)
   ];
 }
 
@@ -571,3 +568,95 @@ end_stops t table n limit h sound at g =
 pub alone_end : (t : TimelineValue) (table : TableValue) (n limit : ℕ) (h : HoldValue) → IsTimeline t → IsSecond t n h.last
     → ((alone_by table h limit).answer ≡ RangeEnd) ↔ ((h.age < limit) × EndsAt t n)
 alone_end t table n limit h sound at = (end_tells t table n limit h sound at, end_stops t table n limit h sound at)
+
+-- ---- a hold that goes alone for a short time has heard how its month ends
+
+-- if it has heard nothing of its month's end, its last vote was of 23:59:00 or before
+abbrev pub HasHeardInTime : HoldValue → Type 0
+HasHeardInTime h = h.heard ≡ Unspoken → is_month_end h.last.day ≡ true → h.last.sod ≤ 86341 + h.age
+
+abbrev IsEarly : UtcSecond → ℕ → Mark → Type 0
+IsEarly u age mark = mark ≡ Unspoken → is_month_end u.day ≡ true → u.sod < 86400 → u.sod < 86341 + age
+
+moved_in_time : (u v : UtcSecond) (age : ℕ) (mark from : Mark) → next_of u from ≡ Some v → IsEarly u age mark → HasHeardInTime (hold_after u age mark v)
+moved_in_time u v age mark from e early =
+    elim (next_follows u v from e) [
+      | inl same ↦ rw (eq-eqb u.day v.day (sym same.0)) (λ unheard end.
+          let low : u.sod < 86341 + age = early unheard (subst (λ (d : ℕ). is_month_end d ≡ true) same.0 end) same.2 in
+          omega (arith, same.1, low))
+      | inr next ↦ rw (ne_eqb u.day v.day (other_day u v next.0)) (λ unheard end. omega (arith, next.1))
+    ]
+
+-- a true vote speaks from 23:59:01 on
+vote_early : (t : TimelineValue) (u : UtcSecond) (mark before : Mark) → mark ≡ true_mark t.leaps u → IsEarly u 0 (mark_or mark before)
+vote_early t u Unspoken before told unheard end low =
+    elim (cases_lt u.sod 86341) [
+      | inl lt ↦ omega (arith, lt)
+      | inr ge ↦
+          let true_one : true_mark t.leaps u ≡ truth t u = rw (end, le-ltb u.sod 86341 ge, lt-ltb u.sod 86400 low) refl in
+          absurd (truth_speaks (leap_of t.leaps u.day) (sym (told ∙ true_one)))
+    ]
+vote_early t u NoLeap before told unheard end low = absurd cc
+vote_early t u Insert before told unheard end low = absurd cc
+vote_early t u Delete before told unheard end low = absurd cc
+
+outcome_in_time : (h : HoldValue) (u : UtcSecond) (age : ℕ) (mark from : Mark) (o : Option UtcSecond) (w : UtcSecond) → next_of u from ≡ o → IsEarly u age mark
+    → (outcome_of h (hold_or_stop u age mark o)).answer ≡ Now w → HasHeardInTime (outcome_of h (hold_or_stop u age mark o)).new
+outcome_in_time h u age mark from None w is early e = absurd (stop_is_no_now u.day w e)
+outcome_in_time h u age mark from (Some v) w is early e = moved_in_time u v age mark from is early
+
+begun_in_time : (u : UtcSecond) (mark from : Mark) (o : Option UtcSecond) (h : HoldValue) → next_of u from ≡ o → IsEarly u 0 mark → hold_or_stop u 0 mark o ≡ Ok h → HasHeardInTime h
+begun_in_time u mark from None h is early e = absurd cc
+begun_in_time u mark from (Some v) h is early e =
+    let same : hold_after u 0 mark v ≡ h = cc in
+    subst HasHeardInTime same (moved_in_time u v 0 mark from is early)
+
+unspoken_or : (mark : Mark) → mark_or mark Unspoken ≡ mark
+unspoken_or Unspoken = refl
+unspoken_or NoLeap = refl
+unspoken_or Insert = refl
+unspoken_or Delete = refl
+
+pub started_in_time : (t : TimelineValue) (table : TableValue) (n : ℕ) (c : Claim) (h : HoldValue) → IsTrueClaim t (n + 1) c → hold_start table c ≡ Ok h → HasHeardInTime h
+started_in_time t table n c h claim e =
+    let from : Mark = spoken_mark table c.mark c.at.day in
+    begun_in_time c.at c.mark from (next_of c.at from) h refl (subst (IsEarly c.at 0) (unspoken_or c.mark) (vote_early t c.at c.mark Unspoken claim.mark)) e
+
+pub voted_in_time : (t : TimelineValue) (table : TableValue) (n : ℕ) (h : HoldValue) (c : Claim) (w : UtcSecond) → IsTrueClaim t (n + 1) c → (voted_by table h c).answer ≡ Now w
+    → HasHeardInTime (voted_by table h c).new
+voted_in_time t table n h c w claim e =
+    let for = voted_for table h c w e in
+    let told : c.mark ≡ true_mark t.leaps h.last = claim.mark ∙ ap (true_mark t.leaps) for in
+    let mark : Mark = mark_or c.mark h.heard in
+    let from : Mark = spoken_mark table mark h.last.day in
+    let tests = is_for c h for in
+    let answered : (outcome_of h (hold_step table h.last 0 mark)).answer ≡ Now w = rw tests at e in
+    rw tests (outcome_in_time h h.last 0 mark from (next_of h.last from) w refl (vote_early t h.last c.mark h.heard told) answered)
+
+pub alone_in_time : (table : TableValue) (h : HoldValue) (limit : ℕ) (w : UtcSecond) → HasHeardInTime h → (alone_by table h limit).answer ≡ Now w → HasHeardInTime (alone_by table h limit).new
+alone_in_time table h limit w in_time e =
+    elim (cases_lt h.age limit) [
+      | inr ge ↦ let both : Expired ≡ Now w = rw (le-leb limit h.age ge) at e in absurd cc
+      | inl lt ↦
+          let from : Mark = spoken_mark table h.heard h.last.day in
+          let answered : (outcome_of h (hold_step table h.last (h.age + 1) h.heard)).answer ≡ Now w = rw (lt-leb limit h.age lt) at e in
+          let early : IsEarly h.last (h.age + 1) h.heard = λ unheard end low. let most = in_time unheard end in omega (arith, most) in
+          rw (lt-leb limit h.age lt) (outcome_in_time h h.last (h.age + 1) h.heard from (next_of h.last from) w refl early answered)
+    ]
+
+-- for at most 57 seconds it goes alone to T(n + 1), whatever the table says
+pub alone_short : (t : TimelineValue) (table : TableValue) (n limit : ℕ) (h : HoldValue) (u : UtcSecond) → IsTimeline t → limit ≤ 57 → IsOnTime t n h → HasHeardInTime h
+    → (alone_by table h limit).answer ≡ Now u → HasComeTo t (n + 1) u (alone_by table h limit).new
+alone_short t table n limit h u sound short on_time in_time e =
+    elim (cases_lt h.age limit) [
+      | inr ge ↦ let both : Expired ≡ Now u = rw (le-leb limit h.age ge) at e in absurd cc
+      | inl lt ↦
+          let answered : (outcome_of h (hold_step table h.last (h.age + 1) h.heard)).answer ≡ Now u = rw (lt-leb limit h.age lt) at e in
+          let told : IsLast h.last → h.heard ≡ truth t h.last = λ last.
+          elim on_time.heard [
+            | inl none ↦ let most = in_time none last.end in elim last.late [ inl a ↦ absurd (omega (arith, most, a, lt, short)) | inr b ↦ absurd (omega (arith, most, b, lt, short)) ]
+            | inr true_one ↦ true_one
+          ] in
+          let on = leads_on t table n h.last h.heard sound on_time.last (truth_leads t table h.last h.heard told) in
+          rw (lt-leb limit h.age lt) (outcome_true t n h h.last (h.age + 1) h.heard (next_of h.last (spoken_mark table h.heard h.last.day)) u on_time.heard on answered)
+    ]

@@ -165,9 +165,9 @@ last_waits u h =
 
 -- ---- the same day, or the next
 
--- one second on in the same day, which a second from 86400 on never is, or the next day
+-- one second on in the same day, which a second from 86400 on never is, or the next day's first
 abbrev pub Follows : UtcSecond → UtcSecond → Type 0
-Follows u v = ((v.day ≡ u.day) × (v.sod ≡ u.sod + 1) × (u.sod < 86400)) ⊎ (v.day ≡ u.day + 1)
+Follows u v = ((v.day ≡ u.day) × (v.sod ≡ u.sod + 1) × (u.sod < 86400)) ⊎ ((v.day ≡ u.day + 1) × (v.sod ≡ 0))
 
 goes_plain : (u v : UtcSecond) → u.sod < 86400 → some (plain u) ≡ Some v → Follows u v
 goes_plain u v low e =
@@ -182,7 +182,7 @@ goes_turned u v e =
           let next : UtcSecond = record { day = u.day + 1; sod = 0 } in
           let moved : some next ≡ Some v = rw (ne_eqb u.day 36523 other) at e in
           let same : next ≡ v = cc in
-          inr (sym (ap (λ (x : UtcSecond). x.day) same))
+          inr (sym (ap (λ (x : UtcSecond). x.day) same), sym (ap (λ (x : UtcSecond). x.sod) same))
     ]
 
 goes_after : (last : ℕ) (u v : UtcSecond) → last ≤ 86400 → next_day_after last u ≡ Some v → Follows u v

@@ -36,8 +36,8 @@ pub fn law_of_one_vote()
         (u : UtcSecond) → IsTimeline t → IsTrueClaim t (n + 1) c
         → (voted_by table h c).answer ≡ Turn.Now u
         → IsSecond t (n + 1) u × ((voted_by table h c).new.last ≡ u) }
-    ensures jump { (t : TimelineValue) (table : TableValue) (m n : ℕ) (h : HoldValue) (c : Claim)
-        → IsSecond t m h.last → IsTrueClaim t (n + 1) c → ¬ (m ≡ n)
+    ensures jump { (t : TimelineValue) (table : TableValue) (n : ℕ) (h : HoldValue) (c : Claim)
+        → IsTrueClaim t (n + 1) c → ¬ IsSecond t n h.last
         → (voted_by table h c).answer ≡ Turn.Jump }
 {}
 

@@ -306,7 +306,7 @@ empty_table = empty_true noon (omega arith)
 
 rests_on_no_majority : ¬ RestsOnItsMajority holding first_tick (entry 1 43202 (lock.Holdover 1) cause.Held)
 rests_on_no_majority h =
-    let on = h.false_second empty_table (false_at_1 (lock.Holdover 1) cause.Held) in
+    let on = h.false_second (inl empty_table) (false_at_1 (lock.Holdover 1) cause.Held) in
     unvoted_until_1 _ on.0 refl refl on.1
 
 -- ---- clean since
@@ -351,7 +351,7 @@ false_at_4 h =
     omega (arith, ap (λ (u : UtcSecond). u.sod) same)
 
 clean_since_2 : IsCleanSince holding 2 held_twice fourth
-clean_since_2 = record { timeline = is_timeline; true_table = empty_table; logged = Contains-push (log_of holding held_once) fourth; after = omega arith; clean = clean_to_4 }
+clean_since_2 = record { timeline = is_timeline; month_ends = inl empty_table; logged = Contains-push (log_of holding held_once) fourth; after = omega arith; clean = clean_to_4 }
 
 not_clean_since_1 : ¬ IsCleanSince holding 1 held_twice fourth
 not_clean_since_1 h = unclean_from_1 h.clean
@@ -485,7 +485,7 @@ true_if_clean : IsTrueIfClean holding first_tick (entry 1 43201 (lock.Holdover 1
 true_if_clean = record { second = λ true_table clean. true_at_1 (lock.Holdover 1) cause.Held }
 
 false_though_clean : ¬ IsTrueIfClean holding first_tick (entry 1 43202 (lock.Holdover 1) cause.Held)
-false_though_clean h = false_at_1 (lock.Holdover 1) cause.Held (h.second empty_table first_clean_so_far)
+false_though_clean h = false_at_1 (lock.Holdover 1) cause.Held (h.second (inl empty_table) first_clean_so_far)
 
 -- and the fourth entry may be false, as the second tick is unclean
 false_if_unclean : IsTrueIfClean holding held_twice fourth

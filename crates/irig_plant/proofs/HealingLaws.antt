@@ -10,7 +10,6 @@ use Rattle.irig_time.specs.Timelines.{IsSecond, IsTrueClaim, second_at, truth_at
 use Rattle.irig_time.specs.TimelineFaults.{IsTimeline}
 use Rattle.irig_time.specs.Tables.{TableValue}
 use Rattle.irig_time.proofs.SecondAt.{second_is, claim_is}
-use Rattle.irig_hold.specs.Truth.{IsTrueTable}
 use Rattle.irig_vote.specs.declared.redundancy.Redundancy.{Redundancy}
 use Rattle.irig_vote.specs.declared.votes.Tells.{Tells}
 use Rattle.irig_vote.specs.Vote.{redundancy_of, vote_of}
@@ -24,7 +23,8 @@ use Rattle.irig_reader.specs.Rule.{step_of, state_of}
 use Rattle.irig_reader.specs.Held.{then_none, AreMarkedLate, IsSince}
 use Rattle.irig_reader.specs.History.{told_at_tick, vote_at_tick}
 use Rattle.irig_reader.proofs.OneEdge.{IsVotedBy, voted_by_ports, holdover_within, unvoted}
-use Rattle.irig_reader.proofs.HeldEdges.{held_since, held_is_true}
+use Rattle.irig_reader.proofs.HeldEdges.{held_since}
+use Rattle.irig_reader.proofs.LifeLaws.{held_is_true}
 use Rattle.irig_plant.specs.declared.event.Event.{Event}
 use Rattle.irig_plant.specs.declared.event.Event.TheVariants.{Tick, Restart}
 use Rattle.irig_plant.specs.declared.entry.Entry.{Entry}
@@ -33,7 +33,7 @@ use Rattle.irig_plant.specs.Premises.{IsKeptUpTo}
 use Rattle.irig_plant.specs.Edges.{is_restarted, IsRestarted}
 use Rattle.irig_plant.specs.Truth.{IsTruthful}
 use Rattle.irig_plant.specs.OwnEdge.{IsCleanNow, HasFalseMajority}
-use Rattle.irig_plant.specs.Healing.{HasVoteAt, RestsOn, RestsOnAVote, RestsOnItsMajority, IsCleanBetween, IsCleanSince, IsTrueIfClean}
+use Rattle.irig_plant.specs.Healing.{HasMonthEnds, HasVoteAt, RestsOn, RestsOnAVote, RestsOnItsMajority, IsCleanBetween, IsCleanSince, IsTrueIfClean}
 use Rattle.irig_plant.proofs.CourseLaws.{ticks_grow, ticks_now, restarted_by_test}
 use Rattle.irig_plant.proofs.LastVotes.{IsVoteBack, vote_back, none_since, unbroken_since, marked_late, IsVotedNow, IsHeldNow, vote_says, none_says}
 use Rattle.irig_plant.proofs.OwnEdge.{claim_heard, kept_is_clean, false_second}
@@ -69,7 +69,7 @@ module _ (s : Setup) (r : ℕ) (ev : List Event) where
     near : age ≤ rules.holdover
     voted : age ≡ 0 → ((entry_of s r ev).report.lock ≡ lock.Locked) × ((entry_of s r ev).report.cause ≡ cause.Voted)
     held : 0 < age → ((entry_of s r ev).report.lock ≡ lock.Holdover age) × ((entry_of s r ev).report.cause ≡ cause.Held)
-    leads : (n : ℕ) → IsTimeline s.times → IsTrueTable s.times table → AreMarkedLate votes → n + 1 + age ≡ ticks_of r ev + 1 → IsTrueClaim s.times (n + 1) claim → IsSecond s.times (ticks_of r ev + 1) u
+    leads : (n : ℕ) → IsTimeline s.times → HasMonthEnds s r → AreMarkedLate votes → n + 1 + age ≡ ticks_of r ev + 1 → IsTrueClaim s.times (n + 1) claim → IsSecond s.times (ticks_of r ev + 1) u
 
   voted_leads : (c : Claim) (u : UtcSecond) (n : ℕ) → vote_of told redundancy ≡ Some c → IsTimeline s.times → (entry_of s r ev).report.cause ≡ cause.Voted → (entry_of s r ev).report.announce ≡ Some u
       → n + 1 + 0 ≡ ticks_of r ev + 1 → IsTrueClaim s.times (n + 1) c → IsSecond s.times (ticks_of r ev + 1) u
@@ -94,7 +94,7 @@ module _ (s : Setup) (r : ℕ) (ev : List Event) where
             near = omega arith;
             voted = λ _. (voted.lock, voted.cause);
             held = λ some. absurd (omega (arith, some));
-            leads = λ n sound true_table marked at claim. voted_leads c u n is sound voted.cause says at claim;
+            leads = λ n sound knows marked at claim. voted_leads c u n is sound voted.cause says at claim;
           }
       of None is =
           let silent : (said None).announce ≡ Some u = subst (λ (v : Option Claim). (said v).announce ≡ Some u) is says in
@@ -109,9 +109,9 @@ module _ (s : Setup) (r : ℕ) (ev : List Event) where
             near = bounds.1;
             voted = λ none. absurd (omega (arith, none, bounds.0));
             held = λ some. (ap (λ (v : Option Claim). (said v).lock) is ∙ now.lock, ap (λ (v : Option Claim). (said v).cause) is ∙ now.cause);
-            leads = λ n sound true_table marked at claim.
+            leads = λ n sound knows marked at claim.
                 subst (λ (m : ℕ). IsSecond s.times m u) at
-                (held_is_true s.times n rules table None (votes_of s r ev) since.earlier since.claim now.age u sound true_table marked claim since.are (omega (arith, bounds.0)) silent);
+                (held_is_true s.times rules table sound knows n now.age None (votes_of s r ev) since.earlier since.claim u marked claim since.are (omega (arith, bounds.0)) silent);
           }
 
 -- ---- entries
@@ -134,7 +134,7 @@ pub record IsTraced (s : Setup) (ev : List Event) (e : Entry) (u : UtcSecond) : 
   pub claim : Claim
   pub vote : vote_at_tick (history_of s e.reader earlier) ≡ Some claim
   pub rests : RestsOn s ev e (ticks_of e.reader earlier + 1)
-  pub leads : IsTimeline s.times → IsTrueTable s.times (setup_at s.readers e.reader).table → IsTrueClaim s.times (ticks_of e.reader earlier + 1) claim → second_at s.times e.edge ≡ Some u
+  pub leads : IsTimeline s.times → HasMonthEnds s e.reader → IsTrueClaim s.times (ticks_of e.reader earlier + 1) claim → second_at s.times e.edge ≡ Some u
 
 none_later : (s : Setup) (all : List Event) (r age k j : ℕ) (later ev : List Event) (c : Claim) (votes : List (Option Claim)) → all ≡ later ++ (Tick r ∷ ev) → votes_of s r (Tick r ∷ ev) ≡ then_none age (Some c ∷ votes)
     → k + age ≡ ticks_of r ev + 1 → HasVoteAt s r j all → j ≤ ticks_of r ev + 1 → j ≤ k
@@ -178,8 +178,8 @@ traced_by s all r later ev is u by are at =
         voted = by.voted;
         held = by.held;
       };
-      leads = λ sound true_table claim.
-          (second_is s.times (ticks_of r ev + 1) u).1 (by.leads (ticks_of r at.earlier) sound true_table (subst AreMarkedLate at.before (marked_late s r at.earlier)) back claim);
+      leads = λ sound knows claim.
+          (second_is s.times (ticks_of r ev + 1) u).1 (by.leads (ticks_of r at.earlier) sound knows (subst AreMarkedLate at.before (marked_late s r at.earlier)) back claim);
     }
 
 traced : (s : Setup) (all : List Event) (r : ℕ) (later ev : List Event) → all ≡ later ++ (Tick r ∷ ev) → (u : UtcSecond) → (entry_of s r ev).report.announce ≡ Some u → IsTraced s all (entry_of s r ev) u
@@ -206,8 +206,8 @@ log_rests s ev = λ i d low. record {
 pub false_majority : (s : Setup) (ev : List Event) (e : Entry) → IsTimeline s.times → HasTrace s ev e → RestsOnItsMajority s ev e
 false_majority s ev e sound has = record { false_second = of }
   where
-    of : IsTrueTable s.times (setup_at s.readers e.reader).table → ¬ IsTruthful s.times e → (k : ℕ) × RestsOn s ev e k × HasFalseMajority s e.reader k ev
-    of true_table untrue =
+    of : HasMonthEnds s e.reader → ¬ IsTruthful s.times e → (k : ℕ) × RestsOn s ev e k × HasFalseMajority s e.reader k ev
+    of knows untrue =
         let says = false_second s.times e untrue in
         let t : IsTraced s ev e says.0 = has.trace says.0 says.1 in (
           ticks_of e.reader t.earlier + 1,
@@ -219,7 +219,7 @@ false_majority s ev e sound has = record { false_second = of }
             edge = refl;
             claim = t.claim;
             ports = (claim_heard s e.reader t.earlier t.claim).0 ((vote_counts (told_at_tick (history_of s e.reader t.earlier)) (redundancy_of (length s.generators)) t.claim).0 t.vote);
-            untrue = λ is. says.2 (t.leads sound true_table is);
+            untrue = λ is. says.2 (t.leads sound knows is);
           },
         )
 
@@ -229,9 +229,9 @@ log_rests_on_majorities s ev sound = λ i d low. false_majority s ev _ sound (lo
 -- ---- healing
 
 -- an entry is truthful if the vote on which it rests was of a clean tick
-by_clean : (s : Setup) (ev : List Event) (e : Entry) → IsTimeline s.times → IsTrueTable s.times (setup_at s.readers e.reader).table → HasTrace s ev e
+by_clean : (s : Setup) (ev : List Event) (e : Entry) → IsTimeline s.times → HasMonthEnds s e.reader → HasTrace s ev e
     → ((k : ℕ) → RestsOn s ev e k → (later earlier : List Event) → ev ≡ later ++ (Tick e.reader ∷ earlier) → k ≡ ticks_of e.reader earlier + 1 → IsCleanNow s e.reader earlier) → IsTruthful s.times e
-by_clean s ev e sound true_table has clean = record { second = at }
+by_clean s ev e sound knows has clean = record { second = at }
   where
     at : (u : UtcSecond) → e.report.announce ≡ Some u → second_at s.times e.edge ≡ Some u
     at u says =
@@ -239,7 +239,7 @@ by_clean s ev e sound true_table has clean = record { second = at }
         let n : ℕ = ticks_of e.reader t.earlier in
         let now : IsCleanNow s e.reader t.earlier = clean (n + 1) t.rests t.later t.earlier t.tick refl in
         let told = (vote_counts (told_at_tick (history_of s e.reader t.earlier)) (redundancy_of (length s.generators)) t.claim).0 t.vote in
-        t.leads sound true_table ((claim_is s.times n t.claim).0 (now.no_other t.claim told))
+        t.leads sound knows ((claim_is s.times n t.claim).0 (now.no_other t.claim told))
 
 module _ (s : Setup) (m : ℕ) (ev : List Event) (e : Entry) (h : IsCleanSince s m ev e) where
   trace : HasTrace s ev e
@@ -248,7 +248,7 @@ module _ (s : Setup) (m : ℕ) (ev : List Event) (e : Entry) (h : IsCleanSince s
   -- if it rests on a vote after the m-th tick
   rests_later : ((k : ℕ) → RestsOn s ev e k → m < k) → IsTruthful s.times e
   rests_later late =
-      by_clean s ev e h.timeline h.true_table trace
+      by_clean s ev e h.timeline h.month_ends trace
       (λ k rests later earlier is at. h.clean.ticks later earlier is (omega (arith, late k rests, at)) (omega (arith, rests.back, at)))
 
   pub healed : (k : ℕ) → HasVoteAt s e.reader k ev → m < k → k ≤ e.edge → IsTruthful s.times e
@@ -271,8 +271,8 @@ module _ (s : Setup) (m : ℕ) (ev : List Event) (e : Entry) (h : IsCleanSince s
 
 pub log_true_if_clean : (s : Setup) (ev : List Event) → IsTimeline s.times → All (IsTrueIfClean s ev) (log_of s ev)
 log_true_if_clean s ev sound = λ i d low. record {
-  second = λ true_table clean.
-      by_clean s ev _ sound true_table (log_traced s ev i d low)
+  second = λ knows clean.
+      by_clean s ev _ sound knows (log_traced s ev i d low)
       (λ k rests later earlier is at. clean.ticks later earlier is (omega arith) (omega (arith, rests.back, at)));
 }
 

@@ -1,206 +1,206 @@
--- A plant from 23:59:00 of a leap second's day on, worked by hand: all ports are kept, and the
--- reader's table denies the leap. Newest events come first.
+-- A plant at the end of a month without a leap, whatever the rules of its reader, if it holds over
+-- for 58 edges or more. Two ports hear true frames until it locks at 23:59:01, and then none does: all
+-- are kept. But its table says that 23:59:59 is deleted. Newest events come first.
 use Rattle.std.specs.Prelude.{replicate}
-use Rattle.std.proofs.Common.{◌≡◌, ℕ, zero, suc, ◌+◌, ◌<◌, ◌≤◌, true, false, List, [], ◌∷◌, Option, Some, None, Result, Ok, is_some, refl, ap, ◌∙◌, arith}
-use Rattle.std.proofs.lemmas.Bool.{lt-ltb, lt-leb}
+use Rattle.std.proofs.Common.{◌≡◌, ℕ, zero, suc, ◌+◌, ◌-◌, ◌==◌, ◌<◌, ◌≤◌, false, List, [], ◌∷◌, ◌++◌, Option, Some, None, Ok, refl, sym, ap, subst, ◌∙◌, arith}
+use Rattle.std.proofs.lemmas.Bool.{eq-eqb, lt-ltb, lt-leb}
 use Rattle.std.proofs.lemmas.List.Elements.{All-nil, All-cons}
 use Rattle.irig_time.specs.declared.second.UtcSecond.{UtcSecond}
 use Rattle.irig_time.specs.declared.leap.Leap.TheVariants as leap
-use Rattle.irig_time.specs.declared.mark.Mark.TheVariants.{Unspoken, NoLeap}
+use Rattle.irig_time.specs.declared.mark.Mark.TheVariants.{Unspoken}
 use Rattle.irig_time.specs.declared.claim.Claim.{Claim}
-use Rattle.irig_time.specs.Timelines.{TimelineValue, times, IsSecond, second_at, truth_at}
+use Rattle.irig_time.specs.Timelines.{TimelineValue, times, second_at, truth_at}
 use Rattle.irig_time.specs.TimelineFaults.{IsTimeline}
-use Rattle.irig_time.specs.Tables.{TableValue, table, table_mark}
-use Rattle.irig_time.specs.Next.{next_of}
+use Rattle.irig_time.specs.Tables.{TableValue, table}
 use Rattle.irig_time.proofs.SecondAt.{second_is}
 use Rattle.irig_time.proofs.StandardFacts.{known_first_end}
 use Rattle.irig_gen.specs.Sent.{frame_of}
-use Rattle.irig_hold.specs.declared.hold.Turn.{Turn}
-use Rattle.irig_hold.specs.declared.hold.Turn.TheVariants as turn
-use Rattle.irig_hold.specs.Steps.{HoldValue, Outcome, hold_value, hold_or_stop, hold_step, hold_start, outcome_of, alone_by}
+use Rattle.irig_hold.specs.Steps.{HoldValue, hold_value, hold_step}
 use Rattle.irig_port.specs.declared.told.Told.TheVariants as tells
 use Rattle.irig_port.specs.Told.{told_of_widths}
 use Rattle.irig_vote.specs.Vote.{vote_of}
+use Rattle.irig_reader.specs.declared.rules.ReaderRules.{ReaderRules}
+use Rattle.irig_reader.specs.declared.rule.State.{State}
+use Rattle.irig_reader.specs.declared.rule.State.TheVariants.{Idle, Acquiring, Locked}
 use Rattle.irig_reader.specs.declared.report.Lock.TheVariants as lock
 use Rattle.irig_reader.specs.declared.report.Cause.TheVariants as cause
-use Rattle.irig_reader.specs.declared.report.Report.{Report}
-use Rattle.irig_reader.specs.declared.rule.State.{State}
-use Rattle.irig_reader.specs.declared.rule.State.TheVariants.{Idle, Locked}
-use Rattle.irig_reader.specs.Rule.{first_vote_step, holdover_step, step_of, state_of}
+use Rattle.irig_reader.specs.declared.rule.Step.{Step}
+use Rattle.irig_reader.specs.Rule.{announce_step, count_step, step_of, state_of}
 use Rattle.irig_reader.specs.Rules.{IsReaderRules}
-use Rattle.irig_reader.specs.History.{vote_at_tick, report_at_tick}
+use Rattle.irig_reader.specs.History.{vote_at_tick}
 use Rattle.irig_plant.specs.declared.event.Event.{Event}
-use Rattle.irig_plant.specs.declared.event.Event.TheVariants.{Tick, Replay}
-use Rattle.irig_plant.specs.declared.setup.ReaderSetup.{ReaderSetup}
+use Rattle.irig_plant.specs.declared.event.Event.TheVariants.{Tick, Raw}
 use Rattle.irig_plant.specs.Widths.{widths_of}
-use Rattle.irig_plant.specs.Schedule.{Setup, setup, no_generator, ticks_of, votes_of, history_of}
-use Rattle.irig_plant.specs.Runs.{AreAccepted}
+use Rattle.irig_plant.specs.Schedule.{Setup, setup, no_generator, heard_at, ticks_of, votes_of, history_of}
+use Rattle.irig_plant.specs.Runs.{events_after, AreAccepted}
 use Rattle.irig_plant.specs.Audits.{is_broken_now}
 use Rattle.irig_plant.specs.Premises.{IsKeptUpTo}
-use Rattle.irig_plant.specs.Exactly.{announcement}
-use Rattle.irig_plant.specs.History.{AreReaders}
 use Rattle.irig_plant.specs.Misled.{IsMisledByTable}
 use Rattle.irig_plant.proofs.FrameLaws.{true_frame_told}
-use Rattle.irig_plant.proofs.NoonPlants.{at, rules, is_generator, told_nothing, kept_none, kept_tick, kept_replay, three_generators}
+use Rattle.irig_plant.proofs.Headline.{harmless}
+use Rattle.irig_plant.proofs.ListLaws.{apart}
+use Rattle.irig_plant.proofs.NoonPlants.{at, rules, is_generator, told_nothing, kept_none, kept_tick, three_generators}
+use Rattle.irig_plant.proofs.SecondEvents.{after_both}
+use Rattle.irig_plant.proofs.HealthyLaws.{both_accepted}
 
--- 23:59:60 is inserted
-abbrev pub last_minute : TimelineValue
-last_minute = times (at 86340) ((30, leap.Insert) ∷ [])
+abbrev pub new_month : UtcSecond
+new_month = record { day = 31; sod = 0 }
 
--- the table says of that day that it ends with no leap
-abbrev denial : TableValue
-denial = table 30 []
+-- the table says of that day that it ends a second early
+abbrev deletion : TableValue
+deletion = table 30 ((30, leap.Delete) ∷ [])
 
-abbrev believer : ReaderSetup
-believer = record { rules = record { lock_after = 1; holdover = 100 }; table = denial }
+-- ---- a hold goes on to 23:59:58, and then to the next day
 
-abbrev pub plant : Setup
-plant = setup last_minute (replicate 3 no_generator) rules (believer ∷ [])
+abbrev hold : ℕ → ℕ → HoldValue
+hold sod age = hold_value (at sod) age Unspoken
 
-is_timeline : IsTimeline last_minute
-is_timeline = record { sound = rw known_first_end refl }
+goes_on : (sod next age : ℕ) → sod + 1 ≡ next → sod < 86398 → hold_step deletion (at sod) age Unspoken ≡ Ok (hold next age)
+goes_on sod next age is low = rw (known_first_end, lt-ltb sod 86398 low, is) refl
 
--- ---- two ports hear the frame of 23:59:00, which says nothing of a leap, and then none does
+abbrev claim_of : ℕ → Claim
+claim_of sod = record { at = at sod; mark = Unspoken }
 
-abbrev claim_0 : Claim
-claim_0 = record { at = at 86340; mark = Unspoken }
+module _ (reader_rules : ReaderRules) (in_range : IsReaderRules reader_rules) (long : 58 ≤ reader_rules.holdover) where
+  abbrev count : ℕ
+  count = reader_rules.lock_after
 
-truth_0 : truth_at last_minute 0 ≡ Some claim_0
-unfolding second_at
-truth_0 = rw known_first_end refl
+  -- it starts as many seconds before 23:59:01
+  abbrev first : ℕ
+  first = 86341 - count
 
-told_0 : told_of_widths rules (widths_of (frame_of None no_generator last_minute 0)) ≡ tells.Claim claim_0
-told_0 = true_frame_told no_generator last_minute 0 claim_0 is_generator is_timeline truth_0
+  abbrev line : TimelineValue
+  line = times (at first) []
 
-abbrev heard : List Event
-heard = Replay 1 0 0 ∷ Replay 0 0 0 ∷ []
+  abbrev pub plant : Setup
+  plant = setup line (replicate 3 no_generator) rules (record { rules = reader_rules; table = deletion } ∷ [])
 
--- a tick, and so many more
-abbrev pub silent : ℕ → List Event
-silent zero = Tick 0 ∷ heard
-silent (suc k) = Tick 0 ∷ silent k
+  fits : first + count ≡ 86341
+  fits = omega (arith, in_range.lock_after.1)
 
--- ---- the ports are kept
+  is_timeline : IsTimeline line
+  is_timeline = record { sound = rw (lt-ltb first 86400 (omega (arith, fits))) refl }
 
-heard_kept : is_broken_now plant 0 heard ≡ false
-heard_kept = rw (truth_0, told_0, told_nothing) refl
+  second : (n : ℕ) → n < count + 59 → second_at line n ≡ Some (at (first + n))
+  second n low = (second_is line n (at (first + n))).1 (record { from = omega arith; to = omega arith; sod = omega (arith, fits, low); sum = omega arith })
 
-silent_kept : (k : ℕ) → is_broken_now plant 0 (silent k) ≡ false
-silent_kept zero = rw told_nothing refl
-silent_kept (suc k) = rw told_nothing refl
+  truth : (k : ℕ) → k < count → truth_at line k ≡ Some (claim_of (first + k))
+  truth k low = rw (second k (omega (arith, low)), known_first_end, lt-ltb (first + k) 86341 (omega (arith, fits, low))) refl
 
-all_kept : (k r n : ℕ) → IsKeptUpTo plant r n (silent k)
-all_kept zero r n = kept_tick plant 0 r n heard heard_kept (kept_replay plant 1 0 0 r n (Replay 0 0 0 ∷ []) (kept_replay plant 0 0 0 r n [] (kept_none plant r n)))
-all_kept (suc k) r n = kept_tick plant 0 r n (silent k) (silent_kept k) (all_kept k r n)
+  -- the pulses of a true frame
+  abbrev frame : ℕ → List ℕ
+  frame k = widths_of (frame_of None no_generator line k)
 
--- ---- one vote, and then none
+  told : (k : ℕ) → k < count → told_of_widths rules (frame k) ≡ tells.Claim (claim_of (first + k))
+  told k low = true_frame_told no_generator line k (claim_of (first + k)) is_generator is_timeline (truth k low)
 
-heard_vote : vote_at_tick (history_of plant 0 heard) ≡ Some claim_0
-unfolding vote_of
-heard_vote = rw (told_0, told_nothing) refl
+  -- ---- one step of the rule
 
-silent_vote : (k : ℕ) → vote_at_tick (history_of plant 0 (silent k)) ≡ None
-unfolding vote_of
-silent_vote zero = rw told_nothing refl
-silent_vote (suc k) = rw told_nothing refl
+  abbrev step : State → Option Claim → Step
+  step = step_of reader_rules deletion
 
-abbrev one_vote : ℕ → List (Option Claim)
-one_vote zero = Some claim_0 ∷ []
-one_vote (suc k) = None ∷ one_vote k
+  begins : (sod next : ℕ) → sod + 1 ≡ next → sod < 86398 → (step Idle (Some (claim_of sod))).state ≡ (count_step reader_rules (hold next 0) 1).state
+  unfolding step_of
+  begins sod next is low = rw (goes_on sod next 0 is low) refl
 
-votes_are : (k : ℕ) → votes_of plant 0 (silent k) ≡ one_vote k
-votes_are zero = rw heard_vote refl
-votes_are (suc k) = rw (silent_vote k, votes_are k) refl
+  joins : (sod next n m : ℕ) → sod + 1 ≡ next → n + 1 ≡ m → sod < 86398 → (step (Acquiring (hold sod 0) n) (Some (claim_of sod))).state ≡ (count_step reader_rules (hold next 0) m).state
+  unfolding step_of
+  joins sod next n m is more low = rw (eq-eqb sod sod refl, goes_on sod next 0 is low, more) refl
 
--- ---- the hold goes on to 23:59:59, and then to the next day
+  alone : (sod age older : ℕ) (h : HoldValue) → age + 1 ≡ older → age < 58 → hold_step deletion (at sod) older Unspoken ≡ Ok h → step (Locked (hold sod age)) None ≡ announce_step h h.last (lock.Holdover h.age) cause.Held
+  unfolding step_of
+  alone sod age older h more low goes = rw (lt-leb reader_rules.holdover age (omega (arith, long, low)), more, goes) refl
 
-denied : table_mark denial 30 ≡ NoLeap
-denied = rw known_first_end refl
+  -- ---- one tick
 
-next_second : (k : ℕ) → k < 58 → next_of (at (86341 + k)) NoLeap ≡ Some (at (86341 + k + 1))
-next_second k low = rw (known_first_end, lt-ltb (86341 + k) 86399 (omega arith)) refl
+  -- where a tick leaves the plant, which took these events with its ports kept
+  record IsAt (n : ℕ) (state : State) (ev : List Event) : Type 0 where
+    ticks : ticks_of 0 ev ≡ n
+    empty : (p : ℕ) → heard_at plant 0 p ev ≡ []
+    stands : state_of reader_rules deletion (votes_of plant 0 ev) ≡ state
+    events : List Event
+    in_order : events_after events [] ≡ ev
+    accepted : AreAccepted plant events []
+    kept : (q k : ℕ) → IsKeptUpTo plant q k ev
 
-next_day : next_of (at 86399) NoLeap ≡ Some (record { day = 31; sod = 0 })
-next_day = rw known_first_end refl
+  abbrev Leads : ℕ → State → Type 0
+  Leads n state = (ev : List Event) × IsAt n state ev
 
-first_second : next_of (at 86340) NoLeap ≡ Some (at 86341)
-first_second = rw known_first_end refl
+  no_vote : (ev : List Event) → ((p : ℕ) → heard_at plant 0 p ev ≡ []) → vote_at_tick (history_of plant 0 ev) ≡ None
+  unfolding vote_of
+  no_vote ev empty = rw (empty 0, empty 1, empty 2, told_nothing) refl
 
-abbrev hold_at : ℕ → HoldValue
-hold_at k = hold_value (at (86341 + k)) k Unspoken
+  module _ (n m : ℕ) (state next : State) (ev : List Event) (h : IsAt n state ev) (more : n + 1 ≡ m) where
+    ticked : (es before : List Event) (vote : Option Claim) → events_after es ev ≡ Tick 0 ∷ before → AreAccepted plant es ev → ((q k : ℕ) → IsKeptUpTo plant q k before) → is_broken_now plant 0 before ≡ false
+        → ticks_of 0 before ≡ n → state_of reader_rules deletion (votes_of plant 0 before) ≡ state → vote_at_tick (history_of plant 0 before) ≡ vote → (step state vote).state ≡ next → IsAt m next (Tick 0 ∷ before)
+    ticked es before vote is accepted kept whole ticks stands votes goes = record {
+      ticks = omega (arith, more, ticks);
+      empty = λ p. refl;
+      stands = ap (λ (v : Option Claim). (step (state_of reader_rules deletion (votes_of plant 0 before)) v).state) votes ∙ ap (λ (x : State). (step x vote).state) stands ∙ goes;
+      events = h.events ++ es;
+      in_order = after_both h.events es [] ∙ ap (events_after es) h.in_order ∙ is;
+      accepted = both_accepted plant h.events es [] h.accepted (subst (AreAccepted plant es) (sym h.in_order) accepted);
+      kept = λ q k. kept_tick plant 0 q k before whole (kept q k);
+    }
 
-goes_on : (k : ℕ) → k < 58 → hold_step denial (at (86341 + k)) (k + 1) Unspoken ≡ Ok (hold_value (at (86341 + k + 1)) (k + 1) Unspoken)
-goes_on k low = ap (hold_or_stop (at (86341 + k)) (k + 1) Unspoken) (ap (next_of (at (86341 + k))) denied ∙ next_second k low)
+    -- two ports heard the frame of the second before
+    voting : n < count → (step state (Some (claim_of (first + n)))).state ≡ next → Leads m next
+    unfolding vote_of
+    voting low goes =
+        let heard : List Event = Raw 1 0 (frame n) ∷ Raw 0 0 (frame n) ∷ ev in
+        let broken : is_broken_now plant 0 heard ≡ false = rw (h.ticks, truth n low, h.empty 0, h.empty 1, h.empty 2, told n low, told_nothing, eq-eqb (first + n) (first + n) refl) refl in
+        let vote : vote_at_tick (history_of plant 0 heard) ≡ Some (claim_of (first + n)) = rw (h.empty 0, h.empty 1, h.empty 2, told n low, told_nothing, eq-eqb (first + n) (first + n) refl) refl in
+        let kept : (q k : ℕ) → IsKeptUpTo plant q k heard = λ q k.
+        (harmless plant q k (Raw 1 0 (frame n)) (Raw 0 0 (frame n) ∷ ev) (λ e. absurd cc)).1 ((harmless plant q k (Raw 0 0 (frame n)) ev (λ e. absurd cc)).1 (h.kept q k)) in
+        let accepted : AreAccepted plant (Raw 0 0 (frame n) ∷ Raw 1 0 (frame n) ∷ Tick 0 ∷ []) ev = (refl, (refl, (rw (h.ticks, second n (omega (arith, low))) refl, tt))) in
+        (_, ticked (Raw 0 0 (frame n) ∷ Raw 1 0 (frame n) ∷ Tick 0 ∷ []) heard (Some (claim_of (first + n))) refl accepted kept broken h.ticks h.stands vote goes)
 
-alone : (k : ℕ) → k < 58 → alone_by denial (hold_at k) 100 ≡ record { answer = turn.Now (at (86341 + k + 1)); new = hold_value (at (86341 + k + 1)) (k + 1) Unspoken }
-alone k low = rw (lt-leb 100 k (omega arith)) (ap (outcome_of (hold_at k)) (goes_on k low))
+    -- no port heard anything
+    silence : n < count + 59 → (step state None).state ≡ next → IsAt m next (Tick 0 ∷ ev)
+    silence low = ticked (Tick 0 ∷ []) ev None refl (rw (h.ticks, second n low) refl, tt) h.kept (rw (h.empty 0, h.empty 1, h.empty 2, told_nothing) refl) h.ticks h.stands (no_vote ev h.empty)
 
-one_on : (k : ℕ) → k < 58 → (step_of believer.rules denial (Locked (hold_at k)) None).state ≡ Locked (hold_at (suc k))
-unfolding step_of
-one_on k low =
-    let sod : 86341 + k + 1 ≡ 86341 + suc k = omega arith in
-    let age : k + 1 ≡ suc k = omega arith in
-    ap (λ (o : Outcome). (holdover_step o).state) (alone k low) ∙ cc
+  -- ---- many of them
 
-started : hold_start denial claim_0 ≡ Ok (hold_at 0)
-started = ap (hold_or_stop (at 86340) 0 Unspoken) (ap (next_of (at 86340)) denied ∙ first_second)
+  counting : (k : ℕ) → k < count → Leads (k + 1) (count_step reader_rules (hold (first + (k + 1)) 0) (k + 1)).state
+  counting zero low =
+      let start : IsAt 0 Idle [] = record { ticks = refl; empty = λ p. refl; stands = refl; events = []; in_order = refl; accepted = tt; kept = kept_none plant } in
+      voting 0 1 Idle _ [] start refl low (begins (first + 0) (first + 1) (omega arith) (omega (arith, fits, low)))
+  counting (suc k) low =
+      let before = counting k (omega (arith, low)) in
+      let few : (k + 1 == count) ≡ false = apart (k + 1) count (λ e. omega (arith, e, low)) in
+      voting (k + 1) (suc k + 1) (Acquiring (hold (first + (k + 1)) 0) (k + 1)) _ before.0 (rw few at before.1) (omega arith) (omega (arith, low))
+      (joins (first + (k + 1)) (first + (suc k + 1)) (k + 1) (suc k + 1) (omega arith) (omega arith) (omega (arith, fits, low)))
 
-locked : (step_of believer.rules denial Idle (Some claim_0)).state ≡ Locked (hold_at 0)
-unfolding step_of
-locked = ap (λ (h : Result HoldValue Turn). (first_vote_step believer.rules h).state) started
+  -- locked, it holds over
+  holding : (a : ℕ) → a ≤ 57 → Leads (count + a) (Locked (hold (86341 + a) a))
+  holding zero low =
+      let last = counting (count - 1) (omega (arith, in_range.lock_after.0)) in
+      let all : count - 1 + 1 ≡ count = omega (arith, in_range.lock_after.0) in
+      let same : count + 0 ≡ count = omega arith in
+      (last.0, rw same (rw (all, fits, eq-eqb count count refl) at last.1))
+  holding (suc a) low =
+      let before = holding a (omega (arith, low)) in
+      let over = goes_on (86341 + a) (86341 + suc a) (suc a) (omega arith) (omega (arith, low)) in
+      let alone_now = alone (86341 + a) a (suc a) (hold (86341 + suc a) (suc a)) (omega arith) (omega (arith, low)) over in
+      (_, silence (count + a) (count + suc a) (Locked (hold (86341 + a) a)) _ before.0 before.1 (omega arith) (omega (arith, low)) (ap (λ (x : Step). x.state) alone_now))
 
-stands : (k : ℕ) → k ≤ 58 → state_of believer.rules denial (one_vote k) ≡ Locked (hold_at k)
-stands zero low = locked
-stands (suc k) low = ap (λ (state : State). (step_of believer.rules denial state None).state) (stands k (omega arith)) ∙ one_on k (omega arith)
+  misled_after : (ev : List Event) → IsAt (count + 57) (Locked (hold 86398 57)) ev → IsMisledByTable plant ev 0 new_month
+  misled_after ev h =
+      let over = alone 86398 57 58 (hold_value new_month 58 Unspoken) refl (omega arith) (rw known_first_end refl) in
+      let last = silence (count + 57) (count + 57 + 1) (Locked (hold 86398 57)) _ ev h refl (omega arith) refl in
+      record {
+        events = last.events;
+        in_order = last.in_order;
+        takes = record {
+          timeline = is_timeline;
+          generators = record { new = three_generators.new; zones = three_generators.zones };
+          readers = record { count = (omega arith, omega arith); range = All-cons (λ x. IsReaderRules x.rules) _ [] in_range (All-nil (λ x. IsReaderRules x.rules)) };
+          accepted = last.accepted;
+        };
+        kept = last.kept;
+        says = rw (no_vote ev h.empty, h.stands) (ap (λ (x : Step). x.report.announce) over);
+        untrue = λ e. omega (arith, fits, h.ticks, ((second_is line (ticks_of 0 ev + 1) new_month).0 e).sum);
+      }
 
-abbrev says_new_year : Report
-says_new_year = announcement (record { day = 31; sod = 0 }) (lock.Holdover 59) cause.Held
-
-last_step : (step_of believer.rules denial (Locked (hold_at 58)) None).report ≡ says_new_year
-unfolding step_of
-last_step = ap (λ (o : Result HoldValue Turn). (holdover_step (outcome_of (hold_at 58) o)).report) (ap (hold_or_stop (at 86399) 59 Unspoken) (ap (next_of (at 86399)) denied ∙ next_day))
-
-says_at : (k : ℕ) → k ≤ 58 → report_at_tick (history_of plant 0 (silent k)) ≡ (step_of believer.rules denial (Locked (hold_at k)) None).report
-says_at k low = rw (silent_vote k, votes_are k) (ap (λ (state : State). (step_of believer.rules denial state None).report) (stands k low))
-
-says : report_at_tick (history_of plant 0 (silent 58)) ≡ says_new_year
-says = says_at 58 (omega arith) ∙ last_step
-
-not_second : ¬ (second_at last_minute 60 ≡ Some (record { day = 31; sod = 0 }))
-unfolding second_at
-not_second e =
-    let same : ◌≡◌ {A = UtcSecond} (at 86400) (record { day = 31; sod = 0 }) = cc in
-    omega (arith, ap (λ (u : UtcSecond). u.sod) same)
-
--- ---- the events are accepted
-
-some_second : (n : ℕ) → n ≤ 60 → is_some (second_at last_minute n) ≡ true
-some_second n low =
-    let is : IsSecond last_minute n (at (86340 + n)) = record { from = omega arith; to = omega arith; sod = omega arith; sum = omega arith } in
-    ap (λ (o : Option UtcSecond). is_some o) ((second_is last_minute n (at (86340 + n))).1 is)
-
-ticks_accepted : (count : ℕ) (ev : List Event) → ticks_of 0 ev + count ≤ 61 → AreAccepted plant (replicate count (Tick 0)) ev
-ticks_accepted zero ev low = tt
-ticks_accepted (suc count) ev low = (rw (some_second (ticks_of 0 ev) (omega arith)) refl, ticks_accepted count (Tick 0 ∷ ev) (omega arith))
-
-are_readers : AreReaders (believer ∷ [])
-are_readers = record {
-  count = (omega arith, omega arith);
-  range = All-cons (λ x. IsReaderRules x.rules) believer [] (record { lock_after = (omega arith, omega arith); holdover = omega arith }) (All-nil (λ x. IsReaderRules x.rules));
-}
-
-pub misled_by_table : IsMisledByTable plant (silent 58) 0 (record { day = 31; sod = 0 })
-unfolding second_at
-misled_by_table = record {
-  events = Replay 0 0 0 ∷ Replay 1 0 0 ∷ replicate 60 (Tick 0);
-  in_order = refl;
-  takes = record {
-    timeline = is_timeline;
-    generators = record { new = three_generators.new; zones = three_generators.zones };
-    readers = are_readers;
-    accepted = (refl, (refl, ticks_accepted 60 heard (omega arith)));
-  };
-  kept = all_kept 59;
-  says = ap (λ (r : Report). r.announce) says;
-  untrue = not_second;
-}
+  pub misled_by_table : (ev : List Event) × IsMisledByTable plant ev 0 new_month
+  misled_by_table = let all = holding 57 (omega arith) in (all.0, misled_after all.0 all.1)

@@ -12,6 +12,7 @@ pub mod AuditLaws
 pub mod PortLaws
 pub mod FrameLaws
 pub mod EdgeLaws
+pub mod HeldByTest
 pub mod HeldMarks
 pub mod TickLaws
 pub mod CourseLaws

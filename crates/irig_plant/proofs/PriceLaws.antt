@@ -5,14 +5,13 @@ use Rattle.std.proofs.Common.{ℕ, zero, suc, ◌+◌, ◌*◌, ◌<◌, ◌≤�
 use Rattle.std.proofs.lemmas.Bool.{cases_lt}
 use Rattle.std.proofs.lemmas.List.Elements.{All-nil, All-cons, All-head, All-tail, All-contains}
 use Rattle.irig_time.specs.TimelineFaults.{IsTimeline}
-use Rattle.irig_hold.specs.Truth.{IsTrueTable}
 use Rattle.irig_plant.specs.declared.event.Event.{Event}
 use Rattle.irig_plant.specs.declared.event.Event.TheVariants.{Tick}
 use Rattle.irig_plant.specs.declared.entry.Entry.{Entry}
 use Rattle.irig_plant.specs.Schedule.{Setup, setup_at, ticks_of, log_of}
 use Rattle.irig_vote.specs.Counts.{AreRising, AtMost}
 use Rattle.irig_plant.specs.OwnEdge.{HasFalseMajority}
-use Rattle.irig_plant.specs.Healing.{RestsOnItsMajority, IsCleanBetween, IsCleanSince, IsFalseEdge}
+use Rattle.irig_plant.specs.Healing.{HasMonthEnds, RestsOnItsMajority, IsCleanBetween, IsCleanSince, IsFalseEdge}
 use Rattle.irig_plant.proofs.CourseLaws.{ticks_grow, ticks_now}
 use Rattle.irig_plant.proofs.HealingLaws.{log_rests_on_majorities, held}
 
@@ -69,7 +68,7 @@ module _ (limit : ℕ) (IsLate IsEarly : ℕ → Type 0) where
 
 -- ---- false seconds
 
-module _ (s : Setup) (r : ℕ) (ev : List Event) (sound : IsTimeline s.times) (true_table : IsTrueTable s.times (setup_at s.readers r).table) where
+module _ (s : Setup) (r : ℕ) (ev : List Event) (sound : IsTimeline s.times) (knows : HasMonthEnds s r) where
   abbrev limit : ℕ
   limit = (setup_at s.readers r).rules.holdover
 
@@ -79,7 +78,7 @@ module _ (s : Setup) (r : ℕ) (ev : List Event) (sound : IsTimeline s.times) (t
   behind : (n : ℕ) → IsFalseEdge s r ev n → IsBehind limit (IsFalseEdge s r ev) IsUnclean n
   behind n h =
       let rests : RestsOnItsMajority s ev h.entry = All-contains (RestsOnItsMajority s ev) (log_of s ev) h.entry (log_rests_on_majorities s ev sound) h.logged in
-      let on = rests.false_second (subst (λ (q : ℕ). IsTrueTable s.times (setup_at s.readers q).table) (sym h.reader) true_table) h.untrue in
+      let on = rests.false_second (subst (HasMonthEnds s) (sym h.reader) knows) h.untrue in
       let near : on.1.age ≤ limit = subst (λ (q : ℕ). on.1.age ≤ (setup_at s.readers q).rules.holdover) h.reader on.1.near in
       record {
         first = on.0;
@@ -113,13 +112,13 @@ clean_to n s r m ev clean = record {
   ticks = λ later earlier is from low. clean.ticks later earlier is from (omega (arith, ap (ticks_of r) is, ticks_grow r later (Tick r ∷ earlier), ticks_now r earlier));
 }
 
-module _ (s : Setup) (r m : ℕ) (ev : List Event) (sound : IsTimeline s.times) (true_table : IsTrueTable s.times (setup_at s.readers r).table) (clean : IsCleanBetween s r m (ticks_of r ev) ev) where
+module _ (s : Setup) (r m : ℕ) (ev : List Event) (sound : IsTimeline s.times) (knows : HasMonthEnds s r) (clean : IsCleanBetween s r m (ticks_of r ev) ev) where
   near_after : (n : ℕ) → (m < n) × IsFalseEdge s r ev n → (m < n) × (n ≤ m + (setup_at s.readers r).rules.holdover)
   near_after n h =
       let e : Entry = h.1.entry in
       let since : IsCleanSince s m ev e = record {
         timeline = sound;
-        true_table = subst (λ (q : ℕ). IsTrueTable s.times (setup_at s.readers q).table) (sym h.1.reader) true_table;
+        month_ends = subst (HasMonthEnds s) (sym h.1.reader) knows;
         logged = h.1.logged;
         after = omega (arith, h.0, h.1.edge);
         clean = clean_to e.edge s e.reader m ev (subst (λ (q : ℕ). IsCleanBetween s q m (ticks_of q ev) ev) (sym h.1.reader) clean);

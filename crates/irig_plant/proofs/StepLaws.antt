@@ -17,7 +17,7 @@ use Rattle.irig_reader.specs.Readers.{HasReaderHistory}
 use Rattle.irig_plant.specs.declared.event.Event.{Event}
 use Rattle.irig_plant.specs.declared.event.Event.TheVariants.{GenEdge, Tick, Carry, Damage, Replay, Raw, Fault, Repair, Restart}
 use Rattle.irig_plant.specs.declared.fault.PlantFault.{PlantFault}
-use Rattle.irig_plant.specs.declared.fault.PlantFault.TheVariants.{NoSuchReader, NoSuchGenerator, EndOfYears}
+use Rattle.irig_plant.specs.declared.fault.PlantFault.TheVariants.{NoSuchReader, EndOfYears}
 use Rattle.irig_plant.specs.declared.plant.TickedReader.{TickedReader}
 use Rattle.irig_plant.specs.Schedule.{Setup, generator_at_next_edge, generator_with_fault, generator_without_fault, generator_at, Delivery, delivery, delivery_of, empties, with_delivery, heard_at, fed_at, ticks_of, votes_of, history_of, log_of}
 use Rattle.irig_plant.specs.Widths.{widths_of}

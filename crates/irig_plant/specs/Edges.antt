@@ -1,7 +1,7 @@
 -- Voted, guard and held edges of a reader. They are statements about events, and speak of no state
 -- of a reader.
 -- Source: docs/EXACTLY_WHEN.md.
-use Rattle.std.specs.Prelude.{◌≡◌, ℕ, ◌+◌, ◌<◌, ◌≤◌, Bool, true, false, ◌==◌, ◌&&◌, nat_lt, if◌then◌else◌, List, [], ◌∷◌, ◌++◌, length, Option, Some, None}
+use Rattle.std.specs.Prelude.{◌≡◌, ℕ, zero, suc, ◌+◌, ◌-◌, ◌<◌, ◌≤◌, Bool, true, false, ◌==◌, not, ◌&&◌, ◌||◌, nat_lt, nat_le, if◌then◌else◌, List, [], ◌∷◌, ◌++◌, length, Option, Some, None}
 use Rattle.irig_time.specs.declared.second.UtcSecond.{UtcSecond}
 use Rattle.irig_time.specs.declared.claim.Claim.{Claim}
 use Rattle.irig_time.specs.Days.{is_month_end}
@@ -144,3 +144,43 @@ pub record IsLastVote (x : VotedEdges) (n age : ℕ) : Type 0 where
   pub is_at : edge + age ≡ n
   pub is : x.voted edge ≡ true
   pub none_since : (j : ℕ) → edge < j → j ≤ n → x.voted j ≡ false
+
+-- ---- held edges as a function, which can be run
+
+-- whether each, or one, of so many numbers from this one on passes
+abbrev pub each_from : ℕ → ℕ → (ℕ → Bool) → Bool
+each_from first zero test = true
+each_from first (suc count) test = each_from first count test && test (first + count)
+
+abbrev pub one_from : ℕ → ℕ → (ℕ → Bool) → Bool
+one_from first zero test = false
+one_from first (suc count) test = one_from first count test || test (first + count)
+
+-- whether it is 23:59:58 of a month's last day above the table
+abbrev pub is_58_above : TableValue → Option UtcSecond → Bool
+is_58_above table None = false
+is_58_above table (Some u) = (u.sod == 86398) && is_month_end u.day && nat_lt table.until u.day
+
+abbrev pub is_guard : VotedEdges → ℕ → Bool
+is_guard x zero = false
+is_guard x (suc before) =
+    is_58_above x.table (second_at x.times before)
+    && each_from (before - 56) (suc before - (before - 56)) (λ i. not (x.voted i))
+    && not (x.voted (suc before))
+
+-- whether a vote up to edge j and from m on is at most limit edges old
+abbrev pub has_vote : VotedEdges → ℕ → ℕ → ℕ → Bool
+has_vote x m j limit = one_from m (suc j - m) (λ i. nat_le j (i + limit) && x.voted i)
+
+-- whether the lock was reached at this edge, and not lost up to edge n
+abbrev pub is_locked_since : VotedEdges → ℕ → ℕ → Bool
+is_locked_since x n lock =
+    let count = x.reader_rules.lock_after in
+    let first = suc lock - count in
+    nat_le count lock && each_from first count x.voted
+    && each_from first (n - first) (λ i. not (x.restarted i))
+    && each_from lock (suc n - lock) (λ j. has_vote x lock j x.reader_rules.holdover)
+    && each_from (suc lock) (n - lock) (λ j. not (is_guard x j))
+
+abbrev pub is_held : VotedEdges → ℕ → Bool
+is_held x n = one_from 0 (suc n) (is_locked_since x n)

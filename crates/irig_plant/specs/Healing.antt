@@ -5,10 +5,10 @@ use Rattle.std.specs.List.{Contains}
 use Rattle.irig_time.specs.declared.second.UtcSecond.{UtcSecond}
 use Rattle.irig_time.specs.declared.claim.Claim.{Claim}
 use Rattle.irig_time.specs.TimelineFaults.{IsTimeline}
-use Rattle.irig_hold.specs.Truth.{IsTrueTable}
 use Rattle.irig_reader.specs.declared.report.Lock.TheVariants as lock
 use Rattle.irig_reader.specs.declared.report.Cause.TheVariants.{Voted, Held}
 use Rattle.irig_reader.specs.History.{vote_at_tick}
+use Rattle.irig_reader.specs.Lives.{KnowsMonthEnds}
 use Rattle.irig_plant.specs.declared.event.Event.{Event}
 use Rattle.irig_plant.specs.declared.event.Event.TheVariants.{Tick}
 use Rattle.irig_plant.specs.declared.entry.Entry.{Entry}
@@ -46,11 +46,15 @@ pub record RestsOn (s : Setup) (ev : List Event) (e : Entry) (k : ℕ) : Type 0 
 pub record RestsOnAVote (s : Setup) (ev : List Event) (e : Entry) : Type 0 where
   pub rests : (u : UtcSecond) → e.report.announce ≡ Some u → (k : ℕ) × RestsOn s ev e k
 
--- if it announces a second that is not T of its edge, and its reader's table is true, the vote on
--- which it rests had its false majority
+-- r's table is true, or r holds over for at most 57 edges and needs none
+abbrev pub HasMonthEnds : Setup → ℕ → Type 0
+HasMonthEnds s r =
+    KnowsMonthEnds s.times (setup_at s.readers r).rules (setup_at s.readers r).table
+
+-- if it announces a second that is not T of its edge, and its reader's table is true or not needed,
+-- the vote on which it rests had its false majority
 pub record RestsOnItsMajority (s : Setup) (ev : List Event) (e : Entry) : Type 0 where
-  pub false_second : IsTrueTable s.times (setup_at s.readers e.reader).table
-      → ¬ IsTruthful s.times e
+  pub false_second : HasMonthEnds s e.reader → ¬ IsTruthful s.times e
       → (k : ℕ) × RestsOn s ev e k × HasFalseMajority s e.reader k ev
 
 -- ---- healing
@@ -60,20 +64,20 @@ pub record IsCleanBetween (s : Setup) (r m n : ℕ) (ev : List Event) : Type 0 w
   pub ticks : (later earlier : List Event) → ev ≡ later ++ (Tick r ∷ earlier)
       → m ≤ ticks_of r earlier → ticks_of r earlier < n → IsCleanNow s r earlier
 
--- an entry of a reader with a true table, which comes after the reader's m-th tick, and the ticks
--- since are clean
+-- an entry of a reader with a true table, or one that needs none, which comes after the reader's m-th
+-- tick, and the ticks since are clean
 pub record IsCleanSince (s : Setup) (m : ℕ) (ev : List Event) (e : Entry) : Type 0 where
   pub timeline : IsTimeline s.times
-  pub true_table : IsTrueTable s.times (setup_at s.readers e.reader).table
+  pub month_ends : HasMonthEnds s e.reader
   pub logged : Contains (log_of s ev) e
   pub after : m < e.edge
   pub clean : IsCleanBetween s e.reader m e.edge ev
 
--- an entry announces T of its edge, or nothing, if its reader's table is true and all ticks so far
--- were clean
+-- an entry announces T of its edge, or nothing, if its reader's table is true or not needed, and all
+-- ticks so far were clean
 pub record IsTrueIfClean (s : Setup) (ev : List Event) (e : Entry) : Type 0 where
-  pub second : IsTrueTable s.times (setup_at s.readers e.reader).table
-      → IsCleanBetween s e.reader 0 e.edge ev → IsTruthful s.times e
+  pub second : HasMonthEnds s e.reader → IsCleanBetween s e.reader 0 e.edge ev
+      → IsTruthful s.times e
 
 -- the plant takes these events, and the reader holds over; as many edges after the m-th tick as it
 -- does so at most, an entry is still false, though all ticks since are clean

@@ -19,7 +19,7 @@ ghost use Rattle.irig_reader.specs.Rules.{IsReaderRules};
 ghost use Rattle.irig_reader.specs.Standing.{StandsAtTruth};
 ghost use Rattle.irig_plant.specs.Schedule.{Setup, setup_at, generator_at, heard_at, ticks_of, votes_of, history_of, entry_of, log_of};
 ghost use Rattle.irig_plant.specs.Audits.{is_true_table, is_broken_now, audit_of};
-ghost use Rattle.irig_plant.specs.Edges.{CanLock, is_voted_now, is_voted, is_restarted, IsVoted, IsRestarted, voted_edges_of, IsRun, KeepsLock};
+ghost use Rattle.irig_plant.specs.Edges.{CanLock, is_voted_now, is_voted, is_restarted, IsVoted, IsRestarted, VotedEdges, voted_edges_of, is_held, IsHeld, IsRun, KeepsLock};
 ghost use Rattle.irig_vote.specs.Counts.{AtLeast, AtMost};
 ghost use Rattle.irig_plant.specs.Ports.{f_in, IsTruePort, IsUntruePort};
 ghost use Rattle.irig_plant.specs.Exactly.{announcement, IsServed, AnnouncesWhenHeld, HasItsLock, HasItsCause};
@@ -129,16 +129,20 @@ pub fn announcements_agree()
 
 /// The premises are needed: a plant of three generators, and one of five, in which f + 1 ports of a
 /// reader are untrue at a single tick, and all else is kept, announces a false second there; and so
-/// does one that kept all of that, but for a table. No rules of a reader help.
+/// does one that kept all of that, but for a table. No rules of a reader help against f + 1 untrue
+/// ports; against a false table a holdover of at most 57 does, and no other rules do.
 pub fn premises_are_needed()
     ensures three { (s : Setup) × (ev : List Event) × (r : ℕ) × (u : UtcSecond)
         × (length s.generators ≡ 3) × IsMisled s ev r u }
     ensures five { (s : Setup) × (ev : List Event) × (r : ℕ) × (u : UtcSecond)
         × (length s.generators ≡ 5) × IsMisled s ev r u }
-    ensures table { (s : Setup) × (ev : List Event) × (r : ℕ) × (u : UtcSecond)
-        × IsMisledByTable s ev r u }
+    // Whatever the rules of a reader that holds over for 58 edges or more, there is a plant with
+    // such a reader that is misled by its table.
+    ensures table { (rules : ReaderRules) → IsReaderRules rules → 58 ≤ rules.holdover
+        → (s : Setup) × (ev : List Event) × (r : ℕ) × (u : UtcSecond)
+        × ((setup_at s.readers r).rules ≡ rules) × IsMisledByTable s ev r u }
     // Whatever the rules of a reader, after however many votes in a row it locks, there is a plant
-    // with such a reader that is misled so at a month's end.
+    // with such a reader that f + 1 untrue ports mislead at a month's end.
     ensures lock { (rules : ReaderRules) → IsReaderRules rules → (s : Setup) × (ev : List Event)
         × (r : ℕ) × (u : UtcSecond) × ((setup_at s.readers r).rules ≡ rules) × IsMisled s ev r u }
 {}
@@ -169,8 +173,10 @@ pub fn votes_are_at_voted_edges()
 /// Under its premises, if the timeline has a second for its edge, an entry announces exactly if the
 /// edge is held.
 pub fn announces_exactly_when_held()
-    ensures { (s : Setup) (ev : List Event) → IsTimeline s.times → All CanLock s.readers
+    ensures entries { (s : Setup) (ev : List Event) → IsTimeline s.times → All CanLock s.readers
         → All (AnnouncesWhenHeld s ev) (log_of s ev) }
+    // Which edges are held, a function tells.
+    ensures held { (x : VotedEdges) (n : ℕ) → (is_held x n ≡ true) ↔ IsHeld x n }
 {}
 
 /// An entry that announces is then locked by the vote of a voted edge, or holds over since the

@@ -5,7 +5,6 @@ ghost use Rattle.std.specs.Prelude.{◌≡◌, ◌+◌, ◌*◌, ◌<◌, ◌≤
 ghost use Rattle.std.specs.List.{Contains};
 ghost use Rattle.irig_time.specs.Timelines.{truth_at, IsTrueClaim};
 ghost use Rattle.irig_time.specs.TimelineFaults.{IsTimeline};
-ghost use Rattle.irig_hold.specs.Truth.{IsTrueTable};
 ghost use Rattle.irig_reader.specs.History.{vote_at_tick};
 ghost use Rattle.irig_plant.specs.Schedule.{Setup, setup_at, ticks_of, history_of, log_of};
 ghost use Rattle.irig_plant.specs.Audits.{is_broken_now};
@@ -14,7 +13,7 @@ ghost use Rattle.irig_plant.specs.Ports.{f_in, HasHeard};
 ghost use Rattle.irig_plant.specs.Premises.{IsKeptUpTo};
 ghost use Rattle.irig_plant.specs.Truth.{IsTruthful};
 ghost use Rattle.irig_plant.specs.OwnEdge.{IsCleanNow, IsCleanAt, IsTrueByItsEdge, HasFalseMajority, HasItsMajority};
-ghost use Rattle.irig_plant.specs.Healing.{HasVoteAt, RestsOnAVote, RestsOnItsMajority, IsCleanBetween, IsCleanSince, IsTrueIfClean, IsFalseToTheEnd, IsFalseEdge};
+ghost use Rattle.irig_plant.specs.Healing.{HasMonthEnds, HasVoteAt, RestsOnAVote, RestsOnItsMajority, IsCleanBetween, IsCleanSince, IsTrueIfClean, IsFalseToTheEnd, IsFalseEdge};
 
 use crate::entry::Entry;
 use crate::event::Event;
@@ -66,15 +65,17 @@ pub fn announcements_rest_on_a_vote()
         → e.report.cause ≡ Cause.Voted → HasVoteAt s e.reader e.edge ev }
 {}
 
-/// A false second has its majority, be it voted or held: if a reader with a true table announces
-/// what is not the second of its edge, then at the tick of the vote on which that rests f + 1 ports
-/// heard what carries one and the same claim, and it was not true there.
+/// A false second has its majority, be it voted or held: if a reader with a true table, or with a
+/// holdover of at most 57, announces what is not the second of its edge, then at the tick of the vote
+/// on which that rests f + 1 ports heard what carries one and the same claim, and it was not true
+/// there.
 pub fn false_seconds_have_their_majority()
     ensures { (s : Setup) (ev : List Event) → IsTimeline s.times
         → All (RestsOnItsMajority s ev) (log_of s ev) }
 {}
 
-/// A misled reader heals by itself. Let its table be true, and all its ticks clean after its m-th.
+/// A misled reader heals by itself. Let its table be true, or its holdover at most 57, and all its
+/// ticks clean after its m-th.
 pub fn misled_readers_heal()
     // If an entry is false after that, it is held, and lies at most `holdover` edges further.
     ensures held { (s : Setup) (m : ℕ) (ev : List Event) (e : Entry) → IsCleanSince s m ev e
@@ -88,8 +89,7 @@ pub fn misled_readers_heal()
         → HasVoteAt s e.reader k ev → m < k → k ≤ e.edge → IsTruthful s.times e }
     // So at most `holdover` false seconds follow, however long the reader runs.
     ensures few { (s : Setup) (r m : ℕ) (ev : List Event) → IsTimeline s.times
-        → IsTrueTable s.times (setup_at s.readers r).table
-        → IsCleanBetween s r m (ticks_of r ev) ev
+        → HasMonthEnds s r → IsCleanBetween s r m (ticks_of r ev) ev
         → AtMost (setup_at s.readers r).rules.holdover (λ n. (m < n) × IsFalseEdge s r ev n) }
 {}
 
@@ -99,17 +99,19 @@ pub fn healing_takes_the_holdover()
     ensures { (s : Setup) × (m : ℕ) × (ev : List Event) × (e : Entry) × IsFalseToTheEnd s m ev e }
 {}
 
-/// What it costs to mislead a reader with a true table: if at most so many of its ticks have a
-/// false majority, it announces at most `holdover` + 1 false seconds for each of them.
+/// What it costs to mislead a reader with a true table, or with a holdover of at most 57: if at most
+/// so many of its ticks have a false majority, it announces at most `holdover` + 1 false seconds for
+/// each of them.
 pub fn false_seconds_have_their_price()
     ensures { (s : Setup) (r : ℕ) (ev : List Event) (count : ℕ) → IsTimeline s.times
-        → IsTrueTable s.times (setup_at s.readers r).table
+        → HasMonthEnds s r
         → AtMost count (λ k. HasFalseMajority s r k ev)
         → AtMost (count * ((setup_at s.readers r).rules.holdover + 1)) (IsFalseEdge s r ev) }
 {}
 
 /// Clean ticks are enough for the headline: an entry announces the second of its edge, or nothing,
-/// if its reader's table is true and all its ticks so far were clean.
+/// if all its reader's ticks so far were clean and its table is true, or its holdover at most 57,
+/// which needs no table.
 pub fn clean_ticks_are_enough()
     ensures entries { (s : Setup) (ev : List Event) → IsTimeline s.times
         → All (IsTrueIfClean s ev) (log_of s ev) }

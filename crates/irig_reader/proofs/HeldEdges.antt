@@ -1,5 +1,5 @@
 -- What a reader announces without a vote, by its last vote.
-use Rattle.std.proofs.Common.{◌≡◌, ◌==◌, ℕ, zero, suc, ◌+◌, ◌<◌, List, [], ◌∷◌, Option, Some, None, Ok, refl, sym, subst, ap, ◌∙◌, inl, inr, arith}
+use Rattle.std.proofs.Common.{◌≡◌, ◌==◌, ℕ, suc, ◌+◌, List, [], ◌∷◌, Option, Some, None, Ok, refl, sym, subst, ap, ◌∙◌, inl, inr, arith}
 use Rattle.std.specs.Prelude.{nat_le, ◌&&◌, IfSome}
 use Rattle.std.proofs.lemmas.Bool.{cases_Bool}
 use Rattle.std.proofs.lemmas.List.Elements.{All-head, All-tail}
@@ -7,16 +7,16 @@ use Rattle.irig_time.specs.declared.second.UtcSecond.{UtcSecond}
 use Rattle.irig_time.specs.declared.mark.Mark.{Mark}
 use Rattle.irig_time.specs.declared.claim.Claim.{Claim}
 use Rattle.irig_time.specs.Next.{next_of}
-use Rattle.irig_time.specs.Timelines.{TimelineValue, IsSecond, IsTrueClaim}
+use Rattle.irig_time.specs.Timelines.{TimelineValue, IsTrueClaim}
 use Rattle.irig_time.specs.TimelineFaults.{IsTimeline}
 use Rattle.irig_time.specs.Claims.{IsMarkedLate}
 use Rattle.irig_time.specs.Tables.{TableValue, spoken_mark}
 use Rattle.irig_hold.specs.declared.hold.Turn.TheVariants as turn
 use Rattle.irig_hold.specs.Steps.{HoldValue, hold_start, hold_or_stop, hold_after, mark_or, outcome_of, voted_by, alone_by}
-use Rattle.irig_hold.specs.Truth.{IsTrueTable, IsOnTime, HasHeardLate}
+use Rattle.irig_hold.specs.Truth.{IsOnTime, HasHeardLate}
 use Rattle.irig_reader.proofs.StepCases.{locked_cases, count_cases, vote_cases}
 use Rattle.irig_reader.proofs.OneEdge.{voted_holds}
-use Rattle.irig_hold.proofs.HoldLaws.{stop_is_no_now, started_true, alone_true, voted_on_time, voted_late, alone_late, started_late}
+use Rattle.irig_hold.proofs.HoldLaws.{stop_is_no_now, started_true, voted_on_time, voted_late, alone_late, started_late}
 use Rattle.irig_reader.specs.declared.rules.ReaderRules.{ReaderRules}
 use Rattle.irig_reader.specs.declared.report.Lock.TheVariants as lock
 use Rattle.irig_reader.specs.declared.report.Cause.TheVariants as cause
@@ -35,11 +35,11 @@ count_has : (P : HoldValue → Type 0) (rules : ReaderRules) (h : HoldValue) (co
 count_has P rules h count p = count_cases (λ step. IfHold step.state P) rules h count (λ enough. p) (λ more. p)
 
 -- what holds of the hold if it goes on by the vote
-abbrev IfItGoes : TableValue → Claim → (HoldValue → Type 0) → HoldValue → Type 0
+abbrev pub IfItGoes : TableValue → Claim → (HoldValue → Type 0) → HoldValue → Type 0
 IfItGoes table c P h = (u : UtcSecond) → (voted_by table h c).answer ≡ turn.Now u → P (voted_by table h c).new
 
 -- what holds of a hold that begins with the vote, and of one that answers it, holds of the state
-voted_has : (P : HoldValue → Type 0) (rules : ReaderRules) (table : TableValue) (state : State) (c : Claim) → ((h : HoldValue) → hold_start table c ≡ Ok h → P h)
+pub voted_has : (P : HoldValue → Type 0) (rules : ReaderRules) (table : TableValue) (state : State) (c : Claim) → ((h : HoldValue) → hold_start table c ≡ Ok h → P h)
     → IfHold state (IfItGoes table c P) → IfHold (step_of rules table state (Some c)).state P
 voted_has P rules table state c first later =
     vote_cases (λ step. IfHold step.state P) rules table state c (λ h e. count_has P rules h 1 (first h e)) (λ stop. tt)
@@ -57,7 +57,7 @@ late_step rules table (Acquiring h count) (Some c) late marked =
     voted_has HasHeardLate rules table (Acquiring h count) c (λ k e. started_late table c k marked e) (λ u e. voted_late table h c late marked)
 late_step rules table (Locked h) (Some c) late marked = voted_has HasHeardLate rules table (Locked h) c (λ k e. started_late table c k marked e) (λ u e. voted_late table h c late marked)
 
-late_state : (rules : ReaderRules) (table : TableValue) (votes : List (Option Claim)) → AreMarkedLate votes → IfHold (state_of rules table votes) HasHeardLate
+pub late_state : (rules : ReaderRules) (table : TableValue) (votes : List (Option Claim)) → AreMarkedLate votes → IfHold (state_of rules table votes) HasHeardLate
 late_state rules table [] marked = tt
 late_state rules table (vote ∷ votes) marked = late_step rules table (state_of rules table votes) vote (late_state rules table votes (All-tail (λ v. IfSome v IsMarkedLate) vote votes marked)) (All-head (λ v. IfSome v IsMarkedLate) vote votes marked)
 
@@ -82,42 +82,6 @@ by_vote t n rules table state c sound late claim = voted_has (IsOnTime t (n + 1)
     later Idle late = tt
     later (Acquiring h count) late = λ u e. voted_on_time t table n h c u sound late claim e
     later (Locked h) late = λ u e. voted_on_time t table n h c u sound late claim e
-
-by_none : (t : TimelineValue) (n : ℕ) (rules : ReaderRules) (table : TableValue) (state : State) → IsTimeline t → IsTrueTable t table → IfLocked state (IsOnTime t n)
-    → IfLocked (step_of rules table state None).state (IsOnTime t (n + 1))
-unfolding step_of
-by_none t n rules table Idle sound true_table at = tt
-by_none t n rules table (Acquiring h count) sound true_table at = tt
-by_none t n rules table (Locked h) sound true_table at =
-    locked_cases (λ step. IfLocked step.state (IsOnTime t (n + 1))) _ cause.Held (alone_by table h rules.holdover).answer (alone_by table h rules.holdover).new (λ u e. (alone_true t table n rules.holdover h u sound true_table at e).on_time) (λ stop e. tt)
-
-stands : (t : TimelineValue) (n a : ℕ) (rules : ReaderRules) (table : TableValue) (votes : List (Option Claim)) (c : Claim) → IsTimeline t → IsTrueTable t table → AreMarkedLate votes → IsTrueClaim t (n + 1) c
-    → IfLocked (state_of rules table (then_none a (Some c ∷ votes))) (IsOnTime t (n + 1 + a))
-stands t n zero rules table votes c sound true_table marked claim =
-    let same : n + 1 ≡ n + 1 + 0 = omega arith in
-    subst (λ (m : ℕ). IfLocked (state_of rules table (then_none zero (Some c ∷ votes))) (IsOnTime t m)) same
-    (locked_of (IsOnTime t (n + 1)) _ (by_vote t n rules table (state_of rules table votes) c sound (late_state rules table votes marked) claim))
-stands t n (suc a) rules table votes c sound true_table marked claim =
-    let same : n + 1 + a + 1 ≡ n + 1 + suc a = omega arith in
-    subst (λ (m : ℕ). IfLocked (state_of rules table (then_none (suc a) (Some c ∷ votes))) (IsOnTime t m)) same
-    (by_none t (n + 1 + a) rules table (state_of rules table (then_none a (Some c ∷ votes))) sound true_table (stands t n a rules table votes c sound true_table marked claim))
-
--- ---- what it then says
-
-none_says : (t : TimelineValue) (n : ℕ) (rules : ReaderRules) (table : TableValue) (state : State) (u : UtcSecond) → IsTimeline t → IsTrueTable t table → IfLocked state (IsOnTime t n)
-    → (step_of rules table state None).report.announce ≡ Some u → IsSecond t (n + 1) u
-unfolding step_of
-none_says t n rules table Idle u sound true_table at e = absurd cc
-none_says t n rules table (Acquiring h count) u sound true_table at e = absurd cc
-none_says t n rules table (Locked h) u sound true_table at e =
-    locked_cases (λ step. step.report.announce ≡ Some u → IsSecond t (n + 1) u) _ cause.Held (alone_by table h rules.holdover).answer (alone_by table h rules.holdover).new
-    (λ v is says. let same : v ≡ u = cc in subst (IsSecond t (n + 1)) same (alone_true t table n rules.holdover h v sound true_table at is).second) (λ stop is says. absurd cc) e
-
-pub held_seconds : (t : TimelineValue) (n a : ℕ) (rules : ReaderRules) (table : TableValue) (votes : List (Option Claim)) (c : Claim) (u : UtcSecond) → IsTimeline t → IsTrueTable t table → AreMarkedLate votes
-    → IsTrueClaim t (n + 1) c → (report_of rules table None (then_none a (Some c ∷ votes))).announce ≡ Some u → IsSecond t (n + 2 + a) u
-held_seconds t n a rules table votes c u sound true_table marked claim e =
-    let same : n + 1 + a + 1 ≡ n + 2 + a = omega arith in
-    subst (λ (m : ℕ). IsSecond t m u) same (none_says t (n + 1 + a) rules table (state_of rules table (then_none a (Some c ∷ votes))) u sound true_table (stands t n a rules table votes c sound true_table marked claim) e)
 
 -- ---- the age of a hold
 
@@ -196,15 +160,3 @@ lock_since rules table votes (Locked h) a since e =
 pub held_since : (rules : ReaderRules) (table : TableValue) (vote : Option Claim) (votes : List (Option Claim)) (a : ℕ) → (report_of rules table vote votes).lock ≡ lock.Holdover a → IsSince (vote ∷ votes) a
 held_since rules table None votes a e = lock_since rules table votes (state_of rules table votes) a (since_of rules table votes) e
 held_since rules table (Some c) votes a e = absurd (let none = voted_holds rules table (state_of rules table votes) c a e in omega (arith, none.0, none.1))
-
--- so a held second stands on it
-pub held_is_true : (t : TimelineValue) (n : ℕ) (rules : ReaderRules) (table : TableValue) (vote : Option Claim) (votes earlier : List (Option Claim)) (c : Claim) (a : ℕ) (u : UtcSecond)
-    → IsTimeline t → IsTrueTable t table → AreMarkedLate earlier → IsTrueClaim t (n + 1) c → vote ∷ votes ≡ then_none a (Some c ∷ earlier) → 0 < a
-    → (report_of rules table vote votes).announce ≡ Some u → IsSecond t (n + 1 + a) u
-held_is_true t n rules table vote votes earlier c zero u sound true_table marked claim are some e = absurd (omega (arith, some))
-held_is_true t n rules table (Some d) votes earlier c (suc a) u sound true_table marked claim are some e = absurd cc
-held_is_true t n rules table None votes earlier c (suc a) u sound true_table marked claim are some e =
-    let rest : votes ≡ then_none a (Some c ∷ earlier) = cc in
-    let says : (report_of rules table None (then_none a (Some c ∷ earlier))).announce ≡ Some u = subst (λ (vs : List (Option Claim)). (report_of rules table None vs).announce ≡ Some u) rest e in
-    let same : n + 2 + a ≡ n + 1 + suc a = omega arith in
-    subst (λ (m : ℕ). IsSecond t m u) same (held_seconds t n a rules table earlier c u sound true_table marked claim says)

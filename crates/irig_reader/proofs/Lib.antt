@@ -7,6 +7,7 @@ pub mod TrueSteps
 pub mod VotesInARow
 pub mod TrueVotesInARow
 pub mod HeldEdges
+pub mod LifeLaws
 pub mod MarkedVotes
 pub mod StandardFacts
 pub mod CleanFacts

@@ -20,11 +20,11 @@ use Rattle.irig_port.proofs.LimitLaws.{claim_within}
 use Rattle.irig_port.proofs.CarriesLaws.{carries_is_told}
 use Rattle.irig_vote.specs.Vote.{ports_of}
 use Rattle.irig_vote.proofs.CountLaws.{vote_counts}
-use Rattle.irig_hold.specs.Truth.{IsTrueTable}
 use Rattle.irig_reader.specs.History.{ReaderHistory, told_at_tick, vote_at_tick, report_at_tick, after_tick}
 use Rattle.irig_reader.specs.Held.{then_none, AreMarkedLate, IsTrueSince}
 use Rattle.irig_reader.proofs.VoteLaws.{of_all, all_ports}
-use Rattle.irig_reader.proofs.HeldEdges.{held_is_true}
+use Rattle.irig_reader.specs.Lives.{KnowsMonthEnds}
+use Rattle.irig_reader.proofs.LifeLaws.{held_is_true}
 
 abbrev IsMarked : Told → Type 0
 IsMarked told = IfClaim told IsMarkedLate
@@ -56,10 +56,10 @@ earlier_marked : (edges : ℕ) (vote : Option Claim) (votes : List (Option Claim
 earlier_marked zero vote votes marked = All-tail (λ v. IfSome v IsMarkedLate) vote votes marked
 earlier_marked (suc edges) vote votes marked = earlier_marked edges vote votes (All-tail (λ v. IfSome v IsMarkedLate) None (then_none edges (vote ∷ votes)) marked)
 
-pub held_at_tick : (t : TimelineValue) (n : ℕ) (h : ReaderHistory) (edges : ℕ) (u : UtcSecond) → IsTimeline t → IsTrueTable t h.table → AreMarkedLate h.votes
+pub held_at_tick : (t : TimelineValue) (n : ℕ) (h : ReaderHistory) (edges : ℕ) (u : UtcSecond) → IsTimeline t → KnowsMonthEnds t h.reader_rules h.table → AreMarkedLate h.votes
     → IsTrueSince t n (after_tick h).votes edges → 0 < edges → (report_at_tick h).announce ≡ Some u → IsSecond t (n + 1 + edges) u
-held_at_tick t n h edges u sound true_table marked since some says =
-    held_is_true t n h.reader_rules h.table (vote_at_tick h) h.votes since.earlier since.claim edges u sound true_table
+held_at_tick t n h edges u sound knows marked since some says =
+    held_is_true t h.reader_rules h.table sound knows n edges (vote_at_tick h) h.votes since.earlier since.claim u
     (earlier_marked edges (Some since.claim) since.earlier (subst AreMarkedLate since.are (votes_marked h marked))) since.truth since.are some says
 
 -- ---- within limits

@@ -31,7 +31,7 @@ use Rattle.irig_reader.specs.Clean.{IsClean}
 use Rattle.irig_reader.proofs.StepCases.{count_cases, vote_cases}
 
 -- what the step announces is T(n + 1)
-abbrev SaysNext : TimelineValue → ℕ → Step → Type 0
+abbrev pub SaysNext : TimelineValue → ℕ → Step → Type 0
 SaysNext t n step = (u : UtcSecond) → step.report.announce ≡ Some u → IsSecond t (n + 1) u
 
 -- ---- a true vote
@@ -40,7 +40,7 @@ counted : (t : TimelineValue) (n : ℕ) (rules : ReaderRules) (h : HoldValue) (c
 counted t n rules h count at =
     count_cases (SaysNext t n) rules h count (λ enough u e. let same : h.last ≡ u = cc in subst (IsSecond t (n + 1)) same at) (λ more u e. absurd cc)
 
-voted_says : (t : TimelineValue) (n : ℕ) (rules : ReaderRules) (table : TableValue) (state : State) (c : Claim) → IsTimeline t → IsTrueClaim t (n + 1) c → SaysNext t n (step_of rules table state (Some c))
+pub voted_says : (t : TimelineValue) (n : ℕ) (rules : ReaderRules) (table : TableValue) (state : State) (c : Claim) → IsTimeline t → IsTrueClaim t (n + 1) c → SaysNext t n (step_of rules table state (Some c))
 voted_says t n rules table state c sound claim =
     vote_cases (SaysNext t n) rules table state c (λ h e. counted t n rules h 1 (started_true t table n c h sound claim e).last) (λ stop u e. absurd cc)
     (λ h count u is e. let now = voted_second t table n h c u sound claim e in counted t n rules (voted_by table h c).new (count + 1) (subst (IsSecond t (n + 1)) (sym now.1) now.0))
@@ -113,12 +113,12 @@ misled t n rules table state told r u sound voted says false_second =
 jumped : (l : Lock) (c : Cause) (answer : Turn) (h : HoldValue) → answer ≡ turn.Jump → locked_step l c answer h ≡ stop_step cause.Jump
 jumped l c answer h is = rw is refl
 
-pub lost_tick : (t : TimelineValue) (m n : ℕ) (rules : ReaderRules) (table : TableValue) (h : HoldValue) (told : Tells) (r : Redundancy) (c : Claim) → IsClean t n told r → IsSecond t m h.last → ¬ (m ≡ n)
+pub lost_tick : (t : TimelineValue) (n : ℕ) (rules : ReaderRules) (table : TableValue) (h : HoldValue) (told : Tells) (r : Redundancy) (c : Claim) → IsClean t n told r → ¬ IsSecond t n h.last
     → vote_of told r ≡ Some c → step_of rules table (Locked h) (vote_of told r) ≡ stop_step cause.Jump
 unfolding step_of
-lost_tick t m n rules table h told r c clean at apart is =
+lost_tick t n rules table h told r c clean apart is =
     let claim : IsTrueClaim t (n + 1) c = (claim_is t n c).0 (clean.no_other c ((vote_counts told r c).0 is)) in
-    rw is (jumped lock.Locked cause.Voted (voted_by table h c).answer (voted_by table h c).new (voted_other t table m n h c at claim apart))
+    rw is (jumped lock.Locked cause.Voted (voted_by table h c).answer (voted_by table h c).new (voted_other t table n h c claim apart))
 
 -- ---- how long it holds over
 

@@ -6,3 +6,4 @@ pub mod Clean
 pub mod Held
 pub mod Standing
 pub mod Locking
+pub mod Lives

@@ -2,7 +2,7 @@
 //! there or by its votes so far. They have no code, and speak of values: no call of a reader takes
 //! a timeline.
 
-ghost use Rattle.std.specs.Prelude.{◌≡◌, ◌⊎◌, ◌↔◌, ◌+◌, ◌<◌, ◌≤◌, ℕ, List, [], ◌∷◌, Option, Some, None};
+ghost use Rattle.std.specs.Prelude.{◌≡◌, ◌⊎◌, ◌↔◌, ◌+◌, ◌<◌, ◌≤◌, ℕ, List, [], ◌∷◌, ◌++◌, length, Option, Some, None};
 ghost use Rattle.irig_sync.specs.declared.sync.Sync.{Sync};
 ghost use Rattle.irig_sync.specs.Lines.{Pulse};
 ghost use Rattle.irig_time.specs.Tables.{TableValue};
@@ -19,6 +19,7 @@ ghost use Rattle.irig_reader.specs.declared.rule.State.{State};
 ghost use Rattle.irig_reader.specs.Clean.{IsCarrier, IsClean, HaveHeardCleanly};
 ghost use Rattle.irig_reader.specs.Held.{AreMarkedLate, IsSince, then_none};
 ghost use Rattle.irig_reader.specs.History.{ReaderHistory, fed_to, told_at_tick, vote_at_tick, after_tick};
+ghost use Rattle.irig_reader.specs.Lives.{votes_over, AreClean, HasVoted, KnowsMonthEnds};
 ghost use Rattle.irig_reader.specs.Locking.{IsSilentAfter, FollowsVotes, then_true, voted_report};
 ghost use Rattle.irig_reader.specs.Rule.{report_of, step_of, stop_step};
 ghost use Rattle.irig_reader.specs.Standing.{StandsAtTruth};
@@ -68,9 +69,9 @@ pub fn misleading_takes_a_majority()
 /// `Jump`. What it holds over before that vote is false by that tick. It then has nothing
 /// to go on.
 pub fn a_lost_tick_is_silent()
-    ensures { (t : TimelineValue) (m n : ℕ) (rules : ReaderRules) (table : TableValue)
+    ensures { (t : TimelineValue) (n : ℕ) (rules : ReaderRules) (table : TableValue)
         (h : HoldValue) (told : Tells) (r : Redundancy) (c : Claim) → IsClean t n told r
-        → IsSecond t m h.last → ¬ (m ≡ n) → vote_of told r ≡ Some c
+        → ¬ IsSecond t n h.last → vote_of told r ≡ Some c
         → step_of rules table (State.Locked h) (vote_of told r) ≡ stop_step Cause.Jump }
 {}
 
@@ -83,7 +84,7 @@ pub fn holdover_is_bounded()
 
 /// A held second is true by the last vote: if a reader announces a second in a holdover of so many
 /// edges, the vote that lies so many edges back was true, each of the edges since was one call, and
-/// the table is true, then the second is the true one.
+/// the table is true, or the holdover at most 57, then the second is the true one.
 pub fn held_seconds_are_true()
     // The lock says how far back the last vote lies.
     ensures last { (rules : ReaderRules) (table : TableValue) (vote : Option Claim)
@@ -92,7 +93,7 @@ pub fn held_seconds_are_true()
         → IsSince (vote ∷ votes) edges }
     ensures second { (t : TimelineValue) (n : ℕ) (rules : ReaderRules) (table : TableValue)
         (vote : Option Claim) (votes earlier : List (Option Claim)) (c : Claim) (edges : ℕ)
-        (u : UtcSecond) → IsTimeline t → IsTrueTable t table → AreMarkedLate earlier
+        (u : UtcSecond) → IsTimeline t → KnowsMonthEnds t rules table → AreMarkedLate earlier
         → IsTrueClaim t (n + 1) c → vote ∷ votes ≡ then_none edges (Some c ∷ earlier)
         → 0 < edges → (report_of rules table vote votes).announce ≡ Some u
         → IsSecond t (n + 1 + edges) u }
@@ -123,6 +124,25 @@ pub fn true_votes_keep_to_the_truth()
         (state : State) (vote : Option Claim) → IsTimeline t → IsTrueTable t table
         → StandsAtTruth t n state → (vote ≡ None) ⊎ (vote ≡ truth_at t n)
         → (step_of rules table state vote).report.cause ≡ Cause.RangeEnd → EndsAt t n }
+{}
+
+/// True lives are true, of a reader with one port, three or five. Let its ticks be clean, one for
+/// each second, and let it have a true table, or a holdover of at most 57. Then whatever it
+/// announces is the second that begins, if these are all its ticks since it was made or restarted.
+pub fn true_lives_are_true()
+    ensures second { (t : TimelineValue) (n : ℕ) (rules : ReaderRules) (table : TableValue)
+        (r : Redundancy) (told : Tells) (before : List Tells) (u : UtcSecond) → IsTimeline t
+        → KnowsMonthEnds t rules table → AreClean t n r (told ∷ before)
+        → (report_of rules table (vote_of told r) (votes_over r before)).announce ≡ Some u
+        → IsSecond t (n + length before + 1) u }
+    // It heals: whatever it voted earlier, from the first vote of these ticks on it announces the
+    // second that begins, or nothing.
+    ensures healed { (t : TimelineValue) (n : ℕ) (rules : ReaderRules) (table : TableValue)
+        (r : Redundancy) (told : Tells) (before : List Tells) (earlier : List (Option Claim))
+        (u : UtcSecond) → IsTimeline t → KnowsMonthEnds t rules table → AreMarkedLate earlier
+        → AreClean t n r (told ∷ before) → HasVoted r (told ∷ before)
+        → (report_of rules table (vote_of told r) (votes_over r before ++ earlier)).announce
+        ≡ Some u → IsSecond t (n + length before + 1) u }
 {}
 
 /// Whatever is true, a silent reader announces only by so many votes in a row as its rules ask,

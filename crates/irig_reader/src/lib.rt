@@ -14,8 +14,9 @@ mod rules;
 
 pub use laws::{
     a_claim_is_of_a_run, a_lost_tick_is_silent, held_seconds_are_true, holdover_is_bounded,
-    locking_takes_votes_in_a_row, misleading_takes_a_majority, true_votes_in_a_row_lock,
-    true_votes_keep_to_the_truth, voted_seconds_are_true, votes_lie_within_limits,
+    locking_takes_votes_in_a_row, misleading_takes_a_majority, true_lives_are_true,
+    true_votes_in_a_row_lock, true_votes_keep_to_the_truth, voted_seconds_are_true,
+    votes_lie_within_limits,
 };
 pub use reader::{Reader, Ticked};
 pub use report::{Cause, Lock, Report};

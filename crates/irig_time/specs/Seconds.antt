@@ -4,13 +4,19 @@
 use Rattle.std.specs.Prelude.{◌≡◌, ℕ, ◌+◌, ◌-◌, ◌*◌, ◌/◌, ◌≤◌, min, Bool, ◌==◌, ◌&&◌, ◌||◌, nat_lt, nat_le, ◌⊎◌}
 use Rattle.irig_time.specs.declared.second.UtcSecond.{UtcSecond}
 use Rattle.irig_time.specs.declared.second.TheConstants.{FIRST_DAY, LAST_DAY}
-use Rattle.irig_time.specs.Days.{IsMonthEnd}
+use Rattle.irig_time.specs.Days.{IsMonthEnd, is_month_end}
 
 -- a second from 2000-01-02 to 2099-12-30, where 86400 is the one inserted at a month's end (ITU-R
 -- TF.460)
 pub record IsValid (u : UtcSecond) : Type 0 where
   pub day : (FIRST_DAY ≤ u.day) × (u.day ≤ LAST_DAY)
   pub sod : (u.sod ≤ 86399) ⊎ ((u.sod ≡ 86400) × IsMonthEnd u.day)
+
+-- the same as a function
+abbrev pub is_valid : UtcSecond → Bool
+is_valid u =
+    nat_le FIRST_DAY u.day && nat_le u.day LAST_DAY
+    && (nat_le u.sod 86399 || ((u.sod == 86400) && is_month_end u.day))
 
 -- the minute of the day; an inserted second lies in the last one
 abbrev pub minute_of : UtcSecond → ℕ

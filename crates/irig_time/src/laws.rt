@@ -1,9 +1,11 @@
 //! Laws of time over its definitions, for the crates above. They have no code.
 
-ghost use Rattle.std.specs.Prelude.{◌≡◌, ◌↔◌, ◌≤◌, ◌+◌, ◌⊎◌, true, ℕ, ℤ, neg_ℤ, unsigned_abs, Some, None, Ok};
+ghost use Rattle.std.specs.Prelude.{◌≡◌, ◌↔◌, ◌≤◌, ◌+◌, ◌⊎◌, true, ℕ, ℤ, neg_ℤ, unsigned_abs, List, Some, None, Ok};
 ghost use Rattle.irig_time.specs.Days.{is_month_end};
-ghost use Rattle.irig_time.specs.Seconds.{IsValid};
+ghost use Rattle.irig_time.specs.Seconds.{IsValid, is_valid};
 ghost use Rattle.irig_time.specs.CodedTime.{IsCodedOf, time_shown};
+ghost use Rattle.irig_control.specs.Control.{IsControl};
+ghost use Rattle.irig_time.specs.Frames.{IsFrameOfSecond, frame_of_second};
 ghost use Rattle.irig_time.specs.Claims.{claim_by, claim_of_second};
 ghost use Rattle.irig_time.specs.Next.{next_of};
 ghost use Rattle.irig_time.specs.Timelines.{TimelineValue, EndsAt, leap_of, mark_by, IsSecond, IsTrueClaim, second_at, truth_at};
@@ -13,8 +15,8 @@ use crate::claim::Claim;
 use crate::mark::Mark;
 use crate::rules::Sense;
 use crate::second::UtcSecond;
-use irig_control::Control;
-use irig_frame::Coded;
+use irig_control::{Control, Parity};
+use irig_frame::{Coded, Symbol};
 
 /// The time that is coded of a second claims that second: with the offset `-h` if it is added,
 /// and `h` if it is subtracted, `h` being the half hours by which the clock is ahead of UTC.
@@ -43,6 +45,17 @@ pub fn one_coded()
 pub fn time_is_shown()
     ensures { (u : UtcSecond) (half_hours : ℤ) → IsValid u → unsigned_abs half_hours ≤ 31
         → IsCodedOf u half_hours (time_shown u half_hours) }
+{}
+
+/// What is said of a second, and of how it is coded and sent, can be computed: it holds of what a
+/// function gives, and of nothing else.
+pub fn relations_compute()
+    ensures valid { (u : UtcSecond) → (is_valid u ≡ true) ↔ IsValid u }
+    ensures coded { (u : UtcSecond) (h : ℤ) (c : Coded) → IsValid u → unsigned_abs h ≤ 31
+        → IsCodedOf u h c ↔ (c ≡ time_shown u h) }
+    ensures frame { (parity : Parity) (u : UtcSecond) (h : ℤ) (k : Control) (s : List Symbol)
+        → IsValid u → unsigned_abs h ≤ 31 → IsControl k
+        → IsFrameOfSecond parity u h k s ↔ (s ≡ frame_of_second parity u h k) }
 {}
 
 /// A timeline has at most one second for each number, which is a valid one, and at most one true

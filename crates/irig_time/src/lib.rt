@@ -22,7 +22,8 @@ pub use calendar::month_end;
 pub use claim::{Claim, TimeFault, claim_of};
 pub use frame::{coded_of, frame_of_second, value_of_second};
 pub use laws::{
-    claim_of_coded, claims_are_valid, law_of_next, one_coded, one_second, second_is, time_is_shown,
+    claim_of_coded, claims_are_valid, law_of_next, one_coded, one_second, relations_compute,
+    second_is, time_is_shown,
 };
 pub use leap::Leap;
 pub use mark::Mark;

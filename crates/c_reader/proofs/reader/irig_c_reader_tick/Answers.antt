@@ -15,6 +15,7 @@ use Rattle.c_numbers.specs.Voices.{voices_of}
 use Rattle.c_numbers.specs.Reports.{report_in, voices_in}
 use Rattle.irig_reader.specs.History.{ReaderHistory, after_tick, told_at_tick, vote_at_tick}
 use Rattle.irig_reader.proofs.VoteLaws.{vote_valid}
+use Rattle.irig_reader.proofs.CleanHearing.{clean_hearing}
 use Rattle.irig_reader.proofs.HeldEdges.{held_since}
 use Rattle.irig_reader.proofs.MarkedVotes.{held_at_tick}
 use Rattle.irig_reader.specs.declared.rules.ReaderRules.{ReaderRules}
@@ -25,6 +26,7 @@ use Rattle.c_numbers.specs.CheckWord.{check_of}
 use Rattle.c_numbers.specs.Setups.{limits_in, rules_in, reader_rules_in, redundancy_in, IsSetup}
 use Rattle.c_numbers.specs.States.{IsState}
 use Rattle.c_reader.proofs.TellsLaws.{tells_are}
+use Rattle.c_reader.proofs.VoicesLaws.{voices_heard}
 use Rattle.c_reader.proofs.reader.irig_c_reader_tick.Goals as goal
 
 never : ◌≡◌ {A = Bool} false true → ⊥
@@ -45,6 +47,9 @@ returns-in_default-clause-after c h s = absurd (never (c.in_default.ensures.acce
 
 pub returns-in_default-clause-heard : goal.returns-in_default-clause-heard
 returns-in_default-clause-heard c h s = absurd (never (c.in_default.ensures.accepted.1 (accepts c.args.reader.now h s)))
+
+pub returns-in_default-clause-heard_truth : goal.returns-in_default-clause-heard_truth
+returns-in_default-clause-heard_truth c h t n u s = absurd (never (c.in_default.ensures.accepted.1 (accepts c.args.reader.now h s)))
 
 pub returns-in_default-clause-held : goal.returns-in_default-clause-held
 returns-in_default-clause-held c h t n edges u s = absurd (never (c.in_default.ensures.accepted.1 (accepts c.args.reader.now h s)))
@@ -100,11 +105,7 @@ pub returns-clause-heard : goal.returns-clause-heard
 returns-clause-heard c h s =
     let r = c.args.reader.now in
     let said : voices_in c.report_for_c.result ≡ voices_of (tells_in r) (redundancy_in r.setup) (sense_in r.setup.sense) r.ports = search rules in
-    let told : tells_in r ≡ told_at_tick h = tells_are r h s in
-    said
-    ∙ (ap (λ (t : Tells). voices_of t (redundancy_in r.setup) (sense_in r.setup.sense) r.ports) told
-    ∙ (ap (λ (x : Redundancy). voices_of (told_at_tick h) x (sense_in r.setup.sense) r.ports) s.redundancy
-    ∙ ap (λ (x : Rules). voices_of (told_at_tick h) h.redundancy x.sense r.ports) s.rules))
+    said ∙ voices_heard r h s
 
 pub returns-clause-truth : goal.returns-clause-truth
 returns-clause-truth c t n u sound clean done voted says =
@@ -115,9 +116,15 @@ returns-clause-truth c t n u sound clean done voted says =
     voted_seconds t n c.reader_rules_of-reader_rules.result (table_in r.table) c.in-Some.state (tells_in r) (redundancy_in r.setup) u sound clean
     (subst (λ (x : Report). x.cause ≡ Voted) report voted) (subst (λ (x : Report). x.announce ≡ Some u) report says)
 
+pub returns-clause-heard_truth : goal.returns-clause-heard_truth
+returns-clause-heard_truth c h t n u s sound clean voted says =
+    let report = returns-clause-report c h s in
+    voted_seconds t n h.reader_rules h.table (state_of h.reader_rules h.table h.votes) (told_at_tick h) h.redundancy u sound ((clean_hearing t n h).1 clean)
+    (subst (λ (x : Report). x.cause ≡ Voted) report voted) (subst (λ (x : Report). x.announce ≡ Some u) report says)
+
 pub returns-clause-held : goal.returns-clause-held
-returns-clause-held c h t n edges u s marked sound true_table since some says =
-    held_at_tick t n h edges u sound true_table marked since some (subst (λ (x : Report). x.announce ≡ Some u) (returns-clause-report c h s) says)
+returns-clause-held c h t n edges u s marked sound knows since some says =
+    held_at_tick t n h edges u sound knows marked since some (subst (λ (x : Report). x.announce ≡ Some u) (returns-clause-report c h s) says)
 
 pub returns-clause-last : goal.returns-clause-last
 returns-clause-last c h edges s says =
