@@ -102,8 +102,9 @@ def control_of(word: int) -> Control:
 
 
 def has_parity(symbols: str, parity: Parity) -> bool:
-    """Whether the ones at elements 1 to 75 are even or odd in number (docs/FRAME.md, Parity)."""
-    return symbols[1:76].count("1") % 2 == (parity == Parity.ODD)
+    """Whether the ones among data elements 1 to 75 are even or odd (docs/FRAME.md, Parity)."""
+    ones = [place for place in range(1, 76) if symbols[place] == "1" and place not in MARKERS]
+    return len(ones) % 2 == (parity == Parity.ODD)
 
 
 def value_of(symbols: str, places: list[tuple[int, int]]) -> int:

@@ -1,0 +1,1 @@
+"""Facts: what definitions of crates/*/specs answer by implementations that do not know them."""
