@@ -12,6 +12,7 @@ from random import Random
 
 ROOT = Path(__file__).resolve().parents[2]
 IN_A_FACT = 20  # answers: with more of them a failure names too many inputs
+COUNTEREXAMPLES = "counterexamples"  # a source whose questions compute nothing that is so
 # The words of the standard library that facts use, and what a proof opens there where lines are read.
 STANDARD = """
 use Rattle.std.proofs.Common.{◌≡◌, ◌≢◌, ℕ, ℤ, pos, negsuc, Bool, true, false, List, [], ◌∷◌, ◌++◌, map, Option}

@@ -12,7 +12,7 @@ from model.meaning import Plant
 from model.times import Claim, day_of_text, second_of_text, text_of_second
 
 from . import values as v
-from .antt import ROOT, Antt, Fact, antt, declaration, equal, names, opened, question, record, some
+from .antt import COUNTEREXAMPLES, ROOT, Antt, Fact, antt, declaration, equal, names, opened, question, record, some
 from .inputs import EPOCH
 from .lines import plan_of, random_line, refusal
 from .plants import Run, random_events, random_plant
@@ -255,7 +255,7 @@ $_untrue h =
 """
 
 
-@question("model", "irig_scene.VouchesByPlantLine", VOUCHED, uses=f"{NAMED} irig_time.second_text irig_scene.plant_line_of")
+@question(COUNTEREXAMPLES, "irig_scene.VouchesByPlantLine", VOUCHED, uses=f"{NAMED} irig_time.second_text irig_scene.plant_line_of")
 def vouching(random: Random) -> Iterator[Fact]:
     """A log with one line whose second is moved, and the premises kept: it does not vouch for that."""
     made = 0
@@ -287,6 +287,6 @@ def vouching(random: Random) -> Iterator[Fact]:
         proof = REFUTED
         for word, value in words.items():
             proof = proof.replace(word, value)
-        logs = ("\n".join((line, "premises kept\n")) for line in (lines[0].replace(said, moved), lines[0]))
-        right, wrong = (f"¬ VouchesByPlantLine $_bytes {antt(log)}" for log in logs)
-        yield Fact(right, wrong, 1, (*blocks, proof), f"λ h. $_untrue (h ((codes \"{words['LINE']}\") ∷ []) refl)", "whole_lines")
+        log = f"{words['LINE']}\npremises kept\n"
+        refuted = f"λ h. $_untrue (h ((codes \"{words['LINE']}\") ∷ []) refl)"
+        yield Fact(f"¬ VouchesByPlantLine $_bytes {antt(log)}", None, 1, (*blocks, proof), refuted, "whole_lines")

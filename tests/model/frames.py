@@ -5,7 +5,7 @@ from enum import Enum
 from functools import lru_cache
 
 from .faults import NAMES, Fault
-from .times import Claim, Mark, Second, claim_of, day_number, minute_of, text_of_second
+from .times import Claim, Mark, Second, claim_of, day_number, minute_of
 
 # docs/FRAME.md, the first table, row by row.
 ELEMENTS = """
@@ -194,15 +194,12 @@ def told(rules: Rules, symbols: str) -> Told:
     return Poor(quality) if isinstance(claim, Claim) and quality >= 10 else claim
 
 
-def words_of(word: Told) -> list[str]:
-    """What a port tells, in words: of a port line with `:` between, of `irig read` with blanks
-    (docs/OUTPUT.md, What each port told; docs/irig.1, FRAMES)."""
+def word_of_port(word: Fault | Poor | None) -> str:
+    """What a port told that was no claim (docs/OUTPUT.md, What each port told)."""
     match word:
         case None:
-            return ["silence"]
+            return "silence"
         case Poor(quality):
-            return ["poor", str(quality)]
+            return f"poor:{quality}"
         case Fault(number, place):
-            places = [] if place is None else [str(place)]
-            return ["fault", str(number), NAMES[number - 1], *places]
-    return ["claim", text_of_second(word.second), word.mark.value]
+            return f"fault:{number}:{NAMES[number - 1]}" + ("" if place is None else f":{place}")

@@ -1,6 +1,5 @@
 """The reader's rule and its hold: docs/READER.md, The rule, and The hold."""
 
-from collections.abc import Sequence
 from dataclasses import dataclass, replace
 from enum import Enum
 
@@ -106,11 +105,3 @@ def after_tick(
     if isinstance(hold, Cause):
         return stopped(hold)
     return replace(state, hold=hold), Report(hold.second, Lock.HOLDOVER, Cause.HELD, hold.alone)
-
-
-def report(rules: ReaderRules, table: Table | None, votes: Sequence[Claim | None]) -> Report:
-    """The report at the last of the ticks since a restart (docs/READER.md, The rule)."""
-    state, said = IDLE, Report(None, Lock.UNLOCKED, Cause.NO_VOTE)
-    for vote in votes:
-        state, said = after_tick(rules, table, state, vote)
-    return said

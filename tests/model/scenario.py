@@ -4,7 +4,7 @@ from collections.abc import Iterator
 from dataclasses import dataclass
 
 from .faults import Refused, refuse_if
-from .frames import Told, symbol_of, told, words_of
+from .frames import Told, symbol_of, told, word_of_port
 from .generator import GeneratorFault, Kind, sent
 from .meaning import Event, Plant, lines
 from .reader import IDLE, Report, State, after_tick
@@ -125,7 +125,7 @@ def happen(world: World, event: Event) -> Iterator[Entry]:
 def port_word(word: Told, truth: Claim) -> str:
     """What a port told (docs/OUTPUT.md, What each port told)."""
     if not isinstance(word, Claim):
-        return ":".join(words_of(word))
+        return word_of_port(word)
     if word.second != truth.second:
         return text_of_second(word.second)
     return "ok" if word == truth else word.mark.value
