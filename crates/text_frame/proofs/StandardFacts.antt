@@ -18,13 +18,8 @@ use Rattle.irig_time.proofs.TextValueLaws.{known_second_text}
 use Rattle.irig_port.specs.declared.told.PortFault.{PortFault}
 use Rattle.irig_port.specs.declared.told.PortFault.TheVariants as fault
 use Rattle.irig_port.specs.declared.told.Told.TheVariants.{Silence, Fault, Poor, Claim}
-use Rattle.text_frame.specs.declared.frame.FrameOptions.{FrameOptions}
-use Rattle.text_frame.specs.declared.frame.TheConstants.FrameOptions.{PLAIN}
 use Rattle.text_frame.specs.Frame.{control_with}
 use Rattle.text_frame.specs.Reading.{clock_text, coded_line, told_line, with_zeros}
-
-pub known_options : PLAIN ≡ record { local = pos 0; pending = None; dst = false; quality = 0; parity = Even; sense = Add }
-known_options = refl
 
 pub known_zeros : map (with_zeros 3) (1 ∷ 31 ∷ 366 ∷ []) ≡ codes "001" ∷ codes "031" ∷ codes "366" ∷ []
 unfolding digits

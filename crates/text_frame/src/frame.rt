@@ -29,19 +29,6 @@ pub struct FrameOptions {
     pub sense: Sense,
 }
 
-impl FrameOptions {
-    /// A clock that shows UTC, nothing pending, no daylight saving, quality 0, even parity, the
-    /// offset added.
-    pub const PLAIN: FrameOptions = FrameOptions {
-        local: 0,
-        pending: None,
-        dst: false,
-        quality: 0,
-        parity: Parity::Even,
-        sense: Sense::Add,
-    };
-}
-
 /// A text that is of no second of the years served.
 #[derive(Clone, Copy, PartialEq, Eq)]
 pub struct BadTime;
