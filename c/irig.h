@@ -548,8 +548,8 @@ uint8_t irig_reader_hear(irig_reader *reader, irig_sync *sync, uint8_t port, uin
  * the one port) then tell one and the same wrong time or leap. Nothing of the past is needed for
  * that, and any numbers may lie in the reader. In a reader that irig_reader_init made, a second
  * with the cause IRIG_CAUSE_HELD is true if the last vote was, each second since was one tick, and
- * the table is right; that vote lies `lock_count` ticks back. So call it exactly once for each
- * second. */
+ * the table is right, which up to a `holdover` of 57 it need not be; that vote lies `lock_count`
+ * ticks back. So call it exactly once for each second. */
 uint32_t irig_reader_tick(irig_reader *reader, irig_report *report);
 
 /* Clears the ports, and forgets what was voted. A reader that a tick refuses stays so. */
@@ -585,8 +585,8 @@ uint8_t irig_timekeeper_hear(irig_timekeeper *timekeeper, uint8_t line, uint32_t
  * what they then heard. That holds whenever the call comes, whatever came before, and whatever other
  * numbers lie in the timekeeper. In one that irig_timekeeper_init made, a second with the cause
  * IRIG_CAUSE_HELD is true too, if that was so at each tick, the counter is as steady as `drift_us`
- * says, the table is right and calls were in order; its edge lies off by `drift_us` more for each of
- * `lock_count` seconds. */
+ * says, calls were in order, and the table is right, which up to a `holdover` of 57 it need not be;
+ * its edge lies off by `drift_us` more for each of `lock_count` seconds. */
 uint32_t irig_timekeeper_tick(irig_timekeeper *timekeeper, uint32_t now_us, irig_second *second);
 
 /* How long until a tick has something to do, in microseconds, if no call comes before it: 0 if one at

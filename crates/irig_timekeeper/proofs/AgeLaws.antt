@@ -5,13 +5,10 @@ use Rattle.std.proofs.lemmas.Bool.{cases_Bool, leb-false}
 use Rattle.irig_time.specs.declared.second.UtcSecond.{UtcSecond}
 use Rattle.irig_time.specs.declared.mark.Mark.{Mark}
 use Rattle.irig_time.specs.Next.{next_of}
-use Rattle.irig_time.specs.Timelines.{TimelineValue}
-use Rattle.irig_time.specs.TimelineFaults.{IsTimeline}
 use Rattle.irig_time.specs.Tables.{TableValue, spoken_mark}
 use Rattle.irig_hold.specs.declared.hold.Turn.{Turn}
 use Rattle.irig_hold.specs.declared.hold.Turn.TheVariants as turn
 use Rattle.irig_hold.specs.Steps.{HoldValue, stop_on, hold_or_stop, hold_start, voted_by, outcome_of}
-use Rattle.irig_hold.specs.Truth.{IsTrueTable}
 use Rattle.irig_reader.specs.declared.rules.ReaderRules.{ReaderRules}
 use Rattle.irig_reader.specs.declared.report.Lock.TheVariants as lock
 use Rattle.irig_reader.specs.declared.report.Cause.TheVariants as cause
@@ -19,8 +16,6 @@ use Rattle.irig_reader.specs.declared.rule.State.{State}
 use Rattle.irig_reader.specs.declared.rule.State.TheVariants.{Idle, Acquiring, Locked}
 use Rattle.irig_reader.specs.declared.rule.Step.{Step}
 use Rattle.irig_reader.specs.Rule.{count_step, first_vote_step, later_vote_step_by, locked_step, holdover_step, step_of}
-use Rattle.irig_reader.specs.Standing.{StandsAtTruth}
-use Rattle.irig_reader.proofs.TrueSteps.{step_true}
 use Rattle.irig_time.specs.declared.claim.Claim.{Claim}
 use Rattle.irig_reader.specs.declared.rule.Step.{Step}
 use Rattle.irig_timekeeper.specs.Clock.{lasted}
@@ -153,11 +148,3 @@ module _ (rules : ReaderRules) (table : TableValue) where
   pub missed_idle : (n : ℕ) (s : State) → s ≡ Idle → missed rules table n s ≡ Idle
   missed_idle zero s e = e
   missed_idle (suc n) s e = ap (λ (x : State). (step_of rules table x None).state) (missed_idle n s e) ∙ idle_stays
-
-  -- what is true stays true
-  pub missed_true : (t : TimelineValue) (w n : ℕ) (s : State) → IsTimeline t → IsTrueTable t table → StandsAtTruth t w s → StandsAtTruth t (w + n) (missed rules table n s)
-  missed_true t w zero s sound true_table at = let same : w ≡ w + 0 = omega arith in subst (λ (m : ℕ). StandsAtTruth t m s) same at
-  missed_true t w (suc n) s sound true_table at =
-      let same : w + n + 1 ≡ w + suc n = omega arith in
-      let before = missed_true t w n s sound true_table at in
-      subst (λ (m : ℕ). StandsAtTruth t m (missed rules table (suc n) s)) same (step_true t (w + n) rules table (missed rules table n s) None sound true_table before (inl refl)).state

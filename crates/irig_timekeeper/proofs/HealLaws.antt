@@ -9,13 +9,11 @@ use Rattle.irig_time.specs.Claims.{IsMarkedLate}
 use Rattle.irig_time.specs.Tables.{TableValue}
 use Rattle.irig_time.specs.Timelines.{TimelineValue}
 use Rattle.irig_time.proofs.ClaimedSeconds.{claim_marked}
-use Rattle.irig_hold.specs.Truth.{IsOnTime, HasHeardLate}
+use Rattle.irig_hold.specs.Truth.{HasHeardLate}
 use Rattle.irig_vote.specs.Vote.{f_of}
 use Rattle.irig_reader.specs.declared.rules.ReaderRules.{ReaderRules}
 use Rattle.irig_reader.specs.declared.rule.State.{State}
-use Rattle.irig_reader.specs.declared.rule.State.TheVariants.{Idle, Acquiring, Locked}
-use Rattle.irig_reader.specs.Standing.{StandsAtTruth}
-use Rattle.irig_reader.proofs.HeldEdges.{IfHold, late_step, by_vote}
+use Rattle.irig_reader.proofs.HeldEdges.{IfHold, late_step}
 use Rattle.irig_timekeeper.specs.declared.lines.KeptClaim.{KeptClaim}
 use Rattle.irig_timekeeper.specs.declared.lines.Lines.{Lines}
 use Rattle.irig_timekeeper.specs.declared.clock.Beat.{Beat}
@@ -31,6 +29,7 @@ use Rattle.irig_timekeeper.specs.Truth.{IsTrueVote, IsOnTrack, IsToldInHoldover,
 use Rattle.irig_timekeeper.specs.Life.{Call, after_calls, pulses_on, last_call, last_tick, AreInOrder, AreTrueLately, AreTrueOver}
 use Rattle.irig_timekeeper.specs.Life.Call.{Hear, Tick}
 use Rattle.irig_timekeeper.proofs.AgreeLaws.{EachKept, is_one}
+use Rattle.irig_timekeeper.proofs.SureSteps.{mended_by_vote}
 use Rattle.irig_timekeeper.proofs.VoteLaws.{still, come, one_more, vote_is_true}
 use Rattle.irig_timekeeper.proofs.LifeLaws.{IsSameSetup, AreLinesAt, IsEndAt, lines_after, TellAlwaysTruly, heard_truly, IsTrack, tick_in, track_on, order_before}
 
@@ -103,18 +102,13 @@ module _ (new : Keeping) (start : ℕ) (begins : AreLinesAt new new (λ i. []) s
 
 -- ---- a true vote that counts an edge
 
-on_time_stands : (t : TimelineValue) (n : ℕ) (s : State) → IfHold s (IsOnTime t n) → StandsAtTruth t n s
-on_time_stands t n Idle h = tt
-on_time_stands t n (Acquiring h count) on_time = on_time
-on_time_stands t n (Locked h) on_time = on_time
-
 module _ (t : TimelineValue) (edges : ℕ → ℕ) (early late : ℕ) (c : ClockRules) (table : TableValue) (s : ClockState) (is : IsDevice t c.drift_us edges c.reader_rules table) (heard : IfHold s.reader HasHeardLate) (now : ℕ) (v : KeptClaim) (vote : IsTrueVote t edges early late now v) where
-  heals_by : (n : ℕ) (b : Beat) → answer_to_vote c table s v n ≡ Some b → IsOnTrack t edges early late c.drift_us 0 c.reader_rules now (after_vote c table s v n).reader (after_vote c table s v n).edge_us
+  heals_by : (n : ℕ) (b : Beat) → answer_to_vote c table s v n ≡ Some b → IsOnTrack t edges early late c.drift_us 0 c.reader_rules table now (after_vote c table s v n).reader (after_vote c table s v n).edge_us
   heals_by n b e = elim (cases_Bool (n == 0)) [
     | inl none ↦ let both : None ≡ Some b = rw none at e in absurd cc
     | inr some ↦
         let before = late_missed c.reader_rules table (n - 1) s.reader heard in
-        let then = by_vote t vote.truth.second c.reader_rules table (missed c.reader_rules table (n - 1) s.reader) v.claim is.sound before vote.truth.truth in
+        let then = mended_by_vote t c.reader_rules table is.sound vote.truth.second (missed c.reader_rules table (n - 1) s.reader) v.claim vote.truth.truth before in
         rw some (inr (
           vote.truth.second + 1,
           0,
@@ -122,7 +116,7 @@ module _ (t : TimelineValue) (edges : ℕ → ℕ) (early late : ℕ) (c : Clock
             edge = vote.end;
             at = record { clock = vote.clock; come = vote.come; soon = omega (arith, vote.soon) };
             near = record { least = omega (arith, vote.truth.near.least); most = omega (arith, vote.truth.near.most) };
-            truth = on_time_stands t (vote.truth.second + 1) _ then;
+            truth = then;
             young = omega arith;
             few = omega arith;
             behind = omega arith;
@@ -133,7 +127,7 @@ module _ (t : TimelineValue) (edges : ℕ → ℕ) (early late : ℕ) (c : Clock
 -- a tick at which it comes, by the setup that the device was made with
 module _ (t : TimelineValue) (edges : ℕ → ℕ) (early late : ℕ) (k : Keeping) (now : ℕ) (v : KeptClaim) (b : Beat) where
   abbrev Heals : ClockRules → TableValue → Type 0
-  Heals c table = IsDevice t c.drift_us edges c.reader_rules table → IsOnTrack t edges early late c.drift_us 0 c.reader_rules now (after_tick k (now % 2 ^ 32)).state.reader (after_tick k (now % 2 ^ 32)).state.edge_us
+  Heals c table = IsDevice t c.drift_us edges c.reader_rules table → IsOnTrack t edges early late c.drift_us 0 c.reader_rules table now (after_tick k (now % 2 ^ 32)).state.reader (after_tick k (now % 2 ^ 32)).state.edge_us
 
   heals_here : IfHold k.state.reader HasHeardLate → IsTrueVote t edges early late now v → vote_at k (now % 2 ^ 32) ≡ Some v → answer_at k (now % 2 ^ 32) ≡ Some b → Heals k.clock k.table
   heals_here heard vote voted answer is = of (vote_at k (now % 2 ^ 32)) voted answer
@@ -142,7 +136,7 @@ module _ (t : TimelineValue) (edges : ℕ → ℕ) (early late : ℕ) (k : Keepi
       s = settled_at k.state (now % 2 ^ 32)
 
       of : (o : Option KeptClaim) → o ≡ Some v → answer_by k.clock k.table s (now % 2 ^ 32) o ≡ Some b
-          → IsOnTrack t edges early late k.clock.drift_us 0 k.clock.reader_rules now (clock_by k.clock k.table s (now % 2 ^ 32) o).reader (clock_by k.clock k.table s (now % 2 ^ 32) o).edge_us
+          → IsOnTrack t edges early late k.clock.drift_us 0 k.clock.reader_rules k.table now (clock_by k.clock k.table s (now % 2 ^ 32) o).reader (clock_by k.clock k.table s (now % 2 ^ 32) o).edge_us
       of None e answer = absurd cc
       of (Some x) e answer =
           let same : v ≡ x = cc in

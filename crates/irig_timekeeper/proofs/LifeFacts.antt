@@ -80,7 +80,7 @@ abbrev clock : ClockRules
 clock = record { reader_rules = record { lock_after = 2; holdover = 100 }; redundancy = of.Three; drift_us = 100 }
 
 is_device : IsDevice noon 100 edges clock.reader_rules no_table
-is_device = record { steady = steady; sound = is_timeline; true_table = true_table; short = omega arith }
+is_device = record { steady = steady; sound = is_timeline; knows = inl true_table; short = omega arith }
 
 abbrev rules : Rules
 rules = record { parity = parity.Even; sense = sense.Add; sbs = sbs.Check }

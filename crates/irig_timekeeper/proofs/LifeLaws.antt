@@ -325,9 +325,9 @@ module _ (IsTrue : ℕ → List Pulse → Type 0) (t : TimelineValue) (edges : �
   module _ (new k : Keeping) (M tick now : ℕ) (pulses : ℕ → List Pulse) (order : tick ≤ now) (soon : now ≤ tick + 1800000000) (room : early + late ≤ 4098) where
     abbrev TicksTruly : ClockRules → TableValue → Rules → Type 0
     TicksTruly c table rules =
-        TellsTruly (IsTrue now) rules t edges early late now → IsDevice t c.drift_us edges c.reader_rules table → IsOnTrack t edges (early + 1000) late c.drift_us M c.reader_rules tick k.state.reader k.state.edge_us
+        TellsTruly (IsTrue now) rules t edges early late now → IsDevice t c.drift_us edges c.reader_rules table → IsOnTrack t edges (early + 1000) late c.drift_us M c.reader_rules table tick k.state.reader k.state.edge_us
         → AreHeardTruly (IsTrue now) rules (f_of c.redundancy) now k.state.lines pulses
-        → KeepsTrue t c.drift_us edges (early + 1000) late M c.reader_rules now (after_tick k (now % 2 ^ 32)).state (answer_at k (now % 2 ^ 32))
+        → KeepsTrue t c.drift_us edges (early + 1000) late M c.reader_rules table now (after_tick k (now % 2 ^ 32)).state (answer_at k (now % 2 ^ 32))
 
     ticks_truly : IsSameSetup new k → TicksTruly new.clock new.table new.rules
     ticks_truly same =
@@ -353,12 +353,12 @@ module _ (IsTrue : ℕ → List Pulse → Type 0) (t : TimelineValue) (edges : �
         }
 
     abbrev pub IsTrack : ℕ → ℕ → Keeping → Type 0
-    IsTrack M tick k = IsOnTrack t edges (early + 1000) late new.clock.drift_us M new.clock.reader_rules tick k.state.reader k.state.edge_us
+    IsTrack M tick k = IsOnTrack t edges (early + 1000) late new.clock.drift_us M new.clock.reader_rules new.table tick k.state.reader k.state.edge_us
 
     module _ (is : IsDevice t new.clock.drift_us edges new.clock.reader_rules new.table) (room : early + late ≤ 4098) (truly : TellAlwaysTruly IsTrue new.rules t edges early late) where
       -- what a tick answers in a life
       pub tick_in : (M : ℕ) (calls : List Call) (now : ℕ) → AreInOrder start new.clock.redundancy (Tick now ∷ calls) → AreTrueLately IsTrue (f_of new.clock.redundancy) now calls → IsTrack M (last_tick start calls) (after_calls new calls)
-          → KeepsTrue t new.clock.drift_us edges (early + 1000) late M new.clock.reader_rules now (after_tick (after_calls new calls) (now % 2 ^ 32)).state (answer_at (after_calls new calls) (now % 2 ^ 32))
+          → KeepsTrue t new.clock.drift_us edges (early + 1000) late M new.clock.reader_rules new.table now (after_tick (after_calls new calls) (now % 2 ^ 32)).state (answer_at (after_calls new calls) (now % 2 ^ 32))
       tick_in M calls now order lately track =
           let l = lines_after new start begins calls order.2 in
           ticks_truly new (after_calls new calls) M (last_tick start calls) now (λ i. pulses_on i calls) (omega (arith, l.order, order.0)) (omega (arith, order.1)) room l.same (truly now) is track (heard_truly calls now order lately)
@@ -435,7 +435,7 @@ module _ (limits : Option Limits) (rules : Rules) (clock : ClockRules) (table : 
   module _ (IsTrue : ℕ → List Pulse → Type 0) (t : TimelineValue) (edges : ℕ → ℕ) (early late : ℕ) (is : IsDevice t clock.drift_us edges clock.reader_rules table) (room : early + late ≤ 4098) (truly : TellAlwaysTruly IsTrue rules t edges early late) where
     -- where it stands, and what a tick answers
     pub ticks : (calls : List Call) (now : ℕ) → AreInOrder start clock.redundancy (Tick now ∷ calls) → AreTrueAtTicks IsTrue (f_of clock.redundancy) (Tick now ∷ calls)
-        → KeepsTrue t clock.drift_us edges (early + 1000) late 0 clock.reader_rules now (after_tick (after_calls new calls) (now % 2 ^ 32)).state (answer_at (after_calls new calls) (now % 2 ^ 32))
+        → KeepsTrue t clock.drift_us edges (early + 1000) late 0 clock.reader_rules table now (after_tick (after_calls new calls) (now % 2 ^ 32)).state (answer_at (after_calls new calls) (now % 2 ^ 32))
     ticks calls now order truth =
         let none : calls ++ [] ≡ calls = append-nil calls in
         let all = subst (AreTrueAtTicks IsTrue (f_of clock.redundancy)) (sym none) truth.1 in

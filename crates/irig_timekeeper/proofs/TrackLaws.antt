@@ -14,14 +14,12 @@ use Rattle.irig_reader.specs.declared.rule.State.{State}
 use Rattle.irig_reader.specs.declared.rule.State.TheVariants.{Idle, Locked}
 use Rattle.irig_reader.specs.declared.rule.Step.{Step}
 use Rattle.irig_reader.specs.Rule.{step_of}
-use Rattle.irig_reader.specs.Standing.{StandsAtTruth}
-use Rattle.irig_reader.proofs.TrueSteps.{IsTrueStep, step_true}
 use Rattle.irig_timekeeper.specs.declared.lines.KeptClaim.{KeptClaim}
 use Rattle.irig_timekeeper.specs.declared.clock.Beat.{Beat}
 use Rattle.irig_timekeeper.specs.Edges.{IsNear}
 use Rattle.irig_timekeeper.specs.Counting.{edges_between, edges_to, edges_to_vote, edges_own, edge_behind}
 use Rattle.irig_timekeeper.specs.Rule.{missed, step_behind}
-use Rattle.irig_timekeeper.specs.Truth.{IsTrueVote, IsEdgeAt, StandsAt, IsOnTrack, IsToldTruly, IsToldInHoldover, IsDevice, age_of}
+use Rattle.irig_timekeeper.specs.Truth.{IsTrueVote, IsEdgeAt, StandsAt, IsOnTrack, IsToldTruly, IsToldInHoldover, IsDevice, StandsSurely, age_of}
 use Rattle.irig_sync.specs.Lines.{Pulse}
 use Rattle.irig_vote.specs.Vote.{f_of}
 use Rattle.irig_timekeeper.specs.Truth.{AreHeardTruly}
@@ -32,13 +30,14 @@ use Rattle.irig_timekeeper.specs.Keeping.{Keeping, vote_at, after_tick, answer_a
 use Rattle.irig_timekeeper.proofs.VoteLaws.{TellsTruly, vote_is_true}
 use Rattle.irig_timekeeper.proofs.CountingLaws.{apart, counts, rises}
 use Rattle.irig_timekeeper.proofs.TimeLaws.{own_come, own_count, still_edge, own_edge_at, voted_count}
-use Rattle.irig_timekeeper.proofs.AgeLaws.{alone_step, gone, gone_idle, missed_idle, missed_true}
+use Rattle.irig_timekeeper.proofs.AgeLaws.{alone_step, gone, gone_idle, missed_idle}
+use Rattle.irig_timekeeper.proofs.SureSteps.{IsSureStep, sure_step, missed_surely}
 
 -- it announces a later second than the last one, and stands there
-pub record IsToldNewly (t : TimelineValue) (d : ℕ) (edges : ℕ → ℕ) (early late : ℕ) (M : ℕ) (rules : ReaderRules) (now : ℕ) (b : Beat) (u : UtcSecond) (s : State) (o : Option ℕ) : Type 0 where
+pub record IsToldNewly (t : TimelineValue) (d : ℕ) (edges : ℕ → ℕ) (early late : ℕ) (M : ℕ) (rules : ReaderRules) (table : TableValue) (now : ℕ) (b : Beat) (u : UtcSecond) (s : State) (o : Option ℕ) : Type 0 where
   pub told : IsToldInHoldover t edges early late d rules.holdover now b u
   pub later : M < told.told.m
-  pub track : IsOnTrack t edges early late d told.told.m rules now s o
+  pub track : IsOnTrack t edges early late d told.told.m rules table now s o
 
 module _ (t : TimelineValue) (d : ℕ) (edges : ℕ → ℕ) (early late : ℕ) (rules : ReaderRules) (table : TableValue) (is : IsDevice t d edges rules table) (room : early + late ≤ 5098) (M : ℕ) where
   -- ---- with a vote
@@ -60,10 +59,10 @@ module _ (t : TimelineValue) (d : ℕ) (edges : ℕ → ℕ) (early late : ℕ) 
       most = omega (arith, vote.truth.near.most);
     }
 
-    votes : (s : State) → StandsAtTruth t vote.truth.second s → IsTrueStep t (vote.truth.second + 1) (step_of rules table s (Some v.claim))
-    votes s at = step_true t vote.truth.second rules table s (Some v.claim) is.sound is.true_table at (inr true_vote)
+    votes : (s : State) → StandsSurely t table vote.truth.second s → IsSureStep t table (vote.truth.second + 1) (step_of rules table s (Some v.claim))
+    votes s at = sure_step t rules table is.sound is.knows vote.truth.second s (Some v.claim) at (inr true_vote)
 
-    on_track : (last : ℕ) (s : State) → last ≤ vote.truth.second + 1 → StandsAtTruth t vote.truth.second s → IsOnTrack t edges early late d last rules now (step_of rules table s (Some v.claim)).state (Some v.end_us)
+    on_track : (last : ℕ) (s : State) → last ≤ vote.truth.second + 1 → StandsSurely t table vote.truth.second s → IsOnTrack t edges early late d last rules table now (step_of rules table s (Some v.claim)).state (Some v.end_us)
     on_track last s low at = inr (
       vote.truth.second + 1,
       0,
@@ -78,7 +77,7 @@ module _ (t : TimelineValue) (d : ℕ) (edges : ℕ → ℕ) (early late : ℕ) 
       },
     )
 
-    abbrev told : (s : State) (b : Beat) (u : UtcSecond) → StandsAtTruth t vote.truth.second s → b.edge_us ≡ v.end_us → (step_of rules table s (Some v.claim)).report.announce ≡ Some u → IsToldTruly t edges early late now b u
+    abbrev told : (s : State) (b : Beat) (u : UtcSecond) → StandsSurely t table vote.truth.second s → b.edge_us ≡ v.end_us → (step_of rules table s (Some v.claim)).report.announce ≡ Some u → IsToldTruly t edges early late now b u
     told s b u at e says = record {
       m = vote.truth.second + 1;
       edge = vote.end;
@@ -91,13 +90,13 @@ module _ (t : TimelineValue) (d : ℕ) (edges : ℕ → ℕ) (early late : ℕ) 
 
     -- the edges counted from the last edge, and where the rule then stands before the vote
     record Comes (tick : ℕ) (s : State) (e n : ℕ) : Type 0 where
-      before : 1 ≤ n → StandsAtTruth t vote.truth.second (missed rules table (n - 1) s)
-      none : n ≡ 0 → IsOnTrack t edges early late d M rules now s (Some v.end_us)
+      before : 1 ≤ n → StandsSurely t table vote.truth.second (missed rules table (n - 1) s)
+      none : n ≡ 0 → IsOnTrack t edges early late d M rules table now s (Some v.end_us)
       later : 1 ≤ n → M < vote.truth.second + 1
 
     idle_begins : (tick : ℕ) (s : State) → s ≡ Idle → M ≡ 0 → Comes tick s 0 1
     idle_begins tick s idle never = record {
-      before = λ some. subst (StandsAtTruth t vote.truth.second) (sym (missed_idle rules table 0 s idle)) tt;
+      before = λ some. subst (StandsSurely t table vote.truth.second) (sym (missed_idle rules table 0 s idle)) tt;
       none = λ nothing. absurd (omega (arith, nothing));
       later = λ some. omega (arith, never);
     }
@@ -121,7 +120,7 @@ module _ (t : TimelineValue) (d : ℕ) (edges : ℕ → ℕ) (early late : ℕ) 
 
       idle_comes : (s : State) → s ≡ Idle → edges M + late < edge + 500000 → Comes tick s e (edges_to e v.end_us)
       idle_comes s idle ahead = record {
-        before = λ some. subst (StandsAtTruth t vote.truth.second) (sym (missed_idle rules table (edges_to e v.end_us - 1) s idle)) tt;
+        before = λ some. subst (StandsSurely t table vote.truth.second) (sym (missed_idle rules table (edges_to e v.end_us - 1) s idle)) tt;
         none = λ nothing. inl (
           idle,
           (
@@ -139,7 +138,7 @@ module _ (t : TimelineValue) (d : ℕ) (edges : ℕ → ℕ) (early late : ℕ) 
         ];
       }
 
-    module _ (tick : ℕ) (order : tick ≤ now) (soon : now ≤ tick + 1800000000) (s : State) (e w a : ℕ) (stands : StandsAt t edges early late d M rules tick s e w a) where
+    module _ (tick : ℕ) (order : tick ≤ now) (soon : now ≤ tick + 1800000000) (s : State) (e w a : ℕ) (stands : StandsAt t edges early late d M rules table tick s e w a) where
       drift : d * a ≤ 490000
       drift = let most = mul-le-mul_left d (let h : a ≤ rules.holdover + 2 = omega (arith, room, stands.few) in h) in omega (arith, room, most, is.short)
 
@@ -192,7 +191,7 @@ module _ (t : TimelineValue) (d : ℕ) (edges : ℕ → ℕ) (early late : ℕ) 
       comes_in n same = record {
         before = λ some.
             let reached : w + (n - 1) ≡ vote.truth.second = omega (arith, same, there, some) in
-            subst (λ (i : ℕ). StandsAtTruth t i (missed rules table (n - 1) s)) reached (missed_true rules table t w (n - 1) s is.sound is.true_table stands.truth);
+            subst (λ (i : ℕ). StandsSurely t table i (missed rules table (n - 1) s)) reached (missed_surely t rules table is.sound is.knows w (n - 1) s stands.truth);
         none = λ zero.
             let at : w ≡ vote.truth.second + 1 = omega (arith, same, there, zero) in
             inr (
@@ -202,7 +201,7 @@ module _ (t : TimelineValue) (d : ℕ) (edges : ℕ → ℕ) (early late : ℕ) 
                 edge = vote.end;
                 at = edge_now;
                 near = near_now;
-                truth = subst (λ (i : ℕ). StandsAtTruth t i s) at stands.truth;
+                truth = subst (λ (i : ℕ). StandsSurely t table i s) at stands.truth;
                 young = omega arith;
                 few = omega arith;
                 behind = omega (arith, stands.behind, at);
@@ -215,7 +214,7 @@ module _ (t : TimelineValue) (d : ℕ) (edges : ℕ → ℕ) (early late : ℕ) 
       comes_beyond n long enough = record {
         before = λ some.
             let gone : missed rules table (n - 1) s ≡ Idle = gone_idle rules table (n - 1) s (omega (arith, stands.few, long, enough)) (omega (arith, stands.young, long, enough)) in
-            subst (StandsAtTruth t vote.truth.second) (sym gone) tt;
+            subst (StandsSurely t table vote.truth.second) (sym gone) tt;
         none = λ zero. absurd (omega (arith, zero, long, enough, stands.few));
         later = λ some. omega (arith, there, long, stands.few, stands.behind);
       }
@@ -236,7 +235,7 @@ module _ (t : TimelineValue) (d : ℕ) (edges : ℕ → ℕ) (early late : ℕ) 
       one_more : suc (n - 1) ≡ n
       one_more = omega (arith, some)
 
-      idle_alone : s ≡ Idle → edges M + late < edge + 500000 → IsOnTrack t edges early late d M rules now last.state (Some (edge_behind e n))
+      idle_alone : s ≡ Idle → edges M + late < edge + 500000 → IsOnTrack t edges early late d M rules table now last.state (Some (edge_behind e n))
       idle_alone idle ahead = inl (missed_idle rules table (suc (n - 1)) s idle, (edge + n * 1000000, own_edge_at tick now order soon e edge at n same some, omega (arith, room, ahead)))
 
       idle_says : s ≡ Idle → last.report.announce ≡ None
@@ -245,7 +244,7 @@ module _ (t : TimelineValue) (d : ℕ) (edges : ℕ → ℕ) (early late : ℕ) 
         | inr older ↦ let both : Idle ≡ Locked older.locked.h = sym (missed_idle rules table (suc (n - 1)) s idle) ∙ older.locked.is in absurd cc
       ]
 
-      module _ (w a : ℕ) (near : IsNear edges (early + a * d) (late + a * d) w edge) (truth : StandsAtTruth t w s) (young : a ≤ age_of s) (short : a ≤ rules.holdover) where
+      module _ (w a : ℕ) (near : IsNear edges (early + a * d) (late + a * d) w edge) (truth : StandsSurely t table w s) (young : a ≤ age_of s) (short : a ≤ rules.holdover) where
         further : IsNear edges (early + (a + n) * d) (late + (a + n) * d) (w + n) (edge + n * 1000000)
         further =
             let far = apart d edges is.steady w n in
@@ -259,7 +258,7 @@ module _ (t : TimelineValue) (d : ℕ) (edges : ℕ → ℕ) (early late : ℕ) 
             let most = mul-le-mul_left d (let h : a ≤ rules.holdover + 2 = omega (arith, short) in h) in
             omega (arith, room, upto, most, is.short, near.least, some)
 
-        stands_alone : M ≤ w → IsOnTrack t edges early late d M rules now last.state (Some (edge_behind e n))
+        stands_alone : M ≤ w → IsOnTrack t edges early late d M rules table now last.state (Some (edge_behind e n))
         stands_alone low = elim (gone rules table (n - 1) s) [
           | inl idle ↦ inl (idle, (edge + n * 1000000, own_edge_at tick now order soon e edge at n same some, ahead_then low))
           | inr older ↦
@@ -272,7 +271,7 @@ module _ (t : TimelineValue) (d : ℕ) (edges : ℕ → ℕ) (early late : ℕ) 
                   edge = edge + n * 1000000;
                   at = own_edge_at tick now order soon e edge at n same some;
                   near = further;
-                  truth = subst (λ (i : ℕ). StandsAtTruth t i last.state) reached (missed_true rules table t w (suc (n - 1)) s is.sound is.true_table truth);
+                  truth = subst (λ (i : ℕ). StandsSurely t table i last.state) reached (missed_surely t rules table is.sound is.knows w (suc (n - 1)) s truth);
                   young = omega (arith, age, older.older, young, one_more);
                   few = omega (arith, older.older, older.young, young, one_more);
                   behind = omega (arith, low);
@@ -281,7 +280,7 @@ module _ (t : TimelineValue) (d : ℕ) (edges : ℕ → ℕ) (early late : ℕ) 
         ]
 
         -- it has announced this second
-        stands_told : ¬ (last.state ≡ Idle) → IsOnTrack t edges early late d (w + n) rules now last.state (Some (edge_behind e n))
+        stands_told : ¬ (last.state ≡ Idle) → IsOnTrack t edges early late d (w + n) rules table now last.state (Some (edge_behind e n))
         stands_told goes = elim (gone rules table (n - 1) s) [
           | inl idle ↦ absurd (goes idle)
           | inr older ↦
@@ -294,7 +293,7 @@ module _ (t : TimelineValue) (d : ℕ) (edges : ℕ → ℕ) (early late : ℕ) 
                   edge = edge + n * 1000000;
                   at = own_edge_at tick now order soon e edge at n same some;
                   near = further;
-                  truth = subst (λ (i : ℕ). StandsAtTruth t i last.state) reached (missed_true rules table t w (suc (n - 1)) s is.sound is.true_table truth);
+                  truth = subst (λ (i : ℕ). StandsSurely t table i last.state) reached (missed_surely t rules table is.sound is.knows w (suc (n - 1)) s truth);
                   young = omega (arith, age, older.older, young, one_more);
                   few = omega (arith, older.older, older.young, young, one_more);
                   behind = omega arith;
@@ -302,15 +301,15 @@ module _ (t : TimelineValue) (d : ℕ) (edges : ℕ → ℕ) (early late : ℕ) 
               )
         ]
 
-        says_alone : (b : Beat) (u : UtcSecond) → b.edge_us ≡ edge_behind e n → last.report ≡ b.report → b.report.announce ≡ Some u → M ≤ w → IsToldNewly t d edges early late M rules now b u last.state (Some (edge_behind e n))
+        says_alone : (b : Beat) (u : UtcSecond) → b.edge_us ≡ edge_behind e n → last.report ≡ b.report → b.report.announce ≡ Some u → M ≤ w → IsToldNewly t d edges early late M rules table now b u last.state (Some (edge_behind e n))
         says_alone b u is_edge reports says low = elim (alone_step rules table (missed rules table (n - 1) s)) [
           | inl stop ↦ absurd (let both : None ≡ Some u = sym stop.1 ∙ ap (λ (r : Report). r.announce) reports ∙ says in cc)
           | inr older ↦ elim (gone rules table (n - 1) s) [
             | inl idle ↦ absurd (let both : Idle ≡ Locked older.locked.h = sym idle ∙ older.locked.is in cc)
             | inr gone ↦
-                let before = missed_true rules table t w (n - 1) s is.sound is.true_table truth in
+                let before = missed_surely t rules table is.sound is.knows w (n - 1) s truth in
                 let reached : w + (n - 1) + 1 ≡ w + n = omega (arith, some) in
-                let second = (step_true t (w + (n - 1)) rules table (missed rules table (n - 1) s) None is.sound is.true_table before (inl refl)).says u (ap (λ (r : Report). r.announce) reports ∙ says) in
+                let second = (sure_step t rules table is.sound is.knows (w + (n - 1)) (missed rules table (n - 1) s) None before (inl refl)).says u (ap (λ (r : Report). r.announce) reports ∙ says) in
                 let age : older.locked.h.age ≡ gone.h.age = ap age_of (sym older.locked.is ∙ gone.is) in
                 let lasts : lasted b.report.lock ≡ age_of (missed rules table (n - 1) s) + 1 = ap (λ (r : Report). lasted r.lock) (sym reports) ∙ ap lasted older.says in
                 record {
@@ -353,12 +352,12 @@ module _ (t : TimelineValue) (d : ℕ) (edges : ℕ → ℕ) (early late : ℕ) 
   }
 
   module _ (tick now : ℕ) (order : tick ≤ now) (soon : now ≤ tick + 1800000000) where
-    comes : (v : KeptClaim) (vote : IsTrueVote t edges early late now v) (o : Option ℕ) (s : State) → IsOnTrack t edges early late d M rules tick s o → Comes now v vote tick s 0 (edges_to_vote o v.end_us)
+    comes : (v : KeptClaim) (vote : IsTrueVote t edges early late now v) (o : Option ℕ) (s : State) → IsOnTrack t edges early late d M rules table tick s o → Comes now v vote tick s 0 (edges_to_vote o v.end_us)
     comes v vote None s idle = idle_begins now v vote tick s idle.0 idle.1
     comes v vote (Some e) s (inl idle) = let c = idle_comes now v vote tick order soon e idle.1.0 idle.1.1 s idle.0 idle.1.2 in record { before = c.before; none = c.none; later = c.later }
     comes v vote (Some e) s (inr at) = let c = stands_comes now v vote tick order soon s e at.0 at.1 at.2 in record { before = c.before; none = c.none; later = c.later }
 
-    own_waits : (o : Option ℕ) (s : State) → IsOnTrack t edges early late d M rules tick s o → edges_own o (now % 2 ^ 32) ≡ 0 → IsOnTrack t edges early late d M rules now s o
+    own_waits : (o : Option ℕ) (s : State) → IsOnTrack t edges early late d M rules table tick s o → edges_own o (now % 2 ^ 32) ≡ 0 → IsOnTrack t edges early late d M rules table now s o
     own_waits None s idle none = idle
     own_waits (Some e) s (inl idle) none =
         let at = idle.1 in
@@ -379,8 +378,8 @@ module _ (t : TimelineValue) (d : ℕ) (edges : ℕ → ℕ) (early late : ℕ) 
           },
         )
 
-    own_tracks : (o : Option ℕ) (s : State) → IsOnTrack t edges early late d M rules tick s o → (n : ℕ) → n ≡ edges_own o (now % 2 ^ 32) → 1 ≤ n
-        → IsOnTrack t edges early late d M rules now (step_behind rules table (n - 1) s None).state (Some (own_edge o n))
+    own_tracks : (o : Option ℕ) (s : State) → IsOnTrack t edges early late d M rules table tick s o → (n : ℕ) → n ≡ edges_own o (now % 2 ^ 32) → 1 ≤ n
+        → IsOnTrack t edges early late d M rules table now (step_behind rules table (n - 1) s None).state (Some (own_edge o n))
     own_tracks None s idle n same some = absurd (omega (arith, same, some))
     own_tracks (Some e) s (inl idle) n same some =
         let at = idle.1 in
@@ -389,8 +388,8 @@ module _ (t : TimelineValue) (d : ℕ) (edges : ℕ → ℕ) (early late : ℕ) 
         let stands = at.2 in
         stands_alone tick now order soon e stands.edge stands.at s n (same ∙ own_count tick now order soon e stands.edge stands.at) some at.0 at.1 stands.near stands.truth stands.young stands.few stands.behind
 
-    own_says : (o : Option ℕ) (s : State) → IsOnTrack t edges early late d M rules tick s o → (n : ℕ) → n ≡ edges_own o (now % 2 ^ 32) → 1 ≤ n → (b : Beat) (u : UtcSecond) → b.edge_us ≡ own_edge o n
-        → (step_behind rules table (n - 1) s None).report ≡ b.report → b.report.announce ≡ Some u → IsToldNewly t d edges early late M rules now b u (step_behind rules table (n - 1) s None).state (Some (own_edge o n))
+    own_says : (o : Option ℕ) (s : State) → IsOnTrack t edges early late d M rules table tick s o → (n : ℕ) → n ≡ edges_own o (now % 2 ^ 32) → 1 ≤ n → (b : Beat) (u : UtcSecond) → b.edge_us ≡ own_edge o n
+        → (step_behind rules table (n - 1) s None).report ≡ b.report → b.report.announce ≡ Some u → IsToldNewly t d edges early late M rules table now b u (step_behind rules table (n - 1) s None).state (Some (own_edge o n))
     own_says None s idle n same some b u is_edge reports says = absurd (omega (arith, same, some))
     own_says (Some e) s (inl idle) n same some b u is_edge reports says =
         let at = idle.1 in
@@ -400,28 +399,28 @@ module _ (t : TimelineValue) (d : ℕ) (edges : ℕ → ℕ) (early late : ℕ) 
         says_alone tick now order soon e stands.edge stands.at s n (same ∙ own_count tick now order soon e stands.edge stands.at) some at.0 at.1 stands.near stands.truth stands.young stands.few b u is_edge reports says stands.behind
 
   -- by the own counter it tells no jump
-  own_calm : (o : Option ℕ) (s : State) (tick : ℕ) → IsOnTrack t edges early late d M rules tick s o → (n : ℕ) → ¬ ((step_behind rules table n s None).report.cause ≡ cause.Jump)
-  own_calm None s tick idle n = calm_from 0 s n (subst (StandsAtTruth t 0) (sym idle.0) tt)
+  own_calm : (o : Option ℕ) (s : State) (tick : ℕ) → IsOnTrack t edges early late d M rules table tick s o → (n : ℕ) → ¬ ((step_behind rules table n s None).report.cause ≡ cause.Jump)
+  own_calm None s tick idle n = calm_from 0 s n (subst (StandsSurely t table 0) (sym idle.0) tt)
     where
-      calm_from : (w : ℕ) (s : State) (n : ℕ) → StandsAtTruth t w s → ¬ ((step_behind rules table n s None).report.cause ≡ cause.Jump)
-      calm_from w s n at = (step_true t (w + n) rules table (missed rules table n s) None is.sound is.true_table (missed_true rules table t w n s is.sound is.true_table at) (inl refl)).calm.jump
-  own_calm (Some e) s tick (inl idle) n = calm_from 0 s n (subst (StandsAtTruth t 0) (sym idle.0) tt)
+      calm_from : (w : ℕ) (s : State) (n : ℕ) → StandsSurely t table w s → ¬ ((step_behind rules table n s None).report.cause ≡ cause.Jump)
+      calm_from w s n at = (sure_step t rules table is.sound is.knows (w + n) (missed rules table n s) None (missed_surely t rules table is.sound is.knows w n s at) (inl refl)).jump
+  own_calm (Some e) s tick (inl idle) n = calm_from 0 s n (subst (StandsSurely t table 0) (sym idle.0) tt)
     where
-      calm_from : (w : ℕ) (s : State) (n : ℕ) → StandsAtTruth t w s → ¬ ((step_behind rules table n s None).report.cause ≡ cause.Jump)
-      calm_from w s n at = (step_true t (w + n) rules table (missed rules table n s) None is.sound is.true_table (missed_true rules table t w n s is.sound is.true_table at) (inl refl)).calm.jump
-  own_calm (Some e) s tick (inr at) n = (step_true t (at.0 + n) rules table (missed rules table n s) None is.sound is.true_table (missed_true rules table t at.0 n s is.sound is.true_table at.2.truth) (inl refl)).calm.jump
+      calm_from : (w : ℕ) (s : State) (n : ℕ) → StandsSurely t table w s → ¬ ((step_behind rules table n s None).report.cause ≡ cause.Jump)
+      calm_from w s n at = (sure_step t rules table is.sound is.knows (w + n) (missed rules table n s) None (missed_surely t rules table is.sound is.knows w n s at) (inl refl)).jump
+  own_calm (Some e) s tick (inr at) n = (sure_step t rules table is.sound is.knows (at.0 + n) (missed rules table n s) None (missed_surely t rules table is.sound is.knows at.0 n s at.2.truth) (inl refl)).jump
 
 -- ---- a tick
 
 -- a device that is on its track stays there, and what it answers is true
-pub record KeepsTrue (t : TimelineValue) (d : ℕ) (edges : ℕ → ℕ) (early late : ℕ) (M : ℕ) (rules : ReaderRules) (now : ℕ) (new : ClockState) (answer : Option Beat) : Type 0 where
-  pub track : IsOnTrack t edges early late d M rules now new.reader new.edge_us
-  pub told : (b : Beat) (u : UtcSecond) → answer ≡ Some b → b.report.announce ≡ Some u → IsToldNewly t d edges early late M rules now b u new.reader new.edge_us
+pub record KeepsTrue (t : TimelineValue) (d : ℕ) (edges : ℕ → ℕ) (early late : ℕ) (M : ℕ) (rules : ReaderRules) (table : TableValue) (now : ℕ) (new : ClockState) (answer : Option Beat) : Type 0 where
+  pub track : IsOnTrack t edges early late d M rules table now new.reader new.edge_us
+  pub told : (b : Beat) (u : UtcSecond) → answer ≡ Some b → b.report.announce ≡ Some u → IsToldNewly t d edges early late M rules table now b u new.reader new.edge_us
   pub calm : (b : Beat) → answer ≡ Some b → ¬ (b.report.cause ≡ cause.Jump)
 
 module _ (t : TimelineValue) (d : ℕ) (edges : ℕ → ℕ) (early late : ℕ) (c : ClockRules) (table : TableValue) (s : ClockState) (is : IsDevice t d edges c.reader_rules table) (room : early + late ≤ 5098) (M tick now : ℕ) (order : tick ≤ now) (soon : now ≤ tick + 1800000000)
-    (on : IsOnTrack t edges early late d M c.reader_rules tick s.reader s.edge_us) where
-  by_vote : (v : KeptClaim) (vote : IsTrueVote t edges early late now v) (n : ℕ) → n ≡ edges_to_vote s.edge_us v.end_us → KeepsTrue t d edges early late M c.reader_rules now (after_vote c table s v n) (answer_to_vote c table s v n)
+    (on : IsOnTrack t edges early late d M c.reader_rules table tick s.reader s.edge_us) where
+  by_vote : (v : KeptClaim) (vote : IsTrueVote t edges early late now v) (n : ℕ) → n ≡ edges_to_vote s.edge_us v.end_us → KeepsTrue t d edges early late M c.reader_rules table now (after_vote c table s v n) (answer_to_vote c table s v n)
   by_vote v vote n same =
       let all = comes t d edges early late c.reader_rules table is room M tick now order soon v vote s.edge_us s.reader on in
       let state = missed c.reader_rules table (n - 1) s.reader in
@@ -431,7 +430,7 @@ module _ (t : TimelineValue) (d : ℕ) (edges : ℕ → ℕ) (early late : ℕ) 
             rw waits (record { track = all.none none; told = λ b u e says. absurd cc; calm = λ b e. absurd cc })
         | inr more ↦
             let some : 1 ≤ n = omega (arith, eqb-false n 0 more) in
-            let reached = subst (λ (i : ℕ). StandsAtTruth t vote.truth.second (missed c.reader_rules table (i - 1) s.reader)) (sym same) (all.before (omega (arith, same, some))) in
+            let reached = subst (λ (i : ℕ). StandsSurely t table vote.truth.second (missed c.reader_rules table (i - 1) s.reader)) (sym same) (all.before (omega (arith, same, some))) in
             rw more (record {
               track = on_track t d edges early late c.reader_rules table is room M now v vote M state (let less = all.later (omega (arith, same, some)) in omega (arith, less)) reached;
               told = λ b u e says.
@@ -444,11 +443,11 @@ module _ (t : TimelineValue) (d : ℕ) (edges : ℕ → ℕ) (early late : ℕ) 
                   };
               calm = λ b e jumps.
                   let beat : b ≡ beat_by s (step_to c table s n (Some v.claim)) (n - 1) v.end_us = cc in
-                  (votes t d edges early late c.reader_rules table is room M now v vote state reached).calm.jump (sym (ap (λ (x : Beat). x.report.cause) beat) ∙ jumps);
+                  (votes t d edges early late c.reader_rules table is room M now v vote state reached).jump (sym (ap (λ (x : Beat). x.report.cause) beat) ∙ jumps);
             })
       ]
 
-  alone : (n : ℕ) → n ≡ edges_own s.edge_us (now % 2 ^ 32) → KeepsTrue t d edges early late M c.reader_rules now (after_own c table s n) (answer_alone c table s n)
+  alone : (n : ℕ) → n ≡ edges_own s.edge_us (now % 2 ^ 32) → KeepsTrue t d edges early late M c.reader_rules table now (after_own c table s n) (answer_alone c table s n)
   alone n same =
       elim (cases_Bool (n == 0)) [
         | inl waits ↦
@@ -470,8 +469,8 @@ module _ (t : TimelineValue) (d : ℕ) (edges : ℕ → ℕ) (early late : ℕ) 
 -- with what its lines brought
 pub tick_true : (IsTrue : List Pulse → Type 0) (t : TimelineValue) (d : ℕ) (edges : ℕ → ℕ) (early late : ℕ) (k : Keeping) (M tick now : ℕ) (pulses : ℕ → List Pulse) → early + late ≤ 4098 → TellsTruly IsTrue k.rules t edges early late now
     → IsDevice t d edges k.clock.reader_rules k.table → tick ≤ now → now ≤ tick + 1800000000
-    → IsOnTrack t edges (early + 1000) late d M k.clock.reader_rules tick k.state.reader k.state.edge_us → AreHeardTruly IsTrue k.rules (f_of k.clock.redundancy) now k.state.lines pulses
-    → KeepsTrue t d edges (early + 1000) late M k.clock.reader_rules now (after_tick k (now % 2 ^ 32)).state (answer_at k (now % 2 ^ 32))
+    → IsOnTrack t edges (early + 1000) late d M k.clock.reader_rules k.table tick k.state.reader k.state.edge_us → AreHeardTruly IsTrue k.rules (f_of k.clock.redundancy) now k.state.lines pulses
+    → KeepsTrue t d edges (early + 1000) late M k.clock.reader_rules k.table now (after_tick k (now % 2 ^ 32)).state (answer_at k (now % 2 ^ 32))
 tick_true IsTrue t d edges early late k M tick now pulses room truly is order soon on heard = of (vote_at k (now % 2 ^ 32)) refl
   where
     s : ClockState
@@ -480,7 +479,7 @@ tick_true IsTrue t d edges early late k M tick now pulses room truly is order so
     wide : early + 1000 + late ≤ 5098
     wide = omega (arith, room)
 
-    of : (v : Option KeptClaim) → vote_at k (now % 2 ^ 32) ≡ v → KeepsTrue t d edges (early + 1000) late M k.clock.reader_rules now (clock_by k.clock k.table s (now % 2 ^ 32) v) (answer_by k.clock k.table s (now % 2 ^ 32) v)
+    of : (v : Option KeptClaim) → vote_at k (now % 2 ^ 32) ≡ v → KeepsTrue t d edges (early + 1000) late M k.clock.reader_rules k.table now (clock_by k.clock k.table s (now % 2 ^ 32) v) (answer_by k.clock k.table s (now % 2 ^ 32) v)
     of None e = alone t d edges (early + 1000) late k.clock k.table s is wide M tick now order soon on _ refl
     of (Some v) e =
         let vote = vote_is_true IsTrue k.rules t edges early late (f_of k.clock.redundancy) now k.state.lines pulses truly heard v e in

@@ -6,13 +6,15 @@ use Rattle.std.specs.List.{range_with_len}
 use Rattle.irig_sync.specs.Lines.{Pulse, pulse_at, IsAfter}
 use Rattle.irig_time.specs.declared.rules.Rules.{Rules}
 use Rattle.irig_time.specs.Tables.{TableValue}
+use Rattle.irig_time.specs.Timelines.{TimelineValue}
 use Rattle.irig_port.specs.declared.limits.Limits.{Limits}
 use Rattle.irig_vote.specs.declared.redundancy.Redundancy.{Redundancy}
-use Rattle.irig_vote.specs.Vote.{ports_in}
+use Rattle.irig_vote.specs.Vote.{ports_in, f_of}
 use Rattle.irig_timekeeper.specs.declared.clock.ClockRules.{ClockRules}
 use Rattle.irig_timekeeper.specs.declared.lines.Lines.{Lines}
 use Rattle.irig_timekeeper.specs.Steps.{is_pulse, AreNewLines}
 use Rattle.irig_timekeeper.specs.Keeping.{Keeping, new_keeping, after_pulse, after_tick}
+use Rattle.irig_timekeeper.specs.Truth.{IsDevice}
 
 -- a pulse on the line of a port, told at this time: it rose then, and is so wide; or a tick
 pub data Call : Type 0 where
@@ -98,6 +100,16 @@ AreTrueAtTicks IsTrue f [] = ⊤
 AreTrueAtTicks IsTrue f (Hear port time rise width ∷ calls) = AreTrueAtTicks IsTrue f calls
 AreTrueAtTicks IsTrue f (Tick now ∷ calls) =
     AreTrueLately IsTrue f now calls × AreTrueAtTicks IsTrue f calls
+
+-- a device is what its setup says, its calls are in order, and at each tick all but at most f lines
+-- are such true lines
+pub record LivesTruly
+    (IsTrue : Rules → TimelineValue → (ℕ → ℕ) → ℕ → List Pulse → Type 0) (t : TimelineValue)
+    (edges : ℕ → ℕ) (made : Made) (start : ℕ) (calls : List Call)
+    : Type 0 where
+  pub is : IsDevice t made.clock.drift_us edges made.clock.reader_rules made.table
+  pub order : AreInOrder start made.clock.redundancy calls
+  pub truth : AreTrueAtTicks (IsTrue made.rules t edges) (f_of made.clock.redundancy) calls
 
 -- so at each tick of these calls, which came behind those
 abbrev pub AreTrueOver : (ℕ → List Pulse → Type 0) → ℕ → List Call → List Call → Type 0

@@ -1,6 +1,6 @@
 -- What is true of a device's lines, and of where it stands.
 -- Source: this project's profile.
-use Rattle.std.specs.Prelude.{◌≡◌, ℕ, ◌+◌, ◌*◌, ◌%◌, ◌^◌, ◌<◌, ◌≤◌, ◌⊎◌, Bool, false, List, count_by, Option, Some, None, ⊤}
+use Rattle.std.specs.Prelude.{◌≡◌, ℕ, ◌+◌, ◌*◌, ◌%◌, ◌^◌, ◌<◌, ◌≤◌, ◌⊎◌, Bool, true, false, List, count_by, Option, Some, None, ⊤}
 use Rattle.std.specs.List.{range_with_len}
 use Rattle.irig_sync.specs.Lines.{Pulse}
 use Rattle.irig_time.specs.declared.rules.Rules.{Rules}
@@ -8,11 +8,14 @@ use Rattle.irig_time.specs.declared.second.UtcSecond.{UtcSecond}
 use Rattle.irig_time.specs.Timelines.{TimelineValue, IsSecond}
 use Rattle.irig_time.specs.TimelineFaults.{IsTimeline}
 use Rattle.irig_time.specs.Tables.{TableValue}
-use Rattle.irig_hold.specs.Truth.{IsTrueTable}
+use Rattle.irig_time.specs.Days.{is_month_end}
+use Rattle.irig_time.specs.declared.mark.Mark.TheVariants.{Unspoken}
+use Rattle.irig_hold.specs.Steps.{HoldValue}
+use Rattle.irig_hold.specs.Truth.{IsTrueTable, IsOnTime}
 use Rattle.irig_reader.specs.declared.rules.ReaderRules.{ReaderRules}
 use Rattle.irig_reader.specs.declared.rule.State.{State}
 use Rattle.irig_reader.specs.declared.rule.State.TheVariants.{Idle, Acquiring, Locked}
-use Rattle.irig_reader.specs.Standing.{StandsAtTruth}
+use Rattle.irig_reader.specs.Lives.{KnowsMonthEnds}
 use Rattle.irig_timekeeper.specs.declared.clock.Beat.{Beat}
 use Rattle.irig_timekeeper.specs.declared.lines.KeptClaim.{KeptClaim}
 use Rattle.irig_timekeeper.specs.declared.lines.Lines.{Lines}
@@ -62,28 +65,41 @@ abbrev pub IfEdgeAt : Option ℕ → ℕ → Type 0
 IfEdgeAt None tick = ⊤
 IfEdgeAt (Some e) tick = (edge : ℕ) × IsEdgeAt e edge tick
 
+-- the hold has come to T(n), and knows how its month ends in time: by a true table, or since what it
+-- has not heard it can have missed only from 23:59:02 on, by its age
+pub record IsSureAt (t : TimelineValue) (table : TableValue) (n : ℕ) (h : HoldValue) : Type 0 where
+  pub on_time : IsOnTime t n h
+  pub knows : IsTrueTable t table
+      ⊎ (h.heard ≡ Unspoken → is_month_end h.last.day ≡ true → h.last.sod ≤ 86341 + h.age)
+
+-- the reader has nothing to go on, or its hold has come to T(n) so
+abbrev pub StandsSurely : TimelineValue → TableValue → ℕ → State → Type 0
+StandsSurely t table n Idle = ⊤
+StandsSurely t table n (Acquiring h count) = IsSureAt t table n h
+StandsSurely t table n (Locked h) = IsSureAt t table n h
+
 -- the reader stands at T(w), as which its edge is right but for the drift of a edges; what was
 -- announced last was T(last) at most
 pub record StandsAt (t : TimelineValue) (edges : ℕ → ℕ) (early late d last : ℕ)
-    (rules : ReaderRules) (tick : ℕ) (stands : State) (e w a : ℕ)
+    (rules : ReaderRules) (table : TableValue) (tick : ℕ) (stands : State) (e w a : ℕ)
     : Type 0 where
   pub edge : ℕ
   pub at : IsEdgeAt e edge tick
   pub near : IsNear edges (early + a * d) (late + a * d) w edge
-  pub truth : StandsAtTruth t w stands
+  pub truth : StandsSurely t table w stands
   pub young : a ≤ age_of stands
   pub few : a ≤ rules.holdover
   pub behind : last ≤ w
 
 -- a device has nothing to go on, or stands at the truth; its votes lie at most so long before their
 -- edges and behind them
-abbrev pub IsOnTrack : TimelineValue → (ℕ → ℕ) → (early late d last : ℕ) → ReaderRules → ℕ → State
-    → Option ℕ → Type 0
-IsOnTrack t edges early late d last rules tick state None = (state ≡ Idle) × (last ≡ 0)
-IsOnTrack t edges early late d last rules tick state (Some e) =
+abbrev pub IsOnTrack : TimelineValue → (ℕ → ℕ) → (early late d last : ℕ) → ReaderRules → TableValue
+    → ℕ → State → Option ℕ → Type 0
+IsOnTrack t edges early late d last rules table tick state None = (state ≡ Idle) × (last ≡ 0)
+IsOnTrack t edges early late d last rules table tick state (Some e) =
     ((state ≡ Idle)
     × ((edge : ℕ) × IsEdgeAt e edge tick × (edges last + late < edge + 500000)))
-    ⊎ ((w : ℕ) × (a : ℕ) × StandsAt t edges early late d last rules tick state e w a)
+    ⊎ ((w : ℕ) × (a : ℕ) × StandsAt t edges early late d last rules table tick state e w a)
 
 -- ---- what a device tells
 
@@ -107,12 +123,13 @@ pub record IsToldInHoldover (t : TimelineValue) (edges : ℕ → ℕ) (early lat
   pub few : far ≤ holdover
   pub told : IsToldTruly t edges (early + far * d) (late + far * d) now beat u
 
--- what is true of a device: its counter, the timeline, its leap table, and its setup is not refused
+-- what is true of a device: its counter, the timeline, its leap table if it needs one, and its setup
+-- is not refused
 pub record IsDevice (t : TimelineValue) (d : ℕ) (edges : ℕ → ℕ) (rules : ReaderRules)
     (table : TableValue) : Type 0 where
   pub steady : IsQuartz d edges
   pub sound : IsTimeline t
-  pub true_table : IsTrueTable t table
+  pub knows : KnowsMonthEnds t rules table
   pub short : (rules.holdover + 2) * d ≤ 490000
 
 -- the one second is T(m), and the other one T(n) for a greater n

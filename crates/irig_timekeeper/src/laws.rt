@@ -26,7 +26,7 @@ ghost use Rattle.irig_timekeeper.specs.Clock.{answer_to_vote};
 ghost use Rattle.irig_timekeeper.specs.Keeping.{Keeping, vote_at, after_tick, answer_at, wait_at, stamp_at};
 ghost use Rattle.irig_timekeeper.specs.Truth.{AreHeardTruly, IsTrueVote, IsOnTrack, IsToldTruly, IsToldInHoldover, IsLaterSecond, IsDevice, IsEdgeAt, AreApartBeats, IsStampedTruly, IsInstant};
 ghost use Rattle.irig_timekeeper.specs.Announcing.{AreWellHeard, Announces};
-ghost use Rattle.irig_timekeeper.specs.Life.{Call, Made, AreInOrder, AreTrueLately, AreTrueAtTicks, AreTrueOver, device_of, life_of, last_call};
+ghost use Rattle.irig_timekeeper.specs.Life.{Call, Made, AreInOrder, AreTrueLately, AreTrueAtTicks, AreTrueOver, LivesTruly, device_of, life_of, last_call};
 ghost use Rattle.irig_timekeeper.specs.Life.Call.{Tick};
 
 use crate::clock::Beat;
@@ -92,26 +92,22 @@ pub fn votes_are_true()
 
 /// A device tells the truth all its life: of every list of calls in order, whenever it was ticked,
 /// if at each tick at most f lines were untrue in the last 1.2 s, its counter is as steady as its
-/// setup says and its leap table is true. What a tick announces is T(m), for an edge m near which
-/// the edge that is told lies, from 1.549 ms before it to 0.549 ms behind, and off by the drift of
-/// as many edges more as a holdover may last, which is less than half a second. The edge that is
-/// told has come, less than 1.005 s before the tick.
+/// setup says, and its leap table is true or its holdover at most 57 seconds. What a tick announces
+/// is T(m), for an edge m near which the edge that is told lies, from 1.549 ms before it to 0.549 ms
+/// behind, and off by the drift of as many edges more as a holdover may last, which is less than
+/// half a second. The edge that is told has come, less than 1.005 s before the tick.
 pub fn a_device_tells_the_truth()
     ensures life { (t : TimelineValue) (edges : ℕ → ℕ) (made : Made) (start now : ℕ)
         (calls : List Call) (beat : Beat) (u : UtcSecond)
-        → IsDevice t made.clock.drift_us edges made.clock.reader_rules made.table
-        → AreInOrder start made.clock.redundancy (Tick now ∷ calls)
-        → AreTrueAtTicks (IsTrueLately made.rules t edges) (f_of made.clock.redundancy)
-        (Tick now ∷ calls) → answer_at (life_of made calls) (now % 2 ^ 32) ≡ Some beat
+        → LivesTruly IsTrueLately t edges made start (Tick now ∷ calls)
+        → answer_at (life_of made calls) (now % 2 ^ 32) ≡ Some beat
         → beat.report.announce ≡ Some u
         → IsToldInHoldover t edges 1549 549 made.clock.drift_us made.clock.reader_rules.holdover
         now beat u }
     // In order: what a later tick announces is a later second, so that none is announced twice.
     ensures order { (t : TimelineValue) (edges : ℕ → ℕ) (made : Made) (start before now : ℕ)
         (earlier later : List Call) (beat then : Beat) (u v : UtcSecond)
-        → IsDevice t made.clock.drift_us edges made.clock.reader_rules made.table
-        → AreInOrder start made.clock.redundancy (Tick now ∷ (later ++ (Tick before ∷ earlier)))
-        → AreTrueAtTicks (IsTrueLately made.rules t edges) (f_of made.clock.redundancy)
+        → LivesTruly IsTrueLately t edges made start
         (Tick now ∷ (later ++ (Tick before ∷ earlier)))
         → answer_at (life_of made earlier) (before % 2 ^ 32) ≡ Some beat
         → beat.report.announce ≡ Some u
@@ -120,10 +116,8 @@ pub fn a_device_tells_the_truth()
     // And no report has the cause `Jump`.
     ensures calm { (t : TimelineValue) (edges : ℕ → ℕ) (made : Made) (start now : ℕ)
         (calls : List Call) (beat : Beat)
-        → IsDevice t made.clock.drift_us edges made.clock.reader_rules made.table
-        → AreInOrder start made.clock.redundancy (Tick now ∷ calls)
-        → AreTrueAtTicks (IsTrueLately made.rules t edges) (f_of made.clock.redundancy)
-        (Tick now ∷ calls) → answer_at (life_of made calls) (now % 2 ^ 32) ≡ Some beat
+        → LivesTruly IsTrueLately t edges made start (Tick now ∷ calls)
+        → answer_at (life_of made calls) (now % 2 ^ 32) ≡ Some beat
         → ¬ (beat.report.cause ≡ Cause.Jump) }
     // A setup without a fault is one of these.
     ensures setup { (rules : ReaderRules) (d : ℕ) → clock_fault rules d ≡ None
@@ -137,11 +131,11 @@ pub fn a_device_tells_the_truth()
         (pulses : ℕ → List Pulse)
         → IsDevice t k.clock.drift_us edges k.clock.reader_rules k.table → tick ≤ now
         → now ≤ tick + 1800000000
-        → IsOnTrack t edges 1549 549 k.clock.drift_us last k.clock.reader_rules tick k.state.reader
-        k.state.edge_us
+        → IsOnTrack t edges 1549 549 k.clock.drift_us last k.clock.reader_rules k.table tick
+        k.state.reader k.state.edge_us
         → AreHeardTruly (IsTrueLately k.rules t edges now) k.rules (f_of k.clock.redundancy) now
         k.state.lines pulses
-        → IsOnTrack t edges 1549 549 k.clock.drift_us last k.clock.reader_rules now
+        → IsOnTrack t edges 1549 549 k.clock.drift_us last k.clock.reader_rules k.table now
         (after_tick k (now % 2 ^ 32)).state.reader (after_tick k (now % 2 ^ 32)).state.edge_us }
 {}
 

@@ -6,13 +6,12 @@ ghost use Rattle.irig_sync.specs.Lines.{Pulse};
 ghost use Rattle.irig_sync.specs.FaultyLines.{ArePulsesBefore};
 ghost use Rattle.irig_time.specs.Timelines.{TimelineValue, IsTrueClaim};
 ghost use Rattle.irig_time.specs.Tables.{TableValue};
-ghost use Rattle.irig_vote.specs.Vote.{f_of};
 ghost use Rattle.irig_port.specs.OwnClaims.{TellsClaims};
 ghost use Rattle.irig_timekeeper.specs.Edges.{IsQuartz, IsTrueNear};
 ghost use Rattle.irig_timekeeper.specs.Lines.{IsFrameOf, IsCheckedLineOf, IsTrueButForFaults, IsTrueOrFaulty};
 ghost use Rattle.irig_timekeeper.specs.Keeping.{answer_at};
 ghost use Rattle.irig_timekeeper.specs.Truth.{IsToldInHoldover, IsLaterSecond, IsDevice};
-ghost use Rattle.irig_timekeeper.specs.Life.{Call, Made, AreInOrder, AreTrueAtTicks, life_of};
+ghost use Rattle.irig_timekeeper.specs.Life.{Call, Made, LivesTruly, life_of};
 ghost use Rattle.irig_timekeeper.specs.Life.Call.{Tick};
 
 use crate::clock::Beat;
@@ -34,29 +33,23 @@ pub fn lines_with_faults_tell_truly()
     // the true one to 1.549 ms behind, and as much further off as a holdover drifts.
     ensures life { (t : TimelineValue) (edges : ℕ → ℕ) (made : Made) (start now : ℕ)
         (calls : List Call) (beat : Beat) (u : UtcSecond)
-        → IsDevice t made.clock.drift_us edges made.clock.reader_rules made.table
-        → AreInOrder start made.clock.redundancy (Tick now ∷ calls)
-        → AreTrueAtTicks (IsTrueButForFaults made.rules t edges) (f_of made.clock.redundancy)
-        (Tick now ∷ calls) → answer_at (life_of made calls) (now % 2 ^ 32) ≡ Some beat
+        → LivesTruly IsTrueButForFaults t edges made start (Tick now ∷ calls)
+        → answer_at (life_of made calls) (now % 2 ^ 32) ≡ Some beat
         → beat.report.announce ≡ Some u
         → IsToldInHoldover t edges 3549 1549 made.clock.drift_us made.clock.reader_rules.holdover
         now beat u }
     // Some of its lines may have faults while others lose any pulses.
     ensures either { (t : TimelineValue) (edges : ℕ → ℕ) (made : Made) (start now : ℕ)
         (calls : List Call) (beat : Beat) (u : UtcSecond)
-        → IsDevice t made.clock.drift_us edges made.clock.reader_rules made.table
-        → AreInOrder start made.clock.redundancy (Tick now ∷ calls)
-        → AreTrueAtTicks (IsTrueOrFaulty made.rules t edges) (f_of made.clock.redundancy)
-        (Tick now ∷ calls) → answer_at (life_of made calls) (now % 2 ^ 32) ≡ Some beat
+        → LivesTruly IsTrueOrFaulty t edges made start (Tick now ∷ calls)
+        → answer_at (life_of made calls) (now % 2 ^ 32) ≡ Some beat
         → beat.report.announce ≡ Some u
         → IsToldInHoldover t edges 3549 1549 made.clock.drift_us made.clock.reader_rules.holdover
         now beat u }
     // In order: what a later tick announces is a later second.
     ensures order { (t : TimelineValue) (edges : ℕ → ℕ) (made : Made) (start before now : ℕ)
         (earlier later : List Call) (beat then : Beat) (u v : UtcSecond)
-        → IsDevice t made.clock.drift_us edges made.clock.reader_rules made.table
-        → AreInOrder start made.clock.redundancy (Tick now ∷ (later ++ (Tick before ∷ earlier)))
-        → AreTrueAtTicks (IsTrueButForFaults made.rules t edges) (f_of made.clock.redundancy)
+        → LivesTruly IsTrueButForFaults t edges made start
         (Tick now ∷ (later ++ (Tick before ∷ earlier)))
         → answer_at (life_of made earlier) (before % 2 ^ 32) ≡ Some beat
         → beat.report.announce ≡ Some u
@@ -65,10 +58,8 @@ pub fn lines_with_faults_tell_truly()
     // And no report has the cause `Jump`.
     ensures calm { (t : TimelineValue) (edges : ℕ → ℕ) (made : Made) (start now : ℕ)
         (calls : List Call) (beat : Beat)
-        → IsDevice t made.clock.drift_us edges made.clock.reader_rules made.table
-        → AreInOrder start made.clock.redundancy (Tick now ∷ calls)
-        → AreTrueAtTicks (IsTrueButForFaults made.rules t edges) (f_of made.clock.redundancy)
-        (Tick now ∷ calls) → answer_at (life_of made calls) (now % 2 ^ 32) ≡ Some beat
+        → LivesTruly IsTrueButForFaults t edges made start (Tick now ∷ calls)
+        → answer_at (life_of made calls) (now % 2 ^ 32) ≡ Some beat
         → ¬ (beat.report.cause ≡ Cause.Jump) }
     // The bound is less than half a second.
     ensures half { (t : TimelineValue) (d : ℕ) (edges : ℕ → ℕ) (rules : ReaderRules)

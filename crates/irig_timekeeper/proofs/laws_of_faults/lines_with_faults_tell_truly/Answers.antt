@@ -9,20 +9,20 @@ pub returns-clause-kept : goal.returns-clause-kept
 returns-clause-kept _ rules t d now end edges pulses claim steady is frame soon = faults_are_true rules t d edges steady now end pulses claim is frame soon
 
 pub returns-clause-life : goal.returns-clause-life
-returns-clause-life _ t edges made start now calls beat u is order truth answer says =
-    device_true made.limits made.rules made.clock made.table made.lines start made.fresh (IsTrueButForFaults made.rules t edges) t edges 2549 1549 is (omega arith) (faults_tell_truly made.rules t made.clock.drift_us edges is.steady) calls now beat u order truth answer says
+returns-clause-life _ t edges made start now calls beat u lives answer says =
+    device_true made.limits made.rules made.clock made.table made.lines start made.fresh (IsTrueButForFaults made.rules t edges) t edges 2549 1549 lives.is (omega arith) (faults_tell_truly made.rules t made.clock.drift_us edges lives.is.steady) calls now beat u lives.order lives.truth answer says
 
 pub returns-clause-either : goal.returns-clause-either
-returns-clause-either _ t edges made start now calls beat u is order truth answer says =
-    device_true made.limits made.rules made.clock made.table made.lines start made.fresh (IsTrueOrFaulty made.rules t edges) t edges 2549 1549 is (omega arith) (either_tells_truly made.rules t made.clock.drift_us edges is.steady) calls now beat u order truth answer says
+returns-clause-either _ t edges made start now calls beat u lives answer says =
+    device_true made.limits made.rules made.clock made.table made.lines start made.fresh (IsTrueOrFaulty made.rules t edges) t edges 2549 1549 lives.is (omega arith) (either_tells_truly made.rules t made.clock.drift_us edges lives.is.steady) calls now beat u lives.order lives.truth answer says
 
 pub returns-clause-order : goal.returns-clause-order
-returns-clause-order _ t edges made start before now earlier later beat then u v is order truth answer says answers again =
-    device_in_order made.limits made.rules made.clock made.table made.lines start made.fresh (IsTrueButForFaults made.rules t edges) t edges 2549 1549 is (omega arith) (faults_tell_truly made.rules t made.clock.drift_us edges is.steady) earlier later before now beat then u v order truth answer says answers again
+returns-clause-order _ t edges made start before now earlier later beat then u v lives answer says answers again =
+    device_in_order made.limits made.rules made.clock made.table made.lines start made.fresh (IsTrueButForFaults made.rules t edges) t edges 2549 1549 lives.is (omega arith) (faults_tell_truly made.rules t made.clock.drift_us edges lives.is.steady) earlier later before now beat then u v lives.order lives.truth answer says answers again
 
 pub returns-clause-calm : goal.returns-clause-calm
-returns-clause-calm _ t edges made start now calls beat is order truth answer =
-    device_calm made.limits made.rules made.clock made.table made.lines start made.fresh (IsTrueButForFaults made.rules t edges) t edges 2549 1549 is (omega arith) (faults_tell_truly made.rules t made.clock.drift_us edges is.steady) calls now beat order truth answer
+returns-clause-calm _ t edges made start now calls beat lives answer =
+    device_calm made.limits made.rules made.clock made.table made.lines start made.fresh (IsTrueButForFaults made.rules t edges) t edges 2549 1549 lives.is (omega arith) (faults_tell_truly made.rules t made.clock.drift_us edges lives.is.steady) calls now beat lives.order lives.truth answer
 
 pub returns-clause-half : goal.returns-clause-half
 returns-clause-half _ t d edges rules table far is few =
