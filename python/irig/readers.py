@@ -220,8 +220,8 @@ class Reader(Ruled):
     "voted" is the true second if the tick comes as that second begins and no two of its three ports
     (three of five) then tell one and the same wrong time or leap, whatever came before. What it
     announces with the cause "held" is true if the last vote was, each second since was one tick,
-    and the leap table is right (docs/HEADLINE.md). A reader of one port follows its clock: what it
-    announces is true only if that clock tells no wrong time or leap.
+    and the leap table is right or `holdover` at most 57 (docs/HEADLINE.md). A reader of one port
+    follows its clock: what it announces is true only if that clock tells no wrong time or leap.
 
     lock_after: votes in a row before it announces, 1 to 60
     holdover: edges without a vote at which it goes on, 0 to 1,000,000

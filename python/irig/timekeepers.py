@@ -68,7 +68,8 @@ class Timekeeper(Ruled):
     true edge lies at most 1,549 us behind `edge_us` or 549 before it, if no two of its three lines
     (three of five; not the one) were untrue in the last 1.2 s. One with the cause "held" is true if
     that was so at each tick, the counter is as steady as `drift_us` says, and the leap table is
-    right; its edge lies off by `drift_us` more for each second since the last vote.
+    right or `holdover` at most 57; its edge lies off by `drift_us` more for each second since the
+    last vote.
 
     drift_us: the most by which its counter is wrong, in microseconds a second, 0 to 100; then
         (holdover + 2) * drift_us may be 490,000 at most
