@@ -65,8 +65,9 @@ abbrev pub IfEdgeAt : Option ℕ → ℕ → Type 0
 IfEdgeAt None tick = ⊤
 IfEdgeAt (Some e) tick = (edge : ℕ) × IsEdgeAt e edge tick
 
--- the hold has come to T(n), and knows how its month ends in time: by a true table, or since what it
--- has not heard it can have missed only from 23:59:02 on, by its age
+-- the hold has come to T(n), and will know how its month ends: its table is true; or, if it has heard
+-- nothing on the month's last day, its last vote came at 23:59:01 at the latest, as true votes tell
+-- from then on
 pub record IsSureAt (t : TimelineValue) (table : TableValue) (n : ℕ) (h : HoldValue) : Type 0 where
   pub on_time : IsOnTime t n h
   pub knows : IsTrueTable t table
