@@ -11,6 +11,7 @@
 #include <stdlib.h>
 
 enum { ELEMENTS = 100, SECONDS = 6, MOST = sizeof(irig_timekeeper) };
+enum { FIRST_DAY = 9696, FIRST_SOD = 100 }; /* of the first frame */
 
 typedef union device {
     irig_reader reader;
@@ -18,12 +19,18 @@ typedef union device {
     unsigned char bytes[MOST];
 } device;
 
+/* What a device told while it was played. */
+typedef struct told {
+    uint64_t sum;
+    bool is_false; /* of a second it tells another one */
+} told;
+
 typedef struct kind {
     const char *name;
     size_t size;
     int every, ahead; /* elements from tick to tick, and those that are played behind a flip */
     void (*hear)(device *d, uint8_t line, uint32_t rise_us, uint32_t width_us);
-    bool (*tick)(device *d, uint32_t now_us, uint64_t *told); /* whether it is refused */
+    bool (*tick)(device *d, uint32_t now_us, told *t); /* whether it is refused */
     void (*restart)(device *d);
     bool (*is_padding)(size_t byte);
 } kind;
@@ -40,6 +47,12 @@ static const irig_table none;
 static uint32_t widths_us[SECONDS][ELEMENTS];
 static long tried, refused;
 
+/* Takes down a report of the second that begins at an edge, or of none. */
+static void note(told *t, const irig_report *r, uint32_t edge) {
+    t->sum = t->sum * 31 + r->announces + r->sod + r->cause + r->lock;
+    if (r->announces && (r->day != FIRST_DAY || r->sod != FIRST_SOD + edge)) t->is_false = true;
+}
+
 /* ---- readers */
 
 static void hear_reader(device *d, uint8_t port, uint32_t rise_us, uint32_t width_us) {
@@ -47,11 +60,10 @@ static void hear_reader(device *d, uint8_t port, uint32_t rise_us, uint32_t widt
     irig_reader_pulse(&d->reader, port, width_us);
 }
 
-static bool tick_reader(device *d, uint32_t now_us, uint64_t *told) {
+static bool tick_reader(device *d, uint32_t now_us, told *t) {
     irig_report report = {0};
-    (void)now_us;
     if (irig_reader_tick(&d->reader, &report) == IRIG_FAULT_VALUE) return true;
-    *told = *told * 31 + report.announces + report.sod + report.cause + report.lock;
+    note(t, &report, (now_us + 500000) / 1000000);
     return false;
 }
 
@@ -71,13 +83,14 @@ static void hear_timekeeper(device *d, uint8_t line, uint32_t rise_us, uint32_t 
     irig_timekeeper_hear(&d->timekeeper, line, rise_us, width_us);
 }
 
-static bool tick_timekeeper(device *d, uint32_t now_us, uint64_t *told) {
+static bool tick_timekeeper(device *d, uint32_t now_us, told *t) {
     irig_second second = {0};
     irig_stamp stamp;
     if (irig_timekeeper_tick(&d->timekeeper, now_us, &second) == IRIG_FAULT_VALUE)
         return irig_timekeeper_wait(&d->timekeeper, now_us) == 0 &&
                irig_timekeeper_stamp(&d->timekeeper, now_us, &stamp) == IRIG_FAULT_VALUE;
-    *told = *told * 31 + second.is_told + second.edge_us + second.report.sod + second.report.cause;
+    note(t, &second.report, (second.edge_us + 500000) / 1000000);
+    t->sum += second.is_told + second.edge_us;
     return false;
 }
 
@@ -115,57 +128,71 @@ static void fail(const kind *of, int story, const char *what, int bit) {
 
 /* Plays elements: one pulse on two of three lines, while they send, and a tick now and then. Answers
  * how many ticks are refused. */
-static int play(const kind *of, device *d, int first, int end, uint64_t *told) {
+static int play(const kind *of, device *d, int first, int end, told *t) {
     int count = 0;
     for (int element = first; element < end; element++) {
         uint32_t rise_us = (uint32_t)(element * 10000);
         for (uint8_t line = 0; line < 2 && element < SECONDS * ELEMENTS; line++)
             of->hear(d, line, rise_us, widths_us[element / ELEMENTS][element % ELEMENTS]);
-        if (element % of->every == of->every - 1) count += of->tick(d, rise_us + 8000, told);
+        if (element % of->every == of->every - 1) count += of->tick(d, rise_us + 8000, t);
     }
     return count;
 }
 
-static void try_bit(const kind *of, int story, device d, int bit, uint64_t undisturbed) {
+static void try_bit(const kind *of, int story, device d, int bit, const told *undisturbed) {
     int first = stories[story].element, ticks = of->ahead / of->every;
-    uint64_t told = 0;
+    told t = {0, false};
     d.bytes[bit / 8] ^= (unsigned char)(1 << bit % 8);
-    int count = play(of, &d, first, first + of->ahead, &told);
+    int count = play(of, &d, first, first + of->ahead, &t);
     tried++;
     if (of->is_padding((size_t)bit / 8)) {
-        if (count != 0 || told != undisturbed) fail(of, story, "padding counts", bit);
+        if (count != 0 || t.sum != undisturbed->sum) fail(of, story, "padding counts", bit);
         return;
     }
     if (count != ticks) fail(of, story, "not refused", bit);
     of->restart(&d);
-    if (!of->tick(&d, (uint32_t)(first + of->ahead) * 10000, &told))
+    if (!of->tick(&d, (uint32_t)(first + of->ahead) * 10000, &t))
         fail(of, story, "healed by a restart", bit);
     refused++;
 }
 
-static void try_story(const kind *of, int story, device at, int every) {
+/* Stands where a story flips, and says what is told behind that if nothing does. */
+static told stand(const kind *of, int story, device *at) {
     int first = stories[story].element;
-    uint64_t before = 0, undisturbed = 0;
-    if (play(of, &at, 0, first, &before)) exit(2);
-    device d = at;
-    if (play(of, &d, first, first + of->ahead, &undisturbed)) exit(2);
-    for (int bit = 0; bit < (int)(8 * of->size); bit += every)
-        try_bit(of, story, at, bit, undisturbed);
+    told before = {0, false}, undisturbed = {0, false};
+    bool is_refused = play(of, at, 0, first, &before);
+    device d = *at;
+    is_refused |= play(of, &d, first, first + of->ahead, &undisturbed);
+    if (is_refused || before.is_false || undisturbed.is_false) exit(2);
+    return undisturbed;
+}
+
+static void try_story(const kind *of, int story, device at, unsigned long every) {
+    told undisturbed = stand(of, story, &at);
+    for (unsigned long bit = 0; bit < 8 * of->size; bit += every)
+        try_bit(of, story, at, (int)bit, &undisturbed);
+}
+
+/* Makes the frames and a device of each kind; the first word is to try each so-many-th. */
+static unsigned long begin(int count, char **words, device fresh[KINDS]) {
+    unsigned long every = count > 1 ? strtoul(words[1], NULL, 10) : 1;
+    irig_control control = {0};
+    uint32_t wrong = every == 0;
+    for (uint32_t second = 0; second < SECONDS; second++) {
+        irig_utc utc = {FIRST_DAY, FIRST_SOD + second};
+        uint8_t symbols[ELEMENTS] = {0};
+        wrong |= irig_frame_of(&utc, 0, &control, IRIG_PARITY_EVEN, symbols);
+        irig_widths_us(symbols, widths_us[second]);
+    }
+    wrong |= irig_reader_init(&fresh[0].reader, &setup, &none);
+    wrong |= irig_timekeeper_init(&fresh[1].timekeeper, &setup, &none, 10);
+    if (wrong) exit(2);
+    return every;
 }
 
 int main(int count, char **words) {
-    int every = count > 1 ? atoi(words[1]) : 1;
-    irig_control control = {0};
-    device fresh[KINDS] = {0};
-    if (every < 1) return 2;
-    for (uint32_t second = 0; second < SECONDS; second++) {
-        irig_utc utc = {9696, 100 + second};
-        uint8_t symbols[ELEMENTS];
-        if (irig_frame_of(&utc, 0, &control, IRIG_PARITY_EVEN, symbols)) return 2;
-        irig_widths_us(symbols, widths_us[second]);
-    }
-    if (irig_reader_init(&fresh[0].reader, &setup, &none)) return 2;
-    if (irig_timekeeper_init(&fresh[1].timekeeper, &setup, &none, 10)) return 2;
+    static device fresh[KINDS];
+    unsigned long every = begin(count, words, fresh);
     for (int story = 0; story < STORIES; story++)
         for (int of = 0; of < KINDS; of++) try_story(&kinds[of], story, fresh[of], every);
     printf("%ld flipped bits tried, %ld of them in numbers and refused\n", tried, refused);

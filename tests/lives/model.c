@@ -11,21 +11,15 @@ wrong model_wrong;
 
 static const uint32_t AHEAD_US = 10000;
 static const uint32_t HALF_TURN = UINT32_C(1) << 31;
+enum { NO_VOTE = MOST_LINES + 1 }; /* more than there are */
 
 typedef struct heard_line {
-    uint32_t rise_us;
-    uint8_t place;
-    bool was_marker;
-    /* what it has heard of a frame */
-    unsigned count;
-    frame symbols;
-    bool is_wrong;
+    irig_sync sync;
+    heard heard; /* of a frame */
     /* its last whole frame */
     bool has_end;
     uint32_t end_us;
-    frame kept;
-    uint8_t kind; /* IRIG_TOLD_FAULT .. */
-    claim claim;
+    voice kept;
 } heard_line;
 
 static struct {
@@ -41,41 +35,19 @@ static bool is(wrong one) { return model_wrong == one; }
 
 /* ---- lines */
 
-static uint8_t place_of(heard_line *l, uint32_t rise_us, bool is_mark) {
-    uint32_t gap_us = rise_us - l->rise_us;
-    bool is_on_time = gap_us >= 9000 && gap_us < 11000;
-    uint8_t place = 0;
-    if (is_mark && (l->was_marker || !is_on_time)) place = 1;
-    else if (is_on_time && l->place >= 1) place = l->place == 100 ? 1 : (uint8_t)(l->place + 1);
-    l->rise_us = rise_us;
-    l->was_marker = is_mark;
-    return l->place = place;
-}
-
 static uint8_t hear(uint8_t number, uint32_t rise_us, uint32_t width_us) {
     if (number >= k.lines) return IRIG_NO_PORT;
     if (width_us >= 500000) return 0;
     heard_line *l = &k.line[number];
-    bool is_mark = width_us >= 6500 && width_us < 9500;
-    uint8_t place = place_of(l, rise_us, is_mark);
+    uint8_t place = place_of(&l->sync, rise_us, width_us);
     if (place == 0) return 0;
-    if (place == 1) {
-        l->count = 0;
-        l->symbols = (frame){{0, 0}};
-        l->is_wrong = false;
-        if (is(FORGETS_CAUGHT)) l->has_end = false;
-    }
-    unsigned element = l->count++;
-    if (element >= ELEMENTS) return place;
-    if (width_us < 500 || width_us >= 9500 || is_mark != is_marker(element)) l->is_wrong = true;
-    if (!is_mark && width_us >= 3500)
-        l->symbols.ones[element / HALF] |= UINT64_C(1) << (element % HALF);
-    if (place == 100 && l->count == ELEMENTS) {
+    if (place == 1) l->heard.count = 0;
+    if (place == 1 && is(FORGETS_CAUGHT)) l->has_end = false;
+    hear_pulse(&l->heard, width_us);
+    if (place == ELEMENTS && l->heard.count == ELEMENTS) {
         l->has_end = true;
         l->end_us = rise_us + ELEMENT_US;
-        l->kept = l->symbols;
-        l->kind =
-            l->is_wrong ? IRIG_TOLD_FAULT : read_frame(&k.reader.setup, &l->symbols, &l->claim);
+        l->kept = voice_of(&k.reader.setup, &l->heard);
     }
     return place;
 }
@@ -86,9 +58,13 @@ static bool is_kept(const heard_line *l, uint32_t now_us) {
     return l->has_end && now_us + AHEAD_US - l->end_us <= late_us() + AHEAD_US;
 }
 
-static bool is_same(const heard_line *a, const heard_line *b) {
-    return b->kind == IRIG_TOLD_CLAIM && a->claim.day == b->claim.day &&
-           a->claim.sod == b->claim.sod && (a->claim.mark == b->claim.mark || is(IGNORES_MARKS));
+/* What each line tells by a frame that is kept. */
+static void voices_at(uint32_t now_us, voice voices[MOST_LINES]) {
+    for (int i = 0; i < k.lines; i++) {
+        voices[i] =
+            is_kept(&k.line[i], now_us) ? k.line[i].kept : (voice){.kind = IRIG_TOLD_SILENCE};
+        if (is(IGNORES_MARKS)) voices[i].claim.mark = IRIG_MARK_UNSPOKEN;
+    }
 }
 
 /* How many it takes. */
@@ -97,69 +73,21 @@ static int majority(void) { return is(ONE_IS_ENOUGH) ? 1 : k.lines / 2 + 1; }
 /* The line whose end is that on which lines agree, or none. */
 static const heard_line *agreed(uint32_t now_us) {
     uint32_t apart = is(AGREES_WIDELY) ? 2000 : is(AGREES_SHORTLY) ? 600 : 1000;
+    voice voices[MOST_LINES];
     const heard_line *best = NULL;
+    voices_at(now_us, voices);
     for (int i = 0; i < k.lines; i++) {
         const heard_line *one = &k.line[i];
         int count = 0;
-        if (!is_kept(one, now_us) || (one->kind != IRIG_TOLD_CLAIM && !is(ANY_CLAIM))) continue;
+        if (!is_kept(one, now_us) || (one->kept.kind != IRIG_TOLD_CLAIM && !is(ANY_CLAIM)))
+            continue;
         for (int j = 0; j < k.lines; j++)
-            count += is_kept(&k.line[j], now_us) && (is_same(one, &k.line[j]) || is(ANY_CLAIM)) &&
+            count += is_kept(&k.line[j], now_us) &&
+                     (are_one(&voices[i], &voices[j]) || is(ANY_CLAIM)) &&
                      k.line[j].end_us - one->end_us <= apart;
         if (count >= majority() && (!best || one->end_us - best->end_us < HALF_TURN)) best = one;
     }
     return best;
-}
-
-/* A line that tells the claim of more than half of them, or none. */
-static const heard_line *vote_of(uint32_t now_us) {
-    for (int i = 0; i < k.lines; i++) {
-        int count = 0;
-        if (!is_kept(&k.line[i], now_us) || k.line[i].kind != IRIG_TOLD_CLAIM) continue;
-        for (int j = 0; j < k.lines; j++)
-            count += is_kept(&k.line[j], now_us) && is_same(&k.line[i], &k.line[j]);
-        if (count >= majority()) return &k.line[i];
-    }
-    return NULL;
-}
-
-/* ---- what lines say beside the time */
-
-static int8_t local_of(const frame *f) {
-    int8_t halves = (int8_t)(2 * bits(f, 65, 4) + bits(f, 70, 1));
-    return bits(f, 64, 1) == k.reader.setup.sense ? (int8_t)-halves : halves;
-}
-
-static void set(uint8_t *mask, int line) { *mask = (uint8_t)(*mask | 1u << line); }
-
-/* How each line stands to the vote, and the worst quality of those that agree. */
-static void add_masks(irig_report *r, uint32_t now_us, const heard_line *vote) {
-    r->quality = vote ? 0 : 15;
-    for (int i = 0; i < k.lines; i++) {
-        const heard_line *l = &k.line[i];
-        if (!is_kept(l, now_us)) continue;
-        bool agrees = vote && is_same(vote, l);
-        if (l->kind == IRIG_TOLD_FAULT) set(&r->faulty, i);
-        else if (l->kind == IRIG_TOLD_POOR) set(&r->poor, i);
-        else set(agrees ? &r->agreed : &r->differed, i);
-        if (agrees && bits(&l->kept, 71, 4) > r->quality)
-            r->quality = (uint8_t)bits(&l->kept, 71, 4);
-    }
-}
-
-/* The zone of the first line that agrees and is of one zone with enough of them. */
-static void add_zone(irig_report *r) {
-    for (int i = 0; i < k.lines; i++) {
-        const frame *one = &k.line[i].kept;
-        int count = 0;
-        for (int j = 0; j < k.lines; j++)
-            count += (r->agreed >> j & 1) && local_of(one) == local_of(&k.line[j].kept) &&
-                     bits(one, 63, 1) == bits(&k.line[j].kept, 63, 1);
-        if (!(r->agreed >> i & 1) || count < majority()) continue;
-        r->has_local = 1;
-        r->local_half_hours = local_of(one);
-        r->dst = (uint8_t)bits(one, 63, 1);
-        return;
-    }
 }
 
 /* The earliest end of all that lie near one. */
@@ -179,14 +107,14 @@ static void forget_ends(void) {
     for (int i = 0; i < k.lines; i++) k.line[i].has_end = false;
 }
 
-/* A second that begins at an edge, behind so many that were missed. */
-static void tell(irig_second *s, uint32_t now_us, uint32_t edge_us, uint32_t missed,
-                 const heard_line *vote) {
+/* A second that begins at an edge, behind so many that were missed, by a vote of enough lines. */
+static void tell(irig_second *s, uint32_t now_us, uint32_t edge_us, uint32_t missed, int enough) {
+    voice voices[MOST_LINES];
     irig_report lost;
     for (uint32_t i = 0; i < missed && !is(MISSES_NONE); i++) step(&k.reader, NULL, &lost);
-    step(&k.reader, vote ? &vote->claim : NULL, &s->report);
-    add_masks(&s->report, now_us, vote);
-    add_zone(&s->report);
+    voices_at(now_us, voices);
+    int voted = vote(voices, k.lines, enough, k.reader.setup.sense, &s->report);
+    step(&k.reader, voted < 0 ? NULL : &k.line[voted].kept.claim, &s->report);
     s->is_told = 1;
     s->edge_us = k.edge_us = edge_us;
     s->missed = missed;
@@ -198,7 +126,6 @@ static void tell(irig_second *s, uint32_t now_us, uint32_t edge_us, uint32_t mis
 }
 
 static void tell_by_lines(irig_second *s, uint32_t now_us, uint32_t end_us) {
-    const heard_line *vote = vote_of(now_us);
     if (is(TAKES_EARLIEST)) end_us = earliest_near(end_us, now_us);
     uint32_t to_us = is(COUNTS_TO_CALL) ? now_us : end_us;
     uint32_t half_us = is(ROUNDS_LOW) ? 400000 : 500000;
@@ -209,7 +136,7 @@ static void tell_by_lines(irig_second *s, uint32_t now_us, uint32_t end_us) {
         k.edge_us = edge_us;
         k.moved++;
     } else {
-        tell(s, now_us, edge_us, count - 1, vote);
+        tell(s, now_us, edge_us, count - 1, majority());
     }
     if (!is(KEEPS_ENDS)) forget_ends();
 }
@@ -221,20 +148,13 @@ static void tell_alone(irig_second *s, uint32_t now_us) {
     if (!k.has_edge || gap_us < SECOND_US + patience_us) return;
     if (gap_us >= HALF_TURN && !is(GUARDS_NOT)) return;
     uint32_t count = (gap_us - patience_us) / SECOND_US;
-    tell(s, now_us, k.edge_us + count * SECOND_US, count - 1, NULL);
-}
-
-static void idle(heard_line *l, uint32_t now_us) {
-    uint32_t gap_us = now_us - l->rise_us;
-    if (gap_us < SECOND_US || gap_us >= HALF_TURN || is(IDLES_NOT)) return;
-    l->place = 0;
-    l->was_marker = true;
+    tell(s, now_us, k.edge_us + count * SECOND_US, count - 1, NO_VOTE);
 }
 
 static uint32_t tick(uint32_t now_us, irig_second *s) {
     memset(s, 0, sizeof *s);
     for (int i = 0; i < k.lines; i++) {
-        idle(&k.line[i], now_us);
+        if (!is(IDLES_NOT)) idle(&k.line[i].sync, now_us);
         if (!is_kept(&k.line[i], now_us) && !is(TAKES_STALE)) k.line[i].has_end = false;
     }
     const heard_line *by = agreed(now_us);
@@ -242,7 +162,7 @@ static uint32_t tick(uint32_t now_us, irig_second *s) {
     if (by && now_us + ahead_us - by->end_us <= late_us() + ahead_us)
         tell_by_lines(s, now_us, by->end_us);
     else tell_alone(s, now_us);
-    for (int i = 0; i < k.lines && is(EMPTIES_PORTS); i++) k.line[i].count = 0;
+    for (int i = 0; i < k.lines && is(EMPTIES_PORTS); i++) k.line[i].heard.count = 0;
     return IRIG_DONE;
 }
 
@@ -278,7 +198,7 @@ static uint32_t stamp(uint32_t time_us, irig_stamp *stamp) {
 static void restart(void) {
     memset(k.line, 0, sizeof k.line);
     memset(&k.reader.state, 0, sizeof k.reader.state);
-    for (int i = 0; i < 5; i++) k.line[i].was_marker = true;
+    for (int i = 0; i < 5; i++) k.line[i].sync.was_marker = 1;
     k.has_edge = k.has_edge && is(KEEPS_ITS_EDGE);
     k.moved = 0;
     memset(&k.last, 0, sizeof k.last);

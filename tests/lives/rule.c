@@ -38,12 +38,12 @@ static bool find_utc(const frame *f, uint8_t sense, int64_t minute, uint32_t sec
     return c->sod != 86399 || c->mark != IRIG_MARK_DELETE;
 }
 
-uint8_t read_frame(const irig_setup *setup, const frame *f, claim *c) {
+static uint8_t read_frame(const irig_setup *setup, const frame *f, claim *c) {
     uint32_t second = field(f, 1, 3), minute = field(f, 10, 3), hour = field(f, 20, 2);
     uint32_t tens = bits(f, 35, 4), day = field(f, 30, 4) + 100 * bits(f, 40, 2);
     uint32_t year = field(f, 50, 4), year_tens = bits(f, 55, 4);
     uint32_t binary = bits(f, 80, 9) | bits(f, 90, 8) << 9;
-    memset(c, 0, sizeof *c);
+    uint8_t poor_from = setup->poor_from ? setup->poor_from : 10;
     if (!has_parity(f, setup->parity) || second > 60 || minute > 59 || hour > 23 || tens > 9 ||
         year_tens > 9 || year > 99 || day < 1 || day > 366)
         return IRIG_TOLD_FAULT;
@@ -53,16 +53,131 @@ uint8_t read_frame(const irig_setup *setup, const frame *f, claim *c) {
     int64_t days = 365 * (int64_t)year + (year + 3) / 4 + day - 1;
     if (!find_utc(f, setup->sense, 1440 * days + 60 * hour + minute, second, c))
         return IRIG_TOLD_FAULT;
-    return bits(f, 71, 4) > 9 ? IRIG_TOLD_POOR : IRIG_TOLD_CLAIM;
+    if (bits(f, 71, 4) >= poor_from) return IRIG_TOLD_POOR;
+    return c->day < setup->not_before ? IRIG_TOLD_FAULT : IRIG_TOLD_CLAIM;
+}
+
+/* ---- lines */
+
+uint8_t symbol_of(uint32_t width_us) {
+    if (width_us < 500 || width_us >= 9500) return IRIG_SYMBOL_BAD;
+    return width_us < 3500   ? IRIG_SYMBOL_ZERO
+           : width_us < 6500 ? IRIG_SYMBOL_ONE
+                             : IRIG_SYMBOL_MARKER;
+}
+
+uint8_t place_of(irig_sync *at, uint32_t rise_us, uint32_t width_us) {
+    uint32_t gap_us = rise_us - at->rise_us;
+    bool is_on_time = gap_us >= 9000 && gap_us < 11000;
+    bool is_mark = symbol_of(width_us) == IRIG_SYMBOL_MARKER;
+    uint8_t place = 0;
+    if (is_mark && (at->was_marker || !is_on_time)) place = 1;
+    else if (is_on_time && at->place >= 1 && at->place <= ELEMENTS)
+        place = (uint8_t)(at->place % ELEMENTS + 1);
+    *at = (irig_sync){rise_us, place, is_mark};
+    return place;
+}
+
+void idle(irig_sync *at, uint32_t now_us) {
+    uint32_t gap_us = now_us - at->rise_us;
+    if (gap_us < SECOND_US || gap_us >= UINT32_C(1) << 31) return;
+    at->place = 0;
+    at->was_marker = 1;
+}
+
+void hear_pulse(heard *h, uint32_t width_us) {
+    if (h->count < ELEMENTS) h->symbols[h->count] = symbol_of(width_us);
+    if (h->count <= ELEMENTS) h->count++;
+}
+
+/* The first that is wrong with symbols as such, or 0. */
+static uint32_t wrong_of(const heard *h) {
+    if (h->count < ELEMENTS) return IRIG_FAULT_SHORT | h->count << 8;
+    if (h->count > ELEMENTS) return IRIG_FAULT_LONG;
+    for (unsigned i = 0; i < ELEMENTS; i++) {
+        bool is_mark = h->symbols[i] == IRIG_SYMBOL_MARKER;
+        if (h->symbols[i] >= IRIG_SYMBOL_BAD) return IRIG_FAULT_PULSE | i << 8;
+        if (is_mark != is_marker(i)) return IRIG_FAULT_MARKER | i << 8;
+    }
+    return IRIG_DONE;
+}
+
+voice voice_of(const irig_setup *setup, const heard *h) {
+    voice v = {.kind = IRIG_TOLD_SILENCE};
+    if (h->count == 0) return v;
+    v.kind = IRIG_TOLD_FAULT;
+    v.fault = wrong_of(h);
+    if (v.fault != IRIG_DONE) return v;
+    for (unsigned i = 0; i < ELEMENTS; i++)
+        v.frame.ones[i / HALF] |= (uint64_t)(h->symbols[i] == IRIG_SYMBOL_ONE) << i % HALF;
+    v.kind = read_frame(setup, &v.frame, &v.claim);
+    return v;
+}
+
+/* ---- the vote */
+
+bool are_one(const voice *a, const voice *b) {
+    return a->kind == IRIG_TOLD_CLAIM && b->kind == IRIG_TOLD_CLAIM &&
+           a->claim.day == b->claim.day && a->claim.sod == b->claim.sod &&
+           a->claim.mark == b->claim.mark;
+}
+
+static void set(uint8_t *mask, int line) { *mask = (uint8_t)(*mask | 1u << line); }
+
+/* How each line stands to the vote, and the worst quality of those that agree. */
+static void add_masks(irig_report *r, const voice *voices, int lines, const voice *voted) {
+    r->quality = voted ? 0 : 15;
+    for (int i = 0; i < lines; i++) {
+        const voice *v = &voices[i];
+        uint8_t quality = (uint8_t)bits(&v->frame, 71, 4);
+        if (v->kind == IRIG_TOLD_FAULT) set(&r->faulty, i);
+        else if (v->kind == IRIG_TOLD_POOR) set(&r->poor, i);
+        else if (v->kind == IRIG_TOLD_CLAIM && !(voted && are_one(voted, v))) set(&r->differed, i);
+        else if (v->kind == IRIG_TOLD_CLAIM) set(&r->agreed, i);
+        if ((r->agreed >> i & 1) && quality > r->quality) r->quality = quality;
+    }
+}
+
+static int8_t local_of(const frame *f, uint8_t sense) {
+    int8_t halves = (int8_t)(2 * bits(f, 65, 4) + bits(f, 70, 1));
+    return bits(f, 64, 1) == sense ? (int8_t)-halves : halves;
+}
+
+/* The zone of the first line that agrees and is of one zone with enough of them. */
+static void add_zone(irig_report *r, const voice *voices, int lines, int enough, uint8_t sense) {
+    for (int i = 0; i < lines && !r->has_local; i++) {
+        const frame *one = &voices[i].frame;
+        int count = 0;
+        for (int j = 0; j < lines; j++)
+            count += (r->agreed >> j & 1) &&
+                     local_of(one, sense) == local_of(&voices[j].frame, sense) &&
+                     bits(one, 63, 1) == bits(&voices[j].frame, 63, 1);
+        if (!(r->agreed >> i & 1) || count < enough) continue;
+        r->has_local = 1;
+        r->local_half_hours = local_of(one, sense);
+        r->dst = (uint8_t)bits(one, 63, 1);
+    }
+}
+
+int vote(const voice *voices, int lines, int enough, uint8_t sense, irig_report *r) {
+    int voted = -1;
+    for (int i = 0; i < lines && voted < 0; i++) {
+        int count = 0;
+        for (int j = 0; j < lines; j++) count += are_one(&voices[i], &voices[j]);
+        if (count > 0 && count >= enough) voted = i;
+    }
+    add_masks(r, voices, lines, voted < 0 ? NULL : &voices[voted]);
+    add_zone(r, voices, lines, enough, sense);
+    return voted;
 }
 
 /* ---- the reader's rule */
 
 static uint8_t table_mark(const irig_table *table, uint32_t day) {
     if (day > table->until) return IRIG_MARK_UNSPOKEN;
-    for (uint32_t i = 0; i < table->len; i++)
+    for (uint32_t i = 0; i < table->len && i < 64; i++)
         if (table->leaps[i].day == day)
-            return table->leaps[i].kind == IRIG_LEAP_DELETE ? IRIG_MARK_DELETE : IRIG_MARK_INSERT;
+            return table->leaps[i].kind == IRIG_LEAP_INSERT ? IRIG_MARK_INSERT : IRIG_MARK_DELETE;
     return IRIG_MARK_NO_LEAP;
 }
 

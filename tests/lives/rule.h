@@ -1,4 +1,4 @@
-/* What a whole frame tells, and the reader's rule: docs/READER.md, in plain C. */
+/* What lines tell by their pulses, and the reader's rule: docs/READER.md, in plain C. */
 #ifndef RULE_H
 #define RULE_H
 
@@ -15,11 +15,36 @@ typedef struct plain_reader {
     irig_state state;
 } plain_reader;
 
+/* What a port heard since it was emptied. */
+typedef struct heard {
+    uint32_t count; /* at most 101 */
+    uint8_t symbols[ELEMENTS];
+} heard;
+
+/* What a line tells at an edge, and the frame that tells it. */
+typedef struct voice {
+    uint8_t kind;   /* IRIG_TOLD_SILENCE .. */
+    uint32_t fault; /* IRIG_FAULT_SHORT to IRIG_FAULT_MARKER, if it is one of these */
+    claim claim;
+    frame frame;
+} voice;
+
 /* So many bits from an element on. */
 uint32_t bits(const frame *f, unsigned element, unsigned count);
 
-/* IRIG_TOLD_CLAIM with what it claims, IRIG_TOLD_POOR, or IRIG_TOLD_FAULT. */
-uint8_t read_frame(const irig_setup *setup, const frame *f, claim *c);
+/* The place of a line's next pulse in its frame, and of a line that may be idle. */
+uint8_t place_of(irig_sync *at, uint32_t rise_us, uint32_t width_us);
+void idle(irig_sync *at, uint32_t now_us);
+
+uint8_t symbol_of(uint32_t width_us);
+void hear_pulse(heard *h, uint32_t width_us);
+voice voice_of(const irig_setup *setup, const heard *h);
+
+/* Whether both claim the same. */
+bool are_one(const voice *a, const voice *b);
+
+/* A voice that enough of the lines share, or -1; and the report's masks, quality and zone. */
+int vote(const voice *voices, int lines, int enough, uint8_t sense, irig_report *r);
 
 /* An edge, with a vote or none: the report's announcement, lock and cause. */
 void step(plain_reader *reader, const claim *vote, irig_report *r);
