@@ -18,6 +18,7 @@ use Rattle.irig_time.proofs.TextValueLaws.{known_second_text}
 use Rattle.irig_port.specs.declared.told.PortFault.{PortFault}
 use Rattle.irig_port.specs.declared.told.PortFault.TheVariants as fault
 use Rattle.irig_port.specs.declared.told.Told.TheVariants.{Silence, Fault, Poor, Claim}
+use Rattle.text_frame.specs.declared.frame.FrameOptions.{FrameOptions}
 use Rattle.text_frame.specs.Frame.{control_with}
 use Rattle.text_frame.specs.Reading.{clock_text, coded_line, told_line, with_zeros}
 
