@@ -3,9 +3,8 @@
 import importlib.machinery
 import importlib.util
 import re
-import sys
 from collections.abc import Callable, Iterator
-from dataclasses import dataclass, replace
+from dataclasses import dataclass
 from functools import cache
 from pathlib import Path
 from random import Random
@@ -13,17 +12,15 @@ from random import Random
 ROOT = Path(__file__).resolve().parents[2]
 IN_A_FACT = 20  # answers: with more of them a failure names too many inputs
 COUNTEREXAMPLES = "counterexamples"  # a source whose questions compute nothing that is so
-# The words of the standard library that facts use, and what a proof opens there where lines are read.
+# The words of the standard library that facts use, and those that a proof has to open.
 STANDARD = """
 use Rattle.std.proofs.Common.{◌≡◌, ◌≢◌, ℕ, ℤ, pos, negsuc, Bool, true, false, List, [], ◌∷◌, ◌++◌, map, Option}
-use Rattle.std.proofs.Common.{Some, None, Result, Ok, Err, refl, ◌+◌, ◌*◌, ◌%◌, ◌∙◌, sym, subst, arith, inl, inr}
-use Rattle.std.proofs.Common.{ap, All}
+use Rattle.std.proofs.Common.{Some, None, Result, Ok, Err, refl, ◌+◌, ◌*◌, ◌%◌, ◌∙◌, subst, arith, ap, All}
 use Rattle.std.specs.Prelude.{codes, length, replicate, slice_get, slice_index_or, unwrap_or}
 use Rattle.std.specs.List.{range_with_len}
 use Rattle.irig_frame.proofs.StandardFacts.{symbols}
 """
-OF_LINES = """
-use Rattle.std.specs.Fmt.{digits}
+CLOSED = """use Rattle.std.specs.Fmt.{digits}
 use Rattle.core.specs.Float.Numeral.{scan_numeral}
 use Rattle.core.specs.Str.{is_utf8, chars}
 use Rattle.core.specs.Float.{float_is_finite}
@@ -34,16 +31,15 @@ use lib.Ieee.{round}
 Names = tuple[tuple[str, str], ...]  # definitions, by crate and name
 
 
-def load(name: str, path: str):
-    """A module of the repository, whatever its file is called."""
-    loader = importlib.machinery.SourceFileLoader(name, str(ROOT / path))
-    module = importlib.util.module_from_spec(importlib.util.spec_from_loader(name, loader))
-    sys.modules[name] = module
+def load_believe():
+    """The module that tools/repo/believe is."""
+    loader = importlib.machinery.SourceFileLoader("believe", str(ROOT / "tools/repo/believe"))
+    module = importlib.util.module_from_spec(importlib.util.spec_from_loader("believe", loader))
     loader.exec_module(module)
     return module
 
 
-believe = load("believe", "tools/repo/believe")
+believe = load_believe()
 definitions = cache(believe.modules)
 
 
@@ -97,54 +93,52 @@ def some(value) -> Antt:
 
 @dataclass(frozen=True)
 class Fact:
-    """What is so, as so many answers say; `wrong` is what is not so. Above it stand blocks that facts may
-    share; `opened` are the definitions that its proof opens, if not all that the question reaches."""
+    """What is so, as so many answers say, behind blocks that facts may share; `wrong` is what is not so."""
 
     says: str
     wrong: str | None = None
     answers: int = 1
     above: tuple[str, ...] = ()
     proof: str = "refl"
-    opened: str | None = None
 
 
-def equal(left: str, right, wrong=None, *further, type: str = "") -> Fact:
-    """That the left comes to the right and to nothing wrong, both of a type if it does not show."""
-    front = f"◌≡◌ {{A = {type}}} ({left})" if type else f"{left} ≡"
-    not_so = None if wrong is None else f"{front} ({antt(wrong)})"
-    return Fact(f"{front} ({antt(right)})", not_so, *further)
+def equal(left: str, right, wrong=None, above: tuple[str, ...] = ()) -> Fact:
+    """That the left comes to the right, and to nothing wrong: of a list, not with another answer first."""
+    answers = len(right) if isinstance(right, list) else 1
+    if isinstance(right, list):
+        wrong = next(([other, *right[1:]] for other in right if other != right[0]), None)
+    right, not_so = (f"{left} ≡ ({antt(value)})" for value in (right, wrong))
+    return Fact(right, None if wrong is None else not_so, answers, above)
 
 
 @dataclass(frozen=True)
 class Question:
-    """What definitions are asked, by a function of antt, and what makes the answers, of which source."""
+    """What definitions are asked, and what makes the answers, of which source."""
 
     name: str
     part: str
     source: str
     roots: Names
-    uses: Names  # others that facts name
-    head: str
-    asks: str
     make: Callable
 
     def facts(self, seeds: tuple[int, ...]) -> list[Fact]:
         """The facts of these seeds; what takes no seed is asked once."""
-        if self.make.__code__.co_argcount == 0:
-            return list(self.gathered(list(self.make())))
         # Of whole scenarios a fresh one might be too long for the prover.
         tried = seeds[:1] if self.part == "scenarios" else seeds
-        return [fact for seed in tried for fact in self.gathered(list(self.make(Random(seed))))]
+        takes_seed = self.make.__code__.co_argcount > 0
+        all_ = [self.make(Random(seed)) for seed in tried] if takes_seed else [self.make()]
+        return [fact for answers in all_ for fact in self.gathered(list(answers))]
 
     def gathered(self, answers: list) -> Iterator[Fact]:
-        """Facts as they come, and pairs of an input and its answer in lists."""
+        """Facts as they come; inputs and answers in lists, for each root one."""
         yield from (one for one in answers if isinstance(one, Fact))
         pairs = [one for one in answers if not isinstance(one, Fact)]
         for start in range(0, len(pairs), IN_A_FACT):
-            lefts, rights = map(list, zip(*pairs[start : start + IN_A_FACT]))
-            others = [right for _, right in pairs if right != rights[0]]
-            wrong = [others[0], *rights[1:]] if others else None
-            yield equal(f"map {self.asks} {antt(lefts)}", rights, wrong, len(rights))
+            inputs, rights = zip(*pairs[start : start + IN_A_FACT])
+            by_root = zip(*rights) if len(self.roots) > 1 else [rights]
+            for (_, name), right in zip(self.roots, by_root):
+                asked = [Antt(f"({' '.join([name, *map(antt, input)])})") for input in inputs]
+                yield equal(antt(asked), list(right))
 
 
 QUESTIONS: list[Question] = []
@@ -154,17 +148,13 @@ def names(words: str) -> Names:
     return tuple(tuple(word.split(".")) for word in words.split())
 
 
-def question(source: str, roots: str, *head: str, uses: str = "") -> Callable:
+def question(source: str, roots: str) -> Callable:
     """Makes a question of a function that yields facts, or inputs and answers, by a random source. The
-    head is antt: the type of the function that asks and its equations, with `$` for its name."""
+    inputs are those of each root, and the answers as many as there are roots."""
 
     def decorate(make: Callable) -> Callable:
-        is_function = bool(head) and head[0].startswith("$")
-        asks = f"{make.__name__}_asks" if is_function else roots.split()[0].partition(".")[2]
-        lines = "".join(f"{line}\n" for line in head).replace("$ ", f"{asks} ")
-        lines = f"abbrev {lines}" if is_function else lines
         part = make.__module__.rpartition(".")[2]
-        QUESTIONS.append(Question(make.__name__, part, source, names(roots), names(uses), lines, asks, make))
+        QUESTIONS.append(Question(make.__name__, part, source, names(roots), make))
         return make
 
     return decorate
@@ -184,11 +174,8 @@ def is_closed(key: tuple[str, str], name: str) -> bool:
 
 @cache
 def types() -> dict[str, str]:
-    """How the types of code and of definitions are imported; of two with one name the lower crate's."""
+    """How the types of code are imported; of two with one name the lower crate's."""
     found = {}
-    for (crate, file), module in reversed(definitions().items()):
-        capital = (name for name in module.definitions if name[0].isupper())
-        found |= {name: f"use Rattle.{crate}.specs.{file}.{{{name}}}\n" for name in capital}
     for crate in reversed(believe.crates()):
         folder = ROOT / "crates" / crate / "src"
         for path in folder.rglob("*.rt"):
@@ -200,59 +187,32 @@ def types() -> dict[str, str]:
     return found
 
 
-def imports(questions: list[Question], body: str) -> str:
-    """What a module has to import for these questions, and for the types that its body names."""
-    roots = tuple(root for asked in questions for root in asked.roots + asked.uses)
-    wanted = {key: {one for one in list_ if is_closed(key, one)} for key, list_ in reached(roots).items()}
-    for crate, name in roots:
-        *key, _ = believe.home_of(definitions(), crate, name)
-        wanted[tuple(key)].add(name)
-    own = {
-        name: f"use Rattle.{crate}.specs.{file}.{{{name}}}\n"
-        for (crate, file), list_ in wanted.items()
-        for name in reached(roots)[crate, file]
-        if name[0].isupper()
-    }
-    named = dict.fromkeys(re.findall(r"(?<![.\w])[A-Z]\w+", re.sub(r'"(?:[^"\\]|\\.)*"', "", body)))
-    found = types() | own  # of two with one name that which is reached
-    lines = [found[name] for name in named if name in found]
-    for (crate, file), list_ in wanted.items():
-        lines += [f"use Rattle.{crate}.specs.{file}.{{{', '.join(sorted(list_))}}}\n"] if list_ else []
-    return STANDARD + (OF_LINES if reads_lines(wanted) else "") + "".join(lines)
+def imports(roots: Names, body: str) -> str:
+    """What a module has to import for these definitions, and for the types that its body names."""
+    named = set(re.findall(r"(?<![.\w])[A-Z]\w+", re.sub(r'"(?:[^"\\]|\\.)*"', "", body)))
+    lines = [STANDARD, CLOSED]
+    for (crate, file), list_ in reached(roots).items():
+        wanted = [one for one in list_ if is_closed((crate, file), one) or (crate, one) in roots or one in named]
+        lines += [f"use Rattle.{crate}.specs.{file}.{{{', '.join(wanted)}}}\n"] if wanted else []
+        named -= set(wanted)
+    return "".join([*lines, *(types()[name] for name in sorted(named) if name in types())])
 
 
-def reads_lines(keys) -> bool:
-    return any(crate == "json" for crate, _ in keys)
-
-
-def opened(roots: Names, *closed: str) -> str:
-    """What has to be open of all that these reach, but for some names."""
-    found = reached(roots)
-    open_ = [name for key, list_ in found.items() for name in list_ if is_closed(key, name)]
-    open_ += re.findall(r"\w+(?=[,}])", OF_LINES) if reads_lines(found) else []
-    return " ".join(name for name in open_ if name not in closed)
-
-
-def declaration(name: str, says: str, opens: str, proof: str) -> str:
-    """One declaration of antt; without anything to open it has no line for that."""
-    return f"{name} : {says}\n" + (f"unfolding {opens}\n" if opens else "") + f"{name} = {proof}\n"
+def opened(roots: Names) -> str:
+    """What has to be open of all that these reach."""
+    found = [name for key, list_ in reached(roots).items() for name in list_ if is_closed(key, name)]
+    return " ".join([*found, *re.findall(r"\w+(?=[,}])", CLOSED)])
 
 
 def blocks(asked: Question, number: int, fact: Fact) -> list[str]:
     """A fact as antt, behind what stands above it."""
-    opens = opened(asked.roots) if fact.opened is None else fact.opened
-    all_ = *fact.above, declaration("$", fact.says, opens, fact.proof)
-    return [block.replace("$", f"{asked.name}_{number}") for block in all_]
+    declared = f"$ : {fact.says}\nunfolding {opened(asked.roots)}\n$ = {fact.proof}\n"
+    return [block.replace("$", f"{asked.name}_{number}") for block in (*fact.above, declared)]
 
 
 def module_of(facts: list[tuple[Question, int, Fact]]) -> str:
     """The module of these facts, each with its number among those of its question."""
-    questions = list({asked.name: asked for asked, _, _ in facts}.values())
-    heads = [f"{block.strip()}\n" for asked in questions for block in asked.head.split("\n\n")]
-    body = "\n".join(dict.fromkeys([*heads, *(block for fact in facts for block in blocks(*fact))]))
+    roots = tuple(dict.fromkeys(root for asked, _, _ in facts for root in asked.roots))
+    body = "\n".join(dict.fromkeys(block for fact in facts for block in blocks(*fact)))
     used = "".join(dict.fromkeys(re.findall("^use .*\n", body, re.MULTILINE)))
-    return imports(questions, body) + used + "\n" + re.sub("(?m)^use .*\n", "", body)
-
-
-def turned(fact: Fact) -> Fact:
-    return replace(fact, says=fact.wrong)
+    return imports(roots, body) + used + "\n" + re.sub("(?m)^use .*\n", "", body)

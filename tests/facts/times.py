@@ -3,49 +3,50 @@
 import os
 import re
 import time
-from collections.abc import Callable, Iterator
-from datetime import date, timedelta
+from collections.abc import Iterator
+from datetime import date
 from pathlib import Path
 from random import Random
 
-from model.faults import Refused
+from model.meaning import Plant, leaps_of, plant_of
 from model.times import (
     Mark, Second, Table, Timeline, check_table, check_timeline, is_true_table, second_after, second_at,
-    second_of_text, table_mark, truth_at,
+    second_of_text, table_mark, text_of_second, truth_at,
 )  # fmt: skip
+from random_scenarios import EPOCH, LAST_DAY, MONTH_ENDS, random_leaps, random_plant
 
 from . import values as v
 from .antt import question, some
-from .inputs import EPOCH, LEAPS, MONTH_ENDS, random_leaps, random_second, random_timeline
 
 Pairs = Iterator[tuple]
 ZONES = Path("/usr/share/zoneinfo")
-LATE = 36_400  # what searches the days to the end of the years is quick from here on
+LATE = MONTH_ENDS[-3:]  # what searches the days to the end of the years is quick from here on
+BOUNDS = (0, 1, 59, 60, 3599, 3600, 86339, 86340, 86341, 86397, 86398, 86399, 86400)
+YEAR_ENDS = (1, 2, 59, 365, 366, 36218, 36493, 36522, 36523)
 MONTHS = "JanFebMarAprMayJunJulAugSepOctNovDec"
 
 
-def refused_by(check: Callable, value) -> int | None:
-    """The number by which a check refuses a value, if it does."""
-    try:
-        check(value)
-    except Refused as refused:
-        return refused.number
-    return None
+def some_plant(random: Random, ends: list[int] = MONTH_ENDS) -> Plant:
+    """A plant that starts about the end of one of these months."""
+    return plant_of(random_plant(random, ends))
 
 
-@question(
-    "model", "irig_time.second_at irig_time.truth_at",
-    "$ : TimelineValue × ℕ → Option UtcSecond × Option Claim",
-    "$ (times, n) = (second_at times n, truth_at times n)",
-)  # fmt: skip
+def random_second(random: Random, first: int = 1) -> Second:
+    """A second that is served: of a month's or the years' end, at a bound of the day, or any."""
+    ends = [day for day in (*YEAR_ENDS, *MONTH_ENDS) if day >= first]
+    day = random.choice(ends) if random.random() < 0.6 else random.randint(first, LAST_DAY)
+    of_day = random.choice(BOUNDS) if random.random() < 0.6 else random.randrange(86400)
+    return Second(day, min(of_day, 86400 if day in MONTH_ENDS else 86399))
+
+
+@question("model", "irig_time.second_at irig_time.truth_at")
 def seconds(random: Random) -> Pairs:
     """Of most timelines late, and about the end of a day or of the years, or of any edge."""
-    for first in [*[LATE] * 120, *[1] * 6]:
-        timeline = random_timeline(random, first)
-        start = timeline.start
-        to_end = 86_400 * random.choice((1, 1, 2, 30, 36_524 - start.day)) - start.of_day
-        n = random.choice((random.randrange(20), to_end + random.randint(-62, 3), random.randrange(200_000)))
-        n = max(0, n)
+    for ends in [*[LATE] * 120, *[MONTH_ENDS] * 6]:
+        timeline = some_plant(random, ends).timeline
+        days = random.choice((1, 1, 2, 30, LAST_DAY + 1 - timeline.start.day))
+        to_end = 86_400 * days - timeline.start.of_day + random.randint(-62, 3)
+        n = max(0, random.choice((random.randrange(20), to_end, random.randrange(200_000))))
         yield (timeline, n), (some(second_at(timeline, n)), some(truth_at(timeline, n)))
 
 
@@ -70,10 +71,7 @@ def leap_seconds() -> list[tuple[int, int]]:
     return [((day - EPOCH).days, count) for day, count in zip(days, counts) if day > EPOCH]
 
 
-@question(
-    "tzdata", "irig_time.second_at", "$ : TimelineValue × ℕ → Option UtcSecond",
-    "$ (times, n) = second_at times n",
-)  # fmt: skip
+@question("tzdata", "irig_time.second_at")
 def leaps(random: Random) -> Pairs:
     """Seconds about leap seconds of 2005 to 2016, where the system has the zone."""
     if not (ZONES / "right" / "UTC").exists() or not (ZONES / "leapseconds").exists():
@@ -87,85 +85,70 @@ def leaps(random: Random) -> Pairs:
         yield (Timeline(utc_of(first), inserted), n), some(utc_of(first + n))
 
 
-@question(
-    "model", "irig_time.next_of", "$ : UtcSecond × Mark → Option UtcSecond", "$ (u, mark) = next_of u mark"
-)  # fmt: skip
+@question("model", "irig_time.next_of")
 def following(random: Random) -> Pairs:
     for _ in range(300):
         second, mark = random_second(random), random.choice(list(Mark))
         yield (second, mark), some(second_after(second, mark))
 
 
-@question(
-    "model", "irig_time.table_mark", "$ : TableValue × ℕ → Mark", "$ (table, day) = table_mark table day"
-)  # fmt: skip
+@question("model", "irig_time.table_mark")
 def marks(random: Random) -> Pairs:
     """Of tables about a month's end, with the leaps up to their last day."""
     for _ in range(160):
         day = random.choice(MONTH_ENDS)
-        until = random.choice((0, day, day - 1, day + 1, random.randint(0, 36_523)))
-        table = Table(until, tuple(leap for leap in random_leaps(random, day, 3) if leap[0] <= until))
-        yield (table, day), table_mark(table, day)
-
-
-@question(
-    "model", "irig_plant.is_true_table", "$ : TimelineValue × TableValue → Bool",
-    "$ (times, table) = is_true_table times table",
-)  # fmt: skip
-def true_tables(random: Random) -> Pairs:
-    """Tables of a late timeline: with its leaps, with one left out, or with others."""
-    for _ in range(100):
-        timeline = random_timeline(random, LATE)
-        until = random.choice((timeline.start.day, timeline.start.day - 1, 36_523))
-        leaps = [leap for leap in timeline.leaps if leap[0] <= until]
-        other = (random.choice(MONTH_ENDS[-5:]), random.choice(LEAPS))
-        leaps = random.choice((leaps, leaps, leaps[1:], [other, *leaps[1:]]))
+        until = random.choice((0, day, day - 1, day + 1, random.randint(0, LAST_DAY)))
+        leaps = leaps_of(random_leaps(random, day, random.choice((0, 1, 3))))
         table = Table(until, tuple(leap for leap in leaps if leap[0] <= until))
-        yield (timeline, table), is_true_table(table, timeline)
+        asked = random.choice([day, *dict(leaps)])
+        yield (table, asked), table_mark(table, asked)
 
 
-def leaps_with_faults(random: Random) -> list[tuple[int, Mark]]:
+@question("model", "irig_plant.is_true_table")
+def true_tables(random: Random) -> Pairs:
+    """Tables of a late timeline: with its leaps, or with others."""
+    for _ in range(60):
+        plant, other = some_plant(random, LATE), some_plant(random, LATE)
+        for reader in (*plant.readers.values(), *other.readers.values()):
+            if reader.table:
+                yield (plant.timeline, reader.table), is_true_table(reader.table, plant.timeline)
+
+
+def leaps_with_faults(random: Random) -> tuple[tuple[int, Mark], ...]:
     """Leaps among which may be one twice, or one of no month's end or of no year that is served."""
-    leaps = list(random_leaps(random, random.randint(1, 36_523), random.randint(0, 4)))
+    leaps = list(leaps_of(random_leaps(random, random.randint(1, LAST_DAY), random.randint(0, 4))))
     if leaps and random.random() < 0.4:
         leaps.append((random.choice(leaps)[0], Mark.DELETE))
     if random.random() < 0.3:
         leaps.append((random.choice((0, 36_524, 100, random.randrange(40_000))), Mark.INSERT))
-    random.shuffle(leaps)
-    return leaps
+    return tuple(random.sample(leaps, len(leaps)))
 
 
-@question(
-    "model", "irig_time.timeline_fault", "$ : UtcSecond × List (ℕ × Leap) → Option TimelineFault",
-    "$ (u, leaps) = timeline_fault u leaps",
-)  # fmt: skip
+@question("model", "irig_time.timeline_fault")
 def timeline_faults(random: Random) -> Pairs:
     for _ in range(100):
         leaps = leaps_with_faults(random)
-        day = random.choice([day for day, _ in leaps if 1 <= day <= 36_523] or [36_523])
+        day = random.choice([day for day, _ in leaps if 1 <= day <= LAST_DAY] or [LAST_DAY])
         start = Second(day, random.choice((0, 86_397, 86_398, 86_399, 86_400)))
-        number = refused_by(check_timeline, Timeline(start, tuple(leaps)))
-        yield (start, v.leaps(leaps)), v.named("TimelineFault", number)
+        yield (start, v.leaps(leaps)), v.refused_by("TimelineFault", check_timeline, Timeline(start, leaps))
 
 
-@question(
-    "model", "irig_time.table_fault", "$ : ℕ × List (ℕ × Leap) → Option TableFault",
-    "$ (until, leaps) = table_fault until leaps",
-)  # fmt: skip
+@question("model", "irig_time.table_fault")
 def table_faults(random: Random) -> Pairs:
-    long = [[(day, Mark.INSERT) for day in MONTH_ENDS[:count]] for count in (63, 64, 65, 1200)]
+    """Among them tables of as many leaps as are read, and of more."""
+    long = [tuple((day, Mark.INSERT) for day in MONTH_ENDS[:count]) for count in (63, 64, 65, 1200)]
     for leaps in [*long, *(leaps_with_faults(random) for _ in range(100))]:
-        until = random.choice((0, 36_522, 36_523, 36_524, random.randrange(36_524), max([0, *dict(leaps)])))
-        until = max(dict(leaps)) if leaps in long else until
-        yield (until, v.leaps(leaps)), v.named("TableFault", refused_by(check_table, Table(until, tuple(leaps))))
+        last = max([0, *dict(leaps)])
+        until = random.choice((0, 36_522, LAST_DAY, 36_524, random.randrange(36_524), last))
+        until = last if leaps in long else until
+        yield (until, v.leaps(leaps)), v.refused_by("TableFault", check_table, Table(until, leaps))
 
 
 @question("model", "irig_time.is_valid")
 def valid_seconds(random: Random) -> Pairs:
     """What has a text is valid."""
     for _ in range(200):
-        day = random.choice((0, 1, 2, 36_522, 36_523, 36_524, *random.sample(MONTH_ENDS, 4)))
+        day = random.choice((0, 1, 2, 36_522, LAST_DAY, 36_524, *random.sample(MONTH_ENDS, 4)))
         of_day = random.choice((0, 86_399, 86_400, 86_401, random.randrange(86_400)))
-        minute = min(of_day // 60, 1439)
-        clock = f"{minute // 60:02}:{minute % 60:02}:{of_day - 60 * minute:02}"
-        yield Second(day, of_day), second_of_text(f"{EPOCH + timedelta(day)}T{clock}Z") is not None
+        second = Second(day, of_day)
+        yield (second,), second_of_text(text_of_second(second)) is not None

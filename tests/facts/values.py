@@ -1,13 +1,15 @@
 """Values of tests/model as definitions have them."""
 
+from collections.abc import Callable
 from dataclasses import fields
 from enum import Enum
 
-from model.faults import NAMES, Fault
+from model.faults import NAMES, Fault, Refused
 from model.frames import Coded, Control, Poor, Rules
-from model.generator import Generator, GeneratorFault, Zone
+from model.generator import Generator, GeneratorFault, Kind, Zone
 from model.meaning import Event, Plant, ReaderSetup
 from model.reader import ReaderRules, Report
+from model.scenario import Entry
 from model.times import Claim, Mark, Second, Table, Timeline
 
 from . import antt as base
@@ -20,6 +22,7 @@ FIELDS = {
     Control: "leap_pending leap_delete dst_pending dst ±offset_half_hours quality",
     ReaderRules: "lock_after holdover", ReaderSetup: "rules table",
 }  # fmt: skip
+PORTS = {1: "One", 3: "Three", 5: "Five"}
 
 
 def camel(word: str) -> str:
@@ -68,9 +71,28 @@ def fault(value: Fault) -> Antt:
     return Antt(name if value.place is None else f"({name} {place})")
 
 
-def named(kind: str, number: int | None) -> Antt:
-    """A fault or refusal by its number, if there is one."""
-    return some(None if number is None else Antt(f"{kind}.{NAMES[number - 1]}"))
+def outcome(make: Callable, value):
+    """What the model makes of a value, or the refusal of it."""
+    try:
+        return make(value)
+    except Refused as refused:
+        return refused
+
+
+def refusal(value: Refused, kind: str = "Refusal") -> Antt:
+    return Antt(f"{kind}.{NAMES[value.number - 1]}")
+
+
+def refused_by(kind: str, check: Callable, value) -> Antt:
+    """The refusal by a check, as a fault of a kind, if there is one."""
+    refused = outcome(check, value)
+    return some(refused and refusal(refused, kind))
+
+
+def result(value, of_fault: Callable, of_value: Callable = antt) -> Antt:
+    """A value, or the fault or refusal in its place."""
+    is_fault = isinstance(value, Fault | Refused)
+    return Antt(f"(Err {of_fault(value)})" if is_fault else f"(Ok {of_value(value)})")
 
 
 def told(value) -> Antt:
@@ -96,24 +118,30 @@ def symbols(letters: str) -> Antt:
 
 
 def ports(count: int) -> Antt:
-    return Antt("Redundancy." + {1: "One", 3: "Three", 5: "Five"}[count])
+    return Antt(f"Redundancy.{PORTS[count]}")
 
 
 def changes(value: Generator) -> Antt:
     return antt([record(at=at, zone=zone) for at, zone in value.changes])
 
 
-def generator_fault(kind: str, value: int | Mark | None) -> Antt:
-    if value is None:
-        return Antt(f"GenFault.{camel(kind)}")
-    by = leap(value) if isinstance(value, Mark) else antt(value) if kind == "quality" else integer(value)
-    return Antt(f"(GenFault.{camel(kind)} {by})")
+def generator_fault(value: GeneratorFault) -> Antt:
+    kind, by = f"GenFault.{camel(value.kind.value)}", value.value
+    if by is None:
+        return Antt(kind)
+    return Antt(f"({kind} {leap(by) if isinstance(by, Mark) else by if value.kind == Kind.QUALITY else integer(by)})")
+
+
+def fault_of(event: Event, since: int = 0) -> GeneratorFault:
+    """The fault of a generator that an event sets at an edge."""
+    leap = Mark(event["leap"]) if "leap" in event else None
+    return GeneratorFault(Kind(event["kind"]), event.get("by", event.get("q", leap)), since)
 
 
 def generator(value: Generator, rules: Rules, edge: int = 0, fault: GeneratorFault | None = None) -> Antt:
     return record(
         zone=value.zone, changes=changes(value), rules=rules, edge=edge,
-        fault=some(fault and generator_fault(fault.kind.value, fault.value)), since=fault.since if fault else 0,
+        fault=some(fault and generator_fault(fault)), since=fault.since if fault else 0,
     )  # fmt: skip
 
 
@@ -126,12 +154,21 @@ def setup(plant: Plant) -> Antt:
 
 def event(value: Event, readers: list[str]) -> Antt:
     """An event by its keys, its reader by its place."""
-    words = [{"step": "GenEdge"}.get(value["do"], camel(value["do"]))]
+    words = ["GenEdge" if value["do"] == "step" else camel(value["do"])]
     words += [value["g"]] if "g" in value else []
     words += [readers.index(value["r"])] if "r" in value else []
-    words += [value[key] for key in ("at", "width", "edge") if key in value]
-    words += [antt(value["widths"])] if "widths" in value else []
-    if "kind" in value:
-        kind = Mark(value["leap"]) if "leap" in value else None
-        words.append(generator_fault(value["kind"], value.get("by", value.get("q", kind))))
+    words += [antt(value[key]) for key in ("at", "width", "edge", "widths") if key in value]
+    words += [generator_fault(fault_of(value))] if "kind" in value else []
     return Antt(f"(Event.{' '.join(map(str, words))})")
+
+
+def entry(value: Entry, readers: list[str]) -> Antt:
+    """An entry of a log, its reader by its place."""
+    return record(
+        reader=readers.index(value.name), edge=value.n, report=value.report, redundancy=ports(len(value.told)),
+        told=tells(value.told), truth=some(value.truth),
+    )  # fmt: skip
+
+
+def flags(shown: str) -> Antt:
+    return record(all="all" in shown, ports="ports" in shown)

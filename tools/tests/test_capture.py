@@ -23,7 +23,9 @@ from loading import ROOT, InAFolder, loaded
 
 import waves
 from case_files import all_cases
+from model.times import day_of_text
 from parts.recordings import open_recording
+from waves import Change
 
 PROGRAM = ROOT / "crates/irig_main/out/irig_main"
 TOOL = loaded(ROOT / "tools/capture")
@@ -72,8 +74,8 @@ UNLIKE_BY_THEIR_WORD = {
 # What was recorded in examples/one_clock_ahead.vcd: G1 in Paris, 18 seconds ahead from the fifth
 # frame on; G2 inverted, and 300 us later.
 ONE_CLOCK_AHEAD = """\
-{"start":"2026-11-24T09:30:00Z","leaps":[],"parity":"even","sense":"add",\
-"generators":[{"local":0},{"local":2},{"local":0}],"readers":[{"name":"relay"}]}
+{"version":1,"start":"2026-11-24T09:30:00Z","leaps":[],"parity":"even","sense":"add","sbs":"check",\
+"generators":[{"local":0},{"local":2},{"local":0}],"readers":[{"name":"relay","lock_after":2,"holdover":60}]}
 {"do":"seconds","n":4}
 {"do":"fault","g":1,"kind":"skew","by":18}
 {"do":"seconds","n":3}
@@ -81,9 +83,6 @@ ONE_CLOCK_AHEAD = """\
 
 
 # ---- waves
-
-
-Change = tuple[int, int, int]  # the time in microseconds, the line, the level
 
 
 @dataclass(frozen=True)
@@ -128,26 +127,17 @@ class Wave:
             yield -(-end // every_us) - -(-begin // every_us), levels
 
 
-def wave_of_seconds(count: int, seconds: Sequence[list[list[int]]]) -> Wave:
-    """The lines on which these widths come, second by second."""
-    found, levels = [], [0] * count
-    for time, line, level in sorted(
-        change
-        for number, second in enumerate(seconds)
-        for change in waves.changes_of(number, second, [0] * count)
-    ):
-        if levels[line] != level:
-            levels[line] = level
-            found.append((time, line, level))
+def wave_of_text(text: str, count: int = 3) -> Wave:
+    """The lines of a scenario's first reader."""
+    seconds = waves.seconds_of(text)
     end = waves.FIRST_EDGE_US + len(seconds) * waves.SECOND_US + waves.ELEMENT_US
-    return Wave(count, tuple(found), end)
+    return Wave(count, tuple(waves.changes_of(seconds)), end)
 
 
 @cache
 def wave_of(name: str) -> Wave:
-    """The lines of a scenario's first reader."""
-    seconds = list(waves.seconds_of(scenarios()[name].splitlines()))
-    return wave_of_seconds(len(trips_of(name)[0].plant["generators"]), seconds)
+    """The same of an example or a case."""
+    return wave_of_text(scenarios()[name], len(trips_of(name)[0].plant["generators"]))
 
 
 # ---- forms of a recording
@@ -313,7 +303,7 @@ class Forms(InAFolder):
                     self.assertEqual(trips_of(name)[0].outcome(path, *words), wanted_of(name))
 
     def test_the_recording_of_the_examples(self) -> None:
-        lines = wave_of_seconds(3, list(waves.seconds_of(ONE_CLOCK_AHEAD.splitlines())))
+        lines = wave_of_text(ONE_CLOCK_AHEAD)
         lines = lines.line(2, lambda change: [(change[0] + 300, *change[1:])]).inverted(2)
         kept = open_recording(ROOT / "examples/one_clock_ahead.vcd", None)
         found = [(round(time), line, level) for time, line, level in kept.changes(range(3))]
@@ -432,7 +422,7 @@ class Devices(InAFolder):
             setup = [trip.reader["lock_after"], trip.reader["holdover"]]
             if table := trip.reader.get("table"):
                 days = [table["until"], *(leap["day"] for leap in table["leaps"])]
-                setup += [waves.second_of(f"{day}T00:00:00Z")[0] for day in days]
+                setup += map(day_of_text, days)
             said = [line.split(" ", 2) for line in trip.log[:-1] if line[0] != " "]
             wanted = [f"{edge} relay {words}" for edge, _, words in said]
             for ports in [range(lines.count), *[[1]] * (name in alone)]:
@@ -485,8 +475,7 @@ class Edges(InAFolder):
     def clocks(seconds: int, late: Sequence[int]) -> Wave:
         """Clocks that are so many microseconds late."""
         text = ONE_CLOCK_AHEAD.replace('"n":3', f'"n":{seconds - 4}').replace(":18", ":0")
-        lines = wave_of_seconds(3, list(waves.seconds_of(text.splitlines())))
-        return lines.of(lambda change: [(change[0] + late[change[1]], *change[1:])])
+        return wave_of_text(text).of(lambda change: [(change[0] + late[change[1]], *change[1:])])
 
     def ticks(self, lines: Wave) -> list[tuple[int, bool]]:
         """The time of each tick, and whether lines agree on it."""
@@ -597,7 +586,7 @@ class Lines(unittest.TestCase):
         """GPS time is 17 s ahead in 10 frames before 23:59:60, and 18 in 4. One frame that is off, in a
         second of its own, is no such line."""
         text = ONE_CLOCK_AHEAD.replace('"n":3', '"n":1')
-        once = wave_of_seconds(3, list(waves.seconds_of(text.splitlines())))
+        once = wave_of_text(text)
         for lines, wanted in (
             (wave_of("gps_time"), ["G2", "+17 s in 10 frames; the first ended at tick 1, 1.050 s"]),
             (wave_of("ignored_leap"), ["G1", "+1 s in 5 frames; the first ended at tick 11, 11.050 s"]),

@@ -15,10 +15,9 @@ from pathlib import Path
 
 from loading import ROOT, InAFolder
 
-import waves
 from parts.changes import Stamp
 from parts.recordings import open_recording
-from test_capture import ONE_CLOCK_AHEAD, PROGRAM, Wave, scenarios, trips_of, wave_of_seconds
+from test_capture import ONE_CLOCK_AHEAD, PROGRAM, Wave, trips_of, wave_of, wave_of_text
 
 from irig import Second
 
@@ -288,14 +287,13 @@ def wave(by: int = 0, lines: tuple[int, ...] = (1,)) -> Wave:
     """Lines of 2026-11-24T09:30:00Z, of which some are so many seconds ahead."""
     head = ONE_CLOCK_AHEAD.split("\n")[0].replace('"local":2', '"local":0')
     faults = "".join(f'{{"do":"fault","g":{line},"kind":"skew","by":{by}}}\n' for line in lines if by)
-    return wave_of_seconds(3, list(waves.seconds_of(f'{head}\n{faults}{{"do":"seconds","n":6}}'.splitlines())))
+    return wave_of_text(f'{head}\n{faults}{{"do":"seconds","n":6}}')
 
 
 def leap(record: Record) -> Record:
     """Its first edge is that of 23:59:50, so 7.3 s on the wave are 23:59:57.250."""
-    lines = wave_of_seconds(3, list(waves.seconds_of(scenarios()["leap_inserted"].splitlines())))
     stamp = datetime(2016, 12, 31, 23, 59, 57, 250_000)
-    return replace(record, lines=lines, begin_us=7_300_000, stamp=stamp, seconds=5)
+    return replace(record, lines=wave_of("leap_inserted"), begin_us=7_300_000, stamp=stamp, seconds=5)
 
 
 def later(seconds: float) -> Callable[[Record], Record]:
@@ -472,8 +470,8 @@ class Short(InAFolder):
     @staticmethod
     def sent(event: str) -> Wave:
         """The lines of GOOD, but that IRIG2 is an hour ahead of UTC, behind an event."""
-        words = [ONE_CLOCK_AHEAD.split("\n")[0], *event.split("\n"), '{"do":"seconds","n":6}']
-        return wave_of_seconds(3, list(waves.seconds_of([word for word in words if word])))
+        head = ONE_CLOCK_AHEAD.split("\n")[0]
+        return wave_of_text(f'{head}\n{event}\n{{"do":"seconds","n":6}}')
 
 
 class Words(InAFolder):

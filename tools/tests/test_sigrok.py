@@ -26,6 +26,9 @@ sys.path[:0] = [str(ROOT / "tests"), str(ROOT / "python")]
 
 import waves  # noqa: E402
 from case_files import all_cases  # noqa: E402
+from model.frames import Rules as ModelRules, control_of, symbol_of  # noqa: E402
+from model.generator import Generator, Zone, sent  # noqa: E402
+from model.times import Mark, Timeline, second_of_text  # noqa: E402
 
 import irig  # noqa: E402
 
@@ -106,16 +109,10 @@ def verdicts(said: Iterable[Said]) -> list[Said]:
     return [one for one in said if one.text.startswith(VERDICTS)]
 
 
-def letter_of(width_us: int) -> str:
-    """The symbol of a pulse, by docs/FRAME.md."""
-    ranges = {"0": (500, 3499), "1": (3500, 6499), "P": (6500, 9499)}
-    return next((name for name, (least, most) in ranges.items() if least <= width_us <= most), "?")
-
-
 def is_carried(widths: Sequence[int]) -> bool:
     """Whether a line gives these pulses to a port as they are: a frame begins at the first, at no
     other, and none runs into the next."""
-    letters = "".join(map(letter_of, widths))
+    letters = "".join(map(symbol_of, widths))
     whole = 1 <= len(widths) <= 100 and letters[0] == "P" and "PP" not in letters
     return whole and all(0 < width < waves.ELEMENT_US for width in widths)
 
@@ -166,19 +163,17 @@ def in_words(told: str) -> str:
 
 
 def fields_of(coded: str, told: str) -> list[str]:
-    """The fields and control bits, in the order of their elements, by the lines of `irig read`.
-    docs/FRAME.md has the bits."""
-    year, day, hour, minute, second, control, sbs = map(int, re.findall(r"\d+", coded))
-    bit = [control >> place & 1 for place in range(15)]
-    half_hours = sum(2 * bit[5 + n] << n for n in range(4)) + bit[9]
-    quality = control >> 10 & 15
-    leap = ("insert", "delete")[bit[1]] if bit[0] else "none"
+    """The fields and control bits, in the order of their elements, by the lines of `irig read`."""
+    year, day, hour, minute, second, word, sbs = map(int, re.findall(r"\d+", coded))
+    control = control_of(word)
+    leap = ("insert", "delete")[control.deleted] if control.pending else "none"
+    daylight = "on" if control.daylight else "off"
     return [
         f"Second: {second}", f"Minute: {minute}", f"Hour: {hour}", f"Day of the year: {day}",
         f"Year: {year}", f"Leap second: {leap}",
-        f"Daylight saving: {('off', 'on')[bit[3]]}{', about to change' if bit[2] else ''}",
-        f"Offset: {'-' if bit[4] and half_hours else '+'}{half_hours / 2:g} h",
-        f"Time quality: {quality}{ {0: ' (locked)', 15: ' (failure)'}.get(quality, '')}",
+        f"Daylight saving: {daylight}{', about to change' if control.daylight_pending else ''}",
+        f"Offset: {control.offset / 2:+g} h",
+        f"Time quality: {control.quality}{ {0: ' (locked)', 15: ' (failure)'}.get(control.quality, '')}",
         f"Parity: {'wrong' if told == 'fault 17 Parity' else 'right'}",
         f"Straight binary seconds: {sbs}",
     ]
@@ -225,9 +220,9 @@ def runs() -> list[Run]:
 
 
 def run_of(name: str) -> Run:
-    lines = [line for line in (ROOT / name).read_text().splitlines() if line.strip()]
-    plant = json.loads(lines[0])
-    return Run(name, plant, list(zip(*waves.seconds_of(lines))))
+    text = (ROOT / name).read_text()
+    plant = json.loads(next(line for line in text.splitlines() if line.strip()))
+    return Run(name, plant, list(zip(*waves.seconds_of(text))))
 
 
 # ---- what a reader hears
@@ -260,7 +255,7 @@ def heard(pulses: Iterable[Pulse], rules: Rules) -> Heard:
 
 def jumped(width: int) -> int:
     """A width that is read as another symbol."""
-    return 5000 if letter_of(width) != "1" else 2000
+    return 5000 if symbol_of(width) != "1" else 2000
 
 
 # What a fault makes of a pulse, by its name.
@@ -288,10 +283,10 @@ TRUE = ["UTC 2016-12-31T23:59:59Z (insert)", "UTC 2016-12-31T23:59:60Z", "UTC 20
 
 def true_line(begin_us: int, seconds: int) -> list[Pulse]:
     """The line of a clock that is two hours ahead, before and behind the leap second of 2016."""
-    timeline = waves.Timeline(waves.second_of("2016-12-31T23:59:59Z"), {6209: "insert"})
-    clock = waves.Generator(timeline, {"local": 4}, "even", "add")
-    letters = "".join(clock.true_frame(edge) for edge in range(seconds))
-    return pulses_of(begin_us, (waves.WIDTHS[letter] for letter in letters))
+    timeline = Timeline(second_of_text("2016-12-31T23:59:59Z"), ((6209, Mark.INSERT),))
+    clock = Generator(Zone(4, False))
+    letters = (sent(clock, None, timeline, ModelRules(), edge) for edge in range(seconds))
+    return pulses_of(begin_us, (waves.WIDTHS[letter] for letter in "".join(letters)))
 
 
 def with_single_faults() -> list[Pulse]:
@@ -393,7 +388,7 @@ class Frames(unittest.TestCase):
         found = {line.replace(" ", "") for line in ran.stdout.splitlines()}
         ports = itertools.chain.from_iterable(run.ports for run in runs())
         seconds = itertools.chain.from_iterable(ports)
-        found.update("".join(map(letter_of, widths)) for widths in seconds)
+        found.update("".join(map(symbol_of, widths)) for widths in seconds)
         return sorted(letters for letters in found if is_carried(self.widths(letters)))
 
     @staticmethod

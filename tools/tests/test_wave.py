@@ -21,9 +21,9 @@ from unittest import mock
 import loading
 from loading import ROOT
 
-import waves
 from case_files import all_cases
 from parts.recordings import open_recording
+from waves import ELEMENT_US, Change, Widths, changes_of, pulled, seconds_of
 
 TOOL = ROOT / "tools/wave"
 ENVIRONMENT = {**os.environ, "IRIG": str(ROOT / "crates/irig_main/out/irig_main")}
@@ -36,8 +36,6 @@ PLANT = {
     "sbs": "check", "generators": [{"local": 0}] * 3,
     "readers": [{"name": name, "lock_after": 2, "holdover": 60} for name in ("relay", "meter")],
 }
-
-Change = tuple[int, int, int]  # the time in microseconds, the line, the level
 
 
 def run(*words: object, given: str = "", **more: str) -> subprocess.CompletedProcess[str]:
@@ -66,22 +64,10 @@ def scenarios() -> dict[str, str]:
     return {case.name: (ROOT / case.scenario).read_text() for case in ran if case.scenario}
 
 
-def seconds_of(text: str) -> list[list[list[int]]]:
-    return list(waves.seconds_of(text.splitlines()))
-
-
-def is_carried(seconds: Sequence[list[list[int]]]) -> bool:
+def is_carried(seconds: Sequence[list[Widths]]) -> bool:
     """Whether tests/waves.py draws these pulses as they are."""
     widths = [width for second in seconds for line in second for width in line]
-    return all(width < waves.ELEMENT_US for width in widths)
-
-
-def played(seconds: Sequence[list[list[int]]], late: Sequence[int] = (0,) * 5) -> list[Change]:
-    """The changes by tests/waves.py."""
-    return sorted(
-        change for number, second in enumerate(seconds)
-        for change in waves.changes_of(number, second, late)
-    )
+    return all(width < ELEMENT_US for width in widths)
 
 
 # ---- files
@@ -145,7 +131,7 @@ class Waves(InAFolder):
             if is_carried(seconds):
                 with self.subTest(name):
                     changes, end = recorded(self.made(text, said="(.*\n)*"))
-                    self.assertEqual(changes, [*self.low(text), *played(seconds)])
+                    self.assertEqual(changes, [*self.low(text), *changes_of(seconds)])
                     self.assertEqual(end, 70_000 + 1_000_000 * len(seconds))
                     count += 1
         print(f"scenarios: {count}")
@@ -163,7 +149,7 @@ class Waves(InAFolder):
             ((2**32, 2**32 + 1, 2**32), (1, 2**32 // 1000 + 40, 2**32 // 1000 + 14_060)),
         ):
             words = "--late=" + ",".join(map(str, late)), f"--pull={line},{ends[0]},{ends[1]}"
-            wanted = waves.pulled(played(seconds_of(text), late), line, *(1000 * end for end in ends))
+            wanted = pulled(changes_of(seconds_of(text), late), line, *(1000 * end for end in ends))
             with self.subTest(words):
                 path = self.made(text, "lines.vcd", *words)
                 self.assertEqual(recorded(path), ([*self.low(text), *sorted(wanted)], 14_070_000 + max(late)))
@@ -271,7 +257,7 @@ class NotCarried(InAFolder):
     def test_a_hundred_pulses_are_carried(self) -> None:
         text = scenario_of(raw(1, *[2000] * 60), raw(1, *[5000] * 41), tick(), tick())
         changes, _ = recorded(self.made(text, said="a line has room .*: tick 1\n"))
-        self.assertEqual(changes[3:], played([[[], [2000] * 60 + [5000] * 40, []], [[]] * 3]))
+        self.assertEqual(changes[3:], changes_of([[[], [2000] * 60 + [5000] * 40, []], [[]] * 3]))
 
     def test_pulses_that_run_on(self) -> None:
         runs_on = "a pulse of 10 ms or more runs into the next one: tick {}\n"
