@@ -161,6 +161,7 @@ abbrev pub is_58_above : TableValue → Option UtcSecond → Bool
 is_58_above table None = false
 is_58_above table (Some u) = (u.sod == 86398) && is_month_end u.day && nat_lt table.until u.day
 
+-- whether this is a guard edge: neither it nor any of the 57 edges before it is voted
 abbrev pub is_guard : VotedEdges → ℕ → Bool
 is_guard x zero = false
 is_guard x (suc before) =

@@ -82,11 +82,11 @@ step_no_jump : (h : HoldValue) (u : UtcSecond) (age : ℕ) (mark : Mark) (o : Op
 step_no_jump h u age mark None e = stop_no_jump u.day e
 step_no_jump h u age mark (Some v) e = cc
 
-start_no_jump : (u : UtcSecond) (age : ℕ) (mark : Mark) (o : Option UtcSecond) → ¬ (hold_or_stop u age mark o ≡ Err turn.Jump)
+pub start_no_jump : (u : UtcSecond) (age : ℕ) (mark : Mark) (o : Option UtcSecond) → ¬ (hold_or_stop u age mark o ≡ Err turn.Jump)
 start_no_jump u age mark None e = let stop : stop_on u.day ≡ turn.Jump = cc in stop_no_jump u.day stop
 start_no_jump u age mark (Some v) e = cc
 
-alone_no_jump : (table : TableValue) (h : HoldValue) (limit : ℕ) → ¬ ((alone_by table h limit).answer ≡ turn.Jump)
+pub alone_no_jump : (table : TableValue) (h : HoldValue) (limit : ℕ) → ¬ ((alone_by table h limit).answer ≡ turn.Jump)
 alone_no_jump table h limit e =
     elim (cases_Bool (nat_le limit h.age)) [
       | inl long ↦ let both : turn.Expired ≡ turn.Jump = rw long at e in cc

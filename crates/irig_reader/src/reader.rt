@@ -234,7 +234,7 @@ impl<P: Port> Reader<P> {
         self.go_on(None)
     }
 
-    /// Whether all ports are empty: they then tell silence, and there is no vote.
+    /// Yes only if all ports are empty: they then tell silence, and there is no vote.
     pub fn heard_nothing(&self) -> bool
         ensures { result ≡ true → ForReaderHistory self.now (λ h. h.fed ≡ no_pulses) }
     {

@@ -24,6 +24,7 @@ use Rattle.irig_time.specs.declared.rules.Rules.{Rules}
 use Rattle.irig_time.specs.declared.rules.Sense.TheVariants as sense
 use Rattle.irig_time.specs.declared.rules.SbsUse.TheVariants as sbs
 use Rattle.irig_time.specs.declared.claim.Claim.{Claim}
+use Rattle.irig_time.specs.declared.leap.Leap.TheVariants as leap
 use Rattle.irig_time.specs.Timelines.{TimelineValue, times, IsTrueClaim, true_mark}
 use Rattle.irig_time.specs.TimelineFaults.{IsTimeline}
 use Rattle.irig_time.specs.Tables.{TableValue, table}
@@ -36,6 +37,7 @@ use Rattle.irig_vote.specs.declared.redundancy.Redundancy.{Redundancy}
 use Rattle.irig_vote.specs.declared.redundancy.Redundancy.TheVariants as of
 use Rattle.irig_vote.specs.declared.votes.Tells.{Tells}
 use Rattle.irig_vote.specs.Vote.{ports_in}
+use Rattle.irig_reader.specs.declared.rules.ReaderRules.{ReaderRules}
 use Rattle.irig_reader.specs.declared.report.Lock.TheVariants as lock
 use Rattle.irig_reader.specs.declared.report.Cause.TheVariants as cause
 use Rattle.irig_reader.specs.Rule.{step_of}
@@ -567,3 +569,24 @@ as_new k lines = refl
 -- laws say
 stuck : (k : Keeping) (start time rise : ℕ) → (after_pulse k 0 (rise % 2 ^ 32) 500000 ≡ k) × (start ≤ time → time < start + 1799500000 → AreInOrder start of.Three (Hear 0 time rise 500000 ∷ []))
 stuck k start time rise = (refl, λ order soon. (omega arith, order, omega (arith, soon), λ narrow. absurd cc, tt))
+
+-- a device that holds over for at most 57 seconds needs no true table, and one that does for longer
+-- needs one
+abbrev rules_for : ℕ → ReaderRules
+rules_for holdover = record { lock_after = 2; holdover = holdover }
+
+abbrev false_table : TableValue
+false_table = table 6209 ((6209, leap.Insert) ∷ [])
+
+lies : ¬ IsTrueTable noon false_table
+unfolding is_month_end four_years
+lies is = let none : Some leap.Insert ≡ None = is.leaps 6209 refl (omega arith) (omega arith) in cc
+
+short_holdover : IsDevice noon 100 edges (rules_for 57) false_table
+short_holdover = record { steady = steady; sound = is_timeline; knows = inr (omega arith); short = omega arith }
+
+longer_holdover : ¬ IsDevice noon 100 edges (rules_for 58) false_table
+longer_holdover is = elim is.knows [
+  | inl true_table ↦ lies true_table
+  | inr short ↦ absurd (omega (arith, short))
+]

@@ -1,10 +1,7 @@
 -- The reader's rule keeps to the truth by true votes: with a true table, or with any where it holds
 -- over for at most 57 seconds.
-use Rattle.std.proofs.Common.{◌≡◌, ◌==◌, ◌⊎◌, ◌∙◌, ℕ, zero, suc, ◌+◌, Option, Some, None, Err, refl, sym, subst, arith, inl, inr}
-use Rattle.std.specs.Prelude.{nat_le}
-use Rattle.std.proofs.lemmas.Bool.{cases_Bool}
+use Rattle.std.proofs.Common.{◌≡◌, ◌⊎◌, ◌∙◌, ℕ, zero, suc, ◌+◌, Option, Some, None, Err, refl, sym, subst, arith, inl, inr}
 use Rattle.irig_time.specs.declared.second.UtcSecond.{UtcSecond}
-use Rattle.irig_time.specs.declared.mark.Mark.{Mark}
 use Rattle.irig_time.specs.declared.claim.Claim.{Claim}
 use Rattle.irig_time.specs.Next.{next_of}
 use Rattle.irig_time.specs.Timelines.{TimelineValue, IsSecond, IsTrueClaim, truth_at}
@@ -13,7 +10,7 @@ use Rattle.irig_time.specs.Tables.{TableValue, spoken_mark}
 use Rattle.irig_time.proofs.SecondAt.{claim_is}
 use Rattle.irig_hold.specs.declared.hold.Turn.{Turn}
 use Rattle.irig_hold.specs.declared.hold.Turn.TheVariants as turn
-use Rattle.irig_hold.specs.Steps.{HoldValue, stop_on, hold_or_stop, hold_start, outcome_of, voted_by, alone_by}
+use Rattle.irig_hold.specs.Steps.{HoldValue, hold_start, voted_by, alone_by}
 use Rattle.irig_hold.specs.Truth.{IsOnTime, HasHeardLate, HasComeTo}
 use Rattle.irig_hold.proofs.HoldLaws.{started_true, started_in_time, voted_true, voted_on_time, voted_in_time, voted_no_jump, alone_true, alone_short, alone_in_time}
 use Rattle.irig_reader.specs.declared.rules.ReaderRules.{ReaderRules}
@@ -25,6 +22,7 @@ use Rattle.irig_reader.specs.declared.rule.Step.{Step}
 use Rattle.irig_reader.specs.Lives.{KnowsMonthEnds}
 use Rattle.irig_reader.specs.Rule.{stop_step, count_step, cause_of, first_vote_step, step_of}
 use Rattle.irig_reader.proofs.StepCases.{locked_cases, count_cases, first_cases, later_cases, none_cases}
+use Rattle.irig_reader.proofs.TrueSteps.{start_no_jump, alone_no_jump}
 use Rattle.irig_reader.proofs.OneEdge.{voted_says}
 use Rattle.irig_reader.proofs.HeldEdges.{IfHold, IfItGoes, voted_has}
 use Rattle.irig_timekeeper.specs.Rule.{missed}
@@ -48,35 +46,13 @@ stops_calmly turn.LeapGuard calm e = cc
 stops_calmly turn.Expired calm e = cc
 stops_calmly turn.RangeEnd calm e = cc
 
-stop_is_calm : (day : ℕ) → ¬ (stop_on day ≡ turn.Jump)
-stop_is_calm day e =
-    elim (cases_Bool (day == 36523)) [
-      | inl last ↦ let both : turn.RangeEnd ≡ turn.Jump = rw last at e in cc
-      | inr before ↦ let both : turn.LeapGuard ≡ turn.Jump = rw before at e in cc
-    ]
-
-start_is_calm : (u : UtcSecond) (mark : Mark) (o : Option UtcSecond) → ¬ (hold_or_stop u 0 mark o ≡ Err turn.Jump)
-start_is_calm u mark None e = let stop : stop_on u.day ≡ turn.Jump = cc in stop_is_calm u.day stop
-start_is_calm u mark (Some v) e = cc
-
-alone_is_calm : (table : TableValue) (h : HoldValue) (limit : ℕ) → ¬ ((alone_by table h limit).answer ≡ turn.Jump)
-alone_is_calm table h limit e =
-    elim (cases_Bool (nat_le limit h.age)) [
-      | inl long ↦ let both : turn.Expired ≡ turn.Jump = rw long at e in cc
-      | inr short ↦ goes (next_of h.last (spoken_mark table h.heard h.last.day)) (rw short at e)
-    ]
-  where
-    goes : (o : Option UtcSecond) → ¬ ((outcome_of h (hold_or_stop h.last (h.age + 1) h.heard o)).answer ≡ turn.Jump)
-    goes None stop = stop_is_calm h.last.day stop
-    goes (Some v) stop = cc
-
 module _ (t : TimelineValue) (rules : ReaderRules) (table : TableValue) where
   counts_calmly : (h : HoldValue) (count : ℕ) → TellsNoJump (count_step rules h count)
   counts_calmly h count = count_cases TellsNoJump rules h count (λ enough e. cc) (λ more e. cc)
 
   begins_calmly : (c : Claim) → TellsNoJump (first_vote_step rules (hold_start table c))
   begins_calmly c =
-      first_cases TellsNoJump rules (hold_start table c) (λ h e. counts_calmly h 1) (λ stop e. stops_calmly stop (λ jump. start_is_calm c.at c.mark (next_of c.at (spoken_mark table c.mark c.at.day)) (let is : hold_start table c ≡ Err turn.Jump = cc in is)))
+      first_cases TellsNoJump rules (hold_start table c) (λ h e. counts_calmly h 1) (λ stop e. stops_calmly stop (λ jump. start_no_jump c.at 0 c.mark (next_of c.at (spoken_mark table c.mark c.at.day)) (let is : hold_start table c ≡ Err turn.Jump = cc in is)))
 
   goes_calmly : (n : ℕ) (h : HoldValue) (c : Claim) → IsTrueClaim t (n + 1) c → IsSureAt t table n h → (stop : Turn) → (voted_by table h c).answer ≡ stop → TellsNoJump (stop_step (cause_of stop))
   goes_calmly n h c claim sure stop e = stops_calmly stop (λ jump. voted_no_jump t table n h c sure.on_time.last claim (e ∙ jump))
@@ -95,7 +71,7 @@ module _ (t : TimelineValue) (rules : ReaderRules) (table : TableValue) where
   holds_calmly (Acquiring h count) e = cc
   holds_calmly (Locked h) e =
       locked_cases TellsNoJump _ cause.Held (alone_by table h rules.holdover).answer (alone_by table h rules.holdover).new (λ u is jump. cc)
-      (λ stop is. stops_calmly stop (λ jump. alone_is_calm table h rules.holdover (is ∙ jump))) e
+      (λ stop is. stops_calmly stop (λ jump. alone_no_jump table h rules.holdover (is ∙ jump))) e
 
   -- ---- where it stands
 

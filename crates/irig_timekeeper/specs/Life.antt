@@ -101,6 +101,13 @@ AreTrueAtTicks IsTrue f (Hear port time rise width ∷ calls) = AreTrueAtTicks I
 AreTrueAtTicks IsTrue f (Tick now ∷ calls) =
     AreTrueLately IsTrue f now calls × AreTrueAtTicks IsTrue f calls
 
+-- so at each tick of these calls, which came behind those
+abbrev pub AreTrueOver : (ℕ → List Pulse → Type 0) → ℕ → List Call → List Call → Type 0
+AreTrueOver IsTrue f [] before = ⊤
+AreTrueOver IsTrue f (Hear port time rise width ∷ calls) before = AreTrueOver IsTrue f calls before
+AreTrueOver IsTrue f (Tick now ∷ calls) before =
+    AreTrueLately IsTrue f now (calls ++ before) × AreTrueOver IsTrue f calls before
+
 -- a device is what its setup says, its calls are in order, and at each tick all but at most f lines
 -- are such true lines
 pub record LivesTruly
@@ -110,10 +117,3 @@ pub record LivesTruly
   pub is : IsDevice t made.clock.drift_us edges made.clock.reader_rules made.table
   pub order : AreInOrder start made.clock.redundancy calls
   pub truth : AreTrueAtTicks (IsTrue made.rules t edges) (f_of made.clock.redundancy) calls
-
--- so at each tick of these calls, which came behind those
-abbrev pub AreTrueOver : (ℕ → List Pulse → Type 0) → ℕ → List Call → List Call → Type 0
-AreTrueOver IsTrue f [] before = ⊤
-AreTrueOver IsTrue f (Hear port time rise width ∷ calls) before = AreTrueOver IsTrue f calls before
-AreTrueOver IsTrue f (Tick now ∷ calls) before =
-    AreTrueLately IsTrue f now (calls ++ before) × AreTrueOver IsTrue f calls before
