@@ -190,14 +190,14 @@ static MEANINGS: [Meaning; 36] = [
     // 25
     Meaning {
         name: "Shape",
-        cause: "a key is missing or unknown, a value has another type, or a do or kind is none of those known",
+        cause: "a key is missing or unknown, or a value has another type; a do or kind that is not there",
         example: "{\"do\":\"tick\",\"reader\":\"relay\"}",
         cure: "compare the line with the tables of docs/SCENARIOS.md; \"table\" needs version 2",
     },
     // 26
     Meaning {
         name: "Value",
-        cause: "a number is out of its range, a text is none of the words or no date, a list is too long, or generators are too many or too few",
+        cause: "a number out of its range, a text that is none of the words or no date, a list that is too long, or too many or too few generators",
         example: "{\"do\":\"damage\",\"g\":0,\"r\":\"relay\",\"at\":100,\"width\":2000}",
         cure: "compare the value with the tables of docs/SCENARIOS.md",
     },
