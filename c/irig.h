@@ -2,23 +2,22 @@
  *
  * IRIG Standard 200-16, format B, code B004, with the control bits of IEEE 1344-1995. Link with
  * libirig (`make -C c`; docs/C.md). It asks for no memory, keeps nothing between calls, and needs
- * `memcpy`, `memmove` and `memset` of the C library and `__udivti3`, which compilers bring along. A
- * call takes less than 2 KB of stack.
+ * `memcpy`, `memmove` and `memset` of the C library and, of what compilers bring along, what
+ * docs/C.md lists. A call takes less than 2 KB of stack.
  *
  * Pointers. A pointer must lead to one whole, aligned object that no other call reads or writes
- * meanwhile, and no two pointers of one call into the same object: also not into a part of it. A
- * null pointer is answered with IRIG_FAULT_VALUE; by `irig_has_parity` with no, by `irig_sync_pulse`
- * and `irig_timekeeper_wait` with 0, by `irig_reader_hear` and `irig_timekeeper_hear` with
- * IRIG_NO_PORT; and a call without an answer then does nothing. What a structure holds is no duty of
- * the caller: any numbers may lie in it, each call returns, and what is announced is a valid second.
- * A reader or a timekeeper whose numbers were changed by anything but these calls is refused
- * (`irig_reader`).
+ * meanwhile, and no two pointers of one call into the same object: also not into a part of it. A null
+ * pointer is answered with IRIG_FAULT_VALUE; by `irig_has_parity` with no, by `irig_sync_pulse` and
+ * `irig_timekeeper_wait` with 0, by `irig_reader_hear` and `irig_timekeeper_hear` with IRIG_NO_PORT;
+ * and a call without an answer then does nothing. What a structure holds is no duty of the caller:
+ * any numbers may lie in it, each call returns, and what is announced is a valid second. A reader or
+ * a timekeeper of which anything but these calls changed one number is refused (`irig_reader`).
  *
- * Answers. 0 is done. Any other answer is the number of a fault, and nothing was changed; those of
- * a frame have more beside it: `IRIG_FAULT(answer)` is the number, `IRIG_DETAIL(answer)` what it
- * says beside, `irig_fault_text` what it means (docs/FAULTS.md has all; `irig explain NUMBER`
- * prints them). A number that has named values below takes these alone, and any other is
- * IRIG_FAULT_VALUE; but a symbol may be any byte.
+ * Answers. 0 is done. Any other answer is the number of a fault, and nothing was changed, but that
+ * the report of a refused tick is silent; those of a frame have more beside it: `IRIG_FAULT(answer)`
+ * is the number, `IRIG_DETAIL(answer)` what it says beside, `irig_fault_text` what it means
+ * (docs/FAULTS.md has all; `irig explain NUMBER` prints them). A number that has named values below
+ * takes these alone, and any other is IRIG_FAULT_VALUE; but a symbol may be any byte.
  *
  * Threads and interrupts. Calls on different objects may run at the same time, and may interrupt
  * one another. Calls on one object must not: give the interrupts that call for one reader or one
@@ -160,7 +159,8 @@ enum { IRIG_PORTS_THREE = 0, IRIG_PORTS_FIVE = 1, IRIG_PORTS_ONE = 2 };
 enum { IRIG_LEAP_INSERT = 0, IRIG_LEAP_DELETE = 1 };
 
 /* Of several ports a vote is what more than half of them tell. A reader of one port votes what that
- * port tells, so that it follows a clock that lies. */
+ * port tells, so that it follows a clock that lies. docs/EXACTLY_WHEN.md says how to choose
+ * `lock_after` and `holdover`. */
 typedef struct irig_setup {
     uint8_t parity;     /* IRIG_PARITY_EVEN .. */
     uint8_t sense;      /* IRIG_SENSE_ADD: UTC is the coded time plus its offset; or minus it */
@@ -170,7 +170,8 @@ typedef struct irig_setup {
     uint32_t holdover;  /* edges without a vote at which it goes on, 0 to 1,000,000 */
     uint16_t not_before; /* the first day that a frame may claim, 36,523 at most: an earlier claim is
                           * IRIG_FAULT_EARLY. With the day of a firmware's making, no clock that
-                          * sends no year and none whose count of GPS weeks began anew has a vote */
+                          * sends no year has a vote and, for 19 years, none whose count of GPS
+                          * weeks began anew */
     uint8_t poor_from;   /* the quality from which a frame has no vote, 1 to 10; 0 is 10 */
 } irig_setup;
 IRIG_ASSERT((sizeof(irig_setup) == 16u) && (offsetof(irig_setup, holdover) == 8u) &&
@@ -181,9 +182,9 @@ typedef struct irig_leap {
     uint32_t kind; /* IRIG_LEAP_INSERT or IRIG_LEAP_DELETE */
 } irig_leap;
 
-/* The leaps at all month ends up to a day: of the others up to `until` it says that there is none.
- * Of a table of zeros nothing is known. What frames that were voted say of a day's end goes before
- * the table. */
+/* The leaps at all month ends up to a day: of the others up to `until` it says that there is none. Of
+ * a table of zeros nothing is known. What frames that were voted say of a day's end goes before the
+ * table. `tools/leaps` prints the dates, and irig_second_read of a date's first second its day. */
 typedef struct irig_table {
     uint32_t until; /* the last day of which it speaks */
     uint32_t len;   /* how many leaps count, 64 at most */
@@ -220,7 +221,7 @@ IRIG_ASSERT((sizeof(irig_tally) == 24u) && (offsetof(irig_tally, wrong_kind) == 
  * beside. Its fields are there to be looked at, between calls and not while one runs, as from another
  * task; the calls alone may change them. Compare two by their fields: what lies between these means
  * nothing. `check` is made of all numbers before it, and each call renews it. If any one number was
- * changed by anything else, the next tick, and each one behind it, answers IRIG_FAULT_VALUE. */
+ * changed by anything else, the next tick, and each one after it, answers IRIG_FAULT_VALUE. */
 typedef struct irig_reader {
     irig_setup setup;
     irig_table table;
@@ -233,8 +234,8 @@ IRIG_ASSERT((sizeof(irig_reader) == 680u) && (offsetof(irig_reader, table) == 16
             (offsetof(irig_reader, check) == 672u));
 
 /* Where a line stands in its frame: one for each line. It has no check word, so nothing tells if
- * anything else changes it. Whatever lies in it, on a line of true frames each pulse from the 101st on
- * has its place. */
+ * anything else changes it. Whatever lies in it, on a line of true frames each pulse from the 101st
+ * on has its place. */
 typedef struct irig_sync {
     uint32_t rise_us;   /* the leading edge of its last pulse */
     uint8_t place;      /* of that pulse in its frame, 1 to 100; any other is out of step */
@@ -263,11 +264,11 @@ enum {
     IRIG_CAUSE_RANGE_END = 7
 };
 
-/* What a reader says at an edge. Of `agreed`, `differed`, `faulty` and `poor` bit p is port p; a
- * port in none of them was silent. A port that differs lies, or others do, only if `agreed` is not 0.
- * From `quality` on it speaks of the second that was voted, the one before that which is announced,
- * and says nothing if nothing was voted: keep the last zone. irig_coded_of makes local time of a
- * second and a zone. Enough are two of three ports, three of five, one of one. */
+/* What a reader says at an edge. Of `agreed`, `differed`, `faulty` and `poor` bit p is port p; a port
+ * in none of them was silent. If `agreed` is 0, a port in `differed` need not lie. From `quality` to
+ * `dst` it speaks of the second that was voted, the one before that which is announced, and says
+ * nothing if nothing was voted: keep the last zone. irig_coded_of makes local time of a second and a
+ * zone. Enough are two of three ports, three of five, one of one. */
 typedef struct irig_report {
     uint8_t announces;       /* 1 if it announces the second that begins, 0 if it is silent */
     uint8_t lock;            /* IRIG_LOCK_UNLOCKED .. */
@@ -280,7 +281,7 @@ typedef struct irig_report {
     uint8_t faulty;          /* those that told a fault */
     uint8_t poor;            /* those that told a quality that has no vote */
     uint8_t quality;         /* the worst of those that agreed, 0 to 9; 15 if nothing was voted */
-    uint8_t has_local;       /* 1 if enough of those that agreed send one zone, else 0 to the end */
+    uint8_t has_local;       /* 1 if enough of those that agreed send one zone, else 0 to `dst` */
     int8_t local_half_hours; /* of this zone: local time minus UTC */
     uint8_t dst;             /* 1 if daylight saving is in force there, else 0 */
     uint8_t against_hold;    /* those that told another second than the one to which the reader had
@@ -296,7 +297,7 @@ enum { IRIG_TOLD_SILENCE = 0, IRIG_TOLD_FAULT = 1, IRIG_TOLD_POOR = 2, IRIG_TOLD
 /* What a port tells. */
 typedef struct irig_told {
     uint8_t kind;     /* IRIG_TOLD_SILENCE .. */
-    uint8_t quality;  /* 10 to 15 of IRIG_TOLD_POOR, else 0 */
+    uint8_t quality;  /* `poor_from` to 15 of IRIG_TOLD_POOR, else 0 */
     uint32_t fault;   /* of IRIG_TOLD_FAULT, as a call answers it, else 0 */
     irig_claim claim; /* of IRIG_TOLD_CLAIM, else zeros */
 } irig_told;
@@ -307,16 +308,16 @@ IRIG_ASSERT((sizeof(irig_told) == 20u) && (offsetof(irig_told, fault) == 4u) &&
 
 /* A timekeeper is a device that hears lines by its own free-running counter of microseconds, which
  * wraps at 2^32, and says which UTC second begins at which count. A tick may come at any time, early,
- * late, often or seldom, but at least once in half an hour.
+ * late, often or seldom, but at least once in 29 minutes.
  *
- * What one gets wrong unnoticed: a tick has to be told the time up to which pulses were told, and
- * not a later one. Of pulses in a queue that is a time up to the end of the next one, and behind the
- * last of them the time at which the loop looked into the queue. What counts is the time that a tick
- * is told: a loop that stood still ticks behind, between the pulses, at each time that
+ * What one gets wrong unnoticed: a tick has to be told the time up to which pulses were told, and not
+ * a later one. Of pulses in a queue that is a time up to the end of the next one, and after the last
+ * of them the time at which the loop looked into the queue. What counts is the time that a tick is
+ * told: a loop that stood still ticks afterwards, between the pulses, at each time that
  * irig_timekeeper_wait names or each 95 ms, and misses no second (c/examples/poll.c). If ticks run
  * ahead of pulses by more than 4 ms, seconds are counted by the counter alone, which `moved` and
- * `missed` show if they come again and again; if by 100 ms, nothing is ever voted. After sleep, or
- * if the counter stood still or was set: irig_timekeeper_restart. */
+ * `missed` show if they come again and again; if by 100 ms, nothing is ever voted. After sleep, or if
+ * the counter stood still or was set: irig_timekeeper_restart. */
 
 /* A line of a timekeeper. */
 typedef struct irig_line {
@@ -380,7 +381,8 @@ typedef struct irig_stamp {
     uint32_t day;
     uint32_t sod;
     uint32_t offset_us; /* from where the second begins to the event, by the counter */
-    uint32_t bound_us;  /* how far from the true instant the two may lie, at most 491,549 */
+    uint32_t bound_us;  /* how far from the true instant the two may lie, by the counter, at most
+                         * 491,549 */
 } irig_stamp;
 IRIG_ASSERT((sizeof(irig_stamp) == 16u) && (offsetof(irig_stamp, bound_us) == 12u));
 
@@ -516,24 +518,24 @@ void irig_sync_init(irig_sync *sync);
  *                 the tick of that edge, since irig_reader_hear has emptied the port. Take 100
  *     2 to 99
  *     100         the last, element 99: an edge comes 10 ms after it rose. A reader's tick belongs
- *                 behind this pulse of all lines that come (docs/WIRES.md)
+ *                 after this pulse of all lines that come (docs/WIRES.md)
  *
  * `rise_us` is the time of its leading edge, by a clock of microseconds that wraps at 2^32, and
  * `width_us` its width. A pulse is on time if it rises 9,000 to 10,999 us after the one before. A
- * marker that comes behind a marker, or not on time, is the first of a frame, and so is a pulse on
- * time behind the hundredth. Any other pulse that is not on time (behind a lost one, a glitch) is
- * out of step, and so are those behind it until a frame begins. */
+ * marker that comes after a marker, or not on time, is the first of a frame, and so is a pulse on
+ * time after the hundredth. Any other pulse that is not on time (after a lost one, a glitch) is out
+ * of step, and so are those after it until a frame begins. */
 uint8_t irig_sync_pulse(irig_sync *sync, uint32_t rise_us, uint32_t width_us);
 
-/* Puts a line out of step that has been idle for a second. To be called at each tick, before or
- * behind it, and at least once in half an hour: without it a pulse that comes 71 minutes late could
- * be taken for one on time, since the clock wraps. */
+/* Puts a line out of step that has been idle for a second. To be called at each tick, before or after
+ * it, and at least once in half an hour: without it a pulse that comes 71 minutes late could be taken
+ * for one on time, since the clock wraps. */
 void irig_sync_idle(irig_sync *sync, uint32_t now_us);
 
 /* A pulse of the line at a port, 0 to 2 of three, 0 to 4 of five, 0 of one: its place, as
- * irig_sync_pulse answers it. The port is emptied where a frame begins, and fed what has a place;
- * so what it claims at a tick is carried by the last hundred pulses in step before it, each on time
- * behind the one before. IRIG_NO_PORT. Calls for several lines of one reader, and its tick, must not
+ * irig_sync_pulse answers it. The port is emptied where a frame begins, and fed what has a place; so
+ * what it claims at a tick is carried by the last hundred pulses in step before it, each on time
+ * after the one before. IRIG_NO_PORT. Calls for several lines of one reader, and its tick, must not
  * interrupt one another. docs/WIRES.md says when to tick, and what a fault on the line does. */
 uint8_t irig_reader_hear(irig_reader *reader, irig_sync *sync, uint8_t port, uint32_t rise_us,
                          uint32_t width_us);
@@ -570,7 +572,7 @@ uint32_t irig_timekeeper_init(irig_timekeeper *timekeeper, const irig_setup *set
 /* A pulse on a line, 0 to 2 of three, 0 to 4 of five, 0 of one, once it has ended, in order of time,
  * and before any tick of half a second or more after it rose: its place, as irig_sync_pulse answers
  * it. A width of 500,000 us or more is no pulse, the line is stuck: 0, and nothing changes.
- * IRIG_NO_PORT. Behind a place of 100 there may be less to wait. */
+ * IRIG_NO_PORT. After a place of 100 there may be less to wait. */
 uint8_t irig_timekeeper_hear(irig_timekeeper *timekeeper, uint8_t line, uint32_t rise_us,
                              uint32_t width_us);
 
@@ -580,24 +582,25 @@ uint8_t irig_timekeeper_hear(irig_timekeeper *timekeeper, uint8_t line, uint32_t
  * second is silent, and irig_timekeeper_init begins afresh.
  *
  * If it answers 0, a second that is announced with the cause IRIG_CAUSE_VOTED is the true one, and
- * its true edge lies at most 1,549 us behind `edge_us` or 549 before it, provided that no two of
- * three lines (three of five; not the one line) were untrue in the last 1.2 s, and the others keep
- * what they then heard. That holds whenever the call comes, whatever came before, and whatever other
- * numbers lie in the timekeeper. In one that irig_timekeeper_init made, a second with the cause
- * IRIG_CAUSE_HELD is true too, if that was so at each tick, the counter is as steady as `drift_us`
- * says, calls were in order, and the table is right, which up to a `holdover` of 57 it need not be;
- * its edge lies off by `drift_us` more for each of `lock_count` seconds. */
+ * its true edge comes at most 1,549 us after `edge_us` or 549 before it, provided that the counter is
+ * at most 100 us a second wrong, no two of three lines (three of five; not the one line) were untrue
+ * in the last 1.2 s, and the others keep what they then heard. That holds whenever the call comes,
+ * whatever came before, and whatever other numbers lie in the timekeeper. In one that
+ * irig_timekeeper_init made, a second with the cause IRIG_CAUSE_HELD is true too, if that was so at
+ * each tick, the counter is as steady as `drift_us` says, calls were in order, and the table is
+ * right, which up to a `holdover` of 57 it need not be; its edge lies off by `drift_us` more for each
+ * of `lock_count` seconds. */
 uint32_t irig_timekeeper_tick(irig_timekeeper *timekeeper, uint32_t now_us, irig_second *second);
 
-/* How long until a tick has something to do, in microseconds, if no call comes before it: 0 if one at
- * once has, at most 1,005,000 unless `now_us` lies before the last edge. Behind a tick at `now_us`
- * that was not refused it is above 0. 0 where a tick would be refused. */
+/* How long until a tick has something to do, in microseconds, if no call comes before it: 0 if it has
+ * now, at most 1,005,000 unless `now_us` lies before the last edge. After a tick at `now_us` that was
+ * not refused it is above 0. 0 where a tick would be refused. */
 uint32_t irig_timekeeper_wait(const irig_timekeeper *timekeeper, uint32_t now_us);
 
-/* The time of an event, by the second that was told last if it lies behind that one's edge, as it was
+/* The time of an event, by the second that was told last if it lies after that one's edge, as it was
  * told, else by the one before; these have to be announced, and the event at most a second and the
- * error of the edge behind them. Ask behind ticks of 5 ms to a second after the event: its own second
- * is told then, and no two after it. IRIG_FAULT_VALUE, also where a tick would be refused. */
+ * error of the edge after them. Ask once ticks are 5 ms to a second past the event: its own second is
+ * told then, and no two after it. IRIG_FAULT_VALUE, also where a tick would be refused. */
 uint32_t irig_timekeeper_stamp(const irig_timekeeper *timekeeper, uint32_t time_us,
                                irig_stamp *stamp);
 

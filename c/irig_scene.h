@@ -72,7 +72,7 @@ typedef struct irig_refusal {
     uint8_t number;    /* of the refusal: 11 to 16, 19 to 34; docs/FAULTS.md has them */
 } irig_refusal;
 
-/* The same run; with `ports` the log has behind each tick what its ports told, as with `irig run
+/* The same run; with `ports` the log has after each tick what its ports told, as with `irig run
  * --ports`. If a line is refused, `refusal` says which and as what, and as much of the reason is
  * written to `reason` as `reason_room` bytes hold, with no 0 behind it: one line of text, without a
  * newline, as the program writes it to standard error. */
@@ -115,8 +115,8 @@ typedef struct irig_verdict {
 /* The same run, whose log is written as numbers, silent edges too: as many of its entries as `room`
  * holds; those of `entries` after that stay as they were. `*whole` is how many entries the log has.
  * If that is more than `room`, call again with so many. `verdict`, `refusal` and `reason` are always
- * written. After IRIG_RUN_NO_LOG, which here only the text of a refusal can lack, and
- * IRIG_RUN_NO_MEMORY `*whole` is 0, and no entry is written. */
+ * written. After IRIG_RUN_NO_LOG (here: no memory for the text of a refusal) and IRIG_RUN_NO_MEMORY
+ * `*whole` is 0, and no entry is written. */
 uint8_t irig_run_entries(const uint8_t *text, size_t count, irig_entry *entries, size_t room,
                          size_t *whole, irig_verdict *verdict, uint8_t *reason,
                          size_t reason_room, irig_refusal *refusal);

@@ -93,7 +93,7 @@ class Faulty:
 
 @dataclass(frozen=True)
 class Poor:
-    """A port heard a frame of a quality, 10 to 15, that has no vote."""
+    """A port heard a frame of a quality that has no vote, `poor_from` to 15."""
 
     quality: int
 

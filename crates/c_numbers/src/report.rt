@@ -55,7 +55,7 @@ pub struct IrigReport {
 pub struct IrigTold {
     /// 0 silence, 1 a fault, 2 a quality without a vote, 3 a claim.
     pub kind: u8,
-    /// The quality, 10 to 15, or 0.
+    /// Of 2 the quality, 1 to 15, else 0.
     pub quality: u8,
     /// The number of the fault, or 0.
     pub fault: u32,
