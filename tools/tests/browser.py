@@ -19,7 +19,7 @@ from pathlib import Path
 from typing import Any
 
 NAMES = ("chromium", "chromium-browser", "google-chrome")
-PATIENCE = 60.0  # seconds for one answer
+PATIENCE = 180.0  # seconds for one answer
 
 
 def program() -> str | None:
