@@ -1,4 +1,5 @@
-/* irig.h: the proved IRIG-B codec, reader and timekeeper, for C99, C11 and C++.
+/* irig.h: an IRIG-B codec, reader and timekeeper, for C99, C11 and C++11: proved on x86-64 and
+ * aarch64, elsewhere only tested (docs/C.md).
  *
  * IRIG Standard 200-16, format B, code B004, with the control bits of IEEE 1344-1995. Link with
  * libirig (`make -C c`; docs/C.md). It asks for no memory, keeps nothing between calls, and needs
@@ -314,10 +315,12 @@ IRIG_ASSERT((sizeof(irig_told) == 20u) && (offsetof(irig_told, fault) == 4u) &&
  * a later one. Of pulses in a queue that is a time up to the end of the next one, and after the last
  * of them the time at which the loop looked into the queue. What counts is the time that a tick is
  * told: a loop that stood still ticks afterwards, between the pulses, at each time that
- * irig_timekeeper_wait names or each 95 ms, and misses no second (c/examples/poll.c). If ticks run
- * ahead of pulses by more than 4 ms, seconds are counted by the counter alone, which `moved` and
- * `missed` show if they come again and again; if by 100 ms, nothing is ever voted. After sleep, or if
- * the counter stood still or was set: irig_timekeeper_restart. */
+ * irig_timekeeper_wait names or each 95 ms, and misses no second (c/examples/poll.c). It leaves out a
+ * time that lies before the one told last (`t - told > UINT32_MAX / 2`), else it counts on through 71
+ * minutes that have not been. If ticks run ahead of pulses by more than 4 ms, seconds are counted by
+ * the counter alone, which `moved` and `missed` show if they come again and again; if by 100 ms,
+ * nothing is ever voted. After sleep, or if the counter stood still or was set:
+ * irig_timekeeper_restart. */
 
 /* A line of a timekeeper. */
 typedef struct irig_line {
@@ -376,7 +379,9 @@ typedef struct irig_second {
 IRIG_ASSERT((sizeof(irig_second) == 40u) && (offsetof(irig_second, edge_us) == 4u) &&
             (offsetof(irig_second, report) == 16u));
 
-/* The time of an event: the second that had begun, and how long before. */
+/* The time of an event: a second, and how long behind its beginning. By the error of that edge the
+ * offset may reach 1,000,000 and `bound_us` more, when the next second had begun: print it with a
+ * carry, by irig_second_next. */
 typedef struct irig_stamp {
     uint32_t day;
     uint32_t sod;
@@ -594,13 +599,15 @@ uint32_t irig_timekeeper_tick(irig_timekeeper *timekeeper, uint32_t now_us, irig
 
 /* How long until a tick has something to do, in microseconds, if no call comes before it: 0 if it has
  * now, at most 1,005,000 unless `now_us` lies before the last edge. After a tick at `now_us` that was
- * not refused it is above 0. 0 where a tick would be refused. */
+ * not refused it is above 0. 0 where a tick would be refused: a loop that goes by it then has to
+ * begin afresh. */
 uint32_t irig_timekeeper_wait(const irig_timekeeper *timekeeper, uint32_t now_us);
 
 /* The time of an event, by the second that was told last if it lies after that one's edge, as it was
  * told, else by the one before; these have to be announced, and the event at most a second and the
- * error of the edge after them. Ask once ticks are 5 ms to a second past the event: its own second is
- * told then, and no two after it. IRIG_FAULT_VALUE, also where a tick would be refused. */
+ * error of the edge after them. Ask 5 ms to a second after the event, when all ticks that were due
+ * are told: its own second is told then, and no two after it. IRIG_FAULT_VALUE, also where a tick
+ * would be refused. */
 uint32_t irig_timekeeper_stamp(const irig_timekeeper *timekeeper, uint32_t time_us,
                                irig_stamp *stamp);
 

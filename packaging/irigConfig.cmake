@@ -1,12 +1,17 @@
 # Finds the folder of the processor that the project compiles for, by what its compiler defines for
-# CMAKE_C_FLAGS. Where that says too little, -DIRIG_TARGET=.. names the folder.
+# CMAKE_C_FLAGS, or without C those of C++. Where that says too little, -DIRIG_TARGET=.. names the folder.
+set(_irig_language C)
+if(NOT CMAKE_C_COMPILER)
+    set(_irig_language CXX)
+endif()
+set(_irig_compiler "${CMAKE_${_irig_language}_COMPILER}")
 if(NOT IRIG_TARGET)
-    separate_arguments(_irig_words NATIVE_COMMAND "${CMAKE_C_FLAGS}")
-    if(CMAKE_C_COMPILER_TARGET)
-        list(APPEND _irig_words "--target=${CMAKE_C_COMPILER_TARGET}")
+    separate_arguments(_irig_words NATIVE_COMMAND "${CMAKE_${_irig_language}_FLAGS}")
+    if(CMAKE_${_irig_language}_COMPILER_TARGET)
+        list(APPEND _irig_words "--target=${CMAKE_${_irig_language}_COMPILER_TARGET}")
     endif()
     execute_process(
-        COMMAND "${CMAKE_C_COMPILER}" ${_irig_words} -dM -E
+        COMMAND "${_irig_compiler}" ${_irig_words} -x c -dM -E
             "${CMAKE_CURRENT_LIST_DIR}/x86_64-linux-gnu/include/irig.h"
         OUTPUT_VARIABLE _irig_defined ERROR_QUIET)
     foreach(_irig_known
@@ -36,6 +41,6 @@ if(EXISTS "${CMAKE_CURRENT_LIST_DIR}/${IRIG_TARGET}/lib/cmake/irig/irigConfig.cm
     include("${CMAKE_CURRENT_LIST_DIR}/${IRIG_TARGET}/lib/cmake/irig/irigConfig.cmake")
 else()
     set(irig_FOUND FALSE)
-    string(CONCAT irig_NOT_FOUND_MESSAGE "no library for what ${CMAKE_C_COMPILER} compiles for:"
+    string(CONCAT irig_NOT_FOUND_MESSAGE "no library for what ${_irig_compiler} compiles for:"
         " set IRIG_TARGET to a folder of ${CMAKE_CURRENT_LIST_DIR}")
 endif()

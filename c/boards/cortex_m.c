@@ -8,7 +8,7 @@
 void stack_top(void); /* a place of cortex_m.ld, and no function */
 void _start(void);
 
-#ifdef TRAP_UNALIGNED
+#if defined(TRAP_UNALIGNED)
 
 /* The configuration and control register of ARMv7-M, and its bit UNALIGN_TRP. */
 static volatile uint32_t *const configuration = (volatile uint32_t *)0xE000ED14u;
@@ -16,6 +16,16 @@ static const uint32_t UNALIGN_TRP = 8u;
 
 static void begin(void) {
     *configuration |= UNALIGN_TRP;
+    _start();
+}
+
+#elif defined(__ARM_FP)
+
+/* The access to the unit for floating point, which is off after a reset. */
+static volatile uint32_t *const coprocessors = (volatile uint32_t *)0xE000ED88u;
+
+static void begin(void) {
+    *coprocessors |= 0xFu << 20;
     _start();
 }
 

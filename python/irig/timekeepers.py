@@ -35,8 +35,9 @@ class Beat:
 class Stamp:
     """The time of an event.
 
-    second: the UTC second that had begun
-    offset_us: how long before the event it began, by the counter
+    second: a UTC second
+    offset_us: how long before the event it began, by the counter; with the error of that edge it may reach
+        1,000,000 and bound_us more, when the next second had begun
     bound_us: how far from the true instant the two may lie
     """
 

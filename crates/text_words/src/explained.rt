@@ -16,7 +16,7 @@ static WORDS: [Meaning; 21] = [
         name: "voted",
         cause: "there was a vote: two of three ports, or three of five, told the second that has just ended, and the same of a leap second",
         example: "5 relay 2016-06-15T12:00:05Z locked voted",
-        cure: "nothing: all is well",
+        cure: "nothing, if the premises were kept; else irig blame FILE shows who lied",
     },
     Meaning {
         name: "held",
@@ -64,7 +64,7 @@ static WORDS: [Meaning; 21] = [
         name: "locked",
         cause: "the announced second stands on a vote for the one before it",
         example: "5 relay 2016-06-15T12:00:05Z locked voted",
-        cure: "nothing: all is well",
+        cure: "nothing, if the premises were kept; else irig blame FILE shows who lied",
     },
     Meaning {
         name: "holdover",
