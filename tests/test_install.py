@@ -214,6 +214,20 @@ class Release(unittest.TestCase):
         scenario = self.top / "doc/examples/leap_inserted.jsonl"
         self.assertEqual(self.said(built / "run", scenario), self.log(scenario))
 
+    def test_cmake_by_cxx_alone(self) -> None:
+        project = self.folder / "cxx"
+        project.mkdir()
+        (project / "version.cpp").write_text(
+            '#include "irig.h"\n#include <cstdio>\nint main() { std::puts(irig_version()); }\n'
+        )
+        (project / "CMakeLists.txt").write_text(
+            "cmake_minimum_required(VERSION 3.13)\nproject(version CXX)\nfind_package(irig REQUIRED)\n"
+            "add_executable(version version.cpp)\ntarget_link_libraries(version irig::irig)\n"
+        )
+        self.said("cmake", "-S", project, "-B", project, f"-DCMAKE_PREFIX_PATH={self.top}")
+        self.said("cmake", "--build", project)
+        self.assertIn(self.said(project / "version").strip(), (self.top / "README").read_text())
+
     def test_cmake_for_boards(self) -> None:
         if not shutil.which("arm-none-eabi-gcc") or not shutil.which("qemu-system-arm"):
             print("skipped: a release on boards: arm-none-eabi-gcc or qemu-system-arm is missing")

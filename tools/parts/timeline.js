@@ -549,8 +549,9 @@ class Timeline {
     part("in").addEventListener("click", () => this.zoom_here(0.5));
     part("out").addEventListener("click", () => this.zoom_here(2));
     part("whole").addEventListener("click", () => this.show_all());
-    part("edge").addEventListener("change", () => {
-      this.choose(this.cursor.lane, Math.round(Number(part("edge").value)) || this.first);
+    part("edge").addEventListener("change", () => { // of the reader that is looked for, if it is one
+      const lane = this.lanes.find(({ reader }) => reader === part("reader").value);
+      this.choose(lane || this.cursor.lane, Math.round(Number(part("edge").value)) || this.first);
     });
     part("find-controls").addEventListener("submit", (event) => event.preventDefault());
     new ResizeObserver(() => this.look()).observe(part("timeline"));

@@ -265,6 +265,10 @@ class InBrowser(browser.Driven):
     def test_an_edge_and_a_text(self) -> None:
         self.set("edge", "7")
         self.assertTrue(self.text("line").startswith("7 relay"))
+        self.set("reader", "meter")
+        self.set("edge", "6")
+        self.assertTrue(self.text("line").startswith("6 meter"))
+        self.set("reader", "")
         self.set("text", "23:59:60")
         self.press("text", "Enter")
         self.assertTrue(self.text("line").startswith("10 relay 2016-12-31T23:59:60Z"))
