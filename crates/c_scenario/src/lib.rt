@@ -6,7 +6,8 @@
 #![tactic(auto)]
 
 ghost use Rattle.std.specs.Prelude.{All, ◌≡◌, ◌≢◌, ◌≤◌, ◌⊎◌, ℕ, List, IsSome, None, Some, length, take, true};
-ghost use Rattle.text_frame.specs.Frame.{ShowsFrameOf};
+ghost use Rattle.text_frame.specs.Frame.{NamesNoSecond, ShowsFrameOf};
+ghost use Rattle.text_frame.specs.Letters.{ShowsNoSymbols};
 ghost use Rattle.text_frame.specs.Reading.{IsReadingOf};
 ghost use Rattle.irig_plant.specs.Schedule.{log_of};
 ghost use Rattle.irig_plant.specs.Truth.{IsTruthful};
@@ -33,7 +34,6 @@ pub use frame::IrigFrameOptions;
 use irig_scene::Shown;
 pub use refusal::{IrigRefusal, IrigSpan};
 use std::alloc::Global;
-use std::str;
 use text_frame::{FrameText, ReadingFault, frame_lines, frame_text};
 
 // Of the texts of frames: written; and not, for a text that is none of a second or of a frame, or a
@@ -170,11 +170,9 @@ pub extern "C" fn irig_scene_c_frame_text(
 ) -> u8
     ensures frame { result ≡ 0 → ShowsFrameOf time.now (options_in options.now) text.new }
     ensures in_range { result ≡ 0 → are_options options.now ≡ true }
+    ensures bad { result ≢ 0 → are_options options.now ≡ true → NamesNoSecond time.now }
     ensures unchanged { result ≢ 0 → text.new ≡ text.old }
 {
-    let Ok(time) = str::from_utf8(time) else {
-        return BAD_TEXT;
-    };
     if !frame::are_options(options) {
         return BAD_TEXT;
     }
@@ -207,13 +205,11 @@ pub extern "C" fn irig_scene_c_frame_lines(
         × IsReadingOf (rules_in parity sense sbs) text.now said
         × (whole.new ≡ length said) × (lines.new ≡ written_over lines.old said) }
     ensures in_range { result ≡ 0 → are_rules parity sense sbs ≡ true }
+    ensures bad { result ≡ 1 → are_rules parity sense sbs ≡ true → ShowsNoSymbols text.now }
     ensures unchanged { result ≢ 0 → lines.new ≡ lines.old }
     ensures none { result ≢ 0 → whole.new ≡ 0 }
 {
     *whole = 0;
-    let Ok(text) = str::from_utf8(text) else {
-        return BAD_TEXT;
-    };
     if !frame::are_rules(parity, sense, sbs) {
         return BAD_TEXT;
     }

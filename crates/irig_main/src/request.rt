@@ -123,7 +123,7 @@ fn show_frame<O: Write>(
     ensures unwritten { result ≡ Err Fault.BadTime → output.new ≡ output.old }
     ensures other { result ≢ Err Fault.BadFrameText }
 {
-    match frame_text(time, options) {
+    match frame_text(time.as_bytes(), options) {
         Ok(text) => write(output, &text),
         Err(fault) => Err(Fault::from(fault)),
     }
@@ -142,7 +142,7 @@ fn show_reading<O: Write>(
     ensures unwritten { result ≡ Err Fault.BadFrameText → output.new ≡ output.old }
     ensures other { result ≢ Err Fault.BadTime }
 {
-    match frame_lines(alloc, frame, rules) {
+    match frame_lines(alloc, frame.as_bytes(), rules) {
         Ok(lines) => write(output, lines.as_str().as_bytes()),
         Err(fault) => Err(Fault::from(fault)),
     }

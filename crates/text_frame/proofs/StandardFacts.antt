@@ -1,12 +1,12 @@
 -- Known lines, so that a wrong definition does not check: those of the worked examples, and each
 -- number and name of docs/FAULTS.md.
-use Rattle.std.proofs.Common.{◌≡◌, ℕ, pos, true, false, List, [], ◌∷◌, Some, None, map, refl, sym}
+use Rattle.std.proofs.Common.{◌≡◌, ℕ, pos, true, List, [], ◌∷◌, Some, map, refl, sym}
 use Rattle.std.specs.Prelude.{codes}
 use Rattle.std.specs.Fmt.{digits}
 use Rattle.irig_frame.specs.declared.coded.Coded.{Coded}
 use Rattle.irig_frame.specs.declared.layout.Field.TheVariants.{Second, Minute, Hour, Day, Year}
 use Rattle.irig_frame.specs.declared.fault.FrameFault.TheVariants.{Short, Long, Pulse, Marker, Digit, Range}
-use Rattle.irig_control.specs.declared.parity.Parity.TheVariants.{Even, Odd}
+use Rattle.irig_control.specs.declared.parity.Parity.TheVariants.{Odd}
 use Rattle.irig_control.specs.Control.{word_of}
 use Rattle.irig_time.specs.declared.leap.Leap.TheVariants as leap
 use Rattle.irig_time.specs.declared.rules.Sense.{Sense}

@@ -35,12 +35,12 @@ pub struct BadTime;
 
 /// The frame of the UTC second whose text this is, with these options, each in the range that
 /// [`FrameOptions`] gives; `BadTime` if it is the text of no second of the years served.
-pub fn frame_text(time: &str, options: &FrameOptions) -> Result<FrameText, BadTime>
+pub fn frame_text(time: &[u8], options: &FrameOptions) -> Result<FrameText, BadTime>
     requires { IsFrameOptions options.now }
     ensures frame { IfOk result (λ text. ShowsFrameOf time.now options.now text) }
     ensures bad_time { OnErr result (NamesNoSecond time.now) }
 {
-    let Some(utc) = read_text(time.as_bytes()) else {
+    let Some(utc) = read_text(time) else {
         return Err(BadTime);
     };
     let control = control_of(options);

@@ -23,7 +23,7 @@ pub enum ReadingFault {
 /// What the frame says: the line of the time that it codes, if it codes one, and the line of what a
 /// port of these rules tells of it; `BadFrameText` if the text has a letter of no symbol, `Memory`
 /// if there was none.
-pub fn frame_lines(alloc: Global, text: &str, rules: Rules) -> Result<String, ReadingFault>
+pub fn frame_lines(alloc: Global, text: &[u8], rules: Rules) -> Result<String, ReadingFault>
     ensures lines { IfOk result (λ lines. IsReadingOf rules text.now (string_bytes lines)) }
     ensures bad_text { (result ≡ Err ReadingFault.BadFrameText)
         ↔ ShowsNoSymbols text.now }
@@ -37,15 +37,14 @@ pub fn frame_lines(alloc: Global, text: &str, rules: Rules) -> Result<String, Re
 }
 
 // The symbols, or the first 101 of them, which are enough to see that there are too many.
-fn symbols_of(text: &str) -> Result<ArrayVec<Symbol, 101>, ReadingFault>
+fn symbols_of(text: &[u8]) -> Result<ArrayVec<Symbol, 101>, ReadingFault>
     ensures ok { IfOk result (λ kept. (symbols : List Symbol) × Shows text.now symbols
         × (kept.items ≡ take 101 symbols)) }
     ensures err { OnErr result (ShowsNoSymbols text.now) }
     ensures kind { IfErr result (λ fault. fault ≡ ReadingFault.BadFrameText) }
 {
     let mut symbols = ArrayVec::new();
-    let letters = text.as_bytes();
-    for letter in letters {
+    for letter in text {
         if *letter == b' ' {
             continue;
         }

@@ -1,14 +1,13 @@
-use Rattle.std.proofs.Common.{ℤ, subst, sym, to_z, of_z, w8}
+use Rattle.std.proofs.Common.{ℤ, subst, to_z, of_z, w8}
 use Rattle.irig_control.specs.declared.control.Control.{Control}
 use Rattle.irig_control.proofs.ControlLaws.{in_byte}
-use Rattle.irig_time.specs.Texts.{IsText}
 use Rattle.irig_time.specs.Frames.{IsFrameOfSecond}
 use Rattle.text_frame.specs.Frame.{control_with}
 use Rattle.text_frame.proofs.frame.frame_text.Goals as goal
 
 pub returns-in_default-clause-bad_time : goal.returns-in_default-clause-bad_time
 returns-in_default-clause-bad_time c utc valid named =
-    c.in_default.not-Some utc ((c.read_text.ensures.exact utc).1 (valid, subst (IsText utc) (sym c.as_bytes.ensures.value) named))
+    c.in_default.not-Some utc ((c.read_text.ensures.exact utc).1 (valid, named))
 
 pub frame_of_second-frame-requires-clause-valid : goal.frame_of_second-frame-requires-clause-valid
 frame_of_second-frame-requires-clause-valid c = ((c.read_text.ensures.exact c.in-Some.utc).0 c.in-Some.is).0
@@ -24,7 +23,7 @@ returns-clause-frame c =
       utc = utc;
       frame = frame;
       valid = read.0;
-      named = subst (IsText utc) c.as_bytes.ensures.value read.1;
+      named = read.1;
       codes = subst (λ (h : ℤ). IsFrameOfSecond options.parity utc h (control_with options) frame) (in_byte options.local c.requires.local) controlled;
       shown = c.text_of.ensures;
     }

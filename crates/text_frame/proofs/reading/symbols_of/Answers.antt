@@ -8,17 +8,17 @@ use Rattle.text_frame.proofs.reading.symbols_of.Goals as goal
 
 pub returns-in_default-clause-err : goal.returns-in_default-clause-err
 returns-in_default-clause-err c symbols shown =
-    let text = c.as_bytes-letters.result.now in
+    let text = c.args.text.now in
     let i = c.loop-letter.letter-index in
     let letter = slice_index_or text i 0 in
     let whole : text ≡ take i text ++ letter ∷ drop (i + 1) text =
     sym (take-append-drop i text) ∙ ap (λ (rest : List ℕ). take i text ++ rest) (drop_more text i 0 c.loop-letter-test.true) in
     strange-letter (take i text) (drop (i + 1) text) letter symbols c.if-letter-eq32.false (λ symbol is. c.in_default.not-Some symbol ((c.from_letter.ensures symbol).1 is))
-    (subst (λ (t : List ℕ). Shows t symbols) (sym c.as_bytes-letters.ensures.value ∙ whole) shown)
+    (subst (λ (t : List ℕ). Shows t symbols) whole shown)
 
 pub loop-letter-preserved : goal.loop-letter-preserved
 loop-letter-preserved c =
-    let text = c.as_bytes-letters.result.now in
+    let text = c.args.text.now in
     let i = c.loop-letter.letter-index in
     let read = c.loop-letter.invariant in
     let taken : c.if-not-is_full.symbols.items ≡ take 101 (read.past ++ c.in-Some.symbol ∷ []) = elim c.if-not-is_full.branch [
