@@ -380,8 +380,8 @@ IRIG_ASSERT((sizeof(irig_second) == 40u) && (offsetof(irig_second, edge_us) == 4
             (offsetof(irig_second, report) == 16u));
 
 /* The time of an event: a second, and how long behind its beginning. By the error of that edge the
- * offset may reach 1,000,000 and `bound_us` more, when the next second had begun: print it with a
- * carry, by irig_second_next. */
+ * offset may reach 1,000,000 and `bound_us` more, when the next second had begun: it is no fraction
+ * to print behind a point. */
 typedef struct irig_stamp {
     uint32_t day;
     uint32_t sod;
