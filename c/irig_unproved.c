@@ -11,8 +11,8 @@ __attribute__((constructor)) static void say(void) {
     struct stat said;
     double age = stat(SAID, &said) == 0 ? difftime(time(NULL), said.st_mtime) : -1;
     if ((word != NULL && strcmp(word, "quiet") == 0) || (age >= 0 && age < 3600)) return;
-    fputs("irig: not proved: what " LIBRARY " answers is checked only as it is computed; "
-          "`make -C c` proves it (docs/PROOFS.md says how long that takes)\n", stderr);
+    fputs("irig: not proved: " LIBRARY " only tests sums, indices and casts as it runs; "
+          "`make -C c` proves it: " TIME_PROVED "\n", stderr);
     FILE *file = fopen(SAID, "w");
     if (file != NULL) fclose(file);
 }

@@ -44,8 +44,8 @@ def shared_libraries() -> List[Path]:
         subprocess.run(words, check=True, stdout=sys.stderr)
     except (OSError, subprocess.CalledProcessError) as error:
         sys.exit(
-            f"{error}\nmake, cc and the proved libraries are needed, which no source may be newer than:"
-            " `make -C c` at the top of the repository proves and builds them; then install again."
+            f"{error}\nThe proved libraries are missing, or older than a source: at the top of the"
+            " repository `make -C c` proves and builds them, by make and cc; then install again."
         )
     return made
 

@@ -1,4 +1,9 @@
-# The kit, and the kit again, of links, so that one of its tools can keep what the toolchain removes.
+# What the scripts here share: the kit, and the kit again, of links, so that one of its tools can keep
+# what the toolchain removes. `c/Makefile` reads the times too.
+
+# How long it takes, as messages say it: to make something unproved, and to prove it.
+time_unproved='about a minute'
+time_proved='10 to 20 minutes on four cores'
 
 # The folder of the kit.
 find_kit() {
@@ -36,4 +41,28 @@ make_kit() {
     cp "$from"/bin/{rt,rtlib.py} "$to/bin"
     ln -s "$(type -P true)" "$to/bin/rattle"
     make_toolchain "$from" "$to/toolchain" "$tool"
+}
+
+# Keeps the module that `rt try` makes of a program, which tests each sum, index and cast as it runs:
+# `keep_module KIT CRATE ROOM` leaves ROOM/module.bc. Where none came, ROOM/told says why; it ends with
+# 1 if a source was refused, and else with 2. Of the two modules that `rt try` compiles, the program is
+# the one with the sanitizer.
+keep_module() {
+    local kit=$1 crate=$2 room=$3 status=0
+    make_kit "$kit" "$room/kit" clang << END
+#!/usr/bin/env bash
+[[ " \$* " == *' -fsanitize=address '* ]] || exec "$kit/toolchain/bin/clang" "\$@"
+cp module.bc "$room/module.part" && mv "$room/module.part" "$room/module.bc"
+exit 1
+END
+    (cd "$crate" && "$room/kit/bin/rt" try --steps 1 < /dev/null) > "$room/told" 2>&1 || status=$?
+    [[ ! -e $room/module.bc ]] || return 0
+    return $((status == 1 ? 1 : 2))
+}
+
+# Compiles such a module, or its text, without the sanitizer: `compile_module KIT MODULE OUT WORD..`. Where
+# a test fails, the program ends by an illegal instruction.
+compile_module() {
+    "$1/toolchain/bin/clang" --no-default-config -no-canonical-prefixes --target=x86_64-unknown-linux-gnu \
+        -ffunction-sections -fdata-sections -mllvm -trap-unreachable "${@:4}" -x ir "$2" -o "$3"
 }

@@ -216,7 +216,7 @@ def _loaded(name: str) -> ctypes.CDLL:
     try:
         made = subprocess.run(words, stdout=subprocess.PIPE, check=True, text=True).stdout.strip()
     except (OSError, subprocess.CalledProcessError):
-        wrong = f"{name} is missing: `make -C c` builds it in the sources of irig"
+        wrong = f"there is no {name}: in a folder of irig's sources that one may write, `make -C c` makes it"
         raise ImportError(wrong) from None
     return KINDS[name](made)
 

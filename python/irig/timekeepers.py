@@ -62,8 +62,9 @@ def _tick(held: c.Timekeeper, now_us: int) -> c.Second:
 class Timekeeper(Ruled):
     """A device that hears lines by its own free-running counter of microseconds, and says which UTC
     second begins at which count (docs/WIRES.md). Of each time that it is told the lowest 32 bits
-    count, and each that it tells is below 2^32. Calls come in order of time, `tick` at least once
-    in half an hour. After sleep, or if the counter stood still or was set: `restart`.
+    count, and each that it tells is below 2^32. Each line's pulses are told in order, and `tick` is
+    called in order of time, at least once in 29 minutes. After sleep, or if the counter stood still
+    or was set: `restart`.
 
     Whatever came before, a second that it announces with the cause "voted" is the true one, and its
     true edge lies at most 1,549 us behind `edge_us` or 549 before it, if no two of its three lines
@@ -103,18 +104,19 @@ class Timekeeper(Ruled):
         check(c.timekeeper_init(self._held, setup, table_of(until, leaps), drift))
 
     def hear(self, line: int, rise_us: int, width_us: int) -> int:
-        """A pulse on a line, 0 to 2 of three, 0 to 4 of five, 0 of one, once it has ended, and at
-        most half a second after it rose: when it rose and how wide it is. It answers the pulse's
-        place in its frame, 1 to 100, or 0 out of step. A pulse of half a second or more is none:
-        the line is stuck, and nothing changes. Behind a place of 100 there may be less to wait."""
+        """A pulse on a line, 0 to 2 of three, 0 to 4 of five, 0 of one, once it has ended, and
+        before any tick of half a second or more after it rose: when it rose and how wide it is. It
+        answers the pulse's place in its frame, 1 to 100, or 0 out of step. A pulse of half a second
+        or more is none: the line is stuck, and nothing changes. Behind a place of 100 there may be
+        less to wait."""
         number = within("line", line, 0, self.ports - 1)
         width = within("width_us", width_us, 0, MOST)
         return int(c.timekeeper_hear(self._held, number, _time("rise_us", rise_us), width))
 
     def tick(self, now_us: int) -> Optional[Beat]:
         """Says which second begins, if one has begun since the last call; else None. It may come at
-        any time. `now_us` is the time up to which pulses were told, and not a later one: of pulses
-        in a queue the end of the next one, before it is told. A timekeeper whose numbers something
+        any time. `now_us` is the time up to which pulses were told, and no other: of pulses in
+        a queue the end of the next one, before it is told. A timekeeper whose numbers something
         else has changed is refused, at this tick and at each later one."""
         held = _tick(self._held, _time("now_us", now_us))
         if not held.is_told:

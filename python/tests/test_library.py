@@ -86,16 +86,32 @@ def address_of(library: str, name: str) -> int | None:
 ANSWERS = {"has_parity": 0, "sync_pulse": 0, "timekeeper_wait": 0, "reader_hear": 255, "timekeeper_hear": 255}
 
 
+def called(name: str, *words: Any) -> Any:
+    """What a call of the library answers, where Python would refuse a null pointer itself."""
+    library, answer, *kinds = _library.CALLS[name]
+    call = ctypes.CFUNCTYPE(answer, *map(as_passed, kinds))(address_of(library, name))
+    is_number = (int, type(None))
+    return call(*(word if isinstance(word, is_number) else ctypes.addressof(word) for word in words))
+
+
 class Null(unittest.TestCase):
+    def test_with_all_else_in_order(self) -> None:
+        """Beside what the library itself has filled, so that nothing else is refused before the pointer."""
+        reader, keeper = irig.Reader(lock_after=1), irig.Timekeeper(lock_after=1, drift_us=10)
+        for name, *words in (
+            ("reader_tick", reader._held, None), ("timekeeper_tick", keeper._held, 0, None),
+            ("timekeeper_stamp", keeper._held, 0, None), ("second_write", _library.Utc(6209, 86_400), None),
+        ):
+            with self.subTest(name):
+                self.assertEqual(called(name, *words), 26)
+
     def test_each_pointer(self) -> None:
         """One of them null: it is answered, or nothing happens. The others lead to zeros."""
         for name, (library, answer, *kinds) in _library.CALLS.items():
-            call = ctypes.CFUNCTYPE(answer, *map(as_passed, kinds))(address_of(library, name))
             words = [ctypes.create_string_buffer(2000) if as_passed(kind) is POINTER else 1 for kind in kinds]
-            addresses = [ctypes.addressof(word) if isinstance(word, ctypes.Array) else word for word in words]
             for place in (n for n, kind in enumerate(kinds) if as_passed(kind) is POINTER):
                 with self.subTest(name, place=place):
-                    answered = call(*addresses[:place], None, *addresses[place + 1 :])
+                    answered = called(name, *words[:place], None, *words[place + 1 :])
                     fault = None if answer is None else 2 if library == _library.SCENE else 26
                     self.assertEqual(answered, ANSWERS.get(name, fault))
 

@@ -6,7 +6,7 @@ import unittest
 from datetime import datetime, timezone
 from typing import Iterator, List
 
-from irig import Announced, PortWord, Ports, PremiseBroken, PremisesKept, Second, Silent, read_log
+from irig import Announced, PortWord, Ports, PremiseBroken, PremisesKept, Second, Silent, TableBroken, read_log
 from irig.logs import RefusedLine, Tick, read_lines, ticks_of
 from program import all_cases, printed
 
@@ -76,10 +76,12 @@ class Lines(unittest.TestCase):
         for line, said in (
             ("premises kept", PremisesKept()),
             ("premises broken: edge 5 reader relay", PremiseBroken(5, "relay")),
+            ("premises broken: table of reader relay", TableBroken("relay")),
             ("refused: line 9: 24 Json", RefusedLine(9, 24, "Json")),
         ):
             self.assertEqual(list(read_lines([line])), [said])
             self.assertEqual(str(said), line)
+            self.assertEqual(said.kept, line == "premises kept")
 
     def test_lines_that_are_none(self) -> None:
         edge = "2 relay 2016-06-15T12:00:02Z locked voted"
@@ -108,6 +110,8 @@ class Lines(unittest.TestCase):
             "2 relay 2016-06-15T12:00:02Z locked voted",
             "2 meter - unlocked no-vote",
             " 2 meter silence silence ok",
+            "3 relay 2016-06-15T12:00:03Z locked voted",
+            " 3 meter ok ok ok",
             "premises kept",
         ]
         relay = Announced(2, "relay", Second(6010, 43_202), "locked", 0, "voted")
@@ -116,6 +120,8 @@ class Lines(unittest.TestCase):
             Tick(1, "relay", None, Ports(1, "relay", ("ok", "ok", "ok"))),
             Tick(2, "relay", relay, None),
             Tick(2, "meter", meter, Ports(2, "meter", ("silence", "silence", "ok"))),
+            Tick(3, "relay", Announced(3, "relay", Second(6010, 43_203), "locked", 0, "voted"), None),
+            Tick(3, "meter", None, Ports(3, "meter", ("ok", "ok", "ok"))),
         ])
 
     def test_it_streams(self) -> None:

@@ -49,6 +49,7 @@ class Seconds(unittest.TestCase):
         timeline = Timeline("2016-12-31T23:59:50Z", INSERTED)
         self.assertEqual(timeline.second_at(10), "2016-12-31T23:59:60Z")
         self.assertEqual(timeline.second_at(11), "2017-01-01T00:00:00Z")
+        self.assertEqual(timeline.edge_of("2016-12-31T23:59:50Z"), 0)
         self.assertEqual(timeline.edge_of("2016-12-31T23:59:60Z"), 10)
         self.assertEqual(timeline.edge_of("2017-01-02T00:00:00Z"), 11 + 86400)
 
@@ -68,6 +69,10 @@ class Seconds(unittest.TestCase):
 
 class Lines(unittest.TestCase):
     """The lines of a scenario, and what the program makes of them."""
+
+    def test_a_generator(self) -> None:
+        self.assertEqual(Generator(local=2, dst=True).value(), {"local": 2, "dst": True})
+        self.assertEqual(Generator(local=-1).value(), {"local": -1})
 
     def test_replays(self) -> None:
         plant = Scenario("2016-06-15T12:00:00Z", [Reader("relay")])
@@ -184,7 +189,7 @@ class Alone(unittest.TestCase):
         self.assertEqual(ran.stderr, "")
         self.assertEqual(ran.stdout.splitlines(), [
             "8 1 relay - unlocked no-vote",
-            "libirig.so.3 is missing: `make -C c` builds it in the sources of irig",
+            "there is no libirig.so.3: in a folder of irig's sources that one may write, `make -C c` makes it",
         ])
 
 

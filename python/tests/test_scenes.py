@@ -58,6 +58,15 @@ class Logs(unittest.TestCase):
         self.assertEqual(log.entries[0], Silent(1, "relay", "acquiring", 1, "acquiring"))
         self.assertEqual((log[60], len(log)), (log.entries[60], 68))
 
+    def test_words_of_ports(self) -> None:
+        """Each kind of word, as the program prints it."""
+        text = (ROOT / "cases/ports_that_tell_faults/scenario.jsonl").read_text()
+        wanted = printed("run", "-", "--all", "--ports", text=text)
+        for word in (" silence", " fault:", " ok"):
+            self.assertIn(word, wanted)
+        log = irig.run(text, all=True, ports=True)
+        self.assertEqual("".join(f"{line}\n" for line in (*log, log.verdict)), wanted)
+
     def test_verdicts(self) -> None:
         self.assertEqual(irig.run(example("one_liar")).verdict, PremisesKept())
         self.assertEqual(irig.run(example("two_liars")).verdict, PremiseBroken(5, "relay"))

@@ -715,7 +715,8 @@ class Words(InAFolder):
         ran = subprocess.run([tool, recording], capture_output=True, text=True)
         self.assertEqual((ran.returncode, ran.stdout), (2, ""))
         self.assertEqual(
-            ran.stderr, "capture: libirig.so.3 is missing: `make -C c` builds it in the sources of irig\n"
+            ran.stderr,
+            "capture: there is no libirig.so.3: in a folder of irig's sources that one may write, `make -C c` makes it\n",
         )
         ran = subprocess.run([tool, "--help"], capture_output=True, text=True)
         self.assertEqual((ran.returncode, ran.stderr), (0, ""))
