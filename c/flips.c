@@ -84,10 +84,10 @@ static void hear_timekeeper(device *d, uint8_t line, uint32_t rise_us, uint32_t 
 }
 
 static bool tick_timekeeper(device *d, uint32_t now_us, told *t) {
-    irig_second second = {0};
+    irig_second second = {.is_told = 1}; /* as the tick before may have left it */
     irig_stamp stamp;
     if (irig_timekeeper_tick(&d->timekeeper, now_us, &second) == IRIG_FAULT_VALUE)
-        return irig_timekeeper_wait(&d->timekeeper, now_us) == 0 &&
+        return second.is_told == 0 && irig_timekeeper_wait(&d->timekeeper, now_us) == 0 &&
                irig_timekeeper_stamp(&d->timekeeper, now_us, &stamp) == IRIG_FAULT_VALUE;
     note(t, &second.report, (second.edge_us + 500000) / 1000000);
     t->sum += second.is_told + second.edge_us;

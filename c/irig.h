@@ -574,40 +574,53 @@ uint32_t irig_reader_port(const irig_reader *reader, uint8_t port, irig_told *to
 uint32_t irig_timekeeper_init(irig_timekeeper *timekeeper, const irig_setup *setup,
                               const irig_table *table, uint32_t drift_us);
 
-/* A pulse on a line, 0 to 2 of three, 0 to 4 of five, 0 of one, once it has ended, in order of time,
- * and before any tick of half a second or more after it rose: its place, as irig_sync_pulse answers
- * it. A width of 500,000 us or more is no pulse, the line is stuck: 0, and nothing changes.
+/* A pulse on a line, 0 to 2 of three, 0 to 4 of five, 0 of one, once it has ended, each line's in
+ * order, and before any tick of half a second or more after it rose: its place, as irig_sync_pulse
+ * answers it. A width of 500,000 us or more is no pulse, the line is stuck: 0, and nothing changes.
  * IRIG_NO_PORT. After a place of 100 there may be less to wait. */
 uint8_t irig_timekeeper_hear(irig_timekeeper *timekeeper, uint8_t line, uint32_t rise_us,
                              uint32_t width_us);
 
 /* Says which second begins, if one has begun since the last call, by frames of which enough claim one
  * second and end within a millisecond, or else by the counter alone, 5 ms later. `now_us` is the time
- * up to which pulses were told (above). IRIG_FAULT_VALUE as irig_reader_tick answers it; then the
- * second is silent, and irig_timekeeper_init begins afresh.
+ * up to which pulses were told (above): it is not before the last tick's, nor before the rise of a
+ * pulse that was told. IRIG_FAULT_VALUE as irig_reader_tick answers it; then the second is silent,
+ * and irig_timekeeper_init begins afresh.
  *
  * If it answers 0, a second that is announced with the cause IRIG_CAUSE_VOTED is the true one, and
  * its true edge comes at most 1,549 us after `edge_us` or 549 before it, provided that the counter is
  * at most 100 us a second wrong, no two of three lines (three of five; not the one line) were untrue
  * in the last 1.2 s, and the others keep what they then heard. That holds whenever the call comes,
- * whatever came before, and whatever other numbers lie in the timekeeper. In one that
- * irig_timekeeper_init made, a second with the cause IRIG_CAUSE_HELD is true too, if that was so at
- * each tick, the counter is as steady as `drift_us` says, calls were in order, and the table is
- * right, which up to a `holdover` of 57 it need not be; its edge lies off by `drift_us` more for each
- * of `lock_count` seconds. */
+ * whatever came before, and whatever other numbers lie in the timekeeper.
+ *
+ * In one that irig_timekeeper_init made, a second with the cause IRIG_CAUSE_HELD is true too, if at
+ * each tick since then, or since the last irig_timekeeper_restart, no two of three lines (three of
+ * five; not the one line) were untrue in the last 1.2 s, the counter is as steady as `drift_us`
+ * says, calls were in order, and the table is right, which up to a `holdover` of 57 it need not be.
+ * Its edge lies off by `drift_us` more for each of `lock_count` seconds. Then each second that is
+ * announced is later than the one before, and no cause is IRIG_CAUSE_JUMP. If lines were untrue
+ * before, all this holds again from the first tick on that tells a second with `agreed` above 0,
+ * provided that no two of three lines were untrue at that tick and at each later one. Whatever
+ * lines carry, edges that are told lie at least half a second apart if calls were in order. */
 uint32_t irig_timekeeper_tick(irig_timekeeper *timekeeper, uint32_t now_us, irig_second *second);
 
 /* How long until a tick has something to do, in microseconds, if no call comes before it: 0 if it has
- * now, at most 1,005,000 unless `now_us` lies before the last edge. After a tick at `now_us` that was
- * not refused it is above 0. 0 where a tick would be refused: a loop that goes by it then has to
- * begin afresh. */
+ * now. In a timekeeper that irig_timekeeper_init made it is at most 1,005,000 at a time at which a
+ * tick may come, and above 0 if no frames agree and no second is due. 0 where a tick would be refused:
+ * a loop that goes by it then has to begin afresh. */
 uint32_t irig_timekeeper_wait(const irig_timekeeper *timekeeper, uint32_t now_us);
 
 /* The time of an event, by the second that was told last if it lies after that one's edge, as it was
  * told, else by the one before; these have to be announced, and the event at most a second and the
- * error of the edge after them. Ask 5 ms to a second after the event, when all ticks that were due
- * are told: its own second is told then, and no two after it. IRIG_FAULT_VALUE, also where a tick
- * would be refused. */
+ * error of the edge after them. Where a vote announces nothing, as at a jump, the one before is
+ * forgotten: it may be false. Ask 5 ms to half a second after the event, when all ticks that were
+ * due are told: its own second is told then, and no two after it. IRIG_FAULT_VALUE, also where a tick
+ * would be refused.
+ *
+ * In a timekeeper of which irig_timekeeper_tick's held seconds are true the second began `offset_us`
+ * before the event, to within `bound_us`, if a tick may come now and the event lies at most half an
+ * hour back. If only ticks since a vote were true, the event has to come at that vote's edge or
+ * later, unless that tick announced nothing. */
 uint32_t irig_timekeeper_stamp(const irig_timekeeper *timekeeper, uint32_t time_us,
                                irig_stamp *stamp);
 

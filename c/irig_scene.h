@@ -101,7 +101,8 @@ typedef struct irig_entry {
 enum {
     IRIG_VERDICT_NONE = 0,       /* a line is refused, or the run failed */
     IRIG_VERDICT_KEPT = 1,       /* the premises held: each second that is announced is true */
-    IRIG_VERDICT_BROKEN = 2,     /* they were broken first at this edge of this reader */
+    IRIG_VERDICT_BROKEN = 2,     /* they were broken first at this edge of this reader: each second that
+                                  * is announced before its entry is true */
     IRIG_VERDICT_FALSE_TABLE = 3 /* the leap table of this reader is false */
 };
 

@@ -42,12 +42,29 @@ static uint64_t around_edge(life *l) {
     return d->now_us + SECOND_US;
 }
 
+static uint64_t next_poll(device *d) {
+    return d->now_us + d->poll_us - below(&d->luck, d->poll_us / 4 + 1);
+}
+
+/* About as often as a device WITH_GAPS sleeps. */
+static bool is_still(device *d) {
+    return is_once_in(&d->luck, d->gap_one_in * (1 + SECOND_US / d->poll_us));
+}
+
+/* A little behind one of the next edges. */
+static uint64_t pause_end(life *l) {
+    uint32_t edge = l->judge.come + 1 + below(&l->device.luck, 4);
+    if (edge > l->world.seconds + 1) edge = l->world.seconds + 1;
+    return l->world.edge_us[edge] + below(&l->device.luck, 300000);
+}
+
 static void set_next_tick(life *l) {
     device *d = &l->device;
     d->is_asked = false;
     d->due_us = NEVER;
     switch (d->pace) {
-    case BY_POLLS: d->tick_us = d->now_us + d->poll_us - below(&d->luck, d->poll_us / 4 + 1); break;
+    case BY_POLLS: d->tick_us = next_poll(d); break;
+    case BY_QUEUES: d->tick_us = is_still(d) ? pause_end(l) : next_poll(d); break;
     case AT_RANDOM: d->tick_us = d->now_us + 100000 + below(&d->luck, 900000); break;
     case BEFORE_PULSES: d->tick_us = d->now_us + SECOND_US; break;
     case AROUND_EDGES: d->tick_us = around_edge(l); break;
@@ -129,6 +146,16 @@ static void tell(life *l, line *from) {
     go_on(from, &l->sky);
 }
 
+/* Empties a queue for each line, one behind another, up to the time of the tick. */
+static void empty_queues(life *l) {
+    sky *s = &l->sky;
+    uint32_t first = below(&l->device.luck, s->lines);
+    for (uint32_t i = 0; i < s->lines; i++) {
+        line *from = &s->line[(first + i) % s->lines];
+        while (!from->is_over && from->next.end_us <= l->device.tick_us) tell(l, from);
+    }
+}
+
 /* The line whose pulse ends next, or none. */
 static line *earliest(sky *s) {
     line *best = NULL;
@@ -177,13 +204,15 @@ void play(life *l, const subject *s) {
     uint64_t end_us = l->world.edge_us[l->world.seconds] + 120000;
     while (!l->judge.is_failed) {
         line *next = earliest(&l->sky);
-        uint64_t pulse_us = next ? next->next.end_us : NEVER;
+        bool is_by_queues = l->device.pace == BY_QUEUES;
+        uint64_t pulse_us = next && !is_by_queues ? next->next.end_us : NEVER;
         uint64_t tick_us = l->device.tick_us;
         uint64_t now_us = pulse_us < tick_us ? pulse_us : tick_us;
         if (now_us > end_us) break;
         flip_when_due(l, now_us);
         if (l->device.pace == BY_WAIT && !l->device.is_asleep) judge_time(&l->judge, now_us);
         bool may_be_late = pulse_us == tick_us && !s->is_by_wait;
+        if (is_by_queues) empty_queues(l);
         if (pulse_us < tick_us || (may_be_late && is_once_in(&l->device.luck, 2)))
             tell(l, next);
         else tick_and_go_on(l);

@@ -12,6 +12,7 @@ typedef enum pace {
     BEFORE_PULSES, /* before each pulse is told */
     WITH_GAPS,     /* when `wait` says, but none for some seconds, or minutes */
     AROUND_EDGES,  /* one in each second, early or late */
+    BY_QUEUES,     /* by polls and behind pauses, when the queue of each line was emptied */
     PACES
 } pace;
 
@@ -65,7 +66,7 @@ void play(life *l, const subject *s);
 /* Makes the life of this number; the seed is that of a whole run. */
 void plan(life *l, uint64_t seed, uint64_t number);
 
-enum { KINDS = 60 };
+enum { KINDS = 61 };
 
 /* Makes edges, and lines that send nominal frames at their time, of a life that has its settings,
  * first second, leap and length. */

@@ -44,7 +44,7 @@ static void forget(judge *j) {
 void judge_begins(judge *j, uint64_t now_us) {
     memset(j->sent, 0, sizeof j->sent);
     j->come = 0;
-    j->now_us = now_us;
+    j->now_us = j->tick_us = now_us;
     j->lit_us = 0;
     j->is_failed = false;
     forget(j);
@@ -75,9 +75,10 @@ static void follow_run(sent *s, const pulse *p) {
 
 void judge_pulse(judge *j, uint8_t line, const pulse *p) {
     sent *s = &j->sent[line];
-    if (p->end_us < j->now_us || p->rise_us <= s->last.rise_us || p->rise_us < s->last.end_us)
+    if (p->rise_us <= s->last.rise_us || p->rise_us < s->last.end_us)
         fail(j, "world: a pulse of line %u out of order", line);
-    j->now_us = p->end_us;
+    if (p->end_us < j->tick_us) fail(j, "world: a pulse of line %u behind a later tick", line);
+    if (p->end_us > j->now_us) j->now_us = p->end_us;
     if (p->is_true) {
         uint64_t at_us = j->world->edge_us[p->frame] + (uint64_t)ELEMENT_US * p->element;
         if (p->rise_us - at_us + LINE_US - 1 > 2 * (LINE_US - 1))
@@ -262,6 +263,7 @@ void judge_time(judge *j, uint64_t now_us) {
 
 void judge_tick(judge *j, uint64_t now_us, uint32_t answer, const irig_second *s, bool is_due) {
     come_to(j, now_us);
+    j->tick_us = now_us;
     j->counts[TICKS]++;
     if (answer != IRIG_DONE) fail(j, "a tick answers %u", answer);
     if (s->is_told) judge_told(j, s);

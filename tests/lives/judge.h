@@ -45,7 +45,8 @@ typedef struct judge {
     bool is_beyond;  /* more lines lie than may: order alone is judged, */
     bool is_overrun; /* or all, so that something is found */
     sent sent[MOST_LINES];
-    uint64_t now_us, lit_us;
+    uint64_t now_us; /* all that was told has ended by now */
+    uint64_t tick_us, lit_us;
     uint32_t come;    /* the last edge that has come */
     bool has_told;    /* a second, since it began or was restarted: of the last one */
     uint64_t edge_us; /* its edge, */
@@ -65,7 +66,7 @@ typedef struct judge {
 void judge_begins(judge *j, uint64_t now_us);
 void judge_restart(judge *j);
 
-/* A pulse that is told now, as it ends. */
+/* A pulse that is told once it has ended, in order on its line, and before any later tick. */
 void judge_pulse(judge *j, uint8_t line, const pulse *p);
 
 /* What a tick answered. `is_due`: `wait` asked for it, and no frame has ended since. */

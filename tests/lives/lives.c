@@ -43,7 +43,8 @@ static void add(bool is_passed) {
 
 static void say_failed(uint64_t number) {
     static const char *const PACES_SAID[] = {"by wait",       "by polls",  "at random",
-                                             "before pulses", "with gaps", "around edges"};
+                                             "before pulses", "with gaps", "around edges",
+                                             "by queues"};
     const life *l = &one;
     printf("failed: --seed %lu --life %lu: %s\n", (unsigned long)options.seed,
            (unsigned long)number, l->judge.text);

@@ -38,6 +38,7 @@ static bool is(wrong one) { return model_wrong == one; }
 static uint8_t hear(uint8_t number, uint32_t rise_us, uint32_t width_us) {
     if (number >= k.lines) return IRIG_NO_PORT;
     if (width_us >= 500000) return 0;
+    for (int i = 0; i < k.lines && is(IDLES_BY_OTHERS); i++) idle(&k.line[i].sync, rise_us);
     heard_line *l = &k.line[number];
     uint8_t place = place_of(&l->sync, rise_us, width_us);
     if (place == 0) return 0;
@@ -121,7 +122,8 @@ static void tell(irig_second *s, uint32_t now_us, uint32_t edge_us, uint32_t mis
     s->moved = k.moved;
     k.has_edge = true;
     k.moved = 0;
-    k.before = k.last;
+    bool is_over = voted >= 0 && !s->report.announces && !is(SERVES_ON);
+    k.before = is_over ? (irig_second){0} : k.last;
     k.last = *s;
 }
 

@@ -209,9 +209,11 @@ static void plan_device(life *l, chance *luck, bool is_long) {
     memset(d, 0, sizeof *d);
     d->luck.state = draw(luck);
     d->pace = (pace)ONE_OF(luck, BY_WAIT, BY_WAIT, BY_WAIT, BY_POLLS, BY_POLLS, AT_RANDOM,
-                           BEFORE_PULSES, WITH_GAPS, WITH_GAPS, AROUND_EDGES);
-    if (is_long && (d->pace == BY_POLLS || d->pace == BEFORE_PULSES)) d->pace = BY_WAIT;
+                           BEFORE_PULSES, WITH_GAPS, WITH_GAPS, AROUND_EDGES, BY_QUEUES, BY_QUEUES);
+    bool is_often = d->pace == BY_POLLS || d->pace == BEFORE_PULSES || d->pace == BY_QUEUES;
+    if (is_long && is_often) d->pace = BY_WAIT;
     d->poll_us = 500 * of_any_size(luck, 190);
+    if (d->pace == BY_QUEUES) d->poll_us = (uint32_t)between(luck, 10000, 95000);
     d->late_us = (uint32_t)ONE_OF(luck, 0, 100, 5000, 90000);
     d->gap_one_in = (uint32_t)ONE_OF(luck, 5, 20, 60);
     d->restart_one_in = (uint32_t)ONE_OF(luck, 0, 0, 0, 0, 0, 0, 30, 300);

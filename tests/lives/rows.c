@@ -395,6 +395,25 @@ static bool half_a_second_off(life *l, const subject *s) {
     return true;
 }
 
+/* Two of three lines mislead a device by a second, and are dark for another. The next vote is true,
+ * and a jump: nothing that was announced before it is stamped by. */
+static bool heals_by_a_jump(life *l, const subject *s) {
+    irig_stamp at;
+    begin_row(l, 9);
+    l->setup.lock_after = 1;
+    l->judge.is_beyond = true;
+    for (uint8_t line = 1; line <= 2; line++) add_lie(l, line, 5, 7, 1)->to_us += 20000;
+    darken(l, 7, 8, 6);
+    bool went_right = goes_right(l, s);
+    if (!went_right || !announces(l, 7, IRIG_CAUSE_VOTED) || !announces(l, 8, IRIG_CAUSE_HELD))
+        return false;
+    const entry *jump = entry_at(l, 9);
+    uint32_t edge_us = (uint32_t)l->judge.edge_us;
+    return jump && jump->second.report.cause == IRIG_CAUSE_JUMP &&
+           (!s->stamp || (s->stamp(edge_us - 500000, &at) == IRIG_FAULT_VALUE &&
+                          s->stamp(edge_us + 1000, &at) == IRIG_FAULT_VALUE));
+}
+
 /* A device of one line is switched on in the middle of a frame, and the first pulses that it hears
  * are false. A hundred places later no frame has ended. */
 static bool switched_on_in_a_frame(life *l, const subject *s) {
@@ -617,6 +636,7 @@ static const struct {
     {"a tick between two ends", tick_between_two_ends, 0, OF_ALL},
     {"half a second off", half_a_second_off, 0, OF_ALL},
     {"a liar beside a late clock", liar_beside_a_late_clock, 0, OF_ALL},
+    {"heals by a jump", heals_by_a_jump, 0, OF_ALL},
     {"switched on in a frame", switched_on_in_a_frame, 0, OF_ALL},
     {"a frame of a turn ago", frame_of_a_turn_ago, 0, OF_ALL},
     {"halves a turn apart", halves_a_turn_apart, 0, OF_ALL},

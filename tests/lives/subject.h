@@ -44,7 +44,9 @@ enum { DIFFERS = 200 }; /* what a subject answers where two have to answer alike
     X(TAKES_AHEAD)     /* a tick need not wait for the edge on which lines agree */                \
     X(TAKES_EARLIEST)  /* the edge is the earliest end of all lines that lie within 11 ms */       \
     X(IDLES_NOT)       /* a line is never put out of step, however long it sends nothing */        \
-    X(GUARDS_NOT)      /* a call whose time lies before the edge is one of a turn later */
+    X(IDLES_BY_OTHERS) /* one is by a pulse of another line, too */                                \
+    X(GUARDS_NOT)      /* a call whose time lies before the edge is one of a turn later */         \
+    X(SERVES_ON)       /* what was announced before a jump is still stamped by */
 
 #define NUMBER_OF(wrong) wrong,
 typedef enum wrong { EACH_WRONG(NUMBER_OF) WRONGS } wrong;

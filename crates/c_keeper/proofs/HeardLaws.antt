@@ -1,5 +1,5 @@
 -- A line behind a pulse, and the timekeeper that has it.
-use Rattle.std.proofs.Common.{Option, ◌≡◌, ◌↔◌, ◌∙◌, ◌<◌, ℕ, List, refl, sym, ap, subst, arith, inl, inr}
+use Rattle.std.proofs.Common.{Option, ◌≡◌, ◌↔◌, ◌∙◌, ◌<◌, ℕ, zero, suc, List, refl, sym, ap, subst, arith, inl, inr}
 use Rattle.std.proofs.lemmas.Bool.{cases_eq}
 use Rattle.irig_frame.specs.declared.symbol.Symbol.{Symbol}
 use Rattle.irig_time.specs.declared.rules.Rules.{Rules}
@@ -13,12 +13,14 @@ use Rattle.irig_timekeeper.specs.declared.lines.Line.{Line}
 use Rattle.irig_timekeeper.specs.declared.lines.Lines.{Lines}
 use Rattle.irig_timekeeper.specs.Keeping.{Heard, Keeping, heard_by, heard_then, one_pulse_more, with_heard, with_lines}
 use Rattle.irig_timekeeper.specs.Steps.{line_at, line_heard, with_line}
-use Rattle.c_numbers.specs.Setups.{limits_in, rules_in}
+use Rattle.irig_vote.specs.Vote.{ports_in}
+use Rattle.irig_reader.proofs.FedLaws.{at_most_five}
+use Rattle.c_numbers.specs.Setups.{limits_in, redundancy_in, rules_in}
 use Rattle.c_keeper.specs.declared.line.IrigLine.{IrigLine}
 use Rattle.c_keeper.specs.declared.line.IrigLines.{IrigLines}
 use Rattle.c_keeper.specs.declared.timekeeper.IrigTimekeeper.{IrigTimekeeper}
 use Rattle.c_keeper.specs.CheckWord.{IsSealed}
-use Rattle.c_keeper.specs.Lines.{line_in, lines_in, numbers_at, with_numbers, HaveHeard}
+use Rattle.c_keeper.specs.Lines.{line_in, lines_in, numbers_at, with_numbers, HaveHeard, KeepNoMore}
 use Rattle.c_keeper.specs.Timekeepers.{clock_state_in, IsTimekeeperOf}
 
 -- a fact of each of five ports is one of a port
@@ -78,11 +80,20 @@ pub record IsBehindPulse (rise width place : ℕ) (before after : IrigLine) : Ty
       → line_in limits rules after ≡ line_heard (line_in limits rules before) rise width (told_within limits rules (heard_at place s width))
   pub heard : (s : List Symbol) → IsTallyOf before.port s → IsTallyOf after.port (heard_at place s width)
 
+-- a line that is there may keep a frame
+put_there : (ports : ℕ) (ls : IrigLines) (l : IrigLine) (port : ℕ) → port < 5 → port < ports → KeepNoMore ports ls → KeepNoMore ports (with_numbers ls port l)
+put_there ports ls l zero low there h = record { b = h.b; c = h.c; d = h.d; e = h.e }
+put_there ports ls l (suc zero) low there h = record { b = λ few. absurd (omega (arith, few, there)); c = h.c; d = h.d; e = h.e }
+put_there ports ls l (suc (suc zero)) low there h = record { b = h.b; c = λ few. absurd (omega (arith, few, there)); d = h.d; e = h.e }
+put_there ports ls l (suc (suc (suc zero))) low there h = record { b = h.b; c = h.c; d = λ few. absurd (omega (arith, few, there)); e = h.e }
+put_there ports ls l (suc (suc (suc (suc zero)))) low there h = record { b = h.b; c = h.c; d = h.d; e = λ few. absurd (omega (arith, few, there)) }
+put_there ports ls l (suc (suc (suc (suc (suc n))))) low there h = absurd (omega (arith, low))
+
 -- the timekeeper that has such a line is the value behind the pulse
-pub one_more : (t q : IrigTimekeeper) (k : Keeping) (port rise width place : ℕ) (l : IrigLine) → port < 5 → IsBehindPulse rise width place (numbers_at t.lines port) l
+pub one_more : (t q : IrigTimekeeper) (k : Keeping) (port rise width place : ℕ) (l : IrigLine) → port < ports_in (redundancy_in t.setup) → IsBehindPulse rise width place (numbers_at t.lines port) l
     → q ≡ record t { lines = with_numbers t.lines port l; check = q.check } → (IsSealed q ↔ IsSealed t) → IsTimekeeperOf t k
     → IsTimekeeperOf q (one_pulse_more k port rise width)
-one_more t q k port rise width place l here behind is seal h =
+one_more t q k port rise width place l there behind is seal h =
     subst (λ (x : IrigTimekeeper). IsTimekeeperOf x (one_pulse_more k port rise width)) (sym is) (record {
       rules = h.rules;
       limits = h.limits;
@@ -97,10 +108,14 @@ one_more t q k port rise width place l here behind is seal h =
         is_state = h.accepted.is_state;
         last = h.accepted.last;
         before = h.accepted.before;
+        absent = put_there (ports_in (redundancy_in t.setup)) t.lines l port here there h.accepted.absent;
         sealed = subst (λ (x : IrigTimekeeper). IsSealed x) is (seal.1 h.accepted.sealed);
       };
     })
   where
+    here : port < 5
+    here = omega (arith, there, at_most_five (redundancy_in t.setup))
+
     rules : Rules
     rules = rules_in t.setup
 

@@ -5,3 +5,9 @@ pub mod KeptLaws
 pub mod StandardFacts
 pub mod HeardLaws
 pub mod ValueLaws
+pub mod AbsentLaws
+pub mod LivedLaws
+pub mod LivesLaws
+pub mod StampedLaws
+pub mod WaitedLaws
+pub mod AnnouncedLaws

@@ -2,3 +2,5 @@ pub mod Lines
 pub mod Timekeepers
 pub mod CheckWord
 pub mod Seconds
+pub mod Lives
+pub mod Announcing

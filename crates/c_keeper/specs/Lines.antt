@@ -1,5 +1,5 @@
 -- Where the lines of a timekeeper stand, by their numbers.
-use Rattle.std.specs.Prelude.{◌≡◌, ℕ, ◌⊎◌, ◌==◌, if◌then◌else◌, List, [], ◌∷◌, Option, Some, None}
+use Rattle.std.specs.Prelude.{◌≡◌, ℕ, ◌≤◌, ◌⊎◌, ◌==◌, if◌then◌else◌, List, [], ◌∷◌, Option, Some, None}
 use Rattle.irig_time.specs.declared.rules.Rules.{Rules}
 use Rattle.irig_port.specs.declared.tally.Tally.{Tally}
 use Rattle.irig_port.specs.declared.limits.Limits.{Limits}
@@ -69,3 +69,10 @@ pub record AreKeptFrom (before after : Lines) : Type 0 where
   pub c : IsKeptFrom before.c.frame after.c.frame
   pub d : IsKeptFrom before.d.frame after.d.frame
   pub e : IsKeptFrom before.e.frame after.e.frame
+
+-- of so many lines: what stands for one beyond them keeps no frame
+pub record KeepNoMore (ports : ℕ) (ls : IrigLines) : Type 0 where
+  pub b : ports ≤ 1 → ls.b.has_frame ≡ 0
+  pub c : ports ≤ 2 → ls.c.has_frame ≡ 0
+  pub d : ports ≤ 3 → ls.d.has_frame ≡ 0
+  pub e : ports ≤ 4 → ls.e.has_frame ≡ 0

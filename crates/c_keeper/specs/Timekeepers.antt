@@ -1,7 +1,10 @@
 -- What it is for the numbers that C holds to be those of a timekeeper.
-use Rattle.std.specs.Prelude.{◌≡◌, ℕ, ◌==◌, if◌then◌else◌, Option, Some, None, IfSome}
+use Rattle.std.specs.Prelude.{◌≡◌, ℕ, ◌<◌, ◌≤◌, ◌==◌, if◌then◌else◌, Bool, false, List, count_by, Option, Some, None, IfSome}
+use Rattle.std.specs.List.{range_with_len}
+use Rattle.irig_sync.specs.Lines.{Pulse}
 use Rattle.irig_time.specs.declared.claim.Claim.{Claim}
 use Rattle.irig_time.specs.Seconds.{IsValid}
+use Rattle.irig_vote.specs.Vote.{f_of, ports_in}
 use Rattle.irig_timekeeper.specs.declared.clock.Beat.{Beat}
 use Rattle.irig_timekeeper.specs.declared.clock.ClockRules.{ClockRules}
 use Rattle.irig_timekeeper.specs.declared.clock.ClockState.{ClockState}
@@ -11,12 +14,14 @@ use Rattle.irig_timekeeper.specs.Clock.{clock_after, clock_answer, clock_vote, c
 use Rattle.irig_timekeeper.specs.Keeping.{Keeping}
 use Rattle.irig_timekeeper.specs.Refusals.{clock_fault}
 use Rattle.irig_timekeeper.specs.Stamps.{stamp_of}
+use Rattle.irig_timekeeper.specs.Lines.{IfKept, IsInTurnOf}
+use Rattle.irig_timekeeper.specs.Steps.{claim_kept, line_at}
 use Rattle.c_numbers.specs.Setups.{rules_in, limits_in, reader_rules_in, redundancy_in, IsSetup}
 use Rattle.c_numbers.specs.LeapTables.{table_in}
 use Rattle.c_numbers.specs.States.{state_in, IsState}
 use Rattle.c_keeper.specs.declared.announced.IrigAnnounced.{IrigAnnounced}
 use Rattle.c_keeper.specs.declared.timekeeper.IrigTimekeeper.{IrigTimekeeper}
-use Rattle.c_keeper.specs.Lines.{lines_in, HaveHeard}
+use Rattle.c_keeper.specs.Lines.{lines_in, HaveHeard, KeepNoMore}
 use Rattle.c_keeper.specs.CheckWord.{IsSealed}
 
 -- the second that was announced, if there is one
@@ -63,6 +68,7 @@ pub record IsAccepted (t : IrigTimekeeper) : Type 0 where
   pub is_state : IsState t.setup.lock_after t.state
   pub last : IsAnnounced t.last
   pub before : IsAnnounced t.before
+  pub absent : KeepNoMore (ports_in (redundancy_in t.setup)) t.lines
   pub sealed : IsSealed t
 
 -- ---- what the calls make of numbers that they accept
@@ -86,6 +92,19 @@ wait_in t now = clock_wait (clock_in t) (clock_state_in t) now
 -- the stamp of an event
 abbrev pub stamp_for : IrigTimekeeper → ℕ → Option Stamp
 stamp_for t time = stamp_of (announced_in t.last) (announced_in t.before) time
+
+-- its lines keep frames of these pulses, and all but at most f of them are such true lines
+pub record HeardTruly (IsTrue : List Pulse → Type 0) (t : IrigTimekeeper) (now : ℕ)
+    (pulses : ℕ → List Pulse) : Type 0 where
+  pub untrue : ℕ → Bool
+  pub few : count_by untrue (range_with_len 0 (ports_in (redundancy_in t.setup)))
+      ≤ f_of (redundancy_in t.setup)
+  pub true_lines : (i : ℕ) → i < ports_in (redundancy_in t.setup) → untrue i ≡ false
+      → IsTrue (pulses i)
+  pub kept : (i : ℕ) → i < ports_in (redundancy_in t.setup)
+      → IfKept (IsInTurnOf now) (rules_in t.setup)
+      (claim_kept (line_at (lines_in (limits_in t.setup) (rules_in t.setup) t.lines) i).frame)
+      (pulses i)
 
 -- ---- which value they are
 

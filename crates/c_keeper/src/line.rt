@@ -1,6 +1,6 @@
 //! The lines of a timekeeper, in numbers.
 
-ghost use Rattle.std.specs.Prelude.{◌≡◌, ◌≤◌, List, [], Option};
+ghost use Rattle.std.specs.Prelude.{◌≡◌, ◌↔◌, ◌≤◌, ℕ, IsTrue, List, [], Option};
 ghost use Rattle.irig_frame.specs.declared.symbol.Symbol.{Symbol};
 ghost use Rattle.irig_sync.specs.Sync.{place_of};
 ghost use Rattle.irig_time.specs.declared.rules.Rules.{Rules};
@@ -12,7 +12,7 @@ ghost use Rattle.irig_port.specs.Tallies.{IsTallyOf};
 ghost use Rattle.irig_frame.specs.Symbols.{symbol_of};
 ghost use Rattle.irig_timekeeper.specs.Keeping.{Heard, nothing_heard};
 ghost use Rattle.irig_timekeeper.specs.Steps.{line_heard, IsKeptOfUtc, IsNewLine, AreKeptOfUtc, AreNewLines};
-ghost use Rattle.c_keeper.specs.Lines.{frame_in, frames_in, line_in, lines_in, numbers_at, with_numbers, HaveHeard, IsKeptFrom, AreKeptFrom};
+ghost use Rattle.c_keeper.specs.Lines.{frame_in, frames_in, line_in, lines_in, numbers_at, with_numbers, HaveHeard, IsKeptFrom, AreKeptFrom, KeepNoMore};
 
 use irig_port::{Limits, Tally};
 use irig_sync::Sync;
@@ -50,6 +50,7 @@ fn line_of_nothing() -> IrigLine
     ensures new { (limits : Option Limits) (rules : Rules)
         → IsNewLine (line_in limits rules result) }
     ensures heard { IsTallyOf result.port [] }
+    ensures empty { result.has_frame ≡ 0 }
 {
     IrigLine {
         sync: Sync::none(),
@@ -65,6 +66,7 @@ pub(crate) fn lines_of_nothing() -> IrigLines
     ensures new { (limits : Option Limits) (rules : Rules)
         → AreNewLines (lines_in limits rules result) }
     ensures heard { HaveHeard result nothing_heard }
+    ensures absent { (ports : ℕ) → KeepNoMore ports result }
 {
     IrigLines {
         a: line_of_nothing(),
@@ -176,6 +178,16 @@ pub(crate) fn lines_of(limits: Option<Limits>, rules: &Rules, lines: &IrigLines)
     }
 }
 
+/// Whether what stands for lines beyond so many keeps no frame.
+pub(crate) fn keep_no_more(ports: u8, lines: &IrigLines) -> bool
+    ensures { IsTrue result ↔ KeepNoMore ports lines.now }
+{
+    (ports > 1 || lines.b.has_frame == 0)
+        && (ports > 2 || lines.c.has_frame == 0)
+        && (ports > 3 || lines.d.has_frame == 0)
+        && (ports > 4 || lines.e.has_frame == 0)
+}
+
 /// The frames that lines keep, and of others what they kept last.
 pub(crate) fn frames_of(lines: &IrigLines) -> [Tally; 5]
     ensures { result ≡ frames_in lines.now }
@@ -195,6 +207,7 @@ fn keep_line(line: &mut IrigLine, kept: &Line)
         → IsKeptFrom (frame_in limits rules line.old) kept.now.frame
         → line_in limits rules line.new ≡ kept.now }
     ensures port { line.new.port ≡ line.old.port }
+    ensures empty { line.old.has_frame ≡ 0 → line.new.has_frame ≡ 0 }
 {
     line.sync = kept.sync;
     if kept.frame.is_none() {
@@ -208,6 +221,7 @@ pub(crate) fn keep_lines(lines: &mut IrigLines, kept: &Lines)
         → AreKeptFrom (lines_in limits rules lines.old) kept.now
         → lines_in limits rules lines.new ≡ kept.now }
     ensures heard { (heard : Heard) → HaveHeard lines.old heard → HaveHeard lines.new heard }
+    ensures absent { (ports : ℕ) → KeepNoMore ports lines.old → KeepNoMore ports lines.new }
 {
     keep_line(&mut lines.a, &kept.a);
     keep_line(&mut lines.b, &kept.b);

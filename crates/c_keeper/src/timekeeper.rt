@@ -1,18 +1,19 @@
 //! A timekeeper in numbers.
 
-ghost use Rattle.std.specs.Prelude.{◌≡◌, ◌↔◌, ◌+◌, ◌*◌, ◌%◌, ◌^◌, ◌<◌, ◌≤◌, IfSome, IsTrue, Option, None, is_some};
+ghost use Rattle.std.specs.Prelude.{◌≡◌, ◌↔◌, ◌+◌, ◌*◌, ◌%◌, ◌^◌, ◌<◌, ◌≤◌, IfSome, IsTrue, ℕ, Option, None, is_some};
 ghost use Rattle.irig_time.specs.declared.rules.Rules.{Rules};
 ghost use Rattle.irig_port.specs.declared.limits.Limits.{Limits};
 ghost use Rattle.irig_time.specs.Seconds.{IsValid};
+ghost use Rattle.irig_vote.specs.Vote.{ports_in};
 ghost use Rattle.irig_reader.specs.Rule.{count_of};
 ghost use Rattle.irig_timekeeper.specs.Clock.{AnnouncedOfUtc};
 ghost use Rattle.irig_timekeeper.specs.Keeping.{Heard, new_state, nothing_heard};
 ghost use Rattle.irig_timekeeper.specs.Stamps.{stamp_of};
 ghost use Rattle.irig_timekeeper.specs.Steps.{AreKeptOfUtc, AreNewLines};
 ghost use Rattle.c_numbers.specs.CheckWord.{setup_numbers, table_numbers, weighted};
-ghost use Rattle.c_numbers.specs.Setups.{rules_in, limits_in, reader_rules_in, IsSetup};
+ghost use Rattle.c_numbers.specs.Setups.{rules_in, limits_in, reader_rules_in, redundancy_in, IsSetup};
 ghost use Rattle.c_numbers.specs.States.{state_in, IsState};
-ghost use Rattle.c_keeper.specs.Lines.{lines_in, AreKeptFrom, HaveHeard};
+ghost use Rattle.c_keeper.specs.Lines.{lines_in, AreKeptFrom, HaveHeard, KeepNoMore};
 ghost use Rattle.c_numbers.specs.declared.state.TheConstants.{IDLE};
 ghost use Rattle.c_keeper.specs.CheckWord.{IsSealed};
 ghost use Rattle.irig_timekeeper.specs.Refusals.{clock_fault};
@@ -22,7 +23,7 @@ use crate::announced::{
     IrigAnnounced, NOTHING_ANNOUNCED, announced_for_c, announced_of, is_announced,
 };
 use crate::check_word::{changing_sum, check_of};
-use crate::line::{IrigLines, keep_lines, lines_of, lines_of_nothing};
+use crate::line::{IrigLines, keep_lines, keep_no_more, lines_of, lines_of_nothing};
 use c_numbers::{
     IDLE, IrigSetup, IrigState, IrigTable, is_setup, limits_of, reader_rules_of, redundancy_of,
     rules_of, state_for_c, state_of,
@@ -70,20 +71,22 @@ pub fn clock_rules_of(timekeeper: &IrigTimekeeper) -> ClockRules
     }
 }
 
-// Whether setup, drift and the seconds that it announced have a meaning, and its check word is that
-// of its numbers, if `fixed` is what setup and table add to it.
+// Whether setup, drift and the seconds that it announced have a meaning, lines that it has not keep
+// no frame, and its check word is that of its numbers, if `fixed` is what setup and table add to it.
 fn is_sound(fixed: u64, timekeeper: &IrigTimekeeper) -> bool
     requires { fixed ≡ (weighted 3 (setup_numbers timekeeper.now.setup)
         + weighted 19 (table_numbers timekeeper.now.table)) % 2 ^ 64 }
     ensures { IsTrue result ↔ (IsSetup timekeeper.now.setup
         × ((clock_fault (reader_rules_in timekeeper.now.setup) timekeeper.now.drift_us ≡ None)
         × (IsAnnounced timekeeper.now.last × (IsAnnounced timekeeper.now.before
-        × IsSealed timekeeper.now)))) }
+        × (KeepNoMore (ports_in (redundancy_in timekeeper.now.setup)) timekeeper.now.lines
+        × IsSealed timekeeper.now))))) }
 {
     is_setup(&timekeeper.setup)
         && clock_fault(reader_rules_of(&timekeeper.setup), timekeeper.drift_us).is_none()
         && is_announced(&timekeeper.last)
         && is_announced(&timekeeper.before)
+        && keep_no_more(redundancy_of(&timekeeper.setup).ports(), &timekeeper.lines)
         && timekeeper.check == check_of(fixed, timekeeper)
 }
 
@@ -184,6 +187,8 @@ pub fn keep(timekeeper: &mut IrigTimekeeper, state: &ClockState)
     ensures heard { (heard : Heard) → HaveHeard timekeeper.old.lines heard
         → HaveHeard timekeeper.new.lines heard }
     ensures is_state { IsState timekeeper.new.setup.lock_after timekeeper.new.state }
+    ensures absent { (ports : ℕ) → KeepNoMore ports timekeeper.old.lines
+        → KeepNoMore ports timekeeper.new.lines }
     ensures setup { timekeeper.new.setup ≡ timekeeper.old.setup }
     ensures table { timekeeper.new.table ≡ timekeeper.old.table }
     ensures drift { timekeeper.new.drift_us ≡ timekeeper.old.drift_us }
@@ -208,6 +213,7 @@ pub fn forget(timekeeper: &mut IrigTimekeeper)
     ensures is_state { timekeeper.new.state ≡ IDLE }
     ensures last { timekeeper.new.last.is_told ≡ 0 }
     ensures before { timekeeper.new.before.is_told ≡ 0 }
+    ensures absent { (ports : ℕ) → KeepNoMore ports timekeeper.new.lines }
     ensures setup { timekeeper.new.setup ≡ timekeeper.old.setup }
     ensures table { timekeeper.new.table ≡ timekeeper.old.table }
     ensures drift { timekeeper.new.drift_us ≡ timekeeper.old.drift_us }
@@ -232,6 +238,7 @@ pub fn restart(timekeeper: &mut IrigTimekeeper)
     ensures is_state { timekeeper.new.state ≡ IDLE }
     ensures last { timekeeper.new.last.is_told ≡ 0 }
     ensures before { timekeeper.new.before.is_told ≡ 0 }
+    ensures absent { (ports : ℕ) → KeepNoMore ports timekeeper.new.lines }
     ensures setup { timekeeper.new.setup ≡ timekeeper.old.setup }
     ensures table { timekeeper.new.table ≡ timekeeper.old.table }
     ensures drift { timekeeper.new.drift_us ≡ timekeeper.old.drift_us }

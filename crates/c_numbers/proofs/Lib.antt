@@ -5,3 +5,4 @@ pub mod ApartLaws
 pub mod AgainstLaws
 pub mod StandardFacts
 pub mod SentLaws
+pub mod NoVoteLaws

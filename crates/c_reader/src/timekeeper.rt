@@ -1,23 +1,32 @@
 //! A timekeeper that C holds.
 
-ghost use Rattle.std.specs.Prelude.{◌≡◌, ◌↔◌, ◌%◌, ◌^◌, ◌<◌, ◌≤◌, if◌then◌else◌, ℕ, List, IfSome, IsTrue, Option, None, Some, is_some};
+ghost use Rattle.std.specs.Prelude.{◌≡◌, ◌↔◌, ◌%◌, ◌^◌, ◌<◌, ◌≤◌, ◌+◌, ◌⊎◌, if◌then◌else◌, ℕ, List, [], ◌∷◌, ◌++◌, IfSome, IsTrue, Option, None, Some, is_some};
 ghost use Rattle.irig_sync.specs.Lines.{Pulse};
 ghost use Rattle.irig_sync.specs.Sync.{place_of};
 ghost use Rattle.irig_time.specs.declared.rules.Rules.{Rules};
 ghost use Rattle.irig_port.specs.declared.limits.Limits.{Limits};
+ghost use Rattle.irig_time.specs.declared.claim.Claim.{Claim};
 ghost use Rattle.irig_time.specs.declared.second.UtcSecond.{UtcSecond};
 ghost use Rattle.irig_time.specs.Seconds.{IsValid};
-ghost use Rattle.irig_time.specs.Timelines.{TimelineValue};
+ghost use Rattle.irig_time.specs.Timelines.{TimelineValue, IsSecond};
 ghost use Rattle.irig_time.specs.TimelineFaults.{IsTimeline};
-ghost use Rattle.irig_vote.specs.Vote.{f_of};
+ghost use Rattle.irig_vote.specs.Vote.{ports_in};
 ghost use Rattle.irig_reader.specs.declared.report.Cause.TheVariants as Cause;
 ghost use Rattle.irig_timekeeper.specs.declared.clock.Beat.{Beat};
+ghost use Rattle.irig_timekeeper.specs.declared.stamp.Stamp.{Stamp};
+ghost use Rattle.irig_timekeeper.specs.declared.lines.KeptClaim.{KeptClaim};
+ghost use Rattle.irig_timekeeper.specs.Clock.{lasted};
+ghost use Rattle.irig_timekeeper.specs.Counting.{edges_own};
 ghost use Rattle.irig_timekeeper.specs.Edges.{IsQuartz};
+ghost use Rattle.irig_timekeeper.specs.Life.{AreInOrder};
+ghost use Rattle.irig_timekeeper.specs.Life.Call.{Tick};
+ghost use Rattle.irig_timekeeper.specs.Lived.{MadeOf, LivesWell};
 ghost use Rattle.irig_timekeeper.specs.Lines.{IsTrueLately};
+ghost use Rattle.irig_timekeeper.specs.Loops.{AreToldInTime, TicksEach};
 ghost use Rattle.irig_timekeeper.specs.Keeping.{Heard, Keeping, new_keeping, place_told, one_pulse_more, after_pulse, after_tick, answer_at, wait_at, stamp_at, restarted};
 ghost use Rattle.irig_timekeeper.specs.Refusals.{clock_fault};
 ghost use Rattle.irig_timekeeper.specs.Steps.{is_pulse, AreNewLines};
-ghost use Rattle.irig_timekeeper.specs.Truth.{AreHeardTruly, IsToldTruly};
+ghost use Rattle.irig_timekeeper.specs.Truth.{IsToldTruly, IsToldInHoldover, IsLaterSecond, IsEdgeAt, IsStampedTruly, AreApartBeats};
 ghost use Rattle.c_numbers.specs.LeapTables.{table_in, HasKinds, IsTable, code_of_table};
 ghost use Rattle.c_numbers.specs.Numbers.{sense_in};
 ghost use Rattle.c_numbers.specs.Reports.{report_in, voices_in};
@@ -25,10 +34,13 @@ ghost use Rattle.c_numbers.specs.Setups.{rules_in, limits_in, reader_rules_in, r
 ghost use Rattle.c_numbers.specs.States.{state_in, IsState};
 ghost use Rattle.c_numbers.specs.Against.{held_by};
 ghost use Rattle.c_numbers.specs.Voices.{voices_to};
+ghost use Rattle.c_keeper.specs.Announcing.{ComeInARow, HasAnnounced};
 ghost use Rattle.c_keeper.specs.CheckWord.{IsSealed};
-ghost use Rattle.c_keeper.specs.Lines.{frames_in, lines_in, numbers_at, HaveHeard};
+ghost use Rattle.c_keeper.specs.Lines.{frames_in, lines_in, numbers_at, HaveHeard, KeepNoMore};
+ghost use Rattle.c_keeper.specs.Lives.{Moment, HasLived, HasHealed, HasItsBound, GoesOnTruly, agreed_in, beat_in, calls_of, made_in, since_vote};
+ghost use Rattle.c_keeper.specs.Lives.Moment.{Pulsed, Ticked};
 ghost use Rattle.c_keeper.specs.Seconds.{against_at, stamp_in, IsSecondOf, IsToldOf};
-ghost use Rattle.c_keeper.specs.Timekeepers.{answer_in, clock_in, clock_state_in, stamp_for, state_behind, vote_in, wait_in, IsAccepted, IsAnnounced, IsTimekeeperOf};
+ghost use Rattle.c_keeper.specs.Timekeepers.{answer_in, clock_in, clock_state_in, edge_in, stamp_for, state_behind, vote_in, wait_in, HeardTruly, IsAccepted, IsAnnounced, IsTimekeeperOf};
 
 use crate::line::NO_PORT;
 use c_keeper::{
@@ -61,6 +73,7 @@ pub extern "C" fn irig_c_timekeeper_init(
         → (IsTable table.now → ⊥) → result ≡ code_of_table table.now }
     ensures drift { IsSetup setup.now → HasKinds table.now → drift_us ≤ 100 → IsTable table.now
         → (clock_fault (reader_rules_in setup.now) drift_us ≡ None → ⊥) → result ≡ 35 }
+    ensures range { (IsSetup setup.now → HasKinds table.now → drift_us ≤ 100 → ⊥) → result ≡ 26 }
     ensures refused { (result ≡ 0 → ⊥) → timekeeper.new ≡ timekeeper.old }
     ensures fresh { result ≡ 0 → IsTimekeeperOf timekeeper.new (new_keeping (limits_in setup.now)
         (rules_in setup.now) (clock_in timekeeper.new) (table_in table.now)
@@ -72,6 +85,9 @@ pub extern "C" fn irig_c_timekeeper_init(
     } }
     ensures lines { (limits : Option Limits) (rules : Rules) → result ≡ 0
         → AreNewLines (lines_in limits rules timekeeper.new.lines) }
+    // a life begins, of which nothing has passed
+    ensures lived { result ≡ 0
+        → HasLived timekeeper.new (made_in setup.now table.now drift_us) [] }
 {
     if !is_setup(setup) || !has_kinds(table) || drift_us > 100 {
         return OUT_OF_RANGE;
@@ -111,6 +127,9 @@ pub extern "C" fn irig_c_timekeeper_hear(
         → result ≡ place_told k line rise_us width_us }
     ensures fed { (result ≡ 255 → ⊥) → (k : Keeping) → IsTimekeeperOf timekeeper.old k
         → IsTimekeeperOf timekeeper.new (after_pulse k line rise_us width_us) }
+    ensures lived { (made : MadeOf) (past : List Moment) (rise : ℕ) → (result ≡ 255 → ⊥)
+        → HasLived timekeeper.old made past → rise_us ≡ rise % 2 ^ 32
+        → HasLived timekeeper.new made (Pulsed line rise width_us ∷ past) }
     // the check word is right exactly if it was
     ensures sealed { IsSealed timekeeper.new ↔ IsSealed timekeeper.old }
 {
@@ -125,7 +144,7 @@ pub extern "C" fn irig_c_timekeeper_hear(
 }
 
 fn hear_pulse(timekeeper: &mut IrigTimekeeper, port: u8, rise_us: u32, width_us: u32) -> u8
-    requires { port < 5 }
+    requires { IsPort timekeeper.old.setup port }
     ensures place { result
         ≡ place_of (numbers_at timekeeper.old.lines port).sync rise_us width_us }
     ensures few { result ≤ 100 }
@@ -140,7 +159,8 @@ fn hear_pulse(timekeeper: &mut IrigTimekeeper, port: u8, rise_us: u32, width_us:
 }
 
 /// What the timekeeper says, if a second has begun since the last call. 26 if a number has no meaning
-/// or is out of its range, or the check word is not that of the numbers.
+/// or is out of its range, a line that it has not keeps a frame, or the check word is not that of the
+/// numbers.
 #[unsafe(no_mangle)]
 pub extern "C" fn irig_c_timekeeper_tick(
     timekeeper: &mut IrigTimekeeper,
@@ -150,6 +170,7 @@ pub extern "C" fn irig_c_timekeeper_tick(
     ensures answer { (result ≡ 0) ↔ IsAccepted timekeeper.old }
     ensures refused { (result ≡ 0 → ⊥)
         → (timekeeper.new ≡ timekeeper.old) × (second.new ≡ second.old) }
+    ensures range { (result ≡ 0 → ⊥) → result ≡ 26 }
     ensures valid { result ≡ 0 → IfSome (report_in second.new.report).announce IsValid }
     // of a timekeeper: it is never refused, says what the value says, and goes on as the value does
     ensures answered { (k : Keeping) → IsTimekeeperOf timekeeper.old k → result ≡ 0 }
@@ -177,13 +198,61 @@ pub extern "C" fn irig_c_timekeeper_tick(
     ensures truth { (t : TimelineValue) (d : ℕ) (edges : ℕ → ℕ) (now : ℕ)
         (pulses : ℕ → List Pulse) (u : UtcSecond) → result ≡ 0 → now_us ≡ now % 2 ^ 32
         → IsQuartz d edges → IsTimeline t
-        → AreHeardTruly (IsTrueLately (rules_in timekeeper.old.setup) t edges now)
-        (rules_in timekeeper.old.setup) (f_of (redundancy_in timekeeper.old.setup)) now
-        (lines_in (limits_in timekeeper.old.setup) (rules_in timekeeper.old.setup)
-        timekeeper.old.lines) pulses
+        → HeardTruly (IsTrueLately (rules_in timekeeper.old.setup) t edges now) timekeeper.old now
+        pulses
         → second.new.is_told ≡ 1 → (report_in second.new.report).cause ≡ Cause.Voted
         → (report_in second.new.report).announce ≡ Some u
         → (beat : Beat) × IsToldOf second.new beat × IsToldTruly t edges 1549 549 now beat u }
+    // Its life goes on.
+    ensures lived { (made : MadeOf) (past : List Moment) (now : ℕ)
+        → HasLived timekeeper.old made past → now_us ≡ now % 2 ^ 32
+        → HasLived timekeeper.new made (Ticked now second.new ∷ past) }
+    // In a life in which all lines but f were true at each tick, or at each since a vote: what is
+    // announced, by a vote or not, is T(m), and its edge lies near the one that is told
+    // (irig_timekeeper, the laws `a_device_tells_the_truth` and `a_device_heals`).
+    ensures life { (t : TimelineValue) (edges : ℕ → ℕ) (made : MadeOf) (start now : ℕ)
+        (past : List Moment) (u : UtcSecond) → HasLived timekeeper.old made past
+        → now_us ≡ now % 2 ^ 32 → GoesOnTruly t edges made start now [] past
+        → (report_in second.new.report).announce ≡ Some u
+        → IsToldInHoldover t edges 1549 549 made.clock.drift_us made.clock.reader_rules.holdover
+        now (beat_in second.new) u }
+    // It is a later second than any that was announced before.
+    ensures order { (t : TimelineValue) (edges : ℕ → ℕ) (made : MadeOf) (start before now : ℕ)
+        (earlier later : List Moment) (first : IrigSecond) (u v : UtcSecond)
+        → HasLived timekeeper.old made (later ++ (Ticked before first ∷ earlier))
+        → now_us ≡ now % 2 ^ 32
+        → GoesOnTruly t edges made start now later (Ticked before first ∷ earlier)
+        → (report_in first.report).announce ≡ Some u
+        → (report_in second.new.report).announce ≡ Some v → IsLaterSecond t u v }
+    // A holdover has lasted for the seconds since the last vote, whatever lines carry.
+    ensures held { (made : MadeOf) (now : ℕ) (past : List Moment) (u : UtcSecond)
+        → HasLived timekeeper.old made past → now_us ≡ now % 2 ^ 32
+        → (report_in second.new.report).announce ≡ Some u
+        → lasted (report_in second.new.report).lock ≡ since_vote (Ticked now second.new ∷ past) }
+    // The cause is never `Jump`.
+    ensures calm { (t : TimelineValue) (edges : ℕ → ℕ) (made : MadeOf) (start now : ℕ)
+        (past : List Moment) → HasLived timekeeper.old made past → now_us ≡ now % 2 ^ 32
+        → GoesOnTruly t edges made start now [] past
+        → ¬ ((report_in second.new.report).cause ≡ Cause.Jump) }
+    // Ticked at least each 96 ms it has announced by a vote, once as many seconds as it locks after, and
+    // two more, came whole on more than f lines (the law `a_polling_device_announces`).
+    ensures announces { (t : TimelineValue) (edges : ℕ → ℕ) (made : MadeOf)
+        (start m most now : ℕ) (moments before : List Moment) (u : UtcSecond)
+        → HasLived timekeeper.old made (moments ++ before) → now_us ≡ now % 2 ^ 32
+        → ComeInARow t edges made start m (Ticked now second.new ∷ moments) before
+        → most ≤ 96000 → TicksEach most start (Tick now ∷ calls_of moments) (calls_of before)
+        → AreToldInTime start (Tick now ∷ calls_of moments) (calls_of before)
+        → IsSecond t (m + 1 + made.clock.reader_rules.lock_after) u
+        → HasAnnounced edges (m + 1 + made.clock.reader_rules.lock_after) u
+        (Ticked now second.new ∷ (moments ++ before)) }
+    // Whatever lines carry, edges that are told lie half a second apart (the law `edges_lie_apart`).
+    ensures apart { (made : MadeOf) (start before now : ℕ) (earlier later : List Moment)
+        (first : IrigSecond)
+        → HasLived timekeeper.old made (later ++ (Ticked before first ∷ earlier))
+        → now_us ≡ now % 2 ^ 32 → AreInOrder start made.clock.redundancy
+        (Tick now ∷ calls_of (later ++ (Ticked before first ∷ earlier)))
+        → first.is_told ≡ 1 → second.new.is_told ≡ 1
+        → AreApartBeats before now (beat_in first) (beat_in second.new) }
 {
     let fixed = fixed_sum(&timekeeper.setup, &timekeeper.table);
     if !is_accepted(fixed, timekeeper) {
@@ -212,6 +281,8 @@ fn tick_accepted(timekeeper: &mut IrigTimekeeper, now_us: u32) -> IrigSecond
     ensures is_state { IsState timekeeper.new.setup.lock_after timekeeper.new.state }
     ensures last { IsAnnounced timekeeper.new.last }
     ensures before { IsAnnounced timekeeper.new.before }
+    ensures absent { KeepNoMore (ports_in (redundancy_in timekeeper.new.setup))
+        timekeeper.new.lines }
     ensures setup { timekeeper.new.setup ≡ timekeeper.old.setup }
     ensures table { timekeeper.new.table ≡ timekeeper.old.table }
     ensures drift { timekeeper.new.drift_us ≡ timekeeper.old.drift_us }
@@ -232,6 +303,32 @@ pub extern "C" fn irig_c_timekeeper_wait(timekeeper: &IrigTimekeeper, now_us: u3
     ensures waits { (k : Keeping) → IsTimekeeperOf timekeeper.now k → result ≡ wait_at k now_us }
     ensures said { IsAccepted timekeeper.now → result ≡ wait_in timekeeper.now now_us }
     ensures refused { (IsAccepted timekeeper.now → ⊥) → result ≡ 0 }
+    // in a life, at a time at which a tick may come: at most 1.005 s
+    ensures most { (made : MadeOf) (start now : ℕ) (past : List Moment)
+        → HasLived timekeeper.now made past → now_us ≡ now % 2 ^ 32
+        → AreInOrder start made.clock.redundancy (Tick now ∷ calls_of past) → result ≤ 1005000 }
+    // above 0, if no frames agree and no second is due
+    ensures above { (made : MadeOf) (start now : ℕ) (past : List Moment)
+        → HasLived timekeeper.now made past → now_us ≡ now % 2 ^ 32
+        → AreInOrder start made.clock.redundancy (Tick now ∷ calls_of past)
+        → agreed_in timekeeper.now now_us ≡ None → edges_own (edge_in timekeeper.now) now_us ≡ 0
+        → 1 ≤ result }
+    // a tick after so long, or later, has a vote, if frames agree and it comes by 98 ms behind their
+    // end (irig_timekeeper, the law `waiting_is_right`)
+    ensures votes { (made : MadeOf) (start now tick edge : ℕ) (past : List Moment)
+        (vote : KeptClaim) → HasLived timekeeper.now made past → now_us ≡ now % 2 ^ 32
+        → AreInOrder start made.clock.redundancy (Tick now ∷ calls_of past)
+        → AreInOrder start made.clock.redundancy (Tick tick ∷ calls_of past)
+        → agreed_in timekeeper.now now_us ≡ Some vote → vote.end_us ≡ edge % 2 ^ 32
+        → edge ≤ now + 10000 → now ≤ edge + 98000 → now + result ≤ tick → tick ≤ edge + 98000
+        → (claim : Claim) × (vote_in timekeeper.now (tick % 2 ^ 32) ≡ Some claim) }
+    // else the own counter then counts a second
+    ensures counts { (made : MadeOf) (start now tick e : ℕ) (past : List Moment)
+        → HasLived timekeeper.now made past → now_us ≡ now % 2 ^ 32
+        → AreInOrder start made.clock.redundancy (Tick now ∷ calls_of past)
+        → AreInOrder start made.clock.redundancy (Tick tick ∷ calls_of past)
+        → agreed_in timekeeper.now now_us ≡ None → edge_in timekeeper.now ≡ Some e
+        → now + result ≤ tick → 1 ≤ edges_own (Some e) (tick % 2 ^ 32) }
 {
     let fixed = fixed_sum(&timekeeper.setup, &timekeeper.table);
     if !is_accepted(fixed, timekeeper) {
@@ -252,11 +349,36 @@ pub extern "C" fn irig_c_timekeeper_stamp(
     ensures answer { (result ≡ 0) ↔ (IsAccepted timekeeper.now
         × IsTrue (is_some (stamp_for timekeeper.now time_us))) }
     ensures refused { (result ≡ 0 → ⊥) → stamp.new ≡ stamp.old }
+    ensures range { (result ≡ 0 → ⊥) → result ≡ 26 }
     ensures valid { result ≡ 0 → IfSome (stamp_in result stamp.new) (λ s. IsValid s.second) }
     ensures said { IsAccepted timekeeper.now
         → stamp_in result stamp.new ≡ stamp_for timekeeper.now time_us }
     ensures stamped { (k : Keeping) → IsTimekeeperOf timekeeper.now k
         → stamp_in result stamp.new ≡ stamp_at k time_us }
+    // In a life in which all lines but f were true at each tick: second and offset name the instant of
+    // an event of the last half hour, but for the bound (irig_timekeeper, the law `stamps_are_true`,
+    // whose clause `together` then says that two devices agree).
+    ensures truth { (t : TimelineValue) (edges : ℕ → ℕ) (made : MadeOf) (start time now : ℕ)
+        (past : List Moment) (found : Stamp) → HasLived timekeeper.now made past
+        → time_us ≡ time % 2 ^ 32 → LivesWell IsTrueLately t edges made start (calls_of past)
+        → AreInOrder start made.clock.redundancy (Tick now ∷ calls_of past)
+        → time ≤ now → now ≤ time + 1800000000 → stamp_in result stamp.new ≡ Some found
+        → IsStampedTruly t edges 0 time found }
+    // In one in which they were true at each tick since a vote: of an event that comes at the edge of
+    // that vote or later, or of any, if that tick announced nothing (the law `a_device_heals`).
+    ensures healed { (t : TimelineValue) (edges : ℕ → ℕ) (made : MadeOf)
+        (start edge time now : ℕ) (past : List Moment) (found : Stamp)
+        → HasLived timekeeper.now made past → time_us ≡ time % 2 ^ 32
+        → (healed : HasHealed t edges made start past)
+        → IsEdgeAt healed.second.edge_us edge healed.mend
+        → (edge ≤ time) ⊎ ((report_in healed.second.report).announce ≡ None)
+        → AreInOrder start made.clock.redundancy (Tick now ∷ calls_of past)
+        → time ≤ now → now ≤ time + 1800000000 → stamp_in result stamp.new ≡ Some found
+        → IsStampedTruly t edges 0 time found }
+    // Whatever lines carry, the bound is 1.549 ms and the drift of each second since a vote.
+    ensures bound { (made : MadeOf) (past : List Moment) (found : Stamp)
+        → HasLived timekeeper.now made past → stamp_in result stamp.new ≡ Some found
+        → HasItsBound made past found }
 {
     let fixed = fixed_sum(&timekeeper.setup, &timekeeper.table);
     if !is_accepted(fixed, timekeeper) {
@@ -279,6 +401,9 @@ pub extern "C" fn irig_c_timekeeper_restart(timekeeper: &mut IrigTimekeeper)
         (lines_in k.limits k.rules timekeeper.new.lines)) }
     ensures lines { (limits : Option Limits) (rules : Rules)
         → AreNewLines (lines_in limits rules timekeeper.new.lines) }
+    // a new life begins
+    ensures lived { (made : MadeOf) (past : List Moment) → HasLived timekeeper.old made past
+        → HasLived timekeeper.new made [] }
     // the check word is right exactly if it was
     ensures sealed { IsSealed timekeeper.new ↔ IsSealed timekeeper.old }
 {

@@ -9,26 +9,20 @@ use Rattle.irig_plant.specs.declared.event.Event.{Event}
 use Rattle.irig_plant.specs.declared.event.Event.TheVariants.{GenEdge, Tick, Carry, Damage, Replay, Raw, Fault, Repair, Restart}
 use Rattle.irig_plant.specs.declared.entry.Entry.{Entry}
 use Rattle.irig_plant.specs.Schedule.{Setup, log_of}
-use Rattle.irig_plant.specs.declared.audit.Audit.{Audit}
-use Rattle.irig_plant.specs.declared.audit.Audit.TheVariants.{Kept, Broken, FalseTable}
-use Rattle.irig_plant.specs.Truth.{IsTruthful}
-use Rattle.irig_plant.proofs.AuditLaws.{kept_is}
-use Rattle.irig_scene.proofs.TrueLines.{lines_true}
-use Rattle.c_scenario.specs.declared.entry.IrigVerdict.{IrigVerdict}
 use Rattle.irig_scene.specs.declared.outcome.Outcome.{Outcome}
 use Rattle.irig_scene.specs.declared.fault.SceneFault.{SceneFault}
 use Rattle.irig_scene.specs.declared.fault.SceneFault.TheVariants.{Refused, Read, Write, Memory}
 use Rattle.irig_scene.specs.declared.run.Run.{Run}
 use Rattle.irig_scene.specs.Lines.{lines}
 use Rattle.irig_scene.specs.LogTexts.{entries_by}
-use Rattle.irig_scene.specs.Scene.{Scene, scene, audit_in, meaning_of, meaning_from}
+use Rattle.irig_scene.specs.Scene.{Scene, scene, meaning_of, meaning_from}
 use Rattle.irig_scene.specs.Starts.{entry_count, noted_at, starts_from}
 use Rattle.irig_scene.specs.ListenerRuns.{IsAt, HasHeard, HeardFor}
 use Rattle.irig_scene.proofs.LogLaws.{grows}
 use Rattle.c_numbers.specs.Reports.{no_claim}
 use Rattle.c_scenario.specs.declared.entry.IrigEntry.{IrigEntry}
 use Rattle.c_scenario.specs.declared.entry_log.EntryLog.{EntryLog}
-use Rattle.c_scenario.specs.Entries.{entry_for, heard_in, begun, lined, entries_of, verdict_by}
+use Rattle.c_scenario.specs.Entries.{entry_for, heard_in, begun, lined, entries_of}
 use Rattle.c_scenario.specs.EntryRuns.{first_of, HoldsEntries, HasHeardEntries}
 use Rattle.c_scenario.specs.Runs.{HasWholeLog, status_of, written_over}
 
@@ -267,14 +261,3 @@ module _ (text : List ℕ) (run : Run EntryLog) (h : HasHeardEntries text run) (
 
   pub none_over : (room : List IrigEntry) → run.listener ≡ None → room ≡ written_over room (entries_of text)
   none_over room is = sym (ap (written_over room) (none_kept is) ∙ nothing_over room)
-
--- ---- a log under kept premises is true
-
-kind_kept : (a : Audit) → (verdict_by a).kind ≡ 1 → a ≡ Kept
-kind_kept Kept one = refl
-kind_kept (Broken r e) one = absurd (omega (arith, one))
-kind_kept (FalseTable r) one = absurd (omega (arith, one))
-
-pub true_if_kept : (text : List ℕ) (verdict : IrigVerdict) (at : Scene) → (meaning_of text).scene ≡ Some at → verdict ≡ verdict_by (audit_in at) → verdict.kind ≡ 1 → All (IsTruthful at.plan.setup.times) (log_of at.plan.setup at.events)
-true_if_kept text verdict at is same one =
-    lines_true text at is ((kept_is at.plan.setup at.events).0 (kind_kept (audit_in at) (ap (λ (v : IrigVerdict). v.kind) (sym same) ∙ one)))

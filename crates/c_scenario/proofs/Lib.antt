@@ -1,3 +1,4 @@
 pub mod RunLaws
 pub mod EntryLaws
 pub mod StandardFacts
+pub mod TrueEntryLaws

@@ -17,8 +17,10 @@ ghost use Rattle.irig_scene.specs.LogLines.{TellsTruth, VouchesForItself};
 ghost use Rattle.irig_scene.specs.PortLines.{without_port_lines};
 ghost use Rattle.irig_scene.specs.Scene.{Scene, audit_in, meaning_of, output, output_shown};
 ghost use Rattle.irig_scene.specs.VouchedByPorts.{VouchesByPorts};
+ghost use Rattle.irig_scene.specs.VouchedLines.{VouchesByPlantLine};
 ghost use Rattle.c_scenario.specs.Entries.{entries_of, verdict_by};
 ghost use Rattle.c_scenario.specs.Frames.{are_options, are_rules, options_in, rules_in};
+ghost use Rattle.c_scenario.specs.TrueEntries.{AreTrueBefore};
 ghost use Rattle.c_scenario.specs.Runs.{HasWholeLog, IsRefusalOf, IsStatus, shown_of, written_over};
 
 mod entry;
@@ -68,6 +70,8 @@ pub extern "C" fn irig_scene_c_run(
     // stood there
     ensures log { log.new ≡ written_over log.old (take whole.new (output text.now all)) }
     ensures vouches { VouchesForItself text.now (take whole.new log.new) }
+    ensures vouches_by_plant_line { VouchesByPlantLine text.now (take whole.new log.new) }
+    ensures vouches_until_broken { VouchesUntilBroken text.now (take whole.new log.new) }
     ensures truth { TellsTruth text.now (take whole.new log.new) }
 {
     let ended = run::run_text(alloc, text, Shown { all, ports: false });
@@ -104,6 +108,7 @@ pub extern "C" fn irig_scene_c_run_shown(
     ensures without { without_port_lines (output_shown text.now (shown_of all true))
         ≡ output text.now all }
     ensures vouches { VouchesForItself text.now (take whole.new log.new) }
+    ensures vouches_by_plant_line { VouchesByPlantLine text.now (take whole.new log.new) }
     ensures vouches_until_broken { VouchesUntilBroken text.now (take whole.new log.new) }
     ensures vouches_by_ports { VouchesByPorts text.now (take whole.new log.new) }
     ensures truth { TellsTruth text.now (take whole.new log.new) }
@@ -149,6 +154,10 @@ pub extern "C" fn irig_scene_c_run_entries(
     ensures truth { result ≡ 0 → verdict.new.kind ≡ 1
         → (at : Scene) → (meaning_of text.now).scene ≡ Some at
         → All (IsTruthful at.plan.setup.times) (log_of at.plan.setup at.events) }
+    // if they broke at an edge of a reader, each entry before that one does
+    ensures truth_until_broken { result ≡ 0 → verdict.new.kind ≡ 2
+        → (at : Scene) → (meaning_of text.now).scene ≡ Some at
+        → AreTrueBefore at verdict.new.reader verdict.new.edge }
 {
     let run = hear_text(alloc, text);
     *verdict = verdict_for_c(&run.answer);

@@ -11,7 +11,7 @@ use Rattle.irig_timekeeper.specs.Lines.{IfKept}
 use Rattle.irig_timekeeper.specs.Counting.{is_late, has_come}
 use Rattle.irig_timekeeper.specs.Steps.{line_at, settled, claim_kept, all_kept, agrees, is_candidate, later, last_candidate, agreed, if_come, wait_by}
 use Rattle.irig_timekeeper.specs.Keeping.{Keeping, vote_at}
-use Rattle.irig_timekeeper.specs.Life.{Call, after_calls, pulses_on, last_call, last_tick, AreInOrder}
+use Rattle.irig_timekeeper.specs.Life.{Call, after_calls, pulses_on, last_tick, AreInOrder}
 use Rattle.irig_timekeeper.specs.Life.Call.{Tick}
 use Rattle.irig_timekeeper.proofs.AgreeLaws.{EachKept}
 use Rattle.irig_timekeeper.proofs.VoteLaws.{frame_settled, one_more, not_late}
@@ -199,12 +199,12 @@ module _ (new : Keeping) (start : ℕ) (begun : AreLinesAt new new (λ i. []) st
 
       kept_now : (j : ℕ) → j < 5 → (y : KeptClaim) → claim_kept (line_at (settled (then % 2 ^ 32) (after_calls new calls).state.lines) j).frame ≡ Some y → claim_kept (line_at (settled (now % 2 ^ 32) (after_calls new calls).state.lines) j).frame ≡ Some y
       kept_now j small y kept =
-          let l = (lines_after new start begun calls order.2).lines j small in
+          let l = (lines_after new start begun calls now order).lines j small in
           let raw = kept_by new start begun calls then order' j small y kept in
-          let h = subst (λ (o : Option KeptClaim). IfKept (IsEndAt (pulses_on j calls) (last_tick start calls) (last_call start calls)) (after_calls new calls).rules o (pulses_on j calls)) raw.0 l.kept in
-          let soon = not_late h.0 then (omega (arith, h.3.0, order'.0)) (omega (arith, h.3.1, order'.1)) (subst (λ (e : ℕ). is_late e (then % 2 ^ 32) ≡ false) h.1 raw.1) in
+          let h = subst (λ (o : Option KeptClaim). IfKept (IsEndAt (pulses_on j calls) (last_tick start calls) now) (after_calls new calls).rules o (pulses_on j calls)) raw.0 l.kept in
+          let soon = not_late h.0 then (omega (arith, h.3.0, on)) (omega (arith, h.3.1, order'.1)) (subst (λ (e : ℕ). is_late e (then % 2 ^ 32) ≡ false) h.1 raw.1) in
           ap claim_kept (frame_settled (now % 2 ^ 32) (after_calls new calls).state.lines j small)
-          ∙ stays_kept (now % 2 ^ 32) (line_at (after_calls new calls).state.lines j).frame y raw.0 (ap (λ (x : ℕ). is_late x (now % 2 ^ 32)) h.1 ∙ in_time h.0 now (omega (arith, h.3.0, order.0)) (omega (arith, soon, on)))
+          ∙ stays_kept (now % 2 ^ 32) (line_at (after_calls new calls).state.lines j).frame y raw.0 (ap (λ (x : ℕ). is_late x (now % 2 ^ 32)) h.1 ∙ in_time h.0 now h.3.0 (omega (arith, soon, on)))
 
       agrees_before : (j : ℕ) → j < 5 → agreeing new start begun calls then order' w there_is j ≡ true → agrees w (claim_kept (line_at (settled (now % 2 ^ 32) (after_calls new calls).state.lines) j).frame) ≡ true
       agrees_before j small agree =

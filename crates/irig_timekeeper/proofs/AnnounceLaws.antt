@@ -26,9 +26,9 @@ use Rattle.irig_timekeeper.specs.Steps.{is_pulse, settled, agreed, if_come}
 use Rattle.irig_timekeeper.specs.Clock.{step_to, beat_by, after_vote, answer_to_vote, after_own, clock_by, answer_by, settled_at}
 use Rattle.irig_timekeeper.specs.Keeping.{Keeping, vote_at, after_pulse, after_tick, answer_at}
 use Rattle.irig_timekeeper.specs.Truth.{IsEdgeAt, IsDevice}
-use Rattle.irig_timekeeper.specs.Life.{Call, after_calls, pulses_on, last_call, last_tick, AreInOrder, AreTrueLately, AreTrueOver}
+use Rattle.irig_timekeeper.specs.Life.{Call, after_calls, pulses_on, last_tick, HaveRisen, AreInOrder, AreTrueLately, AreTrueOver}
 use Rattle.irig_timekeeper.specs.Life.Call.{Hear, Tick}
-use Rattle.irig_timekeeper.specs.Announcing.{IsWellHeard, AreWellHeard, Announces}
+use Rattle.irig_timekeeper.specs.Announcing.{ComesWhole, AreWellHeard, Announces}
 use Rattle.irig_timekeeper.proofs.CountingLaws.{counts}
 use Rattle.irig_timekeeper.proofs.TimeLaws.{own_come, own_count, still_edge, voted_count}
 use Rattle.irig_timekeeper.proofs.VoteLaws.{vote_is_true}
@@ -116,6 +116,33 @@ passes_by k port rise width = elim (cases_Bool (is_pulse width)) [ inl narrow �
 
 -- ---- the seconds
 
+-- the calls of the m-th second, behind others: the last of them is a tick at which more than f lines
+-- have told its frame whole, or which has a vote
+pub record IsServed (IsTrue : ℕ → List Pulse → Type 0) (t : TimelineValue) (edges : ℕ → ℕ) (new : Keeping) (start m : ℕ) (calls before : List Call) : Type 0 where
+  pub now : ℕ
+  pub others : List Call
+  pub are : calls ≡ Tick now ∷ others
+  pub early : last_tick start (others ++ before) ≤ edges m + 3000
+  pub soon : now ≤ edges m + 98000
+  pub comes : ((edges m + 549 ≤ now) × ComesWhole t edges new m (others ++ before)) ⊎ ((edges m ≤ now + 11000) × ((v : KeptClaim) × (vote_at (after_calls new (others ++ before)) (now % 2 ^ 32) ≡ Some v)))
+  pub truth : AreTrueOver IsTrue (f_of new.clock.redundancy) calls before
+
+-- so many in a row
+abbrev pub AreServed : (ℕ → List Pulse → Type 0) → TimelineValue → (ℕ → ℕ) → Keeping → ℕ → ℕ → ℕ → List Call → List Call → Type 0
+AreServed IsTrue t edges new start m zero calls before = calls ≡ before
+AreServed IsTrue t edges new start m (suc n) calls before = (last : List Call) × (older : List Call) × (calls ≡ last ++ older) × IsServed IsTrue t edges new start (m + n) last older × AreServed IsTrue t edges new start m n older before
+
+pub heard_serve : (IsTrue : ℕ → List Pulse → Type 0) (t : TimelineValue) (edges : ℕ → ℕ) (new : Keeping) (start m n : ℕ) (calls before : List Call) → AreWellHeard IsTrue t edges new start m n calls before → AreServed IsTrue t edges new start m n calls before
+heard_serve IsTrue t edges new start m zero calls before heard = heard
+heard_serve IsTrue t edges new start m (suc n) calls before heard =
+    let w = heard.3 in (
+      heard.0,
+      heard.1,
+      heard.2,
+      record { now = w.now; others = w.others; are = w.are; early = w.early; soon = w.soon; comes = inl (w.come, w.frames); truth = w.truth },
+      heard_serve IsTrue t edges new start m n heard.1 before heard.4,
+    )
+
 module _ (IsTrue : ℕ → List Pulse → Type 0) (t : TimelineValue) (edges : ℕ → ℕ) (new : Keeping) (start : ℕ) (begun : AreLinesAt new new (λ i. []) start start) (is : IsDevice t new.clock.drift_us edges new.clock.reader_rules new.table) (truly : TellAlwaysTruly IsTrue new.rules t edges 549 549) where
   abbrev state : List Call → ClockState
   state calls = (after_calls new calls).state
@@ -150,16 +177,16 @@ module _ (IsTrue : ℕ → List Pulse → Type 0) (t : TimelineValue) (edges : �
   reported_on : (m : ℕ) (vote : Option Claim) (votes : List (Option Claim)) (call : Call) (later older : List Call) → IsReported m vote votes later older → IsReported m vote votes (call ∷ later) older
   reported_on m vote votes call later older r = record { now = r.now; x = call ∷ r.x; y = r.y; are = ap (λ (l : List Call). call ∷ l) r.are; soon = r.soon; beat = r.beat; answer = r.answer; report = r.report }
 
-  same_clock : (calls : List Call) → AreInOrder start new.clock.redundancy calls → (after_calls new calls).clock ≡ new.clock
-  same_clock calls order = (lines_after new start begun calls order).same.clock
+  same_clock : (calls : List Call) (now : ℕ) → AreInOrder start new.clock.redundancy (Tick now ∷ calls) → (after_calls new calls).clock ≡ new.clock
+  same_clock calls now order = (lines_after new start begun calls now order).same.clock
 
-  same_table : (calls : List Call) → AreInOrder start new.clock.redundancy calls → (after_calls new calls).table ≡ new.table
-  same_table calls order = (lines_after new start begun calls order).same.table
+  same_table : (calls : List Call) (now : ℕ) → AreInOrder start new.clock.redundancy (Tick now ∷ calls) → (after_calls new calls).table ≡ new.table
+  same_table calls now order = (lines_after new start begun calls now order).same.table
 
   -- ---- what keeps it so
 
-  voted_hears : (m : ℕ) (votes : List (Option Claim)) (port time rise width : ℕ) (calls : List Call) → IsVotedAt m votes calls → IsVotedAt m votes (Hear port time rise width ∷ calls)
-  voted_hears m votes port time rise width calls v =
+  voted_hears : (m : ℕ) (votes : List (Option Claim)) (port rise width : ℕ) (calls : List Call) → IsVotedAt m votes calls → IsVotedAt m votes (Hear port rise width ∷ calls)
+  voted_hears m votes port rise width calls v =
       let same = passes_by (after_calls new calls) port (rise % 2 ^ 32) width in
       record {
         e = v.e;
@@ -167,16 +194,13 @@ module _ (IsTrue : ℕ → List Pulse → Type 0) (t : TimelineValue) (edges : �
         V = v.V;
         at = v.at;
         near = v.near;
-        set = set_before new start begun v.V (Hear port time rise width) calls v.set;
+        set = set_before new start begun v.V (Hear port rise width) calls v.set;
         reads = same.reader ∙ v.reads;
       }
 
-  ordered : (calls : List Call) (now : ℕ) → AreInOrder start new.clock.redundancy (Tick now ∷ calls) → last_tick start calls ≤ now
-  ordered calls now order = let l = lines_after new start begun calls order.2 in omega (arith, l.order, order.0)
-
   voted_waits : (m : ℕ) (votes : List (Option Claim)) (now : ℕ) (calls : List Call) → AreInOrder start new.clock.redundancy (Tick now ∷ calls) → vote_at (after_calls new calls) (now % 2 ^ 32) ≡ None → (v : IsVotedAt m votes calls) → now < v.V + 1005000 → IsVotedAt m votes (Tick now ∷ calls)
   voted_waits m votes now calls order none v soon =
-      let count = own_count (last_tick start calls) now (ordered calls now order) (omega (arith, order.1)) v.e v.V v.at in
+      let count = own_count (last_tick start calls) now order.0 (omega (arith, order.1)) v.e v.V v.at in
       let waits : own_come v.V now ≡ 0 = omega (arith, soon) in
       let nothing : edges_own (state calls).edge_us (now % 2 ^ 32) ≡ 0 = ap (λ (o : Option ℕ). edges_own o (now % 2 ^ 32)) v.edge ∙ count ∙ waits in
       let same = quiet (after_calls new calls) (now % 2 ^ 32) none nothing in
@@ -184,7 +208,7 @@ module _ (IsTrue : ℕ → List Pulse → Type 0) (t : TimelineValue) (edges : �
         e = v.e;
         edge = same.edge ∙ v.edge;
         V = v.V;
-        at = still_edge (last_tick start calls) now (ordered calls now order) (omega (arith, order.1)) v.e v.V v.at waits;
+        at = still_edge (last_tick start calls) now order.0 (omega (arith, order.1)) v.e v.V v.at waits;
         near = v.near;
         set = set_before new start begun v.V (Tick now) calls v.set;
         reads = same.reader ∙ v.reads;
@@ -219,7 +243,7 @@ module _ (IsTrue : ℕ → List Pulse → Type 0) (t : TimelineValue) (edges : �
   vote_of : (m now : ℕ) (calls : List Call) → AreInOrder start new.clock.redundancy (Tick now ∷ calls) → AreTrueLately IsTrue f now calls → edges m ≤ now + 890000 → now ≤ edges m + 98000 → (v : KeptClaim) → vote_at (after_calls new calls) (now % 2 ^ 32) ≡ Some v → IsVoteOf m now v
   vote_of m now calls order lately from upto v voted =
       let h = heard_truly IsTrue t edges 549 549 new start begun calls now order lately in
-      let same = ap (λ (c : ClockRules). if_come (now % 2 ^ 32) (agreed (f_of c.redundancy) (settled (now % 2 ^ 32) (state calls).lines))) (sym (same_clock calls order.2)) in
+      let same = ap (λ (c : ClockRules). if_come (now % 2 ^ 32) (agreed (f_of c.redundancy) (settled (now % 2 ^ 32) (state calls).lines))) (sym (same_clock calls now order)) in
       let vote = vote_is_true (IsTrue now) new.rules t edges 549 549 f now (state calls).lines (λ i. pulses_on i calls) (truly now) h v (same ∙ voted) in
       let here : vote.truth.second + 1 ≡ m = one_edge new.clock.drift_us edges is.steady (vote.truth.second + 1) m (omega (arith, vote.truth.near.least, vote.come, upto)) (omega (arith, vote.truth.near.most, vote.soon, from)) in
       let before : vote.truth.second ≡ m - 1 = omega (arith, here) in
@@ -258,7 +282,7 @@ module _ (IsTrue : ℕ → List Pulse → Type 0) (t : TimelineValue) (edges : �
         | inl waits ↦ by reached.votes (left.none (eqb-true n 0 waits) ∙ reached.reads) left.edge
         | inr more ↦
             let some : 1 ≤ n = (let apart = eqb-false n 0 more in omega (arith, apart)) in
-            by (Some v.claim ∷ then_none (n - 1) reached.votes) (left.some some ∙ step_reads k n reached.votes v (same_clock calls order.2) (same_table calls order.2) reached.reads) left.edge
+            by (Some v.claim ∷ then_none (n - 1) reached.votes) (left.some some ∙ step_reads k n reached.votes v (same_clock calls now order) (same_table calls now order) reached.reads) left.edge
       ]
     where
       by : (votes : List (Option Claim)) → Reads votes (state (Tick now ∷ calls)).reader → (state (Tick now ∷ calls)).edge_us ≡ Some v.end_us → IsFirstVoted m (Tick now ∷ calls)
@@ -271,7 +295,7 @@ module _ (IsTrue : ℕ → List Pulse → Type 0) (t : TimelineValue) (edges : �
   counts_one : (m now : ℕ) (votes : List (Option Claim)) (calls : List Call) → AreInOrder start new.clock.redundancy (Tick now ∷ calls) → (v : KeptClaim) (vote : IsVoteOf (m + 1) now v) → (at : IsVotedAt m votes calls) → edges_to_vote (state calls).edge_us v.end_us ≡ 1
   counts_one m now votes calls order v vote at =
       ap (λ (o : Option ℕ). edges_to_vote o v.end_us) at.edge
-      ∙ voted_count (last_tick start calls) now (ordered calls now order) (omega (arith, order.1)) at.e at.V at.at v.end_us vote.V vote.at vote.close
+      ∙ voted_count (last_tick start calls) now order.0 (omega (arith, order.1)) at.e at.V at.at v.end_us vote.V vote.at vote.close
       ∙ counts new.clock.drift_us 1549 549 1549 549 m 1 at.V vote.V edges is.steady at.near vote.near (omega (arith, is.steady.few)) (omega (arith, is.steady.few))
 
   record IsVotedNext (m : ℕ) (votes : List (Option Claim)) (now : ℕ) (calls : List Call) : Type 0 where
@@ -298,15 +322,15 @@ module _ (IsTrue : ℕ → List Pulse → Type 0) (t : TimelineValue) (edges : �
           at = vote.at;
           near = vote.near;
           set = set_here vote.V now calls v is_voted vote.at;
-          reads = left.some some ∙ ap (λ (x : ℕ). (step_to k.clock k.table (settled_at k.state 0) x (Some v.claim)).state) one ∙ step_reads k 1 votes v (same_clock calls order.2) (same_table calls order.2) at.reads ∙ ap (λ (o : Option Claim). state_of new.clock.reader_rules new.table (o ∷ votes)) claim;
+          reads = left.some some ∙ ap (λ (x : ℕ). (step_to k.clock k.table (settled_at k.state 0) x (Some v.claim)).state) one ∙ step_reads k 1 votes v (same_clock calls now order) (same_table calls now order) at.reads ∙ ap (λ (o : Option Claim). state_of new.clock.reader_rules new.table (o ∷ votes)) claim;
         };
         beat = told.0;
         answer = told.1;
         report =
             told.2
             ∙ ap (λ (x : ℕ). (step_to k.clock k.table (settled_at k.state 0) x (Some v.claim)).report) one
-            ∙ ap (λ (c : ClockRules). (step_of c.reader_rules k.table k.state.reader (Some v.claim)).report) (same_clock calls order.2)
-            ∙ ap (λ (x : TableValue). (step_of new.clock.reader_rules x k.state.reader (Some v.claim)).report) (same_table calls order.2)
+            ∙ ap (λ (c : ClockRules). (step_of c.reader_rules k.table k.state.reader (Some v.claim)).report) (same_clock calls now order)
+            ∙ ap (λ (x : TableValue). (step_of new.clock.reader_rules x k.state.reader (Some v.claim)).report) (same_table calls now order)
             ∙ ap (λ (s : State). (step_of new.clock.reader_rules new.table s (Some v.claim)).report) at.reads
             ∙ ap (λ (o : Option Claim). report_of new.clock.reader_rules new.table o votes) claim;
       }
@@ -320,14 +344,14 @@ module _ (IsTrue : ℕ → List Pulse → Type 0) (t : TimelineValue) (edges : �
   Goes m votes later older = IsVotedAt (m + 1) (truth_at t m ∷ votes) (later ++ older) × IsReported (m + 1) (truth_at t m) votes later older
 
   -- one that comes before has none
-  walk : (m : ℕ) (votes : List (Option Claim)) (older : List Call) → IsVotedAt m votes older → (later : List Call) → AreInOrder start new.clock.redundancy (later ++ older) → AreTrueOver IsTrue f later older → last_tick start (later ++ older) < edges (m + 1) + 549 → Waits m votes later older ⊎ Goes m votes later older
+  walk : (m : ℕ) (votes : List (Option Claim)) (older : List Call) → IsVotedAt m votes older → (later : List Call) → AreInOrder start new.clock.redundancy (later ++ older) → AreTrueOver IsTrue f later older → last_tick start (later ++ older) ≤ edges (m + 1) + 3000 → Waits m votes later older ⊎ Goes m votes later older
   unfolding Waits Goes
   walk m votes older at [] order truth early = inl (at, tt)
-  walk m votes older at (Hear port time rise width ∷ later) order truth early = elim (walk m votes older at later order.4 truth early) [
-    | inl waits ↦ inl (voted_hears m votes port time rise width (later ++ older) waits.0, waits.1)
-    | inr goes ↦ inr (voted_hears (m + 1) (truth_at t m ∷ votes) port time rise width (later ++ older) goes.0, reported_on (m + 1) (truth_at t m) votes (Hear port time rise width) later older goes.1)
+  walk m votes older at (Hear port rise width ∷ later) order truth early = elim (walk m votes older at later order.2 truth early) [
+    | inl waits ↦ inl (voted_hears m votes port rise width (later ++ older) waits.0, waits.1)
+    | inr goes ↦ inr (voted_hears (m + 1) (truth_at t m ∷ votes) port rise width (later ++ older) goes.0, reported_on (m + 1) (truth_at t m) votes (Hear port rise width) later older goes.1)
   ]
-  walk m votes older at (Tick now ∷ later) order truth early = elim (walk m votes older at later order.2 truth.1 (omega (arith, ordered (later ++ older) now order, early))) [
+  walk m votes older at (Tick now ∷ later) order truth early = elim (walk m votes older at later order.3 truth.1 (omega (arith, order.0, early))) [
     | inl waits ↦ by waits (vote_at (after_calls new (later ++ older)) (now % 2 ^ 32)) refl
     | inr goes ↦
         let none = no_second (m + 1) (truth_at t m ∷ votes) now (later ++ older) order (omega (arith, early)) goes.0 in
@@ -346,25 +370,36 @@ module _ (IsTrue : ℕ → List Pulse → Type 0) (t : TimelineValue) (edges : �
           let next = next_voted m now votes (later ++ older) order v e vote waits.0 in
           inr (next.voted_at, record { now = now; x = []; y = later; are = refl; soon = omega (arith, early); beat = next.beat; answer = next.answer; report = next.report })
 
+  -- the last tick of a second has a vote, if none has
+  has_one : (m : ℕ) → 1 ≤ m → (older : List Call) (told : ℕ) → HaveRisen told older → told + 11000 < edges m → (others : List Call) (now : ℕ) → AreInOrder start new.clock.redundancy (Tick now ∷ (others ++ older)) → HaveNoVotes new (edges m - 11000) others older
+      → AreTrueLately IsTrue f now (others ++ older) → now ≤ edges m + 98000 → ((edges m + 549 ≤ now) × ComesWhole t edges new m (others ++ older)) ⊎ ((edges m ≤ now + 11000) × ((v : KeptClaim) × (vote_at (after_calls new (others ++ older)) (now % 2 ^ 32) ≡ Some v)))
+      → (edges m ≤ now + 11000) × ((v : KeptClaim) × (vote_at (after_calls new (others ++ older)) (now % 2 ^ 32) ≡ Some v))
+  has_one m some older told risen past others now order none lately soon (inr voted) = voted
+  has_one m some older told risen past others now order none lately soon (inl come) =
+      let whole = come.1 in (
+        omega (arith, come.0),
+        has_vote IsTrue t new.clock.drift_us edges is.steady new start begun truly m some older told risen past (others ++ older) now order soon whole.whole whole.many
+            (λ i small is_whole. (let w = whole.frames i small is_whole in whole_kept t new.clock.drift_us edges is.steady new start begun i small m older told risen past others now order none soon w.0 w.1)) come.0 lately,
+      )
+
   -- the last of them has one, if none has
-  finish : (m : ℕ) (votes : List (Option Claim)) (older last : List Call) → IsVotedAt m votes older → last_call start older + 11000 < edges (m + 1) → (w : IsWellHeard IsTrue t edges new start (m + 1) last older) → AreInOrder start new.clock.redundancy (last ++ older) → Goes m votes last older
+  finish : (m : ℕ) (votes : List (Option Claim)) (older last : List Call) → IsVotedAt m votes older → (told : ℕ) → HaveRisen told older → told + 11000 < edges (m + 1) → (w : IsServed IsTrue t edges new start (m + 1) last older) → AreInOrder start new.clock.redundancy (last ++ older) → Goes m votes last older
   unfolding Goes Waits
-  finish m votes older last at past w order =
+  finish m votes older last at told risen past w order =
       subst (λ (x : List Call). Goes m votes x older) (sym w.are)
       (by (subst (λ (x : List Call). AreInOrder start new.clock.redundancy (x ++ older)) w.are order) (subst (λ (x : List Call). AreTrueOver IsTrue f x older) w.are w.truth))
     where
       by : AreInOrder start new.clock.redundancy (Tick w.now ∷ (w.others ++ older)) → AreTrueOver IsTrue f (Tick w.now ∷ w.others) older → Goes m votes (Tick w.now ∷ w.others) older
-      by order truth = elim (walk m votes older at w.others order.2 truth.1 w.early) [
+      by order truth = elim (walk m votes older at w.others order.3 truth.1 w.early) [
         | inr goes ↦
             let none = no_second (m + 1) (truth_at t m ∷ votes) w.now (w.others ++ older) order w.soon goes.0 in (
               voted_waits (m + 1) (truth_at t m ∷ votes) w.now (w.others ++ older) order none goes.0 (omega (arith, goes.0.near.least, w.soon)),
               reported_on (m + 1) (truth_at t m) votes (Tick w.now) w.others older goes.1,
             )
         | inl waits ↦
-            let has = has_vote IsTrue t new.clock.drift_us edges is.steady new start begun truly (m + 1) (omega arith) older past (w.others ++ older) w.now order w.come w.soon w.whole w.many
-            (λ i small is_whole. whole_kept t new.clock.drift_us edges is.steady new start begun i small (m + 1) older past w.others order.2 waits.1 (omega (arith, order.0, w.soon)) (w.frames i small is_whole)) truth.0 in
-            let vote = vote_of (m + 1) w.now (w.others ++ older) order truth.0 (omega (arith, w.come)) w.soon has.0 has.1 in
-            let next = next_voted m w.now votes (w.others ++ older) order has.0 has.1 vote waits.0 in
+            let has = has_one (m + 1) (omega arith) older told risen past w.others w.now order waits.1 truth.0 w.soon w.comes in
+            let vote = vote_of (m + 1) w.now (w.others ++ older) order truth.0 (omega (arith, has.0)) w.soon has.1.0 has.1.1 in
+            let next = next_voted m w.now votes (w.others ++ older) order has.1.0 has.1.1 vote waits.0 in
             (next.voted_at, record { now = w.now; x = []; y = w.others; are = refl; soon = w.soon; beat = next.beat; answer = next.answer; report = next.report })
       ]
 
@@ -373,10 +408,10 @@ module _ (IsTrue : ℕ → List Pulse → Type 0) (t : TimelineValue) (edges : �
   module _ (fresh : new.state.reader ≡ state_of new.clock.reader_rules new.table []) where
     reached : (calls : List Call) → AreInOrder start new.clock.redundancy calls → IsReached calls
     reached [] order = record { votes = []; reads = fresh }
-    reached (Hear port time rise width ∷ calls) order =
-        let before = reached calls order.4 in
+    reached (Hear port rise width ∷ calls) order =
+        let before = reached calls order.2 in
         record { votes = before.votes; reads = (passes_by (after_calls new calls) port (rise % 2 ^ 32) width).reader ∙ before.reads }
-    reached (Tick now ∷ calls) order = by (reached calls order.2) (stepped (after_calls new calls) (now % 2 ^ 32))
+    reached (Tick now ∷ calls) order = by (reached calls order.3) (stepped (after_calls new calls) (now % 2 ^ 32))
       where
         by : IsReached calls → Stepped (after_calls new calls).clock (after_calls new calls).table (state calls).reader (state (Tick now ∷ calls)).reader → IsReached (Tick now ∷ calls)
         by before (inl same) = record { votes = before.votes; reads = same ∙ before.reads }
@@ -384,18 +419,18 @@ module _ (IsTrue : ℕ → List Pulse → Type 0) (t : TimelineValue) (edges : �
           votes = step.1 ∷ then_none step.0 before.votes;
           reads =
               step.2
-              ∙ ap (λ (c : ClockRules). (step_of c.reader_rules (after_calls new calls).table (missed c.reader_rules (after_calls new calls).table step.0 (state calls).reader) step.1).state) (same_clock calls order.2)
-              ∙ ap (λ (x : TableValue). (step_of new.clock.reader_rules x (missed new.clock.reader_rules x step.0 (state calls).reader) step.1).state) (same_table calls order.2)
+              ∙ ap (λ (c : ClockRules). (step_of c.reader_rules (after_calls new calls).table (missed c.reader_rules (after_calls new calls).table step.0 (state calls).reader) step.1).state) (same_clock calls now order)
+              ∙ ap (λ (x : TableValue). (step_of new.clock.reader_rules x (missed new.clock.reader_rules x step.0 (state calls).reader) step.1).state) (same_table calls now order)
               ∙ ap (λ (s : State). (step_of new.clock.reader_rules new.table s step.1).state) (missed_are_none new.clock.reader_rules new.table step.0 (state calls).reader before.votes before.reads);
         }
 
-    walk_first : (m : ℕ) (older later : List Call) → AreInOrder start new.clock.redundancy (later ++ older) → AreTrueOver IsTrue f later older → last_tick start (later ++ older) < edges m + 549 → HaveNoVotes new (edges m - 11000) later older ⊎ IsFirstVoted m (later ++ older)
+    walk_first : (m : ℕ) (older later : List Call) → AreInOrder start new.clock.redundancy (later ++ older) → AreTrueOver IsTrue f later older → last_tick start (later ++ older) ≤ edges m + 3000 → HaveNoVotes new (edges m - 11000) later older ⊎ IsFirstVoted m (later ++ older)
     walk_first m older [] order truth early = inl tt
-    walk_first m older (Hear port time rise width ∷ later) order truth early = elim (walk_first m older later order.4 truth early) [
+    walk_first m older (Hear port rise width ∷ later) order truth early = elim (walk_first m older later order.2 truth early) [
       | inl none ↦ inl none
-      | inr v ↦ inr (record { votes = v.votes; voted_at = voted_hears m v.votes port time rise width (later ++ older) v.voted_at })
+      | inr v ↦ inr (record { votes = v.votes; voted_at = voted_hears m v.votes port rise width (later ++ older) v.voted_at })
     ]
-    walk_first m older (Tick now ∷ later) order truth early = elim (walk_first m older later order.2 truth.1 (omega (arith, ordered (later ++ older) now order, early))) [
+    walk_first m older (Tick now ∷ later) order truth early = elim (walk_first m older later order.3 truth.1 (omega (arith, order.0, early))) [
       | inr v ↦
           let none = no_second m v.votes now (later ++ older) order (omega (arith, early)) v.voted_at in
           inr (record { votes = v.votes; voted_at = voted_waits m v.votes now (later ++ older) order none v.voted_at (omega (arith, v.voted_at.near.least, early)) })
@@ -408,89 +443,100 @@ module _ (IsTrue : ℕ → List Pulse → Type 0) (t : TimelineValue) (edges : �
           | inl before ↦ inl (λ from. absurd (omega (arith, from, before)), none)
           | inr behind ↦
               let vote = vote_of m now (later ++ older) order truth.0 (omega (arith, behind)) (omega (arith, early)) v e in
-              inr (first_voted m now (later ++ older) order v e vote (reached (later ++ older) order.2))
+              inr (first_voted m now (later ++ older) order v e vote (reached (later ++ older) order.3))
         ]
 
-    finish_first : (m : ℕ) → 1 ≤ m → (older last : List Call) → last_call start older + 11000 < edges m → (w : IsWellHeard IsTrue t edges new start m last older) → AreInOrder start new.clock.redundancy (last ++ older) → IsFirstVoted m (last ++ older)
-    finish_first m some older last past w order =
+    finish_first : (m : ℕ) → 1 ≤ m → (older last : List Call) (told : ℕ) → HaveRisen told older → told + 11000 < edges m → (w : IsServed IsTrue t edges new start m last older) → AreInOrder start new.clock.redundancy (last ++ older) → IsFirstVoted m (last ++ older)
+    finish_first m some older last told risen past w order =
         subst (λ (x : List Call). IsFirstVoted m (x ++ older)) (sym w.are)
         (by (subst (λ (x : List Call). AreInOrder start new.clock.redundancy (x ++ older)) w.are order) (subst (λ (x : List Call). AreTrueOver IsTrue f x older) w.are w.truth))
       where
         by : AreInOrder start new.clock.redundancy (Tick w.now ∷ (w.others ++ older)) → AreTrueOver IsTrue f (Tick w.now ∷ w.others) older → IsFirstVoted m (Tick w.now ∷ (w.others ++ older))
-        by order truth = elim (walk_first m older w.others order.2 truth.1 w.early) [
+        by order truth = elim (walk_first m older w.others order.3 truth.1 w.early) [
           | inr v ↦
               let none = no_second m v.votes w.now (w.others ++ older) order w.soon v.voted_at in
               record { votes = v.votes; voted_at = voted_waits m v.votes w.now (w.others ++ older) order none v.voted_at (omega (arith, v.voted_at.near.least, w.soon)) }
           | inl none ↦
-              let has = has_vote IsTrue t new.clock.drift_us edges is.steady new start begun truly m some older past (w.others ++ older) w.now order w.come w.soon w.whole w.many
-              (λ i small is_whole. whole_kept t new.clock.drift_us edges is.steady new start begun i small m older past w.others order.2 none (omega (arith, order.0, w.soon)) (w.frames i small is_whole)) truth.0 in
-              let vote = vote_of m w.now (w.others ++ older) order truth.0 (omega (arith, w.come)) w.soon has.0 has.1 in
-              first_voted m w.now (w.others ++ older) order has.0 has.1 vote (reached (w.others ++ older) order.2)
+              let has = has_one m some older told risen past w.others w.now order none truth.0 w.soon w.comes in
+              let vote = vote_of m w.now (w.others ++ older) order truth.0 (omega (arith, has.0)) w.soon has.1.0 has.1.1 in
+              first_voted m w.now (w.others ++ older) order has.1.0 has.1.1 vote (reached (w.others ++ older) order.3)
         ]
 
     -- ---- seconds in a row
 
     record IsRow (a n : ℕ) (votes : List (Option Claim)) (calls : List Call) : Type 0 where
       voted_at : IsVotedAt (a + n) (then_true t a n votes) calls
-      upto : last_call start calls ≤ edges (a + n) + 98000
+      told : ℕ
+      risen : HaveRisen told calls
+      upto : told ≤ edges (a + n) + 98000
 
-    last_is : (m : ℕ) (last older : List Call) → IsWellHeard IsTrue t edges new start m last older → last_call start (last ++ older) ≤ edges m + 98000
-    last_is m last older w = subst (λ (x : List Call). last_call start (x ++ older) ≤ edges m + 98000) (sym w.are) w.soon
+    risen_by : (m : ℕ) (last older : List Call) (w : IsServed IsTrue t edges new start m last older) → AreInOrder start new.clock.redundancy (last ++ older) → HaveRisen w.now (last ++ older)
+    risen_by m last older w order = subst (λ (x : List Call). HaveRisen w.now (x ++ older)) (sym w.are) (subst (λ (x : List Call). AreInOrder start new.clock.redundancy (x ++ older)) w.are order).2
 
-    row : (a : ℕ) → 1 ≤ a → (before : List Call) → last_call start before + 11000 < edges a → (n : ℕ) (calls : List Call) → AreWellHeard IsTrue t edges new start a (suc n) calls before → AreInOrder start new.clock.redundancy calls → (votes : List (Option Claim)) × IsRow a n votes calls
+    row : (a : ℕ) → 1 ≤ a → (before : List Call) (told : ℕ) → HaveRisen told before → told + 11000 < edges a → (n : ℕ) (calls : List Call) → AreServed IsTrue t edges new start a (suc n) calls before → AreInOrder start new.clock.redundancy calls → (votes : List (Option Claim)) × IsRow a n votes calls
     unfolding Goes
-    row a some before past zero calls heard order =
+    row a some before told risen past zero calls heard order =
         let last : List Call = heard.0 in
         let here : heard.1 ≡ before = heard.4 in
         let are : calls ≡ last ++ before = heard.2 ∙ ap (λ (x : List Call). last ++ x) here in
         let same : a + 0 ≡ a = omega arith in
-        let w = subst (λ (m : ℕ). IsWellHeard IsTrue t edges new start m last before) same (subst (λ (x : List Call). IsWellHeard IsTrue t edges new start (a + 0) last x) here heard.3) in
-        let first = finish_first a some before last past w (subst (AreInOrder start new.clock.redundancy) are order) in (
+        let w = subst (λ (m : ℕ). IsServed IsTrue t edges new start m last before) same (subst (λ (x : List Call). IsServed IsTrue t edges new start (a + 0) last x) here heard.3) in
+        let ordered = subst (AreInOrder start new.clock.redundancy) are order in
+        let first = finish_first a some before last told risen past w ordered in (
           first.votes,
           record {
             voted_at = subst (λ (m : ℕ). IsVotedAt m first.votes calls) (sym same) (subst (IsVotedAt a first.votes) (sym are) first.voted_at);
-            upto = subst (λ (m : ℕ). last_call start calls ≤ edges m + 98000) (sym same) (subst (λ (x : List Call). last_call start x ≤ edges a + 98000) (sym are) (last_is a last before w));
+            told = w.now;
+            risen = subst (HaveRisen w.now) (sym are) (risen_by a last before w ordered);
+            upto = subst (λ (m : ℕ). w.now ≤ edges m + 98000) (sym same) w.soon;
           },
         )
-    row a some before past (suc n) calls heard order =
+    row a some before told risen past (suc n) calls heard order =
         let last : List Call = heard.0 in
         let older : List Call = heard.1 in
         let ordered = subst (AreInOrder start new.clock.redundancy) heard.2 order in
-        let rec = row a some before past n older heard.4 (order_before start new.clock.redundancy last older ordered) in
+        let rec = row a some before told risen past n older heard.4 (order_before start new.clock.redundancy last older ordered) in
         let same : a + suc n ≡ a + n + 1 = omega arith in
-        let w = subst (λ (m : ℕ). IsWellHeard IsTrue t edges new start m last older) same heard.3 in
+        let w = subst (λ (m : ℕ). IsServed IsTrue t edges new start m last older) same heard.3 in
         let goes = next_of a n rec.0 last older rec.1 w ordered in (
           rec.0,
           record {
             voted_at = subst (λ (m : ℕ). IsVotedAt m (then_true t a (suc n) rec.0) calls) (sym same) (subst (IsVotedAt (a + n + 1) (then_true t a (suc n) rec.0)) (sym heard.2) goes.0);
-            upto = subst (λ (x : List Call). last_call start x ≤ edges (a + suc n) + 98000) (sym heard.2) (last_is (a + suc n) last older heard.3);
+            told = heard.3.now;
+            risen = subst (HaveRisen heard.3.now) (sym heard.2) (risen_by (a + suc n) last older heard.3 ordered);
+            upto = heard.3.soon;
           },
         )
       where
-        next_of : (a n : ℕ) (votes : List (Option Claim)) (last older : List Call) → IsRow a n votes older → IsWellHeard IsTrue t edges new start (a + n + 1) last older → AreInOrder start new.clock.redundancy (last ++ older) → Goes (a + n) (then_true t a n votes) last older
-        next_of a n votes last older is_row w order = finish (a + n) (then_true t a n votes) older last is_row.voted_at (omega (arith, is_row.upto, is.steady.steady.least (a + n), is.steady.few)) w order
+        next_of : (a n : ℕ) (votes : List (Option Claim)) (last older : List Call) → IsRow a n votes older → IsServed IsTrue t edges new start (a + n + 1) last older → AreInOrder start new.clock.redundancy (last ++ older) → Goes (a + n) (then_true t a n votes) last older
+        next_of a n votes last older is_row w order = finish (a + n) (then_true t a n votes) older last is_row.voted_at is_row.told is_row.risen (omega (arith, is_row.upto, is.steady.steady.least (a + n), is.steady.few)) w order
 
     -- as many as the reader asks for, and two more
-    pub announces : (a : ℕ) → 1 ≤ a → 1 ≤ new.clock.reader_rules.lock_after → (before : List Call) → last_call start before + 11000 < edges a → (calls : List Call) → AreWellHeard IsTrue t edges new start a (suc (suc new.clock.reader_rules.lock_after)) calls before → AreInOrder start new.clock.redundancy calls
+    pub serves : (a : ℕ) → 1 ≤ a → 1 ≤ new.clock.reader_rules.lock_after → (before : List Call) (told : ℕ) → HaveRisen told before → told + 11000 < edges a → (calls : List Call) → AreServed IsTrue t edges new start a (suc (suc new.clock.reader_rules.lock_after)) calls before → AreInOrder start new.clock.redundancy calls
         → (u : UtcSecond) → IsSecond t (a + 1 + new.clock.reader_rules.lock_after) u → Announces edges new (a + 1 + new.clock.reader_rules.lock_after) u calls
     unfolding Goes
-    announces a some enough before past calls heard order u second =
+    serves a some enough before told risen past calls heard order u second =
         let L : ℕ = new.clock.reader_rules.lock_after in
         let last : List Call = heard.0 in
         let older : List Call = heard.1 in
         let ordered = subst (AreInOrder start new.clock.redundancy) heard.2 order in
-        let rec = row a some before past L older heard.4 (order_before start new.clock.redundancy last older ordered) in
+        let rec = row a some before told risen past L older heard.4 (order_before start new.clock.redundancy last older ordered) in
         let same : a + suc L ≡ a + L + 1 = omega arith in
-        let w = subst (λ (m : ℕ). IsWellHeard IsTrue t edges new start m last older) same heard.3 in
-        let told = (finish (a + L) (then_true t a L rec.0) older last rec.1.voted_at (omega (arith, rec.1.upto, is.steady.steady.least (a + L), is.steady.few)) w ordered).1 in
+        let w = subst (λ (m : ℕ). IsServed IsTrue t edges new start m last older) same heard.3 in
+        let tells = (finish (a + L) (then_true t a L rec.0) older last rec.1.voted_at rec.1.told rec.1.risen (omega (arith, rec.1.upto, is.steady.steady.least (a + L), is.steady.few)) w ordered).1 in
         let here : a + L + 1 ≡ a + 1 + L = omega arith in
         record {
-          now = told.now;
-          later = told.x;
-          earlier = told.y ++ older;
-          are = heard.2 ∙ ap (λ (x : List Call). x ++ older) told.are ∙ append_assoc told.x (Tick told.now ∷ told.y) older;
-          soon = subst (λ (m : ℕ). told.now ≤ edges m + 98000) here told.soon;
-          beat = told.beat;
-          answer = told.answer;
-          says = told.report ∙ locked_from_anywhere t new.clock.reader_rules new.table is.sound enough a (truth_at t (a + L)) rec.0 (then_true t a L rec.0) u second (ap (λ (n : ℕ). then_true t a n rec.0) (let count : suc L ≡ L + 1 = omega arith in count));
+          now = tells.now;
+          later = tells.x;
+          earlier = tells.y ++ older;
+          are = heard.2 ∙ ap (λ (x : List Call). x ++ older) tells.are ∙ append_assoc tells.x (Tick tells.now ∷ tells.y) older;
+          soon = subst (λ (m : ℕ). tells.now ≤ edges m + 98000) here tells.soon;
+          beat = tells.beat;
+          answer = tells.answer;
+          says = tells.report ∙ locked_from_anywhere t new.clock.reader_rules new.table is.sound enough a (truth_at t (a + L)) rec.0 (then_true t a L rec.0) u second (ap (λ (n : ℕ). then_true t a n rec.0) (let count : suc L ≡ L + 1 = omega arith in count));
         }
+
+    pub announces : (a : ℕ) → 1 ≤ a → 1 ≤ new.clock.reader_rules.lock_after → (before : List Call) (told : ℕ) → HaveRisen told before → told + 11000 < edges a → (calls : List Call) → AreWellHeard IsTrue t edges new start a (suc (suc new.clock.reader_rules.lock_after)) calls before → AreInOrder start new.clock.redundancy calls
+        → (u : UtcSecond) → IsSecond t (a + 1 + new.clock.reader_rules.lock_after) u → Announces edges new (a + 1 + new.clock.reader_rules.lock_after) u calls
+    announces a some enough before told risen past calls heard order u second =
+        serves a some enough before told risen past calls (heard_serve IsTrue t edges new start a (suc (suc new.clock.reader_rules.lock_after)) calls before heard) order u second

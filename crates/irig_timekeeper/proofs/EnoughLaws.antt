@@ -19,14 +19,14 @@ use Rattle.irig_timekeeper.specs.Edges.{IsQuartz}
 use Rattle.irig_timekeeper.specs.Steps.{line_at, settled, claim_kept, all_kept, agrees, agreed, if_come}
 use Rattle.irig_timekeeper.specs.Keeping.{Keeping, vote_at}
 use Rattle.irig_timekeeper.specs.Truth.{AreHeardTruly}
-use Rattle.irig_timekeeper.specs.Life.{Call, after_calls, pulses_on, last_call, AreInOrder, AreTrueLately}
+use Rattle.irig_timekeeper.specs.Life.{Call, after_calls, pulses_on, HaveRisen, AreInOrder, AreTrueLately}
 use Rattle.irig_timekeeper.specs.Life.Call.{Tick}
 use Rattle.irig_timekeeper.proofs.CountingLaws.{rises}
 use Rattle.irig_timekeeper.proofs.VoteLaws.{frame_settled, AreReady, vote_comes}
 use Rattle.irig_timekeeper.proofs.WaitLaws.{one_is_agreed}
 use Rattle.irig_timekeeper.proofs.WholeLaws.{whole_of}
 use Rattle.irig_timekeeper.proofs.LifeLaws.{AreLinesAt, lines_after, TellAlwaysTruly, heard_truly}
-use Rattle.irig_timekeeper.proofs.FrameLaws.{Keeps, in_time, stays_kept}
+use Rattle.irig_timekeeper.proofs.FrameLaws.{Keeps, ended, in_time, stays_kept}
 
 -- ---- the least of some numbers, and counts
 
@@ -40,11 +40,11 @@ at_most_one : (b : Bool) → cond b 1 0 ≤ 1
 at_most_one true = omega arith
 at_most_one false = omega arith
 
-record IsLeast (a : ℕ → Bool) (g : ℕ → ℕ) (from n : ℕ) : Type 0 where
-  i : ℕ
-  low : i < n
-  at : a (from + i) ≡ true
-  least : (j : ℕ) → j < n → a (from + j) ≡ true → g (from + i) ≤ g (from + j)
+pub record IsLeast (a : ℕ → Bool) (g : ℕ → ℕ) (from n : ℕ) : Type 0 where
+  pub i : ℕ
+  pub low : i < n
+  pub at : a (from + i) ≡ true
+  pub least : (j : ℕ) → j < n → a (from + j) ≡ true → g (from + i) ≤ g (from + j)
 
 module _ (a : ℕ → Bool) (g : ℕ → ℕ) where
   -- none of them is any
@@ -58,7 +58,7 @@ module _ (a : ℕ → Bool) (g : ℕ → ℕ) where
       let there : from + suc j ≡ from + 1 + j = omega arith in
       never (from + 1) n (omega (arith, none, sum_by-cons (λ k. cond (a k) 1 0) from (range_with_len (from + 1) n))) j (omega (arith, low)) (subst (λ (x : ℕ). a x ≡ true) there e)
 
-  least_of : (from n : ℕ) → 0 < count_by a (range_with_len from n) → IsLeast a g from n
+  pub least_of : (from n : ℕ) → 0 < count_by a (range_with_len from n) → IsLeast a g from n
   least_of from zero some = absurd (omega (arith, some))
   least_of from (suc n) some = elim (cases_lt 0 (count_by a (range_with_len (from + 1) n))) [
     | inr none ↦
@@ -170,9 +170,10 @@ one_edge d edges quartz i j less more = elim (cases_lt i j) [
         let rise = subst (λ (x : ℕ). edges i + (j - i) * 999900 ≤ edges x) there (rises d edges quartz i (j - i)) in
         omega (arith, rise, less)
 
-module _ (IsTrue : ℕ → List Pulse → Type 0) (t : TimelineValue) (d : ℕ) (edges : ℕ → ℕ) (quartz : IsQuartz d edges) (new : Keeping) (start : ℕ) (begun : AreLinesAt new new (λ i. []) start start) (truly : TellAlwaysTruly IsTrue new.rules t edges 549 549)
-    (m : ℕ) (some : 1 ≤ m) (older : List Call) (past : last_call start older + 11000 < edges m) (calls : List Call) (now : ℕ) (order : AreInOrder start new.clock.redundancy (Tick now ∷ calls)) (from : edges m + 549 ≤ now) (upto : now ≤ edges m + 98000)
-    (whole : ℕ → Bool) (many : f_of new.clock.redundancy < count_by whole (range_with_len 0 5)) (keeps : (i : ℕ) (small : i < 5) → whole i ≡ true → Keeps t d edges quartz new start begun i small m older past calls) where
+module _ (t : TimelineValue) (d : ℕ) (edges : ℕ → ℕ) (quartz : IsQuartz d edges) (new : Keeping) (start : ℕ) (begun : AreLinesAt new new (λ i. []) start start)
+    (m : ℕ) (some : 1 ≤ m) (older : List Call) (told : ℕ) (risen : HaveRisen told older) (past : told + 11000 < edges m) (calls : List Call) (now : ℕ) (upto : now ≤ edges m + 98000)
+    (whole : ℕ → Bool) (many : f_of new.clock.redundancy < count_by whole (range_with_len 0 5)) (keeps : (i : ℕ) (small : i < 5) → whole i ≡ true → Keeps t d edges quartz new start begun i small m older told risen past calls)
+    (ahead : (i : ℕ) (small : i < 5) (is : whole i ≡ true) → (keeps i small is).end ≤ now + 10000) where
   abbrev clock : ℕ
   clock = now % 2 ^ 32
 
@@ -185,11 +186,11 @@ module _ (IsTrue : ℕ → List Pulse → Type 0) (t : TimelineValue) (d : ℕ) 
   first : IsLeast whole ends 0 5
   first = least_of whole ends 0 5 (omega (arith, many))
 
-  kept : (i : ℕ) (small : i < 5) (is : whole i ≡ true) → claim_kept (line_at (settled clock lines) i).frame ≡ Some (record { claim = (keeps i small is).claim; end_us = (keeps i small is).end % 2 ^ 32 })
+  pub kept : (i : ℕ) (small : i < 5) (is : whole i ≡ true) → claim_kept (line_at (settled clock lines) i).frame ≡ Some (record { claim = (keeps i small is).claim; end_us = (keeps i small is).end % 2 ^ 32 })
   kept i small is =
       let k = keeps i small is in
       ap claim_kept (frame_settled clock lines i small)
-      ∙ stays_kept clock (line_at lines i).frame (record { claim = k.claim; end_us = k.end % 2 ^ 32 }) k.keeps (in_time k.end now (omega (arith, k.told, order.0)) (omega (arith, k.least, upto)))
+      ∙ stays_kept clock (line_at lines i).frame (record { claim = k.claim; end_us = k.end % 2 ^ 32 }) k.keeps (in_time k.end now (ahead i small is) (omega (arith, k.least, upto)))
 
   -- all of them agree with the one that ends first
   agree : (i j : ℕ) (small : i < 5) (low : j < 5) (is : whole i ≡ true) (so : whole j ≡ true) → ends i ≤ ends j → agrees (record { claim = (keeps i small is).claim; end_us = (keeps i small is).end % 2 ^ 32 }) (claim_kept (line_at (settled clock lines) j).frame) ≡ true
@@ -205,7 +206,7 @@ module _ (IsTrue : ℕ → List Pulse → Type 0) (t : TimelineValue) (d : ℕ) 
   f : ℕ
   f = f_of new.clock.redundancy
 
-  some_agree : (x : KeptClaim) × (agreed (f_of new.clock.redundancy) (settled clock lines) ≡ Some x)
+  pub some_agree : (x : KeptClaim) × (agreed (f_of new.clock.redundancy) (settled clock lines) ≡ Some x)
   some_agree =
       let here : 0 + first.i ≡ first.i = omega arith in
       let is : whole first.i ≡ true = subst (λ (j : ℕ). whole j ≡ true) here first.at in
@@ -224,17 +225,20 @@ module _ (IsTrue : ℕ → List Pulse → Type 0) (t : TimelineValue) (d : ℕ) 
           subst (λ (k : ℕ). agrees (record { claim = (keeps i small is).claim; end_us = (keeps i small is).end % 2 ^ 32 }) (claim_kept (line_at (settled clock lines) k).frame) ≡ true) (sym there)
           (agree i j small low is so' (omega (arith, least, e1, e2)))
 
+module _ (IsTrue : ℕ → List Pulse → Type 0) (t : TimelineValue) (d : ℕ) (edges : ℕ → ℕ) (quartz : IsQuartz d edges) (new : Keeping) (start : ℕ) (begun : AreLinesAt new new (λ i. []) start start) (truly : TellAlwaysTruly IsTrue new.rules t edges 549 549)
+    (m : ℕ) (some : 1 ≤ m) (older : List Call) (told : ℕ) (risen : HaveRisen told older) (past : told + 11000 < edges m) (calls : List Call) (now : ℕ) (order : AreInOrder start new.clock.redundancy (Tick now ∷ calls)) (upto : now ≤ edges m + 98000)
+    (whole : ℕ → Bool) (many : f_of new.clock.redundancy < count_by whole (range_with_len 0 5)) (keeps : (i : ℕ) (small : i < 5) → whole i ≡ true → Keeps t d edges quartz new start begun i small m older told risen past calls) where
   -- what a true line keeps then ends at this edge
-  ready : (h : AreHeardTruly (IsTrue now) new.rules (f_of new.clock.redundancy) now lines (λ i. pulses_on i calls)) → AreReady (IsTrue now) new.rules t edges 549 549 (f_of new.clock.redundancy) now lines (λ i. pulses_on i calls) (truly now) h
-  ready h i low right y end is frame ahead soon keeps =
+  ready : edges m + 549 ≤ now → (h : AreHeardTruly (IsTrue now) new.rules (f_of new.clock.redundancy) now (after_calls new calls).state.lines (λ i. pulses_on i calls)) → AreReady (IsTrue now) new.rules t edges 549 549 (f_of new.clock.redundancy) now (after_calls new calls).state.lines (λ i. pulses_on i calls) (truly now) h
+  ready from h i low right y end is frame ahead soon keeps =
       let near = truly now end (pulses_on i calls) y.claim (h.true_lines i low right) frame soon in
       let same : near.second + 1 ≡ m = one_edge d edges quartz (near.second + 1) m (omega (arith, near.near.least, ahead, upto)) (omega (arith, near.near.most, soon, from)) in
       let here : edges (near.second + 1) ≡ edges m = ap edges same in
       (omega (arith, near.near.most, here, from), omega (arith, near.near.least, here, upto))
 
-  pub has_vote : AreTrueLately IsTrue (f_of new.clock.redundancy) now calls → (v : KeptClaim) × (vote_at (after_calls new calls) (now % 2 ^ 32) ≡ Some v)
-  has_vote lately =
+  pub has_vote : edges m + 549 ≤ now → AreTrueLately IsTrue (f_of new.clock.redundancy) now calls → (v : KeptClaim) × (vote_at (after_calls new calls) (now % 2 ^ 32) ≡ Some v)
+  has_vote from lately =
       let h = heard_truly IsTrue t edges 549 549 new start begun calls now order lately in
-      let x = some_agree in
-      let same = ap (λ (c : ClockRules). if_come clock (agreed (f_of c.redundancy) (settled clock lines))) (lines_after new start begun calls order.2).same.clock in
-      (x.0, same ∙ vote_comes (IsTrue now) new.rules t edges 549 549 (f_of new.clock.redundancy) now lines (λ i. pulses_on i calls) (truly now) h (ready h) x.0 x.1)
+      let x = some_agree t d edges quartz new start begun m some older told risen past calls now upto whole many keeps (λ i small is. (let k = keeps i small is in omega (arith, k.is, ended t d edges quartz new start begun i small m older told risen past calls now order))) in
+      let same = ap (λ (c : ClockRules). if_come (now % 2 ^ 32) (agreed (f_of c.redundancy) (settled (now % 2 ^ 32) (after_calls new calls).state.lines))) (lines_after new start begun calls now order).same.clock in
+      (x.0, same ∙ vote_comes (IsTrue now) new.rules t edges 549 549 (f_of new.clock.redundancy) now (after_calls new calls).state.lines (λ i. pulses_on i calls) (truly now) h (ready from h) x.0 x.1)

@@ -4,7 +4,6 @@ use Rattle.std.specs.Prelude.{slice_get, slice_set, get_or}
 use Rattle.std.proofs.lemmas.Bool.{cases_eq, cases_lt}
 use Rattle.std.proofs.lemmas.Grind.{get_or-set_at}
 use Rattle.std.proofs.lemmas.List.{ext_get_or, get_or_append_left, get_or-append-add, length-set}
-use Rattle.std.proofs.lemmas.List.FromFn.{length-map-range_with_len}
 use Rattle.std.proofs.lemmas.Option.{slice_get-get_or, get_or_from_slice_get}
 use Rattle.irig_frame.specs.declared.symbol.Symbol.{Symbol}
 use Rattle.irig_frame.specs.declared.symbol.Symbol.TheVariants.{Marker, Bad}
@@ -17,19 +16,13 @@ use Rattle.irig_sync.specs.Edges.{element_at, IsClock}
 use Rattle.irig_sync.specs.FaultyLines.{IsPulseOf, ArePulsesBefore}
 use Rattle.irig_sync.proofs.LineLaws.{on_time_is}
 use Rattle.irig_sync.proofs.EdgeLaws.{far_apart, two_apart}
-use Rattle.irig_sync.proofs.FaultLaws.{row-get, last-take, on-take}
+use Rattle.irig_sync.proofs.FaultLaws.{last-take, on-take}
 use Rattle.irig_frame.proofs.WritingLaws.{get-set_other}
 use Rattle.irig_time.specs.declared.rules.Rules.{Rules}
 use Rattle.irig_time.specs.declared.claim.Claim.{Claim}
 use Rattle.irig_time.specs.Carries.{Carries}
-use Rattle.irig_time.specs.Timelines.{TimelineValue, IsTrueClaim}
-use Rattle.irig_port.specs.declared.told.Told.TheVariants as tells
-use Rattle.irig_port.specs.Told.{told_of}
-use Rattle.irig_port.specs.Damage.{IsFaultOr}
-use Rattle.irig_port.specs.OwnClaims.{frame_at, TellsClaims}
-use Rattle.irig_port.proofs.CarriesLaws.{carries_is_told}
-use Rattle.irig_port.proofs.DamageLaws.{damage_told}
-use Rattle.irig_port.proofs.FaultLaws.{odd_place, first_odd, second_odd, odd_at, misplaced, marker_at, true_line}
+use Rattle.irig_time.specs.Timelines.{TimelineValue}
+use Rattle.irig_port.proofs.FaultLaws.{odd_place, first_odd, second_odd, odd_at, misplaced, marker_at}
 use Rattle.irig_timekeeper.specs.Edges.{IsQuartz, IsTrueNear}
 use Rattle.irig_timekeeper.specs.Lines.{IsLastBefore, IsFrameOf, StandButForOne, IsCheckedLineOf, RoseBefore, HasOneFaultInPlace, RoseLately, IsTrueButForFaults, IsTrueOrFaulty}
 use Rattle.irig_timekeeper.proofs.LineLaws.{true_lately}
@@ -450,17 +443,6 @@ same_but own q s whole long is =
           let there = get-set_other own q i x (λ e. away (sym e)) ∙ own_at in
           get_or_from_slice_get s i (get_or own i Bad) Bad (is i low away ∙ own_at) ∙ sym (get_or_from_slice_get (slice_set own q x) i (get_or own i Bad) Bad there)
     ]))
-
-pub tells_is_checked : (rules : Rules) (t : TimelineValue) (line : ℕ → Symbol) (claims : ℕ → Claim) → TellsClaims rules line claims → ((f : ℕ) → IsTrueClaim t (f + 1) (claims f)) → IsCheckedLineOf rules t line
-tells_is_checked rules t line claims tell truth = record {
-  right = true_line rules line claims tell;
-  truth = λ f q s c stands carries.
-      let x : Symbol = get_or s q Bad in
-      let is = same_but (frame_at line f) q s (length-map-range_with_len line (100 * f) 100) carries.reads.len (λ i low away. stands i low away ∙ sym (row-get line (100 * f) 100 i low)) in
-      let told : told_of rules (slice_set (frame_at line f) q x) ≡ tells.Claim c = ap (told_of rules) (sym is) ∙ (carries_is_told rules s c).1 carries in
-      let same : c ≡ claims f = subst (IsFaultOr (claims f)) told (damage_told rules (frame_at line f) (claims f) q x (tell f)) in
-      subst (λ (a : Claim). IsTrueClaim t (f + 1) a) (sym same) (truth f);
-}
 
 module _ (line : ℕ → Symbol) (edges : ℕ → ℕ) where
   pub dropped : (n k : ℕ) (ps : List Pulse) → ArePulsesBefore line edges 450 k ps → (j : ℕ) × ArePulsesBefore line edges 450 j (drop n ps)

@@ -1,6 +1,6 @@
 -- A frame that a line has sent whole is kept until a tick takes it.
 use Rattle.std.specs.Prelude.{◌==◌, nat_lt}
-use Rattle.std.proofs.Common.{◌≡◌, ◌∙◌, ◌⊎◌, ℕ, zero, suc, ◌+◌, ◌-◌, ◌*◌, ◌/◌, ◌%◌, ◌^◌, ◌<◌, ◌≤◌, Bool, true, false, cond, List, [], ◌∷◌, ◌++◌, length, length-append, Option, Some, None, refl, sym, ap, subst, arith, inl, inr}
+use Rattle.std.proofs.Common.{◌≡◌, ◌∙◌, ◌⊎◌, ℕ, zero, suc, ◌+◌, ◌-◌, ◌*◌, ◌/◌, ◌%◌, ◌^◌, ◌<◌, ◌≤◌, Bool, true, false, cond, List, [], ◌∷◌, ◌++◌, drop, length, length-append, Option, Some, None, refl, sym, ap, subst, arith, inl, inr}
 use Rattle.std.proofs.lemmas.Bool.{cases_Bool, eqb-true, eqb-false}
 use Rattle.irig_frame.specs.declared.symbol.Symbol.{Symbol}
 use Rattle.irig_frame.specs.FieldTable.{is_marker_place}
@@ -11,7 +11,7 @@ use Rattle.irig_sync.specs.FaultyLines.{IsPulseOf, ArePulsesBefore}
 use Rattle.irig_sync.proofs.LineLaws.{marks, step_at, on_time_is, place_at_time}
 use Rattle.irig_sync.proofs.EdgeLaws.{next_apart}
 use Rattle.irig_sync.specs.Sync.{clock_gap}
-use Rattle.irig_sync.specs.Lines.{pulse_at, IsSyncAt, IsAfter, IsSoon, symbols_of_last}
+use Rattle.irig_sync.specs.Lines.{pulse_at, IsAfter, IsSoon, symbols_of_last}
 use Rattle.irig_port.specs.declared.limits.Limits.{Limits}
 use Rattle.irig_time.specs.declared.rules.Rules.{Rules}
 use Rattle.irig_time.specs.declared.claim.Claim.{Claim}
@@ -30,12 +30,12 @@ use Rattle.irig_timekeeper.specs.Counting.{is_late, edges_own}
 use Rattle.irig_timekeeper.specs.Steps.{is_pulse, line_at, line_heard, frame_behind, still_kept, settled, claim_told, claim_kept}
 use Rattle.irig_timekeeper.specs.Clock.{clock_by, settled_at}
 use Rattle.irig_timekeeper.specs.Keeping.{Keeping, heard_by, heard_then, vote_at, after_pulse, after_tick}
-use Rattle.irig_timekeeper.specs.Life.{Call, after_calls, pulses_on, last_call, last_tick, AreInOrder}
+use Rattle.irig_timekeeper.specs.Life.{Call, after_calls, pulses_on, last_tick, HaveRisen, AreInOrder}
 use Rattle.irig_timekeeper.specs.Life.Call.{Hear, Tick}
 use Rattle.irig_timekeeper.proofs.VoteLaws.{frame_settled}
-use Rattle.irig_timekeeper.proofs.LifeLaws.{AreLinesAt, IsLineAt, lines_after, line_same}
-use Rattle.irig_timekeeper.proofs.WholeLaws.{whole_of, whole_here}
-use Rattle.irig_timekeeper.proofs.OrderLaws.{five, others_pulse, own_pulses, others_pulses, no_pulse}
+use Rattle.irig_timekeeper.proofs.LifeLaws.{AreLinesAt, IsLineAt, line_soon, lines_after, line_same, own_pulses, others_pulses, no_pulse, has_risen, unheard}
+use Rattle.irig_timekeeper.proofs.WholeLaws.{whole_of, AreSorted, whole_here, not_whole, whole_apart, whole_by}
+use Rattle.irig_timekeeper.proofs.OrderLaws.{five, own_pulse, others_pulse}
 use Rattle.irig_timekeeper.specs.Edges.{IsQuartz}
 use Rattle.irig_timekeeper.specs.Announcing.{LeavesTheFirst, IsWhole}
 use Rattle.irig_timekeeper.proofs.LineLaws.{clock_of}
@@ -121,8 +121,9 @@ pub record EndsWhole (edges : ℕ → ℕ) (m : ℕ) (pulses : List Pulse) : Typ
   pub most : p.rise + 10000 ≤ edges m + 549
   pub close_least : edges (m - 1) + 1000000 ≤ p.rise + 10000 + 449
   pub close_most : p.rise + 10000 ≤ edges (m - 1) + 1000000 + 449
+  pub marker : is_marker p.width ≡ true
 
-ends_whole : (limits : Option Limits) (rules : Rules) (t : TimelineValue) (d : ℕ) (edges : ℕ → ℕ) (m : ℕ) (pulses : List Pulse) → IsQuartz d edges → (w : IsWhole limits rules t edges m pulses) → EndsWhole edges m pulses
+pub ends_whole : (limits : Option Limits) (rules : Rules) (t : TimelineValue) (d : ℕ) (edges : ℕ → ℕ) (m : ℕ) (pulses : List Pulse) → IsQuartz d edges → (w : IsWhole limits rules t edges m pulses) → EndsWhole edges m pulses
 ends_whole limits rules t d edges m pulses quartz w = of w.frame w.parts w.hundred w.are
   where
     of : (frame : List Pulse) → pulses ≡ frame ++ w.earlier → length frame ≡ 100 → ArePulsesBefore w.line edges 450 (100 * w.f + 100) frame → EndsWhole edges m pulses
@@ -145,6 +146,7 @@ ends_whole limits rules t d edges m pulses quartz w = of w.frame w.parts w.hundr
           most = omega (arith, edge, last, are'.0.0.1, quartz.steady.least w.f, quartz.few);
           close_least = omega (arith, before, last, are'.0.0.0);
           close_most = omega (arith, before, last, are'.0.0.1);
+          marker = marker_of d edges quartz w.line w.right w.f w.earlier w.first (100 * w.f + 99) p are'.0 ∙ ap is_marker_place place;
         }
 
 -- ---- it is kept
@@ -172,7 +174,7 @@ stays_kept clock (Some x) y e late =
 -- no tick of these calls, which came behind those, has a vote from this time on
 abbrev pub HaveNoVotes : Keeping → ℕ → List Call → List Call → Type 0
 HaveNoVotes new from [] older = Unit {0}
-HaveNoVotes new from (Hear port time rise width ∷ later) older = HaveNoVotes new from later older
+HaveNoVotes new from (Hear port rise width ∷ later) older = HaveNoVotes new from later older
 HaveNoVotes new from (Tick now ∷ later) older = (from ≤ now → vote_at (after_calls new (later ++ older)) (now % 2 ^ 32) ≡ None) × HaveNoVotes new from later older
 
 -- a tick without a vote settles the lines
@@ -187,7 +189,7 @@ settles k clock e = of (vote_at k clock) e
     of (Some x) e = absurd cc
     of None e = either (edges_own k.state.edge_us clock == 0) _ _ _ refl refl
 
-module _ (t : TimelineValue) (d : ℕ) (edges : ℕ → ℕ) (quartz : IsQuartz d edges) (new : Keeping) (start : ℕ) (begun : AreLinesAt new new (λ i. []) start start) (i : ℕ) (small : i < 5) (m : ℕ) (older : List Call) (past : last_call start older + 11000 < edges m) where
+module _ (t : TimelineValue) (d : ℕ) (edges : ℕ → ℕ) (quartz : IsQuartz d edges) (new : Keeping) (start : ℕ) (begun : AreLinesAt new new (λ i. []) start start) (i : ℕ) (small : i < 5) (m : ℕ) (older : List Call) (told : ℕ) (risen : HaveRisen told older) (past : told + 11000 < edges m) where
   abbrev kept_claim : List Call → Option KeptClaim
   kept_claim calls = claim_kept (line_at (after_calls new calls).state.lines i).frame
 
@@ -199,39 +201,31 @@ module _ (t : TimelineValue) (d : ℕ) (edges : ℕ → ℕ) (quartz : IsQuartz 
     pub keeps : kept_claim calls ≡ Some (record { claim = claim; end_us = end % 2 ^ 32 })
     pub least : edges m ≤ end + 549
     pub most : end ≤ edges m + 549
-    pub told : end ≤ last_call start calls + 10000
     pub close_least : edges (m - 1) + 1000000 ≤ end + 449
     pub close_most : end ≤ edges (m - 1) + 1000000 + 449
     pub is : end ≡ whole_of (pulses_on i calls)
 
-  -- the newest pulse rose before the last call
-  risen : (calls : List Call) → AreInOrder start new.clock.redundancy calls → (p : Pulse) (ps : List Pulse) → pulses_on i calls ≡ p ∷ ps → p.rise ≤ last_call start calls
-  risen calls order p ps is =
-      let l = (lines_after new start begun calls order).lines i small in
-      by l.told l.past (subst (λ (x : List Pulse). IsSyncAt (line_at (after_calls new calls).state.lines i).sync x l.told) is l.hearing.sync)
-    where
-      by : (told : ℕ) → told ≤ last_call start calls → IsSyncAt (line_at (after_calls new calls).state.lines i).sync (p ∷ ps) told → p.rise ≤ last_call start calls
-      by told upto (inl live) = omega (arith, upto, live.1.0)
-      by told upto (inr out) = omega (arith, upto, out.1)
+  -- by a tick to come it ends an element ahead at most
+  pub ended : (calls : List Call) (now : ℕ) → AreInOrder start new.clock.redundancy (Tick now ∷ calls) → whole_of (pulses_on i calls) ≤ now + 10000
+  ended calls now order = whole_by (pulses_on i calls) now ((lines_after new start begun calls now order).lines i small).sorted (order.2 i)
 
   -- a pulse of another line, or none
-  passes : (call : Call) (calls : List Call) → kept_claim (call ∷ calls) ≡ kept_claim calls → pulses_on i (call ∷ calls) ≡ pulses_on i calls → last_call start calls ≤ last_call start (call ∷ calls) → Keeps calls → Keeps (call ∷ calls)
-  passes call calls same pulses on k = record {
+  passes : (call : Call) (calls : List Call) → kept_claim (call ∷ calls) ≡ kept_claim calls → pulses_on i (call ∷ calls) ≡ pulses_on i calls → Keeps calls → Keeps (call ∷ calls)
+  passes call calls same pulses k = record {
     claim = k.claim;
     truth = k.truth;
     end = k.end;
     keeps = same ∙ k.keeps;
     least = k.least;
     most = k.most;
-    told = omega (arith, k.told, on);
     close_least = k.close_least;
     close_most = k.close_most;
     is = k.is ∙ ap whole_of (sym pulses);
   }
 
   -- the hundredth
-  module _ (port time rise width : ℕ) (calls : List Call) (order : AreInOrder start new.clock.redundancy (Hear port time rise width ∷ calls)) (narrow : is_pulse width ≡ true) (same : (i == port) ≡ true)
-      (w : IsWhole new.limits new.rules t edges m (pulses_on i (Hear port time rise width ∷ calls))) (ends : EndsWhole edges m (pulses_on i (Hear port time rise width ∷ calls))) where
+  module _ (port rise width : ℕ) (calls : List Call) (now : ℕ) (order : AreInOrder start new.clock.redundancy (Tick now ∷ (Hear port rise width ∷ calls))) (narrow : is_pulse width ≡ true) (same : (i == port) ≡ true)
+      (w : IsWhole new.limits new.rules t edges m (pulses_on i (Hear port rise width ∷ calls))) (ends : EndsWhole edges m (pulses_on i (Hear port rise width ∷ calls))) where
     abbrev k : Keeping
     k = after_calls new calls
 
@@ -247,8 +241,8 @@ module _ (t : TimelineValue) (d : ℕ) (edges : ℕ → ℕ) (quartz : IsQuartz 
     at : i ≡ port
     at = eqb-true i port same
 
-    on : pulses_on i (Hear port time rise width ∷ calls) ≡ p ∷ pulses
-    on = own_pulses i port time rise width calls narrow same
+    on : pulses_on i (Hear port rise width ∷ calls) ≡ p ∷ pulses
+    on = own_pulses i port rise width calls narrow same
 
     both : p ∷ pulses ≡ ends.p ∷ ends.ps
     both = sym on ∙ ends.are
@@ -259,14 +253,17 @@ module _ (t : TimelineValue) (d : ℕ) (edges : ℕ → ℕ) (quartz : IsQuartz 
     hundred : place_after (p ∷ pulses) ≡ 100
     hundred = ap place_after both ∙ ends.place
 
-    l : IsLineAt k.rules (heard_by k.heard i) line pulses (last_tick start calls) (last_call start calls)
-    l = (lines_after new start begun calls order.4).lines i small
+    all : AreLinesAt new k (λ i. pulses_on i calls) (last_tick start calls) now
+    all = lines_after new start begun calls now (unheard start new.clock.redundancy port rise width now calls order)
+
+    l : IsLineAt k.rules (heard_by k.heard i) line pulses (last_tick start calls) now
+    l = all.lines i small
 
     after : IsAfter pulses rise
-    after = subst (λ (j : ℕ). IsAfter (pulses_on j calls) rise) (sym at) (order.3 narrow).after
+    after = subst (λ (j : ℕ). IsAfter (pulses_on j calls) rise) (sym at) (order.3.1 narrow).0
 
     soon : IsSoon l.told rise
-    soon = (omega (arith, l.past, order.1, (order.3 narrow).soon), omega (arith, l.near, order.2, (order.3 narrow).risen))
+    soon = line_soon rise l (has_risen port rise width now calls order.2 narrow) order.1 (after, (order.3.1 narrow).1)
 
     place : place_of line.sync (rise % 2 ^ 32) width ≡ place_after (p ∷ pulses)
     place = place_at_time line.sync pulses l.told rise width l.hearing.sync after soon
@@ -285,8 +282,8 @@ module _ (t : TimelineValue) (d : ℕ) (edges : ℕ → ℕ) (quartz : IsQuartz 
 
     tells_it : told_within k.limits k.rules (heard_then k i (rise % 2 ^ 32) width) ≡ tells.Claim w.claim
     tells_it =
-        ap (λ (r : Rules). told_within k.limits r (heard_then k i (rise % 2 ^ 32) width)) (lines_after new start begun calls order.4).same.rules
-        ∙ ap (λ (l : Option Limits). told_within l new.rules (heard_then k i (rise % 2 ^ 32) width)) (lines_after new start begun calls order.4).same.limits
+        ap (λ (r : Rules). told_within k.limits r (heard_then k i (rise % 2 ^ 32) width)) all.same.rules
+        ∙ ap (λ (l : Option Limits). told_within l new.rules (heard_then k i (rise % 2 ^ 32) width)) all.same.limits
         ∙ ap (told_within new.limits new.rules) (heard ∙ ap (symbols_of_last 100) (sym on)) ∙ w.tells
 
     own_line : line_at (after_pulse k port (rise % 2 ^ 32) width).state.lines i ≡ line_heard line (rise % 2 ^ 32) width (told_within k.limits k.rules (heard_then k i (rise % 2 ^ 32) width))
@@ -299,7 +296,7 @@ module _ (t : TimelineValue) (d : ℕ) (edges : ℕ → ℕ) (quartz : IsQuartz 
         let wrap : (rise % 2 ^ 32 + 10000) % 2 ^ 32 ≡ (rise + 10000) % 2 ^ 32 = omega arith in
         rw (whole, says) (ap (λ (end : ℕ). Some (record { claim = claim; end_us = end })) wrap)
 
-    keeps_whole : Keeps (Hear port time rise width ∷ calls)
+    keeps_whole : Keeps (Hear port rise width ∷ calls)
     keeps_whole =
         let rises : rise ≡ ends.p.rise = ap (λ (q : Pulse). q.rise) head in
         record {
@@ -309,7 +306,6 @@ module _ (t : TimelineValue) (d : ℕ) (edges : ℕ → ℕ) (quartz : IsQuartz 
           keeps = ap (λ (x : Line). claim_kept x.frame) own_line ∙ kept_then (place_of line.sync (rise % 2 ^ 32) width) rise (told_within k.limits k.rules (heard_then k i (rise % 2 ^ 32) width)) line.frame w.claim (place ∙ hundred) tells_it;
           least = omega (arith, rises, ends.least);
           most = omega (arith, rises, ends.most);
-          told = omega (arith, (order.3 narrow).risen);
           close_least = omega (arith, rises, ends.close_least);
           close_most = omega (arith, rises, ends.close_most);
           is = sym (ap whole_of on ∙ whole_here p pulses hundred);
@@ -320,10 +316,10 @@ module _ (t : TimelineValue) (d : ℕ) (edges : ℕ → ℕ) (quartz : IsQuartz 
   passes_wide port rise width calls wide = rw wide refl
 
   -- a tick without a vote
-  ticks_on : (calls : List Call) (now : ℕ) → last_call start calls ≤ now → now ≤ edges m + 98000 → vote_at (after_calls new calls) (now % 2 ^ 32) ≡ None → Keeps calls → Keeps (Tick now ∷ calls)
-  ticks_on calls now on upto none k =
+  ticks_on : (calls : List Call) (now : ℕ) → AreInOrder start new.clock.redundancy (Tick now ∷ calls) → now ≤ edges m + 98000 → vote_at (after_calls new calls) (now % 2 ^ 32) ≡ None → Keeps calls → Keeps (Tick now ∷ calls)
+  ticks_on calls now order upto none k =
       let clock : ℕ = now % 2 ^ 32 in
-      let late = in_time k.end now (omega (arith, k.told, on)) (omega (arith, k.least, upto)) in
+      let late = in_time k.end now (omega (arith, k.is, ended calls now order)) (omega (arith, k.least, upto)) in
       let lines = ap (λ (x : Lines). (line_at x i).frame) (settles (after_calls new calls) clock none) ∙ frame_settled clock (after_calls new calls).state.lines i small in
       record {
         claim = k.claim;
@@ -332,29 +328,86 @@ module _ (t : TimelineValue) (d : ℕ) (edges : ℕ → ℕ) (quartz : IsQuartz 
         keeps = ap claim_kept lines ∙ stays_kept clock (line_at (after_calls new calls).state.lines i).frame (record { claim = k.claim; end_us = k.end % 2 ^ 32 }) k.keeps late;
         least = k.least;
         most = k.most;
-        told = omega (arith, k.told, on);
         close_least = k.close_least;
         close_most = k.close_most;
         is = k.is;
       }
 
-  pub whole_kept : (later : List Call) → AreInOrder start new.clock.redundancy (later ++ older) → HaveNoVotes new (edges m - 11000) later older → last_call start (later ++ older) ≤ edges m + 98000 → IsWhole new.limits new.rules t edges m (pulses_on i (later ++ older)) → Keeps (later ++ older)
-  whole_kept [] order none upto w =
-      let ends = ends_whole new.limits new.rules t d edges m (pulses_on i older) quartz w in
-      absurd (omega (arith, risen older order ends.p ends.ps ends.are, ends.least, past))
-  whole_kept (Tick now ∷ later) order none upto w =
-      let before = whole_kept later order.2 none.1 (omega (arith, order.0, upto)) w in
-      ticks_on (later ++ older) now order.0 upto (none.0 (omega (arith, before.told, before.least, order.0))) before
-  whole_kept (Hear port time rise width ∷ later) order none upto w = elim (cases_Bool (i == port)) [
+  -- a pulse behind it, which is no frame's last: it rose too soon
+  module _ (port rise width : ℕ) (calls : List Call) (now : ℕ) (order : AreInOrder start new.clock.redundancy (Tick now ∷ (Hear port rise width ∷ calls))) (narrow : is_pulse width ≡ true) (same : (i == port) ≡ true) (upto : now ≤ edges m + 98000) (k : Keeps calls) where
+    keeps_late : Keeps (Hear port rise width ∷ calls)
+    keeps_late =
+        let at : i ≡ port = eqb-true i port same in
+        let pulses : List Pulse = pulses_on i calls in
+        let p : Pulse = pulse_at rise width in
+        let l = (lines_after new start begun calls now (unheard start new.clock.redundancy port rise width now calls order)).lines i small in
+        let after : IsAfter pulses rise = subst (λ (j : ℕ). IsAfter (pulses_on j calls) rise) (sym at) (order.3.1 narrow).0 in
+        let risen = has_risen port rise width now calls order.2 narrow in
+        let soon : IsSoon l.told rise = line_soon rise l risen order.1 (after, (order.3.1 narrow).1) in
+        let place : place_of (line_at (after_calls new calls).state.lines i).sync (rise % 2 ^ 32) width ≡ place_after (p ∷ pulses) = place_at_time (line_at (after_calls new calls).state.lines i).sync pulses l.told rise width l.hearing.sync after soon in
+        let inside : ¬ (place_after (p ∷ pulses) ≡ 100) = λ ends. (let far = whole_apart p pulses (after, l.sorted) ends in absurd (omega (arith, far, k.is, k.least, risen, upto))) in
+        record {
+          claim = k.claim;
+          truth = k.truth;
+          end = k.end;
+          keeps = ap claim_kept (own_pulse (after_calls new calls) port i (rise % 2 ^ 32) width small narrow at (λ ends. inside (sym place ∙ ends))) ∙ k.keeps;
+          least = k.least;
+          most = k.most;
+          close_least = k.close_least;
+          close_most = k.close_most;
+          is = k.is ∙ sym (ap whole_of (own_pulses i port rise width calls narrow same) ∙ not_whole p pulses inside);
+        }
+
+  -- the frame was told, and then so many pulses
+  abbrev pub Whole : ℕ → List Pulse → Type 0
+  Whole late pulses = IsWhole new.limits new.rules t edges m (drop late pulses)
+
+  drop_more : (late : ℕ) (p : Pulse) (ps : List Pulse) → drop (suc late) (p ∷ ps) ≡ drop late ps
+  drop_more late p ps = refl
+
+  drop_none : (late : ℕ) (ps : List Pulse) → ps ≡ [] → drop late ps ≡ []
+  drop_none zero ps e = e
+  drop_none (suc late) [] e = refl
+  drop_none (suc late) (p ∷ ps) e = absurd cc
+
+  -- what was told before rose too early to be its last
+  pub not_before : (late : ℕ) (ps : List Pulse) → AreSorted ps → IsAfter ps told → ¬ Whole late ps
+  not_before zero ps sorted after w =
+      let ends = ends_whole new.limits new.rules t d edges m ps quartz w in
+      absurd (let rose = subst (λ (x : List Pulse). IsAfter x told) ends.are after in omega (arith, rose, ends.least, past))
+  not_before (suc late) [] sorted after w =
+      let ends = ends_whole new.limits new.rules t d edges m [] quartz w in
+      absurd (let none = ends.are in cc)
+  not_before (suc late) (p ∷ ps) sorted after w = not_before late ps sorted.1 (earlier ps p.rise sorted.0 after) w
+    where
+      earlier : (qs : List Pulse) (rise : ℕ) → IsAfter qs rise → rise ≤ told → IsAfter qs told
+      earlier [] rise after on = tt
+      earlier (q ∷ qs) rise after on = omega (arith, after, on)
+
+  pub whole_kept : (later : List Call) (now : ℕ) → AreInOrder start new.clock.redundancy (Tick now ∷ (later ++ older)) → HaveNoVotes new (edges m - 11000) later older → now ≤ edges m + 98000 → (late : ℕ) → Whole late (pulses_on i (later ++ older)) → Keeps (later ++ older)
+  whole_kept [] now order none upto late w = absurd (not_before late (pulses_on i older) ((lines_after new start begun older now order).lines i small).sorted (risen i) w)
+  whole_kept (Tick time ∷ later) now order none upto late w =
+      let before = whole_kept later time order.3 none.1 (omega (arith, order.0, upto)) late w in
+      let end = ended (later ++ older) time order.3 in
+      ticks_on (later ++ older) time order.3 (omega (arith, order.0, upto)) (none.0 (omega (arith, before.is, before.least, end))) before
+  whole_kept (Hear port rise width ∷ later) now order none upto late w = elim (cases_Bool (i == port)) [
     | inr other ↦
-        let same = others_pulses i port time rise width (later ++ older) other in
-        let before = whole_kept later order.4 none (omega (arith, order.1, upto)) (subst (IsWhole new.limits new.rules t edges m) same w) in
-        let line = others_pulse (after_calls new (later ++ older)) port i (rise % 2 ^ 32) width (omega (arith, order.0, five new.clock.redundancy)) small (eqb-false i port other) in
-        passes (Hear port time rise width) (later ++ older) (ap (λ (x : Line). claim_kept x.frame) line) same order.1 before
+        let same = others_pulses i port rise width (later ++ older) other in
+        let before = whole_kept later now (unheard start new.clock.redundancy port rise width now (later ++ older) order) none upto late (subst (Whole late) same w) in
+        let line = others_pulse (after_calls new (later ++ older)) port i (rise % 2 ^ 32) width (omega (arith, order.3.0, five new.clock.redundancy)) small (eqb-false i port other) in
+        passes (Hear port rise width) (later ++ older) (ap (λ (x : Line). claim_kept x.frame) line) same before
     | inl same ↦ elim (cases_Bool (is_pulse width)) [
       | inr wide ↦
-          let before = whole_kept later order.4 none (omega (arith, order.1, upto)) (subst (IsWhole new.limits new.rules t edges m) (no_pulse i port time rise width (later ++ older) wide) w) in
-          passes (Hear port time rise width) (later ++ older) (passes_wide port (rise % 2 ^ 32) width (later ++ older) wide) (no_pulse i port time rise width (later ++ older) wide) order.1 before
-      | inl narrow ↦ keeps_whole port time rise width (later ++ older) order narrow same w (ends_whole new.limits new.rules t d edges m _ quartz w)
+          let none_more = no_pulse i port rise width (later ++ older) wide in
+          let before = whole_kept later now (unheard start new.clock.redundancy port rise width now (later ++ older) order) none upto late (subst (Whole late) none_more w) in
+          passes (Hear port rise width) (later ++ older) (passes_wide port (rise % 2 ^ 32) width (later ++ older) wide) none_more before
+      | inl narrow ↦ by narrow same late w (λ late w. whole_kept later now (unheard start new.clock.redundancy port rise width now (later ++ older) order) none upto late w)
     ]
   ]
+    where
+      by : is_pulse width ≡ true → (i == port) ≡ true → (late : ℕ) → Whole late (pulses_on i (Hear port rise width ∷ (later ++ older))) → ((late : ℕ) → Whole late (pulses_on i (later ++ older)) → Keeps (later ++ older)) → Keeps (Hear port rise width ∷ (later ++ older))
+      by narrow same zero w kept = keeps_whole port rise width (later ++ older) now order narrow same w (ends_whole new.limits new.rules t d edges m _ quartz w)
+      by narrow same (suc late) w kept =
+          let on = own_pulses i port rise width (later ++ older) narrow same in
+          let before = kept late (subst (λ (ps : List Pulse). Whole (suc late) ps) on w) in
+          keeps_late port rise width (later ++ older) now order narrow same upto before

@@ -5,15 +5,22 @@ use Rattle.std.proofs.lemmas.Bool.{cases_Bool}
 use Rattle.irig_sync.specs.Lines.{Pulse}
 use Rattle.irig_time.specs.declared.second.UtcSecond.{UtcSecond}
 use Rattle.irig_time.specs.declared.rules.Rules.{Rules}
+use Rattle.irig_time.specs.declared.claim.Claim.{Claim}
 use Rattle.irig_time.specs.Claims.{IsMarkedLate}
 use Rattle.irig_time.specs.Tables.{TableValue}
 use Rattle.irig_time.specs.Timelines.{TimelineValue}
 use Rattle.irig_time.proofs.ClaimedSeconds.{claim_marked}
+use Rattle.irig_time.proofs.SecondAt.{claim_is}
+use Rattle.irig_hold.specs.Steps.{HoldValue}
 use Rattle.irig_hold.specs.Truth.{HasHeardLate}
 use Rattle.irig_vote.specs.Vote.{f_of}
 use Rattle.irig_reader.specs.declared.rules.ReaderRules.{ReaderRules}
 use Rattle.irig_reader.specs.declared.rule.State.{State}
+use Rattle.irig_reader.specs.declared.report.Cause.TheVariants as cause
+use Rattle.irig_reader.specs.declared.rule.Step.{Step}
+use Rattle.irig_reader.specs.Rule.{count_step, step_of}
 use Rattle.irig_reader.proofs.HeldEdges.{IfHold, late_step}
+use Rattle.irig_reader.proofs.StepCases.{count_cases, vote_cases}
 use Rattle.irig_timekeeper.specs.declared.lines.KeptClaim.{KeptClaim}
 use Rattle.irig_timekeeper.specs.declared.lines.Lines.{Lines}
 use Rattle.irig_timekeeper.specs.declared.clock.Beat.{Beat}
@@ -23,15 +30,17 @@ use Rattle.irig_timekeeper.specs.Lines.{IfKept}
 use Rattle.irig_timekeeper.specs.Counting.{edges_to_vote, edges_own}
 use Rattle.irig_timekeeper.specs.Rule.{missed}
 use Rattle.irig_timekeeper.specs.Steps.{is_pulse, line_at, claim_kept, all_kept, still_kept, settled, agreed, if_come}
-use Rattle.irig_timekeeper.specs.Clock.{after_vote, answer_to_vote, after_own, clock_by, answer_by, settled_at}
+use Rattle.irig_timekeeper.specs.Clock.{beat_by, step_to, after_vote, answer_to_vote, after_own, clock_by, answer_by, settled_at}
 use Rattle.irig_timekeeper.specs.Keeping.{Keeping, vote_at, after_tick, answer_at}
-use Rattle.irig_timekeeper.specs.Truth.{IsTrueVote, IsOnTrack, IsToldInHoldover, IsDevice}
-use Rattle.irig_timekeeper.specs.Life.{Call, after_calls, pulses_on, last_call, last_tick, AreInOrder, AreTrueLately, AreTrueOver}
+use Rattle.irig_timekeeper.specs.Truth.{IsTrueVote, IsOnTrack, IsToldInHoldover, IsLaterSecond, IsDevice}
+use Rattle.irig_timekeeper.specs.Life.{Call, after_calls, pulses_on, last_tick, AreInOrder, AreTrueLately, AreTrueOver}
 use Rattle.irig_timekeeper.specs.Life.Call.{Hear, Tick}
 use Rattle.irig_timekeeper.proofs.AgreeLaws.{EachKept, is_one}
 use Rattle.irig_timekeeper.proofs.SureSteps.{mended_by_vote}
+use Rattle.irig_timekeeper.proofs.VotedLaws.{voted_second}
+use Rattle.irig_timekeeper.proofs.TrackLaws.{IsToldNewly, KeepsTrue}
 use Rattle.irig_timekeeper.proofs.VoteLaws.{still, come, one_more, vote_is_true}
-use Rattle.irig_timekeeper.proofs.LifeLaws.{IsSameSetup, AreLinesAt, IsEndAt, lines_after, TellAlwaysTruly, heard_truly, IsTrack, tick_in, track_on, order_before}
+use Rattle.irig_timekeeper.proofs.LifeLaws.{IsSameSetup, AreLinesAt, IsEndAt, lines_after, TellAlwaysTruly, heard_truly, tick_in, track_on, order_before}
 
 -- ---- what lines keep speaks of a leap in a month's last minute alone
 
@@ -91,43 +100,86 @@ late_ticked k clock late marked = of (vote_at k clock) refl
 module _ (new : Keeping) (start : ℕ) (begins : AreLinesAt new new (λ i. []) start start) where
   pub late_life : IfHold new.state.reader HasHeardLate → (calls : List Call) → AreInOrder start new.clock.redundancy calls → IfHold (after_calls new calls).state.reader HasHeardLate
   late_life late [] order = late
-  late_life late (Hear port time rise width ∷ calls) order =
-      let before = late_life late calls order.4 in
+  late_life late (Hear port rise width ∷ calls) order =
+      let before = late_life late calls order.2 in
       elim (cases_Bool (is_pulse width)) [ inl narrow ↦ rw narrow before | inr wide ↦ rw wide before ]
   late_life late (Tick now ∷ calls) order =
-      let l = lines_after new start begins calls order.2 in
+      let l = lines_after new start begins calls now order in
       let k = after_calls new calls in
-      late_ticked k (now % 2 ^ 32) (late_life late calls order.2)
-      (λ v e. vote_marked (λ ps. IsEndAt ps (last_tick start calls) (last_call start calls)) k.rules k.state.lines (λ i. pulses_on i calls) (λ i low. (l.lines i low).kept) (f_of k.clock.redundancy) (now % 2 ^ 32) v e)
+      late_ticked k (now % 2 ^ 32) (late_life late calls order.3)
+      (λ v e. vote_marked (λ ps. IsEndAt ps (last_tick start calls) now) k.rules k.state.lines (λ i. pulses_on i calls) (λ i low. (l.lines i low).kept) (f_of k.clock.redundancy) (now % 2 ^ 32) v e)
 
 -- ---- a true vote that counts an edge
 
+-- a second is announced by a vote with this cause alone
+says_voted : (rules : ReaderRules) (table : TableValue) (s : State) (c : Claim) (u : UtcSecond) → (step_of rules table s (Some c)).report.announce ≡ Some u → (step_of rules table s (Some c)).report.cause ≡ cause.Voted
+says_voted rules table s c u = vote_cases Says rules table s c (λ h e. counts h 1) (λ stop says. absurd cc) (λ h count w is e. counts _ (count + 1)) (λ h w is e says. refl)
+  where
+    Says : Step → Type 0
+    Says step = step.report.announce ≡ Some u → step.report.cause ≡ cause.Voted
+
+    counts : (h : HoldValue) (count : ℕ) → Says (count_step rules h count)
+    counts h count = count_cases Says rules h count (λ enough says. refl) (λ more says. absurd cc)
+
+-- it then stands at the truth, and what it announces is true
+pub record Mends (t : TimelineValue) (d : ℕ) (edges : ℕ → ℕ) (early late : ℕ) (rules : ReaderRules) (table : TableValue) (now : ℕ) (new : ClockState) (b : Beat) : Type 0 where
+  pub track : IsOnTrack t edges early late d 0 rules table now new.reader new.edge_us
+  pub told : (u : UtcSecond) → b.report.announce ≡ Some u → IsToldNewly t d edges early late 0 rules table now b u new.reader new.edge_us
+
 module _ (t : TimelineValue) (edges : ℕ → ℕ) (early late : ℕ) (c : ClockRules) (table : TableValue) (s : ClockState) (is : IsDevice t c.drift_us edges c.reader_rules table) (heard : IfHold s.reader HasHeardLate) (now : ℕ) (v : KeptClaim) (vote : IsTrueVote t edges early late now v) where
-  heals_by : (n : ℕ) (b : Beat) → answer_to_vote c table s v n ≡ Some b → IsOnTrack t edges early late c.drift_us 0 c.reader_rules table now (after_vote c table s v n).reader (after_vote c table s v n).edge_us
+  stands : (n last : ℕ) → last ≤ vote.truth.second + 1 → IsOnTrack t edges early late c.drift_us last c.reader_rules table now (step_to c table s n (Some v.claim)).state (Some v.end_us)
+  stands n last low =
+      let before = late_missed c.reader_rules table (n - 1) s.reader heard in
+      inr (
+        vote.truth.second + 1,
+        0,
+        record {
+          edge = vote.end;
+          at = record { clock = vote.clock; come = vote.come; soon = omega (arith, vote.soon) };
+          near = record { least = omega (arith, vote.truth.near.least); most = omega (arith, vote.truth.near.most) };
+          truth = mended_by_vote t c.reader_rules table is.sound vote.truth.second (missed c.reader_rules table (n - 1) s.reader) v.claim vote.truth.truth before;
+          young = omega arith;
+          few = omega arith;
+          behind = low;
+        },
+      )
+
+  says : (n : ℕ) (b : Beat) (u : UtcSecond) → beat_by s (step_to c table s n (Some v.claim)) (n - 1) v.end_us ≡ b → b.report.announce ≡ Some u
+      → IsToldNewly t c.drift_us edges early late 0 c.reader_rules table now b u (step_to c table s n (Some v.claim)).state (Some v.end_us)
+  says n b u beat e =
+      let state = missed c.reader_rules table (n - 1) s.reader in
+      let announces = ap (λ (x : Beat). x.report.announce) beat ∙ e in
+      record {
+        told = record {
+          far = 0;
+          held = omega arith;
+          few = omega arith;
+          told = record {
+            m = vote.truth.second + 1;
+            edge = vote.end;
+            clock = ap (λ (x : Beat). x.edge_us) (sym beat) ∙ vote.clock;
+            near = record { least = omega (arith, vote.truth.near.least); most = omega (arith, vote.truth.near.most) };
+            come = vote.come;
+            soon = omega (arith, vote.soon);
+            truth = voted_second t vote.truth.second c.reader_rules table state v.claim u is.sound ((claim_is t vote.truth.second v.claim).1 vote.truth.truth) (says_voted c.reader_rules table state v.claim u announces) announces;
+          };
+        };
+        later = omega arith;
+        track = stands n (vote.truth.second + 1) (omega arith);
+      }
+
+  heals_by : (n : ℕ) (b : Beat) → answer_to_vote c table s v n ≡ Some b → Mends t c.drift_us edges early late c.reader_rules table now (after_vote c table s v n) b
   heals_by n b e = elim (cases_Bool (n == 0)) [
     | inl none ↦ let both : None ≡ Some b = rw none at e in absurd cc
     | inr some ↦
-        let before = late_missed c.reader_rules table (n - 1) s.reader heard in
-        let then = mended_by_vote t c.reader_rules table is.sound vote.truth.second (missed c.reader_rules table (n - 1) s.reader) v.claim vote.truth.truth before in
-        rw some (inr (
-          vote.truth.second + 1,
-          0,
-          record {
-            edge = vote.end;
-            at = record { clock = vote.clock; come = vote.come; soon = omega (arith, vote.soon) };
-            near = record { least = omega (arith, vote.truth.near.least); most = omega (arith, vote.truth.near.most) };
-            truth = then;
-            young = omega arith;
-            few = omega arith;
-            behind = omega arith;
-          },
-        ))
+        let beat : beat_by s (step_to c table s n (Some v.claim)) (n - 1) v.end_us ≡ b = let told : Some (beat_by s (step_to c table s n (Some v.claim)) (n - 1) v.end_us) ≡ Some b = rw some at e in cc in
+        rw some (record { track = stands n 0 (omega arith); told = λ u e. says n b u beat e })
   ]
 
 -- a tick at which it comes, by the setup that the device was made with
 module _ (t : TimelineValue) (edges : ℕ → ℕ) (early late : ℕ) (k : Keeping) (now : ℕ) (v : KeptClaim) (b : Beat) where
   abbrev Heals : ClockRules → TableValue → Type 0
-  Heals c table = IsDevice t c.drift_us edges c.reader_rules table → IsOnTrack t edges early late c.drift_us 0 c.reader_rules table now (after_tick k (now % 2 ^ 32)).state.reader (after_tick k (now % 2 ^ 32)).state.edge_us
+  Heals c table = IsDevice t c.drift_us edges c.reader_rules table → Mends t c.drift_us edges early late c.reader_rules table now (after_tick k (now % 2 ^ 32)).state b
 
   heals_here : IfHold k.state.reader HasHeardLate → IsTrueVote t edges early late now v → vote_at k (now % 2 ^ 32) ≡ Some v → answer_at k (now % 2 ^ 32) ≡ Some b → Heals k.clock k.table
   heals_here heard vote voted answer is = of (vote_at k (now % 2 ^ 32)) voted answer
@@ -136,7 +188,7 @@ module _ (t : TimelineValue) (edges : ℕ → ℕ) (early late : ℕ) (k : Keepi
       s = settled_at k.state (now % 2 ^ 32)
 
       of : (o : Option KeptClaim) → o ≡ Some v → answer_by k.clock k.table s (now % 2 ^ 32) o ≡ Some b
-          → IsOnTrack t edges early late k.clock.drift_us 0 k.clock.reader_rules k.table now (clock_by k.clock k.table s (now % 2 ^ 32) o).reader (clock_by k.clock k.table s (now % 2 ^ 32) o).edge_us
+          → Mends t k.clock.drift_us edges early late k.clock.reader_rules k.table now (clock_by k.clock k.table s (now % 2 ^ 32) o) b
       of None e answer = absurd cc
       of (Some x) e answer =
           let same : v ≡ x = cc in
@@ -149,15 +201,15 @@ module _ (t : TimelineValue) (edges : ℕ → ℕ) (early late : ℕ) (k : Keepi
 
 module _ (IsTrue : ℕ → List Pulse → Type 0) (t : TimelineValue) (edges : ℕ → ℕ) (early late : ℕ) (new : Keeping) (start : ℕ) (begins : AreLinesAt new new (λ i. []) start start) (heard : IfHold new.state.reader HasHeardLate)
     (is : IsDevice t new.clock.drift_us edges new.clock.reader_rules new.table) (room : early + late ≤ 4098) (truly : TellAlwaysTruly IsTrue new.rules t edges early late) where
-  mended : (earlier : List Call) (mend : ℕ) (v : KeptClaim) (b : Beat) → AreInOrder start new.clock.redundancy (Tick mend ∷ earlier) → AreTrueLately IsTrue (f_of new.clock.redundancy) mend earlier
+  pub mended : (earlier : List Call) (mend : ℕ) (v : KeptClaim) (b : Beat) → AreInOrder start new.clock.redundancy (Tick mend ∷ earlier) → AreTrueLately IsTrue (f_of new.clock.redundancy) mend earlier
       → vote_at (after_calls new earlier) (mend % 2 ^ 32) ≡ Some v → answer_at (after_calls new earlier) (mend % 2 ^ 32) ≡ Some b
-      → IsTrack IsTrue t edges early late new start begins 0 mend (after_calls new (Tick mend ∷ earlier))
+      → Mends t new.clock.drift_us edges (early + 1000) late new.clock.reader_rules new.table mend (after_calls new (Tick mend ∷ earlier)).state b
   mended earlier mend v b order lately voted answer =
-      let l = lines_after new start begins earlier order.2 in
+      let l = lines_after new start begins earlier mend order in
       let k : Keeping = after_calls new earlier in
       let h = heard_truly IsTrue t edges early late new start begins earlier mend order lately in
       let vote = vote_is_true (IsTrue mend) new.rules t edges early late (f_of new.clock.redundancy) mend k.state.lines (λ i. pulses_on i earlier) (truly mend) h v (ap (λ (c : ClockRules). if_come (mend % 2 ^ 32) (agreed (f_of c.redundancy) (settled (mend % 2 ^ 32) k.state.lines))) (sym l.same.clock) ∙ voted) in
-      heals t edges (early + 1000) late k mend v b new l.same (late_life new start begins heard earlier order.2) vote voted answer is
+      heals t edges (early + 1000) late k mend v b new l.same (late_life new start begins heard earlier order.3) vote voted answer is
 
   pub healed : (earlier later : List Call) (mend now : ℕ) (v : KeptClaim) (b then : Beat) (u : UtcSecond) → AreInOrder start new.clock.redundancy (Tick now ∷ (later ++ (Tick mend ∷ earlier)))
       → AreTrueLately IsTrue (f_of new.clock.redundancy) mend earlier → AreTrueOver IsTrue (f_of new.clock.redundancy) (Tick now ∷ later) (Tick mend ∷ earlier)
@@ -165,7 +217,57 @@ module _ (IsTrue : ℕ → List Pulse → Type 0) (t : TimelineValue) (edges : �
       → answer_at (after_calls new (later ++ (Tick mend ∷ earlier))) (now % 2 ^ 32) ≡ Some then → then.report.announce ≡ Some u
       → IsToldInHoldover t edges (early + 1000) late new.clock.drift_us new.clock.reader_rules.holdover now then u
   healed earlier later mend now v b then u order lately truth voted answer answers says =
-      let ordered = order_before start new.clock.redundancy later (Tick mend ∷ earlier) order.2 in
-      let base = mended earlier mend v b ordered lately voted answer in
-      let track = track_on IsTrue t edges early late new start begins is room truly 0 (Tick mend ∷ earlier) base later order.2 truth.1 in
+      let ordered = order_before start new.clock.redundancy later (Tick mend ∷ earlier) order.3 in
+      let base = (mended earlier mend v b ordered lately voted answer).track in
+      let track = track_on IsTrue t edges early late new start begins is room truly 0 (Tick mend ∷ earlier) base later order.3 truth.1 in
       ((tick_in IsTrue t edges early late new start begins is room truly 0 (later ++ (Tick mend ∷ earlier)) now order truth.0 track).told then u answers says).told
+
+  -- ---- since then
+
+  module _ (earlier : List Call) (mend : ℕ) (v : KeptClaim) (b : Beat) (lately : AreTrueLately IsTrue (f_of new.clock.redundancy) mend earlier) (voted : vote_at (after_calls new earlier) (mend % 2 ^ 32) ≡ Some v) (answer : answer_at (after_calls new earlier) (mend % 2 ^ 32) ≡ Some b) where
+    -- what a later tick leaves and answers
+    pub tick_since : (later : List Call) (now : ℕ) → AreInOrder start new.clock.redundancy (Tick now ∷ (later ++ (Tick mend ∷ earlier))) → AreTrueLately IsTrue (f_of new.clock.redundancy) now (later ++ (Tick mend ∷ earlier))
+        → AreTrueOver IsTrue (f_of new.clock.redundancy) later (Tick mend ∷ earlier)
+        → KeepsTrue t new.clock.drift_us edges (early + 1000) late 0 new.clock.reader_rules new.table now (after_tick (after_calls new (later ++ (Tick mend ∷ earlier))) (now % 2 ^ 32)).state (answer_at (after_calls new (later ++ (Tick mend ∷ earlier))) (now % 2 ^ 32))
+    tick_since later now order here truth =
+        let ordered = order_before start new.clock.redundancy later (Tick mend ∷ earlier) order.3 in
+        let base = (mended earlier mend v b ordered lately voted answer).track in
+        tick_in IsTrue t edges early late new start begins is room truly 0 (later ++ (Tick mend ∷ earlier)) now order here (track_on IsTrue t edges early late new start begins is room truly 0 (Tick mend ∷ earlier) base later order.3 truth)
+
+    -- what that tick announces, or a later one
+    abbrev Newly : ℕ → List Call → Type 0
+    Newly now calls =
+        AreInOrder start new.clock.redundancy (Tick now ∷ calls) → (x : Beat) (u : UtcSecond) → answer_at (after_calls new calls) (now % 2 ^ 32) ≡ Some x → x.report.announce ≡ Some u
+        → IsToldNewly t new.clock.drift_us edges (early + 1000) late 0 new.clock.reader_rules new.table now x u (after_calls new (Tick now ∷ calls)).state.reader (after_calls new (Tick now ∷ calls)).state.edge_us
+
+    pub newly : (later calls : List Call) (now : ℕ) → Tick now ∷ calls ≡ later ++ (Tick mend ∷ earlier) → AreTrueOver IsTrue (f_of new.clock.redundancy) later (Tick mend ∷ earlier) → Newly now calls
+    newly [] calls now are truth =
+        let time : mend ≡ now = cc in
+        let before : earlier ≡ calls = cc in
+        subst (λ (n : ℕ). Newly n calls) time (subst (Newly mend) before (λ order x u told announces. (mended earlier mend v x order lately voted told).told u announces))
+    newly (Hear port rise width ∷ later) calls now are truth = absurd cc
+    newly (Tick then ∷ later) calls now are truth =
+        let time : then ≡ now = cc in
+        let before : later ++ (Tick mend ∷ earlier) ≡ calls = cc in
+        subst (λ (n : ℕ). Newly n calls) time (subst (Newly then) before (λ order x u told announces. (tick_since later then order truth.0 truth.1).told x u told announces))
+
+    -- and then one behind it
+    pub in_order : (first : List Call) (before : ℕ) (calls later : List Call) (now : ℕ) (x y : Beat) (u w : UtcSecond) → Tick before ∷ calls ≡ first ++ (Tick mend ∷ earlier) → AreTrueOver IsTrue (f_of new.clock.redundancy) first (Tick mend ∷ earlier)
+        → AreInOrder start new.clock.redundancy (Tick now ∷ (later ++ (Tick before ∷ calls))) → AreTrueOver IsTrue (f_of new.clock.redundancy) (Tick now ∷ later) (Tick before ∷ calls)
+        → answer_at (after_calls new calls) (before % 2 ^ 32) ≡ Some x → x.report.announce ≡ Some u → answer_at (after_calls new (later ++ (Tick before ∷ calls))) (now % 2 ^ 32) ≡ Some y → y.report.announce ≡ Some w → IsLaterSecond t u w
+    in_order first before calls later now x y u w are truth order since told announces answers again =
+        let base : List Call = Tick before ∷ calls in
+        let ordered = order_before start new.clock.redundancy later base order.3 in
+        let one = newly first calls before are truth ordered x u told announces in
+        let M : ℕ = one.told.told.m in
+        let track = track_on IsTrue t edges early late new start begins is room truly M base one.track later order.3 since.1 in
+        let two = (tick_in IsTrue t edges early late new start begins is room truly M (later ++ base) now order since.0 track).told y w answers again in
+        record { m = M; n = two.told.told.m; less = two.later; before = one.told.told.truth; then = two.told.told.truth }
+
+    -- no later tick tells a jump
+    pub calm_since : (later calls : List Call) (now : ℕ) → calls ≡ later ++ (Tick mend ∷ earlier) → AreTrueOver IsTrue (f_of new.clock.redundancy) later (Tick mend ∷ earlier) → AreInOrder start new.clock.redundancy (Tick now ∷ calls) → AreTrueLately IsTrue (f_of new.clock.redundancy) now calls
+        → (x : Beat) → answer_at (after_calls new calls) (now % 2 ^ 32) ≡ Some x → ¬ (x.report.cause ≡ cause.Jump)
+    calm_since later calls now are truth = subst Calm (sym are) (λ order here x told. (tick_since later now order here truth).calm x told)
+      where
+        Calm : List Call → Type 0
+        Calm calls = AreInOrder start new.clock.redundancy (Tick now ∷ calls) → AreTrueLately IsTrue (f_of new.clock.redundancy) now calls → (x : Beat) → answer_at (after_calls new calls) (now % 2 ^ 32) ≡ Some x → ¬ (x.report.cause ≡ cause.Jump)

@@ -1,13 +1,11 @@
 -- A short life for which all premises of a device's laws hold: three lines, of which one lies, by a
 -- counter that is 100 us a second slow and wraps; four ticks.
 use Rattle.std.proofs.Common.{◌≡◌, ℕ, zero, suc, ◌+◌, ◌-◌, ◌*◌, ◌/◌, ◌%◌, ◌^◌, ◌<◌, ◌≤◌, ◌⊎◌, Bool, true, false, cond, not, ◌&&◌, List, [], ◌∷◌, ◌++◌, length, Some, None, refl, sym, subst, ap, ◌∙◌, arith, inl, inr}
-use Rattle.std.specs.Prelude.{slice_get, ◌==◌, nat_lt, nat_le, count_by, get_or}
-use Rattle.std.specs.List.{range_with_len}
-use Rattle.std.proofs.lemmas.Bool.{cases_Bool, ltb-true, leb-true, lt-ltb}
+use Rattle.std.specs.Prelude.{slice_get, ◌==◌, nat_lt, nat_le, get_or}
+use Rattle.std.proofs.lemmas.Bool.{cases_Bool, lt-ltb}
 use Rattle.std.proofs.lemmas.Option.{same_Some, slice_get-get_or}
 use Rattle.irig_frame.specs.declared.symbol.Symbol.{Symbol}
 use Rattle.irig_frame.specs.declared.symbol.Symbol.TheVariants.{Zero, One, Marker, Bad}
-use Rattle.irig_frame.specs.Symbols.{symbol_of}
 use Rattle.irig_frame.specs.Decoder.{IsRight}
 use Rattle.irig_frame.specs.Faults.{values_of, field_at}
 use Rattle.irig_control.specs.Parity.{ones}
@@ -17,7 +15,7 @@ use Rattle.irig_time.specs.Days.{is_month_end, four_years}
 use Rattle.irig_frame.specs.FieldTable.{is_marker_place}
 use Rattle.irig_control.specs.declared.parity.Parity.TheVariants as parity
 use Rattle.irig_sync.specs.Edges.{element_at}
-use Rattle.irig_sync.specs.Lines.{Pulse, pulse_at, IsAfter, IsTrueLine, StandAt}
+use Rattle.irig_sync.specs.Lines.{Pulse, pulse_at, IsTrueLine, StandAt}
 use Rattle.irig_time.specs.declared.second.UtcSecond.{UtcSecond}
 use Rattle.irig_time.specs.declared.mark.Mark.TheVariants.{Unspoken}
 use Rattle.irig_time.specs.declared.rules.Rules.{Rules}
@@ -33,82 +31,83 @@ use Rattle.irig_port.specs.declared.told.Told.{Told}
 use Rattle.irig_port.specs.declared.told.Told.TheVariants as tells
 use Rattle.irig_port.specs.Told.{told_of, frame_told, coded_told}
 use Rattle.irig_port.proofs.CarriesLaws.{carries_is_told}
-use Rattle.irig_vote.specs.declared.redundancy.Redundancy.{Redundancy}
 use Rattle.irig_vote.specs.declared.redundancy.Redundancy.TheVariants as of
 use Rattle.irig_vote.specs.declared.votes.Tells.{Tells}
-use Rattle.irig_vote.specs.Vote.{ports_in}
 use Rattle.irig_reader.specs.declared.rules.ReaderRules.{ReaderRules}
 use Rattle.irig_reader.specs.declared.report.Lock.TheVariants as lock
 use Rattle.irig_reader.specs.declared.report.Cause.TheVariants as cause
 use Rattle.irig_reader.specs.Rule.{step_of}
+use Rattle.irig_timekeeper.specs.declared.lines.KeptClaim.{KeptClaim}
 use Rattle.irig_timekeeper.specs.declared.lines.Line.{Line}
 use Rattle.irig_timekeeper.specs.declared.lines.Lines.{Lines}
 use Rattle.irig_timekeeper.specs.declared.clock.Beat.{Beat}
 use Rattle.irig_timekeeper.specs.declared.clock.ClockRules.{ClockRules}
 use Rattle.irig_timekeeper.specs.Edges.{IsQuartz}
-use Rattle.irig_timekeeper.specs.Lines.{ArePulsesLately, IsLineOf, IsTrueLately}
+use Rattle.irig_timekeeper.specs.Lines.{IsLineOf, IsTrueLately}
 use Rattle.irig_timekeeper.specs.Steps.{IsNewLine, AreNewLines}
-use Rattle.irig_timekeeper.specs.Keeping.{Keeping, new_keeping, restarted, after_pulse, after_tick, answer_at, stamp_at}
+use Rattle.irig_timekeeper.specs.Keeping.{Keeping, new_keeping, restarted, after_pulse, after_tick, vote_at, answer_at, stamp_at}
 use Rattle.irig_timekeeper.specs.Truth.{IsDevice, IsToldInHoldover, IsLaterSecond}
-use Rattle.irig_timekeeper.specs.Life.{Call, AreTrueLately, pulses_on, last_call, last_tick, AreInOrder, AreTrueAtTicks, after_calls}
+use Rattle.irig_timekeeper.specs.Life.{Call, Made, AreTrueLately, last_tick, AreInOrder, AreTrueAtTicks, after_calls}
 use Rattle.irig_timekeeper.specs.Life.Call.{Hear, Tick}
+use Rattle.irig_timekeeper.specs.Healing.{HasHealed}
 use Rattle.irig_timekeeper.proofs.LineLaws.{true_lately}
 use Rattle.irig_timekeeper.proofs.LifeLaws.{TellAlwaysTruly, device_true, device_in_order}
+use Rattle.irig_timekeeper.proofs.LifeChecks.{both, is_after, have_risen, in_order, order_is, same, lately, or_lately, all_lately, truly, truly_is}
 
 -- ---- the world
 
-abbrev edges : ℕ → ℕ
+abbrev pub edges : ℕ → ℕ
 edges n = 4293500000 + 1000100 * n
 
-steady : IsQuartz 100 edges
+pub steady : IsQuartz 100 edges
 steady = record { few = omega arith; steady = record { least = λ n. omega arith; most = λ n. omega arith } }
 
-abbrev at : ℕ → UtcSecond
+abbrev pub at : ℕ → UtcSecond
 at sod = record { day = 6209; sod = sod }
 
-abbrev noon : TimelineValue
+abbrev pub noon : TimelineValue
 noon = times (at 43200) []
 
 is_timeline : IsTimeline noon
 is_timeline = record { sound = refl }
 
-abbrev no_table : TableValue
+abbrev pub no_table : TableValue
 no_table = table 0 []
 
 true_table : IsTrueTable noon no_table
 true_table = record { leaps = λ day end from to. absurd (omega (arith, from, to)) }
 
-abbrev clock : ClockRules
+abbrev pub clock : ClockRules
 clock = record { reader_rules = record { lock_after = 2; holdover = 100 }; redundancy = of.Three; drift_us = 100 }
 
-is_device : IsDevice noon 100 edges clock.reader_rules no_table
+pub is_device : IsDevice noon 100 edges clock.reader_rules no_table
 is_device = record { steady = steady; sound = is_timeline; knows = inl true_table; short = omega arith }
 
-abbrev rules : Rules
+abbrev pub rules : Rules
 rules = record { parity = parity.Even; sense = sense.Add; sbs = sbs.Check }
 
-abbrev claim_of : ℕ → Claim
+abbrev pub claim_of : ℕ → Claim
 claim_of sod = record { at = at sod; mark = Unspoken }
 
 abbrev new_line : Line
 new_line = record { sync = record { rise_us = 0; place = 0; was_marker = 1 }; frame = None }
 
-abbrev new_lines : Lines
+abbrev pub new_lines : Lines
 new_lines = record { a = new_line; b = new_line; c = new_line; d = new_line; e = new_line }
 
 is_new : IsNewLine new_line
 is_new = record { sync = record { place = refl; last = refl }; frame = refl }
 
-are_new : AreNewLines new_lines
+pub are_new : AreNewLines new_lines
 are_new = record { a = is_new; b = is_new; c = is_new; d = is_new; e = is_new }
 
-abbrev frame_0 : List Symbol
+abbrev pub frame_0 : List Symbol
 frame_0 = Marker ∷ Zero ∷ Zero ∷ Zero ∷ Zero ∷ Zero ∷ Zero ∷ Zero ∷ Zero ∷ Marker ∷ Zero ∷ Zero ∷ Zero ∷ Zero ∷ Zero ∷ Zero ∷ Zero ∷ Zero ∷ Zero ∷ Marker ∷ Zero ∷ One ∷ Zero ∷ Zero ∷ Zero ∷ One ∷ Zero ∷ Zero ∷ Zero ∷ Marker ∷ Zero ∷ One ∷ One ∷ Zero ∷ Zero ∷ Zero ∷ One ∷ One ∷ Zero ∷ Marker ∷ One ∷ One ∷ Zero ∷ Zero ∷ Zero ∷ Zero ∷ Zero ∷ Zero ∷ Zero ∷ Marker ∷ Zero ∷ One ∷ One ∷ Zero ∷ Zero ∷ One ∷ Zero ∷ Zero ∷ Zero ∷ Marker ∷ Zero ∷ Zero ∷ Zero ∷ Zero ∷ Zero ∷ Zero ∷ Zero ∷ Zero ∷ Zero ∷ Marker ∷ Zero ∷ Zero ∷ Zero ∷ Zero ∷ Zero ∷ One ∷ Zero ∷ Zero ∷ Zero ∷ Marker ∷ Zero ∷ Zero ∷ Zero ∷ Zero ∷ Zero ∷ Zero ∷ One ∷ One ∷ Zero ∷ Marker ∷ Zero ∷ Zero ∷ One ∷ Zero ∷ One ∷ Zero ∷ One ∷ Zero ∷ Zero ∷ Marker ∷ []
 
-abbrev frame_1 : List Symbol
+abbrev pub frame_1 : List Symbol
 frame_1 = Marker ∷ One ∷ Zero ∷ Zero ∷ Zero ∷ Zero ∷ Zero ∷ Zero ∷ Zero ∷ Marker ∷ Zero ∷ Zero ∷ Zero ∷ Zero ∷ Zero ∷ Zero ∷ Zero ∷ Zero ∷ Zero ∷ Marker ∷ Zero ∷ One ∷ Zero ∷ Zero ∷ Zero ∷ One ∷ Zero ∷ Zero ∷ Zero ∷ Marker ∷ Zero ∷ One ∷ One ∷ Zero ∷ Zero ∷ Zero ∷ One ∷ One ∷ Zero ∷ Marker ∷ One ∷ One ∷ Zero ∷ Zero ∷ Zero ∷ Zero ∷ Zero ∷ Zero ∷ Zero ∷ Marker ∷ Zero ∷ One ∷ One ∷ Zero ∷ Zero ∷ One ∷ Zero ∷ Zero ∷ Zero ∷ Marker ∷ Zero ∷ Zero ∷ Zero ∷ Zero ∷ Zero ∷ Zero ∷ Zero ∷ Zero ∷ Zero ∷ Marker ∷ Zero ∷ Zero ∷ Zero ∷ Zero ∷ Zero ∷ Zero ∷ Zero ∷ Zero ∷ Zero ∷ Marker ∷ One ∷ Zero ∷ Zero ∷ Zero ∷ Zero ∷ Zero ∷ One ∷ One ∷ Zero ∷ Marker ∷ Zero ∷ Zero ∷ One ∷ Zero ∷ One ∷ Zero ∷ One ∷ Zero ∷ Zero ∷ Marker ∷ []
 
-abbrev frame_2 : List Symbol
+abbrev pub frame_2 : List Symbol
 frame_2 = Marker ∷ Zero ∷ One ∷ Zero ∷ Zero ∷ Zero ∷ Zero ∷ Zero ∷ Zero ∷ Marker ∷ Zero ∷ Zero ∷ Zero ∷ Zero ∷ Zero ∷ Zero ∷ Zero ∷ Zero ∷ Zero ∷ Marker ∷ Zero ∷ One ∷ Zero ∷ Zero ∷ Zero ∷ One ∷ Zero ∷ Zero ∷ Zero ∷ Marker ∷ Zero ∷ One ∷ One ∷ Zero ∷ Zero ∷ Zero ∷ One ∷ One ∷ Zero ∷ Marker ∷ One ∷ One ∷ Zero ∷ Zero ∷ Zero ∷ Zero ∷ Zero ∷ Zero ∷ Zero ∷ Marker ∷ Zero ∷ One ∷ One ∷ Zero ∷ Zero ∷ One ∷ Zero ∷ Zero ∷ Zero ∷ Marker ∷ Zero ∷ Zero ∷ Zero ∷ Zero ∷ Zero ∷ Zero ∷ Zero ∷ Zero ∷ Zero ∷ Marker ∷ Zero ∷ Zero ∷ Zero ∷ Zero ∷ Zero ∷ Zero ∷ Zero ∷ Zero ∷ Zero ∷ Marker ∷ Zero ∷ One ∷ Zero ∷ Zero ∷ Zero ∷ Zero ∷ One ∷ One ∷ Zero ∷ Marker ∷ Zero ∷ Zero ∷ One ∷ Zero ∷ One ∷ Zero ∷ One ∷ Zero ∷ Zero ∷ Marker ∷ []
 
 -- a frame that carries no claim: all its digits are 1
@@ -125,10 +124,6 @@ line : ℕ → Symbol
 line k = get_or (frame (k / 100)) (k % 100) Zero
 
 -- ---- what is checked
-
-both : (a b : Bool) → (a && b) ≡ true → (a ≡ true) × (b ≡ true)
-both true b e = (refl, e)
-both false b e = absurd cc
 
 right : ℕ → Symbol → Bool
 right i Marker = is_marker_place i
@@ -198,7 +193,7 @@ marked : (claim_of 0).mark ≡ true_mark [] (at 0)
 unfolding is_month_end four_years
 marked = refl
 
-true_claim : (n sod : ℕ) → sod ≡ 43200 + n → sod < 86341 → IsTrueClaim noon (n + 1) (claim_of sod)
+pub true_claim : (n sod : ℕ) → sod ≡ 43200 + n → sod < 86341 → IsTrueClaim noon (n + 1) (claim_of sod)
 true_claim n sod is less = record {
   second = (n, refl, record { from = omega arith; to = omega arith; sod = omega (arith, less); sum = (let s : 0 + sod ≡ 43200 + n = omega (arith, is) in s) });
   mark = (let low : nat_lt sod 86341 ≡ true = lt-ltb sod 86341 less in rw low marked);
@@ -207,15 +202,15 @@ true_claim n sod is less = record {
 same_claim : (c d : Claim) → tells.Claim c ≡ tells.Claim d → c ≡ d
 same_claim c d e = cc
 
-told_0 : told_of rules frame_0 ≡ tells.Claim (claim_of 43200)
+pub told_0 : told_of rules frame_0 ≡ tells.Claim (claim_of 43200)
 unfolding told_of frame_told coded_told ones values_of field_at control_of offset_in utc_minute is_month_end four_years
 told_0 = refl
 
-told_1 : told_of rules frame_1 ≡ tells.Claim (claim_of 43201)
+pub told_1 : told_of rules frame_1 ≡ tells.Claim (claim_of 43201)
 unfolding told_of frame_told coded_told ones values_of field_at control_of offset_in utc_minute is_month_end four_years
 told_1 = refl
 
-told_2 : told_of rules frame_2 ≡ tells.Claim (claim_of 43202)
+pub told_2 : told_of rules frame_2 ≡ tells.Claim (claim_of 43202)
 unfolding told_of frame_told coded_told ones values_of field_at control_of offset_in utc_minute is_month_end four_years
 told_2 = refl
 
@@ -244,157 +239,13 @@ is_line = record {
       carried f c (ap (told_of rules) (sym same) ∙ (carries_is_told rules s c).1 carries);
 }
 
--- ---- a checker of a life
+-- ---- the calls: 300 elements of three lines, each told of the lines in turn, and two ticks
 
-same : Symbol → Symbol → Bool
-same Zero Zero = true
-same Zero One = false
-same Zero Marker = false
-same Zero Bad = false
-same One Zero = false
-same One One = true
-same One Marker = false
-same One Bad = false
-same Marker Zero = false
-same Marker One = false
-same Marker Marker = true
-same Marker Bad = false
-same Bad Zero = false
-same Bad One = false
-same Bad Marker = false
-same Bad Bad = true
-
-same_is : (x y : Symbol) → same x y ≡ true → x ≡ y
-unfolding same
-same_is Zero Zero e = refl
-same_is Zero One e = absurd cc
-same_is Zero Marker e = absurd cc
-same_is Zero Bad e = absurd cc
-same_is One Zero e = absurd cc
-same_is One One e = refl
-same_is One Marker e = absurd cc
-same_is One Bad e = absurd cc
-same_is Marker Zero e = absurd cc
-same_is Marker One e = absurd cc
-same_is Marker Marker e = refl
-same_is Marker Bad e = absurd cc
-same_is Bad Zero e = absurd cc
-same_is Bad One e = absurd cc
-same_is Bad Marker e = absurd cc
-same_is Bad Bad e = refl
-
+-- the element whose pulse rose then
 place_in : ℕ → ℕ
 place_in rise = 100 * ((rise + 500 - 4293500000) / 1000100) + ((rise + 500 - 4293500000) % 1000100) / 10000
 
-lately : ℕ → ℕ → List Pulse → Bool
-lately now k [] = true
-lately now k (p ∷ ps) =
-    nat_lt (place_in p.rise) k && (nat_lt p.rise (element_at edges (place_in p.rise) + 450)
-    && (nat_lt (element_at edges (place_in p.rise)) (p.rise + 450)
-    && (same (symbol_of p.width) (line (place_in p.rise)) && lately now (place_in p.rise) ps)))
-
-lately_is : (now k : ℕ) (ps : List Pulse) → lately now k ps ≡ true → ArePulsesLately line edges now k ps
-unfolding lately
-lately_is now k [] e = tt
-lately_is now k (p ∷ ps) e =
-    let j = place_in p.rise in
-    let one = both (nat_lt j k) _ e in
-    let two = both (nat_lt p.rise (element_at edges j + 450)) _ one.1 in
-    let three = both (nat_lt (element_at edges j) (p.rise + 450)) _ two.1 in
-    let four = both (same (symbol_of p.width) (line j)) _ three.1 in
-    inr (
-      j,
-      ltb-true j k one.0,
-      ((ltb-true _ _ three.0, ltb-true _ _ two.0), same_is (symbol_of p.width) (line j) four.0),
-      lately_is now j ps four.1,
-    )
-
-is_after : List Pulse → ℕ → Bool
-is_after [] time = true
-is_after (p ∷ ps) time = nat_le p.rise time
-
-after_is : (ps : List Pulse) (time : ℕ) → is_after ps time ≡ true → IsAfter ps time
-unfolding is_after
-after_is [] time e = tt
-after_is (p ∷ ps) time e = leb-true p.rise time e
-
-in_order : ℕ → Redundancy → List Call → Bool
-in_order start r [] = true
-in_order start r (Hear port time rise width ∷ calls) =
-    nat_lt port (ports_in r) && (nat_le (last_call start calls) time
-    && (nat_lt (time + 500000) (last_tick start calls + 1800000000)
-    && (nat_le rise time && (nat_le time (rise + 500000)
-    && (is_after (pulses_on port calls) rise && in_order start r calls)))))
-in_order start r (Tick now ∷ calls) =
-    nat_le (last_call start calls) now
-    && (nat_lt (now + 500000) (last_tick start calls + 1800000000) && in_order start r calls)
-
-order_is : (start : ℕ) (r : Redundancy) (calls : List Call) → in_order start r calls ≡ true → AreInOrder start r calls
-unfolding in_order
-order_is start r [] e = tt
-order_is start r (Hear port time rise width ∷ calls) e =
-    let a = both (nat_lt port (ports_in r)) _ e in
-    let b = both (nat_le (last_call start calls) time) _ a.1 in
-    let c = both (nat_lt (time + 500000) (last_tick start calls + 1800000000)) _ b.1 in
-    let d = both (nat_le rise time) _ c.1 in
-    let f = both (nat_le time (rise + 500000)) _ d.1 in
-    let g = both (is_after (pulses_on port calls) rise) _ f.1 in (
-      ltb-true _ _ a.0,
-      leb-true _ _ b.0,
-      ltb-true _ _ c.0,
-      λ narrow. record { risen = leb-true _ _ d.0; soon = leb-true _ _ f.0; after = after_is (pulses_on port calls) rise g.0 },
-      order_is start r calls g.1,
-    )
-order_is start r (Tick now ∷ calls) e =
-    let a = both (nat_le (last_call start calls) now) _ e in
-    let b = both (nat_lt (now + 500000) (last_tick start calls + 1800000000)) _ a.1 in
-    (leb-true _ _ a.0, ltb-true _ _ b.0, order_is start r calls b.1)
-
--- all lines but the third
-four : ℕ → List Call → Bool
-four now calls = lately now 400 (pulses_on 0 calls) && (lately now 400 (pulses_on 1 calls) && (lately now 400 (pulses_on 3 calls) && lately now 400 (pulses_on 4 calls)))
-
-truly : List Call → Bool
-truly [] = true
-truly (Hear port time rise width ∷ calls) = truly calls
-truly (Tick now ∷ calls) = four now calls && truly calls
-
-true_of : (now i : ℕ) (calls : List Call) → lately now 400 (pulses_on i calls) ≡ true → IsTrueLately rules noon edges now (pulses_on i calls)
-true_of now i calls e = record { line = line; next = 400; is_line = is_line; are = lately_is now 400 (pulses_on i calls) e }
-
-four_is : (now : ℕ) (calls : List Call) → four now calls ≡ true → (i : ℕ) → i < 5 → (i == 2) ≡ false → IsTrueLately rules noon edges now (pulses_on i calls)
-unfolding four
-four_is now calls e i less other =
-    let a = both (lately now 400 (pulses_on 0 calls)) _ e in
-    let b = both (lately now 400 (pulses_on 1 calls)) _ a.1 in
-    let c = both (lately now 400 (pulses_on 3 calls)) _ b.1 in
-    by i less other a.0 b.0 c.0 c.1
-  where
-    by : (i : ℕ) → i < 5 → (i == 2) ≡ false → lately now 400 (pulses_on 0 calls) ≡ true → lately now 400 (pulses_on 1 calls) ≡ true → lately now 400 (pulses_on 3 calls) ≡ true → lately now 400 (pulses_on 4 calls) ≡ true → IsTrueLately rules noon edges now (pulses_on i calls)
-    by zero less other a b c d = true_of now 0 calls a
-    by (suc zero) less other a b c d = true_of now 1 calls b
-    by (suc (suc zero)) less other a b c d = absurd cc
-    by (suc (suc (suc zero))) less other a b c d = true_of now 3 calls c
-    by (suc (suc (suc (suc zero)))) less other a b c d = true_of now 4 calls d
-    by (suc (suc (suc (suc (suc i))))) less other a b c d = absurd (omega (arith, less))
-
-truly_is : (calls : List Call) → truly calls ≡ true → AreTrueAtTicks (IsTrueLately rules noon edges) 1 calls
-unfolding truly
-truly_is [] e = tt
-truly_is (Hear port time rise width ∷ calls) e = truly_is calls e
-truly_is (Tick now ∷ calls) e =
-    let a = both (four now calls) (truly calls) e in (
-      record {
-        untrue = λ i. i == 2;
-        few = (let one : count_by (λ (i : ℕ). i == 2) (range_with_len 0 5) ≡ 1 = refl in omega (arith, one));
-        true_lines = four_is now calls a.0;
-      },
-      truly_is calls a.1,
-    )
-
--- ---- the calls: 300 elements of three lines, each told 9 ms behind its time, and two ticks
-
-width_of : Symbol → ℕ
+unfoldable pub width_of : Symbol → ℕ
 width_of Zero = 2000
 width_of One = 5000
 width_of Marker = 8000
@@ -404,13 +255,13 @@ width_of Bad = 0
 lie : ℕ → Symbol
 lie k = get_or (frame ((k / 100 + 1) % 3)) (k % 100) Zero
 
+pulse_told : ℕ → ℕ → Call
+pulse_told zero k = Hear 0 (element_at edges k + 400) (width_of (line k))
+pulse_told (suc zero) k = Hear 1 (element_at edges k - 400) (width_of (line k))
+pulse_told (suc (suc i)) k = Hear 2 (element_at edges k + 999) (width_of (lie k))
+
 with_element : ℕ → List Call → List Call
-with_element k calls =
-    let at : ℕ = element_at edges k in
-    Hear 2 (at + 9000) (at + 999) (width_of (lie k))
-    ∷ Hear 1 (at + 9000) (at - 400) (width_of (line k))
-    ∷ Hear 0 (at + 9000) (at + 400) (width_of (line k))
-    ∷ calls
+with_element k calls = pulse_told 2 k ∷ pulse_told 1 k ∷ pulse_told 0 k ∷ calls
 
 -- a tick 2 ms behind each edge
 with_tick : ℕ → List Call → List Call
@@ -433,17 +284,17 @@ abbrev life_4 : List Call
 life_4 = Tick now_4 ∷ ([] ++ (Tick now_3 ∷ calls_3))
 
 order_4 : AreInOrder 4293400000 of.Three life_4
-unfolding calls_3 elements_before with_element with_tick width_of lie line frame in_order is_after
+unfolding calls_3 elements_before with_element pulse_told with_tick width_of lie line frame in_order have_risen is_after
 order_4 = order_is 4293400000 of.Three life_4 refl
 
 truth_4 : AreTrueAtTicks (IsTrueLately rules noon edges) 1 life_4
-unfolding calls_3 elements_before with_element with_tick width_of lie truly four lately line frame same place_in
-truth_4 = truly_is life_4 refl
+unfolding calls_3 elements_before with_element pulse_told with_tick width_of lie truly all_lately or_lately lately line frame same place_in
+truth_4 = truly_is rules noon edges line is_line 400 place_in (λ i. i == 2) 1 (omega arith) life_4 refl
 
-abbrev device : Keeping
+abbrev pub device : Keeping
 device = new_keeping None rules clock no_table new_lines
 
-abbrev silence : Tells
+abbrev pub silence : Tells
 silence = record { a = tells.Silence; b = tells.Silence; c = tells.Silence; d = tells.Silence; e = tells.Silence }
 
 abbrev beat_3 : Beat
@@ -465,11 +316,11 @@ beat_4 = record {
 }
 
 answer_3 : answer_at (after_calls device calls_3) (now_3 % 2 ^ 32) ≡ Some beat_3
-unfolding calls_3 elements_before with_element with_tick width_of lie line frame step_of told_of frame_told coded_told ones values_of field_at control_of offset_in utc_minute is_month_end four_years
+unfolding calls_3 elements_before with_element pulse_told with_tick width_of lie line frame step_of told_of frame_told coded_told ones values_of field_at control_of offset_in utc_minute is_month_end four_years
 answer_3 = refl
 
 answer_4 : answer_at (after_calls device (Tick now_3 ∷ calls_3)) (now_4 % 2 ^ 32) ≡ Some beat_4
-unfolding calls_3 elements_before with_element with_tick width_of lie line frame step_of told_of frame_told coded_told ones values_of field_at control_of offset_in utc_minute is_month_end four_years
+unfolding calls_3 elements_before with_element pulse_told with_tick width_of lie line frame step_of told_of frame_told coded_told ones values_of field_at control_of offset_in utc_minute is_month_end four_years
 answer_4 = refl
 
 -- so the laws speak of it
@@ -482,11 +333,50 @@ told_4 = device_true None rules clock no_table new_lines 4293400000 are_new (IsT
 later_4 : IsLaterSecond noon (at 43203) (at 43204)
 later_4 = device_in_order None rules clock no_table new_lines 4293400000 are_new (IsTrueLately rules noon edges) noon edges 549 549 is_device (omega arith) truly_told calls_3 [] now_3 now_4 beat_3 beat_4 (at 43203) (at 43204) order_4 truth_4 answer_3 refl answer_4 refl
 
+-- by the vote of its third second it has healed from whatever came before
+abbrev pub made : Made
+made = record { limits = None; rules = rules; clock = clock; table = no_table; lines = new_lines; fresh = are_new }
+
+abbrev vote_3 : KeptClaim
+vote_3 = record { claim = claim_of 43202; end_us = 1532504 }
+
+voted_3 : vote_at (after_calls device calls_3) (now_3 % 2 ^ 32) ≡ Some vote_3
+unfolding calls_3 elements_before with_element with_tick width_of lie line frame step_of told_of frame_told coded_told ones values_of field_at control_of offset_in utc_minute is_month_end four_years pulse_told
+voted_3 = refl
+
+healed_4 : HasHealed IsTrueLately noon edges made 4293400000 life_4
+healed_4 = record { is = is_device; order = order_4; later = Tick now_4 ∷ []; mend = now_3; earlier = calls_3; are = refl; vote = vote_3; voted = voted_3; beat = beat_3; answer = answer_3; truth = truth_4.1.0; since = (truth_4.0, tt) }
+
 -- an event 0.25 s behind the last edge is stamped with its second, 2 ms before it with the one before
 stamp_4 : (stamp_at (after_tick (after_calls device (Tick now_3 ∷ calls_3)) (now_4 % 2 ^ 32)) 2782504 ≡ Some (record { second = at 43204; offset_us = 250000; bound_us = 1649 }))
     × (stamp_at (after_tick (after_calls device (Tick now_3 ∷ calls_3)) (now_4 % 2 ^ 32)) 2530504 ≡ Some (record { second = at 43203; offset_us = 998000; bound_us = 1549 }))
-unfolding calls_3 elements_before with_element with_tick width_of lie line frame step_of told_of frame_told coded_told ones values_of field_at control_of offset_in utc_minute is_month_end four_years
+unfolding calls_3 elements_before with_element pulse_told with_tick width_of lie line frame step_of told_of frame_told coded_told ones values_of field_at control_of offset_in utc_minute is_month_end four_years
 stamp_4 = (refl, refl)
+
+-- ---- the same pulses by a loop that has a queue for each line, and paused for the third second: it
+-- tells line 0's of it, then line 1's, then line 2's, and then ticks
+
+queued : ℕ → ℕ → ℕ → List Call → List Call
+queued port from zero calls = calls
+queued port from (suc n) calls = pulse_told port (from + n) ∷ queued port from n calls
+
+unfoldable by_lines : List Call
+by_lines = queued 2 200 100 (queued 1 200 100 (queued 0 200 100 (with_tick 200 (elements_before 200))))
+
+order_by_lines : AreInOrder 4293400000 of.Three (Tick now_3 ∷ by_lines)
+unfolding by_lines queued elements_before with_element pulse_told with_tick width_of lie line frame in_order have_risen is_after
+order_by_lines = order_is 4293400000 of.Three (Tick now_3 ∷ by_lines) refl
+
+truth_by_lines : AreTrueAtTicks (IsTrueLately rules noon edges) 1 (Tick now_3 ∷ by_lines)
+unfolding by_lines queued elements_before with_element pulse_told with_tick width_of lie truly all_lately or_lately lately line frame same place_in
+truth_by_lines = truly_is rules noon edges line is_line 400 place_in (λ i. i == 2) 1 (omega arith) (Tick now_3 ∷ by_lines) refl
+
+answer_by_lines : answer_at (after_calls device by_lines) (now_3 % 2 ^ 32) ≡ Some beat_3
+unfolding by_lines queued elements_before with_element pulse_told with_tick width_of lie line frame step_of told_of frame_told coded_told ones values_of field_at control_of offset_in utc_minute is_month_end four_years
+answer_by_lines = refl
+
+told_by_lines : IsToldInHoldover noon edges 1549 549 100 100 now_3 beat_3 (at 43203)
+told_by_lines = device_true None rules clock no_table new_lines 4293400000 are_new (IsTrueLately rules noon edges) noon edges 549 549 is_device (omega arith) truly_told by_lines now_3 beat_3 (at 43203) order_by_lines truth_by_lines answer_by_lines refl
 
 -- ---- what the premises let through
 
@@ -530,7 +420,7 @@ damaged is = elim is.are [
 
 -- two lines that lie in turn, one behind the other within 1.2 s, are two untrue ones
 in_turn : List Call
-in_turn = Hear 1 4293600000 4293590600 8000 ∷ Hear 0 4293509000 4293500600 8000 ∷ []
+in_turn = Hear 1 4293590600 8000 ∷ Hear 0 4293500600 8000 ∷ []
 
 rotating : ¬ AreTrueLately (IsTrueLately rules noon edges) 1 4293600000 in_turn
 unfolding in_turn
@@ -561,14 +451,22 @@ rotating is = elim (cases_Bool (is.untrue 0)) [
 power_cut : (start : ℕ) (calls : List Call) → ¬ AreInOrder start of.Three (Tick (last_tick start calls + 1800000000) ∷ calls)
 power_cut start calls order = omega (arith, order.1)
 
+-- nor is a tick before a pulse rose that was told, or a pulse behind a tick of more than half a second
+-- after it rose
+too_early : (start rise : ℕ) → ¬ AreInOrder start of.Three (Tick rise ∷ (Hear 0 (rise + 1) 2000 ∷ []))
+too_early start rise order = (let risen : rise + 1 ≤ rise = order.2 0 in omega (arith, risen))
+
+too_late : (start rise : ℕ) → ¬ AreInOrder start of.Three (Hear 0 rise 2000 ∷ (Tick (rise + 500001) ∷ []))
+too_late start rise order = (let late : rise + 500001 ≤ rise + 500000 = (order.1 refl).1 in omega (arith, late))
+
 -- a restart leaves what is new
 as_new : (k : Keeping) (lines : Lines) → restarted k lines ≡ new_keeping k.limits k.rules k.clock k.table lines
 as_new k lines = refl
 
 -- a line that is stuck high for half a second or longer changes nothing, and ends nothing that the
 -- laws say
-stuck : (k : Keeping) (start time rise : ℕ) → (after_pulse k 0 (rise % 2 ^ 32) 500000 ≡ k) × (start ≤ time → time < start + 1799500000 → AreInOrder start of.Three (Hear 0 time rise 500000 ∷ []))
-stuck k start time rise = (refl, λ order soon. (omega arith, order, omega (arith, soon), λ narrow. absurd cc, tt))
+stuck : (k : Keeping) (start rise : ℕ) → (after_pulse k 0 (rise % 2 ^ 32) 500000 ≡ k) × AreInOrder start of.Three (Hear 0 rise 500000 ∷ [])
+stuck k start rise = (refl, (omega arith, (λ narrow. absurd cc), tt))
 
 -- a device that holds over for at most 57 seconds needs no true table, and one that does for longer
 -- needs one

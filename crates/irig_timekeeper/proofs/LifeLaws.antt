@@ -1,7 +1,7 @@
 -- The life of a device.
 use Rattle.std.specs.Prelude.{◌==◌, ◌&&◌}
 use Rattle.std.proofs.Common.{◌≡◌, ◌∙◌, ◌⊎◌, ℕ, zero, suc, ◌+◌, ◌%◌, ◌^◌, ◌<◌, ◌≤◌, Bool, true, false, cond, List, [], ◌∷◌, ◌++◌, length, Option, Some, None, refl, sym, ap, subst, arith, inl, inr, append-nil}
-use Rattle.std.proofs.lemmas.Bool.{cases_Bool, eqb-true, eqb-false, ne_eqb}
+use Rattle.std.proofs.lemmas.Bool.{cases_Bool, eqb-true, eqb-false, eq-eqb, ne_eqb}
 use Rattle.irig_frame.specs.declared.symbol.Symbol.{Symbol}
 use Rattle.irig_sync.specs.Sync.{place_of}
 use Rattle.irig_sync.specs.Lines.{Pulse, pulse_at, place_after, IsAfter, IsSoon}
@@ -31,7 +31,7 @@ use Rattle.irig_timekeeper.specs.Steps.{is_pulse, line_at, with_line, line_heard
 use Rattle.irig_timekeeper.specs.Clock.{clock_by, settled_at}
 use Rattle.irig_timekeeper.specs.Keeping.{Heard, Keeping, heard_by, with_heard, heard_then, one_pulse_more, after_pulse, vote_at, after_tick, answer_at, new_keeping, nothing_heard}
 use Rattle.irig_timekeeper.specs.Truth.{AreHeardTruly, IsOnTrack, IsToldInHoldover, IsLaterSecond, IsDevice}
-use Rattle.irig_timekeeper.specs.Life.{Call, after_calls, pulses_on, last_call, last_tick, IsToldInTime, AreInOrder, AreTrueLately, AreTrueAtTicks, AreTrueOver}
+use Rattle.irig_timekeeper.specs.Life.{Call, after_calls, pulses_on, last_tick, HaveRisen, AreInOrder, AreTrueLately, AreTrueAtTicks, AreTrueOver}
 use Rattle.irig_timekeeper.specs.Life.Call.{Hear, Tick}
 use Rattle.irig_timekeeper.proofs.LineLaws.{kept_more}
 use Rattle.irig_timekeeper.proofs.WholeLaws.{whole_of, AreSorted, whole_here, not_whole}
@@ -40,13 +40,14 @@ use Rattle.irig_timekeeper.proofs.TrackLaws.{KeepsTrue, tick_true}
 
 -- ---- one line
 
--- the end lies at most 10 ms behind the last call, and half a second before the last tick; it is
--- that of the last whole frame
+-- the end lies at most 10 ms behind the next tick, and half a second before the last one; it is that
+-- of the last whole frame
 abbrev pub IsEndAt : List Pulse → ℕ → ℕ → ℕ → Type 0
 IsEndAt pulses tick now end = (end ≤ now + 10000) × (tick ≤ end + 500000) × (end ≡ whole_of pulses)
 
--- a line heard these pulses, and its synchroniser was told last of a time since the last tick, but
--- for half a second; nobody emptied its port
+-- a line heard these pulses, by the time of a tick to come; its synchroniser was told last of a time
+-- since the last tick, but for half a second: of that tick, or of the last pulse. Nobody emptied its
+-- port
 pub record IsLineAt (rules : Rules) (heard : List Symbol) (line : Line) (pulses : List Pulse) (tick now : ℕ) : Type 0 where
   pub told : ℕ
   pub hearing : IsHearing heard line.sync pulses told
@@ -55,27 +56,33 @@ pub record IsLineAt (rules : Rules) (heard : List Symbol) (line : Line) (pulses 
   pub kept : IfKept (IsEndAt pulses tick now) rules (claim_kept line.frame) pulses
   pub past : told ≤ now
   pub near : tick ≤ told + 500000
+  pub last : (more time : ℕ) → tick ≤ time + more → IsAfter pulses time → told ≤ time + more
+
+-- so a pulse that comes in order comes in the turn of the clock
+pub line_soon : {rules : Rules} {heard : List Symbol} {line : Line} {pulses : List Pulse} {tick now : ℕ} (rise : ℕ) → (l : IsLineAt rules heard line pulses tick now) → rise ≤ now → now + 500000 < tick + 1800000000 → IsAfter pulses rise × (tick ≤ rise + 500000) → IsSoon l.told rise
+line_soon rise l risen half told = (l.last 500000 rise told.1 told.0, omega (arith, l.near, half, risen))
 
 module _ (rules : Rules) where
-  line_hears : (limits : Option Limits) (heard : List Symbol) (line : Line) (pulses : List Pulse) (tick now time rise width : ℕ) → IsLineAt rules heard line pulses tick now → tick ≤ now
-      → rise ≤ time → time ≤ rise + 500000 → now ≤ time → time + 500000 < tick + 1800000000 → IsAfter pulses rise
-      → IsLineAt rules (heard_at (place_of line.sync (rise % 2 ^ 32) width) heard width) (line_heard line (rise % 2 ^ 32) width (told_within limits rules (heard_at (place_of line.sync (rise % 2 ^ 32) width) heard width))) (pulse_at rise width ∷ pulses) tick time
-  line_hears limits heard line pulses tick now time rise width l order risen late on half after =
-      let soon : IsSoon l.told rise = (omega (arith, l.past, on, late), omega (arith, l.near, half, risen)) in
-      let hearing = hears heard line.sync _ pulses l.told rise _ width _ refl refl l.hearing refl after soon in
+  line_hears : (limits : Option Limits) (heard : List Symbol) (line : Line) (pulses : List Pulse) (tick now rise width : ℕ) → IsLineAt rules heard line pulses tick now
+      → rise ≤ now → now + 500000 < tick + 1800000000 → IsAfter pulses rise × (tick ≤ rise + 500000)
+      → IsLineAt rules (heard_at (place_of line.sync (rise % 2 ^ 32) width) heard width) (line_heard line (rise % 2 ^ 32) width (told_within limits rules (heard_at (place_of line.sync (rise % 2 ^ 32) width) heard width))) (pulse_at rise width ∷ pulses) tick now
+  line_hears limits heard line pulses tick now rise width l risen half in_order =
+      let soon : IsSoon l.told rise = line_soon rise l risen half in_order in
+      let hearing = hears heard line.sync _ pulses l.told rise _ width _ refl refl l.hearing refl in_order.0 soon in
       let p : Pulse = pulse_at rise width in
-      let place : place_of line.sync (rise % 2 ^ 32) width ≡ place_after (p ∷ pulses) = place_at_time line.sync pulses l.told rise width l.hearing.sync after soon in
+      let place : place_of line.sync (rise % 2 ^ 32) width ≡ place_after (p ∷ pulses) = place_at_time line.sync pulses l.told rise width l.hearing.sync in_order.0 soon in
       record {
         told = rise;
         hearing = hearing;
         all = ap (λ (s : List Symbol). heard_at (place_of line.sync (rise % 2 ^ 32) width) s width) l.all ∙ ap (λ (n : ℕ). heard_at n (heard_of_last (length pulses) pulses) width) place;
-        sorted = (after, l.sorted);
-        kept = kept_more (IsEndAt pulses tick now) (IsEndAt (p ∷ pulses) tick time) _
-            (λ inside end e. (omega (arith, e.0, on), e.1, e.2 ∙ sym (not_whole p pulses (λ at. inside (place ∙ at)))))
+        sorted = (in_order.0, l.sorted);
+        kept = kept_more (IsEndAt pulses tick now) (IsEndAt (p ∷ pulses) tick now) _
+            (λ inside end e. (e.0, e.1, e.2 ∙ sym (not_whole p pulses (λ at. inside (place ∙ at)))))
             limits rules line.frame _ rise width pulses hearing.run l.kept
-            (λ at. (omega (arith, risen), omega (arith, order, on, late), sym (whole_here p pulses (sym place ∙ at))));
+            (λ at. (omega (arith, risen), omega (arith, in_order.1), sym (whole_here p pulses (sym place ∙ at))));
         past = risen;
-        near = omega (arith, order, on, late);
+        near = in_order.1;
+        last = λ more time late after. omega (arith, after);
       }
 
   line_waits : (heard : List Symbol) (line : Line) (pulses : List Pulse) (tick now time : ℕ) → IsLineAt rules heard line pulses tick now → now ≤ time → IsLineAt rules heard line pulses tick time
@@ -87,6 +94,7 @@ module _ (rules : Rules) where
     kept = eased (IsEndAt pulses tick now) (IsEndAt pulses tick time) (λ end e. (omega (arith, e.0, on), e.1, e.2)) (claim_kept line.frame) pulses l.kept;
     past = omega (arith, l.past, on);
     near = l.near;
+    last = l.last;
   }
     where
       eased : (EndsSo Ends : ℕ → Type 0) → ((end : ℕ) → EndsSo end → Ends end) → (kept : Option KeptClaim) (pulses : List Pulse) → IfKept EndsSo rules kept pulses → IfKept Ends rules kept pulses
@@ -94,39 +102,39 @@ module _ (rules : Rules) where
       eased EndsSo Ends more (Some kept) pulses h = (h.0, h.1, h.2, more h.0 h.3)
 
   -- at a tick
-  still_in_turn : (kept : Option KeptClaim) (pulses : List Pulse) (tick now time : ℕ) → now ≤ time → time + 500000 < tick + 1800000000 → IfKept (IsEndAt pulses tick now) rules kept pulses → IfKept (IsInTurnOf time) rules kept pulses
-  still_in_turn None pulses tick now time on half h = tt
-  still_in_turn (Some kept) pulses tick now time on half h = (h.0, h.1, h.2, (omega (arith, h.3.0, on), omega (arith, h.3.1, half)))
+  still_in_turn : (kept : Option KeptClaim) (pulses : List Pulse) (tick now : ℕ) → now + 500000 < tick + 1800000000 → IfKept (IsEndAt pulses tick now) rules kept pulses → IfKept (IsInTurnOf now) rules kept pulses
+  still_in_turn None pulses tick now half h = tt
+  still_in_turn (Some kept) pulses tick now half h = (h.0, h.1, h.2, (h.3.0, omega (arith, h.3.1, half)))
 
-  still_there : (frame : Option KeptFrame) (pulses : List Pulse) (tick now time : ℕ) → now ≤ time → time + 500000 < tick + 1800000000 → IfKept (IsEndAt pulses tick now) rules (claim_kept frame) pulses
-      → IfKept (IsEndAt pulses time time) rules (claim_kept (still_kept (time % 2 ^ 32) frame)) pulses
-  still_there frame pulses tick now time on half h = by (claim_kept (still_kept (time % 2 ^ 32) frame)) refl
+  still_there : (frame : Option KeptFrame) (pulses : List Pulse) (tick now : ℕ) → now + 500000 < tick + 1800000000 → IfKept (IsEndAt pulses tick now) rules (claim_kept frame) pulses
+      → IfKept (IsEndAt pulses now now) rules (claim_kept (still_kept (now % 2 ^ 32) frame)) pulses
+  still_there frame pulses tick now half h = by (claim_kept (still_kept (now % 2 ^ 32) frame)) refl
     where
-      by : (o : Option KeptClaim) → claim_kept (still_kept (time % 2 ^ 32) frame) ≡ o → IfKept (IsEndAt pulses time time) rules o pulses
+      by : (o : Option KeptClaim) → claim_kept (still_kept (now % 2 ^ 32) frame) ≡ o → IfKept (IsEndAt pulses now now) rules o pulses
       by None e = tt
       by (Some kept) e =
-          let was = still (time % 2 ^ 32) frame kept e in
+          let was = still (now % 2 ^ 32) frame kept e in
           let h' = subst (λ (o : Option KeptClaim). IfKept (IsEndAt pulses tick now) rules o pulses) was.0 h in
-          let soon = not_late h'.0 time (omega (arith, h'.3.0, on)) (omega (arith, h'.3.1, half)) (subst (λ (e : ℕ). is_late e (time % 2 ^ 32) ≡ false) h'.1 was.1) in
-          (h'.0, h'.1, h'.2, (omega (arith, h'.3.0, on), omega (arith, soon), h'.3.2))
+          let soon = not_late h'.0 now h'.3.0 (omega (arith, h'.3.1, half)) (subst (λ (e : ℕ). is_late e (now % 2 ^ 32) ≡ false) h'.1 was.1) in
+          (h'.0, h'.1, h'.2, (h'.3.0, omega (arith, soon), h'.3.2))
 
-  line_ticks : (heard : List Symbol) (line : Line) (pulses : List Pulse) (tick now time : ℕ) → IsLineAt rules heard line pulses tick now → now ≤ time → time + 500000 < tick + 1800000000
-      → IsLineAt rules heard (line_settled (time % 2 ^ 32) line) pulses time time
-  line_ticks heard line pulses tick now time l on half =
-      let later : l.told ≤ time = omega (arith, l.past, on) in
-      let soon : IsSoon l.told time = (omega (arith, later), omega (arith, l.near, half)) in
+  line_ticks : (heard : List Symbol) (line : Line) (pulses : List Pulse) (tick now : ℕ) → IsLineAt rules heard line pulses tick now → now + 500000 < tick + 1800000000
+      → IsLineAt rules heard (line_settled (now % 2 ^ 32) line) pulses now now
+  line_ticks heard line pulses tick now l half =
+      let soon : IsSoon l.told now = (omega (arith, l.past), omega (arith, l.near, half)) in
       record {
-        told = time;
-        hearing = idle_hears heard line.sync pulses l.told time l.hearing later soon;
+        told = now;
+        hearing = idle_hears heard line.sync pulses l.told now l.hearing l.past soon;
         all = l.all;
         sorted = l.sorted;
-        kept = still_there line.frame pulses tick now time on half l.kept;
+        kept = still_there line.frame pulses tick now half l.kept;
         past = omega arith;
         near = omega arith;
+        last = λ more time upto after. upto;
       }
 
   line_gives : (heard : List Symbol) (line : Line) (pulses : List Pulse) (time : ℕ) → IsLineAt rules heard line pulses time time → IsLineAt rules heard (line_taken line) pulses time time
-  line_gives heard line pulses time l = record { told = l.told; hearing = l.hearing; all = l.all; sorted = l.sorted; kept = tt; past = l.past; near = l.near }
+  line_gives heard line pulses time l = record { told = l.told; hearing = l.hearing; all = l.all; sorted = l.sorted; kept = tt; past = l.past; near = l.near; last = l.last }
 
 -- the same line by other words
 moved : (rules rules' : Rules) (heard heard' : List Symbol) (line line' : Line) (pulses pulses' : List Pulse) (tick now : ℕ) → rules ≡ rules' → heard ≡ heard' → line ≡ line' → pulses ≡ pulses'
@@ -221,98 +229,134 @@ pub record IsSameSetup (old new : Keeping) : Type 0 where
   pub clock : new.clock ≡ old.clock
   pub table : new.table ≡ old.table
 
--- after calls, of which the last tick and the last call were of these times
+-- after calls, of which the last tick was of this time, by the time of a tick to come
 pub record AreLinesAt (new k : Keeping) (pulses : ℕ → List Pulse) (tick now : ℕ) : Type 0 where
   pub same : IsSameSetup new k
   pub lines : (i : ℕ) → i < 5 → IsLineAt k.rules (heard_by k.heard i) (line_at k.state.lines i) (pulses i) tick now
-  pub order : tick ≤ now
 
 pub and_false : (a b : Bool) → b ≡ false → (a && b) ≡ false
 and_false true b e = e
 and_false false b e = refl
 
-module _ (new k : Keeping) (calls : List Call) (tick now port time rise width : ℕ) (l : AreLinesAt new k (λ i. pulses_on i calls) tick now) (on : now ≤ time) where
+lines_wait : (new k : Keeping) (pulses : ℕ → List Pulse) (tick now time : ℕ) → AreLinesAt new k pulses tick now → now ≤ time → AreLinesAt new k pulses tick time
+lines_wait new k pulses tick now time l on = record {
+  same = l.same;
+  lines = λ i low. line_waits k.rules (heard_by k.heard i) (line_at k.state.lines i) (pulses i) tick now time (l.lines i low) on;
+}
+
+module _ (new k : Keeping) (calls : List Call) (tick now port rise width : ℕ) (l : AreLinesAt new k (λ i. pulses_on i calls) tick now) where
   -- what is too wide is no pulse
-  stuck : is_pulse width ≡ false → AreLinesAt new (after_pulse k port (rise % 2 ^ 32) width) (λ i. pulses_on i (Hear port time rise width ∷ calls)) tick time
+  stuck : is_pulse width ≡ false → AreLinesAt new (after_pulse k port (rise % 2 ^ 32) width) (λ i. pulses_on i (Hear port rise width ∷ calls)) tick now
   stuck wide =
       let k_stays : k ≡ after_pulse k port (rise % 2 ^ 32) width = rw wide refl in
-      subst (λ (x : Keeping). AreLinesAt new x (λ i. pulses_on i (Hear port time rise width ∷ calls)) tick time) k_stays (record {
+      subst (λ (x : Keeping). AreLinesAt new x (λ i. pulses_on i (Hear port rise width ∷ calls)) tick now) k_stays (record {
         same = l.same;
         lines = λ i low.
-            let none : pulses_on i calls ≡ pulses_on i (Hear port time rise width ∷ calls) = rw (and_false (i == port) (is_pulse width) wide) refl in
-            moved k.rules k.rules _ _ _ _ _ _ tick time refl refl refl none (line_waits k.rules (heard_by k.heard i) (line_at k.state.lines i) (pulses_on i calls) tick now time (l.lines i low) on);
-        order = omega (arith, l.order, on);
+            let none : pulses_on i calls ≡ pulses_on i (Hear port rise width ∷ calls) = rw (and_false (i == port) (is_pulse width) wide) refl in
+            moved k.rules k.rules _ _ _ _ _ _ tick now refl refl refl none (l.lines i low);
       })
 
-  module _ (low : port < 5) (half : time + 500000 < tick + 1800000000) (narrow : is_pulse width ≡ true) (told : IsToldInTime time rise (pulses_on port calls)) where
+  module _ (low : port < 5) (risen : rise ≤ now) (half : now + 500000 < tick + 1800000000) (narrow : is_pulse width ≡ true) (in_order : IsAfter (pulses_on port calls) rise × (tick ≤ rise + 500000)) where
     abbrev there_line : Line
     there_line = line_heard (line_at k.state.lines port) (rise % 2 ^ 32) width (told_within k.limits k.rules (heard_then k port (rise % 2 ^ 32) width))
 
-    there : IsLineAt k.rules (heard_then k port (rise % 2 ^ 32) width) there_line (pulse_at rise width ∷ pulses_on port calls) tick time
-    there = line_hears k.rules k.limits (heard_by k.heard port) (line_at k.state.lines port) (pulses_on port calls) tick now time rise width (l.lines port low) l.order told.risen told.soon on half told.after
+    there : IsLineAt k.rules (heard_then k port (rise % 2 ^ 32) width) there_line (pulse_at rise width ∷ pulses_on port calls) tick now
+    there = line_hears k.rules k.limits (heard_by k.heard port) (line_at k.state.lines port) (pulses_on port calls) tick now rise width (l.lines port low) risen half in_order
 
-    on_it : (i : ℕ) → (i == port) ≡ true → pulse_at rise width ∷ pulses_on i calls ≡ pulses_on i (Hear port time rise width ∷ calls)
+    on_it : (i : ℕ) → (i == port) ≡ true → pulse_at rise width ∷ pulses_on i calls ≡ pulses_on i (Hear port rise width ∷ calls)
     on_it i same = rw (same, narrow) refl
 
-    on_others : (i : ℕ) → (i == port) ≡ false → pulses_on i calls ≡ pulses_on i (Hear port time rise width ∷ calls)
+    on_others : (i : ℕ) → (i == port) ≡ false → pulses_on i calls ≡ pulses_on i (Hear port rise width ∷ calls)
     on_others i other = rw other refl
 
-    then : (i : ℕ) → i < 5 → IsLineAt k.rules (heard_by (with_heard k.heard port (heard_then k port (rise % 2 ^ 32) width)) i) (line_at (with_line k.state.lines port there_line) i) (pulses_on i (Hear port time rise width ∷ calls)) tick time
+    then : (i : ℕ) → i < 5 → IsLineAt k.rules (heard_by (with_heard k.heard port (heard_then k port (rise % 2 ^ 32) width)) i) (line_at (with_line k.state.lines port there_line) i) (pulses_on i (Hear port rise width ∷ calls)) tick now
     then i small = elim (cases_Bool (i == port)) [
       | inl same ↦
           let at : i ≡ port = eqb-true i port same in
-          moved k.rules k.rules _ _ _ _ _ _ tick time refl
+          moved k.rules k.rules _ _ _ _ _ _ tick now refl
           (sym (heard_same k.heard port _ low) ∙ ap (heard_by (with_heard k.heard port (heard_then k port (rise % 2 ^ 32) width))) (sym at))
           (sym (line_same k.state.lines port _ low) ∙ ap (line_at (with_line k.state.lines port there_line)) (sym at))
           (ap (λ (j : ℕ). pulse_at rise width ∷ pulses_on j calls) (sym at) ∙ on_it i same)
           there
       | inr other ↦
           let apart = eqb-false i port other in
-          moved k.rules k.rules _ _ _ _ _ _ tick time refl
+          moved k.rules k.rules _ _ _ _ _ _ tick now refl
           (sym (heard_other k.heard port _ i low small apart))
           (sym (line_other k.state.lines port _ i low small apart))
           (on_others i other)
-          (line_waits k.rules (heard_by k.heard i) (line_at k.state.lines i) (pulses_on i calls) tick now time (l.lines i small) on)
+          (l.lines i small)
     ]
 
-    one_more : AreLinesAt new (after_pulse k port (rise % 2 ^ 32) width) (λ i. pulses_on i (Hear port time rise width ∷ calls)) tick time
+    one_more : AreLinesAt new (after_pulse k port (rise % 2 ^ 32) width) (λ i. pulses_on i (Hear port rise width ∷ calls)) tick now
     one_more =
         let more : one_pulse_more k port (rise % 2 ^ 32) width ≡ after_pulse k port (rise % 2 ^ 32) width = rw narrow refl in
-        subst (λ (x : Keeping). AreLinesAt new x (λ i. pulses_on i (Hear port time rise width ∷ calls)) tick time) more (record {
+        subst (λ (x : Keeping). AreLinesAt new x (λ i. pulses_on i (Hear port rise width ∷ calls)) tick now) more (record {
           same = record { rules = l.same.rules; limits = l.same.limits; clock = l.same.clock; table = l.same.table };
           lines = then;
-          order = omega (arith, l.order, on);
         })
 
 -- a tick
-lines_tick : (new k : Keeping) (calls : List Call) (tick now time : ℕ) → AreLinesAt new k (λ i. pulses_on i calls) tick now → now ≤ time → time + 500000 < tick + 1800000000
-    → AreLinesAt new (after_tick k (time % 2 ^ 32)) (λ i. pulses_on i (Tick time ∷ calls)) time time
-lines_tick new k calls tick now time l on half = record {
+lines_tick : (new k : Keeping) (calls : List Call) (tick now : ℕ) → AreLinesAt new k (λ i. pulses_on i calls) tick now → now + 500000 < tick + 1800000000
+    → AreLinesAt new (after_tick k (now % 2 ^ 32)) (λ i. pulses_on i (Tick now ∷ calls)) now now
+lines_tick new k calls tick now l half = record {
   same = record { rules = l.same.rules; limits = l.same.limits; clock = l.same.clock; table = l.same.table };
   lines = λ i low.
-      let settles = line_ticks k.rules (heard_by k.heard i) (line_at k.state.lines i) (pulses_on i calls) tick now time (l.lines i low) on half in
-      elim (ticked k (time % 2 ^ 32)) [
+      let settles = line_ticks k.rules (heard_by k.heard i) (line_at k.state.lines i) (pulses_on i calls) tick now (l.lines i low) half in
+      elim (ticked k (now % 2 ^ 32)) [
         | inl stays ↦
-            moved k.rules k.rules _ _ _ _ _ _ time time refl refl
-            (line_settles (time % 2 ^ 32) k.state.lines i low ∙ ap (λ (x : Lines). line_at x i) (sym stays)) refl settles
+            moved k.rules k.rules _ _ _ _ _ _ now now refl refl
+            (line_settles (now % 2 ^ 32) k.state.lines i low ∙ ap (λ (x : Lines). line_at x i) (sym stays)) refl settles
         | inr gives ↦
-            moved k.rules k.rules _ _ _ _ _ _ time time refl refl
-            (ap line_taken (line_settles (time % 2 ^ 32) k.state.lines i low) ∙ line_takes (settled (time % 2 ^ 32) k.state.lines) i low ∙ ap (λ (x : Lines). line_at x i) (sym gives)) refl
-            (line_gives k.rules _ _ _ time settles)
+            moved k.rules k.rules _ _ _ _ _ _ now now refl refl
+            (ap line_taken (line_settles (now % 2 ^ 32) k.state.lines i low) ∙ line_takes (settled (now % 2 ^ 32) k.state.lines) i low ∙ ap (λ (x : Lines). line_at x i) (sym gives)) refl
+            (line_gives k.rules _ _ _ now settles)
       ];
-  order = omega arith;
 }
 
-pub lines_after : (new : Keeping) (start : ℕ) → AreLinesAt new new (λ i. []) start start → (calls : List Call) → AreInOrder start new.clock.redundancy calls → AreLinesAt new (after_calls new calls) (λ i. pulses_on i calls) (last_tick start calls) (last_call start calls)
-lines_after new start begins [] order = begins
-lines_after new start begins (Hear port time rise width ∷ calls) order =
-    let l = lines_after new start begins calls order.4 in
+-- ---- a tick to come says by when pulses rose
+
+later_after : (pulses : List Pulse) (time now : ℕ) → IsAfter pulses time → time ≤ now → IsAfter pulses now
+later_after [] time now after on = tt
+later_after (p ∷ ps) time now after on = omega (arith, after, on)
+
+pub own_pulses : (i port rise width : ℕ) (calls : List Call) → is_pulse width ≡ true → (i == port) ≡ true → pulses_on i (Hear port rise width ∷ calls) ≡ pulse_at rise width ∷ pulses_on i calls
+own_pulses i port rise width calls narrow same = rw (same, narrow) refl
+
+pub others_pulses : (i port rise width : ℕ) (calls : List Call) → (i == port) ≡ false → pulses_on i (Hear port rise width ∷ calls) ≡ pulses_on i calls
+others_pulses i port rise width calls other = rw other refl
+
+pub no_pulse : (i port rise width : ℕ) (calls : List Call) → is_pulse width ≡ false → pulses_on i (Hear port rise width ∷ calls) ≡ pulses_on i calls
+no_pulse i port rise width calls wide = rw (and_false (i == port) (is_pulse width) wide) refl
+
+-- it itself
+pub has_risen : (port rise width now : ℕ) (calls : List Call) → HaveRisen now (Hear port rise width ∷ calls) → is_pulse width ≡ true → rise ≤ now
+has_risen port rise width now calls risen narrow = subst (λ (ps : List Pulse). IsAfter ps now) (own_pulses port port rise width calls narrow (eq-eqb port port refl)) (risen port)
+
+-- and those before it
+risen_before : (port rise width now : ℕ) (calls : List Call) → (is_pulse width ≡ true → IsAfter (pulses_on port calls) rise) → HaveRisen now (Hear port rise width ∷ calls) → HaveRisen now calls
+risen_before port rise width now calls after risen i = elim (cases_Bool (i == port)) [
+  | inr other ↦ subst (λ (ps : List Pulse). IsAfter ps now) (others_pulses i port rise width calls other) (risen i)
+  | inl same ↦ elim (cases_Bool (is_pulse width)) [
+    | inr wide ↦ subst (λ (ps : List Pulse). IsAfter ps now) (no_pulse i port rise width calls wide) (risen i)
+    | inl narrow ↦ later_after (pulses_on i calls) rise now (subst (λ (j : ℕ). IsAfter (pulses_on j calls) rise) (sym (eqb-true i port same)) (after narrow)) (has_risen port rise width now calls risen narrow)
+  ]
+]
+
+-- so a tick that is in order behind a pulse is so without it
+pub unheard : (start : ℕ) (r : Redundancy) (port rise width now : ℕ) (calls : List Call) → AreInOrder start r (Tick now ∷ (Hear port rise width ∷ calls)) → AreInOrder start r (Tick now ∷ calls)
+unheard start r port rise width now calls order = (order.0, order.1, risen_before port rise width now calls (λ narrow. (order.3.1 narrow).0) order.2, order.3.2)
+
+pub lines_after : (new : Keeping) (start : ℕ) → AreLinesAt new new (λ i. []) start start → (calls : List Call) (now : ℕ) → AreInOrder start new.clock.redundancy (Tick now ∷ calls) → AreLinesAt new (after_calls new calls) (λ i. pulses_on i calls) (last_tick start calls) now
+lines_after new start begins [] now order = lines_wait new new (λ i. []) start start now begins order.0
+lines_after new start begins (Hear port rise width ∷ calls) now order =
+    let l = lines_after new start begins calls now (unheard start new.clock.redundancy port rise width now calls order) in
     elim (cases_Bool (is_pulse width)) [
-      | inl narrow ↦ one_more new (after_calls new calls) calls (last_tick start calls) (last_call start calls) port time rise width l order.1 (omega (arith, order.0, at_most_five new.clock.redundancy)) order.2 narrow (order.3 narrow)
-      | inr wide ↦ stuck new (after_calls new calls) calls (last_tick start calls) (last_call start calls) port time rise width l order.1 wide
+      | inl narrow ↦ one_more new (after_calls new calls) calls (last_tick start calls) now port rise width l (omega (arith, order.3.0, at_most_five new.clock.redundancy)) (has_risen port rise width now calls order.2 narrow) order.1 narrow (order.3.1 narrow)
+      | inr wide ↦ stuck new (after_calls new calls) calls (last_tick start calls) now port rise width l wide
     ]
-lines_after new start begins (Tick now ∷ calls) order =
-    lines_tick new (after_calls new calls) calls (last_tick start calls) (last_call start calls) now (lines_after new start begins calls order.2) order.0 order.1
+lines_after new start begins (Tick time ∷ calls) now order =
+    lines_wait new (after_tick (after_calls new calls) (time % 2 ^ 32)) (λ i. pulses_on i calls) time time now
+    (lines_tick new (after_calls new calls) calls (last_tick start calls) time (lines_after new start begins calls time order.3) order.3.1) order.0
 
 -- ---- a life, of which at each tick at most f lines are not such true lines
 
@@ -342,14 +386,14 @@ module _ (IsTrue : ℕ → List Pulse → Type 0) (t : TimelineValue) (edges : �
         → AreHeardTruly (IsTrue time) new.rules (f_of new.clock.redundancy) time (after_calls new calls).state.lines (λ i. pulses_on i calls)
     heard_truly calls time order lately =
         let k : Keeping = after_calls new calls in
-        let l = lines_after new start begins calls order.2 in
+        let l = lines_after new start begins calls time order in
         record {
           untrue = lately.untrue;
           few = lately.few;
           true_lines = lately.true_lines;
           kept = λ i low.
               subst (λ (x : Rules). IfKept (IsInTurnOf time) x (claim_kept (line_at k.state.lines i).frame) (pulses_on i calls)) l.same.rules
-              (still_in_turn k.rules (claim_kept (line_at k.state.lines i).frame) (pulses_on i calls) (last_tick start calls) (last_call start calls) time order.0 order.1 (l.lines i low).kept);
+              (still_in_turn k.rules (claim_kept (line_at k.state.lines i).frame) (pulses_on i calls) (last_tick start calls) time order.1 (l.lines i low).kept);
         }
 
     abbrev pub IsTrack : ℕ → ℕ → Keeping → Type 0
@@ -360,8 +404,8 @@ module _ (IsTrue : ℕ → List Pulse → Type 0) (t : TimelineValue) (edges : �
       pub tick_in : (M : ℕ) (calls : List Call) (now : ℕ) → AreInOrder start new.clock.redundancy (Tick now ∷ calls) → AreTrueLately IsTrue (f_of new.clock.redundancy) now calls → IsTrack M (last_tick start calls) (after_calls new calls)
           → KeepsTrue t new.clock.drift_us edges (early + 1000) late M new.clock.reader_rules new.table now (after_tick (after_calls new calls) (now % 2 ^ 32)).state (answer_at (after_calls new calls) (now % 2 ^ 32))
       tick_in M calls now order lately track =
-          let l = lines_after new start begins calls order.2 in
-          ticks_truly new (after_calls new calls) M (last_tick start calls) now (λ i. pulses_on i calls) (omega (arith, l.order, order.0)) (omega (arith, order.1)) room l.same (truly now) is track (heard_truly calls now order lately)
+          let l = lines_after new start begins calls now order in
+          ticks_truly new (after_calls new calls) M (last_tick start calls) now (λ i. pulses_on i calls) order.0 (omega (arith, order.1)) room l.same (truly now) is track (heard_truly calls now order lately)
 
       hears_on : (M tick port rise width : ℕ) (k : Keeping) → IsTrack M tick k → IsTrack M tick (after_pulse k port (rise % 2 ^ 32) width)
       hears_on M tick port rise width k track = elim (cases_Bool (is_pulse width)) [ inl narrow ↦ rw narrow track | inr wide ↦ rw wide track ]
@@ -370,26 +414,26 @@ module _ (IsTrue : ℕ → List Pulse → Type 0) (t : TimelineValue) (edges : �
       pub track_on : (M : ℕ) (base : List Call) → IsTrack M (last_tick start base) (after_calls new base) → (later : List Call) → AreInOrder start new.clock.redundancy (later ++ base)
           → AreTrueOver IsTrue (f_of new.clock.redundancy) later base → IsTrack M (last_tick start (later ++ base)) (after_calls new (later ++ base))
       track_on M base track [] order truth = track
-      track_on M base track (Hear port time rise width ∷ later) order truth =
-          hears_on M (last_tick start (later ++ base)) port rise width (after_calls new (later ++ base)) (track_on M base track later order.4 truth)
-      track_on M base track (Tick now ∷ later) order truth = (tick_in M (later ++ base) now order truth.0 (track_on M base track later order.2 truth.1)).track
+      track_on M base track (Hear port rise width ∷ later) order truth =
+          hears_on M (last_tick start (later ++ base)) port rise width (after_calls new (later ++ base)) (track_on M base track later order.2 truth)
+      track_on M base track (Tick now ∷ later) order truth = (tick_in M (later ++ base) now order truth.0 (track_on M base track later order.3 truth.1)).track
 
 -- ---- one announcement and a later one
 
 pub order_before : (start : ℕ) (r : Redundancy) (later base : List Call) → AreInOrder start r (later ++ base) → AreInOrder start r base
 order_before start r [] base order = order
-order_before start r (Hear port time rise width ∷ later) base order = order_before start r later base order.4
-order_before start r (Tick now ∷ later) base order = order_before start r later base order.2
+order_before start r (Hear port rise width ∷ later) base order = order_before start r later base order.2
+order_before start r (Tick now ∷ later) base order = order_before start r later base order.3
 
 -- what is true at each tick, is so at those before and at those after
 pub truth_before : (IsTrue : ℕ → List Pulse → Type 0) (f : ℕ) (later base : List Call) → AreTrueAtTicks IsTrue f (later ++ base) → AreTrueAtTicks IsTrue f base
 truth_before IsTrue f [] base truth = truth
-truth_before IsTrue f (Hear port time rise width ∷ later) base truth = truth_before IsTrue f later base truth
+truth_before IsTrue f (Hear port rise width ∷ later) base truth = truth_before IsTrue f later base truth
 truth_before IsTrue f (Tick now ∷ later) base truth = truth_before IsTrue f later base truth.1
 
 pub truth_over : (IsTrue : ℕ → List Pulse → Type 0) (f : ℕ) (later base : List Call) → AreTrueAtTicks IsTrue f (later ++ base) → AreTrueOver IsTrue f later base
 truth_over IsTrue f [] base truth = tt
-truth_over IsTrue f (Hear port time rise width ∷ later) base truth = truth_over IsTrue f later base truth
+truth_over IsTrue f (Hear port rise width ∷ later) base truth = truth_over IsTrue f later base truth
 truth_over IsTrue f (Tick now ∷ later) base truth = (truth.0, truth_over IsTrue f later base truth.1)
 
 -- ---- from the beginning
@@ -411,6 +455,7 @@ new_line rules line start is = record {
   kept = subst (λ (o : Option KeptFrame). IfKept (IsEndAt [] start start) rules (claim_kept o) []) (sym is.frame) tt;
   past = omega arith;
   near = omega arith;
+  last = λ more time upto after. upto;
 }
 
 each_new : (lines : Lines) → AreNewLines lines → (i : ℕ) → i < 5 → IsNewLine (line_at lines i)
@@ -429,7 +474,6 @@ module _ (limits : Option Limits) (rules : Rules) (clock : ClockRules) (table : 
   begins = record {
     same = record { rules = refl; limits = refl; clock = refl; table = refl };
     lines = λ i low. moved rules rules _ _ _ _ _ _ start start refl (sym (nothing_by i low)) refl refl (new_line rules (line_at lines i) start (each_new lines fresh i low));
-    order = omega arith;
   }
 
   module _ (IsTrue : ℕ → List Pulse → Type 0) (t : TimelineValue) (edges : ℕ → ℕ) (early late : ℕ) (is : IsDevice t clock.drift_us edges clock.reader_rules table) (room : early + late ≤ 4098) (truly : TellAlwaysTruly IsTrue rules t edges early late) where
@@ -439,7 +483,7 @@ module _ (limits : Option Limits) (rules : Rules) (clock : ClockRules) (table : 
     ticks calls now order truth =
         let none : calls ++ [] ≡ calls = append-nil calls in
         let all = subst (AreTrueAtTicks IsTrue (f_of clock.redundancy)) (sym none) truth.1 in
-        let track = track_on IsTrue t edges early late new start begins is room truly 0 [] (refl, refl) calls (subst (AreInOrder start clock.redundancy) (sym none) order.2) (truth_over IsTrue (f_of clock.redundancy) calls [] all) in
+        let track = track_on IsTrue t edges early late new start begins is room truly 0 [] (refl, refl) calls (subst (AreInOrder start clock.redundancy) (sym none) order.3) (truth_over IsTrue (f_of clock.redundancy) calls [] all) in
         tick_in IsTrue t edges early late new start begins is room truly 0 calls now order truth.0 (subst (λ (x : List Call). IsTrack IsTrue t edges early late new start begins 0 (last_tick start x) (after_calls new x)) none track)
 
     pub device_true : (calls : List Call) (now : ℕ) (b : Beat) (u : UtcSecond) → AreInOrder start clock.redundancy (Tick now ∷ calls) → AreTrueAtTicks IsTrue (f_of clock.redundancy) (Tick now ∷ calls)
@@ -456,10 +500,10 @@ module _ (limits : Option Limits) (rules : Rules) (clock : ClockRules) (table : 
         → answer_at (after_calls new (later ++ (Tick before ∷ earlier))) (now % 2 ^ 32) ≡ Some b' → b'.report.announce ≡ Some u' → IsLaterSecond t u u'
     device_in_order earlier later before now b b' u u' order truth answer says answer' says' =
         let base : List Call = Tick before ∷ earlier in
-        let ordered = order_before start clock.redundancy later base order.2 in
+        let ordered = order_before start clock.redundancy later base order.3 in
         let true_so_far = truth_before IsTrue (f_of clock.redundancy) later base truth.1 in
         let first = (ticks earlier before ordered true_so_far).told b u answer says in
         let M : ℕ = first.told.told.m in
-        let track = track_on IsTrue t edges early late new start begins is room truly M base first.track later order.2 (truth_over IsTrue (f_of clock.redundancy) later base truth.1) in
+        let track = track_on IsTrue t edges early late new start begins is room truly M base first.track later order.3 (truth_over IsTrue (f_of clock.redundancy) later base truth.1) in
         let second = (tick_in IsTrue t edges early late new start begins is room truly M (later ++ base) now order truth.0 track).told b' u' answer' says' in
         record { m = M; n = second.told.told.m; less = second.later; before = first.told.told.truth; then = second.told.told.truth }

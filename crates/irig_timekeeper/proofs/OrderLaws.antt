@@ -25,13 +25,13 @@ use Rattle.irig_timekeeper.specs.Steps.{is_pulse, line_at, claim_kept, still_kep
 use Rattle.irig_timekeeper.specs.Clock.{step_to, beat_by, after_vote, answer_to_vote, after_own, answer_alone, own_edge, clock_by, answer_by, settled_at}
 use Rattle.irig_timekeeper.specs.Keeping.{Keeping, vote_at, after_pulse, after_tick, answer_at}
 use Rattle.irig_timekeeper.specs.Truth.{IsEdgeAt, AreApartBeats}
-use Rattle.irig_timekeeper.specs.Life.{Call, after_calls, pulses_on, last_call, last_tick, AreInOrder}
+use Rattle.irig_timekeeper.specs.Life.{Call, after_calls, pulses_on, last_tick, AreInOrder}
 use Rattle.irig_timekeeper.specs.Life.Call.{Hear, Tick}
 use Rattle.irig_timekeeper.proofs.AgreeLaws.{is_one}
 use Rattle.irig_timekeeper.proofs.VoteLaws.{still, come, frame_settled, one_more, not_late, split, last_late}
 use Rattle.irig_timekeeper.proofs.WholeLaws.{whole_of, AreSorted, whole_here, not_whole, whole_apart}
 use Rattle.irig_timekeeper.proofs.TimeLaws.{own_count, still_edge, own_edge_at, voted_count, same_edge}
-use Rattle.irig_timekeeper.proofs.LifeLaws.{AreLinesAt, IsEndAt, lines_after, order_before, ticked, line_takes, line_same, line_other, and_false}
+use Rattle.irig_timekeeper.proofs.LifeLaws.{AreLinesAt, IsEndAt, line_soon, lines_after, order_before, ticked, line_takes, line_same, line_other, own_pulses, others_pulses, no_pulse, has_risen, unheard}
 
 -- ---- two of more than half of the lines
 
@@ -115,18 +115,18 @@ unfolding no_pulses
 drop_nothing zero = refl
 drop_nothing (suc n) = refl
 
-kept_of_nothing : (EndsSo : ℕ → Type 0) (rules : Rules) (o : Option KeptClaim) (pulses : List Pulse) → pulses ≡ [] → IfKept EndsSo rules o pulses → o ≡ None
+pub kept_of_nothing : (EndsSo : ℕ → Type 0) (rules : Rules) (o : Option KeptClaim) (pulses : List Pulse) → pulses ≡ [] → IfKept EndsSo rules o pulses → o ≡ None
 unfolding no_pulses
 kept_of_nothing EndsSo rules None pulses e h = refl
 kept_of_nothing EndsSo rules (Some y) pulses e h =
     let none : drop h.2.late pulses ≡ [] = ap (drop h.2.late) e ∙ drop_nothing h.2.late in
     absurd (subst (AreOnTime 100) none h.2.on_time)
 
-silent_line : (start : ℕ) (r : Redundancy) (i : ℕ) → ports_in r ≤ i → (calls : List Call) → AreInOrder start r calls → pulses_on i calls ≡ []
+pub silent_line : (start : ℕ) (r : Redundancy) (i : ℕ) → ports_in r ≤ i → (calls : List Call) → AreInOrder start r calls → pulses_on i calls ≡ []
 silent_line start r i far [] order = refl
-silent_line start r i far (Tick now ∷ calls) order = silent_line start r i far calls order.2
-silent_line start r i far (Hear port time rise width ∷ calls) order =
-    let before = silent_line start r i far calls order.4 in
+silent_line start r i far (Tick now ∷ calls) order = silent_line start r i far calls order.3
+silent_line start r i far (Hear port rise width ∷ calls) order =
+    let before = silent_line start r i far calls order.2 in
     elim (cases_Bool (i == port)) [
       | inl same ↦ absurd (let at = eqb-true i port same in omega (arith, at, order.0, far))
       | inr other ↦ rw other before
@@ -135,7 +135,7 @@ silent_line start r i far (Hear port time rise width ∷ calls) order =
 -- ---- a line behind a pulse
 
 -- of its own
-own_pulse : (k : Keeping) (port i rise width : ℕ) → i < 5 → is_pulse width ≡ true → i ≡ port → ¬ (place_of (line_at k.state.lines i).sync rise width ≡ 100) → (line_at (after_pulse k port rise width).state.lines i).frame ≡ (line_at k.state.lines i).frame
+pub own_pulse : (k : Keeping) (port i rise width : ℕ) → i < 5 → is_pulse width ≡ true → i ≡ port → ¬ (place_of (line_at k.state.lines i).sync rise width ≡ 100) → (line_at (after_pulse k port rise width).state.lines i).frame ≡ (line_at k.state.lines i).frame
 own_pulse k port i rise width small narrow same inside =
     subst (λ (j : ℕ). (line_at (after_pulse k j rise width).state.lines i).frame ≡ (line_at k.state.lines i).frame) same
     (rw narrow (ap (λ (l : Line). l.frame) (line_same k.state.lines i _ small) ∙ rw (ne_eqb (place_of (line_at k.state.lines i).sync rise width) 100 inside) refl))
@@ -146,15 +146,6 @@ others_pulse k port i rise width low small other = elim (cases_Bool (is_pulse wi
   | inl narrow ↦ rw narrow (line_other k.state.lines port _ i low small other)
   | inr wide ↦ rw wide refl
 ]
-
-pub own_pulses : (i port time rise width : ℕ) (calls : List Call) → is_pulse width ≡ true → (i == port) ≡ true → pulses_on i (Hear port time rise width ∷ calls) ≡ pulse_at rise width ∷ pulses_on i calls
-own_pulses i port time rise width calls narrow same = rw (same, narrow) refl
-
-pub others_pulses : (i port time rise width : ℕ) (calls : List Call) → (i == port) ≡ false → pulses_on i (Hear port time rise width ∷ calls) ≡ pulses_on i calls
-others_pulses i port time rise width calls other = rw other refl
-
-pub no_pulse : (i port time rise width : ℕ) (calls : List Call) → is_pulse width ≡ false → pulses_on i (Hear port time rise width ∷ calls) ≡ pulses_on i calls
-no_pulse i port time rise width calls wide = rw (and_false (i == port) (is_pulse width) wide) refl
 
 -- ---- what a line keeps behind a tick that took its frame ended a frame later
 
@@ -170,11 +161,11 @@ module _ (new : Keeping) (start : ℕ) (begins : AreLinesAt new new (λ i. []) s
     grown : before ≤ whole_at calls
     later : (y : KeptClaim) → claim_at calls ≡ Some y → before + 891000 ≤ whole_at calls
 
-  since : (base : List Call) → claim_at base ≡ None → (later : List Call) → AreInOrder start new.clock.redundancy (later ++ base) → IsSince (whole_at base) (later ++ base)
-  since base none [] order = record { grown = omega arith; later = λ y e. absurd (let both : None ≡ Some y = sym none ∙ e in cc) }
-  since base none (Tick now ∷ later) order =
-      let before = since base none later order.2 in
-      record { grown = before.grown; later = λ y e. before.later y (kept_before (after_calls new (later ++ base)) (now % 2 ^ 32) y e) }
+  since : (base : List Call) → claim_at base ≡ None → (later : List Call) (now : ℕ) → AreInOrder start new.clock.redundancy (Tick now ∷ (later ++ base)) → IsSince (whole_at base) (later ++ base)
+  since base none [] now order = record { grown = omega arith; later = λ y e. absurd (let both : None ≡ Some y = sym none ∙ e in cc) }
+  since base none (Tick time ∷ later) now order =
+      let before = since base none later time order.3 in
+      record { grown = before.grown; later = λ y e. before.later y (kept_before (after_calls new (later ++ base)) (time % 2 ^ 32) y e) }
     where
       kept_before : (k : Keeping) (clock : ℕ) (y : KeptClaim) → claim_kept (line_at (after_tick k clock).state.lines i).frame ≡ Some y → claim_kept (line_at k.state.lines i).frame ≡ Some y
       kept_before k clock y e = elim (ticked k clock) [
@@ -185,32 +176,32 @@ module _ (new : Keeping) (start : ℕ) (begins : AreLinesAt new new (λ i. []) s
             let gone : line_taken (line_at (settled clock k.state.lines) i) ≡ line_at (after_tick k clock).state.lines i = line_takes (settled clock k.state.lines) i small ∙ ap (λ (l : Lines). line_at l i) (sym gives) in
             absurd (let both : None ≡ Some y = ap (λ (l : Line). claim_kept l.frame) gone ∙ e in cc)
       ]
-  since base none (Hear port time rise width ∷ later) order =
-      let before = since base none later order.4 in
+  since base none (Hear port rise width ∷ later) now order =
       let calls : List Call = later ++ base in
+      let ordered = unheard start new.clock.redundancy port rise width now calls order in
+      let before = since base none later now ordered in
       let k : Keeping = after_calls new calls in
-      let l = (lines_after new start begins calls order.4).lines i small in
+      let l = (lines_after new start begins calls now ordered).lines i small in
       elim (cases_Bool (i == port)) [
         | inr other ↦
             let apart = eqb-false i port other in
-            let same = others_pulse k port i (rise % 2 ^ 32) width (omega (arith, order.0, five new.clock.redundancy)) small apart in
-            stays before (ap (λ (x : Line). claim_kept x.frame) same) (ap whole_of (others_pulses i port time rise width calls other))
+            let same = others_pulse k port i (rise % 2 ^ 32) width (omega (arith, order.3.0, five new.clock.redundancy)) small apart in
+            stays before (ap (λ (x : Line). claim_kept x.frame) same) (ap whole_of (others_pulses i port rise width calls other))
         | inl same ↦ elim (cases_Bool (is_pulse width)) [
-          | inr wide ↦ stays before (rw wide refl) (ap whole_of (no_pulse i port time rise width calls wide))
+          | inr wide ↦ stays before (rw wide refl) (ap whole_of (no_pulse i port rise width calls wide))
           | inl narrow ↦
               let at : i ≡ port = eqb-true i port same in
-              let told = order.3 narrow in
               let pulses : List Pulse = pulses_on i calls in
               let p : Pulse = pulse_at rise width in
-              let after : IsAfter pulses rise = subst (λ (j : ℕ). IsAfter (pulses_on j calls) rise) (sym at) told.after in
-              let soon : IsSoon l.told rise = (omega (arith, l.past, order.1, told.soon), omega (arith, l.near, order.2, told.risen)) in
+              let after : IsAfter pulses rise = subst (λ (j : ℕ). IsAfter (pulses_on j calls) rise) (sym at) (order.3.1 narrow).0 in
+              let soon : IsSoon l.told rise = line_soon rise l (has_risen port rise width now calls order.2 narrow) order.1 (after, (order.3.1 narrow).1) in
               let place : place_of (line_at k.state.lines i).sync (rise % 2 ^ 32) width ≡ place_after (p ∷ pulses) = place_at_time (line_at k.state.lines i).sync pulses l.told rise width l.hearing.sync after soon in
               let sorted : AreSorted (p ∷ pulses) = (after, l.sorted) in
-              let on : pulses_on i (Hear port time rise width ∷ calls) ≡ p ∷ pulses = own_pulses i port time rise width calls narrow same in
+              let on : pulses_on i (Hear port rise width ∷ calls) ≡ p ∷ pulses = own_pulses i port rise width calls narrow same in
               elim (cases_Bool (place_after (p ∷ pulses) == 100)) [
                 | inl ends ↦
                     let hundred : place_after (p ∷ pulses) ≡ 100 = eqb-true (place_after (p ∷ pulses)) 100 ends in
-                    let here : whole_at (Hear port time rise width ∷ calls) ≡ rise + 10000 = ap whole_of on ∙ whole_here p pulses hundred in
+                    let here : whole_at (Hear port rise width ∷ calls) ≡ rise + 10000 = ap whole_of on ∙ whole_here p pulses hundred in
                     let far = whole_apart p pulses sorted hundred in
                     record { grown = omega (arith, here, far, before.grown); later = λ y e. omega (arith, here, far, before.grown) }
                 | inr inside ↦
@@ -229,7 +220,7 @@ module _ (new : Keeping) (start : ℕ) (begins : AreLinesAt new new (λ i. []) s
 
 -- ---- the lines that agree on an edge
 
-ranged : (EndsSo : ℕ → Type 0) (rules : Rules) (o : Option KeptClaim) (pulses : List Pulse) (y : KeptClaim) → IfKept EndsSo rules o pulses → o ≡ Some y → y.end_us < 2 ^ 32
+pub ranged : (EndsSo : ℕ → Type 0) (rules : Rules) (o : Option KeptClaim) (pulses : List Pulse) (y : KeptClaim) → IfKept EndsSo rules o pulses → o ≡ Some y → y.end_us < 2 ^ 32
 ranged EndsSo rules None pulses y h e = absurd cc
 ranged EndsSo rules (Some x) pulses y h e =
     let same : x ≡ y = cc in
@@ -279,7 +270,7 @@ module _ (new : Keeping) (start : ℕ) (begins : AreLinesAt new new (λ i. []) s
 
     pub there_at : (i : ℕ) → i < 5 → (y : KeptClaim) → claim_kept (line_at (settled clock lines) i).frame ≡ Some y → IsKeptThere y
     there_at i small y e = record {
-      range = ranged (IsEndAt (pulses_on i calls) (last_tick start calls) (last_call start calls)) (after_calls new calls).rules (claim_kept (line_at lines i).frame) (pulses_on i calls) y ((lines_after new start begins calls order.2).lines i small).kept (kept_by i small y e).0;
+      range = ranged (IsEndAt (pulses_on i calls) (last_tick start calls) now) (after_calls new calls).rules (claim_kept (line_at lines i).frame) (pulses_on i calls) y ((lines_after new start begins calls now order).lines i small).kept (kept_by i small y e).0;
       i = i;
       small = small;
       keeps = e;
@@ -303,7 +294,7 @@ module _ (new : Keeping) (start : ℕ) (begins : AreLinesAt new new (λ i. []) s
 
       pub many : f_of new.clock.redundancy < count_by agreeing (range_with_len 0 5)
       many =
-          let same : f ≡ f_of new.clock.redundancy = ap (λ (c : ClockRules). f_of c.redundancy) (lines_after new start begins calls order.2).same.clock in
+          let same : f ≡ f_of new.clock.redundancy = ap (λ (c : ClockRules). f_of c.redundancy) (lines_after new start begins calls now order).same.clock in
           let counted = ltb-true f (count_by (agrees v) (all_kept (settled clock lines))) is.counts in
           omega (arith, counted, same)
 
@@ -313,8 +304,8 @@ module _ (new : Keeping) (start : ℕ) (begins : AreLinesAt new new (λ i. []) s
           of : (o : Option KeptClaim) → claim_kept (line_at (settled clock lines) i).frame ≡ o → agrees v o ≡ false
           of None e = refl
           of (Some y) e =
-              let l = (lines_after new start begins calls order.2).lines i small in
-              let none = kept_of_nothing (IsEndAt (pulses_on i calls) (last_tick start calls) (last_call start calls)) (after_calls new calls).rules (claim_kept (line_at lines i).frame) (pulses_on i calls) (silent_line start new.clock.redundancy i far calls order.2) l.kept in
+              let l = (lines_after new start begins calls now order).lines i small in
+              let none = kept_of_nothing (IsEndAt (pulses_on i calls) (last_tick start calls) now) (after_calls new calls).rules (claim_kept (line_at lines i).frame) (pulses_on i calls) (silent_line start new.clock.redundancy i far calls order.3) l.kept in
               absurd (let both : None ≡ Some y = sym none ∙ (kept_by i small y e).0 in cc)
 
       -- a line that agrees keeps a frame that ended with it, or up to 1 ms behind
@@ -335,12 +326,12 @@ module _ (new : Keeping) (start : ℕ) (begins : AreLinesAt new new (λ i. []) s
           of : (o : Option KeptClaim) → claim_kept (line_at (settled clock lines) i).frame ≡ o → agrees v o ≡ true → IsAgreeing i
           of None e agree = absurd cc
           of (Some y) e agree =
-              let l = (lines_after new start begins calls order.2).lines i small in
+              let l = (lines_after new start begins calls now order).lines i small in
               let keeps = kept_by i small y e in
-              let h = subst (λ (o : Option KeptClaim). IfKept (IsEndAt (pulses_on i calls) (last_tick start calls) (last_call start calls)) (after_calls new calls).rules o (pulses_on i calls)) keeps.0 l.kept in
+              let h = subst (λ (o : Option KeptClaim). IfKept (IsEndAt (pulses_on i calls) (last_tick start calls) now) (after_calls new calls).rules o (pulses_on i calls)) keeps.0 l.kept in
               let whole : h.0 ≡ whole_of (pulses_on i calls) = h.3.2 in
               let ends : y.end_us ≡ whole_of (pulses_on i calls) % 2 ^ 32 = h.1 ∙ ap (λ (x : ℕ). x % 2 ^ 32) whole in
-              let ahead : whole_of (pulses_on i calls) ≤ now + 10000 = omega (arith, whole, h.3.0, order.0) in
+              let ahead : whole_of (pulses_on i calls) ≤ now + 10000 = omega (arith, whole, h.3.0) in
               let turn : now + 10000 < whole_of (pulses_on i calls) + 2 ^ 32 = omega (arith, whole, h.3.1, order.1) in
               let both = split (same_claim v.claim y.claim) (nat_le (clock_gap v.end_us y.end_us) 1000) agree in
               record {
@@ -436,7 +427,7 @@ module _ (new : Keeping) (start : ℕ) (begins : AreLinesAt new new (λ i. []) s
   votes_apart earlier later before now v v' V V' order voted at voted' at' =
       let base : List Call = Tick before ∷ earlier in
       let calls : List Call = later ++ base in
-      let ordered = order_before start new.clock.redundancy later base order.2 in
+      let ordered = order_before start new.clock.redundancy later base order.3 in
       let p = cand earlier before ordered v voted in
       let q = cand calls now order v' voted' in
       let one = shared new.clock.redundancy (agreeing earlier before ordered v p) (agreeing calls now order v' q) (absent earlier before ordered v p) (absent calls now order v' q) (many earlier before ordered v p) (many calls now order v' q) in
@@ -446,7 +437,7 @@ module _ (new : Keeping) (start : ℕ) (begins : AreLinesAt new new (λ i. []) s
       let gone : claim_kept (line_at (after_calls new base).state.lines i).frame ≡ None =
       ap (λ (l : Lines). claim_kept (line_at l i).frame) (takes (after_calls new earlier) (before % 2 ^ 32) v voted)
       ∙ ap (λ (l : Line). claim_kept l.frame) (sym (line_takes (settled (before % 2 ^ 32) (after_calls new earlier).state.lines) i one.1)) in
-      let far = (since new start begins i one.1 base gone later order.2).later second.y second.keeps in
+      let far = (since new start begins i one.1 base gone later now order).later second.y second.keeps in
       omega (arith, first.least, second.most, far)
 
   -- ---- one edge and a later one
@@ -492,7 +483,7 @@ module _ (new : Keeping) (start : ℕ) (begins : AreLinesAt new new (λ i. []) s
     tick = last_tick start calls
 
     ordered : tick ≤ now
-    ordered = let l = lines_after new start begins calls order.2 in omega (arith, l.order, order.0)
+    ordered = order.0
 
     soon : now ≤ tick + 1800000000
     soon = omega (arith, order.1)
@@ -587,9 +578,9 @@ module _ (new : Keeping) (start : ℕ) (begins : AreLinesAt new new (λ i. []) s
   -- over calls
   pub paced_on : (A : ℕ) (base : List Call) → IsPaced A base (after_calls new base).state.edge_us → (later : List Call) → AreInOrder start new.clock.redundancy (later ++ base) → IsPaced A (later ++ base) (after_calls new (later ++ base)).state.edge_us
   paced_on A base paced [] order = paced
-  paced_on A base paced (Tick now ∷ later) order = (paced_tick A (later ++ base) now order (paced_on A base paced later order.2)).next
-  paced_on A base paced (Hear port time rise width ∷ later) order =
-      hears_on (Hear port time rise width) (after_calls new (later ++ base)).state.edge_us (after_calls new (Hear port time rise width ∷ (later ++ base))).state.edge_us (stays (after_calls new (later ++ base)) port (rise % 2 ^ 32) width) refl (paced_on A base paced later order.4)
+  paced_on A base paced (Tick now ∷ later) order = (paced_tick A (later ++ base) now order (paced_on A base paced later order.3)).next
+  paced_on A base paced (Hear port rise width ∷ later) order =
+      hears_on (Hear port rise width) (after_calls new (later ++ base)).state.edge_us (after_calls new (Hear port rise width ∷ (later ++ base))).state.edge_us (stays (after_calls new (later ++ base)) port (rise % 2 ^ 32) width) refl (paced_on A base paced later order.2)
     where
       stays : (k : Keeping) (port rise width : ℕ) → (after_pulse k port rise width).state.edge_us ≡ k.state.edge_us
       stays k port rise width = elim (cases_Bool (is_pulse width)) [ inl narrow ↦ rw narrow refl | inr wide ↦ rw wide refl ]
@@ -608,13 +599,13 @@ module _ (new : Keeping) (start : ℕ) (begins : AreLinesAt new new (λ i. []) s
       → answer_at (after_calls new earlier) (before % 2 ^ 32) ≡ Some b → answer_at (after_calls new (later ++ (Tick before ∷ earlier))) (now % 2 ^ 32) ≡ Some b' → AreApartBeats before now b b'
   edges_apart fresh earlier later before now b b' order answer answer' =
       let base : List Call = Tick before ∷ earlier in
-      let ordered = order_before start new.clock.redundancy later base order.2 in
+      let ordered = order_before start new.clock.redundancy later base order.3 in
       let none : earlier ++ [] ≡ earlier = append-nil earlier in
       let from_new : IsPaced 0 [] new.state.edge_us = subst (IsPaced 0 []) (sym fresh) refl in
-      let first = paced_on 0 [] from_new earlier (subst (AreInOrder start new.clock.redundancy) (sym none) ordered.2) in
+      let first = paced_on 0 [] from_new earlier (subst (AreInOrder start new.clock.redundancy) (sym none) ordered.3) in
       let paced = subst (λ (x : List Call). IsPaced 0 x (after_calls new x).state.edge_us) none first in
       let one = (paced_tick 0 earlier before ordered paced).told b answer in
-      let then = paced_on one.edge base one.on later order.2 in
+      let then = paced_on one.edge base one.on later order.3 in
       let two = (paced_tick one.edge (later ++ base) now order then).told b' answer' in
       record {
         edge = one.edge;

@@ -6,6 +6,7 @@ use Rattle.std.proofs.Math.Nat.{mul-le-mul_left}
 use Rattle.irig_sync.specs.Lines.{Pulse}
 use Rattle.irig_sync.specs.Sync.{clock_gap}
 use Rattle.irig_time.specs.declared.second.UtcSecond.{UtcSecond}
+use Rattle.irig_time.specs.declared.claim.Claim.{Claim}
 use Rattle.irig_port.specs.declared.limits.Limits.{Limits}
 use Rattle.irig_time.specs.declared.rules.Rules.{Rules}
 use Rattle.irig_time.specs.Timelines.{TimelineValue, IsSecond}
@@ -23,7 +24,7 @@ use Rattle.irig_timekeeper.specs.Edges.{IsQuartz, IsNear}
 use Rattle.irig_timekeeper.specs.Counting.{edges_between, edges_to_vote, edges_own}
 use Rattle.irig_timekeeper.specs.Rule.{missed}
 use Rattle.irig_timekeeper.specs.Steps.{is_pulse}
-use Rattle.irig_timekeeper.specs.Clock.{lasted, bound_of, announced, announced_at, step_to, beat_by, after_vote, answer_to_vote, after_own, answer_alone, own_edge, clock_by, answer_by, settled_at}
+use Rattle.irig_timekeeper.specs.Clock.{lasted, bound_of, announced, announced_at, still_serves, step_to, beat_by, after_vote, answer_to_vote, after_own, answer_alone, own_edge, clock_by, answer_by, settled_at}
 use Rattle.irig_timekeeper.specs.Stamps.{stamp_by, first_stamp, stamp_of}
 use Rattle.irig_timekeeper.specs.Keeping.{Keeping, vote_at, after_pulse, after_tick, answer_at, stamp_at}
 use Rattle.irig_timekeeper.specs.Truth.{IsEdgeAt, IsToldInHoldover, IsDevice, IsStampedTruly, IsInstant}
@@ -39,24 +40,29 @@ use Rattle.irig_timekeeper.proofs.OrderLaws.{IsSetByVote, set_before, edge_of, v
 
 -- ---- what a tick keeps of the seconds that it told
 
--- a tick that answers keeps what it told, and the one before; any other keeps both
-record LeavesTold (drift : ℕ) (old new : ClockState) (answer : Option Beat) : Type 0 where
-  same : answer ≡ None → (new.last ≡ old.last) × (new.before ≡ old.before)
-  told : (b : Beat) → answer ≡ Some b → (new.last ≡ announced drift b.report b.edge_us) × (new.before ≡ old.last) × (new.edge_us ≡ Some b.edge_us)
+-- a tick that answers keeps what it told, and the one before at most; any other keeps both
+pub record LeavesTold (drift : ℕ) (old new : ClockState) (answer : Option Beat) : Type 0 where
+  pub same : answer ≡ None → (new.last ≡ old.last) × (new.before ≡ old.before)
+  pub told : (b : Beat) → answer ≡ Some b → (new.last ≡ announced drift b.report b.edge_us) × ((a : Announced) → new.before ≡ Some a → old.last ≡ Some a) × (new.edge_us ≡ Some b.edge_us)
+
+served : (vote : Option Claim) (announce : Option UtcSecond) (last : Option Announced) (a : Announced) → still_serves vote announce last ≡ Some a → last ≡ Some a
+served None announce last a e = e
+served (Some vote) None last a e = absurd cc
+served (Some vote) (Some u) last a e = e
 
 leaves_own : (c : ClockRules) (table : TableValue) (s : ClockState) (n : ℕ) → LeavesTold c.drift_us s (after_own c table s n) (answer_alone c table s n)
 leaves_own c table s n = elim (cases_Bool (n == 0)) [
   | inl waits ↦ rw waits (record { same = λ e. (refl, refl); told = λ b e. absurd cc })
-  | inr more ↦ rw more (record { same = λ e. absurd cc; told = λ b e. (let beat : beat_by s (step_to c table s n None) (n - 1) (own_edge s.edge_us n) ≡ b = cc in (ap (λ (x : Beat). announced c.drift_us x.report x.edge_us) beat, refl, ap (λ (x : Beat). Some x.edge_us) beat)) })
+  | inr more ↦ rw more (record { same = λ e. absurd cc; told = λ b e. (let beat : beat_by s (step_to c table s n None) (n - 1) (own_edge s.edge_us n) ≡ b = cc in (ap (λ (x : Beat). announced c.drift_us x.report x.edge_us) beat, (λ a e. e), ap (λ (x : Beat). Some x.edge_us) beat)) })
 ]
 
 leaves_voted : (c : ClockRules) (table : TableValue) (s : ClockState) (v : KeptClaim) (n : ℕ) → LeavesTold c.drift_us s (after_vote c table s v n) (answer_to_vote c table s v n)
 leaves_voted c table s v n = elim (cases_Bool (n == 0)) [
   | inl waits ↦ rw waits (record { same = λ e. (refl, refl); told = λ b e. absurd cc })
-  | inr more ↦ rw more (record { same = λ e. absurd cc; told = λ b e. (let beat : beat_by s (step_to c table s n (Some v.claim)) (n - 1) v.end_us ≡ b = cc in (ap (λ (x : Beat). announced c.drift_us x.report x.edge_us) beat, refl, ap (λ (x : Beat). Some x.edge_us) beat)) })
+  | inr more ↦ rw more (record { same = λ e. absurd cc; told = λ b e. (let beat : beat_by s (step_to c table s n (Some v.claim)) (n - 1) v.end_us ≡ b = cc in (ap (λ (x : Beat). announced c.drift_us x.report x.edge_us) beat, (λ a e. served (Some v.claim) (step_to c table s n (Some v.claim)).report.announce s.last a e), ap (λ (x : Beat). Some x.edge_us) beat)) })
 ]
 
-leaves_told : (k : Keeping) (clock : ℕ) → LeavesTold k.clock.drift_us k.state (after_tick k clock).state (answer_at k clock)
+pub leaves_told : (k : Keeping) (clock : ℕ) → LeavesTold k.clock.drift_us k.state (after_tick k clock).state (answer_at k clock)
 leaves_told k clock = of (vote_at k clock)
   where
     s : ClockState
@@ -87,14 +93,14 @@ beat_lasts k clock b e = of (vote_at k clock) e
 
 -- ---- one that was told truly
 
-record IsToldSo (t : TimelineValue) (edges : ℕ → ℕ) (more edge : ℕ) (a : Announced) : Type 0 where
+pub record IsToldSo (t : TimelineValue) (edges : ℕ → ℕ) (more edge : ℕ) (a : Announced) : Type 0 where
   pub m : ℕ
   pub clock : a.edge_us ≡ edge % 2 ^ 32
   pub near : IsNear edges (a.bound_us + more) (a.bound_us + more) m edge
   pub truth : IsSecond t m a.second
   pub small : a.bound_us ≤ 491549
 
-kept_second : (edge bound : ℕ) (o : Option UtcSecond) (a : Announced) → announced_at edge bound o ≡ Some a → (u : UtcSecond) × (o ≡ Some u) × (a.second ≡ u) × (a.edge_us ≡ edge) × (a.bound_us ≡ bound)
+pub kept_second : (edge bound : ℕ) (o : Option UtcSecond) (a : Announced) → announced_at edge bound o ≡ Some a → (u : UtcSecond) × (o ≡ Some u) × (a.second ≡ u) × (a.edge_us ≡ edge) × (a.bound_us ≡ bound)
 kept_second edge bound None a e = absurd cc
 kept_second edge bound (Some u) a e =
     let same : record { second = u; edge_us = edge; bound_us = bound } ≡ a = cc in
@@ -119,13 +125,13 @@ told_so t edges early late d holdover more now b edge low high short lasts told 
 -- ---- the last edge is the one that was told last, or lines have set it right since, once
 
 module _ (new : Keeping) (start : ℕ) (begun : AreLinesAt new new (λ i. []) start start) where
-  abbrev FreshBy : ℕ → List Call → ℕ → Type 0
+  abbrev pub FreshBy : ℕ → List Call → ℕ → Type 0
   FreshBy A calls x = (x ≡ A) ⊎ ((A ≤ x + 100000) × (x < A + 500000) × IsSetByVote new start begun x calls)
 
-  record IsFresh (A : ℕ) (calls : List Call) (e : ℕ) : Type 0 where
-    x : ℕ
-    at : IsEdgeAt e x (last_tick start calls)
-    is : FreshBy A calls x
+  pub record IsFresh (A : ℕ) (calls : List Call) (e : ℕ) : Type 0 where
+    pub x : ℕ
+    pub at : IsEdgeAt e x (last_tick start calls)
+    pub is : FreshBy A calls x
 
   fresh_on : (A : ℕ) (call : Call) (calls : List Call) (x : ℕ) → FreshBy A calls x → FreshBy A (call ∷ calls) x
   fresh_on A call calls x (inl same) = inl same
@@ -148,7 +154,7 @@ module _ (new : Keeping) (start : ℕ) (begun : AreLinesAt new new (λ i. []) st
     s = record (settled_at k.state (now % 2 ^ 32)) { edge_us = Some e }
 
     ordered : last_tick start calls ≤ now
-    ordered = let l = lines_after new start begun calls order.2 in omega (arith, l.order, order.0)
+    ordered = order.0
 
     soon : now ≤ last_tick start calls + 1800000000
     soon = omega (arith, order.1)
@@ -194,7 +200,7 @@ module _ (new : Keeping) (start : ℕ) (begun : AreLinesAt new new (λ i. []) st
         of (Some v) e x is none = subst (λ (y : ClockState). answer_by k.clock k.table y (now % 2 ^ 32) (Some v) ≡ None → StaysFresh A (Tick now ∷ calls) (clock_by k.clock k.table y (now % 2 ^ 32) (Some v)).edge_us) (sym is) (fresh_voted v e _ refl) none
 
 -- a pulse changes none of this
-stays_behind : (k : Keeping) (port rise width : ℕ) → ((after_pulse k port rise width).state.last ≡ k.state.last) × ((after_pulse k port rise width).state.before ≡ k.state.before) × ((after_pulse k port rise width).state.edge_us ≡ k.state.edge_us)
+pub stays_behind : (k : Keeping) (port rise width : ℕ) → ((after_pulse k port rise width).state.last ≡ k.state.last) × ((after_pulse k port rise width).state.before ≡ k.state.before) × ((after_pulse k port rise width).state.edge_us ≡ k.state.edge_us)
 stays_behind k port rise width = elim (cases_Bool (is_pulse width)) [ inl narrow ↦ rw narrow (refl, refl, refl) | inr wide ↦ rw wide (refl, refl, refl) ]
 
 -- without a vote no first edge comes
@@ -215,145 +221,203 @@ none_stays k clock edge none = of (vote_at k clock) (settled_at k.state clock) e
 
 -- ---- a life
 
-module _ (limits : Option Limits) (rules : Rules) (clock : ClockRules) (table : TableValue) (lines : Lines) (start : ℕ) (new_lines : AreNewLines lines) (IsTrue : ℕ → List Pulse → Type 0) (t : TimelineValue) (edges : ℕ → ℕ) (early late more : ℕ)
-    (is : IsDevice t clock.drift_us edges clock.reader_rules table) (room : early + late ≤ 4098) (low : early + 1000 ≤ 1549 + more) (high : late ≤ 1549 + more) (truly : TellAlwaysTruly IsTrue rules t edges early late) where
-  abbrev new : Keeping
+-- with its bound it lies within a second and a half behind such an edge
+pub record IsToldAnyhow (edge : ℕ) (a : Announced) : Type 0 where
+  pub clock : a.edge_us ≡ edge % 2 ^ 32
+  pub small : a.bound_us ≤ 491549
+
+-- what was told so before the last edge, half a second to half an hour
+pub record IsToldBefore (Told : ℕ → Announced → Type 0) (A : ℕ) (a : Announced) : Type 0 where
+  pub edge : ℕ
+  pub told : Told edge a
+  pub order : edge + 500000 ≤ A
+  pub soon : A < edge + 1802000000
+
+module _ (limits : Option Limits) (rules : Rules) (clock : ClockRules) (table : TableValue) (lines : Lines) (start : ℕ) (new_lines : AreNewLines lines) where
+  abbrev pub new : Keeping
   new = new_keeping limits rules clock table lines
 
-  begun : AreLinesAt new new (λ i. []) start start
+  pub begun : AreLinesAt new new (λ i. []) start start
   begun = begins limits rules clock table lines start new_lines
 
-  abbrev state : List Call → ClockState
+  abbrev pub state : List Call → ClockState
   state calls = (after_calls new calls).state
 
-  abbrev Told : ℕ → Announced → Type 0
-  Told edge a = IsToldSo t edges more edge a
+  -- the last second was told so at the edge A, and the one before it so, beside the last
+  pub record AreStamps (Told : ℕ → Announced → Type 0) (Before : Option Announced → ℕ → Announced → Type 0) (calls : List Call) (e : ℕ) : Type 0 where
+    pub A : ℕ
+    pub fresh : IsFresh new start begun A calls e
+    pub some : 1 ≤ A
+    pub last : (a : Announced) → (state calls).last ≡ Some a → Told A a
+    pub before : (a : Announced) → (state calls).before ≡ Some a → Before (state calls).last A a
 
-  -- what was told before the last edge, and not half an hour before it
-  record IsToldBefore (A : ℕ) (a : Announced) : Type 0 where
-    edge : ℕ
-    told : Told edge a
-    order : edge ≤ A
-    soon : A < edge + 1802000000
+  pub IfStamps : (ℕ → Announced → Type 0) → (Option Announced → ℕ → Announced → Type 0) → List Call → Option ℕ → Type 0
+  IfStamps Told Before calls None = ((state calls).last ≡ None) × ((state calls).before ≡ None)
+  IfStamps Told Before calls (Some e) = AreStamps Told Before calls e
 
-  record AreStamps (calls : List Call) (e : ℕ) : Type 0 where
-    A : ℕ
-    fresh : IsFresh new start begun A calls e
-    some : 1 ≤ A
-    last : (a : Announced) → (state calls).last ≡ Some a → Told A a
-    before : (a : Announced) → (state calls).before ≡ Some a → IsToldBefore A a
+  -- what a tick tells is told so
+  abbrev pub TellsSo : (ℕ → Announced → Type 0) → List Call → ℕ → Type 0
+  TellsSo Told calls now =
+      (b : Beat) → answer_at (after_calls new calls) (now % 2 ^ 32) ≡ Some b → (edge : ℕ) → IsEdgeAt b.edge_us edge now → (a : Announced) → announced clock.drift_us b.report b.edge_us ≡ Some a → Told edge a
 
-  IfStamps : List Call → Option ℕ → Type 0
-  IfStamps calls None = ((state calls).last ≡ None) × ((state calls).before ≡ None)
-  IfStamps calls (Some e) = AreStamps calls e
+  abbrev pub TellSo : (ℕ → Announced → Type 0) → List Call → List Call → Type 0
+  TellSo Told [] base = Unit {0}
+  TellSo Told (Hear port rise width ∷ later) base = TellSo Told later base
+  TellSo Told (Tick now ∷ later) base = TellsSo Told (later ++ base) now × TellSo Told later base
 
   -- a pulse
-  abbrev ClockStays : ℕ → ℕ → ℕ → ℕ → List Call → Type 0
-  ClockStays port time rise width calls =
-      ((state (Hear port time rise width ∷ calls)).last ≡ (state calls).last) × ((state (Hear port time rise width ∷ calls)).before ≡ (state calls).before) × ((state (Hear port time rise width ∷ calls)).edge_us ≡ (state calls).edge_us)
+  abbrev ClockStays : ℕ → ℕ → ℕ → List Call → Type 0
+  ClockStays port rise width calls =
+      ((state (Hear port rise width ∷ calls)).last ≡ (state calls).last) × ((state (Hear port rise width ∷ calls)).before ≡ (state calls).before) × ((state (Hear port rise width ∷ calls)).edge_us ≡ (state calls).edge_us)
 
-  clock_stays : (port time rise width : ℕ) (calls : List Call) → ClockStays port time rise width calls
-  clock_stays port time rise width calls = stays_behind (after_calls new calls) port (rise % 2 ^ 32) width
+  clock_stays : (port rise width : ℕ) (calls : List Call) → ClockStays port rise width calls
+  clock_stays port rise width calls = stays_behind (after_calls new calls) port (rise % 2 ^ 32) width
 
-  hears_stamps : (port time rise width : ℕ) (calls : List Call) → ClockStays port time rise width calls → (o : Option ℕ) → IfStamps calls o → IfStamps (Hear port time rise width ∷ calls) o
-  unfolding IfStamps
-  hears_stamps port time rise width calls stays None h = (stays.0 ∙ h.0, stays.1 ∙ h.1)
-  hears_stamps port time rise width calls stays (Some e) h = record {
-    A = h.A;
-    fresh = record { x = h.fresh.x; at = h.fresh.at; is = fresh_on new start begun h.A (Hear port time rise width) calls h.fresh.x h.fresh.is };
-    some = h.some;
-    last = λ a e. h.last a (sym stays.0 ∙ e);
-    before = λ a e. h.before a (sym stays.1 ∙ e);
-  }
-
-  -- a tick that tells an edge
-  told_stamps : (calls : List Call) (now : ℕ) (b : Beat) (edge : ℕ) → IsEdgeAt b.edge_us edge now → 1 ≤ edge → LeavesTold clock.drift_us (state calls) (state (Tick now ∷ calls)) (Some b) → ((a : Announced) → announced clock.drift_us b.report b.edge_us ≡ Some a → Told edge a)
-      → ((a : Announced) → (state calls).last ≡ Some a → IsToldBefore edge a) → AreStamps (Tick now ∷ calls) b.edge_us
-  told_stamps calls now b edge at some leaves tells before =
-      let left = leaves.told b refl in
-      record {
-        A = edge;
-        fresh = record { x = edge; at = at; is = inl refl };
-        some = some;
-        last = λ a e. tells a (sym left.0 ∙ e);
-        before = λ a e. before a (sym left.1 ∙ e);
-      }
-
-  module _ (calls : List Call) (now : ℕ) (order : AreInOrder start clock.redundancy (Tick now ∷ calls)) (truth : AreTrueAtTicks IsTrue (f_of clock.redundancy) (Tick now ∷ calls)) where
-    abbrev keeper : Keeping
-    keeper = after_calls new calls
-
-    abbrev answer : Option Beat
-    answer = answer_at keeper (now % 2 ^ 32)
-
-    same_clock : keeper.clock ≡ clock
-    same_clock = (lines_after new start begun calls order.2).same.clock
-
-    leaves : LeavesTold clock.drift_us keeper.state (state (Tick now ∷ calls)) answer
-    leaves = subst (λ (c : ClockRules). LeavesTold c.drift_us keeper.state (state (Tick now ∷ calls)) answer) same_clock (leaves_told keeper (now % 2 ^ 32))
-
-    tells : (b : Beat) → answer ≡ Some b → (edge : ℕ) → IsEdgeAt b.edge_us edge now → (a : Announced) → announced clock.drift_us b.report b.edge_us ≡ Some a → Told edge a
-    tells b e edge at =
-        let lasts : lasted b.report.lock ≤ clock.reader_rules.holdover = subst (λ (c : ClockRules). lasted b.report.lock ≤ c.reader_rules.holdover) same_clock (beat_lasts keeper (now % 2 ^ 32) b e) in
-        let true_ticks = ticks limits rules clock table lines start new_lines IsTrue t edges early late is room truly calls now order truth in
-        told_so t edges (early + 1000) late clock.drift_us clock.reader_rules.holdover more now b edge low high is.short lasts (λ u says. (true_ticks.told b u e says).told) at
-
-    first_stamps : (o : Option ℕ) → keeper.state.edge_us ≡ o → IfStamps calls o → (paced : IsPaced new start begun 0 calls keeper.state.edge_us) → (b : Beat) → answer ≡ Some b → AreStamps (Tick now ∷ calls) b.edge_us
+  module _ (Told : ℕ → Announced → Type 0) (Before : Option Announced → ℕ → Announced → Type 0) where
+    hears_stamps : (port rise width : ℕ) (calls : List Call) → ClockStays port rise width calls → (o : Option ℕ) → IfStamps Told Before calls o → IfStamps Told Before (Hear port rise width ∷ calls) o
     unfolding IfStamps
-    first_stamps None edge h paced b e =
-        let told = (paced_tick new start begun 0 calls now order paced).told b e in
-        told_stamps calls now b told.edge told.at told.some (subst (LeavesTold clock.drift_us keeper.state (state (Tick now ∷ calls))) e leaves) (tells b e told.edge told.at) (λ a says. absurd (let both : None ≡ Some a = sym h.0 ∙ says in cc))
-    first_stamps (Some x) edge h paced b e =
-        let known : IsPaced new start begun h.A calls keeper.state.edge_us = subst (IsPaced new start begun h.A calls) (sym edge) (paced_of new start begun h.A calls x h.fresh) in
-        let told = (paced_tick new start begun h.A calls now order known).told b e in
-        let reach : h.fresh.x < h.A + 500000 = elim h.fresh.is [ inl same ↦ omega (arith, same) | inr set ↦ set.1 ] in
-        let later : h.A + 500000 ≤ told.edge = elim told.later [ inl none ↦ absurd (omega (arith, none, h.some)) | inr far ↦ far ] in
-        told_stamps calls now b told.edge told.at told.some (subst (LeavesTold clock.drift_us keeper.state (state (Tick now ∷ calls))) e leaves) (tells b e told.edge told.at)
-        (λ a says. record { edge = h.A; told = h.last a says; order = omega (arith, later); soon = omega (arith, told.at.come, order.1, h.fresh.at.soon, reach) })
+    hears_stamps port rise width calls stays None h = (stays.0 ∙ h.0, stays.1 ∙ h.1)
+    hears_stamps port rise width calls stays (Some e) h = record {
+      A = h.A;
+      fresh = record { x = h.fresh.x; at = h.fresh.at; is = fresh_on new start begun h.A (Hear port rise width) calls h.fresh.x h.fresh.is };
+      some = h.some;
+      last = λ a e. h.last a (sym stays.0 ∙ e);
+      before = λ a e. subst (λ (o : Option Announced). Before o h.A a) (sym stays.0) (h.before a (sym stays.1 ∙ e));
+    }
 
-    quiet_stamps : (o : Option ℕ) → keeper.state.edge_us ≡ o → IfStamps calls o → answer ≡ None → IfStamps (Tick now ∷ calls) (state (Tick now ∷ calls)).edge_us
-    unfolding IfStamps
-    quiet_stamps None edge h none =
-        let same = leaves.same none in
-        subst (IfStamps (Tick now ∷ calls)) (sym (none_stays keeper (now % 2 ^ 32) edge none)) (same.0 ∙ h.0, same.1 ∙ h.1)
-    quiet_stamps (Some x) edge h none =
-        let stays = fresh_tick new start begun h.A calls now order x h.fresh edge none in
-        let same = leaves.same none in
-        subst (IfStamps (Tick now ∷ calls)) (sym stays.edge) (record {
-          A = h.A;
-          fresh = stays.fresh;
-          some = h.some;
-          last = λ a e. h.last a (sym same.0 ∙ e);
-          before = λ a e. h.before a (sym same.1 ∙ e);
-        })
+    module _ (calls : List Call) (now : ℕ) (order : AreInOrder start clock.redundancy (Tick now ∷ calls)) where
+      abbrev keeper : Keeping
+      keeper = after_calls new calls
 
-  ticked_stamps : (calls : List Call) (now : ℕ) → AreInOrder start clock.redundancy (Tick now ∷ calls) → AreTrueAtTicks IsTrue (f_of clock.redundancy) (Tick now ∷ calls) → IfStamps calls (state calls).edge_us → IfStamps (Tick now ∷ calls) (state (Tick now ∷ calls)).edge_us
-  unfolding IfStamps
-  ticked_stamps calls now order truth before = of (answer_at (after_calls new calls) (now % 2 ^ 32)) refl
-    where
-      of : (o : Option Beat) → answer_at (after_calls new calls) (now % 2 ^ 32) ≡ o → IfStamps (Tick now ∷ calls) (state (Tick now ∷ calls)).edge_us
-      of None none = quiet_stamps calls now order truth (state calls).edge_us refl before none
-      of (Some b) e =
-          let left = (leaves calls now order truth).told b e in
+      abbrev answer : Option Beat
+      answer = answer_at keeper (now % 2 ^ 32)
+
+      same_clock : keeper.clock ≡ clock
+      same_clock = (lines_after new start begun calls now order).same.clock
+
+      leaves : LeavesTold clock.drift_us keeper.state (state (Tick now ∷ calls)) answer
+      leaves = subst (λ (c : ClockRules). LeavesTold c.drift_us keeper.state (state (Tick now ∷ calls)) answer) same_clock (leaves_told keeper (now % 2 ^ 32))
+
+      -- that tells an edge; what was told before was told otherwise
+      module _ (Was : ℕ → Announced → Type 0) (Earlier : Option Announced → ℕ → Announced → Type 0) (b : Beat) (answers : answer ≡ Some b) (tells : TellsSo Told calls now)
+          (turns : (edge : ℕ) → IsEdgeAt b.edge_us edge now → (a : Announced) → (state (Tick now ∷ calls)).before ≡ Some a → IsToldBefore Was edge a → Before (state (Tick now ∷ calls)).last edge a) where
+        told_stamps : (edge : ℕ) → IsEdgeAt b.edge_us edge now → 1 ≤ edge → ((a : Announced) → (state calls).last ≡ Some a → IsToldBefore Was edge a) → AreStamps Told Before (Tick now ∷ calls) b.edge_us
+        told_stamps edge at some before =
+            let left = leaves.told b answers in
+            record {
+              A = edge;
+              fresh = record { x = edge; at = at; is = inl refl };
+              some = some;
+              last = λ a e. tells b answers edge at a (sym left.0 ∙ e);
+              before = λ a e. turns edge at a e (before a (left.1 a e));
+            }
+
+        first_stamps : (o : Option ℕ) → keeper.state.edge_us ≡ o → IfStamps Was Earlier calls o → (paced : IsPaced new start begun 0 calls keeper.state.edge_us) → AreStamps Told Before (Tick now ∷ calls) b.edge_us
+        unfolding IfStamps
+        first_stamps None edge h paced =
+            let told = (paced_tick new start begun 0 calls now order paced).told b answers in
+            told_stamps told.edge told.at told.some (λ a says. absurd (let both : None ≡ Some a = sym h.0 ∙ says in cc))
+        first_stamps (Some x) edge h paced =
+            let known : IsPaced new start begun h.A calls keeper.state.edge_us = subst (IsPaced new start begun h.A calls) (sym edge) (paced_of new start begun h.A calls x h.fresh) in
+            let told = (paced_tick new start begun h.A calls now order known).told b answers in
+            let reach : h.fresh.x < h.A + 500000 = elim h.fresh.is [ inl same ↦ omega (arith, same) | inr set ↦ set.1 ] in
+            let later : h.A + 500000 ≤ told.edge = elim told.later [ inl none ↦ absurd (omega (arith, none, h.some)) | inr far ↦ far ] in
+            told_stamps told.edge told.at told.some
+            (λ a says. record { edge = h.A; told = h.last a says; order = later; soon = omega (arith, told.at.come, order.1, h.fresh.at.soon, reach) })
+
+        pub beat_stamps : IfStamps Was Earlier calls keeper.state.edge_us → IfStamps Told Before (Tick now ∷ calls) (state (Tick now ∷ calls)).edge_us
+        unfolding IfStamps
+        beat_stamps before =
+            let left = leaves.told b answers in
+            let none : calls ++ [] ≡ calls = append-nil calls in
+            let from_new = paced_on new start begun 0 [] refl calls (subst (AreInOrder start clock.redundancy) (sym none) order.3) in
+            let paced = subst (λ (x : List Call). IsPaced new start begun 0 x (after_calls new x).state.edge_us) none from_new in
+            subst (IfStamps Told Before (Tick now ∷ calls)) (sym left.2) (first_stamps keeper.state.edge_us refl before paced)
+
+      quiet_stamps : (o : Option ℕ) → keeper.state.edge_us ≡ o → IfStamps Told Before calls o → answer ≡ None → IfStamps Told Before (Tick now ∷ calls) (state (Tick now ∷ calls)).edge_us
+      unfolding IfStamps
+      quiet_stamps None edge h none =
+          let same = leaves.same none in
+          subst (IfStamps Told Before (Tick now ∷ calls)) (sym (none_stays keeper (now % 2 ^ 32) edge none)) (same.0 ∙ h.0, same.1 ∙ h.1)
+      quiet_stamps (Some x) edge h none =
+          let stays = fresh_tick new start begun h.A calls now order x h.fresh edge none in
+          let same = leaves.same none in
+          subst (IfStamps Told Before (Tick now ∷ calls)) (sym stays.edge) (record {
+            A = h.A;
+            fresh = stays.fresh;
+            some = h.some;
+            last = λ a e. h.last a (sym same.0 ∙ e);
+            before = λ a e. subst (λ (o : Option Announced). Before o h.A a) (sym same.0) (h.before a (sym same.1 ∙ e));
+          })
+
+    module _ (turns : (last : Option Announced) (edge : ℕ) (a : Announced) → IsToldBefore Told edge a → Before last edge a) where
+      ticked_stamps : (calls : List Call) (now : ℕ) → AreInOrder start clock.redundancy (Tick now ∷ calls) → TellsSo Told calls now → IfStamps Told Before calls (state calls).edge_us → IfStamps Told Before (Tick now ∷ calls) (state (Tick now ∷ calls)).edge_us
+      ticked_stamps calls now order tells before = of (answer_at (after_calls new calls) (now % 2 ^ 32)) refl
+        where
+          of : (o : Option Beat) → answer_at (after_calls new calls) (now % 2 ^ 32) ≡ o → IfStamps Told Before (Tick now ∷ calls) (state (Tick now ∷ calls)).edge_us
+          of None none = quiet_stamps calls now order (state calls).edge_us refl before none
+          of (Some b) e = beat_stamps calls now order Told Before b e tells (λ edge at a says told. turns (state (Tick now ∷ calls)).last edge a told) before
+
+      -- so it stands behind more calls
+      pub stamps_on : (base : List Call) → IfStamps Told Before base (state base).edge_us → (later : List Call) → AreInOrder start clock.redundancy (later ++ base) → TellSo Told later base → IfStamps Told Before (later ++ base) (state (later ++ base)).edge_us
+      stamps_on base before [] order tell = before
+      stamps_on base before (Hear port rise width ∷ later) order tell =
+          let stays = clock_stays port rise width (later ++ base) in
+          subst (IfStamps Told Before (Hear port rise width ∷ (later ++ base))) (sym stays.2) (hears_stamps port rise width (later ++ base) stays (state (later ++ base)).edge_us (stamps_on base before later order.2 tell))
+      stamps_on base before (Tick now ∷ later) order tell = ticked_stamps (later ++ base) now order tell.0 (stamps_on base before later order.3 tell.1)
+
+      pub stamps : (calls : List Call) → AreInOrder start clock.redundancy calls → TellSo Told calls [] → IfStamps Told Before calls (state calls).edge_us
+      unfolding IfStamps
+      stamps calls order tell =
           let none : calls ++ [] ≡ calls = append-nil calls in
-          let from_new = paced_on new start begun 0 [] refl calls (subst (AreInOrder start clock.redundancy) (sym none) order.2) in
-          let paced = subst (λ (x : List Call). IsPaced new start begun 0 x (after_calls new x).state.edge_us) none from_new in
-          subst (IfStamps (Tick now ∷ calls)) (sym left.2) (first_stamps calls now order truth (state calls).edge_us refl before paced b e)
+          let nothing : IfStamps Told Before [] None = nothing_yet in
+          subst (λ (x : List Call). IfStamps Told Before x (state x).edge_us) none (stamps_on [] nothing calls (subst (AreInOrder start clock.redundancy) (sym none) order) tell)
+        where
+          nothing_yet : IfStamps Told Before [] None
+          nothing_yet = (refl, refl)
 
-  -- so it stands
-  stamps : (calls : List Call) → AreInOrder start clock.redundancy calls → AreTrueAtTicks IsTrue (f_of clock.redundancy) calls → IfStamps calls (state calls).edge_us
-  unfolding IfStamps
-  stamps [] order truth = (refl, refl)
-  stamps (Hear port time rise width ∷ calls) order truth =
-      let stays = clock_stays port time rise width calls in
-      subst (IfStamps (Hear port time rise width ∷ calls)) (sym stays.2) (hears_stamps port time rise width calls stays (state calls).edge_us (stamps calls order.4 truth))
-  stamps (Tick now ∷ calls) order truth = ticked_stamps calls now order truth (stamps calls order.2 truth.1)
+  -- ---- what is told
+
+  -- whatever lines carry
+  pub tells_anyhow : (t : TimelineValue) (edges : ℕ → ℕ) → IsDevice t clock.drift_us edges clock.reader_rules table → (calls : List Call) (now : ℕ) → AreInOrder start clock.redundancy (Tick now ∷ calls) → TellsSo IsToldAnyhow calls now
+  tells_anyhow t edges is calls now order b e edge at a says =
+      let lasts = subst (λ (c : ClockRules). lasted b.report.lock ≤ c.reader_rules.holdover) (lines_after new start begun calls now order).same.clock (beat_lasts (after_calls new calls) (now % 2 ^ 32) b e) in
+      let kept = kept_second b.edge_us (bound_of clock.drift_us b.report.lock) b.report.announce a says in
+      let most = mul-le-mul_left clock.drift_us (let h : lasted b.report.lock ≤ clock.reader_rules.holdover + 2 = omega (arith, lasts) in h) in
+      record { clock = kept.3 ∙ at.clock; small = omega (arith, kept.4, most, is.short) }
+
+  pub tell_anyhow : (t : TimelineValue) (edges : ℕ → ℕ) → IsDevice t clock.drift_us edges clock.reader_rules table → (calls : List Call) → AreInOrder start clock.redundancy calls → TellSo IsToldAnyhow calls []
+  tell_anyhow t edges is [] order = tt
+  tell_anyhow t edges is (Hear port rise width ∷ calls) order = tell_anyhow t edges is calls order.2
+  tell_anyhow t edges is (Tick now ∷ calls) order =
+      let none : calls ≡ calls ++ [] = sym (append-nil calls) in
+      (subst (λ (x : List Call). TellsSo IsToldAnyhow x now) none (tells_anyhow t edges is calls now order), tell_anyhow t edges is calls order.3)
+
+module _ (limits : Option Limits) (rules : Rules) (clock : ClockRules) (table : TableValue) (lines : Lines) (start : ℕ) (new_lines : AreNewLines lines) (t : TimelineValue) (edges : ℕ → ℕ) (early late more : ℕ)
+    (is : IsDevice t clock.drift_us edges clock.reader_rules table) (low : early + 1000 ≤ 1549 + more) (high : late ≤ 1549 + more) where
+  abbrev pub from : Keeping
+  from = new_keeping limits rules clock table lines
+
+  abbrev pub Told : ℕ → Announced → Type 0
+  Told edge a = IsToldSo t edges more edge a
+
+  -- truly
+  pub tells_truly : (calls : List Call) (now : ℕ) → AreInOrder start clock.redundancy (Tick now ∷ calls)
+      → ((b : Beat) (u : UtcSecond) → answer_at (after_calls from calls) (now % 2 ^ 32) ≡ Some b → b.report.announce ≡ Some u → IsToldInHoldover t edges (early + 1000) late clock.drift_us clock.reader_rules.holdover now b u)
+      → TellsSo limits rules clock table lines start new_lines Told calls now
+  tells_truly calls now order told b e edge at =
+      let same = (lines_after from start (begins limits rules clock table lines start new_lines) calls now order).same.clock in
+      let lasts = subst (λ (c : ClockRules). lasted b.report.lock ≤ c.reader_rules.holdover) same (beat_lasts (after_calls from calls) (now % 2 ^ 32) b e) in
+      told_so t edges (early + 1000) late clock.drift_us clock.reader_rules.holdover more now b edge low high is.short lasts (λ u says. told b u e says) at
 
   -- ---- a stamp
 
+  abbrev pub state_at : List Call → ClockState
+  state_at calls = (after_calls from calls).state
+
   module _ (calls : List Call) (time now : ℕ) (ahead : last_tick start calls ≤ now) (soon : now < last_tick start calls + 1800000000) (past : time ≤ now) (young : now ≤ time + 1800000000) where
-    by_told : (A edge : ℕ) → (a : Announced) → Told edge a → edge ≤ last_tick start calls + 100000 → last_tick start calls < edge + 1804000000 → (stamp : Stamp) → stamp_by (Some a) (time % 2 ^ 32) ≡ Some stamp → IsStampedTruly t edges more time stamp
-    by_told A edge a told come near stamp e = of (nat_le (clock_gap a.edge_us (time % 2 ^ 32)) (1000000 + a.bound_us)) refl e
+    pub by_told : (edge : ℕ) → (a : Announced) → Told edge a → edge ≤ last_tick start calls + 100000 → last_tick start calls < edge + 1804000000 → (stamp : Stamp) → stamp_by (Some a) (time % 2 ^ 32) ≡ Some stamp → IsStampedTruly t edges more time stamp
+    by_told edge a told come near stamp e = of (nat_le (clock_gap a.edge_us (time % 2 ^ 32)) (1000000 + a.bound_us)) refl e
       where
         gap_is : (x edge time bound : ℕ) → x ≡ edge % 2 ^ 32 → bound ≤ 491549 → edge ≤ time + 1800100000 → time < edge + 3604000000 → clock_gap x (time % 2 ^ 32) ≤ 1000000 + bound → edge + clock_gap x (time % 2 ^ 32) ≡ time
         gap_is x edge time bound is small come near few = omega (arith, is, small, come, near, few)
@@ -367,42 +431,63 @@ module _ (limits : Option Limits) (rules : Rules) (clock : ClockRules) (table : 
             let same : record { second = a.second; offset_us = clock_gap a.edge_us (time % 2 ^ 32); bound_us = a.bound_us } ≡ stamp = cc in
             subst (IsStampedTruly t edges more time) same (record { m = told.m; truth = told.truth; early = omega (arith, there, told.near.least); late = omega (arith, there, told.near.most); small = told.small; behind = few })
 
-    nothing_told : (o : Option Announced) → o ≡ None → (stamp : Stamp) → ¬ (stamp_by o (time % 2 ^ 32) ≡ Some stamp)
+    pub nothing_told : (o : Option Announced) → o ≡ None → (stamp : Stamp) → ¬ (stamp_by o (time % 2 ^ 32) ≡ Some stamp)
     nothing_told None e stamp says = cc
     nothing_told (Some a) e stamp says = absurd cc
 
-    first_of : (x y : Option Stamp) (stamp : Stamp) → first_stamp x y ≡ Some stamp → (x ≡ Some stamp) ⊎ (y ≡ Some stamp)
+    pub first_of : (x y : Option Stamp) (stamp : Stamp) → first_stamp x y ≡ Some stamp → (x ≡ Some stamp) ⊎ ((x ≡ None) × (y ≡ Some stamp))
     first_of (Some x) y stamp e = inl e
-    first_of None y stamp e = inr e
+    first_of None y stamp e = inr (refl, e)
 
-    told_by : (o : Option Announced) (stamp : Stamp) → stamp_by o (time % 2 ^ 32) ≡ Some stamp → (a : Announced) × (o ≡ Some a)
+    pub told_by : (o : Option Announced) (stamp : Stamp) → stamp_by o (time % 2 ^ 32) ≡ Some stamp → (a : Announced) × (o ≡ Some a)
     told_by None stamp e = absurd cc
     told_by (Some a) stamp e = (a, refl)
 
-    stamped_by : (o : Option ℕ) → IfStamps calls o → (stamp : Stamp) → stamp_of (state calls).last (state calls).before (time % 2 ^ 32) ≡ Some stamp → IsStampedTruly t edges more time stamp
+    -- by the last one, or by the one before beside it
+    pub stamped_by : (Before : Option Announced → ℕ → Announced → Type 0)
+        → ((A : ℕ) (a : Announced) → A ≤ last_tick start calls + 100000 → last_tick start calls < A + 1505000 → ((x : Announced) → (state_at calls).last ≡ Some x → Told A x) → Before (state_at calls).last A a → (stamp : Stamp)
+        → stamp_by (state_at calls).last (time % 2 ^ 32) ≡ None → stamp_by (Some a) (time % 2 ^ 32) ≡ Some stamp → IsStampedTruly t edges more time stamp)
+        → (o : Option ℕ) → IfStamps limits rules clock table lines start new_lines Told Before calls o → (stamp : Stamp) → stamp_of (state_at calls).last (state_at calls).before (time % 2 ^ 32) ≡ Some stamp → IsStampedTruly t edges more time stamp
     unfolding IfStamps
-    stamped_by None h stamp e = elim (first_of (stamp_by (state calls).last (time % 2 ^ 32)) (stamp_by (state calls).before (time % 2 ^ 32)) stamp e) [
-      | inl says ↦ absurd (nothing_told (state calls).last h.0 stamp says)
-      | inr says ↦ absurd (nothing_told (state calls).before h.1 stamp says)
+    stamped_by Before serves None h stamp e = elim (first_of (stamp_by (state_at calls).last (time % 2 ^ 32)) (stamp_by (state_at calls).before (time % 2 ^ 32)) stamp e) [
+      | inl says ↦ absurd (nothing_told (state_at calls).last h.0 stamp says)
+      | inr says ↦ absurd (nothing_told (state_at calls).before h.1 stamp says.1)
     ]
-    stamped_by (Some x) h stamp e =
+    stamped_by Before serves (Some x) h stamp e =
         let reach : h.fresh.x < h.A + 500000 = elim h.fresh.is [ inl same ↦ omega (arith, same) | inr set ↦ set.1 ] in
         let back : h.A ≤ h.fresh.x + 100000 = elim h.fresh.is [ inl same ↦ omega (arith, same) | inr set ↦ set.0 ] in
-        elim (first_of (stamp_by (state calls).last (time % 2 ^ 32)) (stamp_by (state calls).before (time % 2 ^ 32)) stamp e) [
+        elim (first_of (stamp_by (state_at calls).last (time % 2 ^ 32)) (stamp_by (state_at calls).before (time % 2 ^ 32)) stamp e) [
           | inl says ↦
-              let one = told_by (state calls).last stamp says in
-              by_told h.A h.A one.0 (h.last one.0 one.1) (omega (arith, back, h.fresh.at.come)) (omega (arith, h.fresh.at.soon, reach)) stamp (ap (λ (o : Option Announced). stamp_by o (time % 2 ^ 32)) (sym one.1) ∙ says)
+              let one = told_by (state_at calls).last stamp says in
+              by_told h.A one.0 (h.last one.0 one.1) (omega (arith, back, h.fresh.at.come)) (omega (arith, h.fresh.at.soon, reach)) stamp (ap (λ (o : Option Announced). stamp_by o (time % 2 ^ 32)) (sym one.1) ∙ says)
           | inr says ↦
-              let one = told_by (state calls).before stamp says in
-              let was = h.before one.0 one.1 in
-              by_told h.A was.edge one.0 was.told (omega (arith, was.order, back, h.fresh.at.come)) (omega (arith, h.fresh.at.soon, reach, was.soon)) stamp (ap (λ (o : Option Announced). stamp_by o (time % 2 ^ 32)) (sym one.1) ∙ says)
+              let one = told_by (state_at calls).before stamp says.1 in
+              serves h.A one.0 (omega (arith, back, h.fresh.at.come)) (omega (arith, h.fresh.at.soon, reach)) h.last (h.before one.0 one.1) stamp says.0 (ap (λ (o : Option Announced). stamp_by o (time % 2 ^ 32)) (sym one.1) ∙ says.1)
         ]
 
-  pub stamped : (calls : List Call) (time now : ℕ) → AreInOrder start clock.redundancy (Tick now ∷ calls) → AreTrueAtTicks IsTrue (f_of clock.redundancy) calls → time ≤ now → now ≤ time + 1800000000 → (stamp : Stamp) → stamp_at (after_calls new calls) (time % 2 ^ 32) ≡ Some stamp
-      → IsStampedTruly t edges more time stamp
-  stamped calls time now order truth past young stamp e =
-      let l = lines_after new start begun calls order.2 in
-      stamped_by calls time now (omega (arith, l.order, order.0)) (omega (arith, order.1)) past young (state calls).edge_us (stamps calls order.2 truth) stamp e
+    pub by_earlier : (A : ℕ) (a : Announced) → A ≤ last_tick start calls + 100000 → last_tick start calls < A + 1505000 → IsToldBefore Told A a → (stamp : Stamp) → stamp_by (Some a) (time % 2 ^ 32) ≡ Some stamp → IsStampedTruly t edges more time stamp
+    by_earlier A a come near was stamp e = by_told was.edge a was.told (omega (arith, was.order, come)) (omega (arith, near, was.soon)) stamp e
+
+  -- ---- a life, true at each tick
+
+  module _ (IsTrue : ℕ → List Pulse → Type 0) (room : early + late ≤ 4098) (truly : TellAlwaysTruly IsTrue rules t edges early late) where
+    tell_truly : (calls : List Call) → AreInOrder start clock.redundancy calls → AreTrueAtTicks IsTrue (f_of clock.redundancy) calls → TellSo limits rules clock table lines start new_lines Told calls []
+    tell_truly [] order truth = tt
+    tell_truly (Hear port rise width ∷ calls) order truth = tell_truly calls order.2 truth
+    tell_truly (Tick now ∷ calls) order truth =
+        let none : calls ≡ calls ++ [] = sym (append-nil calls) in
+        let true_ticks = ticks limits rules clock table lines start new_lines IsTrue t edges early late is room truly calls now order truth in (
+          subst (λ (x : List Call). TellsSo limits rules clock table lines start new_lines Told x now) none (tells_truly calls now order (λ b u e says. (true_ticks.told b u e says).told)),
+          tell_truly calls order.3 truth.1,
+        )
+
+    pub stamped : (calls : List Call) (time now : ℕ) → AreInOrder start clock.redundancy (Tick now ∷ calls) → AreTrueAtTicks IsTrue (f_of clock.redundancy) calls → time ≤ now → now ≤ time + 1800000000 → (stamp : Stamp) → stamp_at (after_calls from calls) (time % 2 ^ 32) ≡ Some stamp
+        → IsStampedTruly t edges more time stamp
+    stamped calls time now order truth past young stamp e =
+        let Before : Option Announced → ℕ → Announced → Type 0 = λ last A a. IsToldBefore Told A a in
+        let are = stamps limits rules clock table lines start new_lines Told Before (λ last edge a told. told) calls order.3 (tell_truly calls order.3 truth) in
+        stamped_by calls time now (order.0) (omega (arith, order.1)) past young Before
+        (λ A a come near last was stamp none e. by_earlier calls time now (order.0) (omega (arith, order.1)) past young A a come near was stamp e) (state_at calls).edge_us are stamp e
 
 -- ---- two devices
 

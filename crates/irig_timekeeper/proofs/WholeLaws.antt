@@ -17,6 +17,10 @@ abbrev pub AreSorted : List Pulse → Type 0
 AreSorted [] = Unit {0}
 AreSorted (p ∷ ps) = IsAfter ps p.rise × AreSorted ps
 
+pub nothing_whole : whole_of [] ≡ 0
+unfolding whole_of
+nothing_whole = refl
+
 pub whole_here : (p : Pulse) (ps : List Pulse) → place_after (p ∷ ps) ≡ 100 → whole_of (p ∷ ps) ≡ p.rise + 10000
 unfolding whole_of
 whole_here p ps at = rw at refl
@@ -34,6 +38,16 @@ before_low p (q ∷ qs) sorted = omega (arith, sorted.0, by (place_after (q ∷ 
     by : (b : Bool) → whole_of qs ≤ q.rise + 10000 → cond b (q.rise + 10000) (whole_of qs) ≤ q.rise + 10000
     by true low = omega arith
     by false low = low
+
+-- so by a time before which none rose it lies an element ahead at most
+pub whole_by : (pulses : List Pulse) (now : ℕ) → AreSorted pulses → IsAfter pulses now → whole_of pulses ≤ now + 10000
+unfolding whole_of
+whole_by [] now sorted after = omega arith
+whole_by (p ∷ ps) now sorted after = by (place_after (p ∷ ps) == 100) (before_low p ps sorted)
+  where
+    by : (b : Bool) → whole_of ps ≤ p.rise + 10000 → cond b (p.rise + 10000) (whole_of ps) ≤ now + 10000
+    by true low = omega (arith, after)
+    by false low = omega (arith, after, low)
 
 at_most_one : (b : Bool) → flag b ≤ 1
 at_most_one true = omega arith

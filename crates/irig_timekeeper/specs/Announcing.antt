@@ -1,7 +1,7 @@
 -- What has to come for a device to announce: more than f lines send a frame whole, and a tick comes
 -- soon behind its end.
 -- Source: IRIG Standard 200-16, format B; this project's profile.
-use Rattle.std.specs.Prelude.{◌≡◌, ℕ, zero, suc, ◌+◌, ◌*◌, ◌%◌, ◌^◌, ◌<◌, ◌≤◌, ◌⊎◌, Bool, true, List, Option, [], ◌∷◌, ◌++◌, length, count_by, Some, ⊤}
+use Rattle.std.specs.Prelude.{◌≡◌, ℕ, zero, suc, ◌+◌, ◌*◌, ◌%◌, ◌^◌, ◌<◌, ◌≤◌, ◌⊎◌, Bool, true, List, Option, [], ◌∷◌, ◌++◌, length, drop, count_by, Some, ⊤}
 use Rattle.std.specs.List.{range_with_len}
 use Rattle.irig_frame.specs.declared.symbol.Symbol.{Symbol}
 use Rattle.irig_sync.specs.Sync.{is_marker}
@@ -45,22 +45,29 @@ pub record IsWhole (limits : Option Limits) (rules : Rules) (t : TimelineValue) 
   pub tells : told_within limits rules (symbols_of_last 100 pulses) ≡ tells.Claim claim
   pub truth : IsTrueClaim t m claim
 
--- the calls of the m-th second, behind others: the last of them is the first tick that comes 549 us
--- behind the edge or later; it comes 98 ms behind the edge at most, and by then more than f lines
--- have told the frame whole that ends there. At each tick at most f lines are not such true lines
+-- in these calls more than f lines tell the frame whole that ends at the m-th edge; what they tell
+-- behind it may be anything
+pub record ComesWhole (t : TimelineValue) (edges : ℕ → ℕ) (new : Keeping) (m : ℕ)
+    (calls : List Call) : Type 0 where
+  pub whole : ℕ → Bool
+  pub many : f_of new.clock.redundancy < count_by whole (range_with_len 0 5)
+  pub frames : (i : ℕ) → i < 5 → whole i ≡ true
+      → (late : ℕ) × IsWhole new.limits new.rules t edges m (drop late (pulses_on i calls))
+
+-- the calls of the m-th second, behind others: the last of them is a tick from 549 us to 98 ms behind
+-- the edge, by which more than f lines have told the frame whole that ends there. Any tick before it
+-- comes at most 3 ms behind the edge, when the own counter has not yet counted it. At each tick at
+-- most f lines are not such true lines
 pub record IsWellHeard (IsTrue : ℕ → List Pulse → Type 0) (t : TimelineValue) (edges : ℕ → ℕ)
     (new : Keeping) (start m : ℕ) (calls before : List Call)
     : Type 0 where
   pub now : ℕ
   pub others : List Call
   pub are : calls ≡ Tick now ∷ others
-  pub early : last_tick start (others ++ before) < edges m + 549
+  pub early : last_tick start (others ++ before) ≤ edges m + 3000
   pub come : edges m + 549 ≤ now
   pub soon : now ≤ edges m + 98000
-  pub whole : ℕ → Bool
-  pub many : f_of new.clock.redundancy < count_by whole (range_with_len 0 5)
-  pub frames : (i : ℕ) → i < 5 → whole i ≡ true
-      → IsWhole new.limits new.rules t edges m (pulses_on i (others ++ before))
+  pub frames : ComesWhole t edges new m (others ++ before)
   pub truth : AreTrueOver IsTrue (f_of new.clock.redundancy) calls before
 
 -- so many seconds in a row, from the m-th on

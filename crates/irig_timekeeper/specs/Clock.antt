@@ -42,6 +42,12 @@ announced_at edge bound (Some u) = Some (record { second = u; edge_us = edge; bo
 abbrev pub announced : ℕ → Report → ℕ → Option Announced
 announced drift report edge = announced_at edge (bound_of drift report.lock) report.announce
 
+-- what was announced before an edge serves on, unless a vote announces nothing there, as at a jump
+abbrev pub still_serves : Option Claim → Option UtcSecond → Option Announced → Option Announced
+still_serves None announce last = last
+still_serves (Some vote) None last = None
+still_serves (Some vote) (Some u) last = last
+
 -- ---- an edge
 
 -- what is said of an edge by a step of the reader's rule, behind so many that were missed
@@ -54,15 +60,15 @@ beat_by s step missed edge = record {
   moved = s.moved;
 }
 
--- where the clock then stands, with these lines
-abbrev pub beaten : ClockRules → ClockState → Lines → Step → ℕ → ClockState
-beaten c s lines step edge = record {
+-- where the clock then stands, with these lines, by this vote if there is one
+abbrev pub beaten : ClockRules → ClockState → Lines → Option Claim → Step → ℕ → ClockState
+beaten c s lines vote step edge = record {
   lines = lines;
   reader = step.state;
   edge_us = Some edge;
   moved = 0;
   last = announced c.drift_us step.report edge;
-  before = s.last;
+  before = still_serves vote step.report.announce s.last;
 }
 
 -- the step at an edge to which so many seconds were counted, one or more
@@ -80,7 +86,8 @@ after_vote c table s vote edges =
       edge_us = Some vote.end_us;
       moved = (s.moved + 1) % 2 ^ 32;
     }
-    else beaten c s (taken s.lines) (step_to c table s edges (Some vote.claim)) vote.end_us
+    else beaten c s (taken s.lines) (Some vote.claim) (step_to c table s edges (Some vote.claim))
+    vote.end_us
 
 abbrev pub answer_to_vote : ClockRules → TableValue → ClockState → KeptClaim → ℕ → Option Beat
 answer_to_vote c table s vote edges =
@@ -96,7 +103,7 @@ own_edge (Some edge) edges = edge_behind edge edges
 abbrev pub after_own : ClockRules → TableValue → ClockState → ℕ → ClockState
 after_own c table s edges =
     if edges == 0 then s
-    else beaten c s s.lines (step_to c table s edges None) (own_edge s.edge_us edges)
+    else beaten c s s.lines None (step_to c table s edges None) (own_edge s.edge_us edges)
 
 abbrev pub answer_alone : ClockRules → TableValue → ClockState → ℕ → Option Beat
 answer_alone c table s edges =

@@ -16,13 +16,13 @@ use Rattle.irig_timekeeper.specs.Steps.{is_pulse, AreNewLines}
 use Rattle.irig_timekeeper.specs.Keeping.{Keeping, new_keeping, after_pulse, after_tick}
 use Rattle.irig_timekeeper.specs.Truth.{IsDevice}
 
--- a pulse on the line of a port, told at this time: it rose then, and is so wide; or a tick
+-- a pulse on the line of a port: it rose then, and is so wide; or a tick
 pub data Call : Type 0 where
-  Hear : (port time rise width : ℕ) → Call
+  Hear : (port rise width : ℕ) → Call
   Tick : (now : ℕ) → Call
 
 abbrev pub after_call : Keeping → Call → Keeping
-after_call k (Hear port time rise width) = after_pulse k port (rise % 2 ^ 32) width
+after_call k (Hear port rise width) = after_pulse k port (rise % 2 ^ 32) width
 after_call k (Tick now) = after_tick k (now % 2 ^ 32)
 
 -- after these calls, the newest first
@@ -49,41 +49,34 @@ life_of made calls = after_calls (device_of made) calls
 -- the pulses on the line of a port, the newest first
 abbrev pub pulses_on : ℕ → List Call → List Pulse
 pulses_on line [] = []
-pulses_on line (Hear port time rise width ∷ calls) =
+pulses_on line (Hear port rise width ∷ calls) =
     if line == port && is_pulse width then pulse_at rise width ∷ pulses_on line calls
     else pulses_on line calls
 pulses_on line (Tick now ∷ calls) = pulses_on line calls
 
--- the time of the last call, of a life that began at a time
-abbrev pub last_call : ℕ → List Call → ℕ
-last_call start [] = start
-last_call start (Hear port time rise width ∷ calls) = time
-last_call start (Tick now ∷ calls) = now
-
--- the time of the last tick
+-- the time of the last tick, of a life that began at a time
 abbrev pub last_tick : ℕ → List Call → ℕ
 last_tick start [] = start
-last_tick start (Hear port time rise width ∷ calls) = last_tick start calls
+last_tick start (Hear port rise width ∷ calls) = last_tick start calls
 last_tick start (Tick now ∷ calls) = now
 
--- a pulse is told at most half a second after it rose, and in order on its line
-pub record IsToldInTime (time rise : ℕ) (pulses : List Pulse) : Type 0 where
-  pub risen : rise ≤ time
-  pub soon : time ≤ rise + 500000
-  pub after : IsAfter pulses rise
+-- the pulse of each line that was told last rose by then
+abbrev pub HaveRisen : ℕ → List Call → Type 0
+HaveRisen time calls = (line : ℕ) → IsAfter (pulses_on line calls) time
 
--- no call is of an earlier time than the one before, and a tick comes at least once in half an
--- hour; pulses are told in time, but for what is too wide to be one
+-- each line's pulses are told in order, the lines in any, and each pulse before a tick more than
+-- half a second behind its rise; what is too wide is no pulse. Ticks come in the order of their
+-- times, one at least in half an hour, and none before the rise of a pulse that was told
 abbrev pub AreInOrder : ℕ → Redundancy → List Call → Type 0
 AreInOrder start redundancy [] = ⊤
-AreInOrder start redundancy (Hear port time rise width ∷ calls) =
-    (port < ports_in redundancy) × (last_call start calls ≤ time)
-    × (time + 500000 < last_tick start calls + 1800000000)
-    × (is_pulse width ≡ true → IsToldInTime time rise (pulses_on port calls))
+AreInOrder start redundancy (Hear port rise width ∷ calls) =
+    (port < ports_in redundancy)
+    × (is_pulse width ≡ true
+    → IsAfter (pulses_on port calls) rise × (last_tick start calls ≤ rise + 500000))
     × AreInOrder start redundancy calls
 AreInOrder start redundancy (Tick now ∷ calls) =
-    (last_call start calls ≤ now) × (now + 500000 < last_tick start calls + 1800000000)
-    × AreInOrder start redundancy calls
+    (last_tick start calls ≤ now) × (now + 500000 < last_tick start calls + 1800000000)
+    × HaveRisen now calls × AreInOrder start redundancy calls
 
 -- all but at most f of the five lines are such true lines at this time; a line that is not there
 -- brought no pulse
@@ -97,14 +90,14 @@ pub record AreTrueLately (IsTrue : ℕ → List Pulse → Type 0) (f now : ℕ) 
 -- so at each tick
 abbrev pub AreTrueAtTicks : (ℕ → List Pulse → Type 0) → ℕ → List Call → Type 0
 AreTrueAtTicks IsTrue f [] = ⊤
-AreTrueAtTicks IsTrue f (Hear port time rise width ∷ calls) = AreTrueAtTicks IsTrue f calls
+AreTrueAtTicks IsTrue f (Hear port rise width ∷ calls) = AreTrueAtTicks IsTrue f calls
 AreTrueAtTicks IsTrue f (Tick now ∷ calls) =
     AreTrueLately IsTrue f now calls × AreTrueAtTicks IsTrue f calls
 
 -- so at each tick of these calls, which came behind those
 abbrev pub AreTrueOver : (ℕ → List Pulse → Type 0) → ℕ → List Call → List Call → Type 0
 AreTrueOver IsTrue f [] before = ⊤
-AreTrueOver IsTrue f (Hear port time rise width ∷ calls) before = AreTrueOver IsTrue f calls before
+AreTrueOver IsTrue f (Hear port rise width ∷ calls) before = AreTrueOver IsTrue f calls before
 AreTrueOver IsTrue f (Tick now ∷ calls) before =
     AreTrueLately IsTrue f now (calls ++ before) × AreTrueOver IsTrue f calls before
 

@@ -1,8 +1,10 @@
 -- What it is for a line to be true of late: each frame begins at its own edge, so that the
 -- device's counter may drift.
 -- Source: IRIG Standard 200-16, format B: an element each 10 ms; this project's profile.
-use Rattle.std.specs.Prelude.{◌≡◌, ℕ, ◌+◌, ◌*◌, ◌%◌, ◌^◌, ◌<◌, ◌≤◌, ◌⊎◌, List, [], ◌∷◌, Option, Some, None, take, drop, slice_get, ⊤}
+use Rattle.std.specs.Prelude.{◌≡◌, ℕ, ◌+◌, ◌*◌, ◌/◌, ◌%◌, ◌^◌, ◌<◌, ◌≤◌, ◌⊎◌, nat_lt, if◌then◌else◌, List, [], ◌∷◌, Option, Some, None, take, drop, slice_get, get_or, ⊤}
 use Rattle.irig_frame.specs.declared.symbol.Symbol.{Symbol}
+use Rattle.irig_frame.specs.declared.symbol.Symbol.TheVariants.{One, Marker, Bad}
+use Rattle.irig_frame.specs.FieldTable.{is_marker_place}
 use Rattle.irig_sync.specs.Edges.{element_at}
 use Rattle.irig_sync.specs.FaultyLines.{IsPulseOf, HasOneFault}
 use Rattle.irig_sync.specs.Lines.{Pulse, AreOnTime, IsTrueLine, StandAt, symbols_of_last}
@@ -75,12 +77,19 @@ StandButForOne line k q s =
     (i : ℕ) → i < 100 → ¬ (i ≡ q) → slice_get s i ≡ Some (line (k + i))
 
 -- a line of frames whose f-th carries the true claim of T(f), if it carries one, whichever one of
--- its symbols is another. So is a line whose frames each tell that claim: with another symbol they
--- are at fault, or claim the same
+-- its symbols is another. So is what a clock sends: with another symbol its frames are at fault, or
+-- claim the same
 pub record IsCheckedLineOf (rules : Rules) (t : TimelineValue) (line : ℕ → Symbol) : Type 0 where
   pub right : IsTrueLine line
   pub truth : (f q : ℕ) (s : List Symbol) (c : Claim) → StandButForOne line (100 * f) q s
       → Carries rules s c → IsTrueClaim t (f + 1) c
+
+-- a line that sends n frames, and then nothing: its other pulses are all lost, and no hundred of
+-- their symbols, ones, are a frame, nor with another one among them
+abbrev pub line_of : (ℕ → List Symbol) → ℕ → ℕ → Symbol
+line_of frames n k =
+    if nat_lt (k / 100) n then get_or (frames (k / 100)) (k % 100) Bad
+    else (if is_marker_place (k % 100) then Marker else One)
 
 -- the newest of these pulses, if there is one, rose before that time
 abbrev pub RoseBefore : ℕ → List Pulse → Type 0

@@ -7,7 +7,7 @@ ghost use Rattle.irig_timekeeper.specs.Counting.{edges_to_vote, edges_own};
 ghost use Rattle.irig_timekeeper.specs.Rule.{missed, step_behind};
 ghost use Rattle.irig_timekeeper.specs.Steps.{AreKeptOfUtc, AreNewLines};
 ghost use Rattle.irig_timekeeper.specs.Keeping.{new_state};
-ghost use Rattle.irig_timekeeper.specs.Clock.{lasted, bound_of, announced, beat_by, beaten, step_to, after_vote, answer_to_vote, after_own, answer_alone, clock_after, clock_answer, clock_vote, clock_wait, SaysOfUtc, AnnouncedOfUtc};
+ghost use Rattle.irig_timekeeper.specs.Clock.{lasted, bound_of, announced, still_serves, beat_by, beaten, step_to, after_vote, answer_to_vote, after_own, answer_alone, clock_after, clock_answer, clock_vote, clock_wait, SaysOfUtc, AnnouncedOfUtc};
 
 use crate::counting::{edge_behind, edges_own, edges_to_vote};
 use crate::lines::{
@@ -15,7 +15,7 @@ use crate::lines::{
 };
 use crate::stamp::Announced;
 use irig_reader::{Lock, ReaderRules, Report, State, Step, step_of};
-use irig_time::{Claim, Leaps};
+use irig_time::{Claim, Leaps, UtcSecond};
 use irig_vote::{Redundancy, Tells};
 use std::mem;
 
@@ -46,7 +46,7 @@ pub struct ClockState {
     pub moved: u32,
     /// The last second that was counted, if it was announced.
     pub last: Option<Announced>,
-    /// The one counted before it, if it was announced.
+    /// The one counted before it, if it was announced and no vote since announced nothing.
     pub before: Option<Announced>,
 }
 
@@ -194,7 +194,7 @@ fn beat_at<T: Leaps>(
     requires some { 1 ≤ edges }
     ensures answer { result ≡ beat_by state.old
         (step_to rules.now (T.says table.now) state.old edges vote) (edges - 1) edge_us }
-    ensures after { state.new ≡ beaten rules.now state.old state.old.lines
+    ensures after { state.new ≡ beaten rules.now state.old state.old.lines vote
         (step_to rules.now (T.says table.now) state.old edges vote) edge_us }
     ensures counting { count_of state.new.reader < rules.now.reader_rules.lock_after }
     ensures said { IfSome result.report.announce IsValid }
@@ -212,7 +212,7 @@ fn beat_at<T: Leaps>(
     state.reader = step.state;
     state.edge_us = Some(edge_us);
     state.moved = 0;
-    state.before = state.last;
+    state.before = still_serves(vote, beat.report.announce, state.last);
     state.last = announced(rules, &beat.report, edge_us);
     beat
 }
@@ -237,6 +237,22 @@ fn step_behind<T: Leaps>(
         state = step_of(rules, table, state, None).state;
     }
     step_of(rules, table, state, vote)
+}
+
+// What was announced before: if a vote announces nothing, as at a jump, it may be false.
+fn still_serves(
+    vote: Option<Claim>,
+    announce: Option<UtcSecond>,
+    last: Option<Announced>,
+) -> Option<Announced>
+    ensures value { result ≡ still_serves vote announce last }
+    ensures valid { IfSome last (λ announced. IsValid announced.second)
+        → IfSome result (λ announced. IsValid announced.second) }
+{
+    match (vote, announce) {
+        (Some(_), None) => None,
+        _ => last,
+    }
 }
 
 // What is kept of a second that is announced.

@@ -1,6 +1,6 @@
 //! A timekeeper.
 
-ghost use Rattle.std.specs.Prelude.{◌≡◌, ◌<◌, ◌≤◌, ◌+◌, ◌*◌, List, MatchResult, None, Option, Some};
+ghost use Rattle.std.specs.Prelude.{◌≡◌, ◌<◌, ◌≤◌, ◌+◌, ◌*◌, ◌%◌, ◌^◌, ℕ, List, [], ◌∷◌, IfOk, MatchResult, None, Option, Some};
 ghost use Rattle.irig_frame.specs.declared.symbol.Symbol.{Symbol};
 ghost use Rattle.irig_sync.specs.Sync.{place_of};
 ghost use Rattle.irig_time.specs.declared.rules.Rules.{Rules};
@@ -46,6 +46,13 @@ impl<P: Port> Timekeeper<P> {
     ghost use Rattle.irig_timekeeper.specs.Refusals.{clock_fault};
     ghost use Rattle.irig_timekeeper.specs.Keeping.{place_told, one_pulse_more, after_pulse, after_tick, answer_at, restarted, heard_by, with_heard, wait_at, stamp_at};
     ghost use Rattle.irig_timekeeper.specs.Keepers.{IsKeeping, IsNew, ForKeeping, Goes};
+    ghost use Rattle.irig_timekeeper.specs.Life.{Call, AreInOrder};
+    ghost use Rattle.irig_timekeeper.specs.Life.Call.{Hear, Tick};
+    ghost use Rattle.irig_timekeeper.specs.Lived.{MadeOf, HasLived, LivesWell};
+    ghost use Rattle.irig_timekeeper.specs.Lines.{IsTrueLately};
+    ghost use Rattle.irig_timekeeper.specs.Truth.{IsToldInHoldover, IsStampedTruly};
+    ghost use Rattle.irig_time.specs.Timelines.{TimelineValue};
+    ghost use Rattle.irig_time.specs.declared.second.UtcSecond.{UtcSecond};
 
     /// A timekeeper to which nothing has happened, with rules that are
     /// [`in_range`](irig_reader::in_range), by a counter that is at most `drift_us` microseconds a
@@ -58,7 +65,7 @@ impl<P: Port> Timekeeper<P> {
         drift_us: u32,
     ) -> Result<Self, ClockFault>
         requires { IsReaderRules reader_rules }
-        ensures { MatchResult result
+        ensures new { MatchResult result
             (λ keeper. (clock_fault reader_rules drift_us ≡ None)
             × IsNew keeper None rules (record {
               reader_rules = reader_rules;
@@ -66,6 +73,16 @@ impl<P: Port> Timekeeper<P> {
               drift_us = drift_us;
             }) table)
             (λ fault. clock_fault reader_rules drift_us ≡ Some fault) }
+        ensures lived { IfOk result (λ keeper. HasLived keeper (record {
+          limits = None;
+          rules = rules;
+          clock = record {
+            reader_rules = reader_rules;
+            redundancy = redundancy;
+            drift_us = drift_us;
+          };
+          table = table;
+        }) []) }
     {
         Timekeeper::new_within(rules, reader_rules, table, redundancy, drift_us, None)
     }
@@ -81,7 +98,7 @@ impl<P: Port> Timekeeper<P> {
         limits: Option<Limits>,
     ) -> Result<Self, ClockFault>
         requires { IsReaderRules reader_rules }
-        ensures { MatchResult result
+        ensures new { MatchResult result
             (λ keeper. (clock_fault reader_rules drift_us ≡ None)
             × IsNew keeper limits rules (record {
               reader_rules = reader_rules;
@@ -89,6 +106,16 @@ impl<P: Port> Timekeeper<P> {
               drift_us = drift_us;
             }) table)
             (λ fault. clock_fault reader_rules drift_us ≡ Some fault) }
+        ensures lived { IfOk result (λ keeper. HasLived keeper (record {
+          limits = limits;
+          rules = rules;
+          clock = record {
+            reader_rules = reader_rules;
+            redundancy = redundancy;
+            drift_us = drift_us;
+          };
+          table = table;
+        }) []) }
     {
         if let Some(fault) = clock_fault(reader_rules, drift_us) {
             return Err(fault);
@@ -111,15 +138,18 @@ impl<P: Port> Timekeeper<P> {
         })
     }
 
-    /// A pulse on a line, once it has ended, in order of time: its place in its frame, 1 to 100, or
-    /// 0 out of step. It rose at `rise_us`, and is `width_us` microseconds wide. The line is 0 of
-    /// one, 0 to 2 of three, 0 to 4 of five.
+    /// A pulse on a line, once it has ended, each line's in order, and before any tick of half a
+    /// second or more after it rose: its place in its frame, 1 to 100, or 0 out of step. It rose at
+    /// `rise_us`, and is `width_us` microseconds wide. The line is 0 of one, 0 to 2 of three, 0 to 4
+    /// of five.
     ///
     /// What is half a second wide or wider is no pulse: 0 is answered, and nothing changes.
     pub fn hear(&mut self, line: u8, rise_us: u32, width_us: u32) -> u8
         requires { line < ports_in self.old.clock.redundancy }
         ensures place { ForKeeping self.old (λ k. result ≡ place_told k line rise_us width_us) }
         ensures heard { Goes self.old self.new (λ k. after_pulse k line rise_us width_us) }
+        ensures lived { (made : MadeOf) (calls : List Call) (rise : ℕ) → HasLived self.old made calls
+            → rise_us ≡ rise % 2 ^ 32 → HasLived self.new made (Hear line rise width_us ∷ calls) }
         ensures lines { self.new.clock ≡ self.old.clock }
     {
         if is_pulse(width_us) {
@@ -200,29 +230,50 @@ impl<P: Port> Timekeeper<P> {
         }
     }
 
-    /// To be called at any time, as often as one likes, and at least once in half an hour: what
-    /// is said of a second, if an edge has come since the last one.
+    /// To be called at any time, as often as one likes, and at least once in 29 minutes, but with
+    /// no time before the last tick's or before the rise of a pulse that was told: what is said of
+    /// a second, if an edge has come since the last one.
     pub fn tick(&mut self, now_us: u32) -> Option<Beat>
         ensures answer { ForKeeping self.old (λ k. result ≡ answer_at k now_us) }
         ensures after { Goes self.old self.new (λ k. after_tick k now_us) }
+        ensures lived { (made : MadeOf) (calls : List Call) (now : ℕ) → HasLived self.old made calls
+            → now_us ≡ now % 2 ^ 32 → HasLived self.new made (Tick now ∷ calls) }
+        // the law `a_device_tells_the_truth`
+        ensures life { (t : TimelineValue) (edges : ℕ → ℕ) (made : MadeOf) (start now : ℕ)
+            (calls : List Call) (beat : Beat) (u : UtcSecond) → HasLived self.old made calls
+            → now_us ≡ now % 2 ^ 32
+            → LivesWell IsTrueLately t edges made start (Tick now ∷ calls)
+            → result ≡ Some beat → beat.report.announce ≡ Some u → IsToldInHoldover t edges 1549
+            549 made.clock.drift_us made.clock.reader_rules.holdover now beat u }
         ensures lines { self.new.clock ≡ self.old.clock }
     {
         tick(&self.clock, &self.table, &mut self.state, now_us).beat
     }
 
-    /// How long until a tick has something to do, if no call comes before it, in microseconds, at
-    /// most 1,005,000.
+    /// How long until a tick has something to do, if no call comes before it, in microseconds: at
+    /// most 1,005,000 at a time at which a tick may come.
     pub fn wait(&self, now_us: u32) -> u32
-        ensures { ForKeeping self.now (λ k. result ≡ wait_at k now_us) }
+        ensures value { ForKeeping self.now (λ k. result ≡ wait_at k now_us) }
+        ensures most { (made : MadeOf) (start now : ℕ) (calls : List Call)
+            → HasLived self.now made calls → now_us ≡ now % 2 ^ 32
+            → AreInOrder start made.clock.redundancy (Tick now ∷ calls) → result ≤ 1005000 }
     {
         wait_of(&self.clock, &self.state, now_us)
     }
 
     /// The time of an event, if it lies behind the edge of the last second that was told, or behind
-    /// that of the one before, and these were announced. None, if it lies more than a second and
-    /// the error of the edge behind it.
+    /// that of the one before, and these were announced. The one before no longer serves if a vote
+    /// then announced nothing, as at a jump. None, if the event lies more than a second and the
+    /// error of the edge behind it.
     pub fn stamp(&self, time_us: u32) -> Option<Stamp>
-        ensures { ForKeeping self.now (λ k. result ≡ stamp_at k time_us) }
+        ensures value { ForKeeping self.now (λ k. result ≡ stamp_at k time_us) }
+        // the law `stamps_are_true`
+        ensures truth { (t : TimelineValue) (edges : ℕ → ℕ) (made : MadeOf) (start time now : ℕ)
+            (calls : List Call) (stamp : Stamp) → HasLived self.now made calls
+            → time_us ≡ time % 2 ^ 32 → LivesWell IsTrueLately t edges made start calls
+            → AreInOrder start made.clock.redundancy (Tick now ∷ calls)
+            → time ≤ now → now ≤ time + 1800000000 → result ≡ Some stamp
+            → IsStampedTruly t edges 0 time stamp }
     {
         stamp_of(self.state.last, self.state.before, time_us)
     }
@@ -231,6 +282,8 @@ impl<P: Port> Timekeeper<P> {
     pub fn restart(&mut self)
         ensures forgotten { Goes self.old self.new (λ k. restarted k self.new.state.lines) }
         ensures new { AreNewLines self.new.state.lines }
+        ensures lived { (made : MadeOf) (calls : List Call) → HasLived self.old made calls
+            → HasLived self.new made [] }
         ensures lines { self.new.clock ≡ self.old.clock }
     {
         self.a.clear();

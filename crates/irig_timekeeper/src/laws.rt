@@ -1,7 +1,7 @@
 //! Laws of a timekeeper over its definitions. They have no code, and speak of values: no call of a
 //! timekeeper takes a timeline.
 
-ghost use Rattle.std.specs.Prelude.{◌≡◌, ◌+◌, ◌*◌, ◌%◌, ◌^◌, ◌<◌, ◌≤◌, ℕ, suc, List, ◌∷◌, ◌++◌, Option, Some, None, count_by, false};
+ghost use Rattle.std.specs.Prelude.{◌≡◌, ◌+◌, ◌*◌, ◌%◌, ◌^◌, ◌<◌, ◌≤◌, ◌⊎◌, ℕ, suc, List, ◌∷◌, ◌++◌, Option, Some, None, count_by, false};
 ghost use Rattle.irig_frame.specs.declared.symbol.Symbol.{Symbol};
 ghost use Rattle.irig_sync.specs.declared.sync.Sync.{Sync};
 ghost use Rattle.irig_sync.specs.Sync.{place_of};
@@ -22,12 +22,14 @@ ghost use Rattle.irig_timekeeper.specs.Lines.{IsTrueLately, IsFrameOf, IfKept, I
 ghost use Rattle.irig_timekeeper.specs.Counting.{edges_between, edges_to, edges_own};
 ghost use Rattle.irig_timekeeper.specs.Refusals.{clock_fault};
 ghost use Rattle.irig_timekeeper.specs.Steps.{frame_behind, claim_kept, line_at, all_kept, agrees, agreed, settled, tells_of, wait_by};
-ghost use Rattle.irig_timekeeper.specs.Clock.{answer_to_vote};
+ghost use Rattle.irig_timekeeper.specs.Clock.{answer_to_vote, lasted};
 ghost use Rattle.irig_timekeeper.specs.Keeping.{Keeping, vote_at, after_tick, answer_at, wait_at, stamp_at};
 ghost use Rattle.irig_timekeeper.specs.Truth.{AreHeardTruly, IsTrueVote, IsOnTrack, IsToldTruly, IsToldInHoldover, IsLaterSecond, IsDevice, IsEdgeAt, AreApartBeats, IsStampedTruly, IsInstant};
 ghost use Rattle.irig_timekeeper.specs.Announcing.{AreWellHeard, Announces};
-ghost use Rattle.irig_timekeeper.specs.Life.{Call, Made, AreInOrder, AreTrueLately, AreTrueAtTicks, AreTrueOver, LivesTruly, device_of, life_of, last_call};
+ghost use Rattle.irig_timekeeper.specs.Life.{Call, Made, AreInOrder, AreTrueLately, AreTrueAtTicks, AreTrueOver, LivesTruly, device_of, life_of, HaveRisen};
 ghost use Rattle.irig_timekeeper.specs.Life.Call.{Tick};
+ghost use Rattle.irig_timekeeper.specs.Since.{since_vote, HasItsBound};
+ghost use Rattle.irig_timekeeper.specs.Healing.{HasHealed};
 
 use crate::clock::Beat;
 use crate::lines::{KeptClaim, KeptFrame, Lines};
@@ -113,6 +115,11 @@ pub fn a_device_tells_the_truth()
         → beat.report.announce ≡ Some u
         → answer_at (life_of made (later ++ (Tick before ∷ earlier))) (now % 2 ^ 32) ≡ Some then
         → then.report.announce ≡ Some v → IsLaterSecond t u v }
+    // A holdover has lasted for the seconds since the last vote, whatever lines carry.
+    ensures held { (made : Made) (now : ℕ) (calls : List Call) (beat : Beat) (u : UtcSecond)
+        → answer_at (life_of made calls) (now % 2 ^ 32) ≡ Some beat
+        → beat.report.announce ≡ Some u
+        → lasted beat.report.lock ≡ since_vote (device_of made) (Tick now ∷ calls) }
     // And no report has the cause `Jump`.
     ensures calm { (t : TimelineValue) (edges : ℕ → ℕ) (made : Made) (start now : ℕ)
         (calls : List Call) (beat : Beat)
@@ -154,7 +161,7 @@ pub fn edges_lie_apart()
 /// tick from there on at most f are. (Until then it may hold over what is untrue, for as many edges
 /// as its rules allow.)
 pub fn a_device_heals()
-    ensures { (t : TimelineValue) (edges : ℕ → ℕ) (made : Made) (start mend now : ℕ)
+    ensures life { (t : TimelineValue) (edges : ℕ → ℕ) (made : Made) (start mend now : ℕ)
         (earlier later : List Call) (vote : KeptClaim) (beat then : Beat) (u : UtcSecond)
         → IsDevice t made.clock.drift_us edges made.clock.reader_rules made.table
         → AreInOrder start made.clock.redundancy (Tick now ∷ (later ++ (Tick mend ∷ earlier)))
@@ -168,6 +175,35 @@ pub fn a_device_heals()
         → then.report.announce ≡ Some u
         → IsToldInHoldover t edges 1549 549 made.clock.drift_us made.clock.reader_rules.holdover
         now then u }
+    // What a later tick announces is a later second.
+    ensures order { (t : TimelineValue) (edges : ℕ → ℕ) (made : Made) (start before now : ℕ)
+        (earlier later : List Call) (beat then : Beat) (u v : UtcSecond)
+        → HasHealed IsTrueLately t edges made start (Tick before ∷ earlier)
+        → AreInOrder start made.clock.redundancy (Tick now ∷ (later ++ (Tick before ∷ earlier)))
+        → AreTrueOver (IsTrueLately made.rules t edges) (f_of made.clock.redundancy)
+        (Tick now ∷ later) (Tick before ∷ earlier)
+        → answer_at (life_of made earlier) (before % 2 ^ 32) ≡ Some beat
+        → beat.report.announce ≡ Some u
+        → answer_at (life_of made (later ++ (Tick before ∷ earlier))) (now % 2 ^ 32) ≡ Some then
+        → then.report.announce ≡ Some v → IsLaterSecond t u v }
+    // No later report has the cause `Jump`.
+    ensures calm { (t : TimelineValue) (edges : ℕ → ℕ) (made : Made) (start now : ℕ)
+        (calls : List Call) (beat : Beat) → HasHealed IsTrueLately t edges made start calls
+        → AreInOrder start made.clock.redundancy (Tick now ∷ calls)
+        → AreTrueLately (IsTrueLately made.rules t edges) (f_of made.clock.redundancy) now calls
+        → answer_at (life_of made calls) (now % 2 ^ 32) ≡ Some beat
+        → ¬ (beat.report.cause ≡ Cause.Jump) }
+    // Stamps are true of events that come at the edge of that vote or later. If it announces
+    // nothing, as at a jump, they are true of all events: none goes by what was announced before.
+    ensures stamps { (t : TimelineValue) (edges : ℕ → ℕ) (made : Made) (start edge time now : ℕ)
+        (calls : List Call) (stamp : Stamp)
+        → (healed : HasHealed IsTrueLately t edges made start calls)
+        → IsEdgeAt healed.beat.edge_us edge healed.mend
+        → (edge ≤ time) ⊎ (healed.beat.report.announce ≡ None)
+        → AreInOrder start made.clock.redundancy (Tick now ∷ calls)
+        → time ≤ now → now ≤ time + 1800000000
+        → stamp_at (life_of made calls) (time % 2 ^ 32) ≡ Some stamp
+        → IsStampedTruly t edges 0 time stamp }
 {}
 
 /// No f lines can keep a device from a vote: if more than f lines keep frames of one claim that end
@@ -248,6 +284,10 @@ pub fn stamps_are_true()
         → time ≤ now → now ≤ time + 1800000000
         → stamp_at (life_of made calls) (time % 2 ^ 32) ≡ Some stamp
         → IsStampedTruly t edges 0 time stamp }
+    // The bound is 1.549 ms and the drift of each second since the last vote, whatever lines carry.
+    ensures bound { (made : Made) (time : ℕ) (calls : List Call) (stamp : Stamp)
+        → stamp_at (life_of made calls) (time % 2 ^ 32) ≡ Some stamp
+        → HasItsBound made calls stamp }
     // So two devices stamp one instant alike, whatever their counters show: what their stamps name
     // lies no further apart than the sum of their bounds and the drift of two seconds of each.
     ensures together { (t : TimelineValue) (d e n tau time other : ℕ) (edges others : ℕ → ℕ)
@@ -260,15 +300,15 @@ pub fn stamps_are_true()
 
 /// A device announces, and f lines cannot stop it: wherever it stands, let there be seconds in a
 /// row, two more than it locks after, of each of which more than f lines send the frame whole, and
-/// let the first tick that comes 549 us behind its edge or later come at most 98 ms behind, when
-/// those lines have told it. Then a tick of the last of these seconds announces it by a vote,
-/// whatever the other lines send.
+/// let a tick come from 549 us to 98 ms behind its edge, when those lines have told it, and none
+/// before it more than 3 ms behind the edge. Then a tick of the last of these seconds announces it
+/// by a vote, whatever the other lines send.
 pub fn a_device_announces()
-    ensures { (t : TimelineValue) (edges : ℕ → ℕ) (made : Made) (start m : ℕ)
+    ensures { (t : TimelineValue) (edges : ℕ → ℕ) (made : Made) (start m told : ℕ)
         (calls before : List Call) (u : UtcSecond)
         → IsDevice t made.clock.drift_us edges made.clock.reader_rules made.table
         → AreInOrder start made.clock.redundancy calls → 1 ≤ m
-        → 1 ≤ made.clock.reader_rules.lock_after → last_call start before + 11000 < edges m
+        → 1 ≤ made.clock.reader_rules.lock_after → HaveRisen told before → told + 11000 < edges m
         → AreWellHeard (IsTrueLately made.rules t edges) t edges (device_of made) start m
         (suc (suc made.clock.reader_rules.lock_after)) calls before
         → IsSecond t (m + 1 + made.clock.reader_rules.lock_after) u

@@ -6,15 +6,20 @@ ghost use Rattle.irig_sync.specs.Lines.{Pulse};
 ghost use Rattle.irig_sync.specs.FaultyLines.{ArePulsesBefore};
 ghost use Rattle.irig_time.specs.Timelines.{TimelineValue, IsTrueClaim};
 ghost use Rattle.irig_time.specs.Tables.{TableValue};
-ghost use Rattle.irig_port.specs.OwnClaims.{TellsClaims};
+ghost use Rattle.irig_time.specs.Carries.{Carries};
+ghost use Rattle.irig_time.specs.TimelineFaults.{IsTimeline};
+ghost use Rattle.irig_gen.specs.Frames.{GeneratorValue, IsTrueFrame};
+ghost use Rattle.irig_gen.specs.Refusals.{IsGenerator};
+ghost use Rattle.irig_vote.specs.Vote.{f_of};
 ghost use Rattle.irig_timekeeper.specs.Edges.{IsQuartz, IsTrueNear};
-ghost use Rattle.irig_timekeeper.specs.Lines.{IsFrameOf, IsCheckedLineOf, IsTrueButForFaults, IsTrueOrFaulty};
-ghost use Rattle.irig_timekeeper.specs.Keeping.{answer_at};
-ghost use Rattle.irig_timekeeper.specs.Truth.{IsToldInHoldover, IsLaterSecond, IsDevice};
-ghost use Rattle.irig_timekeeper.specs.Life.{Call, Made, LivesTruly, life_of};
+ghost use Rattle.irig_timekeeper.specs.Lines.{IsFrameOf, IsLineOf, line_of, IsCheckedLineOf, IsTrueButForFaults, IsTrueOrFaulty};
+ghost use Rattle.irig_timekeeper.specs.Keeping.{answer_at, stamp_at};
+ghost use Rattle.irig_timekeeper.specs.Truth.{IsToldInHoldover, IsLaterSecond, IsDevice, IsStampedTruly};
+ghost use Rattle.irig_timekeeper.specs.Life.{Call, Made, AreInOrder, AreTrueAtTicks, LivesTruly, life_of};
 ghost use Rattle.irig_timekeeper.specs.Life.Call.{Tick};
 
 use crate::clock::Beat;
+use crate::stamp::Stamp;
 use irig_reader::{Cause, ReaderRules};
 use irig_time::{Claim, Rules, UtcSecond};
 
@@ -61,14 +66,32 @@ pub fn lines_with_faults_tell_truly()
         → LivesTruly IsTrueButForFaults t edges made start (Tick now ∷ calls)
         → answer_at (life_of made calls) (now % 2 ^ 32) ≡ Some beat
         → ¬ (beat.report.cause ≡ Cause.Jump) }
+    // Stamps lie no further off than their bound and 2 ms.
+    ensures stamps { (t : TimelineValue) (edges : ℕ → ℕ) (made : Made) (start time now : ℕ)
+        (calls : List Call) (stamp : Stamp)
+        → IsDevice t made.clock.drift_us edges made.clock.reader_rules made.table
+        → AreInOrder start made.clock.redundancy (Tick now ∷ calls)
+        → AreTrueAtTicks (IsTrueOrFaulty made.rules t edges) (f_of made.clock.redundancy) calls
+        → time ≤ now → now ≤ time + 1800000000
+        → stamp_at (life_of made calls) (time % 2 ^ 32) ≡ Some stamp
+        → IsStampedTruly t edges 2000 time stamp }
     // The bound is less than half a second.
     ensures half { (t : TimelineValue) (d : ℕ) (edges : ℕ → ℕ) (rules : ReaderRules)
         (table : TableValue) (far : ℕ) → IsDevice t d edges rules table → far ≤ rules.holdover
         → 3549 + far * d < 500000 }
-    // A line whose frames each tell the true claim may have faults.
-    ensures lines { (rules : Rules) (t : TimelineValue) (line : ℕ → Symbol) (claims : ℕ → Claim)
-        → TellsClaims rules line claims → ((f : ℕ) → IsTrueClaim t (f + 1) (claims f))
-        → IsCheckedLineOf rules t line }
+    // A line may have faults that sends n frames, each of which carries the true claim of its second,
+    // and nothing behind them.
+    ensures lines { (rules : Rules) (t : TimelineValue) (n : ℕ) (frames : ℕ → List Symbol)
+        → ((f : ℕ) → f < n
+        → (claim : Claim) × IsTrueClaim t (f + 1) claim × Carries rules (frames f) claim)
+        → IsCheckedLineOf rules t (line_of frames n) }
+    // So may that of a clock that sends the frames of n seconds.
+    ensures clocks { (g : GeneratorValue) (t : TimelineValue) (n : ℕ) (frames : ℕ → List Symbol)
+        → IsGenerator g → IsTimeline t → ((f : ℕ) → f < n → IsTrueFrame g t f (frames f))
+        → IsCheckedLineOf g.rules t (line_of frames n) }
+    // One that may have faults may lose pulses, too.
+    ensures lossy { (rules : Rules) (t : TimelineValue) (line : ℕ → Symbol)
+        → IsCheckedLineOf rules t line → IsLineOf rules t line }
     // And it has none while each pulse comes.
     ensures whole { (rules : Rules) (t : TimelineValue) (line : ℕ → Symbol) (edges : ℕ → ℕ)
         (now k : ℕ) (pulses : List Pulse) → IsCheckedLineOf rules t line

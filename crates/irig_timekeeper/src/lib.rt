@@ -11,6 +11,8 @@ mod counting;
 mod keeper;
 mod laws;
 mod laws_of_faults;
+mod laws_of_limits;
+mod laws_of_loops;
 mod lines;
 mod setup;
 mod stamp;
@@ -23,6 +25,8 @@ pub use laws::{
     stamps_are_true, votes_are_true, waiting_is_right,
 };
 pub use laws_of_faults::lines_with_faults_tell_truly;
+pub use laws_of_limits::{a_false_table_misleads, a_majority_misleads};
+pub use laws_of_loops::{a_polling_device_announces, a_waiting_device_announces};
 pub use lines::{KeptClaim, KeptFrame, Line, Lines, is_pulse};
 pub use setup::{ClockFault, clock_fault};
 pub use stamp::{Announced, Stamp, stamp_of};

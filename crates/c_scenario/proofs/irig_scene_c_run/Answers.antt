@@ -1,6 +1,10 @@
 use Rattle.std.proofs.Common.{◌∙◌, ap, rules}
 use Rattle.report_log.specs.Text.{entries_alone}
+use Rattle.irig_scene.specs.BrokenLogs.{VouchesUntilBroken}
 use Rattle.irig_scene.specs.LogLines.{TellsTruth, VouchesForItself}
+use Rattle.irig_scene.specs.VouchedLines.{VouchesByPlantLine}
+use Rattle.irig_scene.proofs.BrokenLogs.{vouches_until_broken}
+use Rattle.irig_scene.proofs.PlantLines.{vouches_by_plant_line}
 use Rattle.irig_scene.proofs.TrueLines.{tells_truth, vouches_for_itself}
 use Rattle.c_scenario.specs.Runs.{written_over}
 use Rattle.c_scenario.proofs.RunLaws.{fact_left}
@@ -18,4 +22,20 @@ returns-clause-truth c =
     let run = c.run_text-ended.result in
     fact_left (TellsTruth c.args.text.now) c.args.text.now (entries_alone c.args.all) run.answer run.log.items c.args.log.now c.len.result c.write_over.new.room
     (tells_truth (entries_alone c.args.all) c.args.text.now) c.run_text-ended.ensures
+    (search rules) (c.write_over.ensures ∙ ap (written_over c.args.log.now) c.deref.ensures.value)
+
+pub returns-clause-vouches_by_plant_line : goal.returns-clause-vouches_by_plant_line
+returns-clause-vouches_by_plant_line c =
+    let run = c.run_text-ended.result in
+    let shown = entries_alone c.args.all in
+    fact_left (VouchesByPlantLine c.args.text.now) c.args.text.now shown run.answer run.log.items c.args.log.now c.len.result c.write_over.new.room
+    (vouches_by_plant_line shown c.args.text.now) c.run_text-ended.ensures
+    (search rules) (c.write_over.ensures ∙ ap (written_over c.args.log.now) c.deref.ensures.value)
+
+pub returns-clause-vouches_until_broken : goal.returns-clause-vouches_until_broken
+returns-clause-vouches_until_broken c =
+    let run = c.run_text-ended.result in
+    let shown = entries_alone c.args.all in
+    fact_left (VouchesUntilBroken c.args.text.now) c.args.text.now shown run.answer run.log.items c.args.log.now c.len.result c.write_over.new.room
+    (vouches_until_broken shown c.args.text.now) c.run_text-ended.ensures
     (search rules) (c.write_over.ensures ∙ ap (written_over c.args.log.now) c.deref.ensures.value)

@@ -2,7 +2,9 @@ use Rattle.std.proofs.Common.{◌∙◌, ap, rules}
 use Rattle.irig_scene.specs.BrokenLogs.{VouchesUntilBroken}
 use Rattle.irig_scene.specs.LogLines.{TellsTruth, VouchesForItself}
 use Rattle.irig_scene.specs.VouchedByPorts.{VouchesByPorts}
+use Rattle.irig_scene.specs.VouchedLines.{VouchesByPlantLine}
 use Rattle.irig_scene.proofs.BrokenLogs.{vouches_until_broken}
+use Rattle.irig_scene.proofs.PlantLines.{vouches_by_plant_line}
 use Rattle.irig_scene.proofs.PortLineLaws.{without_ports}
 use Rattle.irig_scene.proofs.TrueLines.{tells_truth, vouches_for_itself}
 use Rattle.irig_scene.proofs.VouchedByPorts.{vouches_by_ports}
@@ -54,4 +56,12 @@ returns-clause-truth c =
     let shown = shown_of c.args.all c.args.ports in
     fact_left (TellsTruth c.args.text.now) c.args.text.now shown run.answer run.log.items c.args.log.now c.len.result c.write_over.new.room
     (tells_truth shown c.args.text.now) c.run_text-ended.ensures
+    (search rules) (c.write_over.ensures ∙ ap (written_over c.args.log.now) c.deref.ensures.value)
+
+pub returns-clause-vouches_by_plant_line : goal.returns-clause-vouches_by_plant_line
+returns-clause-vouches_by_plant_line c =
+    let run = c.run_text-ended.result in
+    let shown = shown_of c.args.all c.args.ports in
+    fact_left (VouchesByPlantLine c.args.text.now) c.args.text.now shown run.answer run.log.items c.args.log.now c.len.result c.write_over.new.room
+    (vouches_by_plant_line shown c.args.text.now) c.run_text-ended.ensures
     (search rules) (c.write_over.ensures ∙ ap (written_over c.args.log.now) c.deref.ensures.value)

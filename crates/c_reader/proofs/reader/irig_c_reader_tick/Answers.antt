@@ -5,9 +5,6 @@ use Rattle.irig_reader.specs.declared.report.Report.{Report}
 use Rattle.irig_reader.specs.Rule.{state_of, step_of}
 use Rattle.irig_reader.proofs.OneEdge.{voted_seconds}
 use Rattle.irig_vote.specs.Vote.{vote_of}
-use Rattle.irig_time.specs.declared.rules.Rules.{Rules}
-use Rattle.irig_vote.specs.declared.votes.Tells.{Tells}
-use Rattle.irig_vote.specs.declared.redundancy.Redundancy.{Redundancy}
 use Rattle.c_numbers.specs.declared.reader.IrigReader.{IrigReader}
 use Rattle.c_numbers.specs.Numbers.{sense_in}
 use Rattle.c_reader.specs.Readers.{tells_in, IsAccepted, IsReaderOf}

@@ -9,4 +9,4 @@ returns-clause-fed c k h =
     let behind = subst (λ (l : IrigLine). IsBehindPulse c.args.rise_us c.args.width_us c.hear-place.result l c.hear-place.new.line) c.line_at-line.ensures
     (record { at = heard.place; line = heard.line; heard = heard.heard }) in
     one_more c.args.timekeeper.now c.set_line.new.timekeeper k c.args.port c.args.rise_us c.args.width_us c.hear-place.result c.hear-place.new.line
-    c.requires behind c.set_line.ensures.line c.set_line.ensures.sealed h
+    c.requires.1 behind c.set_line.ensures.line c.set_line.ensures.sealed h

@@ -8,6 +8,9 @@ use Rattle.c_numbers.specs.LeapTables.{table_in}
 use Rattle.c_numbers.specs.Setups.{limits_in, rules_in, reader_rules_in, IsSetup}
 use Rattle.c_keeper.specs.CheckWord.{check_of}
 use Rattle.c_keeper.specs.Lines.{lines_in}
+use Rattle.c_keeper.specs.Lives.{made_in}
+use Rattle.c_keeper.specs.Timekeepers.{clock_in}
+use Rattle.c_keeper.proofs.LivedLaws.{lived_new}
 use Rattle.c_keeper.proofs.ValueLaws.{none_announced}
 use Rattle.c_reader.proofs.timekeeper.irig_c_timekeeper_init.Goals as goal
 
@@ -32,6 +35,15 @@ returns-clause-fresh c done =
         is_state = inl (ap (λ (s : IrigState). s.kind) new.is_state);
         last = none_announced q.last new.last;
         before = none_announced q.before new.before;
+        absent = new.absent _;
         sealed = c.check_of-timekeeper.ensures;
       };
     }
+
+pub returns-clause-lived : goal.returns-clause-lived
+returns-clause-lived c done =
+    let q = c.forget.new.timekeeper in
+    let new = c.forget.ensures in
+    let made = made_in c.args.setup.now c.args.table.now c.args.drift_us in
+    let clock : clock_in (record q { check = c.check_of-timekeeper.result }) ≡ made.clock = search rules in
+    lived_new _ made _ new.lines clock (returns-clause-fresh c done)

@@ -1,4 +1,5 @@
-use Rattle.std.proofs.Common.{◌≡◌, ◌∙◌, ℕ, Bool, true, false, Option, sym, ap, subst, refl}
+use Rattle.std.proofs.Common.{◌≡◌, ◌∙◌, ◌∷◌, ◌++◌, ℕ, Bool, true, false, List, Option, sym, ap, subst, refl}
+use Rattle.irig_sync.specs.Lines.{Pulse}
 use Rattle.irig_reader.specs.declared.report.Report.{Report}
 use Rattle.irig_timekeeper.specs.declared.clock.Beat.{Beat}
 use Rattle.irig_timekeeper.specs.Keeping.{Keeping, nothing_heard}
@@ -8,10 +9,18 @@ use Rattle.irig_timekeeper.proofs.VotedLaws.{tick_voted}
 use Rattle.c_numbers.specs.declared.setup.IrigSetup.{IrigSetup}
 use Rattle.c_numbers.specs.declared.table.IrigTable.{IrigTable}
 use Rattle.c_numbers.specs.LeapTables.{table_in}
-use Rattle.c_numbers.specs.Setups.{limits_in, rules_in, IsSetup}
+use Rattle.c_numbers.specs.Numbers.{sense_in}
+use Rattle.c_numbers.specs.Setups.{limits_in, redundancy_in, rules_in, IsSetup}
 use Rattle.c_keeper.specs.CheckWord.{check_of}
+use Rattle.c_keeper.specs.Lines.{frames_in}
+use Rattle.c_keeper.specs.Lives.Moment.{Ticked}
 use Rattle.c_keeper.specs.Seconds.{IsSecondOf}
 use Rattle.c_keeper.specs.Timekeepers.{answer_in, clock_in, clock_state_in}
+use Rattle.c_keeper.proofs.AbsentLaws.{all_heard, pulses_there}
+use Rattle.c_keeper.proofs.AnnouncedLaws.{has_announced}
+use Rattle.c_keeper.proofs.LivedLaws.{lived_tick}
+use Rattle.c_keeper.proofs.LivesLaws.{tells_truly, tells_in_order, tells_calmly, tells_apart}
+use Rattle.c_keeper.proofs.StampedLaws.{lasts_as}
 use Rattle.c_keeper.proofs.ValueLaws.{answers_as, beat_of, clock_as, stands_as, steady_as}
 use Rattle.c_reader.proofs.timekeeper.irig_c_timekeeper_tick.Goals as goal
 
@@ -20,6 +29,9 @@ never h = absurd cc
 
 pub returns-then-not-is_accepted-clause-answered : goal.returns-then-not-is_accepted-clause-answered
 returns-then-not-is_accepted-clause-answered c k h = absurd (never (sym c.if-not-is_accepted.true ∙ c.is_accepted.ensures.1 h.accepted))
+
+pub returns-then-not-is_accepted-clause-answer : goal.returns-then-not-is_accepted-clause-answer
+returns-then-not-is_accepted-clause-answer c = (λ done. absurd cc, λ is. absurd (never (sym c.if-not-is_accepted.true ∙ c.is_accepted.ensures.1 is)))
 
 pub returns-then-not-is_accepted-clause-second : goal.returns-then-not-is_accepted-clause-second
 returns-then-not-is_accepted-clause-second c k h = absurd (never (sym c.if-not-is_accepted.true ∙ c.is_accepted.ensures.1 h.accepted))
@@ -53,20 +65,71 @@ returns-clause-after c k h =
         is_state = new.is_state;
         last = new.last;
         before = new.before;
+        absent = new.absent;
         sealed = c.check_of-timekeeper.ensures;
       };
     }
 
 pub returns-clause-truth : goal.returns-clause-truth
-returns-clause-truth c t d edges now pulses u done clock steady sound heard told voted says =
+returns-clause-truth c t d edges now pulses u done clock steady sound some told voted says =
     let numbers = c.args.timekeeper.now in
+    let IsTrue : List Pulse → Type 0 = IsTrueLately (rules_in numbers.setup) t edges now in
+    let heard = all_heard IsTrue numbers now pulses (λ ps is. record { line = is.line; next = is.next; is_line = is.is_line; are = tt }) (c.is_accepted.ensures.0 c.if-not-is_accepted.false).absent some in
     let k : Keeping = record { rules = rules_in numbers.setup; limits = limits_in numbers.setup; clock = clock_in numbers; table = table_in numbers.table; heard = nothing_heard; state = clock_state_in numbers } in
     let found = beat_of c.tick_accepted.result (answer_in numbers c.args.now_us) c.tick_accepted.ensures.said told in
     let beat = found.0 in (
       beat,
       found.1.told,
-      tick_voted (IsTrueLately k.rules t edges now) t edges 549 549 k now pulses beat u (λ end ps claim is frame soon. true_lately k.rules t d edges now end ps claim steady is frame soon) sound heard
+      tick_voted (IsTrueLately k.rules t edges now) t edges 549 549 k now (pulses_there (redundancy_in numbers.setup) pulses) beat u (λ end ps claim is frame soon. true_lately k.rules t d edges now end ps claim steady is frame soon) sound heard
           (ap (λ (x : ℕ). answer_in numbers x) (sym clock) ∙ found.1.is)
           (ap (λ (r : Report). r.cause) (sym found.1.told.report) ∙ voted)
           (ap (λ (r : Report). r.announce) (sym found.1.told.report) ∙ says),
     )
+
+pub returns-then-not-is_accepted-clause-lived : goal.returns-then-not-is_accepted-clause-lived
+returns-then-not-is_accepted-clause-lived c made past now h clock = absurd (never (sym c.if-not-is_accepted.true ∙ c.is_accepted.ensures.1 h.is.accepted))
+
+pub returns-then-not-is_accepted-clause-life : goal.returns-then-not-is_accepted-clause-life
+returns-then-not-is_accepted-clause-life c t edges made start now past u h clock = absurd (never (sym c.if-not-is_accepted.true ∙ c.is_accepted.ensures.1 h.is.accepted))
+
+pub returns-then-not-is_accepted-clause-order : goal.returns-then-not-is_accepted-clause-order
+returns-then-not-is_accepted-clause-order c t edges made start before now earlier later first u v h clock = absurd (never (sym c.if-not-is_accepted.true ∙ c.is_accepted.ensures.1 h.is.accepted))
+
+pub returns-then-not-is_accepted-clause-calm : goal.returns-then-not-is_accepted-clause-calm
+returns-then-not-is_accepted-clause-calm c t edges made start now past h clock = absurd (never (sym c.if-not-is_accepted.true ∙ c.is_accepted.ensures.1 h.is.accepted))
+
+pub returns-then-not-is_accepted-clause-apart : goal.returns-then-not-is_accepted-clause-apart
+returns-then-not-is_accepted-clause-apart c made start before now earlier later first h clock = absurd (never (sym c.if-not-is_accepted.true ∙ c.is_accepted.ensures.1 h.is.accepted))
+
+pub returns-clause-lived : goal.returns-clause-lived
+returns-clause-lived c made past now h clock =
+    let t = c.args.timekeeper.now in
+    lived_tick t _ made past c.args.now_us now c.tick_accepted.result (redundancy_in t.setup) (sense_in t.setup.sense) (frames_in t.lines)
+    c.tick_accepted.ensures.said c.tick_accepted.ensures.voices (returns-clause-second c) (returns-clause-after c) h clock
+
+pub returns-clause-life : goal.returns-clause-life
+returns-clause-life c t edges made start now past u h clock = tells_truly _ t edges made start now past c.tick_accepted.result u (returns-clause-lived c made past now h clock)
+
+pub returns-clause-order : goal.returns-clause-order
+returns-clause-order c t edges made start before now earlier later first u v h clock =
+    tells_in_order _ t edges made start before now earlier later first c.tick_accepted.result u v (returns-clause-lived c made (later ++ (Ticked before first ∷ earlier)) now h clock)
+
+pub returns-clause-calm : goal.returns-clause-calm
+returns-clause-calm c t edges made start now past h clock = tells_calmly _ t edges made start now past c.tick_accepted.result (returns-clause-lived c made past now h clock)
+
+pub returns-clause-apart : goal.returns-clause-apart
+returns-clause-apart c made start before now earlier later first h clock =
+    tells_apart _ made start before now earlier later first c.tick_accepted.result (returns-clause-lived c made (later ++ (Ticked before first ∷ earlier)) now h clock)
+
+pub returns-then-not-is_accepted-clause-held : goal.returns-then-not-is_accepted-clause-held
+returns-then-not-is_accepted-clause-held c made now past u h clock = absurd (never (sym c.if-not-is_accepted.true ∙ c.is_accepted.ensures.1 h.is.accepted))
+
+pub returns-clause-held : goal.returns-clause-held
+returns-clause-held c made now past u h clock = lasts_as _ made past now c.tick_accepted.result u (returns-clause-lived c made past now h clock)
+
+pub returns-then-not-is_accepted-clause-announces : goal.returns-then-not-is_accepted-clause-announces
+returns-then-not-is_accepted-clause-announces c t edges made start m most now moments before u h clock = absurd (never (sym c.if-not-is_accepted.true ∙ c.is_accepted.ensures.1 h.is.accepted))
+
+pub returns-clause-announces : goal.returns-clause-announces
+returns-clause-announces c t edges made start m most now moments before u h clock =
+    has_announced _ t edges made start m most (Ticked now c.tick_accepted.result ∷ moments) before u (returns-clause-lived c made (moments ++ before) now h clock)

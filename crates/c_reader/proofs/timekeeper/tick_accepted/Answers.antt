@@ -3,11 +3,13 @@ use Rattle.irig_time.specs.declared.claim.Claim.{Claim}
 use Rattle.irig_timekeeper.specs.declared.clock.ClockRules.{ClockRules}
 use Rattle.irig_timekeeper.specs.declared.clock.ClockState.{ClockState}
 use Rattle.irig_timekeeper.specs.Clock.{clock_after, clock_answer, clock_vote}
+use Rattle.irig_vote.specs.Vote.{ports_in}
+use Rattle.c_numbers.specs.declared.setup.IrigSetup.{IrigSetup}
 use Rattle.c_numbers.specs.LeapTables.{table_in}
 use Rattle.c_numbers.specs.Numbers.{sense_in}
 use Rattle.c_numbers.specs.Setups.{redundancy_in}
 use Rattle.c_numbers.specs.Voices.{voices_to}
-use Rattle.c_keeper.specs.Lines.{frames_in, AreKeptFrom}
+use Rattle.c_keeper.specs.Lines.{frames_in, AreKeptFrom, KeepNoMore}
 use Rattle.c_keeper.specs.Timekeepers.{clock_in, clock_state_in}
 use Rattle.c_keeper.proofs.KeptLaws.{kept_by_tick}
 use Rattle.c_keeper.proofs.ValueLaws.{valid_told}
@@ -36,3 +38,6 @@ returns-clause-voices c beat is =
     ∙ ap (λ (s : ClockState). clock_vote (clock_in t) s c.args.now_us) c.clock_state_of-state.ensures.is) in
     c.second_of-second.ensures.voices beat (answer ∙ is)
     ∙ ap (λ (v : Option Claim). voices_to v beat.told (redundancy_in t.setup) (sense_in t.setup.sense) (frames_in t.lines)) vote
+
+pub returns-clause-absent : goal.returns-clause-absent
+returns-clause-absent c = subst (λ (s : IrigSetup). KeepNoMore (ports_in (redundancy_in s)) c.keep.new.timekeeper.lines) (sym c.keep.ensures.setup) (c.keep.ensures.absent _ c.requires.absent)

@@ -7,7 +7,7 @@ use Rattle.irig_timekeeper.proofs.AnnounceLaws.{announces}
 use Rattle.irig_timekeeper.proofs.laws.a_device_announces.Goals as goal
 
 pub returns : goal.returns
-returns _ t edges made start m calls before u is order some enough past heard second =
+returns _ t edges made start m told calls before u is order some enough risen past heard second =
     announces (IsTrueLately made.rules t edges) t edges (device_of made) start (begins made.limits made.rules made.clock made.table made.lines start made.fresh) is
     (λ now end pulses claim is_true frame soon. true_lately made.rules t made.clock.drift_us edges now end pulses claim is.steady is_true frame soon)
-    refl m some enough before past calls heard order u second
+    refl m some enough before told risen past calls heard order u second

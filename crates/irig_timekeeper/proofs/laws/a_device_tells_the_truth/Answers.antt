@@ -1,8 +1,5 @@
-use Rattle.std.specs.Prelude.{nat_lt}
-use Rattle.std.proofs.Common.{◌≡◌, ℕ, ◌+◌, ◌*◌, ◌≤◌, Some, None, arith, inl, inr}
-use Rattle.std.proofs.lemmas.Bool.{cases_Bool, ltb-false}
+use Rattle.std.proofs.Common.{ℕ, ◌+◌, ◌≤◌, arith}
 use Rattle.std.proofs.Math.Nat.{mul-le-mul_left}
-use Rattle.irig_timekeeper.specs.declared.setup.ClockFault.TheVariants.{Drift, Holdover}
 use Rattle.irig_time.specs.declared.rules.Rules.{Rules}
 use Rattle.irig_time.specs.Timelines.{TimelineValue}
 use Rattle.irig_timekeeper.specs.Edges.{IsQuartz}
@@ -10,6 +7,8 @@ use Rattle.irig_timekeeper.specs.Lines.{IsTrueLately}
 use Rattle.irig_timekeeper.proofs.LineLaws.{true_lately}
 use Rattle.irig_timekeeper.proofs.TrackLaws.{tick_true}
 use Rattle.irig_timekeeper.proofs.LifeLaws.{TellAlwaysTruly, device_true, device_calm, device_in_order}
+use Rattle.irig_timekeeper.proofs.SetupLaws.{setup_is}
+use Rattle.irig_timekeeper.proofs.SinceLaws.{lasts_since}
 use Rattle.irig_timekeeper.proofs.laws.a_device_tells_the_truth.Goals as goal
 
 truly : (rules : Rules) (t : TimelineValue) (d : ℕ) (edges : ℕ → ℕ) → IsQuartz d edges → TellAlwaysTruly (IsTrueLately rules t edges) rules t edges 549 549
@@ -23,18 +22,15 @@ pub returns-clause-order : goal.returns-clause-order
 returns-clause-order _ t edges made start before now earlier later beat then u v lives answer says answers again =
     device_in_order made.limits made.rules made.clock made.table made.lines start made.fresh (IsTrueLately made.rules t edges) t edges 549 549 lives.is (omega arith) (truly made.rules t made.clock.drift_us edges lives.is.steady) earlier later before now beat then u v lives.order lives.truth answer says answers again
 
+pub returns-clause-held : goal.returns-clause-held
+returns-clause-held _ made now calls beat u answer says = lasts_since made calls now beat u answer says
+
 pub returns-clause-calm : goal.returns-clause-calm
 returns-clause-calm _ t edges made start now calls beat lives answer =
     device_calm made.limits made.rules made.clock made.table made.lines start made.fresh (IsTrueLately made.rules t edges) t edges 549 549 lives.is (omega arith) (truly made.rules t made.clock.drift_us edges lives.is.steady) calls now beat lives.order lives.truth answer
 
 pub returns-clause-setup : goal.returns-clause-setup
-returns-clause-setup _ rules d e = elim (cases_Bool (nat_lt 100 d)) [
-  | inl fast ↦ let both : Some Drift ≡ None = rw fast at e in absurd cc
-  | inr steady ↦ elim (cases_Bool (nat_lt 490000 ((rules.holdover + 2) * d))) [
-    | inl long ↦ let both : Some Holdover ≡ None = rw (steady, long) at e in absurd cc
-    | inr short ↦ (ltb-false 100 d steady, ltb-false 490000 ((rules.holdover + 2) * d) short)
-  ]
-]
+returns-clause-setup _ rules d e = setup_is rules d e
 
 pub returns-clause-half : goal.returns-clause-half
 returns-clause-half _ t d edges rules table far is few =

@@ -1,0 +1,201 @@
+-- What ticks of a life give C is what the laws of a device say of their answers.
+use Rattle.std.proofs.Common.{◌≡◌, ◌∙◌, ◌∷◌, ◌++◌, [], ◌%◌, ◌^◌, ◌≤◌, ℕ, List, Option, Some, None, refl, sym, ap, subst, arith, inl, inr}
+use Rattle.irig_sync.specs.Lines.{Pulse}
+use Rattle.irig_time.specs.declared.second.UtcSecond.{UtcSecond}
+use Rattle.irig_time.specs.declared.rules.Rules.{Rules}
+use Rattle.irig_time.specs.Timelines.{TimelineValue}
+use Rattle.irig_vote.specs.Vote.{f_of}
+use Rattle.irig_reader.specs.declared.report.Cause.TheVariants as cause
+use Rattle.irig_reader.specs.declared.report.Report.{Report}
+use Rattle.irig_timekeeper.specs.declared.clock.Beat.{Beat}
+use Rattle.irig_timekeeper.specs.declared.lines.Lines.{Lines}
+use Rattle.irig_timekeeper.specs.Clock.{lasted}
+use Rattle.irig_timekeeper.specs.Edges.{IsQuartz}
+use Rattle.irig_timekeeper.specs.Keeping.{Keeping, answer_at}
+use Rattle.irig_timekeeper.specs.Life.{Call, AreInOrder, AreTrueLately, AreTrueAtTicks, AreTrueOver, after_calls, device_of}
+use Rattle.irig_timekeeper.specs.Life.Call.{Hear, Tick}
+use Rattle.irig_timekeeper.specs.Lines.{IsTrueLately}
+use Rattle.irig_timekeeper.specs.Lived.{MadeOf, made_with}
+use Rattle.irig_timekeeper.specs.Steps.{AreNewLines}
+use Rattle.irig_timekeeper.specs.Truth.{IsToldInHoldover, IsLaterSecond, AreApartBeats}
+use Rattle.irig_timekeeper.specs.Healing as device
+use Rattle.irig_timekeeper.proofs.HealLaws.{healed, in_order, calm_since}
+use Rattle.irig_timekeeper.proofs.LifeLaws.{TellAlwaysTruly, begins, device_calm, device_in_order, device_true}
+use Rattle.irig_timekeeper.proofs.LineLaws.{true_lately}
+use Rattle.irig_timekeeper.proofs.OrderLaws.{edges_apart}
+use Rattle.c_numbers.specs.Reports.{report_in}
+use Rattle.c_keeper.specs.declared.second.IrigSecond.{IrigSecond}
+use Rattle.c_keeper.specs.declared.timekeeper.IrigTimekeeper.{IrigTimekeeper}
+use Rattle.c_keeper.specs.Lives.{Moment, HasLived, HaveTold, HasHealed, GoesOnTruly, beat_in, calls_of}
+use Rattle.c_keeper.specs.Lives.Moment.{Pulsed, Ticked}
+use Rattle.c_keeper.specs.Seconds.{IsSecondOf, IsToldOf}
+use Rattle.c_keeper.proofs.ValueLaws.{IsBeatOf, beat_of}
+
+-- ---- the calls of a past
+
+pub calls_more : (later earlier : List Moment) → calls_of (later ++ earlier) ≡ calls_of later ++ calls_of earlier
+calls_more [] earlier = refl
+calls_more (Pulsed line rise width ∷ later) earlier = ap (λ (calls : List Call). Hear line rise width ∷ calls) (calls_more later earlier)
+calls_more (Ticked now second ∷ later) earlier = ap (λ (calls : List Call). Tick now ∷ calls) (calls_more later earlier)
+
+pub told_before : (new : Keeping) (later earlier : List Moment) → HaveTold new (later ++ earlier) → HaveTold new earlier
+told_before new [] earlier told = told
+told_before new (Pulsed line rise width ∷ later) earlier told = told_before new later earlier told
+told_before new (Ticked now second ∷ later) earlier told = told_before new later earlier told.1
+
+-- at each tick of those and of these
+true_at_all : (IsTrue : ℕ → List Pulse → Type 0) (f : ℕ) (later earlier : List Call) → AreTrueOver IsTrue f later earlier → AreTrueAtTicks IsTrue f earlier → AreTrueAtTicks IsTrue f (later ++ earlier)
+true_at_all IsTrue f [] earlier over at = at
+true_at_all IsTrue f (Hear line rise width ∷ later) earlier over at = true_at_all IsTrue f later earlier over at
+true_at_all IsTrue f (Tick now ∷ later) earlier over at = (over.0, true_at_all IsTrue f later earlier over.1 at)
+
+-- ---- what a tick gave
+
+pub announced_beat : (s : IrigSecond) (answer : Option Beat) (u : UtcSecond) → IsSecondOf s answer → (report_in s.report).announce ≡ Some u → (beat : Beat) × IsBeatOf s answer beat
+announced_beat s None u nothing says =
+    let none : (report_in s.report).announce ≡ None = ap (λ (x : IrigSecond). (report_in x.report).announce) nothing in
+    absurd cc
+announced_beat s (Some beat) u is says = (beat, record { is = refl; told = is })
+
+jump_beat : (s : IrigSecond) (answer : Option Beat) → IsSecondOf s answer → (report_in s.report).cause ≡ cause.Jump → (beat : Beat) × IsBeatOf s answer beat
+jump_beat s None nothing jump =
+    let none : (report_in s.report).cause ≡ cause.Voted = ap (λ (x : IrigSecond). (report_in x.report).cause) nothing in
+    absurd cc
+jump_beat s (Some beat) is jump = (beat, record { is = refl; told = is })
+
+as_told : (s : IrigSecond) (beat : Beat) (t : TimelineValue) (edges : ℕ → ℕ) (early late d holdover now : ℕ) (u : UtcSecond) → IsToldOf s beat
+    → IsToldInHoldover t edges early late d holdover now beat u → IsToldInHoldover t edges early late d holdover now (beat_in s) u
+as_told s beat t edges early late d holdover now u same h = record {
+  far = h.far;
+  held = subst (λ (r : Report). h.far ≤ lasted r.lock) (sym same.report) h.held;
+  few = h.few;
+  told = record {
+    m = h.told.m;
+    edge = h.told.edge;
+    clock = same.edge_us ∙ h.told.clock;
+    near = h.told.near;
+    come = h.told.come;
+    soon = h.told.soon;
+    truth = h.told.truth;
+  };
+}
+
+pub truly : (rules : Rules) (t : TimelineValue) (d : ℕ) (edges : ℕ → ℕ) → IsQuartz d edges → TellAlwaysTruly (IsTrueLately rules t edges) rules t edges 549 549
+truly rules t d edges steady now end pulses claim is frame soon = true_lately rules t d edges now end pulses claim steady is frame soon
+
+module _ (t : TimelineValue) (edges : ℕ → ℕ) (made : MadeOf) (start : ℕ) (lines : Lines) (fresh : AreNewLines lines) where
+  abbrev pub new : Keeping
+  new = device_of (made_with made lines fresh)
+
+  -- it has healed as a device has
+  abbrev pub as_device : (past : List Moment) → HaveTold new past → HasHealed t edges made start past → device.HasHealed IsTrueLately t edges (made_with made lines fresh) start (calls_of past)
+  as_device past told h =
+      let mended = told_before new h.later (Ticked h.mend h.second ∷ h.earlier) (subst (HaveTold new) h.are told) in
+      let beat = beat_of h.second _ mended.0.is h.told in
+      let vote = mended.0.vote h.vote in
+      record {
+        is = h.is;
+        order = h.order;
+        later = calls_of h.later;
+        mend = h.mend;
+        earlier = calls_of h.earlier;
+        are = ap calls_of h.are ∙ calls_more h.later (Ticked h.mend h.second ∷ h.earlier);
+        vote = vote.0;
+        voted = vote.1;
+        beat = beat.0;
+        answer = beat.1.is;
+        truth = h.truth;
+        since = h.since;
+      }
+
+  healed_tells : (now : ℕ) (calls : List Call) (beat : Beat) (u : UtcSecond) → device.HasHealed IsTrueLately t edges (made_with made lines fresh) start calls
+      → AreInOrder start made.clock.redundancy (Tick now ∷ calls) → AreTrueLately (IsTrueLately made.rules t edges) (f_of made.clock.redundancy) now calls
+      → answer_at (after_calls new calls) (now % 2 ^ 32) ≡ Some beat → beat.report.announce ≡ Some u
+      → IsToldInHoldover t edges 1549 549 made.clock.drift_us made.clock.reader_rules.holdover now beat u
+  healed_tells now calls beat u h =
+      subst Tells (sym h.are) (λ order here answer says.
+      healed (IsTrueLately made.rules t edges) t edges 549 549 new start (begins made.limits made.rules made.clock made.table lines start fresh) tt h.is (omega arith)
+      (truly made.rules t made.clock.drift_us edges h.is.steady)
+      h.earlier h.later h.mend now h.vote h.beat beat u order h.truth (here, h.since) h.voted h.answer answer says)
+    where
+      Tells : List Call → Type 0
+      Tells calls = AreInOrder start made.clock.redundancy (Tick now ∷ calls) → AreTrueLately (IsTrueLately made.rules t edges) (f_of made.clock.redundancy) now calls
+          → answer_at (after_calls new calls) (now % 2 ^ 32) ≡ Some beat → beat.report.announce ≡ Some u
+          → IsToldInHoldover t edges 1549 549 made.clock.drift_us made.clock.reader_rules.holdover now beat u
+
+-- what is announced in a life is true
+pub tells_truly : (q : IrigTimekeeper) (t : TimelineValue) (edges : ℕ → ℕ) (made : MadeOf) (start now : ℕ) (past : List Moment) (s : IrigSecond) (u : UtcSecond) → HasLived q made (Ticked now s ∷ past)
+    → GoesOnTruly t edges made start now [] past → (report_in s.report).announce ≡ Some u
+    → IsToldInHoldover t edges 1549 549 made.clock.drift_us made.clock.reader_rules.holdover now (beat_in s) u
+tells_truly q t edges made start now past s u h g says =
+    let beat = announced_beat s _ u h.told.0.is says in
+    let announces = ap (λ (r : Report). r.announce) (sym beat.1.told.report) ∙ says in
+    as_told s beat.0 t edges 1549 549 made.clock.drift_us made.clock.reader_rules.holdover now u beat.1.told
+    (elim g.sound [
+      | inl well ↦ device_true made.limits made.rules made.clock made.table h.lines start h.fresh (IsTrueLately made.rules t edges) t edges 549 549 well.is (omega arith)
+          (truly made.rules t made.clock.drift_us edges well.is.steady) (calls_of past) now beat.0 u g.order (g.truth.0, well.truth) beat.1.is announces
+      | inr mended ↦ healed_tells t edges made start h.lines h.fresh now (calls_of past) beat.0 u (as_device t edges made start h.lines h.fresh past h.told.1 mended) g.order g.truth.0 beat.1.is announces
+    ])
+
+-- and no tick says `jump`
+pub tells_calmly : (q : IrigTimekeeper) (t : TimelineValue) (edges : ℕ → ℕ) (made : MadeOf) (start now : ℕ) (past : List Moment) (s : IrigSecond) → HasLived q made (Ticked now s ∷ past)
+    → GoesOnTruly t edges made start now [] past → ¬ ((report_in s.report).cause ≡ cause.Jump)
+tells_calmly q t edges made start now past s h g jump =
+    let beat = jump_beat s _ h.told.0.is jump in
+    let jumps = ap (λ (r : Report). r.cause) (sym beat.1.told.report) ∙ jump in
+    elim g.sound [
+      | inl well ↦ device_calm made.limits made.rules made.clock made.table h.lines start h.fresh (IsTrueLately made.rules t edges) t edges 549 549 well.is (omega arith)
+          (truly made.rules t made.clock.drift_us edges well.is.steady) (calls_of past) now beat.0 g.order (g.truth.0, well.truth) beat.1.is jumps
+      | inr mended ↦
+          let d = as_device t edges made start h.lines h.fresh past h.told.1 mended in
+          calm_since (IsTrueLately made.rules t edges) t edges 549 549 (new t edges made start h.lines h.fresh) start (begins made.limits made.rules made.clock made.table h.lines start h.fresh) tt d.is (omega arith)
+          (truly made.rules t made.clock.drift_us edges d.is.steady)
+          d.earlier d.mend d.vote d.beat d.truth d.voted d.answer d.later (calls_of past) now d.are d.since g.order g.truth.0 beat.0 beat.1.is jumps
+    ]
+
+-- a later tick announces a later second
+pub tells_in_order : (q : IrigTimekeeper) (t : TimelineValue) (edges : ℕ → ℕ) (made : MadeOf) (start before now : ℕ) (earlier later : List Moment) (first s : IrigSecond) (u v : UtcSecond)
+    → HasLived q made (Ticked now s ∷ (later ++ (Ticked before first ∷ earlier))) → GoesOnTruly t edges made start now later (Ticked before first ∷ earlier)
+    → (report_in first.report).announce ≡ Some u → (report_in s.report).announce ≡ Some v → IsLaterSecond t u v
+tells_in_order q t edges made start before now earlier later first s u v h g says then =
+    let made_new = new t edges made start h.lines h.fresh in
+    let joined = calls_more later (Ticked before first ∷ earlier) in
+    let told = told_before made_new later (Ticked before first ∷ earlier) h.told.1 in
+    let one = announced_beat first _ u told.0.is says in
+    let two = announced_beat s _ v h.told.0.is then in
+    let order = subst (λ (calls : List Call). AreInOrder start made.clock.redundancy (Tick now ∷ calls)) joined g.order in
+    let answers = subst (λ (calls : List Call). answer_at (after_calls made_new calls) (now % 2 ^ 32) ≡ Some two.0) joined two.1.is in
+    let says_one = ap (λ (r : Report). r.announce) (sym one.1.told.report) ∙ says in
+    let says_two = ap (λ (r : Report). r.announce) (sym two.1.told.report) ∙ then in
+    elim g.sound [
+      | inl well ↦ device_in_order made.limits made.rules made.clock made.table h.lines start h.fresh (IsTrueLately made.rules t edges) t edges 549 549 well.is (omega arith)
+          (truly made.rules t made.clock.drift_us edges well.is.steady) (calls_of earlier) (calls_of later) before now one.0 two.0 u v order
+          (true_at_all (IsTrueLately made.rules t edges) (f_of made.clock.redundancy) (Tick now ∷ calls_of later) (Tick before ∷ calls_of earlier) g.truth well.truth)
+          one.1.is says_one answers says_two
+      | inr mended ↦
+          let d = as_device t edges made start h.lines h.fresh (Ticked before first ∷ earlier) told mended in
+          in_order (IsTrueLately made.rules t edges) t edges 549 549 made_new start (begins made.limits made.rules made.clock made.table h.lines start h.fresh) tt d.is (omega arith)
+          (truly made.rules t made.clock.drift_us edges d.is.steady)
+          d.earlier d.mend d.vote d.beat d.truth d.voted d.answer d.later before (calls_of earlier) (calls_of later) now one.0 two.0 u v d.are d.since order g.truth one.1.is says_one answers says_two
+    ]
+
+-- the edges that are told lie apart, whatever lines carry
+pub tells_apart : (q : IrigTimekeeper) (made : MadeOf) (start before now : ℕ) (earlier later : List Moment) (first s : IrigSecond)
+    → HasLived q made (Ticked now s ∷ (later ++ (Ticked before first ∷ earlier))) → AreInOrder start made.clock.redundancy (Tick now ∷ calls_of (later ++ (Ticked before first ∷ earlier)))
+    → first.is_told ≡ 1 → s.is_told ≡ 1 → AreApartBeats before now (beat_in first) (beat_in s)
+tells_apart q made start before now earlier later first s h order is then =
+    let made_new = device_of (made_with made h.lines h.fresh) in
+    let joined = calls_more later (Ticked before first ∷ earlier) in
+    let told = told_before made_new later (Ticked before first ∷ earlier) h.told.1 in
+    let one = beat_of first _ told.0.is is in
+    let two = beat_of s _ h.told.0.is then in
+    let apart = edges_apart made_new start (begins made.limits made.rules made.clock made.table h.lines start h.fresh) refl (calls_of earlier) (calls_of later) before now one.0 two.0
+    (subst (λ (calls : List Call). AreInOrder start made.clock.redundancy (Tick now ∷ calls)) joined order) one.1.is
+    (subst (λ (calls : List Call). answer_at (after_calls made_new calls) (now % 2 ^ 32) ≡ Some two.0) joined two.1.is) in
+    record {
+      edge = apart.edge;
+      later = apart.later;
+      told = record { clock = one.1.told.edge_us ∙ apart.told.clock; come = apart.told.come; soon = apart.told.soon };
+      told_later = record { clock = two.1.told.edge_us ∙ apart.told_later.clock; come = apart.told_later.come; soon = apart.told_later.soon };
+      apart = apart.apart;
+    }

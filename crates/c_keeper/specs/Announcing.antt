@@ -1,0 +1,35 @@
+-- What has to come for a timekeeper in C to announce, and that it has.
+-- Source: this project's profile.
+use Rattle.std.specs.Prelude.{◌≡◌, ◌≤◌, ◌+◌, ℕ, List, ◌∷◌, ◌++◌}
+use Rattle.irig_time.specs.declared.second.UtcSecond.{UtcSecond}
+use Rattle.irig_time.specs.Timelines.{TimelineValue}
+use Rattle.irig_reader.specs.Locking.{voted_report}
+use Rattle.irig_timekeeper.specs.declared.lines.Lines.{Lines}
+use Rattle.irig_timekeeper.specs.Lines.{IsTrueLately}
+use Rattle.irig_timekeeper.specs.Lived.{MadeOf, made_with}
+use Rattle.irig_timekeeper.specs.Loops as device
+use Rattle.irig_timekeeper.specs.Steps.{AreNewLines}
+use Rattle.c_numbers.specs.Reports.{report_in}
+use Rattle.c_keeper.specs.declared.second.IrigSecond.{IrigSecond}
+use Rattle.c_keeper.specs.Lives.{Moment, calls_of}
+use Rattle.c_keeper.specs.Lives.Moment.{Ticked}
+
+-- as many seconds in a row as it locks after and two more, from the m-th on, come whole in these
+-- moments, which came behind those, of whatever lines on which nothing had come it was made
+abbrev pub ComeInARow : TimelineValue → (ℕ → ℕ) → MadeOf → ℕ → ℕ → List Moment → List Moment
+    → Type 0
+ComeInARow t edges made start m moments before =
+    (lines : Lines) (fresh : AreNewLines lines)
+    → device.ComeInARow IsTrueLately t edges (made_with made lines fresh) start m
+    (calls_of moments) (calls_of before)
+
+-- a tick of this past announced T(m), which is u, by a vote, 98 ms behind its edge at most
+pub record HasAnnounced (edges : ℕ → ℕ) (m : ℕ) (u : UtcSecond) (past : List Moment)
+    : Type 0 where
+  pub later : List Moment
+  pub now : ℕ
+  pub second : IrigSecond
+  pub earlier : List Moment
+  pub are : past ≡ later ++ (Ticked now second ∷ earlier)
+  pub soon : now ≤ edges m + 98000
+  pub says : report_in second.report ≡ voted_report u

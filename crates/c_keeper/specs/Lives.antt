@@ -1,0 +1,150 @@
+-- The life of a timekeeper as C knows it: what it was made of, the pulses that it was told, and what
+-- its ticks answered. Times are local ones, by a clock that does not wrap; C gives them by one of 32
+-- bits.
+-- Source: this library's own.
+use Rattle.std.specs.Prelude.{◌≡◌, ◌⊎◌, ◌+◌, ◌*◌, ◌%◌, ◌^◌, ◌==◌, if◌then◌else◌, ℕ, List, [], ◌∷◌, ◌++◌, Option, Some, ⊤}
+use Rattle.irig_time.specs.Timelines.{TimelineValue}
+use Rattle.irig_port.specs.declared.told.Told.TheVariants.{Silence}
+use Rattle.irig_vote.specs.Vote.{f_of}
+use Rattle.irig_timekeeper.specs.declared.clock.Beat.{Beat}
+use Rattle.irig_timekeeper.specs.declared.lines.KeptClaim.{KeptClaim}
+use Rattle.irig_timekeeper.specs.declared.lines.Lines.{Lines}
+use Rattle.irig_timekeeper.specs.declared.stamp.Stamp.{Stamp}
+use Rattle.irig_timekeeper.specs.Keeping.{Keeping, answer_at, vote_at}
+use Rattle.irig_timekeeper.specs.Life.{Call, AreInOrder, AreTrueLately, AreTrueOver, after_calls, device_of, life_of}
+use Rattle.irig_timekeeper.specs.Life.Call.{Hear, Tick}
+use Rattle.irig_timekeeper.specs.Lines.{IsTrueLately}
+use Rattle.irig_timekeeper.specs.Lived.{MadeOf, LivesWell, made_with}
+use Rattle.irig_timekeeper.specs.Since.{unless_voted}
+use Rattle.irig_timekeeper.specs.Steps.{AreNewLines, agreed, settled}
+use Rattle.irig_timekeeper.specs.Truth.{IsDevice}
+use Rattle.c_numbers.specs.declared.setup.IrigSetup.{IrigSetup}
+use Rattle.c_numbers.specs.declared.table.IrigTable.{IrigTable}
+use Rattle.c_numbers.specs.LeapTables.{table_in}
+use Rattle.c_numbers.specs.Reports.{report_in}
+use Rattle.c_numbers.specs.Setups.{limits_in, reader_rules_in, redundancy_in, rules_in}
+use Rattle.c_keeper.specs.declared.second.IrigSecond.{IrigSecond}
+use Rattle.c_keeper.specs.declared.timekeeper.IrigTimekeeper.{IrigTimekeeper}
+use Rattle.c_keeper.specs.Seconds.{IsSecondOf}
+use Rattle.c_keeper.specs.Timekeepers.{clock_state_in, IsTimekeeperOf}
+
+-- a pulse on a line: it rose then, and is so wide; or a tick, and the second that it gave
+pub data Moment : Type 0 where
+  Pulsed : (line rise width : ℕ) → Moment
+  Ticked : (now : ℕ) → (second : IrigSecond) → Moment
+
+-- the calls of a life, the newest first
+abbrev pub calls_of : List Moment → List Call
+calls_of [] = []
+calls_of (Pulsed line rise width ∷ past) = Hear line rise width ∷ calls_of past
+calls_of (Ticked now second ∷ past) = Tick now ∷ calls_of past
+
+-- what a timekeeper is made of by such a setup, table and drift
+abbrev pub made_in : IrigSetup → IrigTable → ℕ → MadeOf
+made_in setup table drift = record {
+  limits = limits_in setup;
+  rules = rules_in setup;
+  clock = record {
+    reader_rules = reader_rules_in setup;
+    redundancy = redundancy_in setup;
+    drift_us = drift;
+  };
+  table = table_in table;
+}
+
+-- what is said of a second, but for what each line told, which is not among its numbers
+abbrev pub beat_in : IrigSecond → Beat
+beat_in s = record {
+  report = report_in s.report;
+  told = record { a = Silence; b = Silence; c = Silence; d = Silence; e = Silence };
+  edge_us = s.edge_us;
+  missed = s.missed;
+  moved = s.moved;
+}
+
+-- ---- what nobody has to read: it is given by `irig_c_timekeeper_init`, and handed on by each call
+
+-- a tick of this value gives this second, by a vote if lines agreed
+pub record HasTold (k : Keeping) (now : ℕ) (second : IrigSecond) : Type 0 where
+  pub is : IsSecondOf second (answer_at k (now % 2 ^ 32))
+  pub vote : (second.report.agreed ≡ 0 → ⊥)
+      → (vote : KeptClaim) × (vote_at k (now % 2 ^ 32) ≡ Some vote)
+
+-- so did each tick of this past
+abbrev pub HaveTold : Keeping → List Moment → Type 0
+HaveTold new [] = ⊤
+HaveTold new (Pulsed line rise width ∷ past) = HaveTold new past
+HaveTold new (Ticked now second ∷ past) =
+    HasTold (after_calls new (calls_of past)) now second × HaveTold new past
+
+-- the timekeeper was made of this, and has this past since it was made or restarted, the newest first
+pub record HasLived (timekeeper : IrigTimekeeper) (made : MadeOf) (past : List Moment)
+    : Type 0 where
+  pub lines : Lines
+  pub fresh : AreNewLines lines
+  pub is : IsTimekeeperOf timekeeper (life_of (made_with made lines fresh) (calls_of past))
+  pub told : HaveTold (device_of (made_with made lines fresh)) past
+
+-- ---- lives in which what is announced is true
+
+-- one of its ticks told a second by a vote, as `agreed` says; at it and at each tick since, all but at
+-- most f lines were true. What came before may be anything
+pub record HasHealed (t : TimelineValue) (edges : ℕ → ℕ) (made : MadeOf) (start : ℕ)
+    (past : List Moment)
+    : Type 0 where
+  pub is : IsDevice t made.clock.drift_us edges made.clock.reader_rules made.table
+  pub order : AreInOrder start made.clock.redundancy (calls_of past)
+  pub later : List Moment
+  pub mend : ℕ
+  pub second : IrigSecond
+  pub earlier : List Moment
+  pub are : past ≡ later ++ (Ticked mend second ∷ earlier)
+  pub told : second.is_told ≡ 1
+  pub vote : second.report.agreed ≡ 0 → ⊥
+  pub truth : AreTrueLately (IsTrueLately made.rules t edges) (f_of made.clock.redundancy) mend
+      (calls_of earlier)
+  pub since : AreTrueOver (IsTrueLately made.rules t edges) (f_of made.clock.redundancy)
+      (calls_of later) (Tick mend ∷ calls_of earlier)
+
+-- a device is what its setup says, its calls are in order, and all but at most f lines were true at
+-- each tick, or at each since a vote
+abbrev pub IsSound : TimelineValue → (ℕ → ℕ) → MadeOf → ℕ → List Moment → Type 0
+IsSound t edges made start past =
+    LivesWell IsTrueLately t edges made start (calls_of past) ⊎ HasHealed t edges made start past
+
+-- calls go on in order to a tick at this time, and at it and at each tick of these moments, which came
+-- behind those, all but at most f lines are true
+pub record GoesOnTruly (t : TimelineValue) (edges : ℕ → ℕ) (made : MadeOf) (start now : ℕ)
+    (later past : List Moment)
+    : Type 0 where
+  pub sound : IsSound t edges made start past
+  pub order : AreInOrder start made.clock.redundancy (Tick now ∷ calls_of (later ++ past))
+  pub truth : AreTrueOver (IsTrueLately made.rules t edges) (f_of made.clock.redundancy)
+      (Tick now ∷ calls_of later) (calls_of past)
+
+-- ---- the bound of a stamp
+
+-- the seconds that were counted since one was announced by a vote, by what the ticks of a past gave
+abbrev pub since_vote : List Moment → ℕ
+since_vote [] = 0
+since_vote (Pulsed line rise width ∷ past) = since_vote past
+since_vote (Ticked now second ∷ past) =
+    if second.is_told == 0 then since_vote past
+    else unless_voted (report_in second.report).cause (since_vote past + second.missed + 1)
+
+-- a tick of that past announced the second of the stamp, whose bound is 1.549 ms and the drift of each
+-- second that had been counted by then since a vote
+pub record HasItsBound (made : MadeOf) (past : List Moment) (stamp : Stamp) : Type 0 where
+  pub later : List Moment
+  pub now : ℕ
+  pub second : IrigSecond
+  pub earlier : List Moment
+  pub are : past ≡ later ++ (Ticked now second ∷ earlier)
+  pub says : (report_in second.report).announce ≡ Some stamp.second
+  pub bound : stamp.bound_us ≡ 1549 + since_vote (Ticked now second ∷ earlier) * made.clock.drift_us
+
+-- ---- how long to wait
+
+-- the frame on which its lines agree at this time, whether its end has come or not
+abbrev pub agreed_in : IrigTimekeeper → ℕ → Option KeptClaim
+agreed_in t now = agreed (f_of (redundancy_in t.setup)) (settled now (clock_state_in t).lines)

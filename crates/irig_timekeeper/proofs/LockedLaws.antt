@@ -1,0 +1,180 @@
+-- What a tick leaves that announces by a vote, and what a device says that then hears nothing.
+use Rattle.std.specs.Prelude.{◌==◌, ◌&&◌}
+use Rattle.std.proofs.Common.{◌≡◌, ◌∙◌, ℕ, zero, suc, ◌+◌, ◌-◌, ◌<◌, ◌≤◌, false, Option, Some, None, Ok, refl, sym, ap, subst, arith, inl, inr}
+use Rattle.std.proofs.lemmas.Bool.{cases_Bool}
+use Rattle.irig_time.specs.declared.second.UtcSecond.{UtcSecond}
+use Rattle.irig_time.specs.declared.claim.Claim.{Claim}
+use Rattle.irig_time.specs.Tables.{TableValue, spoken_mark}
+use Rattle.irig_time.specs.Next.{next_of}
+use Rattle.irig_time.specs.Timelines.{TimelineValue, IsSecond}
+use Rattle.irig_time.specs.TimelineFaults.{IsTimeline}
+use Rattle.irig_hold.specs.declared.hold.Turn.TheVariants as turn
+use Rattle.irig_hold.specs.Steps.{HoldValue, Outcome, hold_after, hold_or_stop, outcome_of, voted_by, alone_by, mark_or}
+use Rattle.irig_hold.specs.Truth.{IsTrueTable, IsOnTime}
+use Rattle.irig_hold.proofs.HoldLaws.{stop_is_no_now, alone_goes, alone_true}
+use Rattle.irig_reader.specs.declared.rules.ReaderRules.{ReaderRules}
+use Rattle.irig_reader.specs.declared.rule.State.{State}
+use Rattle.irig_reader.specs.declared.rule.State.TheVariants.{Locked}
+use Rattle.irig_reader.specs.declared.rule.Step.{Step}
+use Rattle.irig_reader.specs.declared.report.Report.{Report}
+use Rattle.irig_reader.specs.declared.report.Lock.TheVariants as lock
+use Rattle.irig_reader.specs.Locking.{voted_report}
+use Rattle.irig_reader.specs.Rule.{count_step, holdover_step, step_of}
+use Rattle.irig_reader.proofs.StepCases.{count_cases, vote_cases, none_cases}
+use Rattle.irig_vote.specs.Vote.{f_of}
+use Rattle.irig_timekeeper.specs.declared.clock.Beat.{Beat}
+use Rattle.irig_timekeeper.specs.declared.clock.ClockRules.{ClockRules}
+use Rattle.irig_timekeeper.specs.declared.clock.ClockState.{ClockState}
+use Rattle.irig_timekeeper.specs.declared.lines.KeptClaim.{KeptClaim}
+use Rattle.irig_timekeeper.specs.declared.lines.Lines.{Lines}
+use Rattle.irig_timekeeper.specs.Counting.{edges_own, edges_to_vote, edge_behind}
+use Rattle.irig_timekeeper.specs.Steps.{settled, taken, agreed, if_come}
+use Rattle.irig_timekeeper.specs.Rule.{missed, step_behind}
+use Rattle.irig_timekeeper.specs.Clock.{beat_by, step_to, after_vote, answer_to_vote, after_own, answer_alone, own_edge, clock_by, answer_by, settled_at}
+use Rattle.irig_timekeeper.specs.Keeping.{Keeping, vote_at, after_tick, answer_at}
+use Rattle.irig_timekeeper.proofs.SinceLaws.{begun_age, voted_age}
+
+-- ---- a step that announces by a vote
+
+-- it is locked, and its hold has just come to that second
+record IsLockedAt (u : UtcSecond) (s : State) : Type 0 where
+  h : HoldValue
+  is : s ≡ Locked h
+  last : h.last ≡ u
+  age : h.age ≡ 0
+
+IfAnnounced : UtcSecond → Step → Type 0
+IfAnnounced u step = step.report.announce ≡ Some u → IsLockedAt u step.state
+
+module _ (rules : ReaderRules) (table : TableValue) where
+  counted : (u : UtcSecond) (h : HoldValue) (count : ℕ) → h.age ≡ 0 → IfAnnounced u (count_step rules h count)
+  unfolding IfAnnounced
+  counted u h count young = count_cases (IfAnnounced u) rules h count (λ enough says. (let same : h.last ≡ u = cc in record { h = h; is = refl; last = same; age = young })) (λ more says. absurd cc)
+
+  -- what a hold answers, it has come to
+  answered : (h : HoldValue) (from : UtcSecond) (age : ℕ) (c : Claim) (o : Option UtcSecond) (w : UtcSecond) → (outcome_of h (hold_or_stop from age (mark_or c.mark h.heard) o)).answer ≡ turn.Now w → (outcome_of h (hold_or_stop from age (mark_or c.mark h.heard) o)).new.last ≡ w
+  answered h from age c None w e = absurd (stop_is_no_now from.day w e)
+  answered h from age c (Some v) w e = cc
+
+  voted_last : (h : HoldValue) (c : Claim) (w : UtcSecond) → (voted_by table h c).answer ≡ turn.Now w → (voted_by table h c).new.last ≡ w
+  voted_last h c w e = elim (cases_Bool ((c.at.day == h.last.day) && (c.at.sod == h.last.sod))) [
+    | inl for ↦ rw for (answered h h.last 0 c (next_of h.last (spoken_mark table (mark_or c.mark h.heard) h.last.day)) w (rw for at e))
+    | inr other ↦ let jump : turn.Jump ≡ turn.Now w = rw other at e in absurd cc
+  ]
+
+  voted_locks : (u : UtcSecond) (s : State) (c : Claim) → IfAnnounced u (step_of rules table s (Some c))
+  unfolding IfAnnounced
+  voted_locks u s c =
+      vote_cases (IfAnnounced u) rules table s c (λ h e. counted u h 1 (begun_age c.at c.mark (next_of c.at (spoken_mark table c.mark c.at.day)) h e)) (λ stop says. absurd cc)
+      (λ h count w is e. counted u (voted_by table h c).new (count + 1) (voted_age table h c w e))
+      (λ h w is e says. (let same : w ≡ u = cc in record { h = (voted_by table h c).new; is = refl; last = voted_last h c w e ∙ same; age = voted_age table h c w e }))
+
+  -- without a vote none is so
+  never_alone : (u : UtcSecond) (s : State) → ¬ ((step_of rules table s None).report ≡ voted_report u)
+  never_alone u s = none_cases (λ step. ¬ (step.report ≡ voted_report u)) rules table s (λ c e. (let no : None ≡ Some u = ap (λ (r : Report). r.announce) e in cc)) (λ h w is e says. (let other : lock.Holdover (alone_by table h rules.holdover).new.age ≡ lock.Locked = ap (λ (r : Report). r.lock) says in cc))
+
+-- ---- a tick that does
+
+pub record IsLeft (u : UtcSecond) (beat : Beat) (new : ClockState) : Type 0 where
+  pub h : HoldValue
+  pub reader : new.reader ≡ Locked h
+  pub last : h.last ≡ u
+  pub age : h.age ≡ 0
+  pub edge : new.edge_us ≡ Some beat.edge_us
+  pub lines : Lines
+  pub dark : new.lines ≡ taken lines
+
+module _ (c : ClockRules) (table : TableValue) (s : ClockState) (u : UtcSecond) (beat : Beat) (says : beat.report ≡ voted_report u) where
+  left_alone : (n : ℕ) → answer_alone c table s n ≡ Some beat → IsLeft u beat (after_own c table s n)
+  left_alone n e = elim (cases_Bool (n == 0)) [
+    | inl none ↦ let no : None ≡ Some beat = rw none at e in absurd cc
+    | inr some ↦
+        let is : Some (beat_by s (step_to c table s n None) (n - 1) (own_edge s.edge_us n)) ≡ Some beat = rw some at e in
+        let same : beat_by s (step_to c table s n None) (n - 1) (own_edge s.edge_us n) ≡ beat = cc in
+        absurd (never_alone c.reader_rules table u (missed c.reader_rules table (n - 1) s.reader) (ap (λ (b : Beat). b.report) same ∙ says))
+  ]
+
+  left_voted : (v : KeptClaim) (n : ℕ) → answer_to_vote c table s v n ≡ Some beat → IsLeft u beat (after_vote c table s v n)
+  unfolding IfAnnounced
+  left_voted v n e = elim (cases_Bool (n == 0)) [
+    | inl none ↦ let no : None ≡ Some beat = rw none at e in absurd cc
+    | inr some ↦
+        let is : Some (beat_by s (step_to c table s n (Some v.claim)) (n - 1) v.end_us) ≡ Some beat = rw some at e in
+        let same : beat_by s (step_to c table s n (Some v.claim)) (n - 1) v.end_us ≡ beat = cc in
+        let locked = voted_locks c.reader_rules table u (missed c.reader_rules table (n - 1) s.reader) v.claim (ap (λ (b : Beat). b.report.announce) same ∙ ap (λ (r : Report). r.announce) says) in
+        rw some (record { h = locked.h; reader = locked.is; last = locked.last; age = locked.age; edge = ap (λ (b : Beat). Some b.edge_us) same; lines = s.lines; dark = refl })
+  ]
+
+pub left_by : (k : Keeping) (clock : ℕ) (u : UtcSecond) (beat : Beat) → answer_at k clock ≡ Some beat → beat.report ≡ voted_report u → IsLeft u beat (after_tick k clock).state
+left_by k clock u beat answer says = of (vote_at k clock) answer
+  where
+    s : ClockState
+    s = settled_at k.state clock
+
+    of : (o : Option KeptClaim) → answer_by k.clock k.table s clock o ≡ Some beat → IsLeft u beat (clock_by k.clock k.table s clock o)
+    of None e = left_alone k.clock k.table s u beat says (edges_own k.state.edge_us clock) e
+    of (Some v) e = left_voted k.clock k.table s u beat says v (edges_to_vote k.state.edge_us v.end_us) e
+
+-- ---- a tick of dark lines, so many seconds later
+
+pub record SaysAlone (k : Keeping) (clock e n : ℕ) (u : UtcSecond) : Type 0 where
+  pub beat : Beat
+  pub answer : answer_at k clock ≡ Some beat
+  pub says : beat.report.announce ≡ Some u
+  pub edge : beat.edge_us ≡ edge_behind e (suc n)
+
+pub says_alone : (k : Keeping) (clock e n : ℕ) (u : UtcSecond) (lines : Lines) → k.state.lines ≡ taken lines → k.state.edge_us ≡ Some e → edges_own (Some e) clock ≡ suc n
+    → (step_behind k.clock.reader_rules k.table n k.state.reader None).report.announce ≡ Some u → SaysAlone k clock e n u
+says_alone k clock e n u lines dark edge count says =
+    let s : ClockState = settled_at k.state clock in
+    let none : vote_at k clock ≡ None = ap (λ (x : Lines). if_come clock (agreed (f_of k.clock.redundancy) (settled clock x))) dark in
+    let so_many : edges_own k.state.edge_us clock ≡ suc n = ap (λ (o : Option ℕ). edges_own o clock) edge ∙ count in
+    let less : suc n - 1 ≡ n = omega arith in
+    let some : (suc n == 0) ≡ false = grind arith in
+    let counted_on : answer_alone k.clock k.table s (suc n) ≡ Some (beat_by s (step_to k.clock k.table s (suc n) None) (suc n - 1) (own_edge k.state.edge_us (suc n))) = rw some refl in
+    let step : (step_to k.clock k.table s (suc n) None).report.announce ≡ Some u = ap (λ (m : ℕ). (step_behind k.clock.reader_rules k.table m k.state.reader None).report.announce) less ∙ says in
+    record {
+      beat = beat_by s (step_to k.clock k.table s (suc n) None) (suc n - 1) (own_edge k.state.edge_us (suc n));
+      answer = ap (answer_by k.clock k.table s clock) none ∙ ap (answer_alone k.clock k.table s) so_many ∙ counted_on;
+      says = step;
+      edge = ap (λ (o : Option ℕ). own_edge o (suc n)) edge;
+    }
+
+-- ---- seconds that a locked reader counts alone
+
+pub record IsAloneAt (t : TimelineValue) (n age : ℕ) (s : State) : Type 0 where
+  pub h : HoldValue
+  pub is : s ≡ Locked h
+  pub on_time : IsOnTime t n h
+  pub age_is : h.age ≡ age
+
+module _ (rules : ReaderRules) (table : TableValue) (t : TimelineValue) (sound : IsTimeline t) (true_table : IsTrueTable t table) where
+  one_alone : (n age : ℕ) (s : State) (v : UtcSecond) → IsAloneAt t n age s → IsSecond t (n + 1) v → age < rules.holdover → ((h : HoldValue) → IsOnTime t n h → h.last.day ≤ table.until)
+      → IsAloneAt t (n + 1) (age + 1) (step_of rules table s None).state × ((step_of rules table s None).report.announce ≡ Some v)
+  unfolding step_of
+  one_alone n age s v at second young known =
+      let h = at.h in
+      let goes = alone_goes t table n rules.holdover h v sound true_table at.on_time second (omega (arith, at.age_is, young)) (λ guarded. (let above = guarded.above in omega (arith, above, known h at.on_time))) in
+      let step : step_of rules table s None ≡ holdover_step (outcome_of h (Ok (hold_after h.last (h.age + 1) h.heard v))) = ap (λ (x : State). step_of rules table x None) at.is ∙ ap holdover_step goes in
+      let come = alone_true t table n rules.holdover h v sound true_table at.on_time (ap (λ (o : Outcome). o.answer) goes) in
+      let new : IsOnTime t (n + 1) (hold_after h.last (h.age + 1) h.heard v) = subst (λ (o : Outcome). IsOnTime t (n + 1) o.new) goes come.on_time in (
+        record { h = hold_after h.last (h.age + 1) h.heard v; is = ap (λ (x : Step). x.state) step; on_time = new; age_is = omega (arith, at.age_is) },
+        ap (λ (x : Step). x.report.announce) step,
+      )
+
+  -- many
+  pub many_alone : (n j : ℕ) (s : State) (second : ℕ → UtcSecond) → IsAloneAt t n 0 s → j < rules.holdover → ((i : ℕ) → i ≤ suc j → IsSecond t (n + i) (second i))
+      → ((i : ℕ) (h : HoldValue) → i ≤ j → IsOnTime t (n + i) h → h.last.day ≤ table.until)
+      → IsAloneAt t (n + j) j (missed rules table j s) × ((step_behind rules table j s None).report.announce ≡ Some (second (suc j)))
+  many_alone n j s second at young seconds known =
+      let all = upto j (omega arith) in
+      let next : n + suc j ≡ n + j + 1 = omega arith in
+      (all, (one_alone (n + j) j (missed rules table j s) (second (suc j)) all (subst (λ (m : ℕ). IsSecond t m (second (suc j))) next (seconds (suc j) (omega arith))) young (λ h. known j h (omega arith))).1)
+    where
+      upto : (i : ℕ) → i ≤ j → IsAloneAt t (n + i) i (missed rules table i s)
+      upto zero low = let none : n ≡ n + 0 = omega arith in subst (λ (m : ℕ). IsAloneAt t m 0 s) none at
+      upto (suc i) low =
+          let next : n + i + 1 ≡ n + suc i = omega arith in
+          let one : i + 1 ≡ suc i = omega arith in
+          let step = (one_alone (n + i) i (missed rules table i s) (second (suc i)) (upto i (omega (arith, low))) (subst (λ (m : ℕ). IsSecond t m (second (suc i))) (sym next) (seconds (suc i) (omega (arith, low)))) (omega (arith, low, young)) (λ h. known i h (omega (arith, low)))).0 in
+          subst (λ (m : ℕ). IsAloneAt t m (suc i) (missed rules table (suc i) s)) next (subst (λ (m : ℕ). IsAloneAt t (n + i + 1) m (missed rules table (suc i) s)) one step)

@@ -1,0 +1,115 @@
+-- How long a device waits at most, in a life in order.
+use Rattle.std.specs.Prelude.{nat_lt}
+use Rattle.std.proofs.Common.{◌≡◌, ◌∷◌, ◌++◌, [], ◌+◌, ◌%◌, ◌^◌, ◌<◌, ◌≤◌, ℕ, Bool, true, false, cond, List, Option, Some, None, refl, sym, subst, arith, append-nil}
+use Rattle.std.proofs.lemmas.Bool.{ltb-false, ltb-true}
+use Rattle.irig_sync.specs.Lines.{Pulse}
+use Rattle.irig_sync.specs.Sync.{clock_gap}
+use Rattle.irig_time.specs.declared.rules.Rules.{Rules}
+use Rattle.irig_vote.specs.Vote.{f_of}
+use Rattle.irig_timekeeper.specs.declared.lines.KeptClaim.{KeptClaim}
+use Rattle.irig_timekeeper.specs.declared.lines.Lines.{Lines}
+use Rattle.irig_timekeeper.specs.Counting.{is_late}
+use Rattle.irig_timekeeper.specs.Keeping.{Keeping, wait_at}
+use Rattle.irig_timekeeper.specs.Life.{Call, Made, AreInOrder, after_calls, device_of, last_tick, life_of, pulses_on}
+use Rattle.irig_timekeeper.specs.Life.Call.{Tick}
+use Rattle.irig_timekeeper.specs.Lines.{IfKept}
+use Rattle.irig_timekeeper.specs.Steps.{agreed, all_kept, claim_kept, line_at, settled, still_kept, until, wait_by}
+use Rattle.irig_timekeeper.specs.Truth.{IfEdgeAt}
+use Rattle.irig_timekeeper.proofs.AgreeLaws.{EachKept, is_one}
+use Rattle.irig_timekeeper.proofs.LifeLaws.{AreLinesAt, begins, lines_after}
+use Rattle.irig_timekeeper.proofs.OrderLaws.{IsPaced, paced_on}
+use Rattle.irig_timekeeper.proofs.VoteLaws.{one_more, still}
+
+-- ---- the last edge, in a life
+
+pub edge_in_life : (made : Made) (start : ℕ) (calls : List Call) → AreInOrder start made.clock.redundancy calls → IfEdgeAt (life_of made calls).state.edge_us (last_tick start calls)
+edge_in_life made start calls order = of (life_of made calls).state.edge_us paced
+  where
+    new : Keeping
+    new = device_of made
+
+    begun : AreLinesAt (device_of made) (device_of made) (λ i. []) start start
+    begun = begins made.limits made.rules made.clock made.table made.lines start made.fresh
+
+    none : calls ++ [] ≡ calls
+    none = append-nil calls
+
+    paced : IsPaced (device_of made) start begun 0 calls (life_of made calls).state.edge_us
+    paced = subst (λ (x : List Call). IsPaced (device_of made) start begun 0 x (after_calls (device_of made) x).state.edge_us) none
+        (paced_on (device_of made) start begun 0 [] refl calls (subst (AreInOrder start made.clock.redundancy) (sym none) order))
+
+    of : (o : Option ℕ) → IsPaced (device_of made) start begun 0 calls o → IfEdgeAt o (last_tick start calls)
+    of None h = tt
+    of (Some e) h = (h.0, h.1)
+
+-- ---- the frame on which lines agree is not late
+
+IsTimely : ℕ → KeptClaim → Type 0
+IsTimely clock y = (is_late y.end_us clock ≡ false) × (y.end_us < 2 ^ 32)
+
+of_clock : (EndsSo : ℕ → Type 0) (rules : Rules) (kept : Option KeptClaim) (pulses : List Pulse) (y : KeptClaim) → IfKept EndsSo rules kept pulses → kept ≡ Some y → y.end_us < 2 ^ 32
+of_clock EndsSo rules None pulses y h e = absurd cc
+of_clock EndsSo rules (Some x) pulses y h e =
+    let same : x ≡ y = cc in
+    subst (λ (v : KeptClaim). v.end_us < 2 ^ 32) same (omega (arith, h.1))
+
+until_end : (end now : ℕ) → is_late end (now % 2 ^ 32) ≡ false → end < 2 ^ 32 → until (now % 2 ^ 32) end ≤ 10000
+until_end end now timely few = of (nat_lt (clock_gap (now % 2 ^ 32) end) (2 ^ 31)) refl
+  where
+    near : (end now : ℕ) → end < 2 ^ 32 → now < 2 ^ 32 → (clock_gap end now + 10000) % 2 ^ 32 ≤ 110000 → clock_gap now end < 2 ^ 31 → clock_gap now end ≤ 10000
+    near end now few clock timely low = omega (arith, few, clock, timely, low)
+
+    of : (test : Bool) → nat_lt (clock_gap (now % 2 ^ 32) end) (2 ^ 31) ≡ test → cond test (clock_gap (now % 2 ^ 32) end) 0 ≤ 10000
+    of true e = near end (now % 2 ^ 32) few (omega arith) (ltb-false 110000 ((clock_gap end (now % 2 ^ 32) + 10000) % 2 ^ 32) timely) (ltb-true (clock_gap (now % 2 ^ 32) end) (2 ^ 31) e)
+    of false e = omega arith
+
+until_edge : (e edge now : ℕ) → e ≡ edge % 2 ^ 32 → edge ≤ now → now ≤ edge + 1801005000 → until (now % 2 ^ 32) ((e + 1005000) % 2 ^ 32) ≤ 1005000
+until_edge e edge now clock come soon = of (nat_lt (clock_gap (now % 2 ^ 32) ((e + 1005000) % 2 ^ 32)) (2 ^ 31)) refl
+  where
+    near : (e edge now : ℕ) → e ≡ edge % 2 ^ 32 → edge ≤ now → now ≤ edge + 1801005000 → clock_gap (now % 2 ^ 32) ((e + 1005000) % 2 ^ 32) < 2 ^ 31 → clock_gap (now % 2 ^ 32) ((e + 1005000) % 2 ^ 32) ≤ 1005000
+    near e edge now clock come soon low = omega (arith, clock, come, soon, low)
+
+    of : (test : Bool) → nat_lt (clock_gap (now % 2 ^ 32) ((e + 1005000) % 2 ^ 32)) (2 ^ 31) ≡ test → cond test (clock_gap (now % 2 ^ 32) ((e + 1005000) % 2 ^ 32)) 0 ≤ 1005000
+    of true h = near e edge now clock come soon (ltb-true (clock_gap (now % 2 ^ 32) ((e + 1005000) % 2 ^ 32)) (2 ^ 31) h)
+    of false h = omega arith
+
+-- ---- a wait
+
+module _ (made : Made) (start now : ℕ) (calls : List Call) (order : AreInOrder start made.clock.redundancy (Tick now ∷ calls)) where
+  abbrev k : Keeping
+  k = life_of made calls
+
+  abbrev f : ℕ
+  f = f_of (life_of made calls).clock.redundancy
+
+  abbrev lines : Lines
+  lines = settled (now % 2 ^ 32) (life_of made calls).state.lines
+
+  timely : (i : ℕ) → i < 5 → (y : KeptClaim) → claim_kept (still_kept (now % 2 ^ 32) (line_at (life_of made calls).state.lines i).frame) ≡ Some y → IsTimely (now % 2 ^ 32) y
+  unfolding IsTimely
+  timely i low y e =
+      let l = lines_after (device_of made) start (begins made.limits made.rules made.clock made.table made.lines start made.fresh) calls now order in
+      let kept = still (now % 2 ^ 32) (line_at (life_of made calls).state.lines i).frame y e in
+      (kept.1, of_clock _ _ _ (pulses_on i calls) y (l.lines i low).kept kept.0)
+
+  each_timely : EachKept (IsTimely (now % 2 ^ 32)) (all_kept lines)
+  each_timely = one_more (IsTimely (now % 2 ^ 32)) _ _ (timely 0 (omega arith))
+      (one_more (IsTimely (now % 2 ^ 32)) _ _ (timely 1 (omega arith))
+      (one_more (IsTimely (now % 2 ^ 32)) _ _ (timely 2 (omega arith))
+      (one_more (IsTimely (now % 2 ^ 32)) _ _ (timely 3 (omega arith))
+      (one_more (IsTimely (now % 2 ^ 32)) _ _ (timely 4 (omega arith)) tt))))
+
+  timely_vote : (v : KeptClaim) → agreed f lines ≡ Some v → IsTimely (now % 2 ^ 32) v
+  timely_vote v e = (is_one (IsTimely (now % 2 ^ 32)) f (all_kept lines) (all_kept lines) v each_timely e).1
+
+  by_vote : (v : KeptClaim) → IsTimely (now % 2 ^ 32) v → until (now % 2 ^ 32) v.end_us ≤ 1005000
+  unfolding IsTimely
+  by_vote v is = omega (arith, until_end v.end_us now is.0 is.1)
+
+  of : (o : Option ℕ) → IfEdgeAt o (last_tick start calls) → (v : Option KeptClaim) → agreed f lines ≡ v → wait_by (now % 2 ^ 32) o v ≤ 1005000
+  of o at (Some v) e = by_vote v (timely_vote v e)
+  of None at None e = omega arith
+  of (Some edge) at None e = until_edge edge at.0 now at.1.clock (omega (arith, at.1.come, order.0)) (omega (arith, at.1.soon, order.1))
+
+  pub waits_at_most : wait_at (life_of made calls) (now % 2 ^ 32) ≤ 1005000
+  waits_at_most = of k.state.edge_us (edge_in_life made start calls order.3) (agreed f lines) refl

@@ -1,0 +1,336 @@
+-- A device that ticks when `wait` says announces.
+use Rattle.std.specs.Prelude.{◌==◌, nat_lt, nat_le, count_by}
+use Rattle.std.proofs.Common.{◌≡◌, ◌∙◌, ◌⊎◌, ℕ, ◌+◌, ◌-◌, ◌%◌, ◌^◌, ◌<◌, ◌≤◌, Bool, true, false, cond, List, [], ◌∷◌, ◌++◌, Option, Some, None, refl, sym, ap, subst, arith, inl, inr}
+use Rattle.std.proofs.lemmas.Bool.{cases_Bool, cases_lt, ltb-true, leb-true, leb-false}
+use Rattle.std.proofs.lemmas.List.{append_assoc}
+use Rattle.irig_sync.specs.Sync.{clock_gap}
+use Rattle.irig_sync.specs.Lines.{Pulse, IsAfter}
+use Rattle.irig_time.specs.declared.second.UtcSecond.{UtcSecond}
+use Rattle.irig_time.specs.Timelines.{IsSecond, TimelineValue}
+use Rattle.irig_vote.specs.Vote.{f_of, ports_in}
+use Rattle.irig_time.specs.Claims.{same_claim}
+use Rattle.irig_timekeeper.specs.declared.lines.KeptClaim.{KeptClaim}
+use Rattle.irig_timekeeper.specs.declared.lines.Lines.{Lines}
+use Rattle.irig_timekeeper.specs.declared.clock.ClockRules.{ClockRules}
+use Rattle.irig_timekeeper.specs.Edges.{IsQuartz}
+use Rattle.irig_timekeeper.specs.Lines.{IsTrueLately}
+use Rattle.irig_timekeeper.specs.Steps.{is_pulse, line_at, settled, claim_kept, all_kept, agrees, agreed, wait_by}
+use Rattle.irig_timekeeper.specs.Keeping.{Keeping, vote_at, wait_at}
+use Rattle.irig_timekeeper.specs.Life.{Made, device_of, Call, after_calls, pulses_on, last_tick, HaveRisen, AreInOrder, AreTrueOver}
+use Rattle.irig_timekeeper.specs.Life.Call.{Hear, Tick}
+use Rattle.irig_timekeeper.specs.Announcing.{Announces, ComesWhole}
+use Rattle.irig_timekeeper.specs.Loops.{ComeInARow, AreToldInTime, made_at, latest, AreMadeInTurn, named, IsSoonEnough, GoesByWait}
+use Rattle.irig_timekeeper.proofs.LineLaws.{true_lately}
+use Rattle.irig_timekeeper.proofs.AgreeLaws.{is_one}
+use Rattle.irig_timekeeper.proofs.VoteLaws.{still, frame_settled, one_more, split}
+use Rattle.irig_timekeeper.proofs.LifeLaws.{begins, AreLinesAt, IsEndAt, TellAlwaysTruly, lines_after, own_pulses, others_pulses, no_pulse, unheard, order_before}
+use Rattle.irig_timekeeper.proofs.WholeLaws.{whole_of, nothing_whole}
+use Rattle.irig_timekeeper.proofs.OrderLaws.{shared, silent_line, kept_of_nothing, ranged}
+use Rattle.irig_timekeeper.proofs.FrameLaws.{HaveNoVotes, Keeps, ended, not_before, whole_kept}
+use Rattle.irig_timekeeper.proofs.EnoughLaws.{least_of, kept, some_agree}
+use Rattle.irig_timekeeper.proofs.LoopLaws.{loop_announces, Splits, truth_splits, turn_splits, last_on, first_tick, one_less, told_before, IsStep, AreServing}
+
+-- the latest call is not before any
+latest_upto : (start : ℕ) (call : Call) (calls : List Call) → (latest start calls ≤ latest start (call ∷ calls)) × (made_at call ≤ latest start (call ∷ calls))
+latest_upto start call calls = elim (cases_Bool (nat_le (made_at call) (latest start calls))) [
+  | inl low ↦ rw low (omega arith, leb-true (made_at call) (latest start calls) low)
+  | inr high ↦ rw high (let more = leb-false (made_at call) (latest start calls) high in (omega (arith, more), omega arith))
+]
+
+latest_by : (start time : ℕ) (call : Call) (calls : List Call) → latest start calls ≤ time → made_at call ≤ time → latest start (call ∷ calls) ≤ time
+latest_by start time call calls low made = elim (cases_Bool (nat_le (made_at call) (latest start calls))) [ inl less ↦ rw less low | inr more ↦ rw more made ]
+
+after_by : (pulses : List Pulse) (time now : ℕ) → IsAfter pulses time → time ≤ now → IsAfter pulses now
+after_by [] time now after past = tt
+after_by (p ∷ ps) time now after past = omega (arith, after, past)
+
+-- so by then all has risen that was told, and the last tick came
+by_latest : (start time : ℕ) (calls : List Call) → latest start calls ≤ time → HaveRisen time calls × (last_tick start calls ≤ time)
+by_latest start time [] low = (λ i. tt, low)
+by_latest start time (Tick now ∷ calls) low =
+    let more = latest_upto start (Tick now) calls in
+    ((by_latest start time calls (omega (arith, more.0, low))).0, omega (arith, more.1, low))
+by_latest start time (Hear port rise width ∷ calls) low =
+    let more = latest_upto start (Hear port rise width) calls in
+    let rest = by_latest start time calls (omega (arith, more.0, low)) in (
+      λ i. (elim (cases_Bool (i == port)) [
+        | inr other ↦ subst (λ (ps : List Pulse). IsAfter ps time) (sym (others_pulses i port rise width calls other)) (rest.0 i)
+        | inl same ↦ elim (cases_Bool (is_pulse width)) [
+          | inr wide ↦ subst (λ (ps : List Pulse). IsAfter ps time) (sym (no_pulse i port rise width calls wide)) (rest.0 i)
+          | inl narrow ↦ subst (λ (ps : List Pulse). IsAfter ps time) (sym (own_pulses i port rise width calls narrow same)) (let upto : rise ≤ time = omega (arith, more.1, low) in upto)
+        ]
+      ]),
+      rest.1,
+    )
+
+-- what is made in turn is told in time
+told_in_turn : (start : ℕ) (x base : List Call) → AreMadeInTurn start x base → AreToldInTime start x base
+told_in_turn start [] base turn = tt
+told_in_turn start (Tick now ∷ x) base turn = told_in_turn start x base turn.1
+told_in_turn start (Hear port rise width ∷ x) base turn = ((by_latest start (rise + width + 1000) (x ++ base) turn.0).1, told_in_turn start x base turn.1)
+
+-- by a frame that ends at a time it names no later one
+named_by : (time end : ℕ) (o : Option ℕ) (v : KeptClaim) → v.end_us ≡ end % 2 ^ 32 → end ≤ time + 10000 → time ≤ end + 101000 → (time + wait_by (time % 2 ^ 32) o (Some v) ≤ time) ⊎ (time + wait_by (time % 2 ^ 32) o (Some v) ≤ end)
+named_by time end o v at ahead behind = of (nat_lt (clock_gap (time % 2 ^ 32) v.end_us) (2 ^ 31)) refl
+  where
+    gap : (e : ℕ) → e ≡ end % 2 ^ 32 → clock_gap (time % 2 ^ 32) e < 2 ^ 31 → time + clock_gap (time % 2 ^ 32) e ≤ end
+    gap e clock low = omega (arith, clock, ahead, behind, low)
+
+    of : (test : Bool) → nat_lt (clock_gap (time % 2 ^ 32) v.end_us) (2 ^ 31) ≡ test → (time + cond test (clock_gap (time % 2 ^ 32) v.end_us) 0 ≤ time) ⊎ (time + cond test (clock_gap (time % 2 ^ 32) v.end_us) 0 ≤ end)
+    of true e = inr (gap v.end_us at (ltb-true (clock_gap (time % 2 ^ 32) v.end_us) (2 ^ 31) e))
+    of false e = inl (omega arith)
+
+-- a device that keeps the frames, asked at a time up to that of a tick that may come then
+module _ (t : TimelineValue) (d : ℕ) (edges : ℕ → ℕ) (quartz : IsQuartz d edges) (new : Keeping) (start : ℕ) (begun : AreLinesAt new new (λ i. []) start start) (m : ℕ) (some : 1 ≤ m) (older : List Call) (told : ℕ) (risen : HaveRisen told older) (past : told + 11000 < edges m)
+    (calls : List Call) (then : ℕ) (order : AreInOrder start new.clock.redundancy (Tick then ∷ calls)) (time : ℕ) (upto : time ≤ edges m + 98000) (come : ComesWhole t edges new m calls)
+    (keeps : (i : ℕ) (small : i < 5) → come.whole i ≡ true → Keeps t d edges quartz new start begun i small m older told risen past calls) (ahead : (i : ℕ) (small : i < 5) (is : come.whole i ≡ true) → (keeps i small is).end ≤ time + 10000) where
+  abbrev lines : Lines
+  lines = settled (time % 2 ^ 32) (after_calls new calls).state.lines
+
+  -- a line that is not there sends no frame
+  none_there : (i : ℕ) → i < 5 → ports_in new.clock.redundancy ≤ i → come.whole i ≡ false
+  none_there i small far = elim (cases_Bool (come.whole i)) [
+    | inr not ↦ not
+    | inl is ↦
+        let k = keeps i small is in
+        let nothing : pulses_on i calls ≡ [] = silent_line start new.clock.redundancy i far calls order.3 in
+        let none : k.end ≡ 0 = k.is ∙ ap whole_of nothing ∙ nothing_whole in
+        absurd (omega (arith, none, k.least, past))
+  ]
+
+  -- what a line keeps then
+  raw : (i : ℕ) → i < 5 → (y : KeptClaim) → claim_kept (line_at lines i).frame ≡ Some y → claim_kept (line_at (after_calls new calls).state.lines i).frame ≡ Some y
+  raw i small y e = (still (time % 2 ^ 32) (line_at (after_calls new calls).state.lines i).frame y (ap claim_kept (sym (frame_settled (time % 2 ^ 32) (after_calls new calls).state.lines i small)) ∙ e)).0
+
+  IsRanged : KeptClaim → Type 0
+  IsRanged y = y.end_us < 2 ^ 32
+
+  in_range : (i : ℕ) → i < 5 → (y : KeptClaim) → claim_kept (line_at lines i).frame ≡ Some y → IsRanged y
+  unfolding IsRanged
+  in_range i small y e = ranged (IsEndAt (pulses_on i calls) (last_tick start calls) then) (after_calls new calls).rules (claim_kept (line_at (after_calls new calls).state.lines i).frame) (pulses_on i calls) y ((lines_after new start begun calls then order).lines i small).kept (raw i small y e)
+
+  none_agrees : (v : KeptClaim) (i : ℕ) → i < 5 → ports_in new.clock.redundancy ≤ i → agrees v (claim_kept (line_at lines i).frame) ≡ false
+  none_agrees v i small far = of (claim_kept (line_at lines i).frame) refl
+    where
+      of : (o : Option KeptClaim) → claim_kept (line_at lines i).frame ≡ o → agrees v o ≡ false
+      of None e = refl
+      of (Some y) e =
+          let l = (lines_after new start begun calls then order).lines i small in
+          let none = kept_of_nothing (IsEndAt (pulses_on i calls) (last_tick start calls) then) (after_calls new calls).rules (claim_kept (line_at (after_calls new calls).state.lines i).frame) (pulses_on i calls) (silent_line start new.clock.redundancy i far calls order.3) l.kept in
+          absurd (let both : None ≡ Some y = sym none ∙ raw i small y e in cc)
+
+  -- it ends with a frame of these, or up to 1 ms before
+  record EndsWith (v : KeptClaim) : Type 0 where
+    end : ℕ
+    clock : v.end_us ≡ end % 2 ^ 32
+    least : edges m ≤ end + 1549
+    most : end ≤ edges m + 549
+    not_far : end ≤ time + 10000
+
+  ends_with : (v : KeptClaim) → agreed (f_of new.clock.redundancy) lines ≡ Some v → EndsWith v
+  unfolding IsRanged
+  ends_with v e =
+      let all = all_kept lines in
+      let one = is_one IsRanged (f_of new.clock.redundancy) all all v
+      (one_more IsRanged _ _ (in_range 0 (omega arith))
+      (one_more IsRanged _ _ (in_range 1 (omega arith))
+      (one_more IsRanged _ _ (in_range 2 (omega arith))
+      (one_more IsRanged _ _ (in_range 3 (omega arith))
+      (one_more IsRanged _ _ (in_range 4 (omega arith)) tt)))))
+      e in
+      let counted = ltb-true (f_of new.clock.redundancy) (count_by (agrees v) all) one.0 in
+      let there = shared new.clock.redundancy come.whole (λ i. agrees v (claim_kept (line_at lines i).frame)) none_there (none_agrees v) come.many (omega (arith, counted)) in
+      let k = keeps there.0 there.1 there.2 in
+      let keeps_it = kept t d edges quartz new start begun m some older told risen past calls time upto come.whole come.many keeps ahead there.0 there.1 there.2 in
+      let agree : agrees v (Some (record { claim = k.claim; end_us = k.end % 2 ^ 32 })) ≡ true = subst (λ (o : Option KeptClaim). agrees v o ≡ true) keeps_it there.3 in
+      let near = leb-true (clock_gap v.end_us (k.end % 2 ^ 32)) 1000 (split (same_claim v.claim k.claim) (nat_le (clock_gap v.end_us (k.end % 2 ^ 32)) 1000) agree).1 in
+      record {
+        end = k.end - clock_gap v.end_us (k.end % 2 ^ 32);
+        clock = wrapped v.end_us k.end one.1 (omega (arith, k.least, past)) near;
+        least = omega (arith, k.least, near);
+        most = omega (arith, k.most);
+        not_far = omega (arith, ahead there.0 there.1 there.2);
+      }
+    where
+      wrapped : (e end : ℕ) → e < 2 ^ 32 → 10000 ≤ end → clock_gap e (end % 2 ^ 32) ≤ 1000 → e ≡ (end - clock_gap e (end % 2 ^ 32)) % 2 ^ 32
+      wrapped e end range low near = omega (arith, range, low, near)
+
+  -- with the frames told it names no time that lies far behind the edge
+  names_soon : (time + wait_at (after_calls new calls) (time % 2 ^ 32) ≤ time) ⊎ (time + wait_at (after_calls new calls) (time % 2 ^ 32) ≤ edges m + 549)
+  names_soon =
+      let k : Keeping = after_calls new calls in
+      let v = some_agree t d edges quartz new start begun m some older told risen past calls time upto come.whole come.many keeps ahead in
+      let ends = ends_with v.0 v.1 in
+      let same = (lines_after new start begun calls then order).same.clock in
+      let agree : agreed (f_of k.clock.redundancy) lines ≡ Some v.0 = ap (λ (c : ClockRules). agreed (f_of c.redundancy) lines) same ∙ v.1 in
+      let wait : wait_at k (time % 2 ^ 32) ≡ wait_by (time % 2 ^ 32) k.state.edge_us (Some v.0) = ap (wait_by (time % 2 ^ 32) k.state.edge_us) agree in
+      elim (named_by time ends.end k.state.edge_us v.0 ends.clock ends.not_far (omega (arith, upto, ends.least))) [
+        | inl early ↦ inl (omega (arith, wait, early))
+        | inr late ↦ inr (omega (arith, wait, late, ends.most))
+      ]
+
+module _ (IsTrue : ℕ → List Pulse → Type 0) (t : TimelineValue) (d : ℕ) (edges : ℕ → ℕ) (quartz : IsQuartz d edges) (new : Keeping) (start : ℕ) (begun : AreLinesAt new new (λ i. []) start start) (truly : TellAlwaysTruly IsTrue new.rules t edges 549 549) (late : ℕ) (few : late ≤ 96000) where
+  abbrev pub Waits : List Call → List Call → Type 0
+  Waits calls before = AreMadeInTurn start calls before × GoesByWait late new calls before
+
+  goes_split : Splits (GoesByWait late new)
+  goes_split [] z before goes = (tt, goes)
+  goes_split (Hear port rise width ∷ x) z before goes = goes_split x z before goes
+  goes_split (Tick now ∷ x) z before goes =
+      let rest = goes_split x z before goes.1 in
+      ((soon x goes.0, rest.0), rest.1)
+    where
+      -- of the newer part alone no more is asked
+      soon : (x : List Call) → IsSoonEnough late new now (x ++ z) before → IsSoonEnough late new now x (z ++ before)
+      soon [] s = tt
+      soon (Tick time ∷ x) s = subst (λ (c : List Call). now ≤ named new c (Tick time) + late) (append_assoc x z before) s
+      soon (Hear port rise width ∷ x) s = (subst (λ (c : List Call). now ≤ named new c (Hear port rise width) + late) (append_assoc x z before) s.0, soon x s.1)
+
+  pub waits_split : Splits Waits
+  waits_split x z before waits =
+      let turn = turn_splits start x z before waits.0 in
+      let goes = goes_split x z before waits.1 in
+      ((turn.0, goes.0), (turn.1, goes.1))
+
+  module _ (m : ℕ) (some : 1 ≤ m) (done : List Call) (told : ℕ) (risen : HaveRisen told done) (ticked : last_tick start done ≤ told) (past : told + 11000 < edges m) where
+    -- a tick with a vote near the edge, or none
+    record HasVoted (y : List Call) : Type 0 where
+      x : List Call
+      time : ℕ
+      z : List Call
+      are : y ≡ x ++ (Tick time ∷ z)
+      near : edges m ≤ time + 11000
+      v : KeptClaim
+      voted : vote_at (after_calls new (z ++ done)) (time % 2 ^ 32) ≡ Some v
+
+    voted_on : (call : Call) (y : List Call) → HasVoted y → HasVoted (call ∷ y)
+    voted_on call y h = record { x = call ∷ h.x; time = h.time; z = h.z; are = ap (λ (c : List Call). call ∷ c) h.are; near = h.near; v = h.v; voted = h.voted }
+
+    find : (y : List Call) → HaveNoVotes new (edges m - 11000) y done ⊎ HasVoted y
+    find [] = inl tt
+    find (Hear port rise width ∷ y) = elim (find y) [ inl none ↦ inl none | inr h ↦ inr (voted_on (Hear port rise width) y h) ]
+    find (Tick time ∷ y) = elim (find y) [
+      | inr h ↦ inr (voted_on (Tick time) y h)
+      | inl none ↦ by none (vote_at (after_calls new (y ++ done)) (time % 2 ^ 32)) refl
+    ]
+      where
+        by : HaveNoVotes new (edges m - 11000) y done → (o : Option KeptClaim) → vote_at (after_calls new (y ++ done)) (time % 2 ^ 32) ≡ o → HaveNoVotes new (edges m - 11000) (Tick time ∷ y) done ⊎ HasVoted (Tick time ∷ y)
+        by none None e = inl ((λ _. e), none)
+        by none (Some v) e = elim (cases_lt (time + 11000) (edges m)) [
+          | inl before ↦ inl ((λ from. absurd (omega (arith, from, before))), none)
+          | inr behind ↦ inr (record { x = []; time = time; z = y; are = refl; near = behind; v = v; voted = e })
+        ]
+
+    -- the frames are not told before these calls
+    some_line : (calls : List Call) → (come : ComesWhole t edges new m calls) → (i : ℕ) × (i < 5) × (come.whole i ≡ true)
+    some_line calls come =
+        let one = least_of come.whole (λ i. i) 0 5 (omega (arith, come.many)) in
+        let same : 0 + one.i ≡ one.i = omega arith in
+        (one.i, one.low, subst (λ (i : ℕ). come.whole i ≡ true) same one.at)
+
+    -- the next tick comes soon behind the edge
+    module _ (now : ℕ) (behind : edges m + 2000 ≤ now) where
+      -- from these calls on, behind which they keep the frames, a time is named
+      by_named : (y : List Call) (time then : ℕ) → AreInOrder start new.clock.redundancy (Tick then ∷ (y ++ done)) → HaveNoVotes new (edges m - 11000) y done → then ≤ edges m + 2000 → time ≤ then → (then ≤ time) ⊎ (edges m ≤ time + 4049) → ComesWhole t edges new m (y ++ done)
+          → now ≤ time + wait_at (after_calls new (y ++ done)) (time % 2 ^ 32) + late → now ≤ edges m + 2000 + late
+      by_named y time then order none low upto behind come soon =
+          elim (names_soon t d edges quartz new start begun m some done told risen past (y ++ done) then order time (omega (arith, low, upto)) come keeps (λ i small is. ahead i (keeps i small is))) [
+            | inl early ↦ omega (arith, soon, early, low, upto)
+            | inr end ↦ omega (arith, soon, end)
+          ]
+        where
+          keeps : (i : ℕ) (small : i < 5) → come.whole i ≡ true → Keeps t d edges quartz new start begun i small m done told risen past (y ++ done)
+          keeps i small is = (let w = come.frames i small is in whole_kept t d edges quartz new start begun i small m done told risen past y then order none (omega (arith, low)) w.0 w.1)
+
+          ahead : (i : ℕ) {small : i < 5} → (k : Keeps t d edges quartz new start begun i small m done told risen past (y ++ done)) → k.end ≤ time + 10000
+          ahead i {small} k = elim behind [
+            | inl same ↦ (let end = ended t d edges quartz new start begun i small m done told risen past (y ++ done) then order in omega (arith, k.is, end, same))
+            | inr near ↦ omega (arith, k.most, near)
+          ]
+
+      soon_behind : (y : List Call) → AreInOrder start new.clock.redundancy (Tick now ∷ (y ++ done)) → HaveNoVotes new (edges m - 11000) y done → last_tick start (y ++ done) < edges m + 2000 → AreMadeInTurn start y done → IsSoonEnough late new now y done → ComesWhole t edges new m (y ++ done) → now ≤ edges m + 2000 + late
+      soon_behind [] order none early turn soon come =
+          let one = some_line done come in
+          let w = come.frames one.0 one.1 one.2 in
+          let sorted = ((lines_after new start begun done now order).lines one.0 one.1).sorted in
+          absurd (not_before t d edges quartz new start begun one.0 one.1 m done told risen past w.0 (pulses_on one.0 done) sorted (risen one.0) w.1)
+      soon_behind (Tick time ∷ y) order none early turn soon come =
+          let again : AreInOrder start new.clock.redundancy (Tick time ∷ (Tick time ∷ (y ++ done))) = (omega arith, omega arith, order.3.2, order.3) in
+          by_named (Tick time ∷ y) time time again none (omega (arith, early)) (omega arith) (inl (omega arith)) come soon
+      soon_behind (Hear port rise width ∷ y) order none early turn soon come = elim (one_less t d edges quartz new m port rise width (y ++ done) come) [
+        | inl less ↦ soon_behind y (unheard start new.clock.redundancy port rise width now (y ++ done) order) none early turn.1 soon.1 less
+        | inr last ↦
+            let all = by_latest start (rise + width + 1000) (Hear port rise width ∷ (y ++ done)) (latest_by start (rise + width + 1000) (Hear port rise width) (y ++ done) turn.0 (omega arith)) in
+            let here : AreInOrder start new.clock.redundancy (Tick (rise + width + 1000) ∷ (Hear port rise width ∷ (y ++ done))) = (all.1, omega (arith, order.1, last.most, behind), all.0, order.3) in
+            by_named (Hear port rise width ∷ y) (rise + width) (rise + width + 1000) here none (omega (arith, last.most)) (omega arith) (inr last.least) come soon.0
+      ]
+
+  pub waits_serve : (m : ℕ) → 1 ≤ m → (rest done : List Call) → AreServing IsTrue t edges new start Waits m rest done → ComesWhole t edges new m (rest ++ done) → edges m + 2000 ≤ last_tick start (rest ++ done) → IsStep IsTrue t edges new start m rest done
+  waits_serve m some rest done on come last =
+      let r = new.clock.redundancy in
+      let first = first_tick start (edges m + 2000) rest done (omega (arith, on.ticked, on.past)) last in
+      let z : List Call = Tick first.now ∷ first.y in
+      let joined : rest ++ done ≡ first.x ++ (z ++ done) = ap (λ (c : List Call). c ++ done) first.are ∙ append_assoc first.x z done in
+      let waits = waits_split first.x z done (subst (λ (c : List Call). Waits c done) first.are on.loop) in
+      let truth = (truth_splits IsTrue (f_of r) first.x z done (subst (λ (c : List Call). AreTrueOver IsTrue (f_of r) c done) first.are on.truth)).1 in
+      let ordered = subst (AreInOrder start r) joined on.order in
+      let here = order_before start r first.x (z ++ done) ordered in
+      let in_time = told_in_turn start first.x (z ++ done) waits.0.0 in
+      let told = told_before t d edges quartz new m start r first.x (z ++ done) ordered first.come in_time (subst (ComesWhole t edges new m) joined come) in
+      elim (find m some done on.told on.risen on.ticked on.past first.y) [
+        | inl none ↦
+            let behind : ComesWhole t edges new m (first.y ++ done) = record { whole = told.whole; many = told.many; frames = told.frames } in
+            let soon = soon_behind m some done on.told on.risen on.ticked on.past first.now first.come first.y here none first.early waits.1.0.1 waits.1.1.0 behind in
+            record {
+              x = first.x;
+              z = z;
+              are = first.are;
+              served = record {
+                now = first.now;
+                others = first.y;
+                are = refl;
+                early = omega (arith, first.early);
+                soon = omega (arith, soon, few);
+                comes = inl (omega (arith, first.come), behind);
+                truth = truth;
+              };
+            }
+        | inr h ↦
+            let voted : List Call = Tick h.time ∷ h.z in
+            let parts : first.y ++ done ≡ h.x ++ (voted ++ done) = ap (λ (c : List Call). c ++ done) h.are ∙ append_assoc h.x voted done in
+            let order = subst (AreInOrder start r) parts here.3 in
+            let upto : h.time ≤ last_tick start (h.x ++ (voted ++ done)) = last_on start r h.x (voted ++ done) order in
+            let same : last_tick start (first.y ++ done) ≡ last_tick start (h.x ++ (voted ++ done)) = ap (last_tick start) parts in
+            let low : h.time < edges m + 2000 = omega (arith, upto, same, first.early) in
+            let before = (order_before start r h.x (voted ++ done) order).0 in
+            record {
+              x = first.x ++ (Tick first.now ∷ h.x);
+              z = voted;
+              are = first.are ∙ ap (λ (c : List Call). first.x ++ (Tick first.now ∷ c)) h.are ∙ sym (append_assoc first.x (Tick first.now ∷ h.x) voted);
+              served = record {
+                now = h.time;
+                others = h.z;
+                are = refl;
+                early = omega (arith, before, low);
+                soon = omega (arith, low);
+                comes = inr (h.near, (h.v, h.voted));
+                truth = (truth_splits IsTrue (f_of r) h.x voted done (subst (λ (c : List Call). AreTrueOver IsTrue (f_of r) c done) h.are truth.1)).1;
+              };
+            }
+      ]
+
+pub waiting_announces : (t : TimelineValue) (edges : ℕ → ℕ) (made : Made) (start m late : ℕ) (calls before : List Call) (u : UtcSecond) → ComeInARow IsTrueLately t edges made start m calls before → late ≤ 96000 → GoesByWait late (device_of made) calls before → AreMadeInTurn start calls before
+    → IsSecond t (m + 1 + made.clock.reader_rules.lock_after) u → Announces edges (device_of made) (m + 1 + made.clock.reader_rules.lock_after) u (calls ++ before)
+waiting_announces t edges made start m late calls before u come few goes turn second =
+    let quartz = come.is.steady in
+    let new = device_of made in
+    let begun = begins made.limits made.rules made.clock made.table made.lines start made.fresh in
+    let truly : TellAlwaysTruly (IsTrueLately made.rules t edges) made.rules t edges 549 549 =
+    λ now end pulses claim is_true frame soon. true_lately made.rules t made.clock.drift_us edges now end pulses claim quartz is_true frame soon in
+    loop_announces (IsTrueLately made.rules t edges) t made.clock.drift_us edges quartz new start
+    (Waits (IsTrueLately made.rules t edges) t made.clock.drift_us edges quartz new start begun truly late few)
+    (waits_split (IsTrueLately made.rules t edges) t made.clock.drift_us edges quartz new start begun truly late few)
+    (waits_serve (IsTrueLately made.rules t edges) t made.clock.drift_us edges quartz new start begun truly late few)
+    begun come.is truly refl m come.some come.locks calls before
+    (record { told = come.told; risen = come.risen; ticked = come.ticked; past = come.past; order = come.order; truth = come.truth; loop = (turn, goes) })
+    come.whole come.last u second

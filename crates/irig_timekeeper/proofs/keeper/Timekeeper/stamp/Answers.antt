@@ -1,0 +1,18 @@
+use Rattle.std.proofs.Common.{◌∙◌, sym, ap, arith}
+use Rattle.irig_timekeeper.specs.declared.clock.ClockState.{ClockState}
+use Rattle.irig_timekeeper.specs.Keeping.{Keeping, stamp_at}
+use Rattle.irig_timekeeper.specs.Life.{life_of}
+use Rattle.irig_timekeeper.specs.Lines.{IsTrueLately}
+use Rattle.irig_timekeeper.specs.Lived.{made_with}
+use Rattle.irig_timekeeper.specs.Stamps.{stamp_of}
+use Rattle.irig_timekeeper.proofs.LineLaws.{true_lately}
+use Rattle.irig_timekeeper.proofs.StampLaws.{stamped}
+use Rattle.irig_timekeeper.proofs.keeper.Timekeeper.stamp.Goals as goal
+
+pub returns-clause-truth : goal.returns-clause-truth
+returns-clause-truth g c t edges made start time now calls stamp h clock well order past young told =
+    let k : Keeping = life_of (made_with made h.lines h.fresh) calls in
+    let value = c.stamp_of.ensures.value ∙ (ap (λ (s : ClockState). stamp_of s.last s.before c.args.time_us) h.is.state ∙ ap (stamp_at k) clock) in
+    stamped made.limits made.rules made.clock made.table h.lines start h.fresh t edges 549 549 0 well.is (omega arith) (omega arith) (IsTrueLately made.rules t edges) (omega arith)
+    (λ now end pulses claim is frame soon. true_lately made.rules t made.clock.drift_us edges now end pulses claim well.is.steady is frame soon)
+    calls time now order well.truth past young stamp (sym value ∙ told)
