@@ -1,6 +1,7 @@
 """Lines of a scenario: events and plants, what is blank and what is too long."""
 
 import json
+import re
 from collections.abc import Iterator
 from random import Random
 
@@ -37,6 +38,11 @@ def random_line(random: Random) -> bytes:
     return changed_line(random, line) if random.random() < 0.6 else line
 
 
+def is_cheap(line: bytes) -> bool:
+    """Whether the checker can compute what a line means: it writes out a number of ten to a power."""
+    return len(line) < 2000 and not re.search(rb"[eE][+-]?\d{4}", line)
+
+
 def command(event: Event) -> Antt:
     said = f"Seconds {event['n']}" if event["do"] == "seconds" else f"Event {v.event(event, READERS)}"
     return Antt(f"(Command.{said})")
@@ -45,7 +51,7 @@ def command(event: Event) -> Antt:
 @question("model", "scenario_line.command_in_line")
 def commands(random: Random) -> Pairs:
     lines = (random_line(random) for _ in range(300))
-    for line in (*MADE_LINES, *(line for line in lines if len(line) < 2000)):
+    for line in (*MADE_LINES, *filter(is_cheap, lines)):
         meant = v.outcome(lambda line: event_of(value_of_line(line), READERS), line)
         yield (list(READERS), line), v.result(meant, v.refusal, command)
 
