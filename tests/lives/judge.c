@@ -80,7 +80,7 @@ void judge_pulse(judge *j, uint8_t line, const pulse *p) {
     if (p->end_us < j->tick_us) fail(j, "world: a pulse of line %u behind a later tick", line);
     if (p->end_us > j->now_us) j->now_us = p->end_us;
     if (p->is_true) {
-        uint64_t at_us = j->world->edge_us[p->frame] + (uint64_t)ELEMENT_US * p->element;
+        uint64_t at_us = element_us(j->world, p->frame, p->element);
         if (p->rise_us - at_us + LINE_US - 1 > 2 * (LINE_US - 1))
             fail(j, "world: a true pulse of line %u is not at its time", line);
     } else {

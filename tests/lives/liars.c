@@ -30,7 +30,7 @@ static uint64_t end_of(const line *l, const sky *s) {
     switch (told->aim) {
     case AT_PLACE: break;
     case AT_BOUND: /* where that line ends, by its last pulse */
-        end_us = (int64_t)s->world->edge_us[frame] + SECOND_US +
+        end_us = (int64_t)element_us(s->world, frame, ELEMENTS - 1) + ELEMENT_US +
                  last_offset(&s->line[told->target], frame);
         break;
     case SHIFTED: break;

@@ -82,7 +82,7 @@ static bool next_true(line *l, const sky *s) {
             if (l->frame >= s->world->seconds) return false;
         }
         int32_t offset = l->element == ELEMENTS - 1 ? last_offset(l, l->frame) : offset_of(l);
-        uint64_t at_us = s->world->edge_us[l->frame] + ELEMENT_US * l->element;
+        uint64_t at_us = element_us(s->world, l->frame, l->element);
         uint64_t rise_us = at_us + (uint64_t)(int64_t)offset;
         if (rise_us <= l->end_us && l->end_us < at_us + JITTER_US) rise_us = l->end_us + 1;
         if (rise_us <= l->end_us || is_lost(l)) continue;
@@ -104,10 +104,9 @@ static void return_to_truth(line *l, const sky *s, uint64_t time_us) {
     uint32_t frame = l->frame = edge_before(s->world, time_us);
     make_frame(l, s);
     l->element = 0;
-    uint64_t edge_us = s->world->edge_us[frame];
-    if (l->frame != frame || time_us < edge_us) return;
-    uint64_t element = (time_us - edge_us) / ELEMENT_US + 1;
-    l->element = element < ELEMENTS ? (unsigned)element : ELEMENTS;
+    if (l->frame != frame) return;
+    while (l->element < ELEMENTS && element_us(s->world, frame, l->element) <= time_us)
+        l->element++;
 }
 
 /* ---- a line */

@@ -86,6 +86,12 @@ typedef struct world {
 
 void make_edges(world *w, uint64_t start_us, walk kind, chance *luck);
 
+/* When an element of a second's frame begins: so many hundredths of the way from edge to edge. */
+static inline uint64_t element_us(const world *w, uint32_t second, unsigned element) {
+    uint64_t edge_us = w->edge_us[second];
+    return edge_us + (w->edge_us[second + 1] - edge_us) * element / ELEMENTS;
+}
+
 /* The last edge at or before a time, or 0. */
 uint32_t edge_before(const world *w, uint64_t time_us);
 

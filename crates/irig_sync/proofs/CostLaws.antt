@@ -9,7 +9,7 @@ use Rattle.irig_sync.specs.Sync.{is_marker_symbol, is_marker, is_on_time, place_
 use Rattle.irig_sync.specs.Lines.{Pulse, place_after, IsTrueLine, IsTimeOf}
 use Rattle.irig_sync.specs.FaultyLines.{IsPulseOf, ArePulsesBefore, HasOneFault, LeavesTheNext}
 use Rattle.irig_sync.proofs.LineLaws.{marks, step_at, on_time_is}
-use Rattle.irig_sync.proofs.EdgeLaws.{element_most, next_apart, far_apart}
+use Rattle.irig_sync.proofs.EdgeLaws.{element_most, small, next_apart, far_apart}
 use Rattle.irig_sync.proofs.FaultLaws.{of_row}
 
 on_time_if : (g : ℕ) → 9000 ≤ g → g < 11000 → is_on_time g ≡ true
@@ -112,7 +112,7 @@ module _ (line : ℕ → Symbol) (edges : ℕ → ℕ) (off d : ℕ) (clock : Is
       ]
       of k (y ∷ (x ∷ [])) before earlier few last (inl marker) h = begins p y (x ∷ before) (here k last h) (inl marker)
       of k (y ∷ (x ∷ [])) before earlier few last (inr late) h =
-          let next = element_most d edges clock.steady k in
+          let next = element_most d edges clock.steady (small d off edges clock) k in
           let early : is_on_time (p.rise - y.rise) ≡ false = late_if (p.rise - y.rise) (inl (omega (arith, h.0.1, next, late))) in
           begins p y (x ∷ before) (here k last h) (inr (inl early))
       of k (y ∷ (x ∷ (w ∷ more))) before earlier few last leaves h = absurd (omega (arith, few))

@@ -1,10 +1,12 @@
 -- Lines of which one pulse is at fault, worked by hand, so that a wrong definition does not check.
+use Rattle.irig_sync.proofs.EdgeLaws.{even_element}
 use Rattle.std.proofs.Common.{◌≡◌, ℕ, zero, suc, ◌+◌, ◌*◌, ◌%◌, ◌≤◌, List, [], ◌∷◌, ◌++◌, length, drop, take, ◌-◌, get_or, Some, refl, sym, ap, subst, ◌∙◌, arith, inl, inr}
 use Rattle.std.proofs.lemmas.List.{take_all, length-drop}
 use Rattle.irig_frame.specs.declared.symbol.Symbol.{Symbol}
 use Rattle.irig_frame.specs.declared.symbol.Symbol.TheVariants.{Zero, One, Marker, Bad}
 use Rattle.irig_frame.specs.Symbols.{symbol_of, width_of}
 use Rattle.irig_frame.specs.Decoder.{IsRight}
+use Rattle.irig_sync.specs.Edges.{element_at}
 use Rattle.irig_sync.specs.Lines.{Pulse, pulse_at, place_after}
 use Rattle.irig_sync.specs.FaultyLines.{IsPulseOf, ArePulsesBefore, ArePulsesLeft, HasOneFault, HasOneFaultInAHundred, LeavesTheNext}
 use Rattle.irig_sync.proofs.FaultLaws.{one_less}
@@ -13,6 +15,9 @@ use Rattle.irig_sync.proofs.StandardFacts.{fast, line, known_line}
 -- when frames begin by a counter that does not drift
 abbrev even : ℕ → ℕ
 even n = 1000000 * n
+
+at : (k : ℕ) → element_at even k ≡ 10000 * k
+at k = let time = even_element 1000000 even (λ n. omega arith) k in omega (arith, time)
 
 -- n pulses of the line from its j-th on, of nominal times and widths, the newest first
 abbrev pulses : ℕ → ℕ → List Pulse
@@ -29,7 +34,7 @@ in_time : (j n k : ℕ) → k ≡ j + n → ArePulsesBefore line even 500 k (pul
 in_time j zero k e = tt
 in_time j (suc n) k e =
     let same : suc (j + n) ≡ k = omega (arith, e) in
-    subst (λ (i : ℕ). ArePulsesBefore line even 500 i (pulses j (suc n))) same (((omega arith, omega arith), same_symbol (line (j + n))), in_time j n (j + n) refl)
+    subst (λ (i : ℕ). ArePulsesBefore line even 500 i (pulses j (suc n))) same (((omega (arith, at (j + n)), omega (arith, at (j + n))), same_symbol (line (j + n))), in_time j n (j + n) refl)
 
 -- they are those of elements in a row. So is one 0.4 ms late and 7 ms wide; not one 0.5 ms late, or
 -- 5 ms wide, or of the element before
@@ -41,8 +46,8 @@ known_pulses = (in_time 100 3 103 refl, (((omega arith, omega arith), refl), tt)
 pub known_left : ArePulsesLeft line even 500 5 (pulses 4 1 ++ pulses 2 1 ++ pulses 0 1) × ¬ ArePulsesLeft line even 500 5 (pulses 0 1 ++ pulses 2 1) × ¬ ArePulsesLeft line even 500 5 (pulse_at 0 2000 ∷ [])
 known_left = (
   (4, omega arith, ((omega arith, omega arith), refl), (2, omega arith, ((omega arith, omega arith), refl), (0, omega arith, ((omega arith, omega arith), refl), tt))),
-  λ h. absurd (let t = (h.2).0 in let u = ((h.3).2).0 in let less = (h.3).1 in omega (arith, t.0, u.1, less)),
-  λ h. absurd (let t = (h.2).0 in let first : h.0 ≡ 0 = omega (arith, t.0) in let it : Zero ≡ Marker = (h.2).1 ∙ ap line first in cc),
+  λ h. absurd (let t = (h.2).0 in let u = ((h.3).2).0 in let less = (h.3).1 in omega (arith, t.0, u.1, less, at h.0, at (h.3).0)),
+  λ h. absurd (let t = (h.2).0 in let first : h.0 ≡ 0 = omega (arith, t.0, at h.0) in let it : Zero ≡ Marker = (h.2).1 ∙ ap line first in cc),
 )
 
 -- of two frames element 50 is lost, or late by 3 ms, or cut in two, or there is a glitch behind it
@@ -117,11 +122,11 @@ pub known_cut : ¬ LeavesTheNext even 500 0 99 (pulse_at 990900 5900 ∷ (pulse_
 known_cut =
     (λ h. elim h [ inl marker ↦ absurd cc | inr late ↦ absurd (omega (arith, late)) ], refl, inr (omega arith), refl)
 
--- by a counter that drifts 1.5 ms are too few: here a second is 100 us long, and the next frame's
+-- by a counter that drifts 1 us more is needed: here an element is 1 us long, and the next frame's
 -- first pulse rises 9 ms behind one that is out of step. 1 us later it does not
 abbrev cut_at : ℕ → List Pulse
-cut_at late = pulse_at (991000 + late) 5000 ∷ (pulse_at 992448 500 ∷ [])
+cut_at late = pulse_at (991099 + late) 5000 ∷ (pulse_at 992448 500 ∷ [])
 
-pub known_drift : ¬ LeavesTheNext fast 450 100 99 (cut_at 1549) [] × IsPulseOf line fast 450 100 (pulse_at 1001549 8000) × (place_after (pulse_at 1001549 8000 ∷ cut_at 1549) ≡ 0)
-    × LeavesTheNext fast 450 100 99 (cut_at 1550) [] × (place_after (pulse_at 1001549 8000 ∷ cut_at 1550) ≡ 1)
+pub known_drift : ¬ LeavesTheNext fast 450 100 99 (cut_at 1450) [] × IsPulseOf line fast 450 100 (pulse_at 1001549 8000) × (place_after (pulse_at 1001549 8000 ∷ cut_at 1450) ≡ 0)
+    × LeavesTheNext fast 450 100 99 (cut_at 1451) [] × (place_after (pulse_at 1001549 8000 ∷ cut_at 1451) ≡ 1)
 known_drift = (λ h. elim h [ inl marker ↦ absurd cc | inr late ↦ absurd (omega (arith, late)) ], ((omega arith, omega arith), refl), refl, inr (omega arith), refl)

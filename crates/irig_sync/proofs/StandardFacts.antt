@@ -1,4 +1,5 @@
 -- Known values of the synchroniser, so that a wrong definition does not check.
+use Rattle.irig_sync.proofs.EdgeLaws.{even_element}
 use Rattle.std.proofs.Common.{◌≡◌, ◌↔◌, ℕ, ◌+◌, ◌-◌, ◌*◌, ◌%◌, ◌^◌, ◌<◌, not, Bool, true, false, eqb, List, [], ◌∷◌, map, get_or, Option, Some, None, suc, ◌∙◌, ap, length, refl, arith, inl, inr}
 use Rattle.std.specs.Prelude.{codes, slice_get}
 use Rattle.std.proofs.lemmas.Bool.{agree_below_at, eqb-true}
@@ -85,16 +86,16 @@ fast n = 1000 + 1000100 * n
 pub known_steady : IsSteady 100 fast × ¬ IsSteady 99 fast × ¬ IsSteady 99 (λ n. 2000000 - 999900 * n)
 known_steady = (record { least = λ n. omega arith; most = λ n. omega arith }, λ h. absurd (let it = h.most 0 in omega (arith, it)), λ h. absurd (let it = h.least 0 in omega (arith, it)))
 
--- within a frame its elements lie 10 ms apart, and at a frame's end 10.1
-pub known_elements : map (element_at fast) (0 ∷ 1 ∷ 99 ∷ 100 ∷ 101 ∷ []) ≡ 1000 ∷ 11000 ∷ 991000 ∷ 1001100 ∷ 1011100 ∷ []
+-- so its elements lie 10.001 ms apart
+pub known_elements : map (element_at fast) (0 ∷ 1 ∷ 99 ∷ 100 ∷ 101 ∷ []) ≡ 1000 ∷ 11001 ∷ 991099 ∷ 1001100 ∷ 1011101 ∷ []
 known_elements = refl
 
--- pulses less than 450 us off are told apart by it; 451 us are too many
-pub known_told_apart : IsClock 100 450 fast × ¬ IsClock 100 451 fast × ¬ IsClock 99 450 fast
+-- pulses less than 500 us off are told apart by it; 501 us are too many
+pub known_told_apart : IsClock 100 500 fast × ¬ IsClock 100 501 fast × ¬ IsClock 99 500 fast
 known_told_apart = (record { steady = known_steady.0; near = omega arith }, λ h. absurd (omega (arith, h.near)), λ h. absurd (let it = h.steady.most 0 in omega (arith, it)))
 
 -- the times of the third element of its second frame
-pub known_times : IsTimeOf fast 450 103 1031100 × IsTimeOf fast 450 103 1030651 × IsTimeOf fast 450 103 1031549 × ¬ IsTimeOf fast 450 103 1030650 × ¬ IsTimeOf fast 450 103 1031550
+pub known_times : IsTimeOf fast 450 103 1031103 × IsTimeOf fast 450 103 1030654 × IsTimeOf fast 450 103 1031552 × ¬ IsTimeOf fast 450 103 1030653 × ¬ IsTimeOf fast 450 103 1031553
 known_times = ((omega arith, omega arith), (omega arith, omega arith), (omega arith, omega arith), λ h. absurd (omega (arith, h.0)), λ h. absurd (omega (arith, h.1)))
 
 -- a counter that does not drift is one of these, with pulses less than 500 us off the grid of 10 ms
@@ -103,7 +104,8 @@ pub one_clock : (start : ℕ) → IsClock 0 500 (λ n. start + 1000000 * n)
 one_clock start = record { steady = record { least = λ n. omega arith; most = λ n. omega arith }; near = omega arith }
 
 pub one_start : (start k time : ℕ) → ((start + 10000 * k < time + 500) × (time < start + 10000 * k + 500)) ↔ IsTimeOf (λ n. start + 1000000 * n) 500 k time
-one_start start k time = (λ h. (omega (arith, h.0), omega (arith, h.1)), λ h. (omega (arith, h.0), omega (arith, h.1)))
+one_start start k time =
+    let at = even_element 1000000 (λ n. start + 1000000 * n) (λ n. omega arith) k in (λ h. (omega (arith, at, h.0), omega (arith, at, h.1)), λ h. (omega (arith, at, h.0), omega (arith, at, h.1)))
 
 -- ---- an idle line
 

@@ -3,7 +3,7 @@
 use Rattle.std.specs.Prelude.{◌≡◌, ℕ, zero, suc, ◌+◌, ◌<◌, ◌≤◌, ◌⊎◌, true, List, [], ◌∷◌, ◌++◌, length, take, drop, ⊤}
 use Rattle.irig_frame.specs.declared.symbol.Symbol.{Symbol}
 use Rattle.irig_frame.specs.Symbols.{symbol_of}
-use Rattle.irig_sync.specs.Edges.{element_at}
+use Rattle.irig_sync.specs.Edges.{element_at, element_drift}
 use Rattle.irig_sync.specs.Sync.{is_marker}
 use Rattle.irig_sync.specs.Lines.{Pulse, IsTimeOf, place_after}
 
@@ -47,11 +47,11 @@ HasOneFaultInAHundred line edges off pulses =
 
 -- what came in place of a frame's last pulse, the k-th, leaves the next frame its first element:
 -- the pulse was lost; or it is a marker, at any time, or comes at its time and in step, of any
--- width; or of two the later one is a marker, or rises 1000 + off + d us or more behind the k-th
--- element's time, as each does that begins when a marker has ended
+-- width; or of two the later one is a marker, or rises 1 ms, `off` and an element's drift or more
+-- behind the k-th element's time, as each does that begins when a marker has ended
 abbrev pub LeavesTheNext : (ℕ → ℕ) → ℕ → ℕ → ℕ → List Pulse → List Pulse → Type 0
 LeavesTheNext edges off d k [] before = ⊤
 LeavesTheNext edges off d k (x ∷ []) before =
     (is_marker x.width ≡ true) ⊎ (IsTimeOf edges off k x.rise × (place_after before ≡ 99))
 LeavesTheNext edges off d k (y ∷ (x ∷ more)) before =
-    (is_marker y.width ≡ true) ⊎ (element_at edges k + 1000 + off + d ≤ y.rise)
+    (is_marker y.width ≡ true) ⊎ (element_at edges k + 1000 + off + element_drift d ≤ y.rise)

@@ -42,9 +42,10 @@ pub fn found_after_101_pulses()
 /// if it is that of the next element: so no loss moves a symbol. (Less than a turn of the clock
 /// lies between: see [`no_wrap`].)
 ///
-/// The clock may drift: by d us a second, if pulses rise less than `off` us from their elements'
-/// times and 2 off + d is 1,000 at most; so by 100 us if they lie less than 450 us off. By one that
-/// does not drift they may lie 500 us off: d = 0, off = 500 and edges 1,000,000 us apart.
+/// The clock may drift by d us a second, if pulses rise less than `off` us from their elements'
+/// times, and twice `off` and a hundredth of d, rounded up, come to 1,001 at most: so they may lie
+/// less than 500 us off if it drifts by 100 us at most. An element's time is measured between the
+/// edges round it, so that the drift moves none.
 pub fn no_slip()
     ensures { (edges : ℕ → ℕ) (off d j k before time : ℕ) → IsClock d off edges
         → IsTimeOf edges off j before → IsTimeOf edges off k time → j < k → time - before < 2 ^ 32

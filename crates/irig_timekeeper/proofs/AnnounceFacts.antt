@@ -197,16 +197,16 @@ polled_now = 4297549400
 unfoldable by_polls : List Call
 by_polls = Tick polled_now ∷ polled
 
--- with one 90 ms behind each time that is named: the frames agree 500 us before the edge
+-- with one 90 ms behind each time that is named: the frames agree 401 us before the edge
 waits : ℕ → List Call
 waits zero = []
-waits (suc k) = with_element k (cond ((k % 100 == 9) && nat_le 100 k) (Tick (edges (k / 100) + 89500) ∷ waits k) (waits k))
+waits (suc k) = with_element k (cond ((k % 100 == 9) && nat_le 100 k) (Tick (edges (k / 100) + 89599) ∷ waits k) (waits k))
 
 unfoldable waited : List Call
 waited = waits 409
 
 abbrev waited_now : ℕ
-waited_now = 4297589900
+waited_now = 4297589999
 
 unfoldable by_wait : List Call
 by_wait = Tick waited_now ∷ waited
@@ -235,11 +235,11 @@ beat edge = record {
   moved = 0;
 }
 
-polls_answer : answer_at (after_calls device polled) (polled_now % 2 ^ 32) ≡ Some (beat 2532604)
+polls_answer : answer_at (after_calls device polled) (polled_now % 2 ^ 32) ≡ Some (beat 2532703)
 unfolding polled polls with_element own others rise_of width_of lie frames step_of told_of frame_told coded_told ones values_of field_at control_of offset_in utc_minute is_month_end four_years
 polls_answer = refl
 
-waits_answer : answer_at (after_calls device waited) (waited_now % 2 ^ 32) ≡ Some (beat 2532604)
+waits_answer : answer_at (after_calls device waited) (waited_now % 2 ^ 32) ≡ Some (beat 2532703)
 unfolding waited waits with_element own others rise_of width_of lie frames step_of told_of frame_told coded_told ones values_of field_at control_of offset_in utc_minute is_month_end four_years
 waits_answer = refl
 
@@ -514,6 +514,6 @@ unfolding told_late polls with_element own others rise_of width_of lie frames st
 late_vote = refl
 
 -- a tick 100 ms behind the end on which lines agree has a vote, one a microsecond later none
-too_late : (vote_at (after_calls device waited) ((edges 4 + 99500) % 2 ^ 32) ≡ Some (record { claim = claim_of 43203; end_us = 2532604 })) × (vote_at (after_calls device waited) ((edges 4 + 99501) % 2 ^ 32) ≡ None)
+too_late : (vote_at (after_calls device waited) ((edges 4 + 99599) % 2 ^ 32) ≡ Some (record { claim = claim_of 43203; end_us = 2532703 })) × (vote_at (after_calls device waited) ((edges 4 + 99600) % 2 ^ 32) ≡ None)
 unfolding waited waits with_element own others rise_of width_of lie frames step_of told_of frame_told coded_told ones values_of field_at control_of offset_in utc_minute is_month_end four_years
 too_late = (refl, refl)

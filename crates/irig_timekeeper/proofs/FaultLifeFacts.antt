@@ -15,6 +15,7 @@ use Rattle.irig_vote.specs.declared.redundancy.Redundancy.TheVariants as of
 use Rattle.irig_reader.specs.declared.report.Lock.TheVariants as lock
 use Rattle.irig_reader.specs.declared.report.Cause.TheVariants as cause
 use Rattle.irig_reader.specs.Rule.{step_of}
+use Rattle.irig_sync.proofs.EdgeLaws.{even_element}
 use Rattle.irig_timekeeper.specs.declared.clock.Beat.{Beat}
 use Rattle.irig_timekeeper.specs.declared.clock.ClockRules.{ClockRules}
 use Rattle.irig_timekeeper.specs.declared.stamp.Stamp.{Stamp}
@@ -39,20 +40,20 @@ by_counter = record { steady = fast_steady; sound = is_device.sound; knows = is_
 -- ---- the pulses, and the calls: all of them, and a tick 2 ms behind the edge
 
 abbrev p_98 : Pulse
-p_98 = pulse_at 1980600 2000
+p_98 = pulse_at 1980698 2000
 
 abbrev p_99 : Pulse
-p_99 = pulse_at 1990000 8000
+p_99 = pulse_at 1990099 8000
 
 abbrev late : List Pulse
-late = p_99 ∷ (p_98 ∷ pulses 449 98)
+late = p_99 ∷ (p_98 ∷ pulses 10001 449 98)
 
 heard : ℕ → List Call
 heard zero = []
-heard (suc k) = Hear 0 (1000000 + 10000 * k) (width_of (line k)) ∷ heard k
+heard (suc k) = Hear 0 (1000000 + 10001 * k) (width_of (line k)) ∷ heard k
 
 unfoldable calls : List Call
-calls = Hear 0 1990000 8000 ∷ Hear 0 1980600 2000 ∷ heard 98
+calls = Hear 0 1990099 8000 ∷ Hear 0 1980698 2000 ∷ heard 98
 
 abbrev now : ℕ
 now = 2002100
@@ -79,11 +80,11 @@ last_is = (
       element = 98;
       after = p_99 ∷ [];
       fault = p_98 ∷ [];
-      before = pulses 449 98;
+      before = pulses 10001 449 98;
       parts = refl;
       few = omega arith;
-      later = (is_pulse fast refl 449 (omega arith) 99 (omega arith), tt);
-      earlier = are fast refl 449 (omega arith) 98 (omega arith);
+      later = (is_pulse fast refl 10001 refl 449 (omega arith) 99 (omega arith), tt);
+      earlier = are fast refl 10001 refl 449 (omega arith) 98 (omega arith);
     };
     in_place = omega arith;
   },
@@ -92,11 +93,11 @@ last_is = (
       element = 98;
       after = [];
       fault = p_98 ∷ [];
-      before = pulses 449 98;
+      before = pulses 10001 449 98;
       parts = refl;
       few = omega arith;
       later = tt;
-      earlier = are fast refl 449 (omega arith) 98 (omega arith);
+      earlier = are fast refl 10001 refl 449 (omega arith) 98 (omega arith);
     };
     in_place = omega arith;
   },
@@ -108,7 +109,7 @@ late_line time = record { line = line; is_line = is_checked; few = λ n soon. by
     by : (n : ℕ) → HasOneFaultInPlace line fast (take 100 (drop n late))
     by zero = last_is.0
     by (suc zero) = last_is.1
-    by (suc (suc n)) = rest_is fast refl 449 (omega arith) n 98 (omega arith)
+    by (suc (suc n)) = rest_is fast refl 10001 refl 449 (omega arith) n 98 (omega arith)
 
 dark : (time : ℕ) → IsTrueButForFaults rules noon fast time []
 dark time = record { line = line; is_line = is_checked; few = λ n soon. by n }
@@ -135,7 +136,7 @@ untrue is = elim is.are [
   | inl old ↦ absurd (omega (arith, old.0))
   | inr new ↦ elim new.3 [
     | inl old ↦ absurd (omega (arith, old.0))
-    | inr late ↦ (let low : late.0 % 100 < 100 = omega arith in absurd (omega (arith, low, late.2.0.0, late.2.0.1)))
+    | inr late ↦ (let low : late.0 % 100 < 100 = omega arith in let at = even_element 1000100 fast (λ n. omega arith) late.0 in absurd (omega (arith, low, at, late.2.0.0, late.2.0.1)))
   ]
 ]
 
@@ -151,7 +152,7 @@ abbrev beat : Beat
 beat = record {
   report = record { announce = Some second; lock = lock.Locked; cause = cause.Voted };
   told = record silence { a = tells.Claim claim };
-  edge_us = 2000000;
+  edge_us = 2000099;
   missed = 0;
   moved = 0;
 }
@@ -168,14 +169,14 @@ told =
 abbrev stamp : Stamp
 stamp = record { second = second; offset_us = 250000; bound_us = 1549 }
 
-stamp_is : stamp_at (after_calls device (Tick now ∷ calls)) 2250000 ≡ Some stamp
+stamp_is : stamp_at (after_calls device (Tick now ∷ calls)) 2250099 ≡ Some stamp
 unfolding calls heard line step_of told_of frame_told coded_told ones values_of field_at control_of offset_in utc_minute is_month_end four_years
 stamp_is = refl
 
-stamp_true : IsStampedTruly noon fast 2000 2250000 stamp
+stamp_true : IsStampedTruly noon fast 2000 2250099 stamp
 unfolding calls heard line in_order have_risen is_after
 stamp_true =
-    stamped None rules clock no_table new_lines 900000 are_new noon fast 2549 1549 2000 by_counter (omega arith) (omega arith) (IsTrueOrFaulty rules noon fast) (omega arith) (either_tells_truly rules noon 100 fast fast_steady) (Tick now ∷ calls) 2250000 2300000
+    stamped None rules clock no_table new_lines 900000 are_new noon fast 2549 1549 2000 by_counter (omega arith) (omega arith) (IsTrueOrFaulty rules noon fast) (omega arith) (either_tells_truly rules noon 100 fast fast_steady) (Tick now ∷ calls) 2250099 2300000
     asked (at_tick (IsTrueOrFaulty rules noon fast) (λ i less. inr (faulty i less))) (omega arith) (omega arith) stamp stamp_is
   where
     asked : AreInOrder 900000 of.One (Tick 2300000 ∷ (Tick now ∷ calls))

@@ -7,7 +7,7 @@ use Rattle.irig_frame.specs.Symbols.{symbol_of, width_of}
 use Rattle.irig_frame.specs.Decoder.{IsRight}
 use Rattle.irig_control.specs.Parity.{ones}
 use Rattle.irig_sync.specs.Lines.{Pulse, pulse_at, AreOnTime, IsTrueLine, symbols_of_last}
-use Rattle.irig_sync.specs.Edges.{element_at}
+use Rattle.irig_sync.specs.Edges.{second_long, element_at}
 use Rattle.irig_sync.specs.FaultyLines.{IsPulseOf, ArePulsesBefore, HasOneFault}
 use Rattle.irig_sync.proofs.LineLaws.{on_time_is}
 use Rattle.irig_time.specs.declared.mark.Mark.TheVariants.{Unspoken}
@@ -83,14 +83,14 @@ is_checked = sent_is_checked rules noon 1 (λ f. frame_0) (λ f low. let first :
 is_true_line : IsTrueLine line
 is_true_line = is_checked.right
 
--- ---- its first pulses, each so much later than 449 us early
+-- ---- its first pulses, so far apart, each so much later than 449 us early
 
-abbrev pub pulse : ℕ → ℕ → Pulse
-pulse off k = pulse_at (999551 + off + 10000 * k) (width_of (line k))
+abbrev pub pulse : ℕ → ℕ → ℕ → Pulse
+pulse step off k = pulse_at (999551 + off + step * k) (width_of (line k))
 
-abbrev pub pulses : ℕ → ℕ → List Pulse
-pulses off zero = []
-pulses off (suc k) = pulse off k ∷ pulses off k
+abbrev pub pulses : ℕ → ℕ → ℕ → List Pulse
+pulses step off zero = []
+pulses step off (suc k) = pulse step off k ∷ pulses step off k
 
 width_is : (i : ℕ) (x : Symbol) → IsRight i (Some x) → symbol_of (width_of x) ≡ x
 width_is i Zero right = refl
@@ -98,28 +98,31 @@ width_is i One right = refl
 width_is i Marker right = refl
 width_is i Bad right = absurd right
 
-in_time : (n : ℕ) (off : ℕ) → n < 100 → AreOnTime (suc n) (pulses off (suc n))
-in_time zero off low = tt
-in_time (suc n) off low = ((on_time_is (999551 + off + 10000 * suc n - (999551 + off + 10000 * n))).1 (omega arith, omega arith), in_time n off (omega (arith, low)))
+module _ (step : ℕ) (least : 9000 ≤ step) (most : step < 11000) (off : ℕ) where
+  in_time : (n : ℕ) → n < 100 → AreOnTime (suc n) (pulses step off (suc n))
+  in_time zero low = tt
+  in_time (suc n) low =
+      let more : step * suc n ≡ step * n + step = omega arith in
+      ((on_time_is (999551 + off + step * suc n - (999551 + off + step * n))).1 (omega (arith, more, least), omega (arith, more, most)), in_time n (omega (arith, low)))
 
-module _ (edges : ℕ → ℕ) (start : edges 0 ≡ 1000000) (off : ℕ) (few : off ≤ 898) where
-  pub is_pulse : (k : ℕ) → k < 100 → IsPulseOf line edges 450 k (pulse off k)
+module _ (edges : ℕ → ℕ) (start : edges 0 ≡ 1000000) (step : ℕ) (long : edges 1 ≡ 1000000 + 100 * step) (off : ℕ) (few : off ≤ 898) where
+  pub is_pulse : (k : ℕ) → k < 100 → IsPulseOf line edges 450 k (pulse step off k)
   is_pulse k low =
       let frame : k / 100 ≡ 0 = omega (arith, low) in
       let place : k % 100 ≡ k = omega (arith, low) in
-      let time : element_at edges k ≡ 1000000 + 10000 * k =
-      ap (λ (i : ℕ). edges i + 10000 * (k % 100)) frame ∙ ap (λ (i : ℕ). edges 0 + 10000 * i) place ∙ ap (λ (i : ℕ). i + 10000 * k) start in
+      let second : second_long edges 0 ≡ 100 * step = omega (arith, start, long) in
+      let time : element_at edges k ≡ 1000000 + step * k = rw (frame, place, second) (omega (arith, start)) in
       ((omega (arith, time), omega (arith, time, few)), width_is (k % 100) (line k) (is_true_line k))
 
-  pub are : (n : ℕ) → n ≤ 100 → ArePulsesBefore line edges 450 n (pulses off n)
+  pub are : (n : ℕ) → n ≤ 100 → ArePulsesBefore line edges 450 n (pulses step off n)
   are zero most = tt
   are (suc n) most = (is_pulse n (omega (arith, most)), are n (omega (arith, most)))
 
   -- behind what is at fault
-  pub rest_is : (n k : ℕ) → k ≤ 100 → HasOneFaultInPlace line edges (take 100 (drop n (pulses off k)))
+  pub rest_is : (n k : ℕ) → k ≤ 100 → HasOneFaultInPlace line edges (take 100 (drop n (pulses step off k)))
   rest_is n k most =
-      let left = dropped line edges n k (pulses off k) (are k most) in
-      faultless line edges left.0 (take 100 (drop n (pulses off k))) (taken line edges 100 left.0 (drop n (pulses off k)) left.1)
+      let left = dropped line edges n k (pulses step off k) (are k most) in
+      faultless line edges left.0 (take 100 (drop n (pulses step off k))) (taken line edges 100 left.0 (drop n (pulses step off k)) left.1)
 
 frame_by : (ps : List Pulse) (end : ℕ) → AreOnTime 100 ps → symbols_of_last 100 ps ≡ frame_0 → IsLastBefore end ps → IsFrameOf rules claim end ps
 frame_by ps end on same last = record {
@@ -129,10 +132,10 @@ frame_by ps end on same last = record {
   last = last;
 }
 
--- ---- two pulses came in place of P98 and P99, as early as they may: the frame ends 2.549 ms early
+-- ---- two pulses came in place of P98 and P99, as early as they may: the frame ends 2.452 ms early
 
 abbrev early : List Pulse
-early = pulse_at 1987551 8000 ∷ (pulse_at 1978551 2000 ∷ pulses 0 98)
+early = pulse_at 1987648 8000 ∷ (pulse_at 1978648 2000 ∷ pulses 10001 0 98)
 
 early_symbols : symbols_of_last 100 early ≡ frame_0
 unfolding line
@@ -146,12 +149,12 @@ early_line now = record { line = line; is_line = is_checked; few = λ n soon. by
       one = record {
         element = 98;
         after = [];
-        fault = pulse_at 1987551 8000 ∷ (pulse_at 1978551 2000 ∷ []);
-        before = pulses 0 98;
+        fault = pulse_at 1987648 8000 ∷ (pulse_at 1978648 2000 ∷ []);
+        before = pulses 10001 0 98;
         parts = refl;
         few = omega arith;
         later = tt;
-        earlier = are fast refl 0 (omega arith) 98 (omega arith);
+        earlier = are fast refl 10001 refl 0 (omega arith) 98 (omega arith);
       };
       in_place = omega arith;
     }
@@ -159,24 +162,24 @@ early_line now = record { line = line; is_line = is_checked; few = λ n soon. by
       one = record {
         element = 98;
         after = [];
-        fault = pulse_at 1978551 2000 ∷ [];
-        before = pulses 0 98;
+        fault = pulse_at 1978648 2000 ∷ [];
+        before = pulses 10001 0 98;
         parts = refl;
         few = omega arith;
         later = tt;
-        earlier = are fast refl 0 (omega arith) 98 (omega arith);
+        earlier = are fast refl 10001 refl 0 (omega arith) 98 (omega arith);
       };
       in_place = omega arith;
     }
-    by (suc (suc n)) = rest_is fast refl 0 (omega arith) n 98 (omega arith)
+    by (suc (suc n)) = rest_is fast refl 10001 refl 0 (omega arith) n 98 (omega arith)
 
-early_frame : IsFrameOf rules claim 1997551 early × (1997551 + 2549 ≡ fast 1)
-early_frame = (frame_by early 1997551 (refl, (refl, in_time 97 0 (omega arith))) early_symbols refl, refl)
+early_frame : IsFrameOf rules claim 1997648 early × (1997648 + 2452 ≡ fast 1)
+early_frame = (frame_by early 1997648 (refl, (refl, in_time 10001 (omega arith) (omega arith) 0 97 (omega arith))) early_symbols refl, refl)
 
--- ---- P99 came as late as it may: the frame ends 1.548 ms late
+-- ---- P99 came as late as it may: the frame ends 1.450 ms late
 
 abbrev late : List Pulse
-late = pulse_at 1991448 8000 ∷ pulses 898 99
+late = pulse_at 1991350 8000 ∷ pulses 9999 898 99
 
 late_symbols : symbols_of_last 100 late ≡ frame_0
 unfolding line
@@ -190,25 +193,25 @@ late_line now = record { line = line; is_line = is_checked; few = λ n soon. by 
       one = record {
         element = 99;
         after = [];
-        fault = pulse_at 1991448 8000 ∷ [];
-        before = pulses 898 99;
+        fault = pulse_at 1991350 8000 ∷ [];
+        before = pulses 9999 898 99;
         parts = refl;
         few = omega arith;
         later = tt;
-        earlier = are slow refl 898 (omega arith) 99 (omega arith);
+        earlier = are slow refl 9999 refl 898 (omega arith) 99 (omega arith);
       };
       in_place = omega arith;
     }
-    by (suc n) = rest_is slow refl 898 (omega arith) n 99 (omega arith)
+    by (suc n) = rest_is slow refl 9999 refl 898 (omega arith) n 99 (omega arith)
 
-late_frame : IsFrameOf rules claim 2001448 late × (2001448 ≡ slow 1 + 1548)
-late_frame = (frame_by late 2001448 (refl, in_time 98 898 (omega arith)) late_symbols refl, refl)
+late_frame : IsFrameOf rules claim 2001350 late × (2001350 ≡ slow 1 + 1450)
+late_frame = (frame_by late 2001350 (refl, in_time 9999 (omega arith) (omega arith) 898 98 (omega arith)) late_symbols refl, refl)
 
--- ---- two pulses, of which the later one rose behind the time of P99: the frame ends 2.547 ms late, so
+-- ---- two pulses, of which the later one rose behind the time of P99: the frame ends 2.450 ms late, so
 -- a line on which that was one fault would not tell truly
 
 abbrev past : List Pulse
-past = pulse_at 1992447 8000 ∷ (pulse_at 1981448 2000 ∷ pulses 898 98)
+past = pulse_at 1992350 8000 ∷ (pulse_at 1981351 2000 ∷ pulses 9999 898 98)
 
 past_symbols : symbols_of_last 100 past ≡ frame_0
 unfolding line
@@ -218,18 +221,18 @@ past_fault : HasOneFault line slow 450 past
 past_fault = record {
   element = 98;
   after = [];
-  fault = pulse_at 1992447 8000 ∷ (pulse_at 1981448 2000 ∷ []);
-  before = pulses 898 98;
+  fault = pulse_at 1992350 8000 ∷ (pulse_at 1981351 2000 ∷ []);
+  before = pulses 9999 898 98;
   parts = refl;
   few = omega arith;
   later = tt;
-  earlier = are slow refl 898 (omega arith) 98 (omega arith);
+  earlier = are slow refl 9999 refl 898 (omega arith) 98 (omega arith);
 }
 
-past_frame : IsFrameOf rules claim 2002447 past × (2002447 ≡ slow 1 + 2547)
-past_frame = (frame_by past 2002447 (refl, (refl, in_time 97 898 (omega arith))) past_symbols refl, refl)
+past_frame : IsFrameOf rules claim 2002350 past × (2002350 ≡ slow 1 + 2450)
+past_frame = (frame_by past 2002350 (refl, (refl, in_time 9999 (omega arith) (omega arith) 898 97 (omega arith))) past_symbols refl, refl)
 
-past_line : (now : ℕ) → now ≤ 2102447 → ¬ (IsTrueButForFaults rules noon slow now past)
+past_line : (now : ℕ) → now ≤ 2102350 → ¬ (IsTrueButForFaults rules noon slow now past)
 past_line now soon is =
-    let near = faults_are_true rules noon 100 slow slow_steady now 2002447 past claim is past_frame.0 (omega (arith, soon)) in
+    let near = faults_are_true rules noon 100 slow slow_steady now 2002350 past claim is past_frame.0 (omega (arith, soon)) in
     omega (arith, near.near.least, near.near.most)

@@ -12,7 +12,7 @@ use Rattle.irig_frame.specs.Symbols.{symbol_of}
 use Rattle.irig_frame.specs.FieldTable.{is_marker_place}
 use Rattle.irig_frame.specs.Decoder.{IsRight, Reads}
 use Rattle.irig_sync.specs.Lines.{Pulse, pulse_at, AreOnTime, IsTimeOf, IsTrueLine, symbols_of_last}
-use Rattle.irig_sync.specs.Edges.{element_at, IsClock}
+use Rattle.irig_sync.specs.Edges.{element_at, second_long, IsSteady, IsClock}
 use Rattle.irig_sync.specs.FaultyLines.{IsPulseOf, ArePulsesBefore}
 use Rattle.irig_sync.proofs.LineLaws.{on_time_is}
 use Rattle.irig_sync.proofs.EdgeLaws.{far_apart, two_apart}
@@ -83,46 +83,44 @@ module _ (line : ℕ → Symbol) (edges : ℕ → ℕ) where
   abbrev IsBack : ℕ → ℕ → Pulse → Type 0
   IsBack last j p = (e : ℕ) × (e + j ≡ last) × IsPulseOf line edges 450 e p
 
-  -- the newest pulse is so near the last element's time
-  abbrev IsNewest : ℕ → Pulse → Type 0
-  IsNewest last p = (element_at edges last ≤ p.rise + 2449) × (p.rise ≤ element_at edges last + 1448)
+  -- an element behind the newest pulse lies so near the end of the last element's frame
+  abbrev IsNewest : ℕ → ℕ → Pulse → Type 0
+  IsNewest d last p = (edges (last / 100 + 1) ≤ p.rise + 10000 + 2449 + d) × (p.rise + 10000 ≤ edges (last / 100 + 1) + 1448 + d)
 
   -- but for one, or for two at the beginning or the end, a hundred pulses are of elements in a row
-  record AreButForOne (ps : List Pulse) : Type 0 where
+  record AreButForOne (d : ℕ) (ps : List Pulse) : Type 0 where
     last : ℕ
     odd : ℕ
     other : ℕ
     rest : (j : ℕ) → j < 100 → ¬ (j ≡ odd) → ¬ (j ≡ other) → IsBack last j (nth ps j)
     beside : (other ≡ odd) ⊎ (((odd ≡ 1) × (other ≡ 0)) ⊎ ((odd ≡ 98) × (other ≡ 99)))
-    newest : last % 100 ≡ 99 → IsNewest last (nth ps 0)
+    newest : last % 100 ≡ 99 → IsNewest d last (nth ps 0)
 
-  exact : (last : ℕ) (p : Pulse) → IsBack last 0 p → IsNewest last p
-  exact last p is =
-      let same : is.0 ≡ last = omega (arith, is.1) in
-      let time : IsTimeOf edges 450 last p.rise = subst (λ (e : ℕ). IsTimeOf edges 450 e p.rise) same is.2.0 in
-      (omega (arith, time.0), omega (arith, time.1))
+  module _ (d : ℕ) (steady : IsSteady d edges) where
+    -- the time of the 99th element of a frame, or of the 98th or the 97th
+    in_frame : (last e i : ℕ) → e + i ≡ last → i ≤ 99 → last % 100 ≡ 99 → element_at edges e ≡ edges (last / 100) + second_long edges (last / 100) * (99 - i) / 100
+    in_frame last e i at few end =
+        let frame : e / 100 ≡ last / 100 = omega (arith, at, few, end) in
+        let place : e % 100 ≡ 99 - i = omega (arith, at, few, end) in
+        rw (frame, place) refl
 
-  inside : (k : ℕ) → k % 100 < 99 → element_at edges (suc k) ≡ element_at edges k + 10000
-  inside k low =
-      let frame : suc k / 100 ≡ k / 100 = omega (arith, low) in
-      let place : suc k % 100 ≡ k % 100 + 1 = omega (arith, low) in
-      rw (frame, place) (omega arith)
+    exact : (last : ℕ) (p : Pulse) → IsBack last 0 p → last % 100 ≡ 99 → IsNewest d last p
+    exact last p is end =
+        let time = is.2.0 in
+        let at = in_frame last is.0 0 is.1 (omega arith) end in
+        (omega (arith, at, time.0, steady.most (last / 100)), omega (arith, at, time.1, steady.least (last / 100)))
 
-  -- what stands in place of the last of a frame, or of the last two
-  one_new : (e last : ℕ) (p q : Pulse) → e + 1 ≡ last → IsTimeOf edges 450 e q.rise → (q.rise + 9000 ≤ p.rise) × (p.rise < q.rise + 11000) → last % 100 ≡ 99 → IsNewest last p
-  one_new e last p q at time gap end =
-      let same : suc e ≡ last = omega (arith, at) in
-      let low : e % 100 < 99 = omega (arith, at, end) in
-      let next : element_at edges last ≡ element_at edges e + 10000 = ap (element_at edges) (sym same) ∙ inside e low in
-      (omega (arith, next, time.0, gap.0), omega (arith, next, time.1, gap.1))
+    -- what stands in place of the last of a frame, or of the last two
+    one_new : (e last : ℕ) (p q : Pulse) → e + 1 ≡ last → IsTimeOf edges 450 e q.rise → (q.rise + 9000 ≤ p.rise) × (p.rise < q.rise + 11000) → last % 100 ≡ 99 → IsNewest d last p
+    one_new e last p q is time gap end =
+        let at = in_frame last e 1 is (omega arith) end in
+        (omega (arith, at, time.0, gap.0, steady.most (last / 100)), omega (arith, at, time.1, gap.1, steady.least (last / 100)))
 
-  two_new : (e last : ℕ) (p q r : Pulse) → e + 2 ≡ last → IsTimeOf edges 450 e r.rise → q.rise + 9000 ≤ p.rise → r.rise + 9000 ≤ q.rise → p.rise < element_at edges last + 450 → last % 100 ≡ 99 → IsNewest last p
-  two_new e last p q r at time first second most end =
-      let same : suc (suc e) ≡ last = omega (arith, at) in
-      let low : e % 100 < 99 = omega (arith, at, end) in
-      let high : suc e % 100 < 99 = omega (arith, at, end) in
-      let next : element_at edges last ≡ element_at edges e + 10000 + 10000 = ap (element_at edges) (sym same) ∙ inside (suc e) high ∙ ap (λ (n : ℕ). n + 10000) (inside e low) in
-      (omega (arith, next, time.0, first, second), omega (arith, most))
+    two_new : (e last : ℕ) (p q r : Pulse) → e + 2 ≡ last → IsTimeOf edges 450 e r.rise → q.rise + 9000 ≤ p.rise → r.rise + 9000 ≤ q.rise → p.rise < element_at edges last + 450 → last % 100 ≡ 99 → IsNewest d last p
+    two_new e last p q r is time first second most end =
+        let at = in_frame last e 2 is (omega arith) end in
+        let here = in_frame last last 0 (omega arith) (omega arith) end in
+        (omega (arith, at, time.0, first, second, steady.most (last / 100)), omega (arith, here, most, steady.least (last / 100)))
 
   module _ (d : ℕ) (steady : IsQuartz d edges) (k : ℕ) (after fault before : List Pulse) (later : ArePulsesBefore line edges 450 (length after + suc k) after) (earlier : ArePulsesBefore line edges 450 k before)
       (on : AreOnTime 100 (after ++ (fault ++ before))) (many : 100 ≤ length (after ++ (fault ++ before))) where
@@ -148,25 +146,25 @@ module _ (line : ℕ → Symbol) (edges : ℕ → ℕ) where
         (it.0, it.1, subst (IsPulseOf line edges 450 it.0) (sym same) it.2)
 
     -- all hundred came behind the fault
-    past : 100 ≤ length after → AreButForOne all
+    past : 100 ≤ length after → AreButForOne d all
     past long = record {
       last = k + length after;
       odd = 100;
       other = 100;
       rest = λ j less n m. newer j (omega (arith, less, long));
       beside = inl refl;
-      newest = λ end. exact (k + length after) (nth all 0) (newer 0 (omega (arith, long)));
+      newest = exact d steady.steady (k + length after) (nth all 0) (newer 0 (omega (arith, long)));
     }
 
     -- nothing has come since a pulse was lost
-    none : length fault ≡ 0 → length after ≡ 0 → AreButForOne all
+    none : length fault ≡ 0 → length after ≡ 0 → AreButForOne d all
     none lost new = record {
       last = k - 1;
       odd = 100;
       other = 100;
       rest = λ j less n m. back j less;
       beside = inl refl;
-      newest = λ end. exact (k - 1) (nth all 0) (back 0 (omega arith));
+      newest = exact d steady.steady (k - 1) (nth all 0) (back 0 (omega arith));
     }
       where
         back : (j : ℕ) → j < 100 → IsBack (k - 1) j (nth all j)
@@ -182,7 +180,7 @@ module _ (line : ℕ → Symbol) (edges : ℕ → ℕ) where
         omega (arith, far, gap.1)
 
     -- one pulse stands in the element's place
-    changed : length fault ≡ 1 → length after < 100 → AreButForOne all
+    changed : length fault ≡ 1 → length after < 100 → AreButForOne d all
     changed one few = record {
       last = k + length after;
       odd = length after;
@@ -192,8 +190,8 @@ module _ (line : ℕ → Symbol) (edges : ℕ → ℕ) where
       newest = λ end. elim (cases_eq (length after) 0) [
         | inl new ↦
             let it = older 1 0 (omega (arith, one, new)) (omega (arith, one, new, total, many)) in
-            one_new it.0 (k + length after) (nth all 0) (nth all 1) (omega (arith, it.1, new)) it.2.0 (apart_at 100 0 all on (omega arith)) end
-        | inr old ↦ exact (k + length after) (nth all 0) (newer 0 (omega (arith, old)))
+            one_new d steady.steady it.0 (k + length after) (nth all 0) (nth all 1) (omega (arith, it.1, new)) it.2.0 (apart_at 100 0 all on (omega arith)) end
+        | inr old ↦ exact d steady.steady (k + length after) (nth all 0) (newer 0 (omega (arith, old))) end
       ];
     }
       where
@@ -211,24 +209,24 @@ module _ (line : ℕ → Symbol) (edges : ℕ → ℕ) where
 
     -- of two pulses the newer one is the oldest of the hundred, or both are the oldest or the newest;
     -- else they leave no hundred on time
-    alone : length after ≡ 99 → AreButForOne all
+    alone : length after ≡ 99 → AreButForOne d all
     alone at = record {
       last = k + length after;
       odd = 99;
       other = 99;
       rest = λ j less n m. newer j (let in_after : j < length after = (elim (cases_lt j 99) [ inl low ↦ omega (arith, low, at) | inr high ↦ absurd (n (omega (arith, high, less))) ]) in in_after);
       beside = inl refl;
-      newest = λ end. exact (k + length after) (nth all 0) (newer 0 (omega (arith, at)));
+      newest = exact d steady.steady (k + length after) (nth all 0) (newer 0 (omega (arith, at)));
     }
 
-    begins : length after ≡ 98 → AreButForOne all
+    begins : length after ≡ 98 → AreButForOne d all
     begins at = record {
       last = k + length after;
       odd = 98;
       other = 99;
       rest = λ j less n m. newer j (elim (cases_lt j 98) [ inl low ↦ omega (arith, low, at) | inr high ↦ elim (cases_lt j 99) [ inl low ↦ absurd (n (omega (arith, high, low))) | inr past ↦ absurd (m (omega (arith, past, less))) ] ]);
       beside = inr (inr (refl, refl));
-      newest = λ end. exact (k + length after) (nth all 0) (newer 0 (omega (arith, at)));
+      newest = exact d steady.steady (k + length after) (nth all 0) (newer 0 (omega (arith, at)));
     }
 
     both : (a : ℕ) → length after ≡ suc a → length fault ≡ 2 → suc a < 98 → ⊥
@@ -243,7 +241,7 @@ module _ (line : ℕ → Symbol) (edges : ℕ → ℕ) where
         let near = two_apart d 450 edges clock old.0 (nth all (suc (suc (suc a)))).rise (nth all a).rise old.2.0 time in
         omega (arith, near, first.0, second.0, third.0)
 
-    ends : length after ≡ 0 → length fault ≡ 2 → (nth all 0).rise < element_at edges (k + 1) + 450 → AreButForOne all
+    ends : length after ≡ 0 → length fault ≡ 2 → (nth all 0).rise < element_at edges (k + 1) + 450 → AreButForOne d all
     ends at two most = record {
       last = k + 1;
       odd = 1;
@@ -260,14 +258,14 @@ module _ (line : ℕ → Symbol) (edges : ℕ → ℕ) where
           let it = older 2 0 (omega (arith, at, two)) (omega (arith, at, two, total, many)) in
           let first = apart_at 100 0 all on (omega arith) in
           let second = apart_at 100 1 all on (omega arith) in
-          two_new it.0 (k + 1) (nth all 0) (nth all 1) (nth all 2) (omega (arith, it.1)) it.2.0 first.0 second.0 most end;
+          two_new d steady.steady it.0 (k + 1) (nth all 0) (nth all 1) (nth all 2) (omega (arith, it.1)) it.2.0 first.0 second.0 most end;
     }
 
   -- ---- by what is at fault
 
   module _ (d : ℕ) (steady : IsQuartz d edges) (k : ℕ) (before : List Pulse) (earlier : ArePulsesBefore line edges 450 k before) where
     by_fault : (after fault : List Pulse) → length fault ≤ 2 → RoseBefore (element_at edges (k + 1) + 450) fault → ArePulsesBefore line edges 450 (length after + suc k) after
-        → AreOnTime 100 (after ++ (fault ++ before)) → 100 ≤ length (after ++ (fault ++ before)) → length after < 100 → AreButForOne (after ++ (fault ++ before))
+        → AreOnTime 100 (after ++ (fault ++ before)) → 100 ≤ length (after ++ (fault ++ before)) → length after < 100 → AreButForOne d (after ++ (fault ++ before))
     by_fault [] [] few rose later on many low = none d steady k [] [] before later earlier on many refl refl
     by_fault (p ∷ a) [] few rose later on many low = absurd (lost d steady k (p ∷ a) [] before later earlier on many (length a) (omega arith) refl (omega (arith, low)))
     by_fault after (x ∷ []) few rose later on many low = changed d steady k after (x ∷ []) before later earlier on many refl low
@@ -281,13 +279,13 @@ module _ (line : ℕ → Symbol) (edges : ℕ → ℕ) where
     ]
     by_fault after (y ∷ (x ∷ (w ∷ more))) few rose later on many low = absurd (omega (arith, few))
 
-  fits : (d : ℕ) → IsQuartz d edges → (ps : List Pulse) → HasOneFaultInPlace line edges ps → AreOnTime 100 ps → AreButForOne ps
+  fits : (d : ℕ) → IsQuartz d edges → (ps : List Pulse) → HasOneFaultInPlace line edges ps → AreOnTime 100 ps → AreButForOne d ps
   fits d steady ps is on =
       let h = is.one in
       let parts = h.parts in
       let on_parts = subst (AreOnTime 100) parts on in
       let many = subst (λ (l : List Pulse). 100 ≤ length l) parts (many_on 98 ps on) in
-      subst AreButForOne (sym parts)
+      subst (AreButForOne d) (sym parts)
       (elim (cases_lt (length h.after) 100) [
         | inl low ↦ by_fault d steady h.element h.before h.earlier h.after h.fault h.few is.in_place h.later on_parts many low
         | inr long ↦ past d steady h.element h.after h.fault h.before h.later h.earlier on_parts many long
@@ -295,7 +293,7 @@ module _ (line : ℕ → Symbol) (edges : ℕ → ℕ) where
 
 -- ---- a frame
 
-module _ (line : ℕ → Symbol) (edges : ℕ → ℕ) (right : IsTrueLine line) (ps : List Pulse) (is : AreButForOne line edges ps) (many : 100 ≤ length ps) (coded : Coded) (reads : Reads (symbols_of_last 100 ps) coded) where
+module _ (line : ℕ → Symbol) (edges : ℕ → ℕ) (right : IsTrueLine line) (ps : List Pulse) (d : ℕ) (is : AreButForOne line edges d ps) (many : 100 ≤ length ps) (coded : Coded) (reads : Reads (symbols_of_last 100 ps) coded) where
   abbrev heard : List Symbol
   heard = symbols_of_last 100 ps
 
@@ -386,16 +384,15 @@ module _ (rules : Rules) (t : TimelineValue) (d : ℕ) (edges : ℕ → ℕ) (st
       let same = last-take 100 (p ∷ ps) in
       let carried = subst (λ (s : List Symbol). Carries rules s claim) (sym same) carries in
       let f : ℕ = is.last / 100 in
-      let end_of : is.last % 100 ≡ 99 = whole line edges checked.right hundred is many carried.coded carried.reads in
+      let end_of : is.last % 100 ≡ 99 = whole line edges checked.right hundred d is many carried.coded carried.reads in
       let newest = is.newest end_of in
-      let time : element_at edges is.last ≡ edges f + 10000 * 99 = ap (λ (i : ℕ). edges f + 10000 * i) end_of in
       record {
         second = f;
         near = record {
-          least = omega (arith, at, time, newest.0, steady.steady.most f);
-          most = omega (arith, at, time, newest.1, steady.steady.least f);
+          least = omega (arith, at, newest.0);
+          most = omega (arith, at, newest.1);
         };
-        truth = checked.truth f (99 - is.odd) (symbols_of_last 100 hundred) claim (stand line edges checked.right hundred is many carried.coded carried.reads) carried;
+        truth = checked.truth f (99 - is.odd) (symbols_of_last 100 hundred) claim (stand line edges checked.right hundred d is many carried.coded carried.reads) carried;
       }
 
   ended : (line : ℕ → Symbol) (now end : ℕ) (run : List Pulse) (claim : Claim) → IsCheckedLineOf rules t line → (RoseLately now (take 100 run) → HasOneFaultInPlace line edges (take 100 run)) → AreOnTime 100 run

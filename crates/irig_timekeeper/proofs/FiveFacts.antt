@@ -93,7 +93,7 @@ abbrev beat : Beat
 beat = record {
   report = record { announce = Some (at 43201); lock = lock.Locked; cause = cause.Voted };
   told = record { a = tells.Claim (claim_of 43200); b = tells.Claim (claim_of 43200); c = tells.Claim (claim_of 43200); d = tells.Claim (claim_of 43201); e = tells.Claim (claim_of 43201) };
-  edge_us = 4294499600;
+  edge_us = 4294499699;
   missed = 0;
   moved = 0;
 }

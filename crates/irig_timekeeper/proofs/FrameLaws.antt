@@ -4,7 +4,7 @@ use Rattle.std.proofs.Common.{◌≡◌, ◌∙◌, ◌⊎◌, ℕ, zero, suc, �
 use Rattle.std.proofs.lemmas.Bool.{cases_Bool, eqb-true, eqb-false}
 use Rattle.irig_frame.specs.declared.symbol.Symbol.{Symbol}
 use Rattle.irig_frame.specs.FieldTable.{is_marker_place}
-use Rattle.irig_sync.specs.Edges.{element_at}
+use Rattle.irig_sync.specs.Edges.{element_at, second_long}
 use Rattle.irig_sync.specs.Sync.{is_marker, is_marker_symbol, is_on_time, place_at, place_of, flag}
 use Rattle.irig_sync.specs.Lines.{Pulse, IsTrueLine, IsTimeOf, place_after}
 use Rattle.irig_sync.specs.FaultyLines.{IsPulseOf, ArePulsesBefore}
@@ -63,7 +63,7 @@ module _ (d : ℕ) (edges : ℕ → ℕ) (quartz : IsQuartz d edges) (line : ℕ
       marker = marker_of (100 * f) p is ∙ ap is_marker_place zero_place
 
       begins : element_at edges (100 * f) ≡ edges f
-      begins = ap (λ (i : ℕ). edges i + 10000 * (100 * f % 100)) frame_is ∙ ap (λ (i : ℕ). edges f + 10000 * i) zero_place ∙ (let none : edges f + 10000 * 0 ≡ edges f = omega arith in none)
+      begins = rw (frame_is, zero_place) (omega arith)
 
       by : (on was : Bool) (place : ℕ) → (was ≡ true) ⊎ (on ≡ false) → place_at on true was place ≡ 1
       by on true place e = refl
@@ -111,6 +111,10 @@ module _ (d : ℕ) (edges : ℕ → ℕ) (quartz : IsQuartz d edges) (line : ℕ
       let tail = subst (λ (k : ℕ). ArePulsesBefore line edges 450 k (q ∷ ps)) next are.1 in
       next_place n (omega (arith, low)) p q (ps ++ rest) are.0 tail.0 (frame_place n (omega (arith, low)) q ps (omega (arith, long)) tail)
 
+-- when the frame of the m-th edge ends that came without an offset: each line's does so within 449 us
+abbrev pub ends_at : (ℕ → ℕ) → ℕ → ℕ
+ends_at edges m = edges (m - 1) + second_long edges (m - 1) * 99 / 100 + 10000
+
 -- so the hundredth of a whole frame has that place, and rose an element before the edge
 pub record EndsWhole (edges : ℕ → ℕ) (m : ℕ) (pulses : List Pulse) : Type 0 where
   pub p : Pulse
@@ -119,8 +123,8 @@ pub record EndsWhole (edges : ℕ → ℕ) (m : ℕ) (pulses : List Pulse) : Typ
   pub place : place_after (p ∷ ps) ≡ 100
   pub least : edges m ≤ p.rise + 10000 + 549
   pub most : p.rise + 10000 ≤ edges m + 549
-  pub close_least : edges (m - 1) + 1000000 ≤ p.rise + 10000 + 449
-  pub close_most : p.rise + 10000 ≤ edges (m - 1) + 1000000 + 449
+  pub close_least : ends_at edges m ≤ p.rise + 10000 + 449
+  pub close_most : p.rise + 10000 ≤ ends_at edges m + 449
   pub marker : is_marker p.width ≡ true
 
 pub ends_whole : (limits : Option Limits) (rules : Rules) (t : TimelineValue) (d : ℕ) (edges : ℕ → ℕ) (m : ℕ) (pulses : List Pulse) → IsQuartz d edges → (w : IsWhole limits rules t edges m pulses) → EndsWhole edges m pulses
@@ -134,9 +138,9 @@ ends_whole limits rules t d edges m pulses quartz w = of w.frame w.parts w.hundr
         let long : length ps ≡ 99 = omega (arith, hundred) in
         let frame : (100 * w.f + 99) / 100 ≡ w.f = omega arith in
         let place : (100 * w.f + 99) % 100 ≡ 99 = omega arith in
-        let last : element_at edges (100 * w.f + 99) ≡ edges w.f + 990000 = ap (λ (i : ℕ). edges i + 10000 * ((100 * w.f + 99) % 100)) frame ∙ ap (λ (i : ℕ). edges w.f + 10000 * i) place in
+        let last : element_at edges (100 * w.f + 99) ≡ edges w.f + second_long edges w.f * 99 / 100 = rw (frame, place) refl in
         let edge : edges m ≡ edges (w.f + 1) = ap edges w.here in
-        let before : edges (m - 1) ≡ edges w.f = ap edges (let same : m - 1 ≡ w.f = omega (arith, w.here) in same) in
+        let ends : ends_at edges m ≡ edges w.f + second_long edges w.f * 99 / 100 + 10000 = (let before : m - 1 ≡ w.f = omega (arith, w.here) in rw before refl) in
         record {
           p = p;
           ps = ps ++ w.earlier;
@@ -144,8 +148,8 @@ ends_whole limits rules t d edges m pulses quartz w = of w.frame w.parts w.hundr
           place = frame_place d edges quartz w.line w.right w.f w.earlier w.first 99 (omega arith) p ps long are';
           least = omega (arith, edge, last, are'.0.0.0, quartz.steady.most w.f, quartz.few);
           most = omega (arith, edge, last, are'.0.0.1, quartz.steady.least w.f, quartz.few);
-          close_least = omega (arith, before, last, are'.0.0.0);
-          close_most = omega (arith, before, last, are'.0.0.1);
+          close_least = omega (arith, ends, last, are'.0.0.0);
+          close_most = omega (arith, ends, last, are'.0.0.1);
           marker = marker_of d edges quartz w.line w.right w.f w.earlier w.first (100 * w.f + 99) p are'.0 ∙ ap is_marker_place place;
         }
 
@@ -201,8 +205,8 @@ module _ (t : TimelineValue) (d : ℕ) (edges : ℕ → ℕ) (quartz : IsQuartz 
     pub keeps : kept_claim calls ≡ Some (record { claim = claim; end_us = end % 2 ^ 32 })
     pub least : edges m ≤ end + 549
     pub most : end ≤ edges m + 549
-    pub close_least : edges (m - 1) + 1000000 ≤ end + 449
-    pub close_most : end ≤ edges (m - 1) + 1000000 + 449
+    pub close_least : ends_at edges m ≤ end + 449
+    pub close_most : end ≤ ends_at edges m + 449
     pub is : end ≡ whole_of (pulses_on i calls)
 
   -- by a tick to come it ends an element ahead at most

@@ -161,7 +161,7 @@ abbrev voted : Beat
 voted = record {
   report = record { announce = Some (at 86341); lock = lock.Locked; cause = cause.Voted };
   told = record silence { a = tells.Claim claim };
-  edge_us = 2000000;
+  edge_us = 2000099;
   missed = 0;
   moved = 0;
 }
@@ -172,20 +172,20 @@ unfolding calls_1 heard width_of step_of told_of frame_told coded_told ones valu
 answer_1 = refl
 
 -- 23:59:60 and the new year, with a table that has the leap second
-inserted : (answer_at (after_calls (device (knows_leap leap.Insert)) calls_2) (behind 59) ≡ Some (held (Some (at 86400)) (lock.Holdover 59) cause.Held 61000000 58))
-    × (answer_at (after_calls (device (knows_leap leap.Insert)) (calls_3 59)) (behind 60) ≡ Some (held (Some new_year) (lock.Holdover 60) cause.Held 62000000 0))
+inserted : (answer_at (after_calls (device (knows_leap leap.Insert)) calls_2) (behind 59) ≡ Some (held (Some (at 86400)) (lock.Holdover 59) cause.Held 61000099 58))
+    × (answer_at (after_calls (device (knows_leap leap.Insert)) (calls_3 59)) (behind 60) ≡ Some (held (Some new_year) (lock.Holdover 60) cause.Held 62000099 0))
 unfolding calls_1 heard width_of step_of told_of frame_told coded_told ones values_of field_at control_of offset_in utc_minute is_month_end four_years
 inserted = (refl, refl)
 
 -- 23:59:58 and the new year, with one that has a deletion
-deleted : (answer_at (after_calls (device (knows_leap leap.Delete)) calls_2) (behind 57) ≡ Some (held (Some (at 86398)) (lock.Holdover 57) cause.Held 59000000 56))
-    × (answer_at (after_calls (device (knows_leap leap.Delete)) (calls_3 57)) (behind 58) ≡ Some (held (Some new_year) (lock.Holdover 58) cause.Held 60000000 0))
+deleted : (answer_at (after_calls (device (knows_leap leap.Delete)) calls_2) (behind 57) ≡ Some (held (Some (at 86398)) (lock.Holdover 57) cause.Held 59000099 56))
+    × (answer_at (after_calls (device (knows_leap leap.Delete)) (calls_3 57)) (behind 58) ≡ Some (held (Some new_year) (lock.Holdover 58) cause.Held 60000099 0))
 unfolding calls_1 heard width_of step_of told_of frame_told coded_told ones values_of field_at control_of offset_in utc_minute is_month_end four_years
 deleted = (refl, refl)
 
 -- 23:59:58 and nothing more, without a table
-unknown : (answer_at (after_calls (device no_table) calls_2) (behind 57) ≡ Some (held (Some (at 86398)) (lock.Holdover 57) cause.Held 59000000 56))
-    × (answer_at (after_calls (device no_table) (calls_3 57)) (behind 58) ≡ Some (held None lock.Unlocked cause.LeapGuard 60000000 0))
+unknown : (answer_at (after_calls (device no_table) calls_2) (behind 57) ≡ Some (held (Some (at 86398)) (lock.Holdover 57) cause.Held 59000099 56))
+    × (answer_at (after_calls (device no_table) (calls_3 57)) (behind 58) ≡ Some (held None lock.Unlocked cause.LeapGuard 60000099 0))
 unfolding calls_1 heard width_of step_of told_of frame_told coded_told ones values_of field_at control_of offset_in utc_minute is_month_end four_years
 unknown = (refl, refl)
 
@@ -197,11 +197,11 @@ module _ (l : Leap) (calls : List Call) (now : ℕ) (beat : Beat) (u : UtcSecond
       device_true None rules clock (knows_leap l) new_lines 900000 are_new (IsTrueLately rules (with_leap l) edges) (with_leap l) edges 549 549 (is_device l) (omega arith)
       (λ time end pulses c is f soon. true_lately rules (with_leap l) 100 edges time end pulses c steady is f soon) calls now beat u ordered are
 
-told_60 : IsToldInHoldover (with_leap leap.Insert) edges 1549 549 100 100 (behind 59) (held (Some (at 86400)) (lock.Holdover 59) cause.Held 61000000 58) (at 86400)
+told_60 : IsToldInHoldover (with_leap leap.Insert) edges 1549 549 100 100 (behind 59) (held (Some (at 86400)) (lock.Holdover 59) cause.Held 61000099 58) (at 86400)
 told_60 = by_law leap.Insert calls_2 (behind 59) _ (at 86400) order.0.3 (truth leap.Insert).0.1 inserted.0 refl
 
-told_new_year : IsToldInHoldover (with_leap leap.Insert) edges 1549 549 100 100 (behind 60) (held (Some new_year) (lock.Holdover 60) cause.Held 62000000 0) new_year
+told_new_year : IsToldInHoldover (with_leap leap.Insert) edges 1549 549 100 100 (behind 60) (held (Some new_year) (lock.Holdover 60) cause.Held 62000099 0) new_year
 told_new_year = by_law leap.Insert (calls_3 59) (behind 60) _ new_year order.0 (truth leap.Insert).0 inserted.1 refl
 
-told_without_59 : IsToldInHoldover (with_leap leap.Delete) edges 1549 549 100 100 (behind 58) (held (Some new_year) (lock.Holdover 58) cause.Held 60000000 0) new_year
+told_without_59 : IsToldInHoldover (with_leap leap.Delete) edges 1549 549 100 100 (behind 58) (held (Some new_year) (lock.Holdover 58) cause.Held 60000099 0) new_year
 told_without_59 = by_law leap.Delete (calls_3 57) (behind 58) _ new_year order.1 (truth leap.Delete).1 deleted.1 refl

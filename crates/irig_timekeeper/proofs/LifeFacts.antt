@@ -37,6 +37,7 @@ use Rattle.irig_reader.specs.declared.rules.ReaderRules.{ReaderRules}
 use Rattle.irig_reader.specs.declared.report.Lock.TheVariants as lock
 use Rattle.irig_reader.specs.declared.report.Cause.TheVariants as cause
 use Rattle.irig_reader.specs.Rule.{step_of}
+use Rattle.irig_sync.proofs.EdgeLaws.{even_element}
 use Rattle.irig_timekeeper.specs.declared.lines.KeptClaim.{KeptClaim}
 use Rattle.irig_timekeeper.specs.declared.lines.Line.{Line}
 use Rattle.irig_timekeeper.specs.declared.lines.Lines.{Lines}
@@ -301,7 +302,7 @@ abbrev beat_3 : Beat
 beat_3 = record {
   report = record { announce = Some (at 43203); lock = lock.Locked; cause = cause.Voted };
   told = record silence { a = tells.Claim (claim_of 43202); b = tells.Claim (claim_of 43202); c = tells.Claim (claim_of 43200) };
-  edge_us = 1532504;
+  edge_us = 1532603;
   missed = 0;
   moved = 0;
 }
@@ -310,7 +311,7 @@ abbrev beat_4 : Beat
 beat_4 = record {
   report = record { announce = Some (at 43204); lock = lock.Holdover 1; cause = cause.Held };
   told = silence;
-  edge_us = 2532504;
+  edge_us = 2532603;
   missed = 0;
   moved = 0;
 }
@@ -338,7 +339,7 @@ abbrev pub made : Made
 made = record { limits = None; rules = rules; clock = clock; table = no_table; lines = new_lines; fresh = are_new }
 
 abbrev vote_3 : KeptClaim
-vote_3 = record { claim = claim_of 43202; end_us = 1532504 }
+vote_3 = record { claim = claim_of 43202; end_us = 1532603 }
 
 voted_3 : vote_at (after_calls device calls_3) (now_3 % 2 ^ 32) ≡ Some vote_3
 unfolding calls_3 elements_before with_element with_tick width_of lie line frame step_of told_of frame_told coded_told ones values_of field_at control_of offset_in utc_minute is_month_end four_years pulse_told
@@ -348,8 +349,8 @@ healed_4 : HasHealed IsTrueLately noon edges made 4293400000 life_4
 healed_4 = record { is = is_device; order = order_4; later = Tick now_4 ∷ []; mend = now_3; earlier = calls_3; are = refl; vote = vote_3; voted = voted_3; beat = beat_3; answer = answer_3; truth = truth_4.1.0; since = (truth_4.0, tt) }
 
 -- an event 0.25 s behind the last edge is stamped with its second, 2 ms before it with the one before
-stamp_4 : (stamp_at (after_tick (after_calls device (Tick now_3 ∷ calls_3)) (now_4 % 2 ^ 32)) 2782504 ≡ Some (record { second = at 43204; offset_us = 250000; bound_us = 1649 }))
-    × (stamp_at (after_tick (after_calls device (Tick now_3 ∷ calls_3)) (now_4 % 2 ^ 32)) 2530504 ≡ Some (record { second = at 43203; offset_us = 998000; bound_us = 1549 }))
+stamp_4 : (stamp_at (after_tick (after_calls device (Tick now_3 ∷ calls_3)) (now_4 % 2 ^ 32)) 2782603 ≡ Some (record { second = at 43204; offset_us = 250000; bound_us = 1649 }))
+    × (stamp_at (after_tick (after_calls device (Tick now_3 ∷ calls_3)) (now_4 % 2 ^ 32)) 2530603 ≡ Some (record { second = at 43203; offset_us = 998000; bound_us = 1549 }))
 unfolding calls_3 elements_before with_element pulse_told with_tick width_of lie line frame step_of told_of frame_told coded_told ones values_of field_at control_of offset_in utc_minute is_month_end four_years
 stamp_4 = (refl, refl)
 
@@ -391,7 +392,7 @@ stray : ¬ IsTrueLately rules noon edges 4293600000 stray_pulse
 unfolding stray_pulse
 stray is = elim is.are [
   | inl old ↦ absurd (omega (arith, old.0))
-  | inr new ↦ (let low : new.0 % 100 < 100 = omega arith in absurd (omega (arith, low, new.2.0.0, new.2.0.1)))
+  | inr new ↦ (let low : new.0 % 100 < 100 = omega arith in let time = even_element 1000100 edges (λ n. omega arith) new.0 in absurd (omega (arith, low, time, new.2.0.0, new.2.0.1)))
 ]
 
 stray_old : IsTrueLately rules noon edges 4294700601 stray_pulse
@@ -413,7 +414,7 @@ damaged is = elim is.are [
 ]
   where
     place_zero : (j : ℕ) → element_at edges j < 4293500000 + 450 → 4293500000 < element_at edges j + 450 → j % 100 ≡ 0
-    place_zero j least most = omega (arith, least, most)
+    place_zero j least most = let at = even_element 1000100 edges (λ n. omega arith) j in omega (arith, at, least, most)
 
     no_marker : ¬ IsRight 0 (Some One)
     no_marker e = cc
@@ -435,11 +436,11 @@ rotating is = elim (cases_Bool (is.untrue 0)) [
     stray_at : (rise : ℕ) → (rise ≡ 4293500600) ⊎ (rise ≡ 4293590600) → ¬ IsTrueLately rules noon edges 4293600000 (pulse_at rise 8000 ∷ [])
     stray_at rise (inl at) is = elim is.are [
       | inl old ↦ absurd (omega (arith, old.0, at))
-      | inr new ↦ (let low : new.0 % 100 < 100 = omega arith in absurd (omega (arith, low, at, new.2.0.0, new.2.0.1)))
+      | inr new ↦ (let low : new.0 % 100 < 100 = omega arith in let time = even_element 1000100 edges (λ n. omega arith) new.0 in absurd (omega (arith, low, at, time, new.2.0.0, new.2.0.1)))
     ]
     stray_at rise (inr at) is = elim is.are [
       | inl old ↦ absurd (omega (arith, old.0, at))
-      | inr new ↦ (let low : new.0 % 100 < 100 = omega arith in absurd (omega (arith, low, at, new.2.0.0, new.2.0.1)))
+      | inr new ↦ (let low : new.0 % 100 < 100 = omega arith in let time = even_element 1000100 edges (λ n. omega arith) new.0 in absurd (omega (arith, low, at, time, new.2.0.0, new.2.0.1)))
     ]
 
     two : (a b c d e : Bool) → a ≡ true → b ≡ true → ¬ (0 + cond a 1 0 + cond b 1 0 + cond c 1 0 + cond d 1 0 + cond e 1 0 ≤ 1)

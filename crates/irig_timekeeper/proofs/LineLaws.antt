@@ -5,7 +5,7 @@ use Rattle.std.proofs.lemmas.Bool.{cases_Bool, cases_lt, eqb-true, eqb-false}
 use Rattle.irig_frame.specs.declared.symbol.Symbol.{Symbol}
 use Rattle.irig_frame.specs.Symbols.{symbol_of}
 use Rattle.irig_sync.specs.Lines.{Pulse, pulse_at, AreOnTime, StandAt, symbols_of_last}
-use Rattle.irig_sync.specs.Edges.{element_at, IsClock}
+use Rattle.irig_sync.specs.Edges.{second_long, element_at, IsClock}
 use Rattle.irig_sync.specs.FaultyLines.{IsPulseOf}
 use Rattle.irig_sync.proofs.LineLaws.{on_time_is, only_whole}
 use Rattle.irig_sync.proofs.EdgeLaws.{is_next}
@@ -121,7 +121,7 @@ module _ (rules : Rules) (t : TimelineValue) (d : ℕ) (edges : ℕ → ℕ) (st
       let first : row.first ≡ 100 * f = omega (arith, whole) in
       let frame : (row.first + 99) / 100 ≡ f = omega (arith, whole) in
       let place : (row.first + 99) % 100 ≡ 99 = omega (arith, whole) in
-      let last : element_at edges (row.first + 99) ≡ edges f + 10000 * 99 = ap (λ (i : ℕ). edges i + 10000 * ((row.first + 99) % 100)) frame ∙ ap (λ (i : ℕ). edges f + 10000 * i) place in
+      let last : element_at edges (row.first + 99) ≡ edges f + second_long edges f * 99 / 100 = rw (frame, place) refl in
       record {
         second = f;
         near = record {

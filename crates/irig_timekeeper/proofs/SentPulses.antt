@@ -14,6 +14,7 @@ use Rattle.irig_sync.specs.FaultyLines.{IsPulseOf, ArePulsesBefore}
 use Rattle.irig_sync.proofs.FaultLaws.{row, of_row}
 use Rattle.irig_vote.specs.declared.redundancy.Redundancy.{Redundancy}
 use Rattle.irig_vote.specs.Vote.{ports_in}
+use Rattle.irig_sync.proofs.EdgeLaws.{even_element}
 use Rattle.irig_timekeeper.specs.Edges.{IsQuartz}
 use Rattle.irig_timekeeper.specs.Lines.{ArePulsesLately}
 use Rattle.irig_timekeeper.specs.Steps.{is_pulse}
@@ -38,7 +39,7 @@ abbrev pub tick : ℕ → ℕ
 tick k = 9999000 + 10000 * k
 
 at_element : (k : ℕ) → element_at edges k ≡ rise k
-at_element k = omega arith
+at_element k = let at = even_element 1000000 edges (λ n. omega arith) k in omega (arith, at)
 
 -- ---- widths
 

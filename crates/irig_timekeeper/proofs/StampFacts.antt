@@ -118,10 +118,10 @@ abbrev device : Keeping
 device = new_keeping None rules clock no_table new_lines
 
 abbrev fast_stamp : Stamp
-fast_stamp = record { second = at 43202; offset_us = 250125; bound_us = 1549 }
+fast_stamp = record { second = at 43202; offset_us = 250026; bound_us = 1549 }
 
 abbrev slow_stamp : Stamp
-slow_stamp = record { second = at 43202; offset_us = 249875; bound_us = 1549 }
+slow_stamp = record { second = at 43202; offset_us = 249974; bound_us = 1549 }
 
 stamps : (stamp_at (after_calls device by_fast) 3250225 ≡ Some fast_stamp) × (stamp_at (after_calls device by_slow) 3249775 ≡ Some slow_stamp)
 unfolding by_fast by_slow heard width_of frames step_of told_of frame_told coded_told ones values_of field_at control_of offset_in utc_minute is_month_end four_years
