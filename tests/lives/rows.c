@@ -552,8 +552,9 @@ static expected expect(uint32_t edge) {
                       alone == 101 ? IRIG_CAUSE_EXPIRED : IRIG_CAUSE_NO_VOTE, 0, 0, 100 * alone};
 }
 
-/* From 23:58:50 of 2016-12-31 over 23:59:60. A frame ends 100 us before its edge, since elements
- * are 10,000 us by the counter. By a vote the first two lines agree, and the last is silent. */
+/* From 23:58:50 of 2016-12-31 over 23:59:60. A frame ends 1 us before its edge: its last element,
+ * which is 10,001 us long by the counter, is taken for 10,000. By a vote the first two lines agree,
+ * and the last is silent. */
 static bool is_expected(const life *l, uint32_t edge) {
     const irig_second *s = &l->told[edge - 1].second;
     const irig_report *r = &s->report;
@@ -562,7 +563,7 @@ static bool is_expected(const life *l, uint32_t edge) {
     bool is_voted = is.cause == IRIG_CAUSE_VOTED || is.cause == IRIG_CAUSE_ACQUIRING;
     return r->announces == is.is_announced && r->lock == is.lock && r->cause == is.cause &&
            r->lock_count == is.lock_count && s->missed == 0 && s->moved == is.moved &&
-           s->edge_us == (uint32_t)l->world.edge_us[edge] - 100 - is.early_us &&
+           s->edge_us == (uint32_t)l->world.edge_us[edge] - 1 - is.early_us &&
            r->day == (is.is_announced ? day : 0) && r->sod == (is.is_announced ? sod : 0) &&
            r->agreed == (is_voted ? 3 : 0) && r->quality == (is_voted ? 2 : 15) &&
            r->has_local == is_voted && r->dst == is_voted && r->differed == 0 && r->faulty == 0 &&
