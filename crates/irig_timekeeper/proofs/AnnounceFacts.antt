@@ -1,4 +1,4 @@
--- Two loops that announce: three lines, of which one lies, by a counter that is 100 us a second slow
+-- Two loops that announce: three lines, of which one lies, by a counter that is 100 us a second fast
 -- and wraps. One ticks each 90 ms, the other 90 ms behind each time that `wait` names.
 use Rattle.std.specs.Prelude.{◌==◌, nat_lt, nat_le, get_or, count_by}
 use Rattle.std.specs.List.{range_with_len}
@@ -51,7 +51,7 @@ told_3 : told_of rules frame_3 ≡ tells.Claim (claim_of 43203)
 unfolding told_of frame_told coded_told ones values_of field_at control_of offset_in utc_minute is_month_end four_years
 told_3 = refl
 
-frames : ℕ → List Symbol
+unfoldable pub frames : ℕ → List Symbol
 frames zero = frame_0
 frames (suc zero) = frame_1
 frames (suc (suc zero)) = frame_2
@@ -73,14 +73,14 @@ is_line = checked_is_line rules noon line (sent_is_checked rules noon 4 frames c
 
 -- ---- the pulses of the two lines that do not lie
 
-rise_of : ℕ → ℕ → ℕ
+unfoldable pub rise_of : ℕ → ℕ → ℕ
 rise_of zero k = element_at edges k + 400
 rise_of (suc i) k = element_at edges k - 400
 
-pulse : ℕ → ℕ → Pulse
+unfoldable pub pulse : ℕ → ℕ → Pulse
 pulse i k = pulse_at (rise_of i k) (width_of (line k))
 
-sent : ℕ → ℕ → List Pulse
+unfoldable pub sent : ℕ → ℕ → List Pulse
 sent i zero = []
 sent i (suc k) = pulse i k ∷ sent i k
 
@@ -168,23 +168,23 @@ is_whole i f low = record {
 -- ---- the calls: each element is told of the lines by when their pulses end. The liar sends the
 -- frame of another of these seconds
 
-lie : ℕ → Symbol
+unfoldable pub lie : ℕ → Symbol
 lie k = get_or (frames ((k / 100 + 1) % 4)) (k % 100) Zero
 
-own : ℕ → ℕ → Call
+unfoldable pub own : ℕ → ℕ → Call
 own i k = Hear i (rise_of i k) (width_of (line k))
 
-others : ℕ → Call
+unfoldable pub others : ℕ → Call
 others k = Hear 2 (element_at edges k + 999) (width_of (lie k))
 
-with_element : ℕ → List Call → List Call
+unfoldable pub with_element : ℕ → List Call → List Call
 with_element k calls =
     cond (nat_lt (width_of (lie k)) (width_of (line k)))
     (own 0 k ∷ own 1 k ∷ others k ∷ calls)
     (others k ∷ own 0 k ∷ own 1 k ∷ calls)
 
 -- with a tick before each ninth
-polls : ℕ → List Call
+unfoldable pub polls : ℕ → List Call
 polls zero = []
 polls (suc k) = with_element k (cond (k % 9 == 0) (Tick (element_at edges k - 1000) ∷ polls k) (polls k))
 
@@ -211,7 +211,7 @@ waited_now = 4297589999
 unfoldable by_wait : List Call
 by_wait = Tick waited_now ∷ waited
 
-abbrev start : ℕ
+abbrev pub start : ℕ
 start = 4293490000
 
 -- ---- their order
@@ -248,17 +248,15 @@ waits_answer = refl
 drop_some : (i n k m : ℕ) → m ≡ k + n → drop n (sent i m) ≡ sent i k
 drop_some i n k m same = ap (λ (j : ℕ). drop n (sent i j)) same ∙ drop_sent i k n
 
-comes_whole : (m : ℕ) (calls : List Call) → 400 ≤ m → ((i : ℕ) → i < 2 → pulses_on i calls ≡ sent i m) → (n : ℕ) → n < 4 → ComesWhole noon edges device (1 + n) (calls ++ [])
-comes_whole m calls long are n low = record {
+pub comes_whole : (m : ℕ) (calls : List Call) → ((i : ℕ) → i < 2 → pulses_on i calls ≡ sent i m) → (n : ℕ) → n < 4 → 100 * n + 100 ≤ m → ComesWhole noon edges device (1 + n) calls
+comes_whole m calls are n low long = record {
   whole = λ i. nat_lt i 2;
   many = (let two : count_by (λ (i : ℕ). nat_lt i 2) (range_with_len 0 5) ≡ 2 = refl in omega (arith, two));
   frames = λ i small first.
-      let parts : m ≡ 100 * n + 100 + (m - (100 * n + 100)) = omega (arith, long, low) in
-      let none : calls ++ [] ≡ calls = append-nil calls in
-      let pulses : pulses_on i (calls ++ []) ≡ sent i m = ap (pulses_on i) none ∙ are i (ltb-true i 2 first) in
+      let parts : m ≡ 100 * n + 100 + (m - (100 * n + 100)) = omega (arith, long) in
       let next : n + 1 ≡ 1 + n = omega arith in (
         m - (100 * n + 100),
-        subst (λ (ps : List Pulse). IsWhole None rules noon edges (1 + n) (drop (m - (100 * n + 100)) ps)) (sym pulses)
+        subst (λ (ps : List Pulse). IsWhole None rules noon edges (1 + n) (drop (m - (100 * n + 100)) ps)) (sym (are i (ltb-true i 2 first)))
             (subst (IsWhole None rules noon edges (1 + n)) (sym (drop_some i (m - (100 * n + 100)) (100 * n + 100) m parts))
             (subst (λ (j : ℕ). IsWhole None rules noon edges j (sent i (100 * n + 100))) next (is_whole i n low))),
       );
@@ -296,10 +294,10 @@ waits_rest (suc (suc (suc (suc (suc i))))) small high = absurd (omega (arith, sm
 
 -- ---- at each tick all lines but the third are true
 
-Left : ℕ → List Pulse → Type 0
+unfoldable pub Left : ℕ → List Pulse → Type 0
 Left k ps = ArePulsesLeft line edges 450 k ps
 
-AllLeft : ℕ → List Call → Type 0
+unfoldable pub AllLeft : ℕ → List Call → Type 0
 AllLeft k calls = (i : ℕ) → i < 5 → ¬ (i ≡ 2) → Left k (pulses_on i calls)
 
 left_tail : (k : ℕ) (p : Pulse) (ps : List Pulse) → Left k (p ∷ ps) → Left k ps
@@ -322,7 +320,7 @@ less_left k port rise width calls left i small other = elim (cases_Bool (is_puls
   ]
 ]
 
-truly : (k : ℕ) (calls : List Call) → AllLeft k calls → AreTrueOver (IsTrueLately rules noon edges) 1 calls []
+pub truly : (k : ℕ) (calls : List Call) → AllLeft k calls → AreTrueOver (IsTrueLately rules noon edges) 1 calls []
 unfolding AllLeft
 truly k [] left = tt
 truly k (Hear port rise width ∷ calls) left = truly k calls (less_left k port rise width calls left)
@@ -337,7 +335,7 @@ truly k (Tick now ∷ calls) left = (
   truly k calls left,
 )
 
-all_left : (m : ℕ) (calls : List Call) → ((i : ℕ) → i < 2 → pulses_on i calls ≡ sent i m) → ((i : ℕ) → i < 5 → 2 < i → pulses_on i calls ≡ []) → AllLeft m calls
+pub all_left : (m : ℕ) (calls : List Call) → ((i : ℕ) → i < 2 → pulses_on i calls ≡ sent i m) → ((i : ℕ) → i < 5 → 2 < i → pulses_on i calls ≡ []) → AllLeft m calls
 unfolding AllLeft Left
 all_left m calls are none i small other = elim (cases_lt i 2) [
   | inl low ↦ subst (Left m) (sym (are i low)) (are_left i m)
@@ -460,11 +458,11 @@ in_a_row m calls long are none order late =
       risen = λ i. tt;
       ticked = omega arith;
       past = omega arith;
-      whole = comes_whole m calls long are;
+      whole = λ n low. subst (ComesWhole noon edges device (1 + n)) (sym same) (comes_whole m calls are n low (omega (arith, long, low)));
       last = subst (λ (c : List Call). edges 4 + 2000 ≤ last_tick start c) (sym same) late;
     }
 
-second_4 : IsSecond noon 4 (at 43204)
+pub second_4 : IsSecond noon 4 (at 43204)
 second_4 = record { from = omega arith; to = omega arith; sod = omega arith; sum = refl }
 
 polls_late : edges 4 + 2000 ≤ last_tick start by_polls
