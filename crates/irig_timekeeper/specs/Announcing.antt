@@ -20,12 +20,13 @@ use Rattle.irig_timekeeper.specs.declared.clock.Beat.{Beat}
 use Rattle.irig_timekeeper.specs.Keeping.{Keeping, answer_at}
 use Rattle.irig_timekeeper.specs.Life.{Call, after_calls, pulses_on, last_tick, AreTrueOver}
 use Rattle.irig_timekeeper.specs.Life.Call.{Tick}
+use Rattle.irig_timekeeper.specs.Exactness.{within_us, vote_late_us}
 
 -- what came before the frame that begins then does not hide its first pulse: nothing, a marker, or
 -- what rose 11.45 ms before it or longer
 abbrev pub LeavesTheFirst : ℕ → List Pulse → Type 0
 LeavesTheFirst begin [] = ⊤
-LeavesTheFirst begin (q ∷ qs) = (is_marker q.width ≡ true) ⊎ (q.rise + 11450 ≤ begin)
+LeavesTheFirst begin (q ∷ qs) = (is_marker q.width ≡ true) ⊎ (q.rise + 11000 + within_us ≤ begin)
 
 -- the newest hundred of these pulses are the whole frame that ends at the m-th edge, each less than
 -- 450 us off, and tell the true claim of the second before it
@@ -39,7 +40,7 @@ pub record IsWhole (limits : Option Limits) (rules : Rules) (t : TimelineValue) 
   pub earlier : List Pulse
   pub parts : pulses ≡ frame ++ earlier
   pub hundred : length frame ≡ 100
-  pub are : ArePulsesBefore line edges 450 (100 * f + 100) frame
+  pub are : ArePulsesBefore line edges within_us (100 * f + 100) frame
   pub first : LeavesTheFirst (edges f) earlier
   pub claim : Claim
   pub tells : told_within limits rules (symbols_of_last 100 pulses) ≡ tells.Claim claim
@@ -65,7 +66,7 @@ pub record IsWellHeard (IsTrue : ℕ → List Pulse → Type 0) (t : TimelineVal
   pub others : List Call
   pub are : calls ≡ Tick now ∷ others
   pub early : last_tick start (others ++ before) ≤ edges m + 3000
-  pub come : edges m + 549 ≤ now
+  pub come : edges m + vote_late_us ≤ now
   pub soon : now ≤ edges m + 98000
   pub frames : ComesWhole t edges new m (others ++ before)
   pub truth : AreTrueOver IsTrue (f_of new.clock.redundancy) calls before

@@ -20,6 +20,7 @@ use Rattle.irig_timekeeper.specs.declared.clock.ClockState.{ClockState}
 use Rattle.irig_timekeeper.specs.Counting.{edges_to_vote, edges_own, edge_behind}
 use Rattle.irig_timekeeper.specs.Steps.{settled, taken, tells_of, agreed, if_come, wait_by}
 use Rattle.irig_timekeeper.specs.Rule.{step_behind}
+use Rattle.irig_timekeeper.specs.Exactness.{vote_early_us}
 
 -- ---- a second that is announced
 
@@ -30,9 +31,9 @@ lasted (lock.Acquiring count) = 0
 lasted lock.Locked = 0
 lasted (lock.Holdover edges) = edges
 
--- its edge lies at most 1.549 ms off, and the drift of each second since the last vote
+-- its edge lies at most as far off as a vote's, and the drift of each second since the last vote
 abbrev pub bound_of : ℕ → Lock → ℕ
-bound_of drift lock = 1549 + lasted lock * drift
+bound_of drift lock = vote_early_us + lasted lock * drift
 
 -- what is kept of it
 abbrev pub announced_at : ℕ → ℕ → Option UtcSecond → Option Announced

@@ -1,3 +1,4 @@
+pub mod Exactness
 pub mod Edges
 pub mod Lines
 pub mod Counting

@@ -13,6 +13,7 @@ use Rattle.irig_time.specs.declared.claim.Claim.{Claim}
 use Rattle.irig_time.specs.Carries.{Carries}
 use Rattle.irig_time.specs.Timelines.{TimelineValue, IsTrueClaim}
 use Rattle.irig_timekeeper.specs.declared.lines.KeptClaim.{KeptClaim}
+use Rattle.irig_timekeeper.specs.Exactness.{within_us}
 
 -- of these pulses, the newest first, those that rose within 1.2 s before now, or later, are those of
 -- some elements before the k-th, each less than 450 us off, in order: any others were lost
@@ -20,7 +21,7 @@ abbrev pub ArePulsesLately : (ℕ → Symbol) → (ℕ → ℕ) → ℕ → ℕ 
 ArePulsesLately line edges now k [] = ⊤
 ArePulsesLately line edges now k (p ∷ ps) =
     ((p.rise + 1200000 < now) × ArePulsesLately line edges now k ps)
-    ⊎ ((j : ℕ) × (j < k) × IsPulseOf line edges 450 j p × ArePulsesLately line edges now j ps)
+    ⊎ ((j : ℕ) × (j < k) × IsPulseOf line edges within_us j p × ArePulsesLately line edges now j ps)
 
 -- a line of frames whose f-th, if it carries a claim, carries the true one of T(f)
 pub record IsLineOf (rules : Rules) (t : TimelineValue) (line : ℕ → Symbol) : Type 0 where
@@ -101,8 +102,8 @@ RoseBefore time (p ∷ ps) = p.rise < time
 -- one is lost too
 pub record HasOneFaultInPlace (line : ℕ → Symbol) (edges : ℕ → ℕ) (pulses : List Pulse)
     : Type 0 where
-  pub one : HasOneFault line edges 450 pulses
-  pub in_place : RoseBefore (element_at edges (one.element + 1) + 450) one.fault
+  pub one : HasOneFault line edges within_us pulses
+  pub in_place : RoseBefore (element_at edges (one.element + 1) + within_us) one.fault
 
 -- these pulses rose within 1.2 s before now, or later
 abbrev pub RoseLately : ℕ → List Pulse → Type 0

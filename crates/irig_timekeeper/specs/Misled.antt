@@ -12,6 +12,7 @@ use Rattle.irig_timekeeper.specs.Keeping.{answer_at}
 use Rattle.irig_timekeeper.specs.Truth.{IsEdgeAt}
 use Rattle.irig_timekeeper.specs.Life.{Call, Made, AreInOrder, AreTrueAtTicks, life_of}
 use Rattle.irig_timekeeper.specs.Life.Call.{Tick}
+use Rattle.irig_timekeeper.specs.Exactness.{vote_late_us, vote_early_us, most_held_us}
 
 -- a device of a setup and a table that are not refused, with a steady counter on a sound timeline:
 -- its calls are in order, and at each tick all but at most so many lines are true. The last tick
@@ -21,7 +22,7 @@ pub record IsMisled (t : TimelineValue) (made : Made) (untrue_lines : ℕ) : Typ
   pub steady : IsQuartz made.clock.drift_us edges
   pub sound : IsTimeline t
   pub listed : table_fault made.table.until made.table.leaps ≡ None
-  pub short : (made.clock.reader_rules.holdover + 2) * made.clock.drift_us ≤ 490000
+  pub short : (made.clock.reader_rules.holdover + 2) * made.clock.drift_us ≤ most_held_us
   pub start : ℕ
   pub calls : List Call
   pub now : ℕ
@@ -34,5 +35,5 @@ pub record IsMisled (t : TimelineValue) (made : Made) (untrue_lines : ℕ) : Typ
   pub m : ℕ
   pub edge : ℕ
   pub told : IsEdgeAt beat.edge_us edge now
-  pub near : IsNear edges 1549 549 m edge
+  pub near : IsNear edges vote_early_us vote_late_us m edge
   pub untrue : ¬ IsSecond t m u

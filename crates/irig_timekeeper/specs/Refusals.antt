@@ -4,10 +4,11 @@ use Rattle.std.specs.Prelude.{ℕ, ◌+◌, ◌*◌, nat_lt, if◌then◌else◌
 use Rattle.irig_reader.specs.declared.rules.ReaderRules.{ReaderRules}
 use Rattle.irig_timekeeper.specs.declared.setup.ClockFault.{ClockFault}
 use Rattle.irig_timekeeper.specs.declared.setup.ClockFault.TheVariants.{Drift, Holdover}
+use Rattle.irig_timekeeper.specs.Exactness.{most_drift_us, most_held_us}
 
 -- the counter is more than 100 us a second wrong, or so much that it could be half a second wrong
 -- when the holdover ends
 abbrev pub clock_fault : ReaderRules → ℕ → Option ClockFault
 clock_fault rules drift =
-    if nat_lt 100 drift then Some Drift
-    else (if nat_lt 490000 ((rules.holdover + 2) * drift) then Some Holdover else None)
+    if nat_lt most_drift_us drift then Some Drift
+    else (if nat_lt most_held_us ((rules.holdover + 2) * drift) then Some Holdover else None)

@@ -8,6 +8,7 @@ use Rattle.irig_timekeeper.specs.declared.stamp.Stamp.{Stamp}
 use Rattle.irig_timekeeper.specs.Keeping.{Keeping, answer_at}
 use Rattle.irig_timekeeper.specs.Life.{Call, Made, after_calls, device_of, life_of}
 use Rattle.irig_timekeeper.specs.Life.Call.{Tick}
+use Rattle.irig_timekeeper.specs.Exactness.{vote_early_us}
 
 -- none, if the cause is a vote; else so many
 abbrev pub unless_voted : Cause → ℕ → ℕ
@@ -26,7 +27,7 @@ since_vote new (Tick now ∷ calls) =
     since_answer (answer_at (after_calls new calls) (now % 2 ^ 32)) (since_vote new calls)
 since_vote new (_ ∷ calls) = since_vote new calls
 
--- a tick announced the second of the stamp, whose bound is 1.549 ms and the drift of each second
+-- a tick announced the second of the stamp, whose bound is a vote's and the drift of each second
 -- that had been counted by then since the last vote
 pub record HasItsBound (made : Made) (calls : List Call) (stamp : Stamp) : Type 0 where
   pub later : List Call
@@ -37,4 +38,4 @@ pub record HasItsBound (made : Made) (calls : List Call) (stamp : Stamp) : Type 
   pub answer : answer_at (life_of made earlier) (now % 2 ^ 32) ≡ Some beat
   pub says : beat.report.announce ≡ Some stamp.second
   pub bound : stamp.bound_us
-      ≡ 1549 + since_vote (device_of made) (Tick now ∷ earlier) * made.clock.drift_us
+      ≡ vote_early_us + since_vote (device_of made) (Tick now ∷ earlier) * made.clock.drift_us

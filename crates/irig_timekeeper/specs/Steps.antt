@@ -14,6 +14,7 @@ use Rattle.irig_timekeeper.specs.declared.lines.KeptClaim.{KeptClaim}
 use Rattle.irig_timekeeper.specs.declared.lines.Line.{Line}
 use Rattle.irig_timekeeper.specs.declared.lines.Lines.{Lines}
 use Rattle.irig_timekeeper.specs.Counting.{is_late, has_come}
+use Rattle.irig_timekeeper.specs.Exactness.{window_us}
 
 -- ---- a pulse
 
@@ -124,7 +125,7 @@ all_kept lines =
 -- a frame of the same claim that ends with this one, or less than 1,001 us behind it
 abbrev pub agrees : KeptClaim → Option KeptClaim → Bool
 agrees x None = false
-agrees x (Some y) = same_claim x.claim y.claim && nat_le (clock_gap x.end_us y.end_us) 1000
+agrees x (Some y) = same_claim x.claim y.claim && nat_le (clock_gap x.end_us y.end_us) window_us
 
 -- more than f frames, itself among them, agree with this one
 abbrev pub is_candidate : ℕ → KeptClaim → List (Option KeptClaim) → Bool
@@ -133,7 +134,7 @@ is_candidate f x all = nat_lt f (count_by (agrees x) all)
 -- of two candidates the one that ends later
 abbrev pub later : Option KeptClaim → KeptClaim → Option KeptClaim
 later None x = Some x
-later (Some y) x = if nat_le (clock_gap y.end_us x.end_us) 1000 then Some x else Some y
+later (Some y) x = if nat_le (clock_gap y.end_us x.end_us) window_us then Some x else Some y
 
 -- of these frames the candidate that ends last, or the one so far
 abbrev pub last_candidate : ℕ → List (Option KeptClaim) → List (Option KeptClaim) → Option KeptClaim → Option KeptClaim

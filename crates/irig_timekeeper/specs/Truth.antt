@@ -24,6 +24,7 @@ use Rattle.irig_timekeeper.specs.Clock.{lasted}
 use Rattle.irig_timekeeper.specs.Edges.{IsQuartz, IsNear, IsTrueNear}
 use Rattle.irig_timekeeper.specs.Lines.{IfKept, IsInTurnOf}
 use Rattle.irig_timekeeper.specs.Steps.{line_at, claim_kept}
+use Rattle.irig_timekeeper.specs.Exactness.{vote_early_us, most_held_us}
 
 -- the lines keep frames of these pulses, and all but at most f of the five are such true lines; a
 -- line that is not there brought no pulse
@@ -131,7 +132,7 @@ pub record IsDevice (t : TimelineValue) (d : ℕ) (edges : ℕ → ℕ) (rules :
   pub steady : IsQuartz d edges
   pub sound : IsTimeline t
   pub knows : KnowsMonthEnds t rules table
-  pub short : (rules.holdover + 2) * d ≤ 490000
+  pub short : (rules.holdover + 2) * d ≤ most_held_us
 
 -- the one second is T(m), and the other one T(n) for a greater n
 pub record IsLaterSecond (t : TimelineValue) (u v : UtcSecond) : Type 0 where
@@ -157,7 +158,7 @@ pub record IsStampedTruly (t : TimelineValue) (edges : ℕ → ℕ) (more time :
   pub truth : IsSecond t m stamp.second
   pub early : edges m + stamp.offset_us ≤ time + stamp.bound_us + more
   pub late : time ≤ edges m + stamp.offset_us + stamp.bound_us + more
-  pub small : stamp.bound_us ≤ 491549
+  pub small : stamp.bound_us ≤ vote_early_us + most_held_us
   pub behind : stamp.offset_us ≤ 1000000 + stamp.bound_us
 
 -- by a counter that is at most d us a second wrong the time is that of the instant tau us behind

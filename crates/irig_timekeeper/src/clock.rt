@@ -8,6 +8,7 @@ ghost use Rattle.irig_timekeeper.specs.Rule.{missed, step_behind};
 ghost use Rattle.irig_timekeeper.specs.Steps.{AreKeptOfUtc, AreNewLines};
 ghost use Rattle.irig_timekeeper.specs.Keeping.{new_state};
 ghost use Rattle.irig_timekeeper.specs.Clock.{lasted, bound_of, announced, still_serves, beat_by, beaten, step_to, after_vote, answer_to_vote, after_own, answer_alone, clock_after, clock_answer, clock_vote, clock_wait, SaysOfUtc, AnnouncedOfUtc};
+ghost use Rattle.irig_timekeeper.specs.Exactness.{most_held_us};
 
 use crate::counting::{edge_behind, edges_own, edges_to_vote};
 use crate::lines::{
@@ -95,7 +96,7 @@ pub fn clock_of_nothing() -> ClockState
 /// [`valid`](irig_time::valid) second, and a reader that is acquiring had fewer votes than it locks
 /// after.
 pub fn tick<T: Leaps>(rules: &ClockRules, table: &T, state: &mut ClockState, now_us: u32) -> Ticked
-    requires short { (rules.now.reader_rules.holdover + 2) * rules.now.drift_us ≤ 490000 }
+    requires short { (rules.now.reader_rules.holdover + 2) * rules.now.drift_us ≤ most_held_us }
     requires counting { count_of state.old.reader < rules.now.reader_rules.lock_after }
     requires valid { AreKeptOfUtc state.old.lines }
     ensures answer { result.beat ≡ clock_answer rules.now (T.says table.now) state.old now_us }
@@ -120,7 +121,7 @@ fn tick_by_vote<T: Leaps>(
     state: &mut ClockState,
     vote: KeptClaim,
 ) -> Ticked
-    requires short { (rules.now.reader_rules.holdover + 2) * rules.now.drift_us ≤ 490000 }
+    requires short { (rules.now.reader_rules.holdover + 2) * rules.now.drift_us ≤ most_held_us }
     requires counting { count_of state.old.reader < rules.now.reader_rules.lock_after }
     requires valid { IsValid vote.claim.at }
     ensures answer { result.beat ≡ answer_to_vote rules.now (T.says table.now) state.old vote
@@ -155,7 +156,7 @@ fn tick_alone<T: Leaps>(
     state: &mut ClockState,
     now_us: u32,
 ) -> Ticked
-    requires short { (rules.now.reader_rules.holdover + 2) * rules.now.drift_us ≤ 490000 }
+    requires short { (rules.now.reader_rules.holdover + 2) * rules.now.drift_us ≤ most_held_us }
     requires counting { count_of state.old.reader < rules.now.reader_rules.lock_after }
     requires valid { AreKeptOfUtc state.old.lines }
     ensures answer { result.beat ≡ answer_alone rules.now (T.says table.now) state.old
@@ -188,7 +189,7 @@ fn beat_at<T: Leaps>(
     vote: Option<Claim>,
     edge_us: u32,
 ) -> Beat
-    requires short { (rules.now.reader_rules.holdover + 2) * rules.now.drift_us ≤ 490000 }
+    requires short { (rules.now.reader_rules.holdover + 2) * rules.now.drift_us ≤ most_held_us }
     requires counting { count_of state.old.reader < rules.now.reader_rules.lock_after }
     requires valid { IfSome vote (λ claim. IsValid claim.at) }
     requires some { 1 ≤ edges }
@@ -257,7 +258,7 @@ fn still_serves(
 
 // What is kept of a second that is announced.
 fn announced(rules: &ClockRules, report: &Report, edge_us: u32) -> Option<Announced>
-    requires short { (rules.now.reader_rules.holdover + 2) * rules.now.drift_us ≤ 490000 }
+    requires short { (rules.now.reader_rules.holdover + 2) * rules.now.drift_us ≤ most_held_us }
     requires lasted { lasted report.now.lock ≤ rules.now.reader_rules.holdover }
     ensures value { result ≡ announced rules.now.drift_us report.now edge_us }
     ensures valid { IfSome report.now.announce IsValid

@@ -12,6 +12,7 @@ ghost use Rattle.irig_vote.specs.Vote.{ports_in};
 ghost use Rattle.irig_reader.specs.Rule.{count_of};
 ghost use Rattle.irig_reader.specs.Rules.{IsReaderRules};
 ghost use Rattle.irig_timekeeper.specs.Steps.{line_at, line_heard, AreKeptOfUtc, IsKeptOfUtc, AreNewLines};
+ghost use Rattle.irig_timekeeper.specs.Exactness.{vote_late_us, vote_early_us, most_held_us};
 
 use crate::clock::{Beat, ClockRules, ClockState, clock_of_nothing, tick, wait_of};
 use crate::lines::{KeptFrame, Line, is_pulse, line_at, with_line};
@@ -37,7 +38,7 @@ pub struct Timekeeper<P: Port> {
     pub(crate) clock: ClockRules,
     pub(crate) table: LeapTable,
     pub(crate) state: ClockState,
-    ghost short: { (clock.reader_rules.holdover + 2) * clock.drift_us ≤ 490000 },
+    ghost short: { (clock.reader_rules.holdover + 2) * clock.drift_us ≤ most_held_us },
     ghost counting: { count_of state.reader < clock.reader_rules.lock_after },
     ghost valid: { ∥ AreKeptOfUtc state.lines ∥₁ },
 }
@@ -243,8 +244,8 @@ impl<P: Port> Timekeeper<P> {
             (calls : List Call) (beat : Beat) (u : UtcSecond) → HasLived self.old made calls
             → now_us ≡ now % 2 ^ 32
             → LivesWell IsTrueLately t edges made start (Tick now ∷ calls)
-            → result ≡ Some beat → beat.report.announce ≡ Some u → IsToldInHoldover t edges 1549
-            549 made.clock.drift_us made.clock.reader_rules.holdover now beat u }
+            → result ≡ Some beat → beat.report.announce ≡ Some u → IsToldInHoldover t edges vote_early_us
+            vote_late_us made.clock.drift_us made.clock.reader_rules.holdover now beat u }
         ensures lines { self.new.clock ≡ self.old.clock }
     {
         tick(&self.clock, &self.table, &mut self.state, now_us).beat

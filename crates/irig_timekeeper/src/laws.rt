@@ -1,7 +1,7 @@
 //! Laws of a timekeeper over its definitions. They have no code, and speak of values: no call of a
 //! timekeeper takes a timeline.
 
-ghost use Rattle.std.specs.Prelude.{◌≡◌, ◌+◌, ◌*◌, ◌%◌, ◌^◌, ◌<◌, ◌≤◌, ◌⊎◌, ℕ, suc, List, ◌∷◌, ◌++◌, Option, Some, None, count_by, false};
+ghost use Rattle.std.specs.Prelude.{◌≡◌, ◌+◌, ◌-◌, ◌*◌, ◌%◌, ◌^◌, ◌<◌, ◌≤◌, ◌⊎◌, ℕ, suc, List, ◌∷◌, ◌++◌, Option, Some, None, count_by, false};
 ghost use Rattle.irig_frame.specs.declared.symbol.Symbol.{Symbol};
 ghost use Rattle.irig_sync.specs.declared.sync.Sync.{Sync};
 ghost use Rattle.irig_sync.specs.Sync.{place_of};
@@ -30,6 +30,7 @@ ghost use Rattle.irig_timekeeper.specs.Life.{Call, Made, AreInOrder, AreTrueLate
 ghost use Rattle.irig_timekeeper.specs.Life.Call.{Tick};
 ghost use Rattle.irig_timekeeper.specs.Since.{since_vote, HasItsBound};
 ghost use Rattle.irig_timekeeper.specs.Healing.{HasHealed};
+ghost use Rattle.irig_timekeeper.specs.Exactness.{within_us, most_drift_us, vote_late_us, vote_early_us, most_held_us};
 
 use crate::clock::Beat;
 use crate::lines::{KeptClaim, KeptFrame, Lines};
@@ -71,7 +72,7 @@ pub fn kept_frames_are_true()
     ensures { (rules : Rules) (t : TimelineValue) (d now end : ℕ) (edges : ℕ → ℕ)
         (pulses : List Pulse) (claim : Claim) → IsQuartz d edges
         → IsTrueLately rules t edges now pulses → IsFrameOf rules claim end pulses
-        → now ≤ end + 100000 → IsTrueNear t edges (449 + d) (449 + d) end claim }
+        → now ≤ end + 100000 → IsTrueNear t edges (within_us - 1 + d) (within_us - 1 + d) end claim }
 {}
 
 /// A vote is true whenever it is told: if at most f lines were untrue in the last 1.2 s, the frame
@@ -83,13 +84,13 @@ pub fn votes_are_true()
         (pulses : ℕ → List Pulse) (vote : KeptClaim) → IsQuartz d edges
         → AreHeardTruly (IsTrueLately k.rules t edges now) k.rules (f_of k.clock.redundancy) now
         k.state.lines pulses
-        → vote_at k (now % 2 ^ 32) ≡ Some vote → IsTrueVote t edges 1549 549 now vote }
+        → vote_at k (now % 2 ^ 32) ≡ Some vote → IsTrueVote t edges vote_early_us vote_late_us now vote }
     ensures second { (t : TimelineValue) (d : ℕ) (edges : ℕ → ℕ) (k : Keeping) (now : ℕ)
         (pulses : ℕ → List Pulse) (beat : Beat) (u : UtcSecond) → IsQuartz d edges → IsTimeline t
         → AreHeardTruly (IsTrueLately k.rules t edges now) k.rules (f_of k.clock.redundancy) now
         k.state.lines pulses
         → answer_at k (now % 2 ^ 32) ≡ Some beat → beat.report.cause ≡ Cause.Voted
-        → beat.report.announce ≡ Some u → IsToldTruly t edges 1549 549 now beat u }
+        → beat.report.announce ≡ Some u → IsToldTruly t edges vote_early_us vote_late_us now beat u }
 {}
 
 /// A device tells the truth all its life: of every list of calls in order, whenever it was ticked,
@@ -104,7 +105,7 @@ pub fn a_device_tells_the_truth()
         → LivesTruly IsTrueLately t edges made start (Tick now ∷ calls)
         → answer_at (life_of made calls) (now % 2 ^ 32) ≡ Some beat
         → beat.report.announce ≡ Some u
-        → IsToldInHoldover t edges 1549 549 made.clock.drift_us made.clock.reader_rules.holdover
+        → IsToldInHoldover t edges vote_early_us vote_late_us made.clock.drift_us made.clock.reader_rules.holdover
         now beat u }
     // In order: what a later tick announces is a later second, so that none is announced twice.
     ensures order { (t : TimelineValue) (edges : ℕ → ℕ) (made : Made) (start before now : ℕ)
@@ -128,21 +129,21 @@ pub fn a_device_tells_the_truth()
         → ¬ (beat.report.cause ≡ Cause.Jump) }
     // A setup without a fault is one of these.
     ensures setup { (rules : ReaderRules) (d : ℕ) → clock_fault rules d ≡ None
-        → (d ≤ 100) × ((rules.holdover + 2) * d ≤ 490000) }
+        → (d ≤ most_drift_us) × ((rules.holdover + 2) * d ≤ most_held_us) }
     // The bound is less than half a second.
     ensures half { (t : TimelineValue) (d : ℕ) (edges : ℕ → ℕ) (rules : ReaderRules)
         (table : TableValue) (far : ℕ) → IsDevice t d edges rules table → far ≤ rules.holdover
-        → 1549 + far * d < 500000 }
+        → vote_early_us + far * d < 500000 }
     // One tick, of any device that stands at the truth or has nothing to go on.
     ensures tick { (t : TimelineValue) (edges : ℕ → ℕ) (k : Keeping) (last tick now : ℕ)
         (pulses : ℕ → List Pulse)
         → IsDevice t k.clock.drift_us edges k.clock.reader_rules k.table → tick ≤ now
         → now ≤ tick + 1800000000
-        → IsOnTrack t edges 1549 549 k.clock.drift_us last k.clock.reader_rules k.table tick
+        → IsOnTrack t edges vote_early_us vote_late_us k.clock.drift_us last k.clock.reader_rules k.table tick
         k.state.reader k.state.edge_us
         → AreHeardTruly (IsTrueLately k.rules t edges now) k.rules (f_of k.clock.redundancy) now
         k.state.lines pulses
-        → IsOnTrack t edges 1549 549 k.clock.drift_us last k.clock.reader_rules k.table now
+        → IsOnTrack t edges vote_early_us vote_late_us k.clock.drift_us last k.clock.reader_rules k.table now
         (after_tick k (now % 2 ^ 32)).state.reader (after_tick k (now % 2 ^ 32)).state.edge_us }
 {}
 
@@ -173,7 +174,7 @@ pub fn a_device_heals()
         → answer_at (life_of made earlier) (mend % 2 ^ 32) ≡ Some beat
         → answer_at (life_of made (later ++ (Tick mend ∷ earlier))) (now % 2 ^ 32) ≡ Some then
         → then.report.announce ≡ Some u
-        → IsToldInHoldover t edges 1549 549 made.clock.drift_us made.clock.reader_rules.holdover
+        → IsToldInHoldover t edges vote_early_us vote_late_us made.clock.drift_us made.clock.reader_rules.holdover
         now then u }
     // What a later tick announces is a later second.
     ensures order { (t : TimelineValue) (edges : ℕ → ℕ) (made : Made) (start before now : ℕ)

@@ -17,6 +17,7 @@ ghost use Rattle.irig_timekeeper.specs.Keeping.{answer_at, stamp_at};
 ghost use Rattle.irig_timekeeper.specs.Truth.{IsToldInHoldover, IsLaterSecond, IsDevice, IsStampedTruly};
 ghost use Rattle.irig_timekeeper.specs.Life.{Call, Made, AreInOrder, AreTrueAtTicks, LivesTruly, life_of};
 ghost use Rattle.irig_timekeeper.specs.Life.Call.{Tick};
+ghost use Rattle.irig_timekeeper.specs.Exactness.{within_us, vote_late_us, vote_early_us};
 
 use crate::clock::Beat;
 use crate::stamp::Stamp;
@@ -33,7 +34,7 @@ pub fn lines_with_faults_tell_truly()
     ensures kept { (rules : Rules) (t : TimelineValue) (d now end : ℕ) (edges : ℕ → ℕ)
         (pulses : List Pulse) (claim : Claim) → IsQuartz d edges
         → IsTrueButForFaults rules t edges now pulses → IsFrameOf rules claim end pulses
-        → now ≤ end + 100000 → IsTrueNear t edges (2449 + d) (1448 + d) end claim }
+        → now ≤ end + 100000 → IsTrueNear t edges (1999 + within_us + d) (998 + within_us + d) end claim }
     // So a device tells the truth all its life: the edge that it tells lies from 3.549 ms before
     // the true one to 1.549 ms behind, and as much further off as a holdover drifts.
     ensures life { (t : TimelineValue) (edges : ℕ → ℕ) (made : Made) (start now : ℕ)
@@ -41,7 +42,7 @@ pub fn lines_with_faults_tell_truly()
         → LivesTruly IsTrueButForFaults t edges made start (Tick now ∷ calls)
         → answer_at (life_of made calls) (now % 2 ^ 32) ≡ Some beat
         → beat.report.announce ≡ Some u
-        → IsToldInHoldover t edges 3549 1549 made.clock.drift_us made.clock.reader_rules.holdover
+        → IsToldInHoldover t edges (2000 + vote_early_us) (1000 + vote_late_us) made.clock.drift_us made.clock.reader_rules.holdover
         now beat u }
     // Some of its lines may have faults while others lose any pulses.
     ensures either { (t : TimelineValue) (edges : ℕ → ℕ) (made : Made) (start now : ℕ)
@@ -49,7 +50,7 @@ pub fn lines_with_faults_tell_truly()
         → LivesTruly IsTrueOrFaulty t edges made start (Tick now ∷ calls)
         → answer_at (life_of made calls) (now % 2 ^ 32) ≡ Some beat
         → beat.report.announce ≡ Some u
-        → IsToldInHoldover t edges 3549 1549 made.clock.drift_us made.clock.reader_rules.holdover
+        → IsToldInHoldover t edges (2000 + vote_early_us) (1000 + vote_late_us) made.clock.drift_us made.clock.reader_rules.holdover
         now beat u }
     // In order: what a later tick announces is a later second.
     ensures order { (t : TimelineValue) (edges : ℕ → ℕ) (made : Made) (start before now : ℕ)
@@ -78,7 +79,7 @@ pub fn lines_with_faults_tell_truly()
     // The bound is less than half a second.
     ensures half { (t : TimelineValue) (d : ℕ) (edges : ℕ → ℕ) (rules : ReaderRules)
         (table : TableValue) (far : ℕ) → IsDevice t d edges rules table → far ≤ rules.holdover
-        → 3549 + far * d < 500000 }
+        → 2000 + vote_early_us + far * d < 500000 }
     // A line may have faults that sends n frames, each of which carries the true claim of its second,
     // and nothing behind them.
     ensures lines { (rules : Rules) (t : TimelineValue) (n : ℕ) (frames : ℕ → List Symbol)
@@ -95,5 +96,5 @@ pub fn lines_with_faults_tell_truly()
     // And it has none while each pulse comes.
     ensures whole { (rules : Rules) (t : TimelineValue) (line : ℕ → Symbol) (edges : ℕ → ℕ)
         (now k : ℕ) (pulses : List Pulse) → IsCheckedLineOf rules t line
-        → ArePulsesBefore line edges 450 k pulses → IsTrueButForFaults rules t edges now pulses }
+        → ArePulsesBefore line edges within_us k pulses → IsTrueButForFaults rules t edges now pulses }
 {}
