@@ -29,10 +29,11 @@ lines_numbers ls =
     line_numbers ls.a ++ (line_numbers ls.b ++ (line_numbers ls.c
     ++ (line_numbers ls.d ++ line_numbers ls.e)))
 
--- the numbers of a timekeeper that never change, and those that its calls change
+-- the numbers of a timekeeper that never change
 abbrev pub fixed_numbers : IrigTimekeeper → List ℕ
 fixed_numbers t = setup_numbers t.setup ++ table_numbers t.table
 
+-- those that its calls change
 abbrev pub changing_numbers : IrigTimekeeper → List ℕ
 changing_numbers t = state_numbers t.state ++ (clock_numbers t ++ lines_numbers t.lines)
 

@@ -18,9 +18,11 @@ frame_in limits rules l =
     if l.has_frame == 0 then None
     else Some (record { told = tally_told_within limits rules l.frame; end_us = l.end_us })
 
+-- the line that has these numbers
 abbrev pub line_in : Option Limits → Rules → IrigLine → Line
 line_in limits rules l = record { sync = l.sync; frame = frame_in limits rules l }
 
+-- the five lines
 abbrev pub lines_in : Option Limits → Rules → IrigLines → Lines
 lines_in limits rules ls = record {
   a = line_in limits rules ls.a;
@@ -43,6 +45,7 @@ numbers_at ls port =
     else (if port == 3 then ls.d
     else ls.e)))
 
+-- the same lines, but that of a port with these numbers
 abbrev pub with_numbers : IrigLines → ℕ → IrigLine → IrigLines
 with_numbers ls port l =
     if port == 0 then record ls { a = l }
@@ -63,6 +66,7 @@ pub record HaveHeard (ls : IrigLines) (heard : Heard) : Type 0 where
 abbrev pub IsKeptFrom : Option KeptFrame → Option KeptFrame → Type 0
 IsKeptFrom before after = (after ≡ None) ⊎ (after ≡ before)
 
+-- so it does of each line
 pub record AreKeptFrom (before after : Lines) : Type 0 where
   pub a : IsKeptFrom before.a.frame after.a.frame
   pub b : IsKeptFrom before.b.frame after.b.frame

@@ -38,6 +38,7 @@ nothing_reported = record {
   against_hold = 0;
 }
 
+-- the numbers of a tick that tells nothing
 abbrev pub nothing_told : IrigSecond
 nothing_told = record { is_told = 0; edge_us = 0; missed = 0; moved = 0; report = nothing_reported }
 

@@ -32,10 +32,11 @@ state_numbers s = s.kind ∷ s.count ∷ s.heard ∷ s.day ∷ s.sod ∷ s.age �
 abbrev pub tally_numbers : Tally → List ℕ
 tally_numbers t = t.count ∷ t.wrong.kind ∷ t.wrong.element ∷ t.time ∷ t.control ∷ []
 
--- the same numbers, added up, and what they add beside the first one's weight
+-- the same numbers, added up
 abbrev pub plain_of : Tally → ℕ
 plain_of t = t.count + t.wrong.kind + t.wrong.element + t.time + t.control
 
+-- what they add, each by its place behind the first
 abbrev pub slope_of : Tally → ℕ
 slope_of t = 2 * t.wrong.kind + 4 * t.wrong.element + 6 * t.time + 8 * t.control
 

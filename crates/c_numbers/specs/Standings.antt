@@ -101,10 +101,12 @@ abbrev pub sent_of_frame : Sense → Result Coded FrameFault → Option Sent
 sent_of_frame sense (Ok coded) = Some (sent_of sense (control_of coded.control))
 sent_of_frame sense (Err fault) = None
 
+-- what a port sent by its pulses, if it agreed
 abbrev pub sent_if_heard : Standing → Sense → List ℕ → Option Sent
 sent_if_heard Agreed sense widths = sent_of_frame sense (decode_result (symbols_of widths))
 sent_if_heard _ sense widths = None
 
+-- so of five ports
 abbrev pub sent_by_heard : Standings → Sense → Fed → List (Option Sent)
 sent_by_heard x sense fed =
     sent_if_heard x.a sense fed.a ∷ sent_if_heard x.b sense fed.b

@@ -120,6 +120,7 @@ abbrev pub is_input : Source → Bool
 is_input Input = true
 is_input (File path) = false
 
+-- so is it for a request
 abbrev pub reads_input : Request → Bool
 reads_input Plain = true
 reads_input (Play wanted source) = is_input source

@@ -147,11 +147,12 @@ pub record IsLastVote (x : VotedEdges) (n age : ℕ) : Type 0 where
 
 -- ---- held edges as a function, which can be run
 
--- whether each, or one, of so many numbers from this one on passes
+-- whether each of so many numbers from this one on passes
 abbrev pub each_from : ℕ → ℕ → (ℕ → Bool) → Bool
 each_from first zero test = true
 each_from first (suc count) test = each_from first count test && test (first + count)
 
+-- whether one of so many numbers from this one on passes
 abbrev pub one_from : ℕ → ℕ → (ℕ → Bool) → Bool
 one_from first zero test = false
 one_from first (suc count) test = one_from first count test || test (first + count)
@@ -183,5 +184,7 @@ is_locked_since x n lock =
     && each_from lock (suc n - lock) (λ j. has_vote x lock j x.reader_rules.holdover)
     && each_from (suc lock) (n - lock) (λ j. not (is_guard x j))
 
+-- whether the reader holds a second at this edge: at some edge up to it the lock was reached, and not
+-- lost since
 abbrev pub is_held : VotedEdges → ℕ → Bool
 is_held x n = one_from 0 (suc n) (is_locked_since x n)

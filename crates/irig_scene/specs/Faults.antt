@@ -99,5 +99,6 @@ abbrev pub stop_as : Option Refusal → Stop
 stop_as (Some k) = stop.Refused k
 stop_as None = stop.Failed failure.Memory
 
+-- so of an event's fault
 abbrev pub stop_of_event : PlantFault → Stop
 stop_of_event fault = stop_as (refusal_as fault)

@@ -203,13 +203,14 @@ WroteStop fault.Read n k closing old new = ⊥
 WroteStop fault.Write n k closing old new = AppendsPart old new (closing ++ refusal_text n k)
 WroteStop fault.Memory n k closing old new = AppendsPart old new (closing ++ refusal_text n k)
 
--- what was still to be written, if the text of a scene stands already: all of it, or a prefix
+-- what was still to be written, if the text of a scene stands already
 pub record WroteRest (t : Texts) (first : List ℕ) (from : Option Scene) (m : Meaning)
     (old new : Bytes) : Type 0 where
   pub rest : List ℕ
   pub is : meaning_text t first m ≡ text_of t first from ++ rest
   pub wrote : Appends old new rest
 
+-- of what was still to be written a prefix
 pub record WrotePart (t : Texts) (first : List ℕ) (from : Option Scene) (m : Meaning)
     (old new : Bytes) : Type 0 where
   pub rest : List ℕ

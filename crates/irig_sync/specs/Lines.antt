@@ -14,6 +14,7 @@ pub record Pulse : Type 0 where
   pub rise : ℕ
   pub width : ℕ
 
+-- the pulse that rose then and is so wide
 abbrev pub pulse_at : ℕ → ℕ → Pulse
 pulse_at rise width = record { rise = rise; width = width }
 

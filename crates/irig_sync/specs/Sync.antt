@@ -8,6 +8,7 @@ use Rattle.irig_frame.specs.declared.symbol.Symbol.TheVariants.{Marker}
 use Rattle.irig_frame.specs.Symbols.{symbol_of}
 use Rattle.irig_sync.specs.declared.sync.Sync.{Sync}
 
+-- the symbol is a marker
 abbrev pub is_marker_symbol : Symbol → Bool
 is_marker_symbol Marker = true
 is_marker_symbol _ = false

@@ -40,6 +40,7 @@ abbrev pub announced_at : ℕ → ℕ → Option UtcSecond → Option Announced
 announced_at edge bound None = None
 announced_at edge bound (Some u) = Some (record { second = u; edge_us = edge; bound_us = bound })
 
+-- what is kept of the second that a report announces at an edge
 abbrev pub announced : ℕ → Report → ℕ → Option Announced
 announced drift report edge = announced_at edge (bound_of drift report.lock) report.announce
 
@@ -90,6 +91,7 @@ after_vote c table s vote edges =
     else beaten c s (taken s.lines) (Some vote.claim) (step_to c table s edges (Some vote.claim))
     vote.end_us
 
+-- what a tick answers to a vote
 abbrev pub answer_to_vote : ClockRules → TableValue → ClockState → KeptClaim → ℕ → Option Beat
 answer_to_vote c table s vote edges =
     if edges == 0 then None
@@ -97,15 +99,18 @@ answer_to_vote c table s vote edges =
 
 -- ---- they do not: so many have come by the own counter
 
+-- the edge so many seconds behind the last one
 abbrev pub own_edge : Option ℕ → ℕ → ℕ
 own_edge None edges = 0
 own_edge (Some edge) edges = edge_behind edge edges
 
+-- where the clock then stands
 abbrev pub after_own : ClockRules → TableValue → ClockState → ℕ → ClockState
 after_own c table s edges =
     if edges == 0 then s
     else beaten c s s.lines None (step_to c table s edges None) (own_edge s.edge_us edges)
 
+-- what a tick answers without a vote
 abbrev pub answer_alone : ClockRules → TableValue → ClockState → ℕ → Option Beat
 answer_alone c table s edges =
     if edges == 0 then None
@@ -118,11 +123,13 @@ abbrev pub clock_by : ClockRules → TableValue → ClockState → ℕ → Optio
 clock_by c table s now None = after_own c table s (edges_own s.edge_us now)
 clock_by c table s now (Some vote) = after_vote c table s vote (edges_to_vote s.edge_us vote.end_us)
 
+-- what it answers, by the frame on which lines agree, if they do
 abbrev pub answer_by : ClockRules → TableValue → ClockState → ℕ → Option KeptClaim → Option Beat
 answer_by c table s now None = answer_alone c table s (edges_own s.edge_us now)
 answer_by c table s now (Some vote) =
     answer_to_vote c table s vote (edges_to_vote s.edge_us vote.end_us)
 
+-- the clock with its lines settled
 abbrev pub settled_at : ClockState → ℕ → ClockState
 settled_at s now = record s { lines = settled now s.lines }
 
@@ -143,6 +150,7 @@ abbrev pub claim_voted : Option KeptClaim → Option Claim
 claim_voted None = None
 claim_voted (Some vote) = Some vote.claim
 
+-- the claim of the frame that has the vote at a tick
 abbrev pub clock_vote : ClockRules → ClockState → ℕ → Option Claim
 clock_vote c s now = claim_voted (vote_of_lines c s now)
 

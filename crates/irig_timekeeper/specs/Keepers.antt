@@ -9,6 +9,8 @@ use Rattle.irig_timekeeper.specs.declared.keeper.Timekeeper.{Timekeeper}
 use Rattle.irig_timekeeper.specs.Steps.{AreNewLines}
 use Rattle.irig_timekeeper.specs.Keeping.{Keeping, new_keeping}
 
+-- the timekeeper has these rules, limits, clock, table and state, and its ports stand for what was
+-- heard
 pub record IsKeeping {P : Type 0} {g : Ghosts P} (keeper : Timekeeper P g) (k : Keeping)
     : Type 0 where
   pub a : g.stands_for keeper.a k.rules k.heard.a

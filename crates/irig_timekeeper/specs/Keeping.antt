@@ -27,6 +27,7 @@ pub record Heard : Type 0 where
   pub d : List Symbol
   pub e : List Symbol
 
+-- what a port stands for
 abbrev pub heard_by : Heard → ℕ → List Symbol
 heard_by heard port =
     if port == 0 then heard.a
@@ -35,6 +36,7 @@ heard_by heard port =
     else (if port == 3 then heard.d
     else heard.e)))
 
+-- the same, but that a port stands for these symbols
 abbrev pub with_heard : Heard → ℕ → List Symbol → Heard
 with_heard heard port s =
     if port == 0 then record heard { a = s }
@@ -52,6 +54,7 @@ pub record Keeping : Type 0 where
   pub heard : Heard
   pub state : ClockState
 
+-- no port has heard anything
 abbrev pub nothing_heard : Heard
 nothing_heard = record { a = []; b = []; c = []; d = []; e = [] }
 
@@ -89,6 +92,7 @@ abbrev pub heard_then : Keeping → ℕ → ℕ → ℕ → List Symbol
 heard_then k port rise width =
     heard_at (place_of (line_at k.state.lines port).sync rise width) (heard_by k.heard port) width
 
+-- the clock with these lines
 abbrev pub with_lines : ClockState → Lines → ClockState
 with_lines s lines = record s { lines = lines }
 
@@ -101,6 +105,7 @@ one_pulse_more k port rise width = record k {
       (told_within k.limits k.rules (heard_then k port rise width))));
 }
 
+-- behind a pulse, which is none if it is half a second wide or wider
 abbrev pub after_pulse : Keeping → ℕ → ℕ → ℕ → Keeping
 after_pulse k port rise width = if is_pulse width then one_pulse_more k port rise width else k
 

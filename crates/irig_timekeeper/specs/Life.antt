@@ -21,6 +21,7 @@ pub data Call : Type 0 where
   Hear : (port rise width : ℕ) → Call
   Tick : (now : ℕ) → Call
 
+-- behind a call
 abbrev pub after_call : Keeping → Call → Keeping
 after_call k (Hear port rise width) = after_pulse k port (rise % 2 ^ 32) width
 after_call k (Tick now) = after_tick k (now % 2 ^ 32)
@@ -43,6 +44,7 @@ pub record Made : Type 0 where
 abbrev pub device_of : Made → Keeping
 device_of made = new_keeping made.limits made.rules made.clock made.table made.lines
 
+-- what a device is that was made of this, after these calls, the newest first
 abbrev pub life_of : Made → List Call → Keeping
 life_of made calls = after_calls (device_of made) calls
 

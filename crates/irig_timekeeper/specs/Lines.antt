@@ -63,6 +63,7 @@ IfKept EndsSo rules (Some kept) pulses =
 abbrev pub IsInTurnOf : ℕ → ℕ → Type 0
 IsInTurnOf now end = (end ≤ now + 10000) × (now + 10000 < end + 2 ^ 32)
 
+-- of an end nothing is asked
 abbrev pub IsAnyEnd : ℕ → Type 0
 IsAnyEnd end = ⊤
 

@@ -28,6 +28,7 @@ abbrev pub frame_behind : ℕ → ℕ → Told → Option KeptFrame → Option K
 frame_behind place rise told frame =
     if place == 100 then Some (record { told = told; end_us = (rise + 10000) % 2 ^ 32 }) else frame
 
+-- the line of a port
 abbrev pub line_at : Lines → ℕ → Line
 line_at lines port =
     if port == 0 then lines.a
@@ -36,6 +37,7 @@ line_at lines port =
     else (if port == 3 then lines.d
     else lines.e)))
 
+-- the same lines, but this one at a port
 abbrev pub with_line : Lines → ℕ → Line → Lines
 with_line lines port line =
     if port == 0 then record lines { a = line }
@@ -58,6 +60,7 @@ abbrev pub still_kept : ℕ → Option KeptFrame → Option KeptFrame
 still_kept now None = None
 still_kept now (Some frame) = if is_late frame.end_us now then None else Some frame
 
+-- a line at a tick: it may be idle, and its frame may be late
 abbrev pub line_settled : ℕ → Line → Line
 line_settled now line =
     record { sync = idle_of line.sync now; frame = still_kept now line.frame }
@@ -72,6 +75,7 @@ settled now lines = record {
   e = line_settled now lines.e;
 }
 
+-- the line without its frame
 abbrev pub line_taken : Line → Line
 line_taken line = record { sync = line.sync; frame = None }
 
@@ -87,10 +91,12 @@ taken lines = record {
 
 -- ---- what lines tell
 
+-- what a kept frame tells
 abbrev pub frame_tells : Option KeptFrame → Told
 frame_tells None = tells.Silence
 frame_tells (Some frame) = frame.told
 
+-- what each line tells
 abbrev pub tells_of : Lines → Tells
 tells_of lines = record {
   a = frame_tells lines.a.frame;
@@ -109,10 +115,12 @@ claim_told tells.Silence end = None
 claim_told (tells.Fault f) end = None
 claim_told (tells.Poor q) end = None
 
+-- the claim of a kept frame, and where it ends
 abbrev pub claim_kept : Option KeptFrame → Option KeptClaim
 claim_kept None = None
 claim_kept (Some frame) = claim_told frame.told frame.end_us
 
+-- those of the five lines
 abbrev pub all_kept : Lines → List (Option KeptClaim)
 all_kept lines =
     claim_kept lines.a.frame
@@ -143,6 +151,7 @@ last_candidate f all (None ∷ xs) so_far = last_candidate f all xs so_far
 last_candidate f all (Some x ∷ xs) so_far =
     last_candidate f all xs (if is_candidate f x all then later so_far x else so_far)
 
+-- the candidate that ends last of all kept frames, if there is one
 abbrev pub agreed : ℕ → Lines → Option KeptClaim
 agreed f lines = last_candidate f (all_kept lines) (all_kept lines) None
 
@@ -153,9 +162,11 @@ if_come now (Some x) = if has_come x.end_us now then Some x else None
 
 -- ---- what is claimed is of UTC
 
+-- a kept frame claims a second of UTC, if it claims one
 abbrev pub IsKeptOfUtc : Option KeptFrame → Type 0
 IsKeptOfUtc frame = IfSome frame (λ f. IfClaim f.told (λ c. IsValid c.at))
 
+-- so does that of each line
 pub record AreKeptOfUtc (lines : Lines) : Type 0 where
   pub a : IsKeptOfUtc lines.a.frame
   pub b : IsKeptOfUtc lines.b.frame

@@ -62,6 +62,7 @@ pub record IsEdgeAt (e edge tick : ℕ) : Type 0 where
   pub come : edge ≤ tick
   pub soon : tick < edge + 1005000
 
+-- so is it if there is an edge
 abbrev pub IfEdgeAt : Option ℕ → ℕ → Type 0
 IfEdgeAt None tick = ⊤
 IfEdgeAt (Some e) tick = (edge : ℕ) × IsEdgeAt e edge tick

@@ -39,6 +39,7 @@ abbrev pub ended_of : List ℕ → Option Scene → List ℕ
 ended_of lines None = []
 ended_of lines (Some x) = ended_in lines x
 
+-- nor what closes it
 abbrev pub closing_of : List ℕ → Option Scene → List ℕ
 closing_of lines None = []
 closing_of lines (Some x) = closing_in lines x

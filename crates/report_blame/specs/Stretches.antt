@@ -45,6 +45,7 @@ stretch_past port None t = begun (kind_at port t) t
 stretch_past port (Some s) t =
     if same_kind s.kind (kind_at port t) then more port s t else begun (kind_at port t) t
 
+-- the open stretch behind a tick
 abbrev pub stretch_after : ℕ → Option Stretch → Tick → Option Stretch
 stretch_after port stretch t =
     if same_kind (kind_at port t) Agreed then None else Some (stretch_past port stretch t)
@@ -90,6 +91,7 @@ goes_on s t = not (is_announced t) && same_cause s.cause t.entry.report.cause
 abbrev pub silence_begun : Tick → Option Silence
 silence_begun t = if is_announced t then None else Some (silence_at t)
 
+-- the open silence behind a tick
 abbrev pub silence_after : Option Silence → Tick → Option Silence
 silence_after None t = silence_begun t
 silence_after (Some s) t =
@@ -111,6 +113,7 @@ silence_of (t ∷ ts) = silence_after (silence_of ts) t
 abbrev pub vote_after : Option Tick → Tick → Option Tick
 vote_after before t = if same_cause t.entry.report.cause Voted then Some t else before
 
+-- the one of some ticks
 abbrev pub last_vote : List Tick → Option Tick
 last_vote [] = None
 last_vote (t ∷ ts) = vote_after (last_vote ts) t
@@ -126,6 +129,7 @@ misled_more m t = record m {
   steady = same_offset (offset_announced m.first) (offset_announced t) && m.steady;
 }
 
+-- those that are open, with a tick more, or those that begin with it
 abbrev pub misled_past : Option Misled → Option Tick → Tick → Misled
 misled_past None vote t = misled_at vote t
 misled_past (Some m) vote t = misled_more m t

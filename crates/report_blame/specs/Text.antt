@@ -41,6 +41,7 @@ is_scenario lines = length lines == 0
 abbrev pub untrue_word : List ℕ → List ℕ
 untrue_word lines = if is_scenario lines then codes "untrue" else codes "unlike most lines"
 
+-- the same of seconds that were announced
 abbrev pub untrue_seconds : List ℕ → List ℕ
 untrue_seconds lines =
     if is_scenario lines then codes " announced untrue seconds"
@@ -158,6 +159,7 @@ ground_text lines ports vote =
     else codes ", as " ++ (texts_below (carrier_text lines vote) ports
     ++ (codes " told at edge " ++ (decimal vote.entry.edge ++ codes "\n")))
 
+-- the rest of the line, with the vote on which they stand if there was one
 abbrev pub ground_line : List ℕ → ℕ → Option Tick → List ℕ
 ground_line lines ports None = codes "\n"
 ground_line lines ports (Some vote) = ground_text lines ports vote

@@ -61,6 +61,7 @@ abbrev pub frame_of : Option Claim → Option UtcSecond
 frame_of None = None
 frame_of (Some claim) = if is_valid claim.at then Some claim.at else None
 
+-- the same of a tick
 abbrev pub frame_at : Tick → Option UtcSecond
 frame_at t = frame_of t.entry.truth
 
@@ -103,5 +104,6 @@ abbrev pub is_true_vote : Option Claim → Option Claim → Bool
 is_true_vote truth None = true
 is_true_vote truth (Some claim) = same_kind (kind_of_claim truth claim) Agreed
 
+-- whether the vote of a tick is the true one
 abbrev pub votes_truly : Tick → Bool
 votes_truly t = is_true_vote t.entry.truth (vote_at t)
