@@ -1,0 +1,201 @@
+"""A device that keeps time by its lines: docs/WIRES.md, A device that keeps time."""
+
+from dataclasses import dataclass, field
+
+from .frames import Rules, Told, symbol_of, told
+from .reader import IDLE, Lock, ReaderRules, Report, after_tick
+from .times import Claim, Second, Table
+from .voting import majority
+
+WRAP = 2**32  # where the device's counter wraps
+SECOND = 1_000_000
+ELEMENT = 10_000
+STUCK = 500_000  # what is as wide is no pulse
+APART = 1_000  # how far the ends of frames lie apart that agree
+KEPT = 100_000  # how long a line keeps a frame behind its end
+COUNTED = 5_000  # how long behind its edge the counter alone counts a second
+OFF = 1_549  # how far a voted edge lies from the true one
+
+
+def since(earlier: int, later: int) -> int:
+    """From one time to another by a counter that wraps."""
+    return (later - earlier) % WRAP
+
+
+def lies_ahead(time: int, now: int) -> bool:
+    """Whether a time is one that has not come: it lies less than half a turn ahead (docs/WIRES.md)."""
+    return 0 < since(now, time) < WRAP // 2
+
+
+@dataclass(frozen=True)
+class Frame:
+    """A whole frame: what it says, and when it ends."""
+
+    word: Told
+    end: int
+
+
+@dataclass
+class Line:
+    """Where a line stands in its frame, and the last whole frame that it keeps (docs/WIRES.md, From pulses
+    to frames)."""
+
+    rise: int = 0
+    place: int = 0
+    may_begin: bool = True  # whether a marker that comes next begins a frame, also if it is on time
+    symbols: str = ""
+    frame: Frame | None = None
+
+    def place_of(self, rise: int, symbol: str) -> int:
+        """The table of places, row by row."""
+        is_on_time = 9_000 <= since(self.rise, rise) < 11_000
+        if symbol == "P" and (self.may_begin or not is_on_time):
+            return 1
+        if is_on_time and self.place > 0:
+            return self.place % 100 + 1
+        return 0
+
+    def hear(self, rules: Rules, rise: int, width: int) -> int:
+        symbol = symbol_of(width)
+        self.place = self.place_of(rise, symbol)
+        self.rise, self.may_begin = rise, symbol == "P"
+        if self.place == 1:
+            self.symbols = ""
+        if self.place > 0:
+            self.symbols += symbol
+        if self.place == 100:
+            self.frame = Frame(told(rules, self.symbols), (rise + ELEMENT) % WRAP)
+        return self.place
+
+    def kept(self, now: int) -> Frame | None:
+        """The last whole frame, up to 100 ms behind its end."""
+        is_late = self.frame and not lies_ahead(self.frame.end, now) and since(self.frame.end, now) > KEPT
+        return None if is_late else self.frame
+
+    def settle(self, now: int) -> None:
+        """What a tick does first: the line may be idle, and it keeps no late frame."""
+        self.frame = self.kept(now)
+        if not lies_ahead(self.rise, now) and since(self.rise, now) >= SECOND:
+            self.place, self.may_begin = 0, True
+
+
+@dataclass(frozen=True)
+class Announced:
+    """A second that was announced, its told edge, and how far that may lie from the true one."""
+
+    second: Second
+    edge: int
+    bound: int
+
+
+@dataclass(frozen=True)
+class Beat:
+    """What a tick answers: the report, what the lines' frames said, the told edge, the seconds that passed
+    untold before it, and how often the edge before was set right."""
+
+    report: Report
+    told: list[Told]
+    edge: int
+    missed: int
+    moved: int
+
+
+@dataclass(frozen=True)
+class Stamp:
+    """The time of an event: a second, the microseconds since its edge, and the bound of their error."""
+
+    second: Second
+    offset: int
+    bound: int
+
+
+@dataclass
+class Device:
+    """What a timekeeper was made of, and where it stands."""
+
+    rules: Rules
+    reader_rules: ReaderRules
+    table: Table | None
+    redundancy: int
+    drift: int
+    lines: list[Line] = field(init=False)
+
+    def __post_init__(self) -> None:
+        self.restart()
+
+    def restart(self) -> None:
+        self.lines = [Line() for _ in range(self.redundancy)]
+        self.reader, self.edge, self.moved = IDLE, None, 0
+        self.last, self.before = None, None  # what was announced at the last told edge, and at the one before
+
+    def hear(self, line: int, rise: int, width: int) -> int:
+        """The place of a pulse in its frame."""
+        return self.lines[line].hear(self.rules, rise, width) if width < STUCK else 0
+
+    def agreed(self, now: int) -> Frame | None:
+        """The frame on which lines agree: f + 1 of one claim, itself among them, end with it or up to 1 ms
+        behind it. Of several it is the one that ends last."""
+        kept = [line.kept(now) for line in self.lines]
+        claims = [frame for frame in kept if frame and isinstance(frame.word, Claim)]
+        found = None
+        for frame in claims:
+            near = [one for one in claims if one.word == frame.word and since(frame.end, one.end) <= APART]
+            if len(near) >= majority(self.redundancy) and (found is None or lies_ahead(frame.end, found.end)):
+                found = frame
+        return found
+
+    def tick(self, now: int) -> Beat | None:
+        """What is said of a second, if one has begun."""
+        for line in self.lines:
+            line.settle(now)
+        told = [line.frame and line.frame.word for line in self.lines]
+        agreed = self.agreed(now)
+        if agreed is None or lies_ahead(agreed.end, now):
+            return self.count(self.seconds_alone(now), None, told)
+        for line in self.lines:
+            line.frame = None
+        if seconds := 1 if self.edge is None else (since(self.edge, agreed.end) + SECOND // 2) % WRAP // SECOND:
+            return self.count(seconds, agreed, told)
+        self.edge, self.moved = agreed.end, self.moved + 1
+        return None
+
+    def seconds_alone(self, now: int) -> int:
+        """How many seconds have come by the counter alone."""
+        if self.edge is None or lies_ahead(self.edge + COUNTED, now):
+            return 0
+        return since(self.edge + COUNTED, now) // SECOND
+
+    def count(self, seconds: int, agreed: Frame | None, told: list[Told]) -> Beat | None:
+        """The rule of the reader over the seconds that were missed, and one more."""
+        if seconds == 0:
+            return None
+        for _ in range(seconds - 1):
+            self.reader, _ = after_tick(self.reader_rules, self.table, self.reader, None)
+        vote = agreed and agreed.word
+        self.reader, report = after_tick(self.reader_rules, self.table, self.reader, vote)
+        edge = agreed.end if agreed else (self.edge + SECOND * seconds) % WRAP
+        beat = Beat(report, told, edge, seconds - 1, self.moved)
+        self.before = None if vote and report.second is None else self.last
+        self.last = report.second and Announced(report.second, edge, self.bound_of(report))
+        self.edge, self.moved = edge, 0
+        return beat
+
+    def bound_of(self, report: Report) -> int:
+        """How far the edge of a second may lie off by the drift of each second since the last vote."""
+        return OFF + self.drift * (report.count if report.lock == Lock.HOLDOVER else 0)
+
+    def wait(self, now: int) -> int:
+        """How long until a tick has something to do, if no call comes before."""
+        if agreed := self.agreed(now):
+            return since(now, agreed.end) if lies_ahead(agreed.end, now) else 0
+        if self.edge is None:
+            return SECOND
+        due = self.edge + SECOND + COUNTED
+        return since(now, due) if lies_ahead(due, now) else 0
+
+    def stamp(self, time: int) -> Stamp | None:
+        """The time of an event, by the last told edge or the one before, if that second was announced."""
+        for known in (self.last, self.before):
+            if known and since(known.edge, time) <= SECOND + known.bound:
+                return Stamp(known.second, since(known.edge, time), known.bound)
+        return None
