@@ -37,7 +37,8 @@ use Rattle.irig_timekeeper.specs.Announcing.{LeavesTheFirst, IsWhole, ComesWhole
 use Rattle.irig_timekeeper.specs.Loops.{TicksEach, AreToldInTime, made_at, latest, AreMadeInTurn, named, IsSoonEnough, GoesByWait, ComeInARow}
 use Rattle.irig_timekeeper.proofs.LifeLaws.{own_pulses, others_pulses, no_pulse}
 use Rattle.irig_timekeeper.proofs.LifeFacts.{edges, at, noon, is_device, rules, claim_of, device, silence, made, frame_0, frame_1, frame_2, told_0, told_1, told_2, true_claim, width_of}
-use Rattle.irig_timekeeper.proofs.LifeChecks.{order_is, in_order, have_risen, is_after}
+use Rattle.irig_timekeeper.specs.Decided.{is_after, have_risen, in_order}
+use Rattle.irig_timekeeper.proofs.DecidedLaws.{order_is}
 use Rattle.irig_timekeeper.proofs.LoopLaws.{polling_announces}
 use Rattle.irig_timekeeper.proofs.WaitLoops.{waiting_announces}
 use Rattle.irig_timekeeper.proofs.SentLines.{sent_is_checked, checked_is_line}

@@ -28,7 +28,8 @@ use Rattle.irig_timekeeper.proofs.LifeLaws.{device_true}
 use Rattle.irig_timekeeper.proofs.StampLaws.{stamped}
 use Rattle.irig_timekeeper.proofs.FaultLines.{faultless, faults_tell_truly, either_tells_truly}
 use Rattle.irig_timekeeper.proofs.LifeFacts.{noon, rules, no_table, is_device, new_lines, are_new, silence}
-use Rattle.irig_timekeeper.proofs.LifeChecks.{is_after, have_risen, in_order, order_is}
+use Rattle.irig_timekeeper.specs.Decided.{is_after, have_risen, in_order}
+use Rattle.irig_timekeeper.proofs.DecidedLaws.{order_is}
 use Rattle.irig_timekeeper.proofs.FaultLineFacts.{fast, fast_steady, claim, line, is_checked, pulses, are, is_pulse, rest_is}
 
 abbrev clock : ClockRules

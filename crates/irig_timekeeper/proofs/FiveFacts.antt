@@ -1,8 +1,7 @@
 -- Five lines, of which two lie alike: they send the next second's frame. By a counter that is 100 us a
 -- second fast a device announces the second that the other three tell.
-use Rattle.std.proofs.Common.{◌≡◌, ℕ, zero, suc, ◌+◌, ◌-◌, ◌/◌, ◌%◌, ◌^◌, ◌≤◌, Bool, List, [], ◌∷◌, Some, None, refl, subst, arith}
-use Rattle.std.specs.Prelude.{nat_lt, get_or, count_by}
-use Rattle.std.specs.List.{range_with_len}
+use Rattle.std.proofs.Common.{◌≡◌, ℕ, zero, suc, ◌+◌, ◌-◌, ◌%◌, ◌^◌, Bool, List, [], ◌∷◌, Some, None, refl, subst, arith}
+use Rattle.std.specs.Prelude.{nat_lt, get_or}
 use Rattle.irig_frame.specs.declared.symbol.Symbol.{Symbol}
 use Rattle.irig_frame.specs.declared.symbol.Symbol.TheVariants.{Bad}
 use Rattle.irig_frame.specs.Faults.{values_of, field_at}
@@ -30,7 +29,8 @@ use Rattle.irig_timekeeper.proofs.LineLaws.{true_lately}
 use Rattle.irig_timekeeper.proofs.LifeLaws.{device_true}
 use Rattle.irig_timekeeper.proofs.SentLines.{sent_is_checked, checked_is_line}
 use Rattle.irig_timekeeper.proofs.LifeFacts.{edges, steady, at, noon, no_table, is_device, rules, claim_of, new_lines, are_new, frame_0, frame_1, told_0, true_claim, width_of}
-use Rattle.irig_timekeeper.proofs.LifeChecks.{is_after, have_risen, in_order, order_is, same, lately, or_lately, all_lately, truly, truly_is}
+use Rattle.irig_timekeeper.specs.Decided.{is_after, have_risen, in_order, is_same, is_pulse_of, last_before, are_lately, are_true_lately, are_true_at_ticks}
+use Rattle.irig_timekeeper.proofs.DecidedLaws.{order_is, truly_is}
 
 abbrev clock : ClockRules
 clock = record { reader_rules = record { lock_after = 1; holdover = 100 }; redundancy = of.Five; drift_us = 100 }
@@ -69,20 +69,13 @@ now = 4294502100
 lies : ℕ → Bool
 lies i = nat_lt 2 i
 
-place_in : ℕ → ℕ
-place_in rise = (rise + 500 - 4293500000) / 10000
-
 order : AreInOrder 4293400000 of.Five (Tick now ∷ calls)
 unfolding calls heard true_pulse false_pulse width_of in_order have_risen is_after
 order = order_is 4293400000 of.Five (Tick now ∷ calls) refl
 
-few : count_by lies (range_with_len 0 5) ≤ 2
-unfolding lies
-few = omega arith
-
 truth : AreTrueAtTicks (IsTrueLately rules noon edges) 2 (Tick now ∷ calls)
-unfolding calls heard true_pulse false_pulse width_of lies place_in truly all_lately or_lately lately same
-truth = truly_is rules noon edges line is_line 100 place_in lies 2 few (Tick now ∷ calls) refl
+unfolding calls heard true_pulse false_pulse width_of lies are_true_at_ticks are_true_lately are_lately last_before is_pulse_of is_same
+truth = truly_is rules noon edges line is_line 100 2 (Tick now ∷ calls) refl
 
 -- ---- what it says: 12:00:01
 

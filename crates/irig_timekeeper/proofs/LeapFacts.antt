@@ -2,7 +2,7 @@
 -- frame of 23:59:00, which no more speaks of a leap than any before 23:59:01, and then its line is
 -- dark. With a true table it tells a leap second that was inserted, as it was that day, and one that
 -- might have been deleted; without a table it says nothing from 23:59:59 on.
-use Rattle.std.proofs.Common.{◌≡◌, ℕ, zero, suc, ◌+◌, ◌-◌, ◌*◌, ◌/◌, ◌%◌, ◌^◌, false, List, [], ◌∷◌, Option, Some, None, refl, subst, arith, inl}
+use Rattle.std.proofs.Common.{◌≡◌, ℕ, zero, suc, ◌+◌, ◌*◌, ◌%◌, ◌^◌, List, [], ◌∷◌, Option, Some, None, refl, subst, arith, inl}
 use Rattle.irig_frame.specs.declared.symbol.Symbol.{Symbol}
 use Rattle.irig_frame.specs.declared.symbol.Symbol.TheVariants.{Zero, One, Marker}
 use Rattle.irig_frame.specs.Faults.{values_of, field_at}
@@ -40,7 +40,8 @@ use Rattle.irig_timekeeper.proofs.LineLaws.{true_lately}
 use Rattle.irig_timekeeper.proofs.LifeLaws.{device_true}
 use Rattle.irig_timekeeper.proofs.SentLines.{sent_is_checked, checked_is_line}
 use Rattle.irig_timekeeper.proofs.LifeFacts.{rules, new_lines, are_new, silence, width_of, no_table}
-use Rattle.irig_timekeeper.proofs.LifeChecks.{is_after, have_risen, in_order, order_is, same, lately, or_lately, all_lately, truly, truly_is}
+use Rattle.irig_timekeeper.specs.Decided.{is_after, have_risen, in_order, is_same, is_pulse_of, last_before, are_lately, are_true_lately, are_true_at_ticks}
+use Rattle.irig_timekeeper.proofs.DecidedLaws.{order_is, truly_is}
 
 -- ---- the world
 
@@ -135,18 +136,15 @@ behind n = 2006000 + 1000000 * n
 abbrev calls_3 : ℕ → List Call
 calls_3 n = Tick (behind n) ∷ calls_2
 
-place_in : ℕ → ℕ
-place_in rise = (rise + 500 - 1000000) / 10000
-
 order : AreInOrder 900000 of.One (Tick (behind 60) ∷ calls_3 59) × AreInOrder 900000 of.One (Tick (behind 58) ∷ calls_3 57)
 unfolding calls_1 heard width_of in_order have_risen is_after
 order = (order_is 900000 of.One (Tick (behind 60) ∷ calls_3 59) refl, order_is 900000 of.One (Tick (behind 58) ∷ calls_3 57) refl)
 
 truth : (l : Leap) → AreTrueAtTicks (IsTrueLately rules (with_leap l) edges) 0 (Tick (behind 60) ∷ calls_3 59) × AreTrueAtTicks (IsTrueLately rules (with_leap l) edges) 0 (Tick (behind 58) ∷ calls_3 57)
-unfolding calls_1 heard width_of place_in truly all_lately or_lately lately same
+unfolding calls_1 heard width_of are_true_at_ticks are_true_lately are_lately last_before is_pulse_of is_same
 truth l = (
-  truly_is rules (with_leap l) edges line (is_line l) 100 place_in (λ i. false) 0 (omega arith) (Tick (behind 60) ∷ calls_3 59) refl,
-  truly_is rules (with_leap l) edges line (is_line l) 100 place_in (λ i. false) 0 (omega arith) (Tick (behind 58) ∷ calls_3 57) refl,
+  truly_is rules (with_leap l) edges line (is_line l) 100 0 (Tick (behind 60) ∷ calls_3 59) refl,
+  truly_is rules (with_leap l) edges line (is_line l) 100 0 (Tick (behind 58) ∷ calls_3 57) refl,
 )
 
 -- ---- what the device says

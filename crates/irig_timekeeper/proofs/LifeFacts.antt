@@ -53,7 +53,8 @@ use Rattle.irig_timekeeper.specs.Life.Call.{Hear, Tick}
 use Rattle.irig_timekeeper.specs.Healing.{HasHealed}
 use Rattle.irig_timekeeper.proofs.LineLaws.{true_lately}
 use Rattle.irig_timekeeper.proofs.LifeLaws.{TellAlwaysTruly, device_true, device_in_order}
-use Rattle.irig_timekeeper.proofs.LifeChecks.{both, is_after, have_risen, in_order, order_is, same, lately, or_lately, all_lately, truly, truly_is}
+use Rattle.irig_timekeeper.specs.Decided.{is_after, have_risen, in_order, is_same, is_pulse_of, last_before, are_lately, are_true_lately, are_true_at_ticks}
+use Rattle.irig_timekeeper.proofs.DecidedLaws.{both, order_is, truly_is}
 
 -- ---- the world
 
@@ -242,10 +243,6 @@ is_line = record {
 
 -- ---- the calls: 300 elements of three lines, each told of the lines in turn, and two ticks
 
--- the element whose pulse rose then
-place_in : ℕ → ℕ
-place_in rise = 100 * ((rise + 500 - 4293500000) / 1000100) + ((rise + 500 - 4293500000) % 1000100) / 10000
-
 unfoldable pub width_of : Symbol → ℕ
 width_of Zero = 2000
 width_of One = 5000
@@ -289,8 +286,8 @@ unfolding calls_3 elements_before with_element pulse_told with_tick width_of lie
 order_4 = order_is 4293400000 of.Three life_4 refl
 
 truth_4 : AreTrueAtTicks (IsTrueLately rules noon edges) 1 life_4
-unfolding calls_3 elements_before with_element pulse_told with_tick width_of lie truly all_lately or_lately lately line frame same place_in
-truth_4 = truly_is rules noon edges line is_line 400 place_in (λ i. i == 2) 1 (omega arith) life_4 refl
+unfolding calls_3 elements_before with_element pulse_told with_tick width_of lie are_true_at_ticks are_true_lately are_lately last_before is_pulse_of is_same line frame
+truth_4 = truly_is rules noon edges line is_line 400 1 life_4 refl
 
 abbrev pub device : Keeping
 device = new_keeping None rules clock no_table new_lines
@@ -369,8 +366,8 @@ unfolding by_lines queued elements_before with_element pulse_told with_tick widt
 order_by_lines = order_is 4293400000 of.Three (Tick now_3 ∷ by_lines) refl
 
 truth_by_lines : AreTrueAtTicks (IsTrueLately rules noon edges) 1 (Tick now_3 ∷ by_lines)
-unfolding by_lines queued elements_before with_element pulse_told with_tick width_of lie truly all_lately or_lately lately line frame same place_in
-truth_by_lines = truly_is rules noon edges line is_line 400 place_in (λ i. i == 2) 1 (omega arith) (Tick now_3 ∷ by_lines) refl
+unfolding by_lines queued elements_before with_element pulse_told with_tick width_of lie are_true_at_ticks are_true_lately are_lately last_before is_pulse_of is_same line frame
+truth_by_lines = truly_is rules noon edges line is_line 400 1 (Tick now_3 ∷ by_lines) refl
 
 answer_by_lines : answer_at (after_calls device by_lines) (now_3 % 2 ^ 32) ≡ Some beat_3
 unfolding by_lines queued elements_before with_element pulse_told with_tick width_of lie line frame step_of told_of frame_told coded_told ones values_of field_at control_of offset_in utc_minute is_month_end four_years

@@ -1,6 +1,6 @@
 -- Two devices of one line, by a counter that is 100 us a second fast, and by one that is as slow: they
 -- stamp one instant, a quarter of a second behind 12:00:02.
-use Rattle.std.proofs.Common.{◌≡◌, ℕ, zero, suc, ◌+◌, ◌-◌, ◌*◌, ◌/◌, ◌%◌, ◌<◌, ◌≤◌, false, List, [], ◌∷◌, Some, None, refl, arith}
+use Rattle.std.proofs.Common.{◌≡◌, ℕ, zero, suc, ◌+◌, ◌*◌, ◌<◌, ◌≤◌, List, [], ◌∷◌, Some, None, refl, arith}
 use Rattle.irig_frame.specs.declared.symbol.Symbol.{Symbol}
 use Rattle.irig_frame.specs.Faults.{values_of, field_at}
 use Rattle.irig_control.specs.Parity.{ones}
@@ -27,7 +27,8 @@ use Rattle.irig_timekeeper.proofs.LineLaws.{true_lately}
 use Rattle.irig_timekeeper.proofs.StampLaws.{stamped, near_instant}
 use Rattle.irig_timekeeper.proofs.SentLines.{sent_is_checked, checked_is_line}
 use Rattle.irig_timekeeper.proofs.LifeFacts.{at, noon, no_table, is_device, rules, claim_of, new_lines, are_new, frame_0, frame_1, told_0, told_1, true_claim, width_of}
-use Rattle.irig_timekeeper.proofs.LifeChecks.{is_after, have_risen, in_order, order_is, same, lately, or_lately, all_lately, truly, truly_is}
+use Rattle.irig_timekeeper.specs.Decided.{is_after, have_risen, in_order, is_same, is_pulse_of, last_before, are_lately, are_true_lately, are_true_at_ticks}
+use Rattle.irig_timekeeper.proofs.DecidedLaws.{order_is, truly_is}
 
 -- ---- the counters
 
@@ -89,20 +90,17 @@ by_slow = Tick now ∷ heard slow 200
 abbrev asked : ℕ
 asked = 3300000
 
-place_in : ℕ → ℕ → ℕ
-place_in second rise = 100 * ((rise + 500 - 1000000) / second) + (rise + 500 - 1000000) % second / 10000
-
 order : AreInOrder 900000 of.One (Tick asked ∷ by_fast) × AreInOrder 900000 of.One (Tick asked ∷ by_slow)
 unfolding by_fast by_slow heard width_of frames in_order have_risen is_after
 order = (order_is 900000 of.One (Tick asked ∷ by_fast) refl, order_is 900000 of.One (Tick asked ∷ by_slow) refl)
 
 fast_truth : AreTrueAtTicks (IsTrueLately rules noon fast) 0 by_fast
-unfolding by_fast heard width_of frames place_in truly all_lately or_lately lately same
-fast_truth = truly_is rules noon fast line is_line 200 (place_in 1000100) (λ i. false) 0 (omega arith) by_fast refl
+unfolding by_fast heard width_of frames are_true_at_ticks are_true_lately are_lately last_before is_pulse_of is_same
+fast_truth = truly_is rules noon fast line is_line 200 0 by_fast refl
 
 slow_truth : AreTrueAtTicks (IsTrueLately rules noon slow) 0 by_slow
-unfolding by_slow heard width_of frames place_in truly all_lately or_lately lately same
-slow_truth = truly_is rules noon slow line is_line 200 (place_in 999900) (λ i. false) 0 (omega arith) by_slow refl
+unfolding by_slow heard width_of frames are_true_at_ticks are_true_lately are_lately last_before is_pulse_of is_same
+slow_truth = truly_is rules noon slow line is_line 200 0 by_slow refl
 
 -- ---- the instant, by each counter
 

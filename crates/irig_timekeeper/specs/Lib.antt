@@ -11,6 +11,7 @@ pub mod Keepers
 pub mod Refusals
 pub mod Truth
 pub mod Life
+pub mod Decided
 pub mod Announcing
 pub mod Loops
 pub mod Since
