@@ -16,7 +16,8 @@ use Rattle.irig_timekeeper.proofs.LifeLaws.{begins}
 use Rattle.irig_timekeeper.proofs.LoopLaws.{truth_splits}
 use Rattle.irig_timekeeper.proofs.AnnounceLaws.{announces}
 use Rattle.irig_timekeeper.proofs.LifeFacts.{edges, at, noon, is_device, rules, device, made, width_of}
-use Rattle.irig_timekeeper.proofs.LifeChecks.{order_is, in_order, have_risen, is_after}
+use Rattle.irig_timekeeper.specs.Decided.{in_order, have_risen, is_after}
+use Rattle.irig_timekeeper.proofs.DecidedLaws.{order_is}
 use Rattle.irig_timekeeper.proofs.AnnounceFacts.{comes_whole, truly, all_left, sent, polls, with_element, own, others, rise_of, lie, frames, pulse, start, second_4}
 
 -- the calls up to the tick 1 ms before that element

@@ -10,6 +10,7 @@ use Rattle.irig_sync.specs.Edges.{element_at}
 use Rattle.irig_sync.specs.Lines.{Pulse}
 use Rattle.irig_vote.specs.declared.redundancy.Redundancy.{Redundancy}
 use Rattle.irig_vote.specs.Vote.{ports_in}
+use Rattle.irig_timekeeper.specs.Exactness.{within_us}
 use Rattle.irig_timekeeper.specs.Steps.{is_pulse}
 use Rattle.irig_timekeeper.specs.Life.{Call, pulses_on, last_tick}
 use Rattle.irig_timekeeper.specs.Life.Call.{Hear, Tick}
@@ -56,8 +57,8 @@ is_same _ _ = false
 -- it is a pulse of the line's k-th element, less than 450 us off
 unfoldable pub is_pulse_of : (ℕ → Symbol) → (ℕ → ℕ) → ℕ → Pulse → Bool
 is_pulse_of line edges k p =
-    nat_lt (element_at edges k) (p.rise + 450)
-    && (nat_lt p.rise (element_at edges k + 450) && is_same (symbol_of p.width) (line k))
+    nat_lt (element_at edges k) (p.rise + within_us)
+    && (nat_lt p.rise (element_at edges k + within_us) && is_same (symbol_of p.width) (line k))
 
 -- the last element before the k-th that has this pulse
 unfoldable pub last_before : (ℕ → Symbol) → (ℕ → ℕ) → ℕ → Pulse → Option ℕ
