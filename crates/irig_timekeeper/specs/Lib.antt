@@ -11,10 +11,8 @@ pub mod Keepers
 pub mod Refusals
 pub mod Truth
 pub mod Life
-pub mod Decided
 pub mod Announcing
 pub mod Loops
 pub mod Since
 pub mod Healing
 pub mod Lived
-pub mod Misled

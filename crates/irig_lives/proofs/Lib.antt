@@ -1,0 +1,16 @@
+pub mod SetupLaws
+pub mod DecidedLaws
+pub mod LifeFacts
+pub mod AnnounceFacts
+pub mod WellHeardFacts
+pub mod SentLines
+pub mod FaultLineFacts
+pub mod SentPulses
+pub mod SentSeconds
+pub mod MisledLaws
+pub mod LockedLaws
+pub mod MisledByTable
+pub mod LeapFacts
+pub mod FiveFacts
+pub mod StampFacts
+pub mod FaultLifeFacts

@@ -1,0 +1,144 @@
+-- Two devices of one line, by a counter that is 100 us a second fast, and by one that is as slow: they
+-- stamp one instant, a quarter of a second behind 12:00:02.
+use Rattle.std.proofs.Common.{◌≡◌, ℕ, zero, suc, ◌+◌, ◌*◌, ◌<◌, ◌≤◌, List, [], ◌∷◌, Some, None, refl, arith}
+use Rattle.irig_frame.specs.declared.symbol.Symbol.{Symbol}
+use Rattle.irig_frame.specs.Faults.{values_of, field_at}
+use Rattle.irig_control.specs.Parity.{ones}
+use Rattle.irig_control.specs.Control.{control_of, offset_in}
+use Rattle.irig_sync.specs.Edges.{element_at}
+use Rattle.irig_time.specs.declared.claim.Claim.{Claim}
+use Rattle.irig_time.specs.Carries.{Carries}
+use Rattle.irig_time.specs.Claims.{utc_minute}
+use Rattle.irig_time.specs.Days.{is_month_end, four_years}
+use Rattle.irig_time.specs.Timelines.{IsTrueClaim}
+use Rattle.irig_port.specs.Told.{told_of, frame_told, coded_told}
+use Rattle.irig_port.proofs.CarriesLaws.{carries_is_told}
+use Rattle.irig_vote.specs.declared.redundancy.Redundancy.TheVariants as of
+use Rattle.irig_reader.specs.Rule.{step_of}
+use Rattle.irig_timekeeper.specs.declared.clock.ClockRules.{ClockRules}
+use Rattle.irig_timekeeper.specs.declared.stamp.Stamp.{Stamp}
+use Rattle.irig_timekeeper.specs.Edges.{IsQuartz}
+use Rattle.irig_timekeeper.specs.Lines.{IsLineOf, IsTrueLately, line_of}
+use Rattle.irig_timekeeper.specs.Keeping.{Keeping, new_keeping, stamp_at}
+use Rattle.irig_timekeeper.specs.Truth.{IsDevice, IsStampedTruly, IsInstant}
+use Rattle.irig_timekeeper.specs.Life.{Call, AreInOrder, AreTrueAtTicks, after_calls}
+use Rattle.irig_timekeeper.specs.Life.Call.{Hear, Tick}
+use Rattle.irig_timekeeper.proofs.LineLaws.{true_lately}
+use Rattle.irig_timekeeper.proofs.StampLaws.{stamped, near_instant}
+use Rattle.irig_lives.proofs.SentLines.{sent_is_checked, checked_is_line}
+use Rattle.irig_lives.proofs.LifeFacts.{at, noon, no_table, is_device, rules, claim_of, new_lines, are_new, frame_0, frame_1, told_0, told_1, true_claim, width_of}
+use Rattle.irig_lives.specs.Decided.{is_after, have_risen, in_order, is_same, is_pulse_of, last_before, are_lately, are_true_lately, are_true_at_ticks}
+use Rattle.irig_lives.proofs.DecidedLaws.{order_is, truly_is}
+
+-- ---- the counters
+
+abbrev counts : ℕ → ℕ → ℕ
+counts second n = 1000000 + second * n
+
+abbrev fast : ℕ → ℕ
+fast = counts 1000100
+
+abbrev slow : ℕ → ℕ
+slow = counts 999900
+
+fast_steady : IsQuartz 100 fast
+fast_steady = record { few = omega arith; steady = record { least = λ n. omega arith; most = λ n. omega arith } }
+
+slow_steady : IsQuartz 100 slow
+slow_steady = record { few = omega arith; steady = record { least = λ n. omega arith; most = λ n. omega arith } }
+
+abbrev clock : ClockRules
+clock = record { reader_rules = record { lock_after = 1; holdover = 100 }; redundancy = of.One; drift_us = 100 }
+
+by_counter : (edges : ℕ → ℕ) → IsQuartz 100 edges → IsDevice noon 100 edges clock.reader_rules no_table
+by_counter edges steady = record { steady = steady; sound = is_device.sound; knows = is_device.knows; short = is_device.short }
+
+-- ---- the line: two frames
+
+frames : ℕ → List Symbol
+frames zero = frame_0
+frames (suc f) = frame_1
+
+abbrev line : ℕ → Symbol
+line = line_of frames 2
+
+is_line : IsLineOf rules noon line
+unfolding frames
+is_line = checked_is_line rules noon line (sent_is_checked rules noon 2 frames carried)
+  where
+    carried : (f : ℕ) → f < 2 → (claim : Claim) × IsTrueClaim noon (f + 1) claim × Carries rules (frames f) claim
+    carried zero low = (claim_of 43200, true_claim 0 43200 refl (omega arith), (carries_is_told rules frame_0 (claim_of 43200)).0 told_0)
+    carried (suc zero) low = (claim_of 43201, true_claim 1 43201 refl (omega arith), (carries_is_told rules frame_1 (claim_of 43201)).0 told_1)
+    carried (suc (suc f)) low = absurd (omega (arith, low))
+
+-- ---- the calls: two hundred pulses, each at its time, and a tick 3 ms behind the second edge
+
+heard : (ℕ → ℕ) → ℕ → List Call
+heard edges zero = []
+heard edges (suc k) = Hear 0 (element_at edges k) (width_of (line k)) ∷ heard edges k
+
+abbrev now : ℕ
+now = 3003000
+
+unfoldable by_fast : List Call
+by_fast = Tick now ∷ heard fast 200
+
+unfoldable by_slow : List Call
+by_slow = Tick now ∷ heard slow 200
+
+-- when the device is asked for a stamp
+abbrev asked : ℕ
+asked = 3300000
+
+order : AreInOrder 900000 of.One (Tick asked ∷ by_fast) × AreInOrder 900000 of.One (Tick asked ∷ by_slow)
+unfolding by_fast by_slow heard width_of frames in_order have_risen is_after
+order = (order_is 900000 of.One (Tick asked ∷ by_fast) refl, order_is 900000 of.One (Tick asked ∷ by_slow) refl)
+
+fast_truth : AreTrueAtTicks (IsTrueLately rules noon fast) 0 by_fast
+unfolding by_fast heard width_of frames are_true_at_ticks are_true_lately are_lately last_before is_pulse_of is_same
+fast_truth = truly_is rules noon fast line is_line 200 0 by_fast refl
+
+slow_truth : AreTrueAtTicks (IsTrueLately rules noon slow) 0 by_slow
+unfolding by_slow heard width_of frames are_true_at_ticks are_true_lately are_lately last_before is_pulse_of is_same
+slow_truth = truly_is rules noon slow line is_line 200 0 by_slow refl
+
+-- ---- the instant, by each counter
+
+instants : IsInstant 100 fast 2 250000 3250225 × IsInstant 100 slow 2 250000 3249775
+instants = (
+  record { least = omega arith; most = omega arith; begun = omega arith; before_next = omega arith },
+  record { least = omega arith; most = omega arith; begun = omega arith; before_next = omega arith },
+)
+
+-- ---- the stamps: 12:00:02 and a quarter of a second, but for what the counters drifted in a second
+
+abbrev device : Keeping
+device = new_keeping None rules clock no_table new_lines
+
+abbrev fast_stamp : Stamp
+fast_stamp = record { second = at 43202; offset_us = 250026; bound_us = 1549 }
+
+abbrev slow_stamp : Stamp
+slow_stamp = record { second = at 43202; offset_us = 249974; bound_us = 1549 }
+
+stamps : (stamp_at (after_calls device by_fast) 3250225 ≡ Some fast_stamp) × (stamp_at (after_calls device by_slow) 3249775 ≡ Some slow_stamp)
+unfolding by_fast by_slow heard width_of frames step_of told_of frame_told coded_told ones values_of field_at control_of offset_in utc_minute is_month_end four_years
+stamps = (refl, refl)
+
+fast_true : IsStampedTruly noon fast 0 3250225 fast_stamp
+fast_true =
+    stamped None rules clock no_table new_lines 900000 are_new noon fast 549 549 0 (by_counter fast fast_steady) (omega arith) (omega arith) (IsTrueLately rules noon fast) (omega arith)
+    (λ time end pulses c is f soon. true_lately rules noon 100 fast time end pulses c fast_steady is f soon) by_fast 3250225 asked order.0 fast_truth (omega arith) (omega arith) fast_stamp stamps.0
+
+slow_true : IsStampedTruly noon slow 0 3249775 slow_stamp
+slow_true =
+    stamped None rules clock no_table new_lines 900000 are_new noon slow 549 549 0 (by_counter slow slow_steady) (omega arith) (omega arith) (IsTrueLately rules noon slow) (omega arith)
+    (λ time end pulses c is f soon. true_lately rules noon 100 slow time end pulses c slow_steady is f soon) by_slow 3249775 asked order.1 slow_truth (omega arith) (omega arith) slow_stamp stamps.1
+
+-- what the law says of them: they name instants that lie at most 3,498 us apart. They lie 250 apart
+together : (fast_true.m * 1000000 + fast_stamp.offset_us ≤ slow_true.m * 1000000 + slow_stamp.offset_us + 3498)
+    × (slow_true.m * 1000000 + slow_stamp.offset_us ≤ fast_true.m * 1000000 + fast_stamp.offset_us + 3498)
+together =
+    let p = near_instant noon 100 fast fast_steady 2 250000 3250225 instants.0 fast_stamp fast_true in
+    let q = near_instant noon 100 slow slow_steady 2 250000 3249775 instants.1 slow_stamp slow_true in
+    (omega (arith, p.1, q.0), omega (arith, q.1, p.0))

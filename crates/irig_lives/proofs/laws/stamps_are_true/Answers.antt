@@ -1,0 +1,21 @@
+use Rattle.std.proofs.Common.{arith}
+use Rattle.irig_timekeeper.specs.Lines.{IsTrueLately}
+use Rattle.irig_timekeeper.proofs.LineLaws.{true_lately}
+use Rattle.irig_timekeeper.proofs.StampLaws.{stamped, near_instant}
+use Rattle.irig_timekeeper.proofs.SinceLaws.{has_its_bound}
+use Rattle.irig_lives.proofs.laws.stamps_are_true.Goals as goal
+
+pub returns-clause-stamp : goal.returns-clause-stamp
+returns-clause-stamp _ t edges made start time now calls stamp is order truth past young e =
+    stamped made.limits made.rules made.clock made.table made.lines start made.fresh t edges 549 549 0 is (omega arith) (omega arith) (IsTrueLately made.rules t edges) (omega arith)
+    (λ now end pulses claim is_true frame soon. true_lately made.rules t made.clock.drift_us edges now end pulses claim is.steady is_true frame soon)
+    calls time now order truth past young stamp e
+
+pub returns-clause-bound : goal.returns-clause-bound
+returns-clause-bound _ made time calls stamp e = has_its_bound made time calls stamp e
+
+pub returns-clause-together : goal.returns-clause-together
+returns-clause-together _ t d e n tau time other edges others x y quartz quartz' at at' one two =
+    let p = near_instant t d edges quartz n tau time at x one in
+    let q = near_instant t e others quartz' n tau other at' y two in
+    omega (arith, p.1, q.0)

@@ -1,0 +1,315 @@
+//! Laws of a timekeeper over its definitions. They have no code, and speak of values: no call of a
+//! timekeeper takes a timeline.
+
+ghost use Rattle.std.specs.Prelude.{◌≡◌, ◌+◌, ◌-◌, ◌*◌, ◌%◌, ◌^◌, ◌<◌, ◌≤◌, ◌⊎◌, ℕ, suc, List, ◌∷◌, ◌++◌, Option, Some, None, count_by, false};
+ghost use Rattle.irig_frame.specs.declared.symbol.Symbol.{Symbol};
+ghost use Rattle.irig_sync.specs.declared.sync.Sync.{Sync};
+ghost use Rattle.irig_sync.specs.Sync.{place_of};
+ghost use Rattle.irig_sync.specs.Lines.{Pulse, pulse_at, IsAfter, IsSoon};
+ghost use Rattle.irig_time.specs.Timelines.{TimelineValue, IsSecond};
+ghost use Rattle.irig_reader.specs.declared.rule.State.{State};
+ghost use Rattle.irig_reader.specs.Held.{then_none};
+ghost use Rattle.irig_reader.specs.Locking.{IsSilentAfter, then_true, voted_report};
+ghost use Rattle.irig_reader.specs.Rule.{state_of, step_of};
+ghost use Rattle.irig_timekeeper.specs.Rule.{step_behind};
+ghost use Rattle.irig_time.specs.TimelineFaults.{IsTimeline};
+ghost use Rattle.irig_time.specs.Tables.{TableValue};
+ghost use Rattle.irig_vote.specs.Vote.{f_of};
+ghost use Rattle.irig_port.specs.Limits.{told_within};
+ghost use Rattle.irig_port.specs.Hearing.{heard_at, IsHearing};
+ghost use Rattle.irig_timekeeper.specs.Edges.{IsQuartz, IsNear, IsTrueNear};
+ghost use Rattle.irig_timekeeper.specs.Lines.{IsTrueLately, IsFrameOf, IfKept, IsAnyEnd, HasJustCome};
+ghost use Rattle.irig_timekeeper.specs.Counting.{edges_between, edges_to, edges_own};
+ghost use Rattle.irig_timekeeper.specs.Refusals.{clock_fault};
+ghost use Rattle.irig_timekeeper.specs.Steps.{frame_behind, claim_kept, line_at, all_kept, agrees, agreed, settled, tells_of, wait_by};
+ghost use Rattle.irig_timekeeper.specs.Clock.{answer_to_vote, lasted};
+ghost use Rattle.irig_timekeeper.specs.Keeping.{Keeping, vote_at, after_tick, answer_at, wait_at, stamp_at};
+ghost use Rattle.irig_timekeeper.specs.Truth.{AreHeardTruly, IsTrueVote, IsOnTrack, IsToldTruly, IsToldInHoldover, IsLaterSecond, IsDevice, IsEdgeAt, AreApartBeats, IsStampedTruly, IsInstant};
+ghost use Rattle.irig_timekeeper.specs.Announcing.{AreWellHeard, Announces};
+ghost use Rattle.irig_timekeeper.specs.Life.{Call, Made, AreInOrder, AreTrueLately, AreTrueAtTicks, AreTrueOver, LivesTruly, device_of, life_of, HaveRisen};
+ghost use Rattle.irig_timekeeper.specs.Life.Call.{Tick};
+ghost use Rattle.irig_timekeeper.specs.Since.{since_vote, HasItsBound};
+ghost use Rattle.irig_timekeeper.specs.Healing.{HasHealed};
+ghost use Rattle.irig_timekeeper.specs.Exactness.{within_us, most_drift_us, vote_late_us, vote_early_us, most_held_us};
+
+use irig_port::Limits;
+use irig_reader::{Cause, ReaderRules};
+use irig_time::{Claim, Rules, UtcSecond};
+use irig_timekeeper::{Beat, KeptClaim, KeptFrame, Lines, Stamp};
+
+/// Counting is right while a device's own edge is: let its last edge lie at most b1 before and b2
+/// behind T(w), and the edge that lines agree on at most c1 before and c2 behind T(w + k). If
+/// b2 + c1 and b1 + c2, with the drift of k seconds, come to less than half a second, the device
+/// counts k edges.
+pub fn counting_is_right()
+    ensures count { (d b1 b2 c1 c2 w k edge end : ℕ) (edges : ℕ → ℕ) → IsQuartz d edges
+        → IsNear edges b1 b2 w edge → IsNear edges c1 c2 (w + k) end
+        → b1 + k * d + c2 < 500000 → b2 + k * d + c1 ≤ 500000 → edges_between edge end ≡ k }
+    // The clock's wrap does not show.
+    ensures wrap { (edge end : ℕ) → edge ≤ end + 500000 → end + 500000 < edge + 2 ^ 32
+        → edges_to (edge % 2 ^ 32) (end % 2 ^ 32) ≡ edges_between edge end }
+{}
+
+/// What a line keeps is a frame of its pulses: none at first, and a pulse more goes on, as a
+/// timekeeper hears it, whether its port was emptied before or not.
+pub fn lines_keep_frames()
+    ensures { (limits : Option Limits) (rules : Rules) (frame : Option KeptFrame)
+        (heard : List Symbol) (s : Sync) (pulses : List Pulse) (now time width : ℕ)
+        → IsHearing heard s pulses now → IfKept IsAnyEnd rules (claim_kept frame) pulses
+        → IsAfter pulses time → IsSoon now time → IfKept IsAnyEnd rules (claim_kept (frame_behind
+        (place_of s (time % 2 ^ 32) width) (time % 2 ^ 32)
+        (told_within limits rules
+        (heard_at (place_of s (time % 2 ^ 32) width) heard width)) frame))
+        (pulse_at time width ∷ pulses) }
+{}
+
+/// Kept frames are true: if a line was true for the last 1.2 s, whatever it was before, and a frame
+/// that it sent ended at most 100 ms ago, then what the frame claims is the true claim of the
+/// second before an edge, and the frame ends less than 450 us and the drift of a second off it.
+pub fn kept_frames_are_true()
+    ensures { (rules : Rules) (t : TimelineValue) (d now end : ℕ) (edges : ℕ → ℕ)
+        (pulses : List Pulse) (claim : Claim) → IsQuartz d edges
+        → IsTrueLately rules t edges now pulses → IsFrameOf rules claim end pulses
+        → now ≤ end + 100000 → IsTrueNear t edges (within_us - 1 + d) (within_us - 1 + d) end claim }
+{}
+
+/// A vote is true whenever it is told: if at most f lines were untrue in the last 1.2 s, the frame
+/// on which lines agree claims the true second before an edge, and ends near that edge, at most
+/// 100 ms ago. What a tick then announces by the vote is the second that begins there: wherever the
+/// device stood, and whenever it was called before.
+pub fn votes_are_true()
+    ensures vote { (t : TimelineValue) (d : ℕ) (edges : ℕ → ℕ) (k : Keeping) (now : ℕ)
+        (pulses : ℕ → List Pulse) (vote : KeptClaim) → IsQuartz d edges
+        → AreHeardTruly (IsTrueLately k.rules t edges now) k.rules (f_of k.clock.redundancy) now
+        k.state.lines pulses
+        → vote_at k (now % 2 ^ 32) ≡ Some vote → IsTrueVote t edges vote_early_us vote_late_us now vote }
+    ensures second { (t : TimelineValue) (d : ℕ) (edges : ℕ → ℕ) (k : Keeping) (now : ℕ)
+        (pulses : ℕ → List Pulse) (beat : Beat) (u : UtcSecond) → IsQuartz d edges → IsTimeline t
+        → AreHeardTruly (IsTrueLately k.rules t edges now) k.rules (f_of k.clock.redundancy) now
+        k.state.lines pulses
+        → answer_at k (now % 2 ^ 32) ≡ Some beat → beat.report.cause ≡ Cause.Voted
+        → beat.report.announce ≡ Some u → IsToldTruly t edges vote_early_us vote_late_us now beat u }
+{}
+
+/// A device tells the truth all its life: of every list of calls in order, whenever it was ticked,
+/// if at each tick at most f lines were untrue in the last 1.2 s, its counter is as steady as its
+/// setup says, and its leap table is true or its holdover at most 57 seconds. What a tick announces
+/// is T(m), for an edge m near which the edge that is told lies, from 1.549 ms before it to 0.549 ms
+/// behind, and off by the drift of as many edges more as a holdover may last, which is less than
+/// half a second. The edge that is told has come, less than 1.005 s before the tick.
+pub fn a_device_tells_the_truth()
+    ensures life { (t : TimelineValue) (edges : ℕ → ℕ) (made : Made) (start now : ℕ)
+        (calls : List Call) (beat : Beat) (u : UtcSecond)
+        → LivesTruly IsTrueLately t edges made start (Tick now ∷ calls)
+        → answer_at (life_of made calls) (now % 2 ^ 32) ≡ Some beat
+        → beat.report.announce ≡ Some u
+        → IsToldInHoldover t edges vote_early_us vote_late_us made.clock.drift_us made.clock.reader_rules.holdover
+        now beat u }
+    // In order: what a later tick announces is a later second, so that none is announced twice.
+    ensures order { (t : TimelineValue) (edges : ℕ → ℕ) (made : Made) (start before now : ℕ)
+        (earlier later : List Call) (beat then : Beat) (u v : UtcSecond)
+        → LivesTruly IsTrueLately t edges made start
+        (Tick now ∷ (later ++ (Tick before ∷ earlier)))
+        → answer_at (life_of made earlier) (before % 2 ^ 32) ≡ Some beat
+        → beat.report.announce ≡ Some u
+        → answer_at (life_of made (later ++ (Tick before ∷ earlier))) (now % 2 ^ 32) ≡ Some then
+        → then.report.announce ≡ Some v → IsLaterSecond t u v }
+    // A holdover has lasted for the seconds since the last vote, whatever lines carry.
+    ensures held { (made : Made) (now : ℕ) (calls : List Call) (beat : Beat) (u : UtcSecond)
+        → answer_at (life_of made calls) (now % 2 ^ 32) ≡ Some beat
+        → beat.report.announce ≡ Some u
+        → lasted beat.report.lock ≡ since_vote (device_of made) (Tick now ∷ calls) }
+    // And no report has the cause `Jump`.
+    ensures calm { (t : TimelineValue) (edges : ℕ → ℕ) (made : Made) (start now : ℕ)
+        (calls : List Call) (beat : Beat)
+        → LivesTruly IsTrueLately t edges made start (Tick now ∷ calls)
+        → answer_at (life_of made calls) (now % 2 ^ 32) ≡ Some beat
+        → ¬ (beat.report.cause ≡ Cause.Jump) }
+    // A setup without a fault is one of these.
+    ensures setup { (rules : ReaderRules) (d : ℕ) → clock_fault rules d ≡ None
+        → (d ≤ most_drift_us) × ((rules.holdover + 2) * d ≤ most_held_us) }
+    // The bound is less than half a second.
+    ensures half { (t : TimelineValue) (d : ℕ) (edges : ℕ → ℕ) (rules : ReaderRules)
+        (table : TableValue) (far : ℕ) → IsDevice t d edges rules table → far ≤ rules.holdover
+        → vote_early_us + far * d < 500000 }
+    // One tick, of any device that stands at the truth or has nothing to go on.
+    ensures tick { (t : TimelineValue) (edges : ℕ → ℕ) (k : Keeping) (last tick now : ℕ)
+        (pulses : ℕ → List Pulse)
+        → IsDevice t k.clock.drift_us edges k.clock.reader_rules k.table → tick ≤ now
+        → now ≤ tick + 1800000000
+        → IsOnTrack t edges vote_early_us vote_late_us k.clock.drift_us last k.clock.reader_rules k.table tick
+        k.state.reader k.state.edge_us
+        → AreHeardTruly (IsTrueLately k.rules t edges now) k.rules (f_of k.clock.redundancy) now
+        k.state.lines pulses
+        → IsOnTrack t edges vote_early_us vote_late_us k.clock.drift_us last k.clock.reader_rules k.table now
+        (after_tick k (now % 2 ^ 32)).state.reader (after_tick k (now % 2 ^ 32)).state.edge_us }
+{}
+
+/// In order, whatever lines carry and however the counter drifts: the edges that are told lie half
+/// a second apart at least, and none lies ahead of its tick, nor 1.005 s behind it.
+pub fn edges_lie_apart()
+    ensures { (made : Made) (start before now : ℕ) (earlier later : List Call) (beat then : Beat)
+        → AreInOrder start made.clock.redundancy (Tick now ∷ (later ++ (Tick before ∷ earlier)))
+        → answer_at (life_of made earlier) (before % 2 ^ 32) ≡ Some beat
+        → answer_at (life_of made (later ++ (Tick before ∷ earlier))) (now % 2 ^ 32) ≡ Some then
+        → AreApartBeats before now beat then }
+{}
+
+/// A device heals: whatever its lines carried, however long, the first vote that counts an edge at
+/// a tick at which at most f lines were untrue in the last 1.2 s brings the truth back, if at each
+/// tick from there on at most f are. (Until then it may hold over what is untrue, for as many edges
+/// as its rules allow.)
+pub fn a_device_heals()
+    ensures life { (t : TimelineValue) (edges : ℕ → ℕ) (made : Made) (start mend now : ℕ)
+        (earlier later : List Call) (vote : KeptClaim) (beat then : Beat) (u : UtcSecond)
+        → IsDevice t made.clock.drift_us edges made.clock.reader_rules made.table
+        → AreInOrder start made.clock.redundancy (Tick now ∷ (later ++ (Tick mend ∷ earlier)))
+        → AreTrueLately (IsTrueLately made.rules t edges) (f_of made.clock.redundancy) mend
+        earlier
+        → AreTrueOver (IsTrueLately made.rules t edges) (f_of made.clock.redundancy)
+        (Tick now ∷ later) (Tick mend ∷ earlier)
+        → vote_at (life_of made earlier) (mend % 2 ^ 32) ≡ Some vote
+        → answer_at (life_of made earlier) (mend % 2 ^ 32) ≡ Some beat
+        → answer_at (life_of made (later ++ (Tick mend ∷ earlier))) (now % 2 ^ 32) ≡ Some then
+        → then.report.announce ≡ Some u
+        → IsToldInHoldover t edges vote_early_us vote_late_us made.clock.drift_us made.clock.reader_rules.holdover
+        now then u }
+    // What a later tick announces is a later second.
+    ensures order { (t : TimelineValue) (edges : ℕ → ℕ) (made : Made) (start before now : ℕ)
+        (earlier later : List Call) (beat then : Beat) (u v : UtcSecond)
+        → HasHealed IsTrueLately t edges made start (Tick before ∷ earlier)
+        → AreInOrder start made.clock.redundancy (Tick now ∷ (later ++ (Tick before ∷ earlier)))
+        → AreTrueOver (IsTrueLately made.rules t edges) (f_of made.clock.redundancy)
+        (Tick now ∷ later) (Tick before ∷ earlier)
+        → answer_at (life_of made earlier) (before % 2 ^ 32) ≡ Some beat
+        → beat.report.announce ≡ Some u
+        → answer_at (life_of made (later ++ (Tick before ∷ earlier))) (now % 2 ^ 32) ≡ Some then
+        → then.report.announce ≡ Some v → IsLaterSecond t u v }
+    // No later report has the cause `Jump`.
+    ensures calm { (t : TimelineValue) (edges : ℕ → ℕ) (made : Made) (start now : ℕ)
+        (calls : List Call) (beat : Beat) → HasHealed IsTrueLately t edges made start calls
+        → AreInOrder start made.clock.redundancy (Tick now ∷ calls)
+        → AreTrueLately (IsTrueLately made.rules t edges) (f_of made.clock.redundancy) now calls
+        → answer_at (life_of made calls) (now % 2 ^ 32) ≡ Some beat
+        → ¬ (beat.report.cause ≡ Cause.Jump) }
+    // Stamps are true of events that come at the edge of that vote or later. If it announces
+    // nothing, as at a jump, they are true of all events: none goes by what was announced before.
+    ensures stamps { (t : TimelineValue) (edges : ℕ → ℕ) (made : Made) (start edge time now : ℕ)
+        (calls : List Call) (stamp : Stamp)
+        → (healed : HasHealed IsTrueLately t edges made start calls)
+        → IsEdgeAt healed.beat.edge_us edge healed.mend
+        → (edge ≤ time) ⊎ (healed.beat.report.announce ≡ None)
+        → AreInOrder start made.clock.redundancy (Tick now ∷ calls)
+        → time ≤ now → now ≤ time + 1800000000
+        → stamp_at (life_of made calls) (time % 2 ^ 32) ≡ Some stamp
+        → IsStampedTruly t edges 0 time stamp }
+{}
+
+/// No f lines can keep a device from a vote: if more than f lines keep frames of one claim that end
+/// within 1 ms behind the first of them, and a tick comes when the frames of the true lines have
+/// ended, at most 99 ms behind, it has a vote, whatever the others keep.
+pub fn enough_lines_vote()
+    ensures agree { (f : ℕ) (lines : Lines) (i : ℕ) (first : KeptClaim) → i < 5
+        → claim_kept (line_at lines i).frame ≡ Some first
+        → f < count_by (agrees first) (all_kept lines)
+        → (vote : KeptClaim) × (agreed f lines ≡ Some vote) }
+    ensures come { (t : TimelineValue) (d : ℕ) (edges : ℕ → ℕ) (k : Keeping) (now : ℕ)
+        (pulses : ℕ → List Pulse) (vote : KeptClaim) → IsQuartz d edges
+        → (heard : AreHeardTruly (IsTrueLately k.rules t edges now) k.rules
+        (f_of k.clock.redundancy) now k.state.lines pulses)
+        → ((i : ℕ) → i < 5 → heard.untrue i ≡ false
+        → IfKept (HasJustCome now) k.rules (claim_kept (line_at k.state.lines i).frame)
+        (pulses i))
+        → agreed (f_of k.clock.redundancy) (settled (now % 2 ^ 32) k.state.lines) ≡ Some vote
+        → vote_at k (now % 2 ^ 32) ≡ Some vote }
+{}
+
+/// Beats are votes, as irig_reader counts them: a beat behind some missed seconds is a vote behind
+/// as many that are none. So its laws of votes are laws of beats, as that true votes in a row lock:
+/// at the last of so many as the rules ask, none of them missed, a device announces the second that
+/// begins.
+pub fn beats_are_votes()
+    ensures step { (rules : ReaderRules) (table : TableValue) (missed : ℕ) (state : State)
+        (votes : List (Option Claim)) (vote : Option Claim) → state ≡ state_of rules table votes
+        → step_behind rules table missed state vote
+        ≡ step_of rules table (state_of rules table (then_none missed votes)) vote }
+    ensures lock { (t : TimelineValue) (n : ℕ) (k : Keeping) (vote : KeptClaim)
+        (before earlier : List (Option Claim)) (u : UtcSecond) → IsTimeline t
+        → 1 ≤ k.clock.reader_rules.lock_after
+        → IsSilentAfter k.clock.reader_rules k.table earlier
+        → IsSecond t (n + k.clock.reader_rules.lock_after) u
+        → k.state.reader ≡ state_of k.clock.reader_rules k.table before
+        → Some vote.claim ∷ before ≡ then_true t n k.clock.reader_rules.lock_after earlier
+        → answer_to_vote k.clock k.table k.state vote 1 ≡ Some (record {
+          report = voted_report u;
+          told = tells_of k.state.lines;
+          edge_us = vote.end_us;
+          missed = 0;
+          moved = k.state.moved;
+        }) }
+{}
+
+/// Waiting is right: with a frame on which lines agree, a tick after as long as a device says, or
+/// later, by 98 ms behind that frame's end, has a vote, which answers or sets the edge right.
+/// Without one it counts an edge by the own counter. A device says 0 only if a tick at once does
+/// so.
+pub fn waiting_is_right()
+    ensures votes { (made : Made) (start now then edge : ℕ) (calls : List Call) (vote : KeptClaim)
+        → AreInOrder start made.clock.redundancy (Tick now ∷ calls)
+        → AreInOrder start made.clock.redundancy (Tick then ∷ calls)
+        → agreed (f_of (life_of made calls).clock.redundancy)
+        (settled (now % 2 ^ 32) (life_of made calls).state.lines) ≡ Some vote
+        → vote.end_us ≡ edge % 2 ^ 32 → edge ≤ now + 10000 → now ≤ edge + 98000
+        → now + wait_at (life_of made calls) (now % 2 ^ 32) ≤ then → then ≤ edge + 98000
+        → (v : KeptClaim) × (vote_at (life_of made calls) (then % 2 ^ 32) ≡ Some v) }
+    ensures counts { (e edge tick now more : ℕ) → IsEdgeAt e edge tick → tick ≤ now
+        → now + wait_by (now % 2 ^ 32) (Some e) None + more ≤ tick + 1800000000
+        → 1 ≤ edges_own (Some e) ((now + wait_by (now % 2 ^ 32) (Some e) None + more) % 2 ^ 32) }
+    ensures waits { (e edge tick now : ℕ) → IsEdgeAt e edge tick → tick ≤ now
+        → now ≤ tick + 1800000000 → edges_own (Some e) (now % 2 ^ 32) ≡ 0
+        → (1 ≤ wait_by (now % 2 ^ 32) (Some e) None)
+        × (wait_by (now % 2 ^ 32) (Some e) None ≤ 1005000) }
+{}
+
+/// A stamp names the instant of its event: of every life, as of `a_device_tells_the_truth`, a stamp
+/// of an event of the last half hour has a second T(m) and an offset that lie no further from the
+/// event than the stamp's bound, by the device's counter.
+pub fn stamps_are_true()
+    ensures stamp { (t : TimelineValue) (edges : ℕ → ℕ) (made : Made) (start time now : ℕ)
+        (calls : List Call) (stamp : Stamp)
+        → IsDevice t made.clock.drift_us edges made.clock.reader_rules made.table
+        → AreInOrder start made.clock.redundancy (Tick now ∷ calls)
+        → AreTrueAtTicks (IsTrueLately made.rules t edges) (f_of made.clock.redundancy) calls
+        → time ≤ now → now ≤ time + 1800000000
+        → stamp_at (life_of made calls) (time % 2 ^ 32) ≡ Some stamp
+        → IsStampedTruly t edges 0 time stamp }
+    // The bound is 1.549 ms and the drift of each second since the last vote, whatever lines carry.
+    ensures bound { (made : Made) (time : ℕ) (calls : List Call) (stamp : Stamp)
+        → stamp_at (life_of made calls) (time % 2 ^ 32) ≡ Some stamp
+        → HasItsBound made calls stamp }
+    // So two devices stamp one instant alike, whatever their counters show: what their stamps name
+    // lies no further apart than the sum of their bounds and the drift of two seconds of each.
+    ensures together { (t : TimelineValue) (d e n tau time other : ℕ) (edges others : ℕ → ℕ)
+        (x y : Stamp) → IsQuartz d edges → IsQuartz e others → IsInstant d edges n tau time
+        → IsInstant e others n tau other → (one : IsStampedTruly t edges 0 time x)
+        → (two : IsStampedTruly t others 0 other y)
+        → one.m * 1000000 + x.offset_us
+        ≤ two.m * 1000000 + y.offset_us + x.bound_us + y.bound_us + 2 * d + 2 * e }
+{}
+
+/// A device announces, and f lines cannot stop it: wherever it stands, let there be seconds in a
+/// row, two more than it locks after, of each of which more than f lines send the frame whole, and
+/// let a tick come from 549 us to 98 ms behind its edge, when those lines have told it, and none
+/// before it more than 3 ms behind the edge. Then a tick of the last of these seconds announces it
+/// by a vote, whatever the other lines send.
+pub fn a_device_announces()
+    ensures { (t : TimelineValue) (edges : ℕ → ℕ) (made : Made) (start m told : ℕ)
+        (calls before : List Call) (u : UtcSecond)
+        → IsDevice t made.clock.drift_us edges made.clock.reader_rules made.table
+        → AreInOrder start made.clock.redundancy calls → 1 ≤ m
+        → 1 ≤ made.clock.reader_rules.lock_after → HaveRisen told before → told + 11000 < edges m
+        → AreWellHeard (IsTrueLately made.rules t edges) t edges (device_of made) start m
+        (suc (suc made.clock.reader_rules.lock_after)) calls before
+        → IsSecond t (m + 1 + made.clock.reader_rules.lock_after) u
+        → Announces edges (device_of made) (m + 1 + made.clock.reader_rules.lock_after) u calls }
+{}

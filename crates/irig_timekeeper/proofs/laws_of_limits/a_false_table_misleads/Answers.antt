@@ -1,9 +1,0 @@
-use Rattle.std.proofs.Common.{refl}
-use Rattle.irig_timekeeper.proofs.SetupLaws.{setup_is}
-use Rattle.irig_timekeeper.proofs.MisledByTable.{truth, made, table_misleads}
-use Rattle.irig_timekeeper.proofs.laws_of_limits.a_false_table_misleads.Goals as goal
-
-pub returns : goal.returns
-returns _ = λ rules clock range sound long.
-    let fits = setup_is clock.reader_rules clock.drift_us sound in
-    (truth rules clock range fits.0 fits.1 long, made rules clock range fits.0 fits.1 long, refl, refl, table_misleads rules clock range fits.0 fits.1 long)
