@@ -10,7 +10,7 @@ use Rattle.irig_timekeeper.specs.declared.clock.ClockRules.{ClockRules}
 use Rattle.irig_timekeeper.specs.declared.clock.ClockState.{ClockState}
 use Rattle.irig_timekeeper.specs.declared.lines.KeptClaim.{KeptClaim}
 use Rattle.irig_timekeeper.specs.Clock.{claim_voted, vote_of_lines}
-use Rattle.irig_timekeeper.specs.Keeping.{Keeping, after_pulse, after_tick, answer_at, new_keeping, new_state, restarted, vote_at}
+use Rattle.irig_timekeeper.specs.Keeping.{Keeping, after_pulse, after_tick, answer_at, new_keeping, new_state, restarted, vote_at, wait_at}
 use Rattle.irig_timekeeper.specs.Life.{device_of, life_of}
 use Rattle.irig_timekeeper.specs.Lived.{MadeOf, made_with}
 use Rattle.irig_timekeeper.specs.Steps.{AreNewLines}
@@ -23,7 +23,7 @@ use Rattle.c_keeper.specs.declared.second.IrigSecond.{IrigSecond}
 use Rattle.c_keeper.specs.declared.timekeeper.IrigTimekeeper.{IrigTimekeeper}
 use Rattle.c_keeper.specs.Lines.{lines_in}
 use Rattle.c_keeper.specs.Lives.{Moment, HasLived, calls_of}
-use Rattle.c_keeper.specs.Lives.Moment.{Pulsed, Ticked}
+use Rattle.c_keeper.specs.Lives.Moment.{Pulsed, Ticked, Waited}
 use Rattle.c_keeper.specs.Seconds.{IsSecondOf}
 use Rattle.c_keeper.specs.Timekeepers.{answer_in, clock_in, clock_state_in, vote_in, IsTimekeeperOf}
 
@@ -65,6 +65,16 @@ lived_again t q made past fresh goes h =
         accepted = is.accepted;
       };
       told = tt;
+    }
+
+-- how long to wait does not change it
+pub lived_wait : (t : IrigTimekeeper) (made : MadeOf) (past : List Moment) (time now wait : ℕ) → ((k : Keeping) → IsTimekeeperOf t k → wait ≡ wait_at k time) → HasLived t made past → time ≡ now % 2 ^ 32 → HasLived t made (Waited now wait ∷ past)
+lived_wait t made past time now wait answers h clock =
+    let k = life_of (made_with made h.lines h.fresh) (calls_of past) in record {
+      lines = h.lines;
+      fresh = h.fresh;
+      is = h.is;
+      told = (answers k h.is ∙ ap (wait_at k) clock, h.told);
     }
 
 -- ---- a tick

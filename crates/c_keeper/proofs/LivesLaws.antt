@@ -1,5 +1,5 @@
 -- What ticks of a life give C is what the laws of a device say of their answers.
-use Rattle.std.proofs.Common.{◌≡◌, ◌∙◌, ◌∷◌, ◌++◌, [], ◌%◌, ◌^◌, ◌≤◌, ℕ, List, Option, Some, None, refl, sym, ap, subst, arith, inl, inr}
+use Rattle.std.proofs.Common.{◌≡◌, ◌∙◌, ◌∷◌, ◌++◌, [], ◌+◌, ◌%◌, ◌^◌, ◌≤◌, ℕ, List, Option, Some, None, refl, sym, ap, subst, arith, inl, inr}
 use Rattle.irig_sync.specs.Lines.{Pulse}
 use Rattle.irig_time.specs.declared.second.UtcSecond.{UtcSecond}
 use Rattle.irig_time.specs.declared.rules.Rules.{Rules}
@@ -14,11 +14,12 @@ use Rattle.irig_timekeeper.specs.Edges.{IsQuartz}
 use Rattle.irig_timekeeper.specs.Keeping.{Keeping, answer_at}
 use Rattle.irig_timekeeper.specs.Life.{Call, AreInOrder, AreTrueLately, AreTrueAtTicks, AreTrueOver, after_calls, device_of}
 use Rattle.irig_timekeeper.specs.Life.Call.{Hear, Tick}
-use Rattle.irig_timekeeper.specs.Lines.{IsTrueLately}
+use Rattle.irig_timekeeper.specs.Lines.{IsTrueLately, IsTrueOrFaulty}
 use Rattle.irig_timekeeper.specs.Lived.{MadeOf, made_with}
 use Rattle.irig_timekeeper.specs.Steps.{AreNewLines}
 use Rattle.irig_timekeeper.specs.Truth.{IsToldInHoldover, IsLaterSecond, AreApartBeats}
 use Rattle.irig_timekeeper.specs.Healing as device
+use Rattle.irig_timekeeper.proofs.FaultLines.{either_tells_truly}
 use Rattle.irig_timekeeper.proofs.HealLaws.{healed, in_order, calm_since}
 use Rattle.irig_timekeeper.proofs.LifeLaws.{TellAlwaysTruly, begins, device_calm, device_in_order, device_true}
 use Rattle.irig_timekeeper.proofs.LineLaws.{true_lately}
@@ -27,7 +28,7 @@ use Rattle.c_numbers.specs.Reports.{report_in}
 use Rattle.c_keeper.specs.declared.second.IrigSecond.{IrigSecond}
 use Rattle.c_keeper.specs.declared.timekeeper.IrigTimekeeper.{IrigTimekeeper}
 use Rattle.c_keeper.specs.Lives.{Moment, HasLived, HaveTold, HasHealed, GoesOnTruly, beat_in, calls_of}
-use Rattle.c_keeper.specs.Lives.Moment.{Pulsed, Ticked}
+use Rattle.c_keeper.specs.Lives.Moment.{Pulsed, Ticked, Waited}
 use Rattle.c_keeper.specs.Seconds.{IsSecondOf, IsToldOf}
 use Rattle.c_keeper.proofs.ValueLaws.{IsBeatOf, beat_of}
 
@@ -37,11 +38,13 @@ pub calls_more : (later earlier : List Moment) → calls_of (later ++ earlier) �
 calls_more [] earlier = refl
 calls_more (Pulsed line rise width ∷ later) earlier = ap (λ (calls : List Call). Hear line rise width ∷ calls) (calls_more later earlier)
 calls_more (Ticked now second ∷ later) earlier = ap (λ (calls : List Call). Tick now ∷ calls) (calls_more later earlier)
+calls_more (Waited now wait ∷ later) earlier = calls_more later earlier
 
 pub told_before : (new : Keeping) (later earlier : List Moment) → HaveTold new (later ++ earlier) → HaveTold new earlier
 told_before new [] earlier told = told
 told_before new (Pulsed line rise width ∷ later) earlier told = told_before new later earlier told
 told_before new (Ticked now second ∷ later) earlier told = told_before new later earlier told.1
+told_before new (Waited now wait ∷ later) earlier told = told_before new later earlier told.1
 
 -- at each tick of those and of these
 true_at_all : (IsTrue : ℕ → List Pulse → Type 0) (f : ℕ) (later earlier : List Call) → AreTrueOver IsTrue f later earlier → AreTrueAtTicks IsTrue f earlier → AreTrueAtTicks IsTrue f (later ++ earlier)
@@ -80,15 +83,29 @@ as_told s beat t edges early late d holdover now u same h = record {
   };
 }
 
-pub truly : (rules : Rules) (t : TimelineValue) (d : ℕ) (edges : ℕ → ℕ) → IsQuartz d edges → TellAlwaysTruly (IsTrueLately rules t edges) rules t edges 549 549
-truly rules t d edges steady now end pulses claim is frame soon = true_lately rules t d edges now end pulses claim steady is frame soon
+-- ---- lines that are true so
 
-module _ (t : TimelineValue) (edges : ℕ → ℕ) (made : MadeOf) (start : ℕ) (lines : Lines) (fresh : AreNewLines lines) where
+-- what such lines keep is true, and ends so long at most before its edge and behind it
+pub record AreLinesSo (IsTrue : Rules → TimelineValue → (ℕ → ℕ) → ℕ → List Pulse → Type 0) (early late : ℕ) : Type 0 where
+  pub room : early + late ≤ 4098
+  pub truly : (rules : Rules) (t : TimelineValue) (d : ℕ) (edges : ℕ → ℕ) → IsQuartz d edges → TellAlwaysTruly (IsTrue rules t edges) rules t edges early late
+
+pub whole_lines : AreLinesSo IsTrueLately 549 549
+whole_lines = record {
+  room = omega arith;
+  truly = λ rules t d edges steady now end pulses claim is frame soon. true_lately rules t d edges now end pulses claim steady is frame soon;
+}
+
+-- they may have faults
+pub faulty_lines : AreLinesSo IsTrueOrFaulty 2549 1549
+faulty_lines = record { room = omega arith; truly = either_tells_truly }
+
+module _ (IsTrue : Rules → TimelineValue → (ℕ → ℕ) → ℕ → List Pulse → Type 0) (t : TimelineValue) (edges : ℕ → ℕ) (made : MadeOf) (start : ℕ) (lines : Lines) (fresh : AreNewLines lines) where
   abbrev pub new : Keeping
   new = device_of (made_with made lines fresh)
 
   -- it has healed as a device has
-  abbrev pub as_device : (past : List Moment) → HaveTold new past → HasHealed t edges made start past → device.HasHealed IsTrueLately t edges (made_with made lines fresh) start (calls_of past)
+  abbrev pub as_device : (past : List Moment) → HaveTold new past → HasHealed IsTrue t edges made start past → device.HasHealed IsTrue t edges (made_with made lines fresh) start (calls_of past)
   as_device past told h =
       let mended = told_before new h.later (Ticked h.mend h.second ∷ h.earlier) (subst (HaveTold new) h.are told) in
       let beat = beat_of h.second _ mended.0.is h.told in
@@ -108,76 +125,77 @@ module _ (t : TimelineValue) (edges : ℕ → ℕ) (made : MadeOf) (start : ℕ)
         since = h.since;
       }
 
-  healed_tells : (now : ℕ) (calls : List Call) (beat : Beat) (u : UtcSecond) → device.HasHealed IsTrueLately t edges (made_with made lines fresh) start calls
-      → AreInOrder start made.clock.redundancy (Tick now ∷ calls) → AreTrueLately (IsTrueLately made.rules t edges) (f_of made.clock.redundancy) now calls
+  healed_tells : (early late : ℕ) → AreLinesSo IsTrue early late → (now : ℕ) (calls : List Call) (beat : Beat) (u : UtcSecond) → device.HasHealed IsTrue t edges (made_with made lines fresh) start calls
+      → AreInOrder start made.clock.redundancy (Tick now ∷ calls) → AreTrueLately (IsTrue made.rules t edges) (f_of made.clock.redundancy) now calls
       → answer_at (after_calls new calls) (now % 2 ^ 32) ≡ Some beat → beat.report.announce ≡ Some u
-      → IsToldInHoldover t edges 1549 549 made.clock.drift_us made.clock.reader_rules.holdover now beat u
-  healed_tells now calls beat u h =
+      → IsToldInHoldover t edges (early + 1000) late made.clock.drift_us made.clock.reader_rules.holdover now beat u
+  healed_tells early late so now calls beat u h =
       subst Tells (sym h.are) (λ order here answer says.
-      healed (IsTrueLately made.rules t edges) t edges 549 549 new start (begins made.limits made.rules made.clock made.table lines start fresh) tt h.is (omega arith)
-      (truly made.rules t made.clock.drift_us edges h.is.steady)
+      healed (IsTrue made.rules t edges) t edges early late new start (begins made.limits made.rules made.clock made.table lines start fresh) tt h.is so.room
+      (so.truly made.rules t made.clock.drift_us edges h.is.steady)
       h.earlier h.later h.mend now h.vote h.beat beat u order h.truth (here, h.since) h.voted h.answer answer says)
     where
       Tells : List Call → Type 0
-      Tells calls = AreInOrder start made.clock.redundancy (Tick now ∷ calls) → AreTrueLately (IsTrueLately made.rules t edges) (f_of made.clock.redundancy) now calls
+      Tells calls = AreInOrder start made.clock.redundancy (Tick now ∷ calls) → AreTrueLately (IsTrue made.rules t edges) (f_of made.clock.redundancy) now calls
           → answer_at (after_calls new calls) (now % 2 ^ 32) ≡ Some beat → beat.report.announce ≡ Some u
-          → IsToldInHoldover t edges 1549 549 made.clock.drift_us made.clock.reader_rules.holdover now beat u
+          → IsToldInHoldover t edges (early + 1000) late made.clock.drift_us made.clock.reader_rules.holdover now beat u
 
--- what is announced in a life is true
-pub tells_truly : (q : IrigTimekeeper) (t : TimelineValue) (edges : ℕ → ℕ) (made : MadeOf) (start now : ℕ) (past : List Moment) (s : IrigSecond) (u : UtcSecond) → HasLived q made (Ticked now s ∷ past)
-    → GoesOnTruly t edges made start now [] past → (report_in s.report).announce ≡ Some u
-    → IsToldInHoldover t edges 1549 549 made.clock.drift_us made.clock.reader_rules.holdover now (beat_in s) u
-tells_truly q t edges made start now past s u h g says =
-    let beat = announced_beat s _ u h.told.0.is says in
-    let announces = ap (λ (r : Report). r.announce) (sym beat.1.told.report) ∙ says in
-    as_told s beat.0 t edges 1549 549 made.clock.drift_us made.clock.reader_rules.holdover now u beat.1.told
-    (elim g.sound [
-      | inl well ↦ device_true made.limits made.rules made.clock made.table h.lines start h.fresh (IsTrueLately made.rules t edges) t edges 549 549 well.is (omega arith)
-          (truly made.rules t made.clock.drift_us edges well.is.steady) (calls_of past) now beat.0 u g.order (g.truth.0, well.truth) beat.1.is announces
-      | inr mended ↦ healed_tells t edges made start h.lines h.fresh now (calls_of past) beat.0 u (as_device t edges made start h.lines h.fresh past h.told.1 mended) g.order g.truth.0 beat.1.is announces
-    ])
+module _ (IsTrue : Rules → TimelineValue → (ℕ → ℕ) → ℕ → List Pulse → Type 0) (early late : ℕ) (so : AreLinesSo IsTrue early late) (q : IrigTimekeeper) (t : TimelineValue) (edges : ℕ → ℕ) (made : MadeOf) where
+  -- what is announced in a life is true
+  pub tells_truly : (start now : ℕ) (past : List Moment) (s : IrigSecond) (u : UtcSecond) → HasLived q made (Ticked now s ∷ past)
+      → GoesOnTruly IsTrue t edges made start now [] past → (report_in s.report).announce ≡ Some u
+      → IsToldInHoldover t edges (early + 1000) late made.clock.drift_us made.clock.reader_rules.holdover now (beat_in s) u
+  tells_truly start now past s u h g says =
+      let beat = announced_beat s _ u h.told.0.is says in
+      let announces = ap (λ (r : Report). r.announce) (sym beat.1.told.report) ∙ says in
+      as_told s beat.0 t edges (early + 1000) late made.clock.drift_us made.clock.reader_rules.holdover now u beat.1.told
+      (elim g.sound [
+        | inl well ↦ device_true made.limits made.rules made.clock made.table h.lines start h.fresh (IsTrue made.rules t edges) t edges early late well.is so.room
+            (so.truly made.rules t made.clock.drift_us edges well.is.steady) (calls_of past) now beat.0 u g.order (g.truth.0, well.truth) beat.1.is announces
+        | inr mended ↦ healed_tells IsTrue t edges made start h.lines h.fresh early late so now (calls_of past) beat.0 u (as_device IsTrue t edges made start h.lines h.fresh past h.told.1 mended) g.order g.truth.0 beat.1.is announces
+      ])
 
--- and no tick says `jump`
-pub tells_calmly : (q : IrigTimekeeper) (t : TimelineValue) (edges : ℕ → ℕ) (made : MadeOf) (start now : ℕ) (past : List Moment) (s : IrigSecond) → HasLived q made (Ticked now s ∷ past)
-    → GoesOnTruly t edges made start now [] past → ¬ ((report_in s.report).cause ≡ cause.Jump)
-tells_calmly q t edges made start now past s h g jump =
-    let beat = jump_beat s _ h.told.0.is jump in
-    let jumps = ap (λ (r : Report). r.cause) (sym beat.1.told.report) ∙ jump in
-    elim g.sound [
-      | inl well ↦ device_calm made.limits made.rules made.clock made.table h.lines start h.fresh (IsTrueLately made.rules t edges) t edges 549 549 well.is (omega arith)
-          (truly made.rules t made.clock.drift_us edges well.is.steady) (calls_of past) now beat.0 g.order (g.truth.0, well.truth) beat.1.is jumps
-      | inr mended ↦
-          let d = as_device t edges made start h.lines h.fresh past h.told.1 mended in
-          calm_since (IsTrueLately made.rules t edges) t edges 549 549 (new t edges made start h.lines h.fresh) start (begins made.limits made.rules made.clock made.table h.lines start h.fresh) tt d.is (omega arith)
-          (truly made.rules t made.clock.drift_us edges d.is.steady)
-          d.earlier d.mend d.vote d.beat d.truth d.voted d.answer d.later (calls_of past) now d.are d.since g.order g.truth.0 beat.0 beat.1.is jumps
-    ]
+  -- and no tick says `jump`
+  pub tells_calmly : (start now : ℕ) (past : List Moment) (s : IrigSecond) → HasLived q made (Ticked now s ∷ past)
+      → GoesOnTruly IsTrue t edges made start now [] past → ¬ ((report_in s.report).cause ≡ cause.Jump)
+  tells_calmly start now past s h g jump =
+      let beat = jump_beat s _ h.told.0.is jump in
+      let jumps = ap (λ (r : Report). r.cause) (sym beat.1.told.report) ∙ jump in
+      elim g.sound [
+        | inl well ↦ device_calm made.limits made.rules made.clock made.table h.lines start h.fresh (IsTrue made.rules t edges) t edges early late well.is so.room
+            (so.truly made.rules t made.clock.drift_us edges well.is.steady) (calls_of past) now beat.0 g.order (g.truth.0, well.truth) beat.1.is jumps
+        | inr mended ↦
+            let d = as_device IsTrue t edges made start h.lines h.fresh past h.told.1 mended in
+            calm_since (IsTrue made.rules t edges) t edges early late (new IsTrue t edges made start h.lines h.fresh) start (begins made.limits made.rules made.clock made.table h.lines start h.fresh) tt d.is so.room
+            (so.truly made.rules t made.clock.drift_us edges d.is.steady)
+            d.earlier d.mend d.vote d.beat d.truth d.voted d.answer d.later (calls_of past) now d.are d.since g.order g.truth.0 beat.0 beat.1.is jumps
+      ]
 
--- a later tick announces a later second
-pub tells_in_order : (q : IrigTimekeeper) (t : TimelineValue) (edges : ℕ → ℕ) (made : MadeOf) (start before now : ℕ) (earlier later : List Moment) (first s : IrigSecond) (u v : UtcSecond)
-    → HasLived q made (Ticked now s ∷ (later ++ (Ticked before first ∷ earlier))) → GoesOnTruly t edges made start now later (Ticked before first ∷ earlier)
-    → (report_in first.report).announce ≡ Some u → (report_in s.report).announce ≡ Some v → IsLaterSecond t u v
-tells_in_order q t edges made start before now earlier later first s u v h g says then =
-    let made_new = new t edges made start h.lines h.fresh in
-    let joined = calls_more later (Ticked before first ∷ earlier) in
-    let told = told_before made_new later (Ticked before first ∷ earlier) h.told.1 in
-    let one = announced_beat first _ u told.0.is says in
-    let two = announced_beat s _ v h.told.0.is then in
-    let order = subst (λ (calls : List Call). AreInOrder start made.clock.redundancy (Tick now ∷ calls)) joined g.order in
-    let answers = subst (λ (calls : List Call). answer_at (after_calls made_new calls) (now % 2 ^ 32) ≡ Some two.0) joined two.1.is in
-    let says_one = ap (λ (r : Report). r.announce) (sym one.1.told.report) ∙ says in
-    let says_two = ap (λ (r : Report). r.announce) (sym two.1.told.report) ∙ then in
-    elim g.sound [
-      | inl well ↦ device_in_order made.limits made.rules made.clock made.table h.lines start h.fresh (IsTrueLately made.rules t edges) t edges 549 549 well.is (omega arith)
-          (truly made.rules t made.clock.drift_us edges well.is.steady) (calls_of earlier) (calls_of later) before now one.0 two.0 u v order
-          (true_at_all (IsTrueLately made.rules t edges) (f_of made.clock.redundancy) (Tick now ∷ calls_of later) (Tick before ∷ calls_of earlier) g.truth well.truth)
-          one.1.is says_one answers says_two
-      | inr mended ↦
-          let d = as_device t edges made start h.lines h.fresh (Ticked before first ∷ earlier) told mended in
-          in_order (IsTrueLately made.rules t edges) t edges 549 549 made_new start (begins made.limits made.rules made.clock made.table h.lines start h.fresh) tt d.is (omega arith)
-          (truly made.rules t made.clock.drift_us edges d.is.steady)
-          d.earlier d.mend d.vote d.beat d.truth d.voted d.answer d.later before (calls_of earlier) (calls_of later) now one.0 two.0 u v d.are d.since order g.truth one.1.is says_one answers says_two
-    ]
+  -- a later tick announces a later second
+  pub tells_in_order : (start before now : ℕ) (earlier later : List Moment) (first s : IrigSecond) (u v : UtcSecond)
+      → HasLived q made (Ticked now s ∷ (later ++ (Ticked before first ∷ earlier))) → GoesOnTruly IsTrue t edges made start now later (Ticked before first ∷ earlier)
+      → (report_in first.report).announce ≡ Some u → (report_in s.report).announce ≡ Some v → IsLaterSecond t u v
+  tells_in_order start before now earlier later first s u v h g says then =
+      let made_new = new IsTrue t edges made start h.lines h.fresh in
+      let joined = calls_more later (Ticked before first ∷ earlier) in
+      let told = told_before made_new later (Ticked before first ∷ earlier) h.told.1 in
+      let one = announced_beat first _ u told.0.is says in
+      let two = announced_beat s _ v h.told.0.is then in
+      let order = subst (λ (calls : List Call). AreInOrder start made.clock.redundancy (Tick now ∷ calls)) joined g.order in
+      let answers = subst (λ (calls : List Call). answer_at (after_calls made_new calls) (now % 2 ^ 32) ≡ Some two.0) joined two.1.is in
+      let says_one = ap (λ (r : Report). r.announce) (sym one.1.told.report) ∙ says in
+      let says_two = ap (λ (r : Report). r.announce) (sym two.1.told.report) ∙ then in
+      elim g.sound [
+        | inl well ↦ device_in_order made.limits made.rules made.clock made.table h.lines start h.fresh (IsTrue made.rules t edges) t edges early late well.is so.room
+            (so.truly made.rules t made.clock.drift_us edges well.is.steady) (calls_of earlier) (calls_of later) before now one.0 two.0 u v order
+            (true_at_all (IsTrue made.rules t edges) (f_of made.clock.redundancy) (Tick now ∷ calls_of later) (Tick before ∷ calls_of earlier) g.truth well.truth)
+            one.1.is says_one answers says_two
+        | inr mended ↦
+            let d = as_device IsTrue t edges made start h.lines h.fresh (Ticked before first ∷ earlier) told mended in
+            in_order (IsTrue made.rules t edges) t edges early late made_new start (begins made.limits made.rules made.clock made.table h.lines start h.fresh) tt d.is so.room
+            (so.truly made.rules t made.clock.drift_us edges d.is.steady)
+            d.earlier d.mend d.vote d.beat d.truth d.voted d.answer d.later before (calls_of earlier) (calls_of later) now one.0 two.0 u v d.are d.since order g.truth one.1.is says_one answers says_two
+      ]
 
 -- the edges that are told lie apart, whatever lines carry
 pub tells_apart : (q : IrigTimekeeper) (made : MadeOf) (start before now : ℕ) (earlier later : List Moment) (first s : IrigSecond)

@@ -1,5 +1,7 @@
 -- What a stamp in a life names, and how far off it may be, by what the ticks of that life gave.
-use Rattle.std.proofs.Common.{◌≡◌, ◌∙◌, ◌∷◌, ◌++◌, [], ◌+◌, ◌*◌, ◌%◌, ◌^◌, ◌≤◌, ◌⊎◌, ◌==◌, if◌then◌else◌, ℕ, List, Option, Some, None, refl, sym, ap, subst, arith, inl, inr}
+use Rattle.std.proofs.Common.{◌≡◌, ◌∙◌, ◌∷◌, ◌++◌, [], ◌+◌, ◌*◌, ◌%◌, ◌^◌, ◌≤◌, ◌==◌, if◌then◌else◌, ℕ, List, Option, Some, None, refl, sym, ap, subst, arith, inl, inr}
+use Rattle.irig_sync.specs.Lines.{Pulse}
+use Rattle.irig_time.specs.declared.rules.Rules.{Rules}
 use Rattle.irig_time.specs.declared.second.UtcSecond.{UtcSecond}
 use Rattle.irig_time.specs.Timelines.{TimelineValue}
 use Rattle.irig_reader.specs.declared.report.Report.{Report}
@@ -10,24 +12,25 @@ use Rattle.irig_timekeeper.specs.Clock.{lasted}
 use Rattle.irig_timekeeper.specs.Keeping.{Keeping, answer_at, stamp_at}
 use Rattle.irig_timekeeper.specs.Life.{Call, AreInOrder, after_calls, device_of, life_of}
 use Rattle.irig_timekeeper.specs.Life.Call.{Tick}
-use Rattle.irig_timekeeper.specs.Lines.{IsTrueLately}
-use Rattle.irig_timekeeper.specs.Lived.{MadeOf, LivesWell, made_with}
+use Rattle.irig_timekeeper.specs.Edges.{IsQuartz}
+use Rattle.irig_timekeeper.specs.Lines.{IsTrueLately, IsTrueOrFaulty}
+use Rattle.irig_timekeeper.specs.Lived.{MadeOf, made_with}
 use Rattle.irig_timekeeper.specs.Since.{since_answer, unless_voted}
 use Rattle.irig_timekeeper.specs.Since as device
 use Rattle.irig_timekeeper.specs.Stamps.{stamp_of}
-use Rattle.irig_timekeeper.specs.Truth.{IsEdgeAt, IsStampedTruly}
+use Rattle.irig_timekeeper.specs.Truth.{IsDevice, IsInstant, IsStampedTruly}
 use Rattle.irig_timekeeper.proofs.HealedStamps.{stamped_since}
 use Rattle.irig_timekeeper.proofs.LifeLaws.{order_before}
 use Rattle.irig_timekeeper.proofs.SinceLaws.{has_its_bound, lasts_since}
-use Rattle.irig_timekeeper.proofs.StampLaws.{stamped}
+use Rattle.irig_timekeeper.proofs.StampLaws.{near_instant, stamped}
 use Rattle.c_numbers.specs.Reports.{report_in}
 use Rattle.c_keeper.specs.declared.second.IrigSecond.{IrigSecond}
 use Rattle.c_keeper.specs.declared.timekeeper.IrigTimekeeper.{IrigTimekeeper}
-use Rattle.c_keeper.specs.Lives.{Moment, HasLived, HaveTold, HasHealed, HasItsBound, calls_of, since_vote}
-use Rattle.c_keeper.specs.Lives.Moment.{Pulsed, Ticked}
+use Rattle.c_keeper.specs.Lives.{Moment, AreTogether, HasLived, HaveTold, HasHealedBefore, HasItsBound, StampsTruly, calls_of, since_vote}
+use Rattle.c_keeper.specs.Lives.Moment.{Pulsed, Ticked, Waited}
 use Rattle.c_keeper.specs.Seconds.{IsSecondOf}
 use Rattle.c_keeper.specs.Timekeepers.{stamp_for, IsTimekeeperOf}
-use Rattle.c_keeper.proofs.LivesLaws.{as_device, announced_beat, told_before, truly}
+use Rattle.c_keeper.proofs.LivesLaws.{AreLinesSo, as_device, announced_beat, faulty_lines, told_before, whole_lines}
 use Rattle.c_keeper.proofs.ValueLaws.{beat_of}
 
 -- the stamp of an event is that of the value
@@ -36,28 +39,48 @@ stamped_as t k time h = ap (λ (s : ClockState). stamp_of s.last s.before time) 
 
 -- ---- a stamp is true
 
-pub stamped_well : (q : IrigTimekeeper) (t : TimelineValue) (edges : ℕ → ℕ) (made : MadeOf) (start time now : ℕ) (past : List Moment) (stamp : Stamp) → (h : HasLived q made past)
-    → LivesWell IsTrueLately t edges made start (calls_of past) → AreInOrder start made.clock.redundancy (Tick now ∷ calls_of past) → time ≤ now → now ≤ time + 1800000000
-    → stamp_at (life_of (made_with made h.lines h.fresh) (calls_of past)) (time % 2 ^ 32) ≡ Some stamp → IsStampedTruly t edges 0 time stamp
-stamped_well q t edges made start time now past stamp h well order behind young e =
-    stamped made.limits made.rules made.clock made.table h.lines start h.fresh t edges 549 549 0 well.is (omega arith) (omega arith) (IsTrueLately made.rules t edges) (omega arith)
-    (truly made.rules t made.clock.drift_us edges well.is.steady) (calls_of past) time now order well.truth behind young stamp e
+-- off by so much more, as frames of such lines end before their edges and behind them
+module _ (IsTrue : Rules → TimelineValue → (ℕ → ℕ) → ℕ → List Pulse → Type 0) (early late more : ℕ) (so : AreLinesSo IsTrue early late) (low : early + 1000 ≤ 1549 + more) (high : late ≤ 1549 + more) (q : IrigTimekeeper) (t : TimelineValue) (edges : ℕ → ℕ) (made : MadeOf) (start time now : ℕ)
+    (past : List Moment) (stamp : Stamp) (h : HasLived q made past) (e : stamp_at (life_of (made_with made h.lines h.fresh) (calls_of past)) (time % 2 ^ 32) ≡ Some stamp) where
+  stamped_healed : (mended : HasHealedBefore IsTrue t edges made start past time) → AreInOrder start made.clock.redundancy (Tick now ∷ calls_of past) → time ≤ now → now ≤ time + 1800000000 → IsStampedTruly t edges more time stamp
+  stamped_healed mended order behind young =
+      let vote = mended.healed in
+      let d = as_device IsTrue t edges made start h.lines h.fresh past h.told vote in
+      let told = (told_before (device_of (made_with made h.lines h.fresh)) vote.later (Ticked vote.mend vote.second ∷ vote.earlier) (subst (HaveTold (device_of (made_with made h.lines h.fresh))) vote.are h.told)).0 in
+      let same = (beat_of vote.second _ told.is vote.told).1.told in
+      let ordered = order_before start made.clock.redundancy d.later (Tick d.mend ∷ d.earlier) (subst (AreInOrder start made.clock.redundancy) d.are d.order) in
+      stamped_since made.limits made.rules made.clock made.table h.lines start h.fresh (IsTrue made.rules t edges) t edges early late more d.is so.room low high
+      (so.truly made.rules t made.clock.drift_us edges d.is.steady)
+      d.earlier d.mend d.vote d.beat d.truth ordered d.voted d.answer mended.edge time now
+      (record { clock = sym same.edge_us ∙ mended.at.clock; come = mended.at.come; soon = mended.at.soon })
+      (elim mended.when [ inl after ↦ inl after | inr silent ↦ inr (ap (λ (r : Report). r.announce) (sym same.report) ∙ silent) ])
+      behind young d.later (calls_of past) d.are order d.since stamp e
 
-pub stamped_healed : (q : IrigTimekeeper) (t : TimelineValue) (edges : ℕ → ℕ) (made : MadeOf) (start edge time now : ℕ) (past : List Moment) (stamp : Stamp) → (h : HasLived q made past)
-    → (mended : HasHealed t edges made start past) → IsEdgeAt mended.second.edge_us edge mended.mend → (edge ≤ time) ⊎ ((report_in mended.second.report).announce ≡ None)
-    → AreInOrder start made.clock.redundancy (Tick now ∷ calls_of past) → time ≤ now → now ≤ time + 1800000000
-    → stamp_at (life_of (made_with made h.lines h.fresh) (calls_of past)) (time % 2 ^ 32) ≡ Some stamp → IsStampedTruly t edges 0 time stamp
-stamped_healed q t edges made start edge time now past stamp h mended at when order behind young e =
-    let d = as_device t edges made start h.lines h.fresh past h.told mended in
-    let told = (told_before (device_of (made_with made h.lines h.fresh)) mended.later (Ticked mended.mend mended.second ∷ mended.earlier) (subst (HaveTold (device_of (made_with made h.lines h.fresh))) mended.are h.told)).0 in
-    let same = (beat_of mended.second _ told.is mended.told).1.told in
-    let ordered = order_before start made.clock.redundancy d.later (Tick d.mend ∷ d.earlier) (subst (AreInOrder start made.clock.redundancy) d.are d.order) in
-    stamped_since made.limits made.rules made.clock made.table h.lines start h.fresh (IsTrueLately made.rules t edges) t edges 549 549 0 d.is (omega arith) (omega arith) (omega arith)
-    (truly made.rules t made.clock.drift_us edges d.is.steady)
-    d.earlier d.mend d.vote d.beat d.truth ordered d.voted d.answer edge time now
-    (record { clock = sym same.edge_us ∙ at.clock; come = at.come; soon = at.soon })
-    (elim when [ inl after ↦ inl after | inr silent ↦ inr (ap (λ (r : Report). r.announce) (sym same.report) ∙ silent) ])
-    behind young d.later (calls_of past) d.are order d.since stamp e
+  stamped_so : StampsTruly IsTrue t edges made start time now past → IsStampedTruly t edges more time stamp
+  stamped_so lives = elim lives.sound [
+    | inl well ↦ stamped made.limits made.rules made.clock made.table h.lines start h.fresh t edges early late more well.is low high (IsTrue made.rules t edges) so.room
+        (so.truly made.rules t made.clock.drift_us edges well.is.steady) (calls_of past) time now lives.order well.truth lives.behind lives.young stamp e
+    | inr mended ↦ stamped_healed mended lives.order lives.behind lives.young
+  ]
+
+module _ (q : IrigTimekeeper) (t : TimelineValue) (edges : ℕ → ℕ) (made : MadeOf) (start time now : ℕ) (past : List Moment) (stamp : Stamp) (h : HasLived q made past) (e : stamp_at (life_of (made_with made h.lines h.fresh) (calls_of past)) (time % 2 ^ 32) ≡ Some stamp) where
+  pub stamped_truly : StampsTruly IsTrueLately t edges made start time now past → IsStampedTruly t edges 0 time stamp
+  stamped_truly = stamped_so IsTrueLately 549 549 0 whole_lines (omega arith) (omega arith) q t edges made start time now past stamp h e
+
+  pub stamped_faulty : StampsTruly IsTrueOrFaulty t edges made start time now past → IsStampedTruly t edges 2000 time stamp
+  stamped_faulty = stamped_so IsTrueOrFaulty 2549 1549 2000 faulty_lines (omega arith) (omega arith) q t edges made start time now past stamp h e
+
+-- the device of such a life
+pub sound_device : (t : TimelineValue) (edges : ℕ → ℕ) (made : MadeOf) (start time now : ℕ) (past : List Moment) → StampsTruly IsTrueLately t edges made start time now past → IsDevice t made.clock.drift_us edges made.clock.reader_rules made.table
+sound_device t edges made start time now past lives = elim lives.sound [ inl well ↦ well.is | inr mended ↦ mended.healed.is ]
+
+-- two stamps of one instant
+pub stamped_together : (t : TimelineValue) (d e n tau time there : ℕ) (edges others : ℕ → ℕ) (stamp other : Stamp) → IsQuartz d edges → IsQuartz e others → IsInstant d edges n tau time → IsInstant e others n tau there
+    → IsStampedTruly t edges 0 time stamp → IsStampedTruly t others 0 there other → AreTogether t (stamp.bound_us + other.bound_us + 2 * d + 2 * e) stamp other
+stamped_together t d e n tau time there edges others stamp other quartz quartz' at at' one two =
+    let p = near_instant t d edges quartz n tau time at stamp one in
+    let q = near_instant t e others quartz' n tau there at' other two in
+    record { m = one.m; n = two.m; one = one.truth; two = two.truth; least = omega (arith, p.0, q.1); most = omega (arith, p.1, q.0) }
 
 -- ---- the seconds since a vote
 
@@ -68,6 +91,7 @@ since_tick s (Some beat) n told = rw (told.is_told, ap (λ (r : Report). r.cause
 pub since_is : (new : Keeping) (past : List Moment) → HaveTold new past → since_vote past ≡ device.since_vote new (calls_of past)
 since_is new [] told = refl
 since_is new (Pulsed line rise width ∷ past) told = since_is new past told
+since_is new (Waited now wait ∷ past) told = since_is new past told.1
 since_is new (Ticked now second ∷ past) told =
     since_tick second (answer_at (after_calls new (calls_of past)) (now % 2 ^ 32)) (since_vote past) told.0.is
     ∙ ap (since_answer (answer_at (after_calls new (calls_of past)) (now % 2 ^ 32))) (since_is new past told.1)
@@ -98,6 +122,7 @@ pub tick_in_past : (past : List Moment) (later : List Call) (now : ℕ) (earlier
 tick_in_past [] [] now earlier e = absurd cc
 tick_in_past [] (call ∷ later) now earlier e = absurd cc
 tick_in_past (Pulsed line rise width ∷ past) [] now earlier e = absurd cc
+tick_in_past (Waited time wait ∷ past) later now earlier e = one_more (Waited time wait) past now earlier (tick_in_past past later now earlier e)
 tick_in_past (Ticked time second ∷ past) [] now earlier e =
     let same : time ≡ now = cc in
     let rest : calls_of past ≡ earlier = cc in

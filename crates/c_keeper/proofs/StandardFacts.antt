@@ -1,13 +1,16 @@
 -- Known values of this library's own definitions, so that a wrong one does not check.
-use Rattle.std.proofs.Common.{◌≡◌, Some, None, refl}
+use Rattle.std.proofs.Common.{◌≡◌, ℕ, List, [], ◌∷◌, Some, None, refl, arith}
 use Rattle.c_numbers.specs.CheckWord.{weighted}
 use Rattle.c_numbers.specs.Tallies.{no_tally}
 use Rattle.c_keeper.specs.declared.announced.IrigAnnounced.{IrigAnnounced}
 use Rattle.c_keeper.specs.declared.line.IrigLine.{IrigLine}
 use Rattle.c_keeper.specs.declared.line.IrigLines.{IrigLines}
+use Rattle.c_keeper.specs.Announcing.{AreAsked, GoesByWait}
 use Rattle.c_keeper.specs.CheckWord.{announced_numbers, lines_numbers}
 use Rattle.c_keeper.specs.Lines.{numbers_at, with_numbers}
-use Rattle.c_keeper.specs.Seconds.{stamp_in}
+use Rattle.c_keeper.specs.Lives.{Moment}
+use Rattle.c_keeper.specs.Lives.Moment.{Pulsed, Ticked, Waited}
+use Rattle.c_keeper.specs.Seconds.{nothing_told, stamp_in}
 use Rattle.c_keeper.specs.Timekeepers.{announced_in}
 
 abbrev silent : IrigLine
@@ -36,3 +39,18 @@ pub known_seconds : (announced_in told ≡ Some (record { second = record { day 
     × (stamp_in 0 (record { day = 6209; sod = 86400; offset_us = 250000; bound_us = 1549 }) ≡ Some (record { second = record { day = 6209; sod = 86400 }; offset_us = 250000; bound_us = 1549 }))
     × (stamp_in 26 (record { day = 6209; sod = 86400; offset_us = 250000; bound_us = 1549 }) ≡ None)
 known_seconds = (refl, refl, refl, refl)
+
+-- a pulse of 2 ms ends at 12,000, and a question from then on, or from another time, is answered by 5 ms
+abbrev asked_from : ℕ → List Moment
+asked_from time = Waited time 5000 ∷ (Pulsed 0 10000 2000 ∷ [])
+
+-- the tick comes 96 ms behind the time that was named, and a microsecond later it is too late
+pub known_waits : AreAsked None (asked_from 12000) × (AreAsked None (asked_from 12001) → ⊥) × (AreAsked None (Pulsed 0 10000 2000 ∷ []) → ⊥)
+    × GoesByWait 96000 (Ticked 113000 nothing_told ∷ asked_from 12000) × (GoesByWait 96000 (Ticked 113001 nothing_told ∷ asked_from 12000) → ⊥)
+known_waits = (
+  (refl, tt),
+  λ h. (let other : ◌≡◌ {A = ℕ} 12001 12000 = (let both = h.0 in cc) in absurd (omega (arith, other))),
+  λ h. (let none = h.0 in absurd cc),
+  ((omega arith, tt), tt),
+  λ h. absurd (omega (arith, h.0.0)),
+)

@@ -7,18 +7,18 @@ use Rattle.irig_timekeeper.specs.declared.clock.ClockRules.{ClockRules}
 use Rattle.irig_timekeeper.specs.declared.clock.ClockState.{ClockState}
 use Rattle.irig_time.specs.Seconds.{IsValid}
 use Rattle.irig_reader.specs.declared.report.Report.{Report}
-use Rattle.irig_timekeeper.specs.Clock.{clock_after, clock_answer, SaysOfUtc}
+use Rattle.irig_timekeeper.specs.Clock.{clock_after, clock_answer, clock_wait, SaysOfUtc}
 use Rattle.irig_timekeeper.specs.Refusals.{clock_fault}
 use Rattle.c_numbers.specs.declared.setup.IrigSetup.{IrigSetup}
 use Rattle.c_numbers.specs.Reports.{report_in}
 use Rattle.c_numbers.specs.Setups.{reader_rules_in, redundancy_in}
 use Rattle.c_keeper.specs.declared.announced.IrigAnnounced.{IrigAnnounced}
-use Rattle.irig_timekeeper.specs.Keeping.{Keeping, after_tick, answer_at}
+use Rattle.irig_timekeeper.specs.Keeping.{Keeping, after_tick, answer_at, wait_at}
 use Rattle.c_numbers.specs.LeapTables.{table_in}
 use Rattle.c_keeper.specs.declared.second.IrigSecond.{IrigSecond}
 use Rattle.c_keeper.specs.declared.timekeeper.IrigTimekeeper.{IrigTimekeeper}
 use Rattle.c_keeper.specs.Seconds.{IsSecondOf, IsToldOf}
-use Rattle.c_keeper.specs.Timekeepers.{answer_in, clock_in, clock_state_in, state_behind, IsAnnounced, IsTimekeeperOf}
+use Rattle.c_keeper.specs.Timekeepers.{answer_in, clock_in, clock_state_in, state_behind, wait_in, IsAnnounced, IsTimekeeperOf}
 
 pub answers_as : (t : IrigTimekeeper) (k : Keeping) (now : ℕ) → IsTimekeeperOf t k → answer_in t now ≡ answer_at k now
 answers_as t k now h =
@@ -31,6 +31,10 @@ stands_as t k now h =
     ap (λ (c : ClockRules). clock_after c (table_in t.table) (clock_state_in t) now) h.clock
     ∙ (ap (λ (table : TableValue). clock_after k.clock table (clock_state_in t) now) h.table
     ∙ ap (λ (s : ClockState). clock_after k.clock k.table s now) h.state)
+
+pub waits_value : (t : IrigTimekeeper) (k : Keeping) (now : ℕ) → IsTimekeeperOf t k → wait_in t now ≡ wait_at k now
+waits_value t k now h =
+    ap (λ (c : ClockRules). clock_wait c (clock_state_in t) now) h.clock ∙ ap (λ (s : ClockState). clock_wait k.clock s now) h.state
 
 -- a second that is told is a beat
 pub record IsBeatOf (s : IrigSecond) (answer : Option Beat) (beat : Beat) : Type 0 where

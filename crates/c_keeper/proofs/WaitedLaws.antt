@@ -5,7 +5,7 @@ use Rattle.irig_vote.specs.Vote.{f_of}
 use Rattle.irig_timekeeper.specs.declared.clock.ClockRules.{ClockRules}
 use Rattle.irig_timekeeper.specs.declared.clock.ClockState.{ClockState}
 use Rattle.irig_timekeeper.specs.declared.lines.KeptClaim.{KeptClaim}
-use Rattle.irig_timekeeper.specs.Clock.{claim_voted, clock_wait, vote_of_lines}
+use Rattle.irig_timekeeper.specs.Clock.{claim_voted, vote_of_lines}
 use Rattle.irig_timekeeper.specs.Counting.{edges_own}
 use Rattle.irig_timekeeper.specs.Keeping.{Keeping, wait_at}
 use Rattle.irig_timekeeper.specs.Life.{Made, AreInOrder, device_of, last_tick, life_of}
@@ -20,11 +20,10 @@ use Rattle.irig_timekeeper.proofs.WaitLaws.{counts_then, waits}
 use Rattle.c_keeper.specs.declared.timekeeper.IrigTimekeeper.{IrigTimekeeper}
 use Rattle.c_keeper.specs.Lives.{Moment, HasLived, agreed_in, calls_of}
 use Rattle.c_keeper.specs.Timekeepers.{clock_state_in, edge_in, vote_in, wait_in, IsTimekeeperOf}
+use Rattle.c_keeper.proofs.ValueLaws.{waits_value}
 
 waits_as : (t : IrigTimekeeper) (k : Keeping) (time now : ℕ) → IsTimekeeperOf t k → time ≡ now % 2 ^ 32 → wait_in t time ≡ wait_at k (now % 2 ^ 32)
-waits_as t k time now h clock =
-    ap (λ (c : ClockRules). clock_wait c (clock_state_in t) time) h.clock
-    ∙ (ap (λ (s : ClockState). clock_wait k.clock s time) h.state ∙ ap (wait_at k) clock)
+waits_as t k time now h clock = waits_value t k time h ∙ ap (wait_at k) clock
 
 agreed_as : (t : IrigTimekeeper) (k : Keeping) (time now : ℕ) → IsTimekeeperOf t k → time ≡ now % 2 ^ 32 → agreed_in t time ≡ agreed (f_of k.clock.redundancy) (settled (now % 2 ^ 32) k.state.lines)
 agreed_as t k time now h clock =

@@ -1,6 +1,6 @@
 -- What has to come for a timekeeper in C to announce, and that it has.
 -- Source: this project's profile.
-use Rattle.std.specs.Prelude.{◌≡◌, ◌≤◌, ◌+◌, ℕ, List, ◌∷◌, ◌++◌}
+use Rattle.std.specs.Prelude.{◌≡◌, ◌≤◌, ◌+◌, ℕ, List, [], ◌∷◌, ◌++◌, Option, Some, None, ⊤}
 use Rattle.irig_time.specs.declared.second.UtcSecond.{UtcSecond}
 use Rattle.irig_time.specs.Timelines.{TimelineValue}
 use Rattle.irig_reader.specs.Locking.{voted_report}
@@ -12,7 +12,7 @@ use Rattle.irig_timekeeper.specs.Steps.{AreNewLines}
 use Rattle.c_numbers.specs.Reports.{report_in}
 use Rattle.c_keeper.specs.declared.second.IrigSecond.{IrigSecond}
 use Rattle.c_keeper.specs.Lives.{Moment, calls_of}
-use Rattle.c_keeper.specs.Lives.Moment.{Ticked}
+use Rattle.c_keeper.specs.Lives.Moment.{Pulsed, Ticked, Waited}
 
 -- as many seconds in a row as it locks after and two more, from the m-th on, come whole in these
 -- moments, which came behind those, of whatever lines on which nothing had come it was made
@@ -33,3 +33,30 @@ pub record HasAnnounced (edges : ℕ → ℕ) (m : ℕ) (u : UtcSecond) (past : 
   pub are : past ≡ later ++ (Ticked now second ∷ earlier)
   pub soon : now ≤ edges m + 98000
   pub says : report_in second.report ≡ voted_report u
+
+-- ---- a tick when `wait` says
+
+-- the moment next behind each pulse and each tick of these moments asks how long to wait, from the
+-- pulse's end or the time of the tick. What comes next behind all of them asks from such a time, or
+-- does not ask
+abbrev pub AreAsked : Option ℕ → List Moment → Type 0
+AreAsked next [] = ⊤
+AreAsked next (Pulsed line rise width ∷ past) = (next ≡ Some (rise + width)) × AreAsked None past
+AreAsked next (Ticked now second ∷ past) = (next ≡ Some now) × AreAsked None past
+AreAsked next (Waited now wait ∷ past) = AreAsked (Some now) past
+
+-- a tick of this time comes so long at most behind each time until which it was to wait, by what was
+-- asked since the tick before
+abbrev pub IsSoonEnough : ℕ → ℕ → List Moment → Type 0
+IsSoonEnough late now [] = ⊤
+IsSoonEnough late now (Pulsed line rise width ∷ past) = IsSoonEnough late now past
+IsSoonEnough late now (Ticked time second ∷ past) = ⊤
+IsSoonEnough late now (Waited time wait ∷ past) =
+    (now ≤ time + wait + late) × IsSoonEnough late now past
+
+-- so each tick of these moments
+abbrev pub GoesByWait : ℕ → List Moment → Type 0
+GoesByWait late [] = ⊤
+GoesByWait late (Pulsed line rise width ∷ past) = GoesByWait late past
+GoesByWait late (Ticked now second ∷ past) = IsSoonEnough late now past × GoesByWait late past
+GoesByWait late (Waited now wait ∷ past) = GoesByWait late past

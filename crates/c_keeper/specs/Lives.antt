@@ -1,23 +1,24 @@
--- The life of a timekeeper as C knows it: what it was made of, the pulses that it was told, and what
--- its ticks answered. Times are local ones, by a clock that does not wrap; C gives them by one of 32
+-- The life of a timekeeper as C knows it: what it was made of, the pulses that it was told, what its
+-- ticks answered, and how long it said to wait. Times are local ones, by a clock that does not wrap; C gives them by one of 32
 -- bits.
 -- Source: this library's own.
-use Rattle.std.specs.Prelude.{◌≡◌, ◌⊎◌, ◌+◌, ◌*◌, ◌%◌, ◌^◌, ◌==◌, if◌then◌else◌, ℕ, List, [], ◌∷◌, ◌++◌, Option, Some, ⊤}
-use Rattle.irig_time.specs.Timelines.{TimelineValue}
+use Rattle.std.specs.Prelude.{◌≡◌, ◌≤◌, ◌⊎◌, ◌+◌, ◌*◌, ◌%◌, ◌^◌, ◌==◌, if◌then◌else◌, ℕ, List, [], ◌∷◌, ◌++◌, Option, Some, None, ⊤}
+use Rattle.irig_sync.specs.Lines.{Pulse}
+use Rattle.irig_time.specs.declared.rules.Rules.{Rules}
+use Rattle.irig_time.specs.Timelines.{TimelineValue, IsSecond}
 use Rattle.irig_port.specs.declared.told.Told.TheVariants.{Silence}
 use Rattle.irig_vote.specs.Vote.{f_of}
 use Rattle.irig_timekeeper.specs.declared.clock.Beat.{Beat}
 use Rattle.irig_timekeeper.specs.declared.lines.KeptClaim.{KeptClaim}
 use Rattle.irig_timekeeper.specs.declared.lines.Lines.{Lines}
 use Rattle.irig_timekeeper.specs.declared.stamp.Stamp.{Stamp}
-use Rattle.irig_timekeeper.specs.Keeping.{Keeping, answer_at, vote_at}
+use Rattle.irig_timekeeper.specs.Keeping.{Keeping, answer_at, vote_at, wait_at}
 use Rattle.irig_timekeeper.specs.Life.{Call, AreInOrder, AreTrueLately, AreTrueOver, after_calls, device_of, life_of}
 use Rattle.irig_timekeeper.specs.Life.Call.{Hear, Tick}
-use Rattle.irig_timekeeper.specs.Lines.{IsTrueLately}
 use Rattle.irig_timekeeper.specs.Lived.{MadeOf, LivesWell, made_with}
 use Rattle.irig_timekeeper.specs.Since.{unless_voted}
 use Rattle.irig_timekeeper.specs.Steps.{AreNewLines, agreed, settled}
-use Rattle.irig_timekeeper.specs.Truth.{IsDevice}
+use Rattle.irig_timekeeper.specs.Truth.{IsDevice, IsEdgeAt}
 use Rattle.c_numbers.specs.declared.setup.IrigSetup.{IrigSetup}
 use Rattle.c_numbers.specs.declared.table.IrigTable.{IrigTable}
 use Rattle.c_numbers.specs.LeapTables.{table_in}
@@ -28,16 +29,19 @@ use Rattle.c_keeper.specs.declared.timekeeper.IrigTimekeeper.{IrigTimekeeper}
 use Rattle.c_keeper.specs.Seconds.{IsSecondOf}
 use Rattle.c_keeper.specs.Timekeepers.{clock_state_in, IsTimekeeperOf}
 
--- a pulse on a line: it rose then, and is so wide; or a tick, and the second that it gave
+-- a pulse on a line: it rose then, and is so wide; a tick, and the second that it gave; or a question
+-- how long to wait from then on, and the answer
 pub data Moment : Type 0 where
   Pulsed : (line rise width : ℕ) → Moment
   Ticked : (now : ℕ) → (second : IrigSecond) → Moment
+  Waited : (now wait : ℕ) → Moment
 
--- the calls of a life, the newest first
+-- the calls of a life that change the timekeeper, the newest first
 abbrev pub calls_of : List Moment → List Call
 calls_of [] = []
 calls_of (Pulsed line rise width ∷ past) = Hear line rise width ∷ calls_of past
 calls_of (Ticked now second ∷ past) = Tick now ∷ calls_of past
+calls_of (Waited now wait ∷ past) = calls_of past
 
 -- what a timekeeper is made of by such a setup, table and drift
 abbrev pub made_in : IrigSetup → IrigTable → ℕ → MadeOf
@@ -70,12 +74,14 @@ pub record HasTold (k : Keeping) (now : ℕ) (second : IrigSecond) : Type 0 wher
   pub vote : (second.report.agreed ≡ 0 → ⊥)
       → (vote : KeptClaim) × (vote_at k (now % 2 ^ 32) ≡ Some vote)
 
--- so did each tick of this past
+-- so did each tick of this past, and each question got its answer
 abbrev pub HaveTold : Keeping → List Moment → Type 0
 HaveTold new [] = ⊤
 HaveTold new (Pulsed line rise width ∷ past) = HaveTold new past
 HaveTold new (Ticked now second ∷ past) =
     HasTold (after_calls new (calls_of past)) now second × HaveTold new past
+HaveTold new (Waited now wait ∷ past) =
+    (wait ≡ wait_at (after_calls new (calls_of past)) (now % 2 ^ 32)) × HaveTold new past
 
 -- the timekeeper was made of this, and has this past since it was made or restarted, the newest first
 pub record HasLived (timekeeper : IrigTimekeeper) (made : MadeOf) (past : List Moment)
@@ -88,9 +94,10 @@ pub record HasLived (timekeeper : IrigTimekeeper) (made : MadeOf) (past : List M
 -- ---- lives in which what is announced is true
 
 -- one of its ticks told a second by a vote, as `agreed` says; at it and at each tick since, all but at
--- most f lines were true. What came before may be anything
-pub record HasHealed (t : TimelineValue) (edges : ℕ → ℕ) (made : MadeOf) (start : ℕ)
-    (past : List Moment)
+-- most f lines were such true lines. What came before may be anything
+pub record HasHealed
+    (IsTrue : Rules → TimelineValue → (ℕ → ℕ) → ℕ → List Pulse → Type 0) (t : TimelineValue)
+    (edges : ℕ → ℕ) (made : MadeOf) (start : ℕ) (past : List Moment)
     : Type 0 where
   pub is : IsDevice t made.clock.drift_us edges made.clock.reader_rules made.table
   pub order : AreInOrder start made.clock.redundancy (calls_of past)
@@ -101,26 +108,62 @@ pub record HasHealed (t : TimelineValue) (edges : ℕ → ℕ) (made : MadeOf) (
   pub are : past ≡ later ++ (Ticked mend second ∷ earlier)
   pub told : second.is_told ≡ 1
   pub vote : second.report.agreed ≡ 0 → ⊥
-  pub truth : AreTrueLately (IsTrueLately made.rules t edges) (f_of made.clock.redundancy) mend
+  pub truth : AreTrueLately (IsTrue made.rules t edges) (f_of made.clock.redundancy) mend
       (calls_of earlier)
-  pub since : AreTrueOver (IsTrueLately made.rules t edges) (f_of made.clock.redundancy)
+  pub since : AreTrueOver (IsTrue made.rules t edges) (f_of made.clock.redundancy)
       (calls_of later) (Tick mend ∷ calls_of earlier)
 
--- a device is what its setup says, its calls are in order, and all but at most f lines were true at
--- each tick, or at each since a vote
-abbrev pub IsSound : TimelineValue → (ℕ → ℕ) → MadeOf → ℕ → List Moment → Type 0
-IsSound t edges made start past =
-    LivesWell IsTrueLately t edges made start (calls_of past) ⊎ HasHealed t edges made start past
+-- a device is what its setup says, its calls are in order, and all but at most f lines were such true
+-- lines at each tick, or at each since a vote
+abbrev pub IsSound : (Rules → TimelineValue → (ℕ → ℕ) → ℕ → List Pulse → Type 0) → TimelineValue
+    → (ℕ → ℕ) → MadeOf → ℕ → List Moment → Type 0
+IsSound IsTrue t edges made start past =
+    LivesWell IsTrue t edges made start (calls_of past) ⊎ HasHealed IsTrue t edges made start past
 
 -- calls go on in order to a tick at this time, and at it and at each tick of these moments, which came
--- behind those, all but at most f lines are true
-pub record GoesOnTruly (t : TimelineValue) (edges : ℕ → ℕ) (made : MadeOf) (start now : ℕ)
-    (later past : List Moment)
+-- behind those, all but at most f lines are such true lines
+pub record GoesOnTruly
+    (IsTrue : Rules → TimelineValue → (ℕ → ℕ) → ℕ → List Pulse → Type 0) (t : TimelineValue)
+    (edges : ℕ → ℕ) (made : MadeOf) (start now : ℕ) (later past : List Moment)
     : Type 0 where
-  pub sound : IsSound t edges made start past
+  pub sound : IsSound IsTrue t edges made start past
   pub order : AreInOrder start made.clock.redundancy (Tick now ∷ calls_of (later ++ past))
-  pub truth : AreTrueOver (IsTrueLately made.rules t edges) (f_of made.clock.redundancy)
+  pub truth : AreTrueOver (IsTrue made.rules t edges) (f_of made.clock.redundancy)
       (Tick now ∷ calls_of later) (calls_of past)
+
+-- ---- lives in which a stamp is true
+
+-- lines were true since a vote, and an event of this time comes at its edge or later, unless that tick
+-- announced nothing
+pub record HasHealedBefore
+    (IsTrue : Rules → TimelineValue → (ℕ → ℕ) → ℕ → List Pulse → Type 0) (t : TimelineValue)
+    (edges : ℕ → ℕ) (made : MadeOf) (start : ℕ) (past : List Moment) (time : ℕ)
+    : Type 0 where
+  pub healed : HasHealed IsTrue t edges made start past
+  pub edge : ℕ
+  pub at : IsEdgeAt healed.second.edge_us edge healed.mend
+  pub when : (edge ≤ time) ⊎ ((report_in healed.second.report).announce ≡ None)
+
+-- a tick may come now, the event lies at most half an hour back, and lines were true at each tick, or
+-- since a vote that serves for its time
+pub record StampsTruly
+    (IsTrue : Rules → TimelineValue → (ℕ → ℕ) → ℕ → List Pulse → Type 0) (t : TimelineValue)
+    (edges : ℕ → ℕ) (made : MadeOf) (start time now : ℕ) (past : List Moment)
+    : Type 0 where
+  pub sound : LivesWell IsTrue t edges made start (calls_of past)
+      ⊎ HasHealedBefore IsTrue t edges made start past time
+  pub order : AreInOrder start made.clock.redundancy (Tick now ∷ calls_of past)
+  pub behind : time ≤ now
+  pub young : now ≤ time + 1800000000
+
+-- second and offset of one stamp and of another name instants that lie so far apart at most
+pub record AreTogether (t : TimelineValue) (apart : ℕ) (stamp other : Stamp) : Type 0 where
+  pub m : ℕ
+  pub n : ℕ
+  pub one : IsSecond t m stamp.second
+  pub two : IsSecond t n other.second
+  pub least : n * 1000000 + other.offset_us ≤ m * 1000000 + stamp.offset_us + apart
+  pub most : m * 1000000 + stamp.offset_us ≤ n * 1000000 + other.offset_us + apart
 
 -- ---- the bound of a stamp
 
@@ -128,6 +171,7 @@ pub record GoesOnTruly (t : TimelineValue) (edges : ℕ → ℕ) (made : MadeOf)
 abbrev pub since_vote : List Moment → ℕ
 since_vote [] = 0
 since_vote (Pulsed line rise width ∷ past) = since_vote past
+since_vote (Waited now wait ∷ past) = since_vote past
 since_vote (Ticked now second ∷ past) =
     if second.is_told == 0 then since_vote past
     else unless_voted (report_in second.report).cause (since_vote past + second.missed + 1)

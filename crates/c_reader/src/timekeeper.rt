@@ -1,6 +1,6 @@
 //! A timekeeper that C holds.
 
-ghost use Rattle.std.specs.Prelude.{◌≡◌, ◌↔◌, ◌%◌, ◌^◌, ◌<◌, ◌≤◌, ◌+◌, ◌⊎◌, if◌then◌else◌, ℕ, List, [], ◌∷◌, ◌++◌, IfSome, IsTrue, Option, None, Some, is_some};
+ghost use Rattle.std.specs.Prelude.{◌≡◌, ◌↔◌, ◌%◌, ◌^◌, ◌<◌, ◌≤◌, ◌+◌, ◌*◌, ◌⊎◌, if◌then◌else◌, ℕ, List, [], ◌∷◌, ◌++◌, IfSome, IsTrue, Option, None, Some, is_some};
 ghost use Rattle.irig_sync.specs.Lines.{Pulse};
 ghost use Rattle.irig_sync.specs.Sync.{place_of};
 ghost use Rattle.irig_time.specs.declared.rules.Rules.{Rules};
@@ -21,12 +21,12 @@ ghost use Rattle.irig_timekeeper.specs.Edges.{IsQuartz};
 ghost use Rattle.irig_timekeeper.specs.Life.{AreInOrder};
 ghost use Rattle.irig_timekeeper.specs.Life.Call.{Tick};
 ghost use Rattle.irig_timekeeper.specs.Lived.{MadeOf, LivesWell};
-ghost use Rattle.irig_timekeeper.specs.Lines.{IsTrueLately};
-ghost use Rattle.irig_timekeeper.specs.Loops.{AreToldInTime, TicksEach};
+ghost use Rattle.irig_timekeeper.specs.Lines.{IsTrueLately, IsTrueOrFaulty};
+ghost use Rattle.irig_timekeeper.specs.Loops.{AreMadeInTurn, AreToldInTime, TicksEach};
 ghost use Rattle.irig_timekeeper.specs.Keeping.{Heard, Keeping, new_keeping, place_told, one_pulse_more, after_pulse, after_tick, answer_at, wait_at, stamp_at, restarted};
 ghost use Rattle.irig_timekeeper.specs.Refusals.{clock_fault};
 ghost use Rattle.irig_timekeeper.specs.Steps.{is_pulse, AreNewLines};
-ghost use Rattle.irig_timekeeper.specs.Truth.{IsToldTruly, IsToldInHoldover, IsLaterSecond, IsEdgeAt, IsStampedTruly, AreApartBeats};
+ghost use Rattle.irig_timekeeper.specs.Truth.{IsToldTruly, IsToldInHoldover, IsLaterSecond, IsEdgeAt, IsInstant, IsStampedTruly, AreApartBeats};
 ghost use Rattle.c_numbers.specs.LeapTables.{table_in, HasKinds, IsTable, code_of_table};
 ghost use Rattle.c_numbers.specs.Numbers.{sense_in};
 ghost use Rattle.c_numbers.specs.Reports.{report_in, voices_in};
@@ -34,11 +34,11 @@ ghost use Rattle.c_numbers.specs.Setups.{rules_in, limits_in, reader_rules_in, r
 ghost use Rattle.c_numbers.specs.States.{state_in, IsState};
 ghost use Rattle.c_numbers.specs.Against.{held_by};
 ghost use Rattle.c_numbers.specs.Voices.{voices_to};
-ghost use Rattle.c_keeper.specs.Announcing.{ComeInARow, HasAnnounced};
+ghost use Rattle.c_keeper.specs.Announcing.{AreAsked, ComeInARow, GoesByWait, HasAnnounced};
 ghost use Rattle.c_keeper.specs.CheckWord.{IsSealed};
 ghost use Rattle.c_keeper.specs.Lines.{frames_in, lines_in, numbers_at, HaveHeard, KeepNoMore};
-ghost use Rattle.c_keeper.specs.Lives.{Moment, HasLived, HasHealed, HasItsBound, GoesOnTruly, agreed_in, beat_in, calls_of, made_in, since_vote};
-ghost use Rattle.c_keeper.specs.Lives.Moment.{Pulsed, Ticked};
+ghost use Rattle.c_keeper.specs.Lives.{Moment, AreTogether, HasLived, HasHealed, HasItsBound, GoesOnTruly, StampsTruly, agreed_in, beat_in, calls_of, made_in, since_vote};
+ghost use Rattle.c_keeper.specs.Lives.Moment.{Pulsed, Ticked, Waited};
 ghost use Rattle.c_keeper.specs.Seconds.{against_at, stamp_in, IsSecondOf, IsToldOf};
 ghost use Rattle.c_keeper.specs.Timekeepers.{answer_in, clock_in, clock_state_in, edge_in, stamp_for, state_behind, vote_in, wait_in, HeardTruly, IsAccepted, IsAnnounced, IsTimekeeperOf};
 
@@ -212,7 +212,7 @@ pub extern "C" fn irig_c_timekeeper_tick(
     // (irig_timekeeper, the laws `a_device_tells_the_truth` and `a_device_heals`).
     ensures life { (t : TimelineValue) (edges : ℕ → ℕ) (made : MadeOf) (start now : ℕ)
         (past : List Moment) (u : UtcSecond) → HasLived timekeeper.old made past
-        → now_us ≡ now % 2 ^ 32 → GoesOnTruly t edges made start now [] past
+        → now_us ≡ now % 2 ^ 32 → GoesOnTruly IsTrueLately t edges made start now [] past
         → (report_in second.new.report).announce ≡ Some u
         → IsToldInHoldover t edges 1549 549 made.clock.drift_us made.clock.reader_rules.holdover
         now (beat_in second.new) u }
@@ -221,7 +221,7 @@ pub extern "C" fn irig_c_timekeeper_tick(
         (earlier later : List Moment) (first : IrigSecond) (u v : UtcSecond)
         → HasLived timekeeper.old made (later ++ (Ticked before first ∷ earlier))
         → now_us ≡ now % 2 ^ 32
-        → GoesOnTruly t edges made start now later (Ticked before first ∷ earlier)
+        → GoesOnTruly IsTrueLately t edges made start now later (Ticked before first ∷ earlier)
         → (report_in first.report).announce ≡ Some u
         → (report_in second.new.report).announce ≡ Some v → IsLaterSecond t u v }
     // A holdover has lasted for the seconds since the last vote, whatever lines carry.
@@ -232,7 +232,28 @@ pub extern "C" fn irig_c_timekeeper_tick(
     // The cause is never `Jump`.
     ensures calm { (t : TimelineValue) (edges : ℕ → ℕ) (made : MadeOf) (start now : ℕ)
         (past : List Moment) → HasLived timekeeper.old made past → now_us ≡ now % 2 ^ 32
-        → GoesOnTruly t edges made start now [] past
+        → GoesOnTruly IsTrueLately t edges made start now [] past
+        → ¬ ((report_in second.new.report).cause ≡ Cause.Jump) }
+    // All this holds too, but for 2 ms before the edge and 1 ms behind it, if a line counts as true that
+    // lost any pulses, or had one fault of any kind in each hundred of them, in the last 1.2 s (the law
+    // `lines_with_faults_tell_truly`).
+    ensures faulty { (t : TimelineValue) (edges : ℕ → ℕ) (made : MadeOf) (start now : ℕ)
+        (past : List Moment) (u : UtcSecond) → HasLived timekeeper.old made past
+        → now_us ≡ now % 2 ^ 32 → GoesOnTruly IsTrueOrFaulty t edges made start now [] past
+        → (report_in second.new.report).announce ≡ Some u
+        → IsToldInHoldover t edges 3549 1549 made.clock.drift_us made.clock.reader_rules.holdover
+        now (beat_in second.new) u }
+    ensures faulty_order { (t : TimelineValue) (edges : ℕ → ℕ) (made : MadeOf)
+        (start before now : ℕ) (earlier later : List Moment) (first : IrigSecond)
+        (u v : UtcSecond)
+        → HasLived timekeeper.old made (later ++ (Ticked before first ∷ earlier))
+        → now_us ≡ now % 2 ^ 32
+        → GoesOnTruly IsTrueOrFaulty t edges made start now later (Ticked before first ∷ earlier)
+        → (report_in first.report).announce ≡ Some u
+        → (report_in second.new.report).announce ≡ Some v → IsLaterSecond t u v }
+    ensures faulty_calm { (t : TimelineValue) (edges : ℕ → ℕ) (made : MadeOf) (start now : ℕ)
+        (past : List Moment) → HasLived timekeeper.old made past → now_us ≡ now % 2 ^ 32
+        → GoesOnTruly IsTrueOrFaulty t edges made start now [] past
         → ¬ ((report_in second.new.report).cause ≡ Cause.Jump) }
     // Ticked at least each 96 ms it has announced by a vote, once as many seconds as it locks after, and
     // two more, came whole on more than f lines (the law `a_polling_device_announces`).
@@ -242,6 +263,18 @@ pub extern "C" fn irig_c_timekeeper_tick(
         → ComeInARow t edges made start m (Ticked now second.new ∷ moments) before
         → most ≤ 96000 → TicksEach most start (Tick now ∷ calls_of moments) (calls_of before)
         → AreToldInTime start (Tick now ∷ calls_of moments) (calls_of before)
+        → IsSecond t (m + 1 + made.clock.reader_rules.lock_after) u
+        → HasAnnounced edges (m + 1 + made.clock.reader_rules.lock_after) u
+        (Ticked now second.new ∷ (moments ++ before)) }
+    // So it has if `irig_c_timekeeper_wait` was asked behind each call, from the end of the pulse or
+    // the time of the tick, and each tick came 96 ms at most behind each time that was then named
+    // since the tick before (the law `a_waiting_device_announces`).
+    ensures announces_by_wait { (t : TimelineValue) (edges : ℕ → ℕ) (made : MadeOf)
+        (start m late now : ℕ) (moments before : List Moment) (u : UtcSecond)
+        → HasLived timekeeper.old made (moments ++ before) → now_us ≡ now % 2 ^ 32
+        → ComeInARow t edges made start m (Ticked now second.new ∷ moments) before
+        → late ≤ 96000 → AreAsked None moments → GoesByWait late (Ticked now second.new ∷ moments)
+        → AreMadeInTurn start (Tick now ∷ calls_of moments) (calls_of before)
         → IsSecond t (m + 1 + made.clock.reader_rules.lock_after) u
         → HasAnnounced edges (m + 1 + made.clock.reader_rules.lock_after) u
         (Ticked now second.new ∷ (moments ++ before)) }
@@ -303,6 +336,10 @@ pub extern "C" fn irig_c_timekeeper_wait(timekeeper: &IrigTimekeeper, now_us: u3
     ensures waits { (k : Keeping) → IsTimekeeperOf timekeeper.now k → result ≡ wait_at k now_us }
     ensures said { IsAccepted timekeeper.now → result ≡ wait_in timekeeper.now now_us }
     ensures refused { (IsAccepted timekeeper.now → ⊥) → result ≡ 0 }
+    // the answer is a moment of its life
+    ensures lived { (made : MadeOf) (past : List Moment) (now : ℕ)
+        → HasLived timekeeper.now made past → now_us ≡ now % 2 ^ 32
+        → HasLived timekeeper.now made (Waited now result ∷ past) }
     // in a life, at a time at which a tick may come: at most 1.005 s
     ensures most { (made : MadeOf) (start now : ℕ) (past : List Moment)
         → HasLived timekeeper.now made past → now_us ≡ now % 2 ^ 32
@@ -356,8 +393,7 @@ pub extern "C" fn irig_c_timekeeper_stamp(
     ensures stamped { (k : Keeping) → IsTimekeeperOf timekeeper.now k
         → stamp_in result stamp.new ≡ stamp_at k time_us }
     // In a life in which all lines but f were true at each tick: second and offset name the instant of
-    // an event of the last half hour, but for the bound (irig_timekeeper, the law `stamps_are_true`,
-    // whose clause `together` then says that two devices agree).
+    // an event of the last half hour, but for the bound (irig_timekeeper, the law `stamps_are_true`).
     ensures truth { (t : TimelineValue) (edges : ℕ → ℕ) (made : MadeOf) (start time now : ℕ)
         (past : List Moment) (found : Stamp) → HasLived timekeeper.now made past
         → time_us ≡ time % 2 ^ 32 → LivesWell IsTrueLately t edges made start (calls_of past)
@@ -369,12 +405,33 @@ pub extern "C" fn irig_c_timekeeper_stamp(
     ensures healed { (t : TimelineValue) (edges : ℕ → ℕ) (made : MadeOf)
         (start edge time now : ℕ) (past : List Moment) (found : Stamp)
         → HasLived timekeeper.now made past → time_us ≡ time % 2 ^ 32
-        → (healed : HasHealed t edges made start past)
+        → (healed : HasHealed IsTrueLately t edges made start past)
         → IsEdgeAt healed.second.edge_us edge healed.mend
         → (edge ≤ time) ⊎ ((report_in healed.second.report).announce ≡ None)
         → AreInOrder start made.clock.redundancy (Tick now ∷ calls_of past)
         → time ≤ now → now ≤ time + 1800000000 → stamp_in result stamp.new ≡ Some found
         → IsStampedTruly t edges 0 time found }
+    // Of either life: if a line counts as true that lost any pulses, or had one fault of any kind in
+    // each hundred of them, in the last 1.2 s, they name it but for the bound and 2 ms (the law
+    // `lines_with_faults_tell_truly`).
+    ensures faulty { (t : TimelineValue) (edges : ℕ → ℕ) (made : MadeOf) (start time now : ℕ)
+        (past : List Moment) (found : Stamp) → HasLived timekeeper.now made past
+        → time_us ≡ time % 2 ^ 32
+        → StampsTruly IsTrueOrFaulty t edges made start time now past
+        → stamp_in result stamp.new ≡ Some found → IsStampedTruly t edges 2000 time found }
+    // Of either life: another device's stamp of the same instant, of which its own clause `truth` or
+    // `healed` holds, names one no further off than the sum of both bounds and the drift of two seconds
+    // of each device (the law `stamps_are_true`, clause `together`).
+    ensures together { (t : TimelineValue) (edges others : ℕ → ℕ) (made : MadeOf)
+        (start time now e n tau there : ℕ) (past : List Moment) (found other : Stamp)
+        → HasLived timekeeper.now made past → time_us ≡ time % 2 ^ 32
+        → StampsTruly IsTrueLately t edges made start time now past
+        → stamp_in result stamp.new ≡ Some found
+        → IsInstant made.clock.drift_us edges n tau time
+        → IsQuartz e others → IsInstant e others n tau there
+        → IsStampedTruly t others 0 there other
+        → AreTogether t (found.bound_us + other.bound_us + 2 * made.clock.drift_us + 2 * e) found
+        other }
     // Whatever lines carry, the bound is 1.549 ms and the drift of each second since a vote.
     ensures bound { (made : MadeOf) (past : List Moment) (found : Stamp)
         → HasLived timekeeper.now made past → stamp_in result stamp.new ≡ Some found

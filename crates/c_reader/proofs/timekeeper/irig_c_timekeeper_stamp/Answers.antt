@@ -1,9 +1,9 @@
-use Rattle.std.proofs.Common.{◌≡◌, ◌∙◌, ◌%◌, sym, ap, arith}
+use Rattle.std.proofs.Common.{◌≡◌, ◌∙◌, ◌%◌, sym, ap, arith, inl, inr}
 use Rattle.irig_timekeeper.specs.Keeping.{Keeping, stamp_at}
 use Rattle.irig_timekeeper.specs.Life.{life_of}
 use Rattle.irig_timekeeper.specs.Lived.{made_with}
 use Rattle.c_keeper.specs.Lives.{calls_of}
-use Rattle.c_keeper.proofs.StampedLaws.{bounded_as, stamped_as, stamped_healed, stamped_well}
+use Rattle.c_keeper.proofs.StampedLaws.{bounded_as, sound_device, stamped_as, stamped_faulty, stamped_together, stamped_truly}
 use Rattle.c_reader.proofs.timekeeper.irig_c_timekeeper_stamp.Goals as goal
 
 pub returns-in-Some-clause-truth : goal.returns-in-Some-clause-truth
@@ -11,14 +11,31 @@ returns-in-Some-clause-truth c t edges made start time now past found h clock we
     let q = c.args.timekeeper.now in
     let k : Keeping = life_of (made_with made h.lines h.fresh) (calls_of past) in
     let at = sym (stamped_as q k c.args.time_us h.is) ∙ (sym c.in-Some.ensures.value ∙ (sym c.stamp_for_c.ensures ∙ e)) in
-    stamped_well q t edges made start time now past found h well order behind young (ap (stamp_at k) (sym clock) ∙ at)
+    stamped_truly q t edges made start time now past found h (ap (stamp_at k) (sym clock) ∙ at)
+    (record { sound = inl well; order = order; behind = behind; young = young })
 
 pub returns-in-Some-clause-healed : goal.returns-in-Some-clause-healed
 returns-in-Some-clause-healed c t edges made start edge time now past found h clock mended edge_at when order behind young e =
     let q = c.args.timekeeper.now in
     let k : Keeping = life_of (made_with made h.lines h.fresh) (calls_of past) in
     let at = sym (stamped_as q k c.args.time_us h.is) ∙ (sym c.in-Some.ensures.value ∙ (sym c.stamp_for_c.ensures ∙ e)) in
-    stamped_healed q t edges made start edge time now past found h mended edge_at when order behind young (ap (stamp_at k) (sym clock) ∙ at)
+    stamped_truly q t edges made start time now past found h (ap (stamp_at k) (sym clock) ∙ at)
+    (record { sound = inr (record { healed = mended; edge = edge; at = edge_at; when = when }); order = order; behind = behind; young = young })
+
+pub returns-in-Some-clause-faulty : goal.returns-in-Some-clause-faulty
+returns-in-Some-clause-faulty c t edges made start time now past found h clock lives e =
+    let q = c.args.timekeeper.now in
+    let k : Keeping = life_of (made_with made h.lines h.fresh) (calls_of past) in
+    let at = sym (stamped_as q k c.args.time_us h.is) ∙ (sym c.in-Some.ensures.value ∙ (sym c.stamp_for_c.ensures ∙ e)) in
+    stamped_faulty q t edges made start time now past found h (ap (stamp_at k) (sym clock) ∙ at) lives
+
+pub returns-in-Some-clause-together : goal.returns-in-Some-clause-together
+returns-in-Some-clause-together c t edges others made start time now e n tau there past found other h clock lives says here quartz same is =
+    let q = c.args.timekeeper.now in
+    let k : Keeping = life_of (made_with made h.lines h.fresh) (calls_of past) in
+    let at = sym (stamped_as q k c.args.time_us h.is) ∙ (sym c.in-Some.ensures.value ∙ (sym c.stamp_for_c.ensures ∙ says)) in
+    let one = stamped_truly q t edges made start time now past found h (ap (stamp_at k) (sym clock) ∙ at) lives in
+    stamped_together t made.clock.drift_us e n tau time there edges others found other (sound_device t edges made start time now past lives).steady quartz here same one is
 
 pub returns-in-Some-clause-bound : goal.returns-in-Some-clause-bound
 returns-in-Some-clause-bound c made past found h e =

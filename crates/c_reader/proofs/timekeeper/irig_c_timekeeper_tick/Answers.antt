@@ -3,7 +3,7 @@ use Rattle.irig_sync.specs.Lines.{Pulse}
 use Rattle.irig_reader.specs.declared.report.Report.{Report}
 use Rattle.irig_timekeeper.specs.declared.clock.Beat.{Beat}
 use Rattle.irig_timekeeper.specs.Keeping.{Keeping, nothing_heard}
-use Rattle.irig_timekeeper.specs.Lines.{IsTrueLately}
+use Rattle.irig_timekeeper.specs.Lines.{IsTrueLately, IsTrueOrFaulty}
 use Rattle.irig_timekeeper.proofs.LineLaws.{true_lately}
 use Rattle.irig_timekeeper.proofs.VotedLaws.{tick_voted}
 use Rattle.c_numbers.specs.declared.setup.IrigSetup.{IrigSetup}
@@ -17,9 +17,9 @@ use Rattle.c_keeper.specs.Lives.Moment.{Ticked}
 use Rattle.c_keeper.specs.Seconds.{IsSecondOf}
 use Rattle.c_keeper.specs.Timekeepers.{answer_in, clock_in, clock_state_in}
 use Rattle.c_keeper.proofs.AbsentLaws.{all_heard, pulses_there}
-use Rattle.c_keeper.proofs.AnnouncedLaws.{has_announced}
+use Rattle.c_keeper.proofs.AnnouncedLaws.{has_announced, has_announced_by_wait}
 use Rattle.c_keeper.proofs.LivedLaws.{lived_tick}
-use Rattle.c_keeper.proofs.LivesLaws.{tells_truly, tells_in_order, tells_calmly, tells_apart}
+use Rattle.c_keeper.proofs.LivesLaws.{faulty_lines, tells_truly, tells_in_order, tells_calmly, tells_apart, whole_lines}
 use Rattle.c_keeper.proofs.StampedLaws.{lasts_as}
 use Rattle.c_keeper.proofs.ValueLaws.{answers_as, beat_of, clock_as, stands_as, steady_as}
 use Rattle.c_reader.proofs.timekeeper.irig_c_timekeeper_tick.Goals as goal
@@ -108,14 +108,14 @@ returns-clause-lived c made past now h clock =
     c.tick_accepted.ensures.said c.tick_accepted.ensures.voices (returns-clause-second c) (returns-clause-after c) h clock
 
 pub returns-clause-life : goal.returns-clause-life
-returns-clause-life c t edges made start now past u h clock = tells_truly _ t edges made start now past c.tick_accepted.result u (returns-clause-lived c made past now h clock)
+returns-clause-life c t edges made start now past u h clock = tells_truly IsTrueLately 549 549 whole_lines _ t edges made start now past c.tick_accepted.result u (returns-clause-lived c made past now h clock)
 
 pub returns-clause-order : goal.returns-clause-order
 returns-clause-order c t edges made start before now earlier later first u v h clock =
-    tells_in_order _ t edges made start before now earlier later first c.tick_accepted.result u v (returns-clause-lived c made (later ++ (Ticked before first ∷ earlier)) now h clock)
+    tells_in_order IsTrueLately 549 549 whole_lines _ t edges made start before now earlier later first c.tick_accepted.result u v (returns-clause-lived c made (later ++ (Ticked before first ∷ earlier)) now h clock)
 
 pub returns-clause-calm : goal.returns-clause-calm
-returns-clause-calm c t edges made start now past h clock = tells_calmly _ t edges made start now past c.tick_accepted.result (returns-clause-lived c made past now h clock)
+returns-clause-calm c t edges made start now past h clock = tells_calmly IsTrueLately 549 549 whole_lines _ t edges made start now past c.tick_accepted.result (returns-clause-lived c made past now h clock)
 
 pub returns-clause-apart : goal.returns-clause-apart
 returns-clause-apart c made start before now earlier later first h clock =
@@ -133,3 +133,31 @@ returns-then-not-is_accepted-clause-announces c t edges made start m most now mo
 pub returns-clause-announces : goal.returns-clause-announces
 returns-clause-announces c t edges made start m most now moments before u h clock =
     has_announced _ t edges made start m most (Ticked now c.tick_accepted.result ∷ moments) before u (returns-clause-lived c made (moments ++ before) now h clock)
+
+pub returns-then-not-is_accepted-clause-faulty : goal.returns-then-not-is_accepted-clause-faulty
+returns-then-not-is_accepted-clause-faulty c t edges made start now past u h clock = absurd (never (sym c.if-not-is_accepted.true ∙ c.is_accepted.ensures.1 h.is.accepted))
+
+pub returns-then-not-is_accepted-clause-faulty_order : goal.returns-then-not-is_accepted-clause-faulty_order
+returns-then-not-is_accepted-clause-faulty_order c t edges made start before now earlier later first u v h clock = absurd (never (sym c.if-not-is_accepted.true ∙ c.is_accepted.ensures.1 h.is.accepted))
+
+pub returns-then-not-is_accepted-clause-faulty_calm : goal.returns-then-not-is_accepted-clause-faulty_calm
+returns-then-not-is_accepted-clause-faulty_calm c t edges made start now past h clock = absurd (never (sym c.if-not-is_accepted.true ∙ c.is_accepted.ensures.1 h.is.accepted))
+
+pub returns-then-not-is_accepted-clause-announces_by_wait : goal.returns-then-not-is_accepted-clause-announces_by_wait
+returns-then-not-is_accepted-clause-announces_by_wait c t edges made start m late now moments before u h clock = absurd (never (sym c.if-not-is_accepted.true ∙ c.is_accepted.ensures.1 h.is.accepted))
+
+pub returns-clause-faulty : goal.returns-clause-faulty
+returns-clause-faulty c t edges made start now past u h clock =
+    tells_truly IsTrueOrFaulty 2549 1549 faulty_lines _ t edges made start now past c.tick_accepted.result u (returns-clause-lived c made past now h clock)
+
+pub returns-clause-faulty_order : goal.returns-clause-faulty_order
+returns-clause-faulty_order c t edges made start before now earlier later first u v h clock =
+    tells_in_order IsTrueOrFaulty 2549 1549 faulty_lines _ t edges made start before now earlier later first c.tick_accepted.result u v (returns-clause-lived c made (later ++ (Ticked before first ∷ earlier)) now h clock)
+
+pub returns-clause-faulty_calm : goal.returns-clause-faulty_calm
+returns-clause-faulty_calm c t edges made start now past h clock =
+    tells_calmly IsTrueOrFaulty 2549 1549 faulty_lines _ t edges made start now past c.tick_accepted.result (returns-clause-lived c made past now h clock)
+
+pub returns-clause-announces_by_wait : goal.returns-clause-announces_by_wait
+returns-clause-announces_by_wait c t edges made start m late now moments before u h clock =
+    has_announced_by_wait _ t edges made start m late now c.tick_accepted.result moments before u (returns-clause-lived c made (moments ++ before) now h clock)

@@ -3,11 +3,16 @@ use Rattle.irig_timekeeper.specs.declared.clock.ClockRules.{ClockRules}
 use Rattle.irig_timekeeper.specs.declared.clock.ClockState.{ClockState}
 use Rattle.irig_timekeeper.specs.Clock.{clock_wait}
 use Rattle.c_keeper.specs.Timekeepers.{clock_in}
+use Rattle.c_keeper.proofs.LivedLaws.{lived_wait}
+use Rattle.c_keeper.proofs.ValueLaws.{waits_value}
 use Rattle.c_keeper.proofs.WaitedLaws.{waited_above, waited_at_most, waited_counts, waited_votes}
 use Rattle.c_reader.proofs.timekeeper.irig_c_timekeeper_wait.Goals as goal
 
 never : ◌≡◌ {A = Bool} false true → ⊥
 never h = absurd cc
+
+pub returns-then-not-is_accepted-clause-lived : goal.returns-then-not-is_accepted-clause-lived
+returns-then-not-is_accepted-clause-lived c made past now h clock = absurd (never (sym c.if-not-is_accepted.true ∙ c.is_accepted.ensures.1 h.is.accepted))
 
 pub returns-then-not-is_accepted-clause-most : goal.returns-then-not-is_accepted-clause-most
 returns-then-not-is_accepted-clause-most c made start now past h clock order = absurd (never (sym c.if-not-is_accepted.true ∙ c.is_accepted.ensures.1 h.is.accepted))
@@ -20,6 +25,13 @@ returns-then-not-is_accepted-clause-votes c made start now then edge past vote h
 
 pub returns-then-not-is_accepted-clause-counts : goal.returns-then-not-is_accepted-clause-counts
 returns-then-not-is_accepted-clause-counts c made start now then e past h clock order again alone is waited = absurd (never (sym c.if-not-is_accepted.true ∙ c.is_accepted.ensures.1 h.is.accepted))
+
+pub returns-clause-lived : goal.returns-clause-lived
+returns-clause-lived c made past now h clock =
+    lived_wait c.args.timekeeper.now made past c.args.now_us now c.wait_of.result (λ k is. (let said = c.wait_of.ensures
+    ∙ (ap (λ (r : ClockRules). clock_wait r c.clock_state_of-state.result c.args.now_us) c.clock_rules_of.ensures
+    ∙ ap (λ (s : ClockState). clock_wait (clock_in c.args.timekeeper.now) s c.args.now_us) c.clock_state_of-state.ensures.is) in
+    said ∙ waits_value c.args.timekeeper.now k c.args.now_us is)) h clock
 
 pub returns-clause-most : goal.returns-clause-most
 returns-clause-most c made start now past h clock order =
