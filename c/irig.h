@@ -600,8 +600,10 @@ uint8_t irig_timekeeper_hear(irig_timekeeper *timekeeper, uint8_t line, uint32_t
  * Its edge lies off by `drift_us` more for each of `lock_count` seconds. Then each second that is
  * announced is later than the one before, and no cause is IRIG_CAUSE_JUMP. If lines were untrue
  * before, all this holds again from the first tick on that tells a second with `agreed` above 0,
- * provided that no two of three lines were untrue at that tick and at each later one. Whatever
- * lines carry, edges that are told lie at least half a second apart if calls were in order. */
+ * provided that no two of three lines were untrue at that tick and at each later one. All this holds,
+ * with 3,549 us for 1,549 and 1,549 for 549, if a line counts as true too that had one fault of any
+ * kind in each hundred pulses (docs/WIRES.md). Whatever lines carry, edges that are told lie at least
+ * half a second apart if calls were in order. docs/WIRES.md also says when it announces. */
 uint32_t irig_timekeeper_tick(irig_timekeeper *timekeeper, uint32_t now_us, irig_second *second);
 
 /* How long until a tick has something to do, in microseconds, if no call comes before it: 0 if it has
@@ -620,7 +622,9 @@ uint32_t irig_timekeeper_wait(const irig_timekeeper *timekeeper, uint32_t now_us
  * In a timekeeper of which irig_timekeeper_tick's held seconds are true the second began `offset_us`
  * before the event, to within `bound_us`, if a tick may come now and the event lies at most half an
  * hour back. If only ticks since a vote were true, the event has to come at that vote's edge or
- * later, unless that tick announced nothing. */
+ * later, unless that tick announced nothing. If lines with faults count as true, it is to within
+ * `bound_us` and 2,000 us. Stamps of one instant by two devices, each to within its `bound_us`, differ
+ * by no more than the sum of both and the drift of two seconds of each device. */
 uint32_t irig_timekeeper_stamp(const irig_timekeeper *timekeeper, uint32_t time_us,
                                irig_stamp *stamp);
 
