@@ -601,7 +601,7 @@ uint8_t irig_timekeeper_hear(irig_timekeeper *timekeeper, uint8_t line, uint32_t
  * announced is later than the one before, and no cause is IRIG_CAUSE_JUMP. If lines were untrue
  * before, all this holds again from the first tick on that tells a second with `agreed` above 0,
  * provided that no two of three lines were untrue at that tick and at each later one. All this holds,
- * with 3,549 us for 1,549 and 1,549 for 549, if a line counts as true too that had one fault of any
+ * with 3,549 us for 1,549 and 1,549 for 549, also if a line counts as true that had one fault of any
  * kind in each hundred pulses (docs/WIRES.md). Whatever lines carry, edges that are told lie at least
  * half a second apart if calls were in order. docs/WIRES.md also says when it announces. */
 uint32_t irig_timekeeper_tick(irig_timekeeper *timekeeper, uint32_t now_us, irig_second *second);
