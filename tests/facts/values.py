@@ -113,6 +113,12 @@ def tells(words: list) -> Antt:
     return record(**{name: told(word) for name, word in zip("abcde", [*words, None, None, None, None])})
 
 
+def letters(text: str) -> list[Antt]:
+    """Symbols one by one: they need not be read of a text each time that one is asked for."""
+    names = {"0": "Zero", "1": "One", "P": "Marker", "?": "Bad"}
+    return [Antt(f"Symbol.{names[letter]}") for letter in text]
+
+
 def symbols(letters: str) -> Antt:
     return Antt(f"(symbols {antt(letters)})")
 

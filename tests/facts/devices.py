@@ -1,0 +1,329 @@
+"""Devices: what ticks, waits and stamps answer in a life of pulses and ticks, whether the conditions of their laws hold
+there, and what is refused of a setup."""
+
+from collections.abc import Iterator
+from dataclasses import dataclass, replace
+from random import Random
+
+from model.device import SECOND, WRAP, Beat, Device, Stamp
+from model.frames import Parity, Rules, Sense, symbol_of
+from model.generator import Generator, GeneratorFault, Zone, sent
+from model.reader import ReaderRules
+from model.times import Mark, Second, Table, Timeline
+from random_scenarios import random_fault
+
+from . import values as v
+from .antt import Antt, Fact, antt, equal, question, record, some
+from .times import LATE
+
+WIDTHS = {"0": 2_000, "1": 5_000, "P": 8_000}
+STUCK, HALF_HOUR = 500_000, 1_800 * SECOND
+
+
+# ---- what lines send
+
+
+@dataclass(frozen=True)
+class Pulse:
+    """A pulse on a line, by the device's counter without its wrap, and when the device is told of it."""
+
+    line: int
+    rise: int
+    width: int
+    told: int = 0
+
+
+Call = Pulse | int  # an int is a tick at that time
+
+
+@dataclass(frozen=True)
+class World:
+    """A timeline, a device's counter, when the first second begins and how long one lasts, how long behind its end a
+    pulse is told at most, and how late lines are."""
+
+    timeline: Timeline
+    rules: Rules
+    begin: int
+    second: int
+    delay: int
+    late: tuple[int, ...]
+
+    def edge(self, n: int) -> int:
+        return self.begin + self.second * n
+
+    def frames(self, seconds: int, zone: Zone, fault: GeneratorFault | None = None) -> list[str]:
+        return [sent(Generator(zone), fault, self.timeline, self.rules, n) for n in range(seconds)]
+
+
+def random_world(random: Random) -> World:
+    """Some seconds, most about the end of a month, with a leap or without, by a counter that may wrap in them."""
+    day, leap = random.choice(LATE), random.choice((Mark.NO_LEAP, Mark.INSERT, Mark.DELETE))
+    of_day = 86_399 - random.randint(2, 5) if random.random() < 0.8 else random.randrange(86_000)
+    leaps = () if leap == Mark.NO_LEAP else ((day, leap),)
+    rules = Rules(random.choice(list(Parity)), random.choice(list(Sense)), random.random() < 0.8)
+    begin = random.choice((2 * SECOND, WRAP - random.randrange(4 * SECOND), random.randrange(2**31)))
+    delay, late = random.choice((0, 500, 30_000)), random.choice(((0,), (0, 1_000, 2_001), range(-449, 450)))
+    second = SECOND + random.choice((0, random.randint(-100, 100)))
+    return World(Timeline(Second(day, of_day), leaps), rules, begin, second, delay, tuple(late))
+
+
+def spoilt(random: Random, pulse: Pulse) -> list[Pulse]:
+    """What comes in the place of a pulse that is at fault."""
+    half = pulse.width // 2
+    return random.choice((
+        [],
+        [replace(pulse, width=random.choice((400, 3_499, 3_500, 6_499, 6_500, 9_499, 9_500, STUCK - 1, STUCK)))],
+        [replace(pulse, rise=pulse.rise + random.choice((-1_500, -999, 999, 1_000)))],
+        [replace(pulse, width=half - 200), replace(pulse, rise=pulse.rise + half, width=half)],
+        [pulse, replace(pulse, rise=pulse.rise + 9_000, width=random.choice((300, 600)))],
+    ))  # fmt: skip
+
+
+def told_in_order(random: Random, pulses: list[Pulse], delay: int) -> list[Pulse]:
+    """These pulses with when each is told: when it has ended, or later, but behind the one before."""
+    told = []
+    for pulse in sorted(pulses, key=lambda pulse: pulse.rise):
+        at = pulse.rise + min(pulse.width, 10_000) + random.randint(0, delay)
+        told.append(replace(pulse, told=max([at, *(one.told for one in told[-1:])])))
+    return told
+
+
+def line_pulses(random: Random, world: World, line: int, frames: list[str], late: int) -> list[Pulse]:
+    """What a line brings that sends these frames, all so much late: some pulses are at fault, from one on all may be
+    later or earlier, and it may be pulled for a while."""
+    faults, found = random.choice((0, 0, 0.002, 0.01)), []
+    jump, shift = random.randrange(100 * len(frames)), random.choice((*[0] * 8, -1_001, -1_000, 999, 1_000))
+    for k, symbol in enumerate("".join(frames)):
+        n, place = divmod(k, 100)
+        pulse = Pulse(line, world.edge(n) + 10_000 * place + late + (shift if k >= jump else 0), WIDTHS[symbol])
+        found += spoilt(random, pulse) if random.random() < faults else [pulse]
+    pulled = random.choice((0, 0, 0, random.randrange(150)))
+    start = random.choice((0, random.randrange(len(found) + 1)))
+    return told_in_order(random, found[:start] + found[start + pulled :], world.delay)
+
+
+def true_line(random: Random, world: World, line: int, seconds: int, zone: Zone) -> list[Pulse]:
+    return line_pulses(random, world, line, world.frames(seconds, zone), random.choice(world.late))
+
+
+def false_lines(random: Random, world: World, lines: list[int], seconds: int, zone: Zone) -> list[list[Pulse]]:
+    """Lines of clocks that have one fault, or are too late or early, from some second on."""
+    fault, true = random.choice((None, v.fault_of(random_fault(random), 1))), random.randrange(seconds)
+    frames = [*world.frames(seconds, zone)[:true], *world.frames(seconds, zone, fault)[true:]]
+    lates = (-5_000, -1_001, -1_000, 1_000, 1_001, 1_449, 5_000) if fault is None else (0,)
+    return [line_pulses(random, world, line, frames, random.choice(lates)) for line in lines]
+
+
+# ---- lives
+
+
+def random_ticks(random: Random, world: World, count: int) -> list[int]:
+    """Ticks of some seconds: where frames end, before the counter alone counts, behind that, at any time, and late."""
+    near, any_ = (0, 448, 1_000, 2_001, 5_000), [random.randint(0, SECOND - 10_000) for _ in range(3)]
+    ways = [random.sample(near, 1), (-1, 1_000), random.sample(near, 2), (7_000, 60_000), (98_000,), (100_000,)]
+    ways += [(100_001,), any_[:1], any_[1:], ()]
+    mostly = random.choice(ways[:6])
+    each = [mostly if random.random() < 0.6 else random.choice(ways) for _ in range(count)]
+    return sorted(world.edge(n) + behind for n, way in enumerate(each, 1) for behind in way)
+
+
+def pause(random: Random, world: World, calls: list[Call], length: int) -> list[Call]:
+    """These calls with a pause before some second, in which ticks come as seldom as they may."""
+    n = world.edge(random.randint(1, 3)) + random.choice((0, random.randrange(SECOND)))
+    ticks = range(n + 1_700 * SECOND, n + length, 1_700 * SECOND)
+    moved = [one + length if isinstance(one, int) else replace(one, rise=one.rise + length, told=one.told + length)
+             for one in calls if (one if isinstance(one, int) else one.rise) >= n]  # fmt: skip
+    return [*(one for one in calls if (one if isinstance(one, int) else one.rise) < n), *ticks, *moved]
+
+
+def in_turn(pulses: list[Pulse], ticks: list[int]) -> list[Call]:
+    return sorted([*pulses, *ticks], key=lambda call: call if isinstance(call, int) else call.told)
+
+
+def random_life(random: Random) -> tuple[World, Device, list[Call]]:
+    """A device, and its calls, the oldest first: of its lines at most f are false, or f + 1; then all are out."""
+    world, redundancy = random_world(random), random.choice((1, 3, 3, 3, 5))
+    seconds, zones = {1: 6, 3: 4, 5: 2}[redundancy], [Zone(local, False) for local in (0, 11, -10)]
+    few = random.sample(range(redundancy), random.randint(0, redundancy // 2 + (random.random() < 0.4)))
+    lines = false_lines(random, world, few, seconds, random.choice(zones))
+    others = set(range(redundancy)) - set(few)
+    lines += [true_line(random, world, line, seconds, random.choice(zones)) for line in sorted(others)]
+    table = random.choice((None, Table(world.timeline.start.day, world.timeline.leaps)))
+    rules = ReaderRules(random.choice((1, 1, 2)), random.choice((0, 1, 100)))
+    device = Device(world.rules, rules, table, redundancy, random.choice((100, abs(world.second - SECOND))))
+    ticks = random_ticks(random, world, seconds + random.choice((0, 2, 4)))
+    calls = in_turn([pulse for line in lines for pulse in line], ticks)
+    return world, device, pause(random, world, calls, random.choice((0, 0, 0, 0, 0, SECOND, WRAP)))
+
+
+def call(value: Call) -> Antt:
+    return Antt(f"Tick {value}" if isinstance(value, int) else f"Hear {value.line} {value.rise} {value.width}")
+
+
+def beat(value: Beat | None) -> Antt:
+    return some(value and record(
+        report=value.report, told=v.tells(value.told), edge_us=value.edge, missed=value.missed, moved=value.moved,
+    ))  # fmt: skip
+
+
+def stamp(value: Stamp | None) -> Antt:
+    return some(value and record(second=value.second, offset_us=value.offset, bound_us=value.bound))
+
+
+def made(device: Device) -> Antt:
+    clock = record(reader_rules=device.reader_rules, redundancy=v.ports(device.redundancy), drift_us=device.drift)
+    lines = {"lines": Antt("new_lines"), "fresh": Antt("are_new")}
+    return record(limits=Antt("None"), rules=device.rules, clock=clock, table=device.table or Table(0, ()), **lines)
+
+
+# A life in parts, each of calls, the newest first, with a tick behind them and an event: what the tick answers, how
+# long a device would have waited then, and the stamp of the event behind the tick. Each step is a function of its
+# own, so that the checker computes once what becomes of the device.
+WALK = """use Rattle.irig_timekeeper.proofs.LifeFacts.{new_lines, are_new}
+use Rattle.irig_timekeeper.specs.Life.{after_calls}
+use Rattle.irig_timekeeper.specs.Life.Call.{Hear, Tick}
+use Rattle.irig_timekeeper.specs.Keeping.{after_tick}
+""", """abbrev Said : Type 0
+Said = Option Beat × ℕ × Option Stamp
+""", """abbrev behind : Option Beat → ℕ → Keeping → ℕ → (Keeping → List Said) → List Said
+behind beat wait k event rest = (beat, wait, stamp_at k event) ∷ rest k
+""", """abbrev ticked : Keeping → ℕ → ℕ → (Keeping → List Said) → List Said
+ticked k now event rest = behind (answer_at k now) (wait_at k now) (after_tick k now) event rest
+""", """abbrev asked : List (List Call × ℕ × ℕ) → Keeping → List Said
+asked [] k = []
+asked ((calls, now, event) ∷ parts) k = ticked (after_calls k calls) now event (asked parts)
+"""  # fmt: skip
+
+
+def parts_of(random: Random, device: Device, calls: list[Call]) -> Iterator[tuple[tuple, tuple]]:
+    """The pulses between ticks, each tick, and an event behind it or before; and what the model answers: at the tick,
+    for how long to wait before it, and of the event."""
+    heard = []
+    for one in calls:
+        if isinstance(one, int):
+            wait, said, last = device.wait(one % WRAP), device.tick(one % WRAP), device.last
+            ends = (last.edge + SECOND + last.bound, last.edge + SECOND + last.bound + 1, last.edge - 1) if last else ()
+            event = random.choice((one, one - SECOND, one + random.randint(-1_200_000, 1_200_000), *ends)) % WRAP
+            asked = [call(pulse) for pulse in reversed(heard)], one % WRAP, event
+            yield asked, (beat(said), wait, stamp(device.stamp(event)))
+            heard = []
+        else:
+            device.hear(one.line, one.rise % WRAP, one.width)
+            heard.append(one)
+
+
+@question("model", "irig_timekeeper.life_of irig_timekeeper.answer_at irig_timekeeper.wait_at irig_timekeeper.stamp_at")
+def lives(random: Random) -> Iterator[Fact]:
+    for _ in range(16):
+        _, device, calls = random_life(random)
+        above = (f"abbrev $_made : Made\n$_made = {made(device)}\n", *WALK)
+        parts = list(parts_of(random, device, calls))
+        asked = antt([part for part, _ in parts])
+        yield equal(f"asked {asked} (life_of $_made [])", [antt(said) for _, said in parts], above=above)
+
+
+@question("model", "irig_timekeeper.clock_fault")
+def refused_clocks(random: Random) -> Iterator[tuple]:
+    """By docs/EXACTLY_WHEN.md: a drift above 100, else one by which a holdover and two seconds err too much."""
+    for _ in range(40):
+        drift = random.choice((0, 1, 10, 100, 101, random.randint(0, 120)))
+        holdover = random.choice((0, 1_000_000, 490_000 // max(1, drift) - 2 + random.randint(-1, 1)))
+        is_long = (holdover + 2) * drift > 490_000
+        fault = "Drift" if drift > 100 else "Holdover" if is_long else None
+        yield (ReaderRules(1, max(0, holdover)), drift), some(fault and Antt(f"ClockFault.{fault}"))
+
+
+# ---- the conditions of a device's laws
+
+CALLS = """use Rattle.std.specs.Prelude.{get_or, ◌/◌}
+use Rattle.irig_timekeeper.specs.Life.Call.{Hear, Tick}
+"""
+
+
+def newest_first(calls: list[Call]) -> Antt:
+    return antt([call(one) for one in reversed(calls)])
+
+
+def pulses_on(line: int, calls: list[Call]) -> list[Pulse]:
+    """The pulses on a line; what is too wide is none."""
+    return [one for one in calls if isinstance(one, Pulse) and one.line == line and one.width < STUCK]
+
+
+def is_next(call: Call, start: int, redundancy: int, before: list[Call]) -> bool:
+    """Whether a timekeeper may be called so behind these calls (docs/WIRES.md, the first two things that it asks)."""
+    ticked = max([start, *(one for one in before if isinstance(one, int))])
+    risen = [pulses_on(line, before)[-1].rise for line in range(redundancy) if pulses_on(line, before)]
+    if isinstance(call, int):
+        return ticked <= call < ticked + HALF_HOUR - STUCK and all(rise <= call for rise in risen)
+    told = pulses_on(call.line, before)[-1:]
+    return call.line < redundancy and (call.width >= STUCK or (
+        ticked <= call.rise + STUCK and all(pulse.rise <= call.rise for pulse in told)))  # fmt: skip
+
+
+def random_calls(random: Random, redundancy: int) -> list[Call]:
+    """Some calls at rising times, of which a few come too late or too early, or are of no line."""
+    now, calls = 5 * SECOND, []
+    for _ in range(random.randint(1, 12)):
+        now += random.choice((0, 10_000, 10_000, 300_000, 600_000, 1_700 * SECOND, 1_801 * SECOND))
+        early = random.choice((0, 0, 0, 0, 0, 0, 5_000, 400_000, 600_000))
+        line, width = random.randrange(redundancy + (random.random() < 0.1)), random.choice((2_000, 8_000, STUCK))
+        pulse = Pulse(line, now - early, width)
+        calls.append(random.choice((pulse, pulse, now - early)))
+    return calls
+
+
+@question("model", "irig_timekeeper.in_order")
+def orders(random: Random) -> Iterator[Fact]:
+    for _ in range(40):
+        redundancy, start = random.choice((1, 3, 5)), 5 * SECOND
+        calls = random_calls(random, redundancy)
+        right = all(is_next(one, start, redundancy, calls[:place]) for place, one in enumerate(calls))
+        yield equal(f"in_order {start} {v.ports(redundancy)} {newest_first(calls)}", right, not right, (CALLS,))
+
+
+def is_true_lately(world: World, frames: list[str], pulses: list[Pulse], now: int) -> bool:
+    """Whether the pulses of the last 1.2 s are those of these frames, each less than 450 us off (docs/WIRES.md)."""
+    before = 100 * len(frames)
+    for pulse in reversed([pulse for pulse in pulses if pulse.rise + 1_200_000 >= now]):
+        n, place = divmod((pulse.rise + 500 - world.begin) % WRAP, world.second)
+        k, off = 100 * n + place // 10_000, place % 10_000 - 500
+        if k >= before or abs(off) >= 450 or frames[n][place // 10_000] != symbol_of(pulse.width):
+            return False
+        before = k
+    return True
+
+
+def untrue_ticks(world: World, frames: list[str], calls: list[Call]) -> list[int]:
+    """The places of the ticks at which more than one of three lines are not true."""
+    ticks = [place for place, one in enumerate(calls) if isinstance(one, int)]
+    lines = [[is_true_lately(world, frames, pulses_on(line, calls[:place]), calls[place]) for line in range(3)]
+             for place in ticks]  # fmt: skip
+    return [place for place, true in zip(ticks, lines) if true.count(False) > 1]
+
+
+def line_of(world: World, frames: list[str]) -> tuple[str, ...]:
+    """A line of these frames, and when they begin."""
+    symbols = antt([v.letters(frame) for frame in frames])
+    line = f"$_line k = get_or (get_or {symbols} (k / 100) []) (k % 100) Symbol.Bad"
+    edges = f"$_edges n = {world.begin} + {world.second} * n"
+    return f"abbrev $_line : ℕ → Symbol\n{line}\n", f"abbrev $_edges : ℕ → ℕ\n{edges}\n"
+
+
+@question("model", "irig_timekeeper.are_lately irig_timekeeper.are_true_at_ticks irig_timekeeper.are_true_over")
+def true_lives(random: Random) -> Iterator[Fact]:
+    """Three lines, of which some are false for a while: whether at each tick all but one are true, and so of some
+    calls behind others."""
+    for _ in range(6):
+        world, zone, false = random_world(random), Zone(0, False), random.sample(range(3), random.choice((0, 1, 1, 2)))
+        frames, others = world.frames(3, zone), sorted({0, 1, 2} - set(false))
+        lines = false_lines(random, world, false, 2, zone)
+        lines += [true_line(random, world, line, 2, zone) for line in others]
+        calls = in_turn([pulse for line in lines for pulse in line], random_ticks(random, world, 3))
+        split, above = random.randrange(len(calls) + 1), line_of(world, frames)
+        untrue = untrue_ticks(world, frames, calls)
+        test = f"(λ at pulses. are_lately $_line $_edges at (Some {100 * len(frames)}) pulses)"
+        right, asked = not untrue, f"are_true_at_ticks {test} 1 {newest_first(calls)}"
+        yield equal(asked, right, not right, (CALLS, *above))
+        right = all(place < split for place in untrue)
+        asked = f"are_true_over {test} 1 {newest_first(calls[split:])} {newest_first(calls[:split])}"
+        yield equal(asked, right, not right, (CALLS, *above))
