@@ -1,0 +1,106 @@
+"""Numbers of C: what those of a setup, a second and a stamp stand for, by the names that c/irig.h gives them."""
+
+import re
+from collections.abc import Iterator
+from pathlib import Path
+from random import Random
+
+from model.frames import Parity, Rules, Sense
+from model.reader import Cause, Lock, ReaderRules, Report
+from model.times import Mark, Second, Table
+from random_scenarios import LAST_DAY, MONTH_ENDS
+
+from . import values as v
+from .antt import Antt, Fact, equal, integer, question, record, some
+
+HEADER = (Path(__file__).resolve().parents[2] / "c/irig.h").read_text()
+NUMBER = {name: int(number) for name, number in re.findall(r"\bIRIG_(\w+) = (\d+)", HEADER)}
+PORTS = {1: "ONE", 3: "THREE", 5: "FIVE"}
+SILENT = record(**dict.fromkeys("abcde", Antt("Told.Silence")))
+MOMENTS = """use Rattle.c_keeper.specs.Lives.Moment.{Pulsed as pulsed, Ticked as ticked}
+use Rattle.irig_timekeeper.specs.Life.Call.{Hear, Tick}
+"""
+
+
+def number_of(kind: str, word: str) -> int:
+    return NUMBER[f"{kind}_{word.upper().replace('-', '_')}"]
+
+
+@question("header", "c_keeper.made_in")
+def setups(random: Random) -> Iterator[tuple]:
+    """Setups, tables of which not all leaps count, and drifts."""
+    for _ in range(60):
+        parity, sense = random.choice(list(Parity)), random.choice(list(Sense))
+        rules, ports = Rules(parity, sense, random.random() < 0.5), random.choice(list(PORTS))
+        reader_rules = ReaderRules(random.randint(1, 60), random.randint(0, 1_000_000))
+        not_before = random.choice((0, random.randint(1, LAST_DAY)))
+        poor_from = random.choice((0, 0, random.randint(1, 10)))
+        days = random.sample(MONTH_ENDS, random.randint(0, 4))
+        leaps = [(day, random.choice((Mark.INSERT, Mark.DELETE))) for day in days]
+        count, until, drift = random.randint(0, len(leaps)), random.randint(0, LAST_DAY), random.randint(0, 100)
+        setup = record(
+            parity=number_of("PARITY", parity.value), sense=number_of("SENSE", sense.value),
+            sbs=number_of("SBS", "check" if rules.check_binary_seconds else "ignore"),
+            redundancy=number_of("PORTS", PORTS[ports]), lock_after=reader_rules.lock_after,
+            holdover=reader_rules.holdover, not_before=not_before, poor_from=poor_from,
+        )  # fmt: skip
+        numbers = [record(day=day, kind=number_of("LEAP", kind.value)) for day, kind in leaps]
+        limits = record(not_before=not_before, poor_from=poor_from or 10) if not_before or poor_from else None
+        clock = record(reader_rules=reader_rules, redundancy=v.ports(ports), drift_us=drift)
+        made = record(limits=some(limits), rules=rules, clock=clock, table=Table(until, tuple(leaps[:count])))
+        yield (setup, record(until=until, len=count, leaps=numbers), drift), made
+
+
+def random_report(random: Random) -> Report:
+    lock, cause = random.choice(list(Lock)), random.choice(list(Cause))
+    count = random.randint(0, 60) if lock in (Lock.ACQUIRING, Lock.HOLDOVER) else None
+    second = Second(random.randint(1, LAST_DAY), random.randrange(86_401))
+    return Report(random.choice((None, second)), lock, cause, count)
+
+
+def second_of(random: Random, report: Report, edge: int, missed: int, moved: int, told: int = 1) -> Antt:
+    """A second of C; what it says of its ports has no meaning here."""
+    second = report.second or Second(0, 0)
+    ports = {name: random.randrange(16) for name in ("agreed", "differed", "faulty", "poor", "quality", "against_hold")}
+    numbers = record(
+        announces=int(report.second is not None), lock=number_of("LOCK", report.lock.value),
+        cause=number_of("CAUSE", report.cause.value), lock_count=report.count or 0, day=second.day, sod=second.of_day,
+        has_local=1, local_half_hours=integer(random.randint(-31, 31)), dst=1, **ports,
+    )  # fmt: skip
+    return record(is_told=told, edge_us=edge, missed=missed, moved=moved, report=numbers)
+
+
+@question("header", "c_keeper.beat_in")
+def seconds(random: Random) -> Iterator[tuple]:
+    for _ in range(60):
+        report, edge = random_report(random), random.randrange(2**32)
+        missed, moved = random.choice((0, random.randrange(2_000))), random.randrange(3)
+        beat = record(report=report, told=SILENT, edge_us=edge, missed=missed, moved=moved)
+        yield (second_of(random, report, edge, missed, moved),), beat
+
+
+@question("header", "c_keeper.stamp_in")
+def stamps(random: Random) -> Iterator[tuple]:
+    """A stamp stands for one if the call answered 0."""
+    for answer in (0, 0, 0, 0, 26, 1):
+        second = Second(random.randint(1, LAST_DAY), random.randrange(86_401))
+        offset, bound = random.randrange(2_000_000), random.randint(1_549, 491_549)
+        numbers = record(day=second.day, sod=second.of_day, offset_us=offset, bound_us=bound)
+        stamp = record(second=second, offset_us=offset, bound_us=bound)
+        yield (answer, numbers), some(stamp if answer == 0 else None)
+
+
+@question("header", "c_keeper.calls_of c_keeper.since_vote")
+def pasts(random: Random) -> Iterator[Fact]:
+    """Pulses and ticks, the newest first: the calls that they were, and how many seconds came since a vote."""
+    for _ in range(20):
+        moments, calls, since = [], [], 0
+        for now in range(random.randint(1, 8)):
+            report, missed, told = random_report(random), random.choice((0, 0, 3)), random.choice((0, 1, 1))
+            pulsed = f"{random.randrange(5)} {now} 2000"
+            moments += [f"pulsed {pulsed}", f"ticked {now} {second_of(random, report, 0, missed, 0, told)}"]
+            calls += [f"Hear {pulsed}", f"Tick {now}"]
+            since = (0 if report.cause == Cause.VOTED else since + missed + 1) if told else since
+        past = f"({' ∷ '.join([*reversed(moments), '[]'])})"
+        yield equal(f"calls_of {past}", [Antt(one) for one in reversed(calls)], above=(MOMENTS,))
+        yield equal(f"since_vote {past}", since, since + 1, (MOMENTS,))
