@@ -51,6 +51,10 @@ class World:
     def edge(self, n: int) -> int:
         return self.begin + self.second * n
 
+    def element(self, n: int, place: int) -> int:
+        """When an element of that second is due: so many hundredths of the way from edge to edge."""
+        return self.edge(n) + self.second * place // 100
+
     def frames(self, seconds: int, zone: Zone, fault: GeneratorFault | None = None) -> list[str]:
         return [sent(Generator(zone), fault, self.timeline, self.rules, n) for n in range(seconds)]
 
@@ -95,7 +99,7 @@ def line_pulses(random: Random, world: World, line: int, frames: list[str], late
     jump, shift = random.randrange(100 * len(frames)), random.choice((*[0] * 8, -1_001, -1_000, 999, 1_000))
     for k, symbol in enumerate("".join(frames)):
         n, place = divmod(k, 100)
-        pulse = Pulse(line, world.edge(n) + 10_000 * place + late + (shift if k >= jump else 0), WIDTHS[symbol])
+        pulse = Pulse(line, world.element(n, place) + late + (shift if k >= jump else 0), WIDTHS[symbol])
         found += spoilt(random, pulse) if random.random() < faults else [pulse]
     pulled = random.choice((0, 0, 0, random.randrange(150)))
     start = random.choice((0, random.randrange(len(found) + 1)))
@@ -179,7 +183,7 @@ def made(device: Device) -> Antt:
 # A life in parts, each of calls, the newest first, with a tick behind them and an event: what the tick answers, how
 # long a device would have waited then, and the stamp of the event behind the tick. Each step is a function of its
 # own, so that the checker computes once what becomes of the device.
-WALK = """use Rattle.irig_timekeeper.proofs.LifeFacts.{new_lines, are_new}
+WALK = """use Rattle.irig_lives.proofs.LifeFacts.{new_lines, are_new}
 use Rattle.irig_timekeeper.specs.Life.{after_calls}
 use Rattle.irig_timekeeper.specs.Life.Call.{Hear, Tick}
 use Rattle.irig_timekeeper.specs.Keeping.{after_tick}
@@ -272,7 +276,7 @@ def random_calls(random: Random, redundancy: int) -> list[Call]:
     return calls
 
 
-@question("model", "irig_timekeeper.in_order")
+@question("model", "irig_lives.in_order")
 def orders(random: Random) -> Iterator[Fact]:
     for _ in range(40):
         redundancy, start = random.choice((1, 3, 5)), 5 * SECOND
@@ -285,9 +289,10 @@ def is_true_lately(world: World, frames: list[str], pulses: list[Pulse], now: in
     """Whether the pulses of the last 1.2 s are those of these frames, each less than 450 us off (docs/WIRES.md)."""
     before = 100 * len(frames)
     for pulse in reversed([pulse for pulse in pulses if pulse.rise + 1_200_000 >= now]):
-        n, place = divmod((pulse.rise + 500 - world.begin) % WRAP, world.second)
-        k, off = 100 * n + place // 10_000, place % 10_000 - 500
-        if k >= before or abs(off) >= 450 or frames[n][place // 10_000] != symbol_of(pulse.width):
+        n, behind = divmod((pulse.rise + 500 - world.begin) % WRAP, world.second)
+        place = behind * 100 // world.second
+        k, off = 100 * n + place, behind - 500 - world.second * place // 100
+        if k >= before or abs(off) >= 450 or frames[n][place] != symbol_of(pulse.width):
             return False
         before = k
     return True
@@ -309,7 +314,7 @@ def line_of(world: World, frames: list[str]) -> tuple[str, ...]:
     return f"abbrev $_line : ℕ → Symbol\n{line}\n", f"abbrev $_edges : ℕ → ℕ\n{edges}\n"
 
 
-@question("model", "irig_timekeeper.are_lately irig_timekeeper.are_true_at_ticks irig_timekeeper.are_true_over")
+@question("model", "irig_lives.are_lately irig_lives.are_true_at_ticks irig_lives.are_true_over")
 def true_lives(random: Random) -> Iterator[Fact]:
     """Three lines, of which some are false for a while: whether at each tick all but one are true, and so of some
     calls behind others."""
