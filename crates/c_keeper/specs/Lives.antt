@@ -13,6 +13,7 @@ use Rattle.irig_timekeeper.specs.declared.lines.KeptClaim.{KeptClaim}
 use Rattle.irig_timekeeper.specs.declared.lines.Lines.{Lines}
 use Rattle.irig_timekeeper.specs.declared.stamp.Stamp.{Stamp}
 use Rattle.irig_timekeeper.specs.Keeping.{Keeping, answer_at, vote_at, wait_at}
+use Rattle.irig_timekeeper.specs.Exactness.{vote_early_us}
 use Rattle.irig_timekeeper.specs.Life.{Call, AreInOrder, AreTrueLately, AreTrueOver, after_calls, device_of, life_of}
 use Rattle.irig_timekeeper.specs.Life.Call.{Hear, Tick}
 use Rattle.irig_timekeeper.specs.Lived.{MadeOf, LivesWell, made_with}
@@ -176,7 +177,7 @@ since_vote (Ticked now second ∷ past) =
     if second.is_told == 0 then since_vote past
     else unless_voted (report_in second.report).cause (since_vote past + second.missed + 1)
 
--- a tick of that past announced the second of the stamp, whose bound is 1.549 ms and the drift of each
+-- a tick of that past announced the second of the stamp, whose bound is a vote's and the drift of each
 -- second that had been counted by then since a vote
 pub record HasItsBound (made : MadeOf) (past : List Moment) (stamp : Stamp) : Type 0 where
   pub later : List Moment
@@ -185,7 +186,7 @@ pub record HasItsBound (made : MadeOf) (past : List Moment) (stamp : Stamp) : Ty
   pub earlier : List Moment
   pub are : past ≡ later ++ (Ticked now second ∷ earlier)
   pub says : (report_in second.report).announce ≡ Some stamp.second
-  pub bound : stamp.bound_us ≡ 1549 + since_vote (Ticked now second ∷ earlier) * made.clock.drift_us
+  pub bound : stamp.bound_us ≡ vote_early_us + since_vote (Ticked now second ∷ earlier) * made.clock.drift_us
 
 -- ---- how long to wait
 

@@ -12,6 +12,7 @@ ghost use Rattle.irig_time.specs.Timelines.{TimelineValue, IsSecond};
 ghost use Rattle.irig_time.specs.TimelineFaults.{IsTimeline};
 ghost use Rattle.irig_vote.specs.Vote.{ports_in};
 ghost use Rattle.irig_reader.specs.declared.report.Cause.TheVariants as Cause;
+ghost use Rattle.irig_timekeeper.specs.Exactness.{vote_early_us, vote_late_us};
 ghost use Rattle.irig_timekeeper.specs.declared.clock.Beat.{Beat};
 ghost use Rattle.irig_timekeeper.specs.declared.stamp.Stamp.{Stamp};
 ghost use Rattle.irig_timekeeper.specs.declared.lines.KeptClaim.{KeptClaim};
@@ -194,7 +195,7 @@ pub extern "C" fn irig_c_timekeeper_tick(
         beat (redundancy_in timekeeper.old.setup) }
     // A second that is announced by a vote is the true one, whatever lies in the numbers, if all lines
     // but f were true in the last 1.2 s and keep what they then heard: this needs nothing of the past
-    // (irig_timekeeper, the law `votes_are_true`).
+    // (irig_lives, the law `votes_are_true`).
     ensures truth { (t : TimelineValue) (d : ℕ) (edges : ℕ → ℕ) (now : ℕ)
         (pulses : ℕ → List Pulse) (u : UtcSecond) → result ≡ 0 → now_us ≡ now % 2 ^ 32
         → IsQuartz d edges → IsTimeline t
@@ -202,19 +203,19 @@ pub extern "C" fn irig_c_timekeeper_tick(
         pulses
         → second.new.is_told ≡ 1 → (report_in second.new.report).cause ≡ Cause.Voted
         → (report_in second.new.report).announce ≡ Some u
-        → (beat : Beat) × IsToldOf second.new beat × IsToldTruly t edges 1549 549 now beat u }
+        → (beat : Beat) × IsToldOf second.new beat × IsToldTruly t edges vote_early_us vote_late_us now beat u }
     // Its life goes on.
     ensures lived { (made : MadeOf) (past : List Moment) (now : ℕ)
         → HasLived timekeeper.old made past → now_us ≡ now % 2 ^ 32
         → HasLived timekeeper.new made (Ticked now second.new ∷ past) }
     // In a life in which all lines but f were true at each tick, or at each since a vote: what is
     // announced, by a vote or not, is T(m), and its edge lies near the one that is told
-    // (irig_timekeeper, the laws `a_device_tells_the_truth` and `a_device_heals`).
+    // (irig_lives, the laws `a_device_tells_the_truth` and `a_device_heals`).
     ensures life { (t : TimelineValue) (edges : ℕ → ℕ) (made : MadeOf) (start now : ℕ)
         (past : List Moment) (u : UtcSecond) → HasLived timekeeper.old made past
         → now_us ≡ now % 2 ^ 32 → GoesOnTruly IsTrueLately t edges made start now [] past
         → (report_in second.new.report).announce ≡ Some u
-        → IsToldInHoldover t edges 1549 549 made.clock.drift_us made.clock.reader_rules.holdover
+        → IsToldInHoldover t edges vote_early_us vote_late_us made.clock.drift_us made.clock.reader_rules.holdover
         now (beat_in second.new) u }
     // It is a later second than any that was announced before.
     ensures order { (t : TimelineValue) (edges : ℕ → ℕ) (made : MadeOf) (start before now : ℕ)
@@ -241,7 +242,7 @@ pub extern "C" fn irig_c_timekeeper_tick(
         (past : List Moment) (u : UtcSecond) → HasLived timekeeper.old made past
         → now_us ≡ now % 2 ^ 32 → GoesOnTruly IsTrueOrFaulty t edges made start now [] past
         → (report_in second.new.report).announce ≡ Some u
-        → IsToldInHoldover t edges 3549 1549 made.clock.drift_us made.clock.reader_rules.holdover
+        → IsToldInHoldover t edges (2000 + vote_early_us) (1000 + vote_late_us) made.clock.drift_us made.clock.reader_rules.holdover
         now (beat_in second.new) u }
     ensures faulty_order { (t : TimelineValue) (edges : ℕ → ℕ) (made : MadeOf)
         (start before now : ℕ) (earlier later : List Moment) (first : IrigSecond)
@@ -351,7 +352,7 @@ pub extern "C" fn irig_c_timekeeper_wait(timekeeper: &IrigTimekeeper, now_us: u3
         → agreed_in timekeeper.now now_us ≡ None → edges_own (edge_in timekeeper.now) now_us ≡ 0
         → 1 ≤ result }
     // a tick after so long, or later, has a vote, if frames agree and it comes by 98 ms behind their
-    // end (irig_timekeeper, the law `waiting_is_right`)
+    // end (irig_lives, the law `waiting_is_right`)
     ensures votes { (made : MadeOf) (start now tick edge : ℕ) (past : List Moment)
         (vote : KeptClaim) → HasLived timekeeper.now made past → now_us ≡ now % 2 ^ 32
         → AreInOrder start made.clock.redundancy (Tick now ∷ calls_of past)
@@ -393,7 +394,7 @@ pub extern "C" fn irig_c_timekeeper_stamp(
     ensures stamped { (k : Keeping) → IsTimekeeperOf timekeeper.now k
         → stamp_in result stamp.new ≡ stamp_at k time_us }
     // In a life in which all lines but f were true at each tick: second and offset name the instant of
-    // an event of the last half hour, but for the bound (irig_timekeeper, the law `stamps_are_true`).
+    // an event of the last half hour, but for the bound (irig_lives, the law `stamps_are_true`).
     ensures truth { (t : TimelineValue) (edges : ℕ → ℕ) (made : MadeOf) (start time now : ℕ)
         (past : List Moment) (found : Stamp) → HasLived timekeeper.now made past
         → time_us ≡ time % 2 ^ 32 → LivesWell IsTrueLately t edges made start (calls_of past)
