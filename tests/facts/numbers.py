@@ -17,7 +17,7 @@ HEADER = (Path(__file__).resolve().parents[2] / "c/irig.h").read_text()
 NUMBER = {name: int(number) for name, number in re.findall(r"\bIRIG_(\w+) = (\d+)", HEADER)}
 PORTS = {1: "ONE", 3: "THREE", 5: "FIVE"}
 SILENT = record(**dict.fromkeys("abcde", Antt("Told.Silence")))
-MOMENTS = """use Rattle.c_keeper.specs.Lives.Moment.{Pulsed as pulsed, Ticked as ticked}
+MOMENTS = """use Rattle.c_keeper.specs.Lives.Moment.{Pulsed as was_pulsed, Ticked as was_ticked}
 use Rattle.irig_timekeeper.specs.Life.Call.{Hear, Tick}
 """
 
@@ -98,7 +98,7 @@ def pasts(random: Random) -> Iterator[Fact]:
         for now in range(random.randint(1, 8)):
             report, missed, told = random_report(random), random.choice((0, 0, 3)), random.choice((0, 1, 1))
             pulsed = f"{random.randrange(5)} {now} 2000"
-            moments += [f"pulsed {pulsed}", f"ticked {now} {second_of(random, report, 0, missed, 0, told)}"]
+            moments += [f"was_pulsed {pulsed}", f"was_ticked {now} {second_of(random, report, 0, missed, 0, told)}"]
             calls += [f"Hear {pulsed}", f"Tick {now}"]
             since = (0 if report.cause == Cause.VOTED else since + missed + 1) if told else since
         past = f"({' ∷ '.join([*reversed(moments), '[]'])})"
