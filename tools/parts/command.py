@@ -7,10 +7,22 @@ import os
 import sys
 from importlib.util import find_spec
 from pathlib import Path
-from typing import NoReturn
+from types import TracebackType
+from typing import NoReturn, Optional, Type
 
 ROOT = Path(__file__).resolve().parents[2]
 DEBIAN = "/usr/bin/python3"  # it has Debian's packages, which another Python on the PATH has not
+
+
+def end_quietly(
+    kind: Type[BaseException], error: BaseException, trace: Optional[TracebackType]
+) -> None:
+    """Says nothing of Ctrl-C, by which the command then ends."""
+    if not issubclass(kind, KeyboardInterrupt):
+        sys.__excepthook__(kind, error, trace)
+
+
+sys.excepthook = end_quietly
 
 
 def program() -> str:

@@ -77,6 +77,12 @@ class Command(unittest.TestCase):
                 self.assertEqual(first, "for example:")
                 self.assertIn(f"tools/{tool} ", example)
 
+    def test_an_interrupt_prints_nothing(self) -> None:
+        for code, said in (("raise KeyboardInterrupt", ""), ("raise SystemExit('tool: no')", "tool: no\n")):
+            words = [sys.executable, "-c", f"import parts.command; {code}"]
+            ran = subprocess.run(words, cwd=ROOT / "tools", capture_output=True, text=True)
+            self.assertEqual(ran.stderr, said)
+            self.assertNotEqual(ran.returncode, 0)
 
 
 if __name__ == "__main__":
