@@ -317,9 +317,9 @@ IRIG_ASSERT((sizeof(irig_told) == 20u) && (offsetof(irig_told, fault) == 4u) &&
  * told: a loop that stood still ticks afterwards, between the pulses, at each time that
  * irig_timekeeper_wait names or each 95 ms, and misses no second (c/examples/poll.c). It leaves out a
  * time that lies before the one told last (`t - told > UINT32_MAX / 2`), else it counts on through 71
- * minutes that have not been. If ticks run ahead of pulses by more than 4 ms, seconds are counted by
- * the counter alone, which `moved` and `missed` show if they come again and again; if by 100 ms,
- * nothing is ever voted. After sleep, or if the counter stood still or was set:
+ * minutes that have not been. If ticks run ahead of pulses by more than 4 ms, seconds may be counted
+ * by the counter alone, which `moved` and `missed` show if they come again and again; if by some
+ * 100 ms, nothing is ever voted. After sleep, or if the counter stood still or was set:
  * irig_timekeeper_restart. */
 
 /* A line of a timekeeper. */
@@ -590,7 +590,7 @@ uint8_t irig_timekeeper_hear(irig_timekeeper *timekeeper, uint8_t line, uint32_t
  * If it answers 0, a second that is announced with the cause IRIG_CAUSE_VOTED is the true one, and
  * its true edge comes at most 1,549 us after `edge_us` or 549 before it, provided that the counter is
  * at most 100 us a second wrong, no two of three lines (three of five; not the one line) were untrue
- * in the last 1.2 s, and the others keep what they then heard. That holds whenever the call comes,
+ * in the last 1.2 s, and each line that keeps a frame has heard it. That holds whenever the call comes,
  * whatever came before, and whatever other numbers lie in the timekeeper.
  *
  * In one that irig_timekeeper_init made, a second with the cause IRIG_CAUSE_HELD is true too, if at
@@ -599,11 +599,13 @@ uint8_t irig_timekeeper_hear(irig_timekeeper *timekeeper, uint8_t line, uint32_t
  * says, calls were in order, and the table is right, which up to a `holdover` of 57 it need not be.
  * Its edge lies off by `drift_us` more for each of `lock_count` seconds. Then each second that is
  * announced is later than the one before, and no cause is IRIG_CAUSE_JUMP. If lines were untrue
- * before, all this holds again from the first tick on that tells a second with `agreed` above 0,
- * provided that no two of three lines were untrue at that tick and at each later one. All this holds,
- * with 3,549 us for 1,549 and 1,549 for 549, also if a line counts as true that had one fault of any
- * kind in each hundred pulses (docs/WIRES.md). Whatever lines carry, edges that are told lie at least
- * half a second apart if calls were in order. docs/WIRES.md also says when it announces. */
+ * before, all this holds again once a tick has told a second with `agreed` above 0, provided that no
+ * two of three lines were untrue at that tick and at each later one. That tick itself may have the
+ * cause IRIG_CAUSE_JUMP, or tell a second that is not later than a false one before. What this
+ * paragraph says holds, with edges from 3,549 us before to 1,549 us after the true ones, also if a
+ * line counts as true that had one fault of any kind in each hundred pulses (docs/WIRES.md). Whatever
+ * lines carry, edges that are told lie at least half a second apart if calls were in order.
+ * docs/WIRES.md also says when it announces. */
 uint32_t irig_timekeeper_tick(irig_timekeeper *timekeeper, uint32_t now_us, irig_second *second);
 
 /* How long until a tick has something to do, in microseconds, if no call comes before it: 0 if it has

@@ -194,8 +194,8 @@ pub extern "C" fn irig_c_timekeeper_tick(
         → second.new.report.against_hold ≡ against_at (held_by (state_in timekeeper.old.state))
         beat (redundancy_in timekeeper.old.setup) }
     // A second that is announced by a vote is the true one, whatever lies in the numbers, if all lines
-    // but f were true in the last 1.2 s and keep what they then heard: this needs nothing of the past
-    // (irig_lives, the law `votes_are_true`).
+    // but f were true in the last 1.2 s and each line that keeps a frame has heard it: this needs
+    // nothing of the past (irig_lives, the law `votes_are_true`).
     ensures truth { (t : TimelineValue) (d : ℕ) (edges : ℕ → ℕ) (now : ℕ)
         (pulses : ℕ → List Pulse) (u : UtcSecond) → result ≡ 0 → now_us ≡ now % 2 ^ 32
         → IsQuartz d edges → IsTimeline t
