@@ -98,7 +98,8 @@ def pasts(random: Random) -> Iterator[Fact]:
         for now in range(random.randint(1, 8)):
             report, missed, told = random_report(random), random.choice((0, 0, 3)), random.choice((0, 1, 1))
             pulsed = f"{random.randrange(5)} {now} 2000"
-            moments += [f"was_pulsed {pulsed}", f"was_ticked {now} {second_of(random, report, 0, missed, 0, told)}"]
+            second = second_of(random, report, 0, missed, 0, told)
+            moments += [f"was_pulsed {pulsed} {random.randint(0, 100)}", f"was_ticked {now} {second}"]
             calls += [f"Hear {pulsed}", f"Tick {now}"]
             since = (0 if report.cause == Cause.VOTED else since + missed + 1) if told else since
         past = f"({' ∷ '.join([*reversed(moments), '[]'])})"

@@ -3,7 +3,7 @@ use Rattle.std.proofs.Common.{◌≡◌, ◌∙◌, [], ◌∷◌, ◌++◌, ◌
 use Rattle.irig_time.specs.declared.second.UtcSecond.{UtcSecond}
 use Rattle.irig_time.specs.Timelines.{TimelineValue, IsSecond}
 use Rattle.irig_timekeeper.specs.Announcing.{Announces}
-use Rattle.irig_timekeeper.specs.Keeping.{Keeping, answer_at, wait_at}
+use Rattle.irig_timekeeper.specs.Keeping.{Keeping, place_told, answer_at, wait_at}
 use Rattle.irig_timekeeper.specs.Life.{Call, after_calls, device_of, life_of}
 use Rattle.irig_timekeeper.specs.Life.Call.{Hear, Tick}
 use Rattle.irig_timekeeper.specs.Lived.{MadeOf, made_with}
@@ -61,14 +61,22 @@ module _ (new : Keeping) (late : ℕ) (before : List Moment) where
   Next now past None = Unit {0}
   Next now past (Some time) = (wait : ℕ) × (wait ≡ wait_at (after_calls new (calls_of (past ++ before))) (time % 2 ^ 32)) × (now ≤ time + wait + late)
 
+  -- so behind a pulse, if it asks from its end
+  by_end : (line rise width place now : ℕ) (past : List Moment) (next : Option ℕ) → Next now (Pulsed line rise width place ∷ past) next → next ≡ Some (rise + width) → now ≤ named new (calls_of past ++ calls_of before) (Hear line rise width) + late
+  by_end line rise width place now past None is asks = absurd cc
+  by_end line rise width place now past (Some time) is asks =
+      let at : time ≡ rise + width = cc in
+      subst (λ (x : ℕ). now ≤ x + late) (named_by (Hear line rise width) past time is.0 is.1 at) is.2
+
   soon : (now : ℕ) (past : List Moment) (next : Option ℕ) → Next now past next → AreAsked next past → IsSoonEnough late now past → HaveTold new (past ++ before) → device.IsSoonEnough late new now (calls_of past) (calls_of before)
   soon now [] next is asked enough told = tt
   soon now (Waited time wait ∷ past) next is asked enough told = soon now past (Some time) (wait, told.0, enough.0) asked enough.1 told.1
-  soon now (Pulsed line rise width ∷ past) None is asked enough told = (let none = asked.0 in absurd cc)
-  soon now (Pulsed line rise width ∷ past) (Some time) is asked enough told =
-      let at : time ≡ rise + width = (let same = asked.0 in cc) in
-      let by = named_by (Hear line rise width) past time is.0 is.1 at in
-      (subst (λ (x : ℕ). now ≤ x + late) by is.2, soon now past None tt asked.1 enough told)
+  soon now (Pulsed line rise width place ∷ past) next is asked enough told = (
+    λ whole.
+        (let same = ap (λ (calls : List Call). place_told (after_calls new calls) line (rise % 2 ^ 32) width) (calls_more past before) in
+        by_end line rise width place now past next is (asked.0 (told.0 ∙ (same ∙ whole)))),
+    soon now past None tt asked.1 enough told.1,
+  )
   soon now (Ticked time' second ∷ past) None is asked enough told = (let none = asked.0 in absurd cc)
   soon now (Ticked time' second ∷ past) (Some time) is asked enough told =
       let at : time ≡ time' = (let same = asked.0 in cc) in
@@ -78,7 +86,7 @@ module _ (new : Keeping) (late : ℕ) (before : List Moment) where
   goes : (past : List Moment) (next : Option ℕ) → AreAsked next past → GoesByWait late past → HaveTold new (past ++ before) → device.GoesByWait late new (calls_of past) (calls_of before)
   goes [] next asked by told = tt
   goes (Waited time wait ∷ past) next asked by told = goes past (Some time) asked by told.1
-  goes (Pulsed line rise width ∷ past) next asked by told = goes past None asked.1 by told
+  goes (Pulsed line rise width place ∷ past) next asked by told = goes past None asked.1 by told.1
   goes (Ticked time second ∷ past) next asked by told = (soon time past None tt asked.1 by.0 told.1, goes past None asked.1 by.1 told.1)
 
 pub has_announced_by_wait : (q : IrigTimekeeper) (t : TimelineValue) (edges : ℕ → ℕ) (made : MadeOf) (start m late now : ℕ) (s : IrigSecond) (moments before : List Moment) (u : UtcSecond) → HasLived q made (Ticked now s ∷ (moments ++ before))

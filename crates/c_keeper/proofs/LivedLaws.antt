@@ -10,7 +10,7 @@ use Rattle.irig_timekeeper.specs.declared.clock.ClockRules.{ClockRules}
 use Rattle.irig_timekeeper.specs.declared.clock.ClockState.{ClockState}
 use Rattle.irig_timekeeper.specs.declared.lines.KeptClaim.{KeptClaim}
 use Rattle.irig_timekeeper.specs.Clock.{claim_voted, vote_of_lines}
-use Rattle.irig_timekeeper.specs.Keeping.{Keeping, after_pulse, after_tick, answer_at, new_keeping, new_state, restarted, vote_at, wait_at}
+use Rattle.irig_timekeeper.specs.Keeping.{place_told, Keeping, after_pulse, after_tick, answer_at, new_keeping, new_state, restarted, vote_at, wait_at}
 use Rattle.irig_timekeeper.specs.Life.{device_of, life_of}
 use Rattle.irig_timekeeper.specs.Lived.{MadeOf, made_with}
 use Rattle.irig_timekeeper.specs.Steps.{AreNewLines}
@@ -36,14 +36,14 @@ lived_new q made clock fresh same is = record {
   told = tt;
 }
 
-pub lived_pulse : (t q : IrigTimekeeper) (made : MadeOf) (past : List Moment) (line time rise width : ℕ) → ((k : Keeping) → IsTimekeeperOf t k → IsTimekeeperOf q (after_pulse k line time width))
-    → HasLived t made past → time ≡ rise % 2 ^ 32 → HasLived q made (Pulsed line rise width ∷ past)
-lived_pulse t q made past line time rise width goes h clock =
+pub lived_pulse : (t q : IrigTimekeeper) (made : MadeOf) (past : List Moment) (line time rise width place : ℕ) → ((k : Keeping) → IsTimekeeperOf t k → IsTimekeeperOf q (after_pulse k line time width))
+    → ((k : Keeping) → IsTimekeeperOf t k → place ≡ place_told k line time width) → HasLived t made past → time ≡ rise % 2 ^ 32 → HasLived q made (Pulsed line rise width place ∷ past)
+lived_pulse t q made past line time rise width place goes answers h clock =
     let k = life_of (made_with made h.lines h.fresh) (calls_of past) in record {
       lines = h.lines;
       fresh = h.fresh;
       is = subst (λ (x : ℕ). IsTimekeeperOf q (after_pulse k line x width)) clock (goes k h.is);
-      told = h.told;
+      told = (answers k h.is ∙ ap (λ (x : ℕ). place_told k line x width) clock, h.told);
     }
 
 pub lived_again : (t q : IrigTimekeeper) (made : MadeOf) (past : List Moment) → ((limits : Option Limits) (rules : Rules) → AreNewLines (lines_in limits rules q.lines))

@@ -36,13 +36,13 @@ use Rattle.c_keeper.proofs.ValueLaws.{IsBeatOf, beat_of}
 
 pub calls_more : (later earlier : List Moment) → calls_of (later ++ earlier) ≡ calls_of later ++ calls_of earlier
 calls_more [] earlier = refl
-calls_more (Pulsed line rise width ∷ later) earlier = ap (λ (calls : List Call). Hear line rise width ∷ calls) (calls_more later earlier)
+calls_more (Pulsed line rise width place ∷ later) earlier = ap (λ (calls : List Call). Hear line rise width ∷ calls) (calls_more later earlier)
 calls_more (Ticked now second ∷ later) earlier = ap (λ (calls : List Call). Tick now ∷ calls) (calls_more later earlier)
 calls_more (Waited now wait ∷ later) earlier = calls_more later earlier
 
 pub told_before : (new : Keeping) (later earlier : List Moment) → HaveTold new (later ++ earlier) → HaveTold new earlier
 told_before new [] earlier told = told
-told_before new (Pulsed line rise width ∷ later) earlier told = told_before new later earlier told
+told_before new (Pulsed line rise width place ∷ later) earlier told = told_before new later earlier told.1
 told_before new (Ticked now second ∷ later) earlier told = told_before new later earlier told.1
 told_before new (Waited now wait ∷ later) earlier told = told_before new later earlier told.1
 

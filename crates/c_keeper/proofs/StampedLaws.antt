@@ -90,7 +90,7 @@ since_tick s (Some beat) n told = rw (told.is_told, ap (λ (r : Report). r.cause
 
 pub since_is : (new : Keeping) (past : List Moment) → HaveTold new past → since_vote past ≡ device.since_vote new (calls_of past)
 since_is new [] told = refl
-since_is new (Pulsed line rise width ∷ past) told = since_is new past told
+since_is new (Pulsed line rise width place ∷ past) told = since_is new past told.1
 since_is new (Waited now wait ∷ past) told = since_is new past told.1
 since_is new (Ticked now second ∷ past) told =
     since_tick second (answer_at (after_calls new (calls_of past)) (now % 2 ^ 32)) (since_vote past) told.0.is
@@ -121,13 +121,13 @@ one_more m past now calls is = record { later = m ∷ is.later; second = is.seco
 pub tick_in_past : (past : List Moment) (later : List Call) (now : ℕ) (earlier : List Call) → calls_of past ≡ later ++ (Tick now ∷ earlier) → IsTickIn past now earlier
 tick_in_past [] [] now earlier e = absurd cc
 tick_in_past [] (call ∷ later) now earlier e = absurd cc
-tick_in_past (Pulsed line rise width ∷ past) [] now earlier e = absurd cc
+tick_in_past (Pulsed line rise width place ∷ past) [] now earlier e = absurd cc
 tick_in_past (Waited time wait ∷ past) later now earlier e = one_more (Waited time wait) past now earlier (tick_in_past past later now earlier e)
 tick_in_past (Ticked time second ∷ past) [] now earlier e =
     let same : time ≡ now = cc in
     let rest : calls_of past ≡ earlier = cc in
     record { later = []; second = second; earlier = past; are = ap (λ (x : ℕ). Ticked x second ∷ past) same; same = rest }
-tick_in_past (Pulsed line rise width ∷ past) (call ∷ later) now earlier e = one_more (Pulsed line rise width) past now earlier (tick_in_past past later now earlier (let rest : calls_of past ≡ later ++ (Tick now ∷ earlier) = cc in rest))
+tick_in_past (Pulsed line rise width place ∷ past) (call ∷ later) now earlier e = one_more (Pulsed line rise width place) past now earlier (tick_in_past past later now earlier (let rest : calls_of past ≡ later ++ (Tick now ∷ earlier) = cc in rest))
 tick_in_past (Ticked time second ∷ past) (call ∷ later) now earlier e = one_more (Ticked time second) past now earlier (tick_in_past past later now earlier (let rest : calls_of past ≡ later ++ (Tick now ∷ earlier) = cc in rest))
 
 pub bounded_as : (q : IrigTimekeeper) (made : MadeOf) (past : List Moment) (time : ℕ) (stamp : Stamp) → (h : HasLived q made past)

@@ -40,17 +40,19 @@ pub known_seconds : (announced_in told ≡ Some (record { second = record { day 
     × (stamp_in 26 (record { day = 6209; sod = 86400; offset_us = 250000; bound_us = 1549 }) ≡ None)
 known_seconds = (refl, refl, refl, refl)
 
--- a pulse of 2 ms ends at 12,000, and a question from then on, or from another time, is answered by 5 ms
+-- a frame's last pulse ends at 18,000, and a question from then on, or from another time, is answered
+-- by 5 ms
 abbrev asked_from : ℕ → List Moment
-asked_from time = Waited time 5000 ∷ (Pulsed 0 10000 2000 ∷ [])
+asked_from time = Waited time 5000 ∷ (Pulsed 0 10000 8000 100 ∷ [])
 
 -- the tick comes 96 ms behind the time that was named, and a microsecond later it is too late
-pub known_waits : AreAsked None (asked_from 12000) × (AreAsked None (asked_from 12001) → ⊥) × (AreAsked None (Pulsed 0 10000 2000 ∷ []) → ⊥)
-    × GoesByWait 96000 (Ticked 113000 nothing_told ∷ asked_from 12000) × (GoesByWait 96000 (Ticked 113001 nothing_told ∷ asked_from 12000) → ⊥)
+pub known_waits : AreAsked None (asked_from 18000) × (AreAsked None (asked_from 18001) → ⊥) × (AreAsked None (Pulsed 0 10000 8000 100 ∷ []) → ⊥) × AreAsked None (Pulsed 0 10000 2000 99 ∷ [])
+    × GoesByWait 96000 (Ticked 119000 nothing_told ∷ asked_from 18000) × (GoesByWait 96000 (Ticked 119001 nothing_told ∷ asked_from 18000) → ⊥)
 known_waits = (
-  (refl, tt),
-  λ h. (let other : ◌≡◌ {A = ℕ} 12001 12000 = (let both = h.0 in cc) in absurd (omega (arith, other))),
-  λ h. (let none = h.0 in absurd cc),
+  (λ e. refl, tt),
+  λ h. (let other : ◌≡◌ {A = ℕ} 18001 18000 = (let both = h.0 refl in cc) in absurd (omega (arith, other))),
+  λ h. (let none = h.0 refl in absurd cc),
+  (λ e. absurd (omega (arith, e)), tt),
   ((omega arith, tt), tt),
   λ h. absurd (omega (arith, h.0.0)),
 )

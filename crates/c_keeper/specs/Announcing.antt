@@ -36,12 +36,13 @@ pub record HasAnnounced (edges : ℕ → ℕ) (m : ℕ) (u : UtcSecond) (past : 
 
 -- ---- a tick when `wait` says
 
--- the moment next behind each pulse and each tick of these moments asks how long to wait, from the
--- pulse's end or the time of the tick. What comes next behind all of them asks from such a time, or
--- does not ask
+-- the moment next behind each tick of these moments, and behind each pulse of place 100, asks how
+-- long to wait, from the time of the tick or the pulse's end. What comes next behind all of them asks
+-- from such a time, or does not ask
 abbrev pub AreAsked : Option ℕ → List Moment → Type 0
 AreAsked next [] = ⊤
-AreAsked next (Pulsed line rise width ∷ past) = (next ≡ Some (rise + width)) × AreAsked None past
+AreAsked next (Pulsed line rise width place ∷ past) =
+    (place ≡ 100 → next ≡ Some (rise + width)) × AreAsked None past
 AreAsked next (Ticked now second ∷ past) = (next ≡ Some now) × AreAsked None past
 AreAsked next (Waited now wait ∷ past) = AreAsked (Some now) past
 
@@ -49,7 +50,7 @@ AreAsked next (Waited now wait ∷ past) = AreAsked (Some now) past
 -- asked since the tick before
 abbrev pub IsSoonEnough : ℕ → ℕ → List Moment → Type 0
 IsSoonEnough late now [] = ⊤
-IsSoonEnough late now (Pulsed line rise width ∷ past) = IsSoonEnough late now past
+IsSoonEnough late now (Pulsed line rise width place ∷ past) = IsSoonEnough late now past
 IsSoonEnough late now (Ticked time second ∷ past) = ⊤
 IsSoonEnough late now (Waited time wait ∷ past) =
     (now ≤ time + wait + late) × IsSoonEnough late now past
@@ -57,6 +58,6 @@ IsSoonEnough late now (Waited time wait ∷ past) =
 -- so each tick of these moments
 abbrev pub GoesByWait : ℕ → List Moment → Type 0
 GoesByWait late [] = ⊤
-GoesByWait late (Pulsed line rise width ∷ past) = GoesByWait late past
+GoesByWait late (Pulsed line rise width place ∷ past) = GoesByWait late past
 GoesByWait late (Ticked now second ∷ past) = IsSoonEnough late now past × GoesByWait late past
 GoesByWait late (Waited now wait ∷ past) = GoesByWait late past

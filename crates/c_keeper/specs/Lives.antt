@@ -12,7 +12,7 @@ use Rattle.irig_timekeeper.specs.declared.clock.Beat.{Beat}
 use Rattle.irig_timekeeper.specs.declared.lines.KeptClaim.{KeptClaim}
 use Rattle.irig_timekeeper.specs.declared.lines.Lines.{Lines}
 use Rattle.irig_timekeeper.specs.declared.stamp.Stamp.{Stamp}
-use Rattle.irig_timekeeper.specs.Keeping.{Keeping, answer_at, vote_at, wait_at}
+use Rattle.irig_timekeeper.specs.Keeping.{Keeping, answer_at, place_told, vote_at, wait_at}
 use Rattle.irig_timekeeper.specs.Exactness.{vote_early_us}
 use Rattle.irig_timekeeper.specs.Life.{Call, AreInOrder, AreTrueLately, AreTrueOver, after_calls, device_of, life_of}
 use Rattle.irig_timekeeper.specs.Life.Call.{Hear, Tick}
@@ -30,17 +30,17 @@ use Rattle.c_keeper.specs.declared.timekeeper.IrigTimekeeper.{IrigTimekeeper}
 use Rattle.c_keeper.specs.Seconds.{IsSecondOf}
 use Rattle.c_keeper.specs.Timekeepers.{clock_state_in, IsTimekeeperOf}
 
--- a pulse on a line: it rose then, and is so wide; a tick, and the second that it gave; or a question
--- how long to wait from then on, and the answer
+-- a pulse on a line: it rose then, is so wide, and was answered this place; a tick, and the second
+-- that it gave; or a question how long to wait from then on, and the answer
 pub data Moment : Type 0 where
-  Pulsed : (line rise width : ℕ) → Moment
+  Pulsed : (line rise width place : ℕ) → Moment
   Ticked : (now : ℕ) → (second : IrigSecond) → Moment
   Waited : (now wait : ℕ) → Moment
 
 -- the calls of a life that change the timekeeper, the newest first
 abbrev pub calls_of : List Moment → List Call
 calls_of [] = []
-calls_of (Pulsed line rise width ∷ past) = Hear line rise width ∷ calls_of past
+calls_of (Pulsed line rise width place ∷ past) = Hear line rise width ∷ calls_of past
 calls_of (Ticked now second ∷ past) = Tick now ∷ calls_of past
 calls_of (Waited now wait ∷ past) = calls_of past
 
@@ -75,10 +75,12 @@ pub record HasTold (k : Keeping) (now : ℕ) (second : IrigSecond) : Type 0 wher
   pub vote : (second.report.agreed ≡ 0 → ⊥)
       → (vote : KeptClaim) × (vote_at k (now % 2 ^ 32) ≡ Some vote)
 
--- so did each tick of this past, and each question got its answer
+-- so did each tick of this past, and each pulse and each question got its answer
 abbrev pub HaveTold : Keeping → List Moment → Type 0
 HaveTold new [] = ⊤
-HaveTold new (Pulsed line rise width ∷ past) = HaveTold new past
+HaveTold new (Pulsed line rise width place ∷ past) =
+    (place ≡ place_told (after_calls new (calls_of past)) line (rise % 2 ^ 32) width)
+    × HaveTold new past
 HaveTold new (Ticked now second ∷ past) =
     HasTold (after_calls new (calls_of past)) now second × HaveTold new past
 HaveTold new (Waited now wait ∷ past) =
@@ -171,7 +173,7 @@ pub record AreTogether (t : TimelineValue) (apart : ℕ) (stamp other : Stamp) :
 -- the seconds that were counted since one was announced by a vote, by what the ticks of a past gave
 abbrev pub since_vote : List Moment → ℕ
 since_vote [] = 0
-since_vote (Pulsed line rise width ∷ past) = since_vote past
+since_vote (Pulsed line rise width place ∷ past) = since_vote past
 since_vote (Waited now wait ∷ past) = since_vote past
 since_vote (Ticked now second ∷ past) =
     if second.is_told == 0 then since_vote past

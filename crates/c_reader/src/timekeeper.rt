@@ -130,7 +130,7 @@ pub extern "C" fn irig_c_timekeeper_hear(
         → IsTimekeeperOf timekeeper.new (after_pulse k line rise_us width_us) }
     ensures lived { (made : MadeOf) (past : List Moment) (rise : ℕ) → (result ≡ 255 → ⊥)
         → HasLived timekeeper.old made past → rise_us ≡ rise % 2 ^ 32
-        → HasLived timekeeper.new made (Pulsed line rise width_us ∷ past) }
+        → HasLived timekeeper.new made (Pulsed line rise width_us result ∷ past) }
     // the check word is right exactly if it was
     ensures sealed { IsSealed timekeeper.new ↔ IsSealed timekeeper.old }
 {
@@ -267,9 +267,9 @@ pub extern "C" fn irig_c_timekeeper_tick(
         → IsSecond t (m + 1 + made.clock.reader_rules.lock_after) u
         → HasAnnounced edges (m + 1 + made.clock.reader_rules.lock_after) u
         (Ticked now second.new ∷ (moments ++ before)) }
-    // So it has if `irig_c_timekeeper_wait` was asked behind each call, from the end of the pulse or
-    // the time of the tick, and each tick came 96 ms at most behind each time that was then named
-    // since the tick before (the law `a_waiting_device_announces`).
+    // So it has if `irig_c_timekeeper_wait` was asked behind each tick, from its time, and behind each
+    // pulse of place 100, from its end, and each tick came 96 ms at most behind each time that was
+    // named since the tick before (the law `a_waiting_device_announces`).
     ensures announces_by_wait { (t : TimelineValue) (edges : ℕ → ℕ) (made : MadeOf)
         (start m late now : ℕ) (moments before : List Moment) (u : UtcSecond)
         → HasLived timekeeper.old made (moments ++ before) → now_us ≡ now % 2 ^ 32

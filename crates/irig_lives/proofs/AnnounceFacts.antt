@@ -30,7 +30,7 @@ use Rattle.irig_reader.specs.declared.report.Cause.TheVariants as cause
 use Rattle.irig_timekeeper.specs.declared.clock.Beat.{Beat}
 use Rattle.irig_timekeeper.specs.Lines.{ArePulsesLately, IsLineOf, IsTrueLately, line_of}
 use Rattle.irig_timekeeper.specs.Steps.{is_pulse}
-use Rattle.irig_timekeeper.specs.Keeping.{Keeping, vote_at, answer_at, wait_at}
+use Rattle.irig_timekeeper.specs.Keeping.{Keeping, place_told, vote_at, answer_at, wait_at}
 use Rattle.irig_timekeeper.specs.Life.{Call, pulses_on, last_tick, AreInOrder, AreTrueOver, after_calls, after_call}
 use Rattle.irig_timekeeper.specs.Life.Call.{Hear, Tick}
 use Rattle.irig_timekeeper.specs.Announcing.{LeavesTheFirst, IsWhole, ComesWhole, Announces}
@@ -402,7 +402,7 @@ names k time = time + wait_at k (time % 2 ^ 32)
 step : ℕ → Run → Call → Run
 step late r (Hear port rise width) =
     let k = after_call r.state (Hear port rise width) in
-    record { state = k; least = least_of_two (names k (rise + width)) r.least; is_soon = r.is_soon }
+    record { state = k; least = cond (place_told r.state port (rise % 2 ^ 32) width == 100) (least_of_two (names k (rise + width)) r.least) r.least; is_soon = r.is_soon }
 step late r (Tick now) =
     let k = after_call r.state (Tick now) in
     record { state = k; least = names k now; is_soon = nat_le now (r.least + late) && r.is_soon }
@@ -417,6 +417,13 @@ unfolding least_of_two
 low_of_two a b = elim (cases_Bool (nat_le a b)) [
   | inl low ↦ rw low (omega arith, leb-true a b low)
   | inr high ↦ rw high (let more = leb-false a b high in (omega (arith, more), omega arith))
+]
+
+-- it is asked behind a frame's last pulse alone
+if_asked : (place both before : ℕ) → (place ≡ 100 → cond (place == 100) both before ≡ both) × (both ≤ before → cond (place == 100) both before ≤ before)
+if_asked place both before = elim (cases_Bool (place == 100)) [
+  | inl whole ↦ rw whole (λ e. refl, λ less. less)
+  | inr other ↦ rw other (λ e. absurd (eqb-false place 100 other e), λ less. omega arith)
 ]
 
 run_is : (late : ℕ) (calls : List Call) → (run late calls).state ≡ after_calls device calls
@@ -434,7 +441,13 @@ soon_is late now (Tick time ∷ calls) soon =
 soon_is late now (Hear port rise width ∷ calls) soon =
     let k : names (run late (Hear port rise width ∷ calls)).state (rise + width) ≡ names (after_calls device (Hear port rise width ∷ calls)) (rise + width) = ap (λ (k : Keeping). names k (rise + width)) (run_is late (Hear port rise width ∷ calls)) in
     let low = low_of_two (names (run late (Hear port rise width ∷ calls)).state (rise + width)) (run late calls).least in
-    (subst (λ (c : List Call). now ≤ named device c (Hear port rise width) + late) (sym (append-nil calls)) (omega (arith, soon, low.0, k)), soon_is late now calls (omega (arith, soon, low.1)))
+    let here = if_asked (place_told (run late calls).state port (rise % 2 ^ 32) width) (least_of_two (names (run late (Hear port rise width ∷ calls)).state (rise + width)) (run late calls).least) (run late calls).least in
+    let state = run_is late calls in
+    let less = here.1 low.1 in (
+      subst (λ (c : List Call). place_told (after_calls device c) port (rise % 2 ^ 32) width ≡ 100 → now ≤ named device c (Hear port rise width) + late) (sym (append-nil calls))
+          (λ place. (let asked = here.0 (subst (λ (k : Keeping). place_told k port (rise % 2 ^ 32) width ≡ 100) (sym state) place) in omega (arith, soon, low.0, k, asked))),
+      soon_is late now calls (omega (arith, soon, less)),
+    )
 
 goes_is : (late : ℕ) (calls : List Call) → (run late calls).is_soon ≡ true → GoesByWait late device calls []
 unfolding run step

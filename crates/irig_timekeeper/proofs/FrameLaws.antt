@@ -29,7 +29,7 @@ use Rattle.irig_timekeeper.specs.declared.clock.ClockState.{ClockState}
 use Rattle.irig_timekeeper.specs.Counting.{is_late, edges_own}
 use Rattle.irig_timekeeper.specs.Steps.{is_pulse, line_at, line_heard, frame_behind, still_kept, settled, claim_told, claim_kept}
 use Rattle.irig_timekeeper.specs.Clock.{clock_by, settled_at}
-use Rattle.irig_timekeeper.specs.Keeping.{Keeping, heard_by, heard_then, vote_at, after_pulse, after_tick}
+use Rattle.irig_timekeeper.specs.Keeping.{Keeping, place_told, heard_by, heard_then, vote_at, after_pulse, after_tick}
 use Rattle.irig_timekeeper.specs.Life.{Call, after_calls, pulses_on, last_tick, HaveRisen, AreInOrder}
 use Rattle.irig_timekeeper.specs.Life.Call.{Hear, Tick}
 use Rattle.irig_timekeeper.proofs.VoteLaws.{frame_settled}
@@ -271,6 +271,10 @@ module _ (t : TimelineValue) (d : ℕ) (edges : ℕ → ℕ) (quartz : IsQuartz 
 
     place : place_of line.sync (rise % 2 ^ 32) width ≡ place_after (p ∷ pulses)
     place = place_at_time line.sync pulses l.told rise width l.hearing.sync after soon
+
+    -- so the pulse is told to be the hundredth
+    pub place_is : place_told k port (rise % 2 ^ 32) width ≡ 100
+    place_is = rw narrow (ap (λ (j : ℕ). place_of (line_at k.state.lines j).sync (rise % 2 ^ 32) width) (sym at) ∙ place ∙ hundred)
 
     long : 100 ≤ length (p ∷ pulses)
     long =

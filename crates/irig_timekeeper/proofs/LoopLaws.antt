@@ -106,7 +106,10 @@ module _ (t : TimelineValue) (d : ℕ) (edges : ℕ → ℕ) (quartz : IsQuartz 
   Whole late pulses = IsWhole new.limits new.rules t edges m (drop late pulses)
 
   -- the last pulse of one of them, which ends near the edge
-  pub record IsLastOfOne (rise width : ℕ) : Type 0 where
+  pub record IsLastOfOne (port rise width : ℕ) (calls : List Call) : Type 0 where
+    pub whole : IsWhole new.limits new.rules t edges m (pulses_on port (Hear port rise width ∷ calls))
+    pub small : port < 5
+    pub narrow : is_pulse width ≡ true
     pub least : edges m ≤ rise + width + 4049
     pub most : rise + width ≤ edges m + 48
     pub rose : edges m ≤ rise + 10549
@@ -137,24 +140,27 @@ module _ (t : TimelineValue) (d : ℕ) (edges : ℕ → ℕ) (quartz : IsQuartz 
       on : pulses_on port (Hear port rise width ∷ calls) ≡ pulse_at rise width ∷ pulses_on port calls
       on = own_pulses port port rise width calls narrow (eq-eqb port port refl)
 
-      is_last : (w : IsWhole new.limits new.rules t edges m (pulse_at rise width ∷ pulses_on port calls)) → IsLastOfOne rise width
-      is_last w =
+      is_last : port < 5 → (w : IsWhole new.limits new.rules t edges m (pulse_at rise width ∷ pulses_on port calls)) → IsLastOfOne port rise width calls
+      is_last small w =
           let ends = ends_whole new.limits new.rules t d edges m (pulse_at rise width ∷ pulses_on port calls) quartz w in
           let head : pulse_at rise width ≡ ends.p = (let e = ends.are in cc) in
           let rises : rise ≡ ends.p.rise = ap (λ (q : Pulse). q.rise) head in
           let marker = narrow_marker width (subst (λ (q : Pulse). is_marker q.width ≡ true) (sym head) ends.marker) in
           record {
+            whole = subst (IsWhole new.limits new.rules t edges m) (sym on) w;
+            small = small;
+            narrow = narrow;
             least = omega (arith, rises, ends.least, marker.0);
             most = omega (arith, rises, ends.most, marker.1);
             rose = omega (arith, rises, ends.least);
           }
 
-      by : (late : ℕ) → Whole late (pulse_at rise width ∷ pulses_on port calls) → ComesWhole t edges new m calls ⊎ IsLastOfOne rise width
+      by : port < 5 → (late : ℕ) → Whole late (pulse_at rise width ∷ pulses_on port calls) → ComesWhole t edges new m calls ⊎ IsLastOfOne port rise width calls
       unfolding HasOne
-      by zero w = inr (is_last w)
-      by (suc late) w = inl (so_all (λ is small. (late, w)))
+      by small zero w = inr (is_last small w)
+      by small (suc late) w = inl (so_all (λ is small. (late, w)))
 
-    pub one_less : ComesWhole t edges new m calls ⊎ IsLastOfOne rise width
+    pub one_less : ComesWhole t edges new m calls ⊎ IsLastOfOne port rise width calls
     unfolding HasOne
     one_less = elim (cases_Bool (is_pulse width)) [
       | inr wide ↦ inl (so_all (λ is small. (let w = come.frames port small is in (w.0, subst (Whole w.0) (no_pulse port port rise width calls wide) w.1))))
@@ -162,7 +168,7 @@ module _ (t : TimelineValue) (d : ℕ) (edges : ℕ → ℕ) (quartz : IsQuartz 
         | inr not ↦ inl (so_all (λ is small. absurd cc))
         | inl is ↦ elim (cases_lt port 5) [
           | inr far ↦ inl (so_all (λ is small. absurd (omega (arith, far, small))))
-          | inl small ↦ (let w = come.frames port small is in by narrow w.0 (subst (Whole w.0) (on narrow) w.1))
+          | inl small ↦ (let w = come.frames port small is in by narrow small w.0 (subst (Whole w.0) (on narrow) w.1))
         ]
       ]
     ]

@@ -1,7 +1,7 @@
 -- A device that ticks when `wait` says announces.
 use Rattle.std.specs.Prelude.{◌==◌, nat_lt, nat_le, count_by}
 use Rattle.std.proofs.Common.{◌≡◌, ◌∙◌, ◌⊎◌, ℕ, ◌+◌, ◌-◌, ◌%◌, ◌^◌, ◌<◌, ◌≤◌, Bool, true, false, cond, List, [], ◌∷◌, ◌++◌, Option, Some, None, refl, sym, ap, subst, arith, inl, inr}
-use Rattle.std.proofs.lemmas.Bool.{cases_Bool, cases_lt, ltb-true, leb-true, leb-false}
+use Rattle.std.proofs.lemmas.Bool.{cases_Bool, cases_lt, eq-eqb, ltb-true, leb-true, leb-false}
 use Rattle.std.proofs.lemmas.List.{append_assoc}
 use Rattle.irig_sync.specs.Sync.{clock_gap}
 use Rattle.irig_sync.specs.Lines.{Pulse, IsAfter}
@@ -15,7 +15,7 @@ use Rattle.irig_timekeeper.specs.declared.clock.ClockRules.{ClockRules}
 use Rattle.irig_timekeeper.specs.Edges.{IsQuartz}
 use Rattle.irig_timekeeper.specs.Lines.{IsTrueLately}
 use Rattle.irig_timekeeper.specs.Steps.{is_pulse, line_at, settled, claim_kept, all_kept, agrees, agreed, wait_by}
-use Rattle.irig_timekeeper.specs.Keeping.{Keeping, vote_at, wait_at}
+use Rattle.irig_timekeeper.specs.Keeping.{Keeping, place_told, vote_at, wait_at}
 use Rattle.irig_timekeeper.specs.Life.{Made, device_of, Call, after_calls, pulses_on, last_tick, HaveRisen, AreInOrder, AreTrueOver}
 use Rattle.irig_timekeeper.specs.Life.Call.{Hear, Tick}
 use Rattle.irig_timekeeper.specs.Announcing.{Announces, ComesWhole}
@@ -26,7 +26,7 @@ use Rattle.irig_timekeeper.proofs.VoteLaws.{still, frame_settled, one_more, spli
 use Rattle.irig_timekeeper.proofs.LifeLaws.{begins, AreLinesAt, IsEndAt, TellAlwaysTruly, lines_after, own_pulses, others_pulses, no_pulse, unheard, order_before}
 use Rattle.irig_timekeeper.proofs.WholeLaws.{whole_of, nothing_whole}
 use Rattle.irig_timekeeper.proofs.OrderLaws.{shared, silent_line, kept_of_nothing, ranged}
-use Rattle.irig_timekeeper.proofs.FrameLaws.{HaveNoVotes, Keeps, ended, not_before, whole_kept}
+use Rattle.irig_timekeeper.proofs.FrameLaws.{place_is, ends_whole, HaveNoVotes, Keeps, ended, not_before, whole_kept}
 use Rattle.irig_timekeeper.proofs.EnoughLaws.{least_of, kept, some_agree}
 use Rattle.irig_timekeeper.proofs.LoopLaws.{loop_announces, Splits, truth_splits, turn_splits, last_on, first_tick, one_less, told_before, IsStep, AreServing}
 
@@ -184,7 +184,8 @@ module _ (IsTrue : ℕ → List Pulse → Type 0) (t : TimelineValue) (d : ℕ) 
       soon : (x : List Call) → IsSoonEnough late new now (x ++ z) before → IsSoonEnough late new now x (z ++ before)
       soon [] s = tt
       soon (Tick time ∷ x) s = subst (λ (c : List Call). now ≤ named new c (Tick time) + late) (append_assoc x z before) s
-      soon (Hear port rise width ∷ x) s = (subst (λ (c : List Call). now ≤ named new c (Hear port rise width) + late) (append_assoc x z before) s.0, soon x s.1)
+      soon (Hear port rise width ∷ x) s =
+          (subst (λ (c : List Call). place_told (after_calls new c) port (rise % 2 ^ 32) width ≡ 100 → now ≤ named new c (Hear port rise width) + late) (append_assoc x z before) s.0, soon x s.1)
 
   pub waits_split : Splits Waits
   waits_split x z before waits =
@@ -262,7 +263,9 @@ module _ (IsTrue : ℕ → List Pulse → Type 0) (t : TimelineValue) (d : ℕ) 
         | inr last ↦
             let all = by_latest start (rise + width + 1000) (Hear port rise width ∷ (y ++ done)) (latest_by start (rise + width + 1000) (Hear port rise width) (y ++ done) turn.0 (omega arith)) in
             let here : AreInOrder start new.clock.redundancy (Tick (rise + width + 1000) ∷ (Hear port rise width ∷ (y ++ done))) = (all.1, omega (arith, order.1, last.most, behind), all.0, order.3) in
-            by_named (Hear port rise width ∷ y) (rise + width) (rise + width + 1000) here none (omega (arith, last.most)) (omega arith) (inr last.least) come soon.0
+            let ends = ends_whole new.limits new.rules t d edges m (pulses_on port (Hear port rise width ∷ (y ++ done))) quartz last.whole in
+            let place = place_is t d edges quartz new start begun port last.small m done told risen past port rise width (y ++ done) (rise + width + 1000) here last.narrow (eq-eqb port port refl) last.whole ends in
+            by_named (Hear port rise width ∷ y) (rise + width) (rise + width + 1000) here none (omega (arith, last.most)) (omega arith) (inr last.least) come (soon.0 place)
       ]
 
   pub waits_serve : (m : ℕ) → 1 ≤ m → (rest done : List Call) → AreServing IsTrue t edges new start Waits m rest done → ComesWhole t edges new m (rest ++ done) → edges m + 2000 ≤ last_tick start (rest ++ done) → IsStep IsTrue t edges new start m rest done

@@ -1,11 +1,11 @@
 -- Loops that call a device: one that ticks at least so often, and one that ticks when `wait` says.
 -- Source: this project's profile; c/irig.h.
-use Rattle.std.specs.Prelude.{ℕ, ◌+◌, ◌%◌, ◌^◌, ◌<◌, ◌≤◌, nat_le, if◌then◌else◌, List, [], ◌∷◌, ◌++◌, ⊤}
+use Rattle.std.specs.Prelude.{◌≡◌, ℕ, ◌+◌, ◌%◌, ◌^◌, ◌<◌, ◌≤◌, nat_le, if◌then◌else◌, List, [], ◌∷◌, ◌++◌, ⊤}
 use Rattle.irig_sync.specs.Lines.{Pulse}
 use Rattle.irig_time.specs.declared.rules.Rules.{Rules}
 use Rattle.irig_time.specs.Timelines.{TimelineValue}
 use Rattle.irig_vote.specs.Vote.{f_of}
-use Rattle.irig_timekeeper.specs.Keeping.{Keeping, wait_at}
+use Rattle.irig_timekeeper.specs.Keeping.{Keeping, place_told, wait_at}
 use Rattle.irig_timekeeper.specs.Truth.{IsDevice}
 use Rattle.irig_timekeeper.specs.Life.{Call, Made, device_of, after_calls, last_tick, HaveRisen, AreInOrder, AreTrueOver}
 use Rattle.irig_timekeeper.specs.Life.Call.{Hear, Tick}
@@ -66,18 +66,21 @@ AreMadeInTurn start [] before = ⊤
 AreMadeInTurn start (call ∷ calls) before =
     (latest start (calls ++ before) ≤ made_at call + 1000) × AreMadeInTurn start calls before
 
--- the time that a device names when it is asked behind its last call: until then it has nothing to do
+-- the time that a device names when it is asked behind its last call: until then it has nothing to
+-- do
 abbrev pub named : Keeping → List Call → Call → ℕ
 named new calls call =
     made_at call + wait_at (after_calls new (call ∷ calls)) (made_at call % 2 ^ 32)
 
--- a tick of this time comes so long at most behind each time that was named since the tick before
+-- a tick of this time comes so long at most behind each time that was named since the tick before: by
+-- that tick, or behind a frame's last pulse
 abbrev pub IsSoonEnough : ℕ → Keeping → ℕ → List Call → List Call → Type 0
 IsSoonEnough late new now [] before = ⊤
 IsSoonEnough late new now (Tick time ∷ calls) before =
     now ≤ named new (calls ++ before) (Tick time) + late
 IsSoonEnough late new now (Hear port rise width ∷ calls) before =
-    (now ≤ named new (calls ++ before) (Hear port rise width) + late)
+    (place_told (after_calls new (calls ++ before)) port (rise % 2 ^ 32) width ≡ 100
+    → now ≤ named new (calls ++ before) (Hear port rise width) + late)
     × IsSoonEnough late new now calls before
 
 -- so each tick of these calls, which came behind those
