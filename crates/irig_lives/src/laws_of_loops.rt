@@ -25,7 +25,8 @@ pub fn a_polling_device_announces()
 
 /// A device that ticks when `wait` says, or up to 96 ms later, announces so too: each tick comes so
 /// soon behind each time that it named since the tick before, when it was asked behind each tick
-/// and behind each frame's last pulse. Its calls are made one after another, each pulse told when it has ended, but for 1 ms.
+/// and behind each frame's last pulse. Its calls are made one after another, each pulse told when
+/// it has ended, but for 1 ms.
 pub fn a_waiting_device_announces()
     ensures { (t : TimelineValue) (edges : ℕ → ℕ) (made : Made) (start m late : ℕ)
         (calls before : List Call) (u : UtcSecond)
