@@ -11,6 +11,7 @@ pub mod TakenLaws
 pub mod RestLaws
 pub mod RunLaws
 pub mod StartLaws
+pub mod ExplainedLaws
 pub mod LogLaws
 pub mod TrueLines
 pub mod PlantLines

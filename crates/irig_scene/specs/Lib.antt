@@ -10,6 +10,7 @@ pub mod VouchedByPorts
 pub mod WholeRun
 pub mod Texts
 pub mod Starts
+pub mod Explained
 pub mod Listening
 pub mod ListenerRuns
 pub mod LogTexts

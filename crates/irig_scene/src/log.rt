@@ -3,6 +3,7 @@
 ghost use Rattle.std.specs.Prelude.{◌≡◌, ◌++◌, OnOk, false, string_bytes};
 ghost use Rattle.irig_device.specs.Watched.{has_failed};
 ghost use Rattle.report_log.specs.Text.{entries_alone};
+ghost use Rattle.irig_scene.specs.Explained.{IsExplained};
 ghost use Rattle.irig_scene.specs.WholeRun.{RunsTruly};
 
 use crate::fault::SceneFault;
@@ -133,8 +134,9 @@ pub fn run_scene_shown<R: BufRead, W: Write>(
 ) -> Result<Outcome, SceneFault>
     requires input_whole { has_failed input.old ≡ false }
     requires output_whole { has_failed output.old ≡ false }
-    ensures { RunsTruly R.remaining W.contents shown result
+    ensures runs { RunsTruly R.remaining W.contents shown result
         input.old input.new output.old output.new }
+    ensures refused { IsExplained result refused.old refused.new }
 {
     run_to::<Log, FlowPort, R, W>(alloc, shown, input, output, refused)
 }

@@ -3,6 +3,7 @@
 ghost use Rattle.std.specs.Prelude.{◌≡◌, ◌↔◌, ◌<◌, ◌≤◌, ◌∷◌, [], false, true, Some, IfOk, IfErr, OnOk, length, string_bytes, ◌||◌, vec_len};
 ghost use Rattle.irig_device.specs.Watched.{device_of, has_failed};
 ghost use Rattle.irig_scene.specs.declared.stop.Failure.TheVariants.{Memory};
+ghost use Rattle.irig_scene.specs.Explained.{refusal_in};
 ghost use Rattle.irig_scene.specs.Faults.{WroteText, failed_write, stopped_write};
 ghost use Rattle.irig_scene.specs.Scene.{Scene};
 ghost use Rattle.irig_scene.specs.Texts.{last_of};
@@ -222,7 +223,8 @@ impl<L: Listener, P: Port> Player<L, P> {
         refusal: Option<Refusal>,
         line: Vec<u8>,
     ) -> (L, Option<RefusedLine>)
-        ensures { result.0 ≡ self.stage.listener }
+        ensures listener { result.0 ≡ self.stage.listener }
+        ensures refused { refusal_in result.1 ≡ refusal }
     {
         let Player { stage, .. } = self;
         let Stage {

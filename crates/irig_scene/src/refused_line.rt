@@ -1,5 +1,7 @@
 //! What explains a refused line.
 
+ghost use Rattle.std.specs.Prelude.{◌≡◌};
+
 use indexmap::IndexSet;
 use irig_gen::Generator;
 use std::alloc::{AllocError, Global};
@@ -21,7 +23,9 @@ pub struct RefusedLine {
 
 impl RefusedLine {
     /// A line before there is a plant.
-    pub(crate) fn before_plant(alloc: Global, refusal: Refusal, line: Vec<u8>) -> RefusedLine {
+    pub(crate) fn before_plant(alloc: Global, refusal: Refusal, line: Vec<u8>) -> RefusedLine
+        ensures { result.refusal ≡ refusal }
+    {
         RefusedLine {
             refusal,
             line,
@@ -37,7 +41,9 @@ impl RefusedLine {
         line: Vec<u8>,
         names: IndexSet<String>,
         generators: &[Generator],
-    ) -> RefusedLine {
+    ) -> RefusedLine
+        ensures { result.refusal ≡ refusal }
+    {
         let edges = match edges_of(alloc, generators) {
             Ok(edges) => edges,
             Err(_) => Vec::new(alloc),

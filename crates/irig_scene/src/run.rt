@@ -4,6 +4,7 @@ ghost use Rattle.std.specs.Prelude.{◌≡◌, ◌↔◌, ◌++◌, [], Err, IfE
 ghost use Rattle.irig_device.specs.Watched.{has_failed};
 ghost use Rattle.irig_scene.specs.declared.stop.Failure.TheVariants.{Memory};
 ghost use Rattle.irig_scene.specs.Scene.{Scene};
+ghost use Rattle.irig_scene.specs.Explained.{IsExplained, refusal_in, refusal_said};
 ghost use Rattle.irig_scene.specs.Starts.{noted_at};
 ghost use Rattle.irig_scene.specs.WholeRun.{left, written};
 ghost use Rattle.irig_scene.specs.ListenerRuns.{IsAt, IsPlayerAt, RanFor, RanTo};
@@ -58,6 +59,7 @@ pub fn run_to<L: Listener, P: Port, R: BufRead, W: Write>(
         (written W.contents output.old) (written W.contents output.new) }
     ensures read { (result ≡ Err SceneFault.Read) ↔ (has_failed input.new ≡ true) }
     ensures write { (result ≡ Err SceneFault.Write) ↔ (has_failed output.new ≡ true) }
+    ensures refused { IsExplained result refused.old refused.new }
 {
     let Run {
         answer,
@@ -85,6 +87,7 @@ pub fn run_listening<L: Listener, P: Port, R: BufRead, W: Write>(
         (written W.contents output.old) (written W.contents output.new) }
     ensures read { (result.answer ≡ Err SceneFault.Read) ↔ (has_failed input.new ≡ true) }
     ensures write { (result.answer ≡ Err SceneFault.Write) ↔ (has_failed output.new ≡ true) }
+    ensures refused { IsExplained result.answer None result.refused }
 {
     let mut line = Vec::new(alloc);
     let mut starts = Vec::new(alloc);
@@ -107,7 +110,9 @@ pub fn run_listening<L: Listener, P: Port, R: BufRead, W: Write>(
     }
 }
 
-fn refusal_of(answer: &Result<Outcome, SceneFault>) -> Option<Refusal> {
+fn refusal_of(answer: &Result<Outcome, SceneFault>) -> Option<Refusal>
+    ensures { result ≡ refusal_said answer.now }
+{
     match answer {
         Err(SceneFault::Refused { number, .. }) => Refusal::of_number(*number),
         _ => None,
@@ -121,9 +126,10 @@ fn end_player<L: Listener, P: Port>(
     line: Vec<u8>,
     player: Option<Player<L, P>>,
 ) -> (Option<L>, Option<RefusedLine>)
-    ensures { (asked : L.Asked) (at : Option Scene)
+    ensures listener { (asked : L.Asked) (at : Option Scene)
         → IsAt (IsPlayerAt (L.stands_for asked)) player at
         → IsAt (L.stands_for asked) result.0 at }
+    ensures refused { refusal_in result.1 ≡ refusal }
 {
     match player {
         Some(player) => {

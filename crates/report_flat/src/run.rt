@@ -2,6 +2,7 @@
 
 ghost use Rattle.std.specs.Prelude.{◌≡◌, ◌↔◌, Err, IfSome, false, true};
 ghost use Rattle.irig_device.specs.Watched.{has_failed};
+ghost use Rattle.irig_scene.specs.Explained.{IsExplained};
 ghost use Rattle.irig_scene.specs.LogLines.{OfWritten};
 ghost use Rattle.irig_scene.specs.WholeRun.{left, written};
 ghost use Rattle.report_flat.specs.Flattening.{HasTheLog, RanFlat};
@@ -36,6 +37,7 @@ pub fn flatten<R: BufRead, W: Write>(
         (written W.contents output.old) (written W.contents output.new) }
     ensures read { (result ≡ Err SceneFault.Read) ↔ (has_failed input.new ≡ true) }
     ensures write { (result ≡ Err SceneFault.Write) ↔ (has_failed output.new ≡ true) }
+    ensures refused { IsExplained result refused.old refused.new }
 {
     run_to::<Recorder, FlowPort, R, W>(alloc, (), input, output, refused)
 }
