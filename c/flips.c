@@ -44,6 +44,7 @@ enum { STORIES = sizeof stories / sizeof *stories };
 
 static const irig_setup setup = {.lock_after = 2, .holdover = 9};
 static const irig_table none;
+static const irig_wires wires = {.within_us = 450, .drift_us = 10};
 static uint32_t widths_us[SECONDS][ELEMENTS];
 static long tried, refused;
 
@@ -104,10 +105,10 @@ static bool is_padding_of_timekeeper(size_t byte) {
     size_t of_second = (byte - last_at) % sizeof(irig_announced);
     if (byte < state_at) return (byte >= 5 && byte < 8) || byte == 15;
     if (byte < lines_at) return byte == state_at + 3 || byte >= state_at + sizeof(irig_state);
-    if (byte < offsetof(irig_timekeeper, drift_us))
+    if (byte < offsetof(irig_timekeeper, wires))
         return of_line == 6 || of_line == 7 || of_line == 14 || of_line == 15 || of_line == 38 ||
                of_line == 39 || of_line > 60;
-    if (byte < last_at) return byte > offsetof(irig_timekeeper, has_edge);
+    if (byte < last_at) return byte == offsetof(irig_timekeeper, has_edge) + 1;
     return byte < offsetof(irig_timekeeper, check) && of_second > 16;
 }
 
@@ -185,7 +186,7 @@ static unsigned long begin(int count, char **words, device fresh[KINDS]) {
         irig_widths_us(symbols, widths_us[second]);
     }
     wrong |= irig_reader_init(&fresh[0].reader, &setup, &none);
-    wrong |= irig_timekeeper_init(&fresh[1].timekeeper, &setup, &none, 10);
+    wrong |= irig_timekeeper_init(&fresh[1].timekeeper, &setup, &none, &wires);
     if (wrong) exit(2);
     return every;
 }

@@ -31,7 +31,7 @@ uint32_t irig_c_reader_tick(irig_reader *reader, irig_report *report);
 void irig_c_reader_restart(irig_reader *reader);
 uint32_t irig_c_reader_port(const irig_reader *reader, uint8_t port, irig_told *told);
 uint32_t irig_c_timekeeper_init(irig_timekeeper *timekeeper, const irig_setup *setup,
-                                const irig_table *table, uint32_t drift_us);
+                                const irig_table *table, const irig_wires *wires);
 uint8_t irig_c_timekeeper_hear(irig_timekeeper *timekeeper, uint8_t line, uint32_t rise_us,
                                uint32_t width_us);
 uint32_t irig_c_timekeeper_tick(irig_timekeeper *timekeeper, uint32_t now_us, irig_second *second);
@@ -174,9 +174,10 @@ uint32_t irig_reader_port(const irig_reader *reader, uint8_t port, irig_told *to
 /* ---- timekeepers */
 
 uint32_t irig_timekeeper_init(irig_timekeeper *timekeeper, const irig_setup *setup,
-                              const irig_table *table, uint32_t drift_us) {
-    bool is_there = (timekeeper != NULL) && (setup != NULL) && (table != NULL);
-    return is_there ? irig_c_timekeeper_init(timekeeper, setup, table, drift_us) : REFUSED;
+                              const irig_table *table, const irig_wires *wires) {
+    bool is_there =
+        (timekeeper != NULL) && (setup != NULL) && (table != NULL) && (wires != NULL);
+    return is_there ? irig_c_timekeeper_init(timekeeper, setup, table, wires) : REFUSED;
 }
 
 uint8_t irig_timekeeper_hear(irig_timekeeper *timekeeper, uint8_t line, uint32_t rise_us,

@@ -61,9 +61,9 @@ IRIG_ASSERT(sizeof(irig_count) == 8u);
 
 /* The number of the layout: of the structures, and of what calls take and answer. The linker finds it
  * in the name of each call but irig_version, so that no program is linked with a library of another
- * layout. `undefined reference to irig_reader_init_layout_3` says that this header and the library
+ * layout. `undefined reference to irig_reader_init_layout_4` says that this header and the library
  * are of different ones: take both of one version, and compile all that includes the header. */
-#define IRIG_LAYOUT 3
+#define IRIG_LAYOUT 4
 #define IRIG_JOINED(name, number) name##_layout_##number
 #define IRIG_NAME(name, number) IRIG_JOINED(name, number)
 
@@ -322,6 +322,16 @@ IRIG_ASSERT((sizeof(irig_told) == 20u) && (offsetof(irig_told, fault) == 4u) &&
  * 100 ms, nothing is ever voted. After sleep, or if the counter stood still or was set:
  * irig_timekeeper_restart. */
 
+/* How exact a timekeeper's lines are, and its counter: so exact is what it tells
+ * (irig_timekeeper_tick). A line whose pulses are further off than this counts as untrue. */
+typedef struct irig_wires {
+    uint16_t within_us; /* each pulse of a true line rises less than so many us from its place, by
+                         * the counter, the k-th of a frame k hundredths of the second from edge to
+                         * edge behind its beginning: 1 to 450 */
+    uint16_t drift_us;  /* the most by which the counter is wrong in a second: 0 to 100 */
+} irig_wires;
+IRIG_ASSERT((sizeof(irig_wires) == 4u) && (offsetof(irig_wires, drift_us) == 2u));
+
 /* A line of a timekeeper. */
 typedef struct irig_line {
     irig_sync sync;    /* where it stands in its frame */
@@ -351,18 +361,20 @@ typedef struct irig_timekeeper {
     irig_table table;
     irig_state state;
     irig_line lines[5];    /* those that it does not have hear nothing */
-    uint32_t drift_us;     /* the most by which its counter is wrong in a second */
+    irig_wires wires;      /* how exact they are, and its counter */
     uint32_t edge_us;      /* where the last second begins that was counted */
     uint32_t moved;        /* how often lines moved that edge since */
     uint8_t has_edge;      /* 0 if none was counted */
+    uint16_t bound_us;     /* how far from its true edge that of the last vote may lie, 899 at most */
     irig_announced last;   /* that second, if it was announced */
     irig_announced before; /* the one counted before it, if it was */
     uint64_t check;
 } irig_timekeeper;
 IRIG_ASSERT((sizeof(irig_timekeeper) == 936u) && (offsetof(irig_timekeeper, state) == 536u) &&
             (offsetof(irig_timekeeper, lines) == 552u) &&
-            (offsetof(irig_timekeeper, drift_us) == 872u) &&
+            (offsetof(irig_timekeeper, wires) == 872u) &&
             (offsetof(irig_timekeeper, has_edge) == 884u) &&
+            (offsetof(irig_timekeeper, bound_us) == 886u) &&
             (offsetof(irig_timekeeper, last) == 888u) &&
             (offsetof(irig_timekeeper, before) == 908u) &&
             (offsetof(irig_timekeeper, check) == 928u));
@@ -370,14 +382,15 @@ IRIG_ASSERT((sizeof(irig_timekeeper) == 936u) && (offsetof(irig_timekeeper, stat
 /* What a tick of a timekeeper says. */
 typedef struct irig_second {
     uint8_t is_told;    /* 1 if a second was counted; 0 if there is nothing to tell, then all zeros */
-    uint32_t edge_us;   /* where it begins, never ahead of the tick; the timekeeper's last.bound_us
-                           says how far off, if it is announced */
+    uint32_t edge_us;   /* where it begins, never ahead of the tick */
+    uint32_t bound_us;  /* how far from its true edge that may lie, if it is announced: what
+                         * irig_timekeeper_tick says, 490,899 at most */
     uint32_t missed;    /* seconds that passed untold before it, as no tick came */
     uint32_t moved;     /* how often lines moved the edge since the second that was told before */
     irig_report report; /* masks, quality and zone by the last whole frame of each line */
 } irig_second;
-IRIG_ASSERT((sizeof(irig_second) == 40u) && (offsetof(irig_second, edge_us) == 4u) &&
-            (offsetof(irig_second, report) == 16u));
+IRIG_ASSERT((sizeof(irig_second) == 44u) && (offsetof(irig_second, edge_us) == 4u) &&
+            (offsetof(irig_second, bound_us) == 8u) && (offsetof(irig_second, report) == 20u));
 
 /* The time of an event: a second, and how long behind its beginning. By the error of that edge the
  * offset may reach 1,000,000 and `bound_us` more, when the next second had begun: it is no fraction
@@ -386,8 +399,8 @@ typedef struct irig_stamp {
     uint32_t day;
     uint32_t sod;
     uint32_t offset_us; /* from where the second begins to the event, by the counter */
-    uint32_t bound_us;  /* how far from the true instant the two may lie, by the counter, at most
-                         * 491,549 */
+    uint32_t bound_us;  /* how far from the true instant the two may lie, by the counter: that of the
+                         * second's edge, 490,899 at most */
 } irig_stamp;
 IRIG_ASSERT((sizeof(irig_stamp) == 16u) && (offsetof(irig_stamp, bound_us) == 12u));
 
@@ -566,13 +579,13 @@ void irig_reader_restart(irig_reader *reader);
  * is none. It does not test the check word. */
 uint32_t irig_reader_port(const irig_reader *reader, uint8_t port, irig_told *told);
 
-/* Makes a timekeeper to which nothing has happened, by a counter that is at most `drift_us`
- * microseconds wrong in a second, 0 to 100. Setup and table must not be those in it.
- * IRIG_FAULT_VALUE, IRIG_FAULT_TABLE_END to IRIG_FAULT_TABLE_TWICE; IRIG_FAULT_DRIFT if (holdover +
- * 2) * drift_us is above 490,000, as the counter could be half a second wrong by then. At 100 us a
- * holdover may be 4,898 seconds, at 10 us 48,998, at 1 us 489,998. */
+/* Makes a timekeeper to which nothing has happened, with such wires. Setup, table and wires must not
+ * be those in it. IRIG_FAULT_VALUE, also if a number of the wires is out of its range;
+ * IRIG_FAULT_TABLE_END to IRIG_FAULT_TABLE_TWICE; IRIG_FAULT_DRIFT if (holdover + 2) * drift_us is
+ * above 490,000, as the counter could be half a second wrong by then. At 100 us a holdover may be
+ * 4,898 seconds, at 10 us 48,998, at 1 us 489,998. */
 uint32_t irig_timekeeper_init(irig_timekeeper *timekeeper, const irig_setup *setup,
-                              const irig_table *table, uint32_t drift_us);
+                              const irig_table *table, const irig_wires *wires);
 
 /* A pulse on a line, 0 to 2 of three, 0 to 4 of five, 0 of one, once it has ended, each line's in
  * order, and before any tick of half a second or more after it rose: its place, as irig_sync_pulse
@@ -582,36 +595,45 @@ uint8_t irig_timekeeper_hear(irig_timekeeper *timekeeper, uint8_t line, uint32_t
                              uint32_t width_us);
 
 /* Says which second begins, if one has begun since the last call, by frames of which enough claim one
- * second and end within a millisecond, or else by the counter alone, 5 ms later. `now_us` is the time
- * up to which pulses were told (above): it is not before the last tick's, nor before the rise of a
- * pulse that was told. IRIG_FAULT_VALUE as irig_reader_tick answers it; then the second is silent,
- * and irig_timekeeper_init begins afresh.
+ * second and end within 2 * (within_us - 1) us, 898 at most; or else by the counter alone, 5 ms later.
+ * `now_us` is the time up to which pulses were told (above): it is not before the last tick's, nor
+ * before the rise of a pulse that was told. IRIG_FAULT_VALUE as irig_reader_tick answers it; then the
+ * second is silent, and irig_timekeeper_init begins afresh.
+ *
+ * The edge that a vote tells lies in the middle between two ends of frames of that claim: that by
+ * which enough end, and that from which on enough do (docs/WIRES.md). A call takes the vote from that
+ * edge on, for 100 ms. `bound_us` is within_us - 1, 1 more if drift_us is not 0, and half of the
+ * distance of these two ends, rounded up. With a drift it is within_us if all lines claim it, none
+ * of them more than a millisecond before the others, since then the middle one of their ends is both;
+ * else 2 * within_us - 1 at most. So at a within_us of 450 it is 450 to 899, at 10 it is 10 to 19.
  *
  * If it answers 0, a second that is announced with the cause IRIG_CAUSE_VOTED is the true one, and
- * its true edge comes at most 1,549 us after `edge_us` or 549 before it, provided that the counter is
- * at most 100 us a second wrong, no two of three lines (three of five; not the one line) were untrue
- * in the last 1.2 s, and each line that keeps a frame has heard it. That holds whenever the call comes,
+ * its true edge lies no more than `bound_us` from `edge_us`, provided that the counter is at most
+ * `drift_us` a second wrong, no two of three lines (three of five; not the one line) were untrue in
+ * the last 1.2 s, and each line that keeps a frame has heard it. That holds whenever the call comes,
  * whatever came before, and whatever other numbers lie in the timekeeper.
  *
  * In one that irig_timekeeper_init made, a second with the cause IRIG_CAUSE_HELD is true too, if at
  * each tick since then, or since the last irig_timekeeper_restart, no two of three lines (three of
  * five; not the one line) were untrue in the last 1.2 s, the counter is as steady as `drift_us`
  * says, calls were in order, and the table is right, which up to a `holdover` of 57 it need not be.
- * Its edge lies off by `drift_us` more for each of `lock_count` seconds. Then each second that is
- * announced is later than the one before, and no cause is IRIG_CAUSE_JUMP. If lines were untrue
- * before, all this holds again once a tick has told a second with `agreed` above 0, provided that no
- * two of three lines were untrue at that tick and at each later one. That tick itself may have the
- * cause IRIG_CAUSE_JUMP, or tell a second that is not later than a false one before. What this
- * paragraph says holds, with edges from 3,549 us before to 1,549 us after the true ones, also if a
- * line counts as true that had one fault of any kind in each hundred pulses (docs/WIRES.md). Whatever
- * lines carry, edges that are told lie at least half a second apart if calls were in order.
- * docs/WIRES.md also says when it announces. */
+ * Its `bound_us` is that of the last vote, and `drift_us` more for each of `lock_count` seconds: no
+ * further from `edge_us` lies its true edge. Then each second that is announced is later than the one
+ * before, and no cause is IRIG_CAUSE_JUMP. If lines were untrue before, all this holds again once a
+ * tick has told a second with `agreed` above 0, provided that no two of three lines were untrue at that
+ * tick and at each later one. That tick itself may have the cause IRIG_CAUSE_JUMP, or tell a second
+ * that is not later than a false one before. What this paragraph says holds, with edges from `bound_us`
+ * and 2,002 us before to `bound_us` and 1,000 us after the true ones, also if a line counts as true
+ * that had one fault of any kind in each hundred pulses (docs/WIRES.md). Whatever lines carry, edges
+ * that are told lie at least half a second apart if calls were in order. docs/WIRES.md also says when
+ * it announces. */
 uint32_t irig_timekeeper_tick(irig_timekeeper *timekeeper, uint32_t now_us, irig_second *second);
 
 /* How long until a tick has something to do, in microseconds, if no call comes before it: 0 if it has
- * now. In a timekeeper that irig_timekeeper_init made it is at most 1,005,000 at a time at which a
- * tick may come, and above 0 if no frames agree and no second is due. 0 where a tick would be refused:
- * a loop that goes by it then has to begin afresh. */
+ * now. If lines agree, it is until the edge that a vote would tell. In a timekeeper that
+ * irig_timekeeper_init made it is at most 1,005,000 at a time at which a tick may come, and above 0 if
+ * no frames agree and no second is due. 0 where a tick would be refused: a loop that goes by it then
+ * has to begin afresh. */
 uint32_t irig_timekeeper_wait(const irig_timekeeper *timekeeper, uint32_t now_us);
 
 /* The time of an event, by the second that was told last if it lies after that one's edge, as it was
@@ -625,7 +647,7 @@ uint32_t irig_timekeeper_wait(const irig_timekeeper *timekeeper, uint32_t now_us
  * before the event, to within `bound_us`, if a tick may come now and the event lies at most half an
  * hour back. If only ticks since a vote were true, the event has to come at that vote's edge or
  * later, unless that tick announced nothing. If lines with faults count as true, it is to within
- * `bound_us` and 2,000 us. Stamps of one instant by two devices, each to within its `bound_us`, differ
+ * `bound_us` and 2,002 us. Stamps of one instant by two devices, each to within its `bound_us`, differ
  * by no more than the sum of both and the drift of two seconds of each device. */
 uint32_t irig_timekeeper_stamp(const irig_timekeeper *timekeeper, uint32_t time_us,
                                irig_stamp *stamp);

@@ -5,7 +5,7 @@
 
 static irig_setup setup;
 static irig_table table;
-static uint32_t drift_us;
+static irig_wires wires;
 static irig_timekeeper timekeeper;
 static uint32_t rise_us[LINES]; /* the leading edge of the pulse that a line has now */
 
@@ -14,11 +14,11 @@ static void ask(uint32_t now_us) {
     compare_at(now_us + irig_timekeeper_wait(&timekeeper, now_us));
 }
 
-uint32_t capture_init(const irig_setup *wanted, const irig_table *known, uint32_t most_drift_us) {
+uint32_t capture_init(const irig_setup *wanted, const irig_table *known, const irig_wires *given) {
     setup = *wanted;
     table = *known;
-    drift_us = most_drift_us;
-    uint32_t answer = irig_timekeeper_init(&timekeeper, &setup, &table, drift_us);
+    wires = *given;
+    uint32_t answer = irig_timekeeper_init(&timekeeper, &setup, &table, &wires);
     if (answer == IRIG_DONE) ask(timer_now());
     return answer;
 }
@@ -38,7 +38,7 @@ void on_compare(void) {
     uint32_t now_us = timer_now();
     /* If something else has changed its numbers, it announces nothing, and begins afresh. */
     if (irig_timekeeper_tick(&timekeeper, now_us, &second) != IRIG_DONE)
-        irig_timekeeper_init(&timekeeper, &setup, &table, drift_us);
+        irig_timekeeper_init(&timekeeper, &setup, &table, &wires);
     else if (second.is_told) on_second(&second);
     ask(now_us);
 }

@@ -28,7 +28,7 @@ void on_second(const irig_second *second);
 void compare_at(uint32_t time_us);
 
 /* Begins. IRIG_FAULT_VALUE, IRIG_FAULT_TABLE_END to IRIG_FAULT_TABLE_TWICE, IRIG_FAULT_DRIFT. */
-uint32_t capture_init(const irig_setup *setup, const irig_table *table, uint32_t drift_us);
+uint32_t capture_init(const irig_setup *setup, const irig_table *table, const irig_wires *wires);
 
 /* A change of a line, counted from 0, at a time that its channel has caught. A line that is stuck high
  * has no pulse; loose again whole turns of the timer later, it may have one, as by a glitch. */
@@ -58,7 +58,7 @@ bool take_queued(queued *oldest);
 void on_event(const irig_stamp *stamp);
 
 /* Begins, as `capture_init` does. */
-uint32_t poll_init(const irig_setup *setup, const irig_table *table, uint32_t drift_us);
+uint32_t poll_init(const irig_setup *setup, const irig_table *table, const irig_wires *wires);
 
 /* Does what there is to do. If the loop stood still, for half an hour at most, it tells one second
  * after another, as if it had not; after longer, begin anew. */

@@ -77,7 +77,8 @@ int main(int count, char **words) {
     if (count > 3) table.until = (uint32_t)atoi(words[3]);
     for (int word = 4; word < count; word++)
         table.leaps[table.len++].day = (uint32_t)atoi(words[word]);
-    if (capture_init(&setup, &table, 0) != IRIG_DONE) return 2;
+    irig_wires wires = {.within_us = 450};
+    if (capture_init(&setup, &table, &wires) != IRIG_DONE) return 2;
     int letter;
     do letter = getchar();
     while (letter != EOF && letter != '\n'); /* the names above the rows */

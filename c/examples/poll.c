@@ -7,7 +7,7 @@ static const uint32_t LATEST_US = 5000;
 
 static irig_setup setup;
 static irig_table table;
-static uint32_t drift_us;
+static irig_wires wires;
 static irig_timekeeper timekeeper;
 static bool has_begun;
 static uint32_t told_us; /* pulses were told up to this time */
@@ -17,12 +17,12 @@ static uint32_t event_us;
 
 static void ask(void) { due_us = told_us + irig_timekeeper_wait(&timekeeper, told_us); }
 
-uint32_t poll_init(const irig_setup *wanted, const irig_table *known, uint32_t most_drift_us) {
+uint32_t poll_init(const irig_setup *wanted, const irig_table *known, const irig_wires *given) {
     setup = *wanted;
     table = *known;
-    drift_us = most_drift_us;
+    wires = *given;
     has_event = false;
-    uint32_t answer = irig_timekeeper_init(&timekeeper, &setup, &table, drift_us);
+    uint32_t answer = irig_timekeeper_init(&timekeeper, &setup, &table, &wires);
     has_begun = answer == IRIG_DONE;
     told_us = timer_now();
     ask();
@@ -33,7 +33,7 @@ static void tick(void) {
     irig_second second;
     /* If something else has changed its numbers, it announces nothing, and begins afresh. */
     if (irig_timekeeper_tick(&timekeeper, told_us, &second) != IRIG_DONE)
-        irig_timekeeper_init(&timekeeper, &setup, &table, drift_us);
+        irig_timekeeper_init(&timekeeper, &setup, &table, &wires);
     else if (second.is_told) on_second(&second);
     ask();
 }

@@ -37,7 +37,7 @@ void on_compare(void) {
     compare_at(event_us + EVENT_EACH_US);
 }
 
-/* As `event 2016-12-31T23:59:60Z 123456 1549`: its second, the microseconds since that began, and how far
+/* As `event 2016-12-31T23:59:60Z 123456 450`: its second, the microseconds since that began, and how far
  * these may be off. */
 void on_event(const irig_stamp *stamp) {
     char text[21] = "";
@@ -54,10 +54,11 @@ void on_event(const irig_stamp *stamp) {
 /* What a user may set, and the leap seconds that are known beforehand: none. */
 irig_setup setup_wanted = {.lock_after = 3, .holdover = 3600};
 static const irig_table NO_TABLE = {0};
+static const irig_wires WIRES = {WITHIN_US, MOST_DRIFT_US};
 
 int main(void) {
     board_begin();
-    if (poll_init(&setup_wanted, &NO_TABLE, MOST_DRIFT_US) != IRIG_DONE) return 1;
+    if (poll_init(&setup_wanted, &NO_TABLE, &WIRES) != IRIG_DONE) return 1;
     compare_at(timer_now() + EVENT_EACH_US);
     board_listens();
     for (;;) {

@@ -56,8 +56,9 @@ typedef struct gpio {
 #define NVIC_IPR ((volatile uint8_t *)0xE000E400u)
 enum { TIM2_IRQ = 28, INTERRUPTS = 82 }; /* chapter 12, table of vectors of the STM32F405 */
 
-/* By how much the crystal may be wrong in a second. */
-enum { MOST_DRIFT_US = 100 };
+/* Pulses rise less than so many us from their places, and by so much is the crystal wrong in a second at
+ * most. */
+enum { WITHIN_US = 450, MOST_DRIFT_US = 100 };
 
 /* Starts the clock, the timer, the pins and the serial line. No interrupt comes before `board_listens`. */
 void board_begin(void);

@@ -87,6 +87,10 @@ class Told(Structure):
     _fields_ = [*_of(c_uint8, "kind quality"), ("fault", c_uint32), ("claim", Claim)]
 
 
+class Wires(Structure):
+    _fields_ = _of(c_uint16, "within_us drift_us")
+
+
 class Line(Structure):
     _fields_ = [
         ("sync", Sync), *_of(Tally, "port frame"), ("end_us", c_uint32), ("has_frame", c_uint8),
@@ -99,14 +103,16 @@ class Announced(Structure):
 
 class Timekeeper(Structure):
     _fields_ = [
-        ("setup", Setup), ("table", Table), ("state", State), ("lines", Line * 5),
-        *_of(c_uint32, "drift_us edge_us moved"), ("has_edge", c_uint8),
+        ("setup", Setup), ("table", Table), ("state", State), ("lines", Line * 5), ("wires", Wires),
+        *_of(c_uint32, "edge_us moved"), ("has_edge", c_uint8), ("bound_us", c_uint16),
         *_of(Announced, "last before"), ("check", c_uint64),
     ]
 
 
 class Second(Structure):
-    _fields_ = [("is_told", c_uint8), *_of(c_uint32, "edge_us missed moved"), ("report", Report)]
+    _fields_ = [
+        ("is_told", c_uint8), *_of(c_uint32, "edge_us bound_us missed moved"), ("report", Report),
+    ]
 
 
 class Stamp(Structure):
@@ -157,7 +163,7 @@ def _to(structure: Any) -> Any:
 
 # A call of the first library holds Python's lock: it is short, and no other thread comes between. A
 # run of the second may be long: other threads go on meanwhile.
-LAYOUT = 3  # as in c/irig.h: of the structures above, and the calls below
+LAYOUT = 4  # as in c/irig.h: of the structures above, and the calls below
 IRIG, SCENE = f"libirig.so.{LAYOUT}", f"libirig_scene.so.{LAYOUT}"
 KINDS = {IRIG: ctypes.PyDLL, SCENE: ctypes.CDLL}
 
@@ -187,7 +193,7 @@ CALLS: Dict[str, Tuple[Any, ...]] = {
     "reader_tick": (IRIG, c_uint32, _to(Reader), _to(Report)),
     "reader_restart": (IRIG, None, _to(Reader)),
     "reader_port": (IRIG, c_uint32, _to(Reader), c_uint8, _to(Told)),
-    "timekeeper_init": (IRIG, c_uint32, _to(Timekeeper), _to(Setup), _to(Table), c_uint32),
+    "timekeeper_init": (IRIG, c_uint32, _to(Timekeeper), _to(Setup), _to(Table), _to(Wires)),
     "timekeeper_hear": (IRIG, c_uint8, _to(Timekeeper), c_uint8, c_uint32, c_uint32),
     "timekeeper_tick": (IRIG, c_uint32, _to(Timekeeper), c_uint32, _to(Second)),
     "timekeeper_wait": (IRIG, c_uint32, _to(Timekeeper), c_uint32),

@@ -18,12 +18,14 @@ class Beat:
 
     report: what is said of the second, with what the last whole frame of each line told
     edge_us: where it begins, by the counter; never ahead of the tick
+    bound_us: how far from its true edge that may lie, if the second is announced
     missed: the seconds that passed untold before it, as no tick came
     moved: how often lines set the edge right since the second that was told before
     """
 
     report: Report
     edge_us: int
+    bound_us: int
     missed: int
     moved: int
 
@@ -67,19 +69,23 @@ class Timekeeper(Ruled):
     or was set: `restart`.
 
     Whatever came before, a second that it announces with the cause "voted" is the true one, and its
-    true edge lies at most 1,549 us behind `edge_us` or 549 before it, if no two of its three lines
-    (three of five; not the one) were untrue in the last 1.2 s. One with the cause "held" is true if
-    that was so at each tick, the counter is as steady as `drift_us` says, and the leap table is
-    right or `holdover` at most 57; its edge lies off by `drift_us` more for each second since the
-    last vote.
+    true edge lies at most `bound_us` from `edge_us`, if no two of its three lines (three of five;
+    not the one) were untrue in the last 1.2 s. One with the cause "held" is true if that was so at
+    each tick, the counter is as steady as `drift_us` says, and the leap table is right or `holdover`
+    at most 57. The `bound_us` of a vote is `within_us` if all lines claim the second, or enough of
+    them end together, and less than twice that else: by 450 it is 450 to 899 us, by 10 it is 10 to
+    19; 1 less if `drift_us` is 0. For each second since the last vote it is `drift_us` more.
 
+    within_us: how exact lines are that are true: each of their pulses rises less than so many
+        microseconds from its place, by the counter, 1 to 450. Enough lines have to end within
+        2 * (within_us - 1) for a vote
     drift_us: the most by which its counter is wrong, in microseconds a second, 0 to 100; then
         (holdover + 2) * drift_us may be 490,000 at most
 
     What else it takes is what a `Reader` takes, and a port is a line.
     """
 
-    _what, _form, _kind = "timekeeper", "irig timekeeper 2", c.Timekeeper
+    _what, _form, _kind = "timekeeper", "irig timekeeper 3", c.Timekeeper
 
     def __init__(
         self,
@@ -87,6 +93,7 @@ class Timekeeper(Ruled):
         holdover: int = 3600,
         *,
         drift_us: int,
+        within_us: int = 450,
         ports: Literal[1, 3, 5] = 3,
         parity: Parity = "even",
         sense: Sense = "add",
@@ -99,9 +106,9 @@ class Timekeeper(Ruled):
         setup = setup_of(
             lock_after, holdover, ports, parity, sense, sbs, not_before, poor_from
         )
-        drift = within("drift_us", drift_us, 0, 100)
-        self._held = c.Timekeeper()
-        check(c.timekeeper_init(self._held, setup, table_of(until, leaps), drift))
+        exact, drift = within("within_us", within_us, 1, 450), within("drift_us", drift_us, 0, 100)
+        self._held, wires = c.Timekeeper(), c.Wires(exact, drift)
+        check(c.timekeeper_init(self._held, setup, table_of(until, leaps), wires))
 
     def hear(self, line: int, rise_us: int, width_us: int) -> int:
         """A pulse on a line, 0 to 2 of three, 0 to 4 of five, 0 of one, once it has ended, and
@@ -121,7 +128,8 @@ class Timekeeper(Ruled):
         held = _tick(self._held, _time("now_us", now_us))
         if not held.is_told:
             return None
-        return Beat(report_held(held.report), held.edge_us, held.missed, held.moved)
+        report = report_held(held.report)
+        return Beat(report, held.edge_us, held.bound_us, held.missed, held.moved)
 
     def wait(self, now_us: int) -> int:
         """How long until a tick has something to do, in microseconds, if no call comes before it.
@@ -145,7 +153,12 @@ class Timekeeper(Ruled):
     @property
     def drift_us(self) -> int:
         """The most by which its counter is wrong, in microseconds a second."""
-        return int(self._held.drift_us)
+        return int(self._held.wires.drift_us)
+
+    @property
+    def within_us(self) -> int:
+        """How exact its lines are: pulses rise less than so many microseconds from their places."""
+        return int(self._held.wires.within_us)
 
     def _refuse(self, held: c.Timekeeper) -> None:
         _tick(held, 0)
@@ -153,5 +166,5 @@ class Timekeeper(Ruled):
     def __repr__(self) -> str:
         return (
             f"Timekeeper(lock_after={self.lock_after}, holdover={self.holdover}, "
-            f"drift_us={self.drift_us}, ports={self.ports})"
+            f"drift_us={self.drift_us}, within_us={self.within_us}, ports={self.ports})"
         )

@@ -41,7 +41,7 @@ class Layout(unittest.TestCase):
         self.assertEqual(here, {name: wanted[name] for name in wanted.keys() - UNUSED})
 
     def test_a_library_of_another_layout(self) -> None:
-        wrong = "libirig.so.3 has no irig_width_us_layout_1: take it and this package of one version"
+        wrong = "libirig.so.4 has no irig_width_us_layout_1: take it and this package of one version"
         with mock.patch.object(_library, "LAYOUT", 1), self.assertRaisesRegex(ImportError, wrong):
             _library.__getattr__("width_us")
 

@@ -8,7 +8,7 @@ import irig
 from irig import Beat, Second, Stamp, Timekeeper, Zone
 
 WRAP = 1 << 32
-VOTE_US = 1549  # how far from its true edge that of a vote may lie
+VOTE_US = 450  # how far from its true edge that of a vote may lie, if lines end together
 FRAME = irig.frame("2016-12-31T23:59:60Z")  # at its end 2017-01-01T00:00:00Z begins
 
 
@@ -46,8 +46,40 @@ class Ticks(unittest.TestCase):
                     self.assertIsNone(keeper.tick(end_us - 1))
                     beat = told(keeper, end_us + 95_000)
                     self.assertEqual(str(beat), "2017-01-01T00:00:00Z locked voted")
-                    self.assertEqual(beat.edge_us, end_us % WRAP)
+                    self.assertEqual((beat.edge_us, beat.bound_us), (end_us % WRAP, 449))
                     self.assertEqual(beat.report.agreed, tuple(range(ports)))
+
+    def test_the_middle_between_two_ends(self) -> None:
+        """Of lines that end so much late: where the edge is told, and how far that may lie off."""
+        for ports, within_us, late_us, edge_us, bound_us in (
+            (3, 450, {0: 0, 1: 400, 2: 898}, 400, 450),
+            (3, 450, {0: 0, 2: 898}, 449, 899),
+            (3, 450, {1: 0, 2: 301}, 150, 601),
+            (3, 450, {0: 0, 1: 898, 2: -1_000}, 0, 450),
+            (3, 450, {0: 0, 1: 898, 2: -1_001}, 449, 899),
+            (5, 450, {0: 0, 1: 10, 3: 21}, 10, 461),
+            (5, 450, {0: 0, 1: 10, 3: 21, 4: 3_000}, 15, 456),
+            (3, 10, {0: 0, 1: 18}, 9, 19),
+            (3, 1, {0: 7, 1: 7, 2: 8}, 7, 1),
+            (1, 20, {0: 5}, 5, 20),
+        ):
+            with self.subTest(within_us=within_us, late_us=late_us):
+                keeper = Timekeeper(1, drift_us=3, within_us=within_us, ports=ports)
+                for line, late in late_us.items():
+                    hear_frame(keeper, FRAME, late, line)
+                self.assertIsNone(keeper.tick(1_000_000 + edge_us - 1))
+                self.assertEqual(keeper.wait(1_000_000), edge_us)
+                beat = told(keeper, 1_000_000 + edge_us)
+                self.assertEqual((beat.edge_us, beat.bound_us), (1_000_000 + edge_us, bound_us))
+                held = told(keeper, 3_500_000)
+                self.assertEqual((held.missed, held.bound_us), (1, bound_us + 2 * 3))
+
+    def test_lines_that_end_too_far_apart(self) -> None:
+        for within_us, late_us in ((450, 899), (10, 19), (1, 1)):
+            keeper = Timekeeper(1, drift_us=0, within_us=within_us)
+            hear_frame(keeper, FRAME, 0, 0)
+            hear_frame(keeper, FRAME, late_us, 1)
+            self.assertIsNone(keeper.tick(1_001_000))
 
     def test_a_first_day(self) -> None:
         voted = "2017-01-01T00:00:00Z locked voted"
@@ -149,16 +181,22 @@ class Refusals(unittest.TestCase):
         for ports in (1, 3, 5):
             self.assertEqual(
                 repr(Timekeeper(60, 1_000_000, drift_us=0, ports=ports)),
-                f"Timekeeper(lock_after=60, holdover=1000000, drift_us=0, ports={ports})",
+                f"Timekeeper(lock_after=60, holdover=1000000, drift_us=0, within_us=450, ports={ports})",
             )
         for words, says in (
             ({"drift_us": -1}, "drift_us is -1; 0 to 100 may stand here"),
             ({"drift_us": 101}, "drift_us is 101; 0 to 100 may stand here"),
             ({"drift_us": WRAP + 1}, "drift_us is 4294967297; 0 to 100 may stand here"),
+            ({"within_us": 0}, "within_us is 0; 1 to 450 may stand here"),
+            ({"within_us": 451}, "within_us is 451; 1 to 450 may stand here"),
+            ({"within_us": 65_537}, "within_us is 65537; 1 to 450 may stand here"),
         ):
             self.says(f"26 Value: {says}", **{"drift_us": 10, **words})
         self.assertRaisesRegex(TypeError, "drift_us", Timekeeper)
         self.assertRaisesRegex(TypeError, "drift_us is 2.5; a whole", Timekeeper, drift_us=2.5)
+        keeper = Timekeeper(drift_us=7, within_us=10)
+        self.assertEqual((keeper.drift_us, keeper.within_us), (7, 10))
+        self.assertNotEqual(keeper, Timekeeper(drift_us=7))
 
     def test_a_holdover_that_is_too_long(self) -> None:
         says = (

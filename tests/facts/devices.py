@@ -38,13 +38,14 @@ Call = Pulse | int  # an int is a tick at that time
 
 @dataclass(frozen=True)
 class World:
-    """A timeline, a device's counter, when the first second begins and how long one lasts, how long behind its end a
-    pulse is told at most, and how late lines are."""
+    """A timeline, a device's counter, when the first second begins and how long one lasts, how exact true lines are,
+    how long behind its end a pulse is told at most, and how late lines are."""
 
     timeline: Timeline
     rules: Rules
     begin: int
     second: int
+    within: int
     delay: int
     late: tuple[int, ...]
 
@@ -66,9 +67,10 @@ def random_world(random: Random) -> World:
     leaps = () if leap == Mark.NO_LEAP else ((day, leap),)
     rules = Rules(random.choice(list(Parity)), random.choice(list(Sense)), random.random() < 0.8)
     begin = random.choice((2 * SECOND, WRAP - random.randrange(4 * SECOND), random.randrange(2**31)))
-    delay, late = random.choice((0, 500, 30_000)), random.choice(((0,), (0, 1_000, 2_001), range(-449, 450)))
+    within, delay = random.choice((450, 450, 50, 10, 1)), random.choice((0, 500, 30_000))
+    late = random.choice(((0,), (0, within, 2 * within), (1 - within, within - 1), range(1 - within, within)))
     second = SECOND + random.choice((0, random.randint(-100, 100)))
-    return World(Timeline(Second(day, of_day), leaps), rules, begin, second, delay, tuple(late))
+    return World(Timeline(Second(day, of_day), leaps), rules, begin, second, within, delay, tuple(late))
 
 
 def spoilt(random: Random, pulse: Pulse) -> list[Pulse]:
@@ -114,7 +116,8 @@ def false_lines(random: Random, world: World, lines: list[int], seconds: int, zo
     """Lines of clocks that have one fault, or are too late or early, from some second on."""
     fault, true = random.choice((None, v.fault_of(random_fault(random), 1))), random.randrange(seconds)
     frames = [*world.frames(seconds, zone)[:true], *world.frames(seconds, zone, fault)[true:]]
-    lates = (-5_000, -1_001, -1_000, 1_000, 1_001, 1_449, 5_000) if fault is None else (0,)
+    apart = 2 * (world.within - 1)
+    lates = (-5_000, -1_001, -1_000, -apart, apart, apart + 1, 1_449, 5_000) if fault is None else (0,)
     return [line_pulses(random, world, line, frames, random.choice(lates)) for line in lines]
 
 
@@ -123,7 +126,7 @@ def false_lines(random: Random, world: World, lines: list[int], seconds: int, zo
 
 def random_ticks(random: Random, world: World, count: int) -> list[int]:
     """Ticks of some seconds: where frames end, before the counter alone counts, behind that, at any time, and late."""
-    near, any_ = (0, 448, 1_000, 2_001, 5_000), [random.randint(0, SECOND - 10_000) for _ in range(3)]
+    near, any_ = (0, world.within - 1, 899, 2_001, 5_000), [random.randint(0, SECOND - 10_000) for _ in range(3)]
     ways = [random.sample(near, 1), (-1, 1_000), random.sample(near, 2), (7_000, 60_000), (98_000,), (100_000,)]
     ways += [(100_001,), any_[:1], any_[1:], ()]
     mostly = random.choice(ways[:6])
@@ -154,7 +157,8 @@ def random_life(random: Random) -> tuple[World, Device, list[Call]]:
     lines += [true_line(random, world, line, seconds, random.choice(zones)) for line in sorted(others)]
     table = random.choice((None, Table(world.timeline.start.day, world.timeline.leaps)))
     rules = ReaderRules(random.choice((1, 1, 2)), random.choice((0, 1, 100)))
-    device = Device(world.rules, rules, table, redundancy, random.choice((100, abs(world.second - SECOND))))
+    drift = random.choice((100, abs(world.second - SECOND)))
+    device = Device(world.rules, rules, table, redundancy, world.within, drift)
     ticks = random_ticks(random, world, seconds + random.choice((0, 2, 4)))
     calls = in_turn([pulse for line in lines for pulse in line], ticks)
     return world, device, pause(random, world, calls, random.choice((0, 0, 0, 0, 0, SECOND, WRAP)))
@@ -166,7 +170,8 @@ def call(value: Call) -> Antt:
 
 def beat(value: Beat | None) -> Antt:
     return some(value and record(
-        report=value.report, told=v.tells(value.told), edge_us=value.edge, missed=value.missed, moved=value.moved,
+        report=value.report, told=v.tells(value.told), edge_us=value.edge, bound_us=value.bound, missed=value.missed,
+        moved=value.moved,
     ))  # fmt: skip
 
 
@@ -175,7 +180,8 @@ def stamp(value: Stamp | None) -> Antt:
 
 
 def made(device: Device) -> Antt:
-    clock = record(reader_rules=device.reader_rules, redundancy=v.ports(device.redundancy), drift_us=device.drift)
+    exact = {"within": Antt(f"within_of {device.within}"), "drift_us": device.drift}
+    clock = record(reader_rules=device.reader_rules, redundancy=v.ports(device.redundancy), **exact)
     lines = {"lines": Antt("new_lines"), "fresh": Antt("are_new")}
     return record(limits=Antt("None"), rules=device.rules, clock=clock, table=device.table or Table(0, ()), **lines)
 
@@ -184,6 +190,7 @@ def made(device: Device) -> Antt:
 # long a device would have waited then, and the stamp of the event behind the tick. Each step is a function of its
 # own, so that the checker computes once what becomes of the device.
 WALK = """use Rattle.irig_lives.proofs.LifeFacts.{new_lines, are_new}
+use Rattle.irig_timekeeper.specs.Refusals.{within_of}
 use Rattle.irig_timekeeper.specs.Life.{after_calls}
 use Rattle.irig_timekeeper.specs.Life.Call.{Hear, Tick}
 use Rattle.irig_timekeeper.specs.Keeping.{after_tick}
@@ -286,13 +293,14 @@ def orders(random: Random) -> Iterator[Fact]:
 
 
 def is_true_lately(world: World, frames: list[str], pulses: list[Pulse], now: int) -> bool:
-    """Whether the pulses of the last 1.2 s are those of these frames, each less than 450 us off (docs/WIRES.md)."""
+    """Whether the pulses of the last 1.2 s are those of these frames, each as near its place as lines are exact
+    (docs/WIRES.md)."""
     before = 100 * len(frames)
     for pulse in reversed([pulse for pulse in pulses if pulse.rise + 1_200_000 >= now]):
         n, behind = divmod((pulse.rise + 500 - world.begin) % WRAP, world.second)
         place = behind * 100 // world.second
         k, off = 100 * n + place, behind - 500 - world.second * place // 100
-        if k >= before or abs(off) >= 450 or frames[n][place] != symbol_of(pulse.width):
+        if k >= before or abs(off) >= world.within or frames[n][place] != symbol_of(pulse.width):
             return False
         before = k
     return True
@@ -326,7 +334,7 @@ def true_lives(random: Random) -> Iterator[Fact]:
         calls = in_turn([pulse for line in lines for pulse in line], random_ticks(random, world, 3))
         split, above = random.randrange(len(calls) + 1), line_of(world, frames)
         untrue = untrue_ticks(world, frames, calls)
-        test = f"(λ at pulses. are_lately $_line $_edges at (Some {100 * len(frames)}) pulses)"
+        test = f"(λ at pulses. are_lately {world.within} $_line $_edges at (Some {100 * len(frames)}) pulses)"
         right, asked = not untrue, f"are_true_at_ticks {test} 1 {newest_first(calls)}"
         yield equal(asked, right, not right, (CALLS, *above))
         right = all(place < split for place in untrue)

@@ -11,12 +11,13 @@ from model.times import Mark, Second, Table
 from random_scenarios import LAST_DAY, MONTH_ENDS
 
 from . import values as v
-from .antt import Antt, Fact, equal, integer, question, record, some
+from .antt import Antt, Fact, antt, equal, integer, question, record, some
 
 HEADER = (Path(__file__).resolve().parents[2] / "c/irig.h").read_text()
 NUMBER = {name: int(number) for name, number in re.findall(r"\bIRIG_(\w+) = (\d+)", HEADER)}
 PORTS = {1: "ONE", 3: "THREE", 5: "FIVE"}
 SILENT = record(**dict.fromkeys("abcde", Antt("Told.Silence")))
+EXACT = "use Rattle.irig_timekeeper.specs.Refusals.{within_of}\n"
 MOMENTS = """use Rattle.c_keeper.specs.Lives.Moment.{Pulsed as was_pulsed, Ticked as was_ticked}
 use Rattle.irig_timekeeper.specs.Life.Call.{Hear, Tick}
 """
@@ -27,28 +28,37 @@ def number_of(kind: str, word: str) -> int:
 
 
 @question("header", "c_keeper.made_in")
-def setups(random: Random) -> Iterator[tuple]:
-    """Setups, tables of which not all leaps count, and drifts."""
-    for _ in range(60):
-        parity, sense = random.choice(list(Parity)), random.choice(list(Sense))
-        rules, ports = Rules(parity, sense, random.random() < 0.5), random.choice(list(PORTS))
-        reader_rules = ReaderRules(random.randint(1, 60), random.randint(0, 1_000_000))
-        not_before = random.choice((0, random.randint(1, LAST_DAY)))
-        poor_from = random.choice((0, 0, random.randint(1, 10)))
-        days = random.sample(MONTH_ENDS, random.randint(0, 4))
-        leaps = [(day, random.choice((Mark.INSERT, Mark.DELETE))) for day in days]
-        count, until, drift = random.randint(0, len(leaps)), random.randint(0, LAST_DAY), random.randint(0, 100)
-        setup = record(
-            parity=number_of("PARITY", parity.value), sense=number_of("SENSE", sense.value),
-            sbs=number_of("SBS", "check" if rules.check_binary_seconds else "ignore"),
-            redundancy=number_of("PORTS", PORTS[ports]), lock_after=reader_rules.lock_after,
-            holdover=reader_rules.holdover, not_before=not_before, poor_from=poor_from,
-        )  # fmt: skip
-        numbers = [record(day=day, kind=number_of("LEAP", kind.value)) for day, kind in leaps]
-        limits = record(not_before=not_before, poor_from=poor_from or 10) if not_before or poor_from else None
-        clock = record(reader_rules=reader_rules, redundancy=v.ports(ports), drift_us=drift)
-        made = record(limits=some(limits), rules=rules, clock=clock, table=Table(until, tuple(leaps[:count])))
-        yield (setup, record(until=until, len=count, leaps=numbers), drift), made
+def setups(random: Random) -> Iterator[Fact]:
+    """Setups, tables of which not all leaps count, and wires."""
+    for _ in range(3):
+        asked, made = zip(*(random_setup(random) for _ in range(20)))
+        yield equal(antt(list(asked)), list(made), above=(EXACT,))
+
+
+def random_setup(random: Random) -> tuple[Antt, Antt]:
+    """What is made of the numbers of a setup, a table and wires, as it is asked and as it is."""
+    parity, sense = random.choice(list(Parity)), random.choice(list(Sense))
+    rules, ports = Rules(parity, sense, random.random() < 0.5), random.choice(list(PORTS))
+    reader_rules = ReaderRules(random.randint(1, 60), random.randint(0, 1_000_000))
+    not_before = random.choice((0, random.randint(1, LAST_DAY)))
+    poor_from = random.choice((0, 0, random.randint(1, 10)))
+    days = random.sample(MONTH_ENDS, random.randint(0, 4))
+    leaps = [(day, random.choice((Mark.INSERT, Mark.DELETE))) for day in days]
+    count, until = random.randint(0, len(leaps)), random.randint(0, LAST_DAY)
+    within, drift = random.choice((1, 10, 450, random.randint(1, 450))), random.randint(0, 100)
+    setup = record(
+        parity=number_of("PARITY", parity.value), sense=number_of("SENSE", sense.value),
+        sbs=number_of("SBS", "check" if rules.check_binary_seconds else "ignore"),
+        redundancy=number_of("PORTS", PORTS[ports]), lock_after=reader_rules.lock_after,
+        holdover=reader_rules.holdover, not_before=not_before, poor_from=poor_from,
+    )  # fmt: skip
+    numbers = [record(day=day, kind=number_of("LEAP", kind.value)) for day, kind in leaps]
+    table, wires = record(until=until, len=count, leaps=numbers), record(within_us=within, drift_us=drift)
+    limits = record(not_before=not_before, poor_from=poor_from or 10) if not_before or poor_from else None
+    exact = {"within": Antt(f"within_of {within}"), "drift_us": drift}
+    clock = record(reader_rules=reader_rules, redundancy=v.ports(ports), **exact)
+    made = record(limits=some(limits), rules=rules, clock=clock, table=Table(until, tuple(leaps[:count])))
+    return Antt(f"(made_in {setup} {table} {wires})"), made
 
 
 def random_report(random: Random) -> Report:
@@ -58,8 +68,8 @@ def random_report(random: Random) -> Report:
     return Report(random.choice((None, second)), lock, cause, count)
 
 
-def second_of(random: Random, report: Report, edge: int, missed: int, moved: int, told: int = 1) -> Antt:
-    """A second of C; what it says of its ports has no meaning here."""
+def second_of(random: Random, report: Report, beside: dict[str, int], told: int = 1) -> Antt:
+    """A second of C, with these numbers beside its report; what that says of its ports has no meaning here."""
     second = report.second or Second(0, 0)
     ports = {name: random.randrange(16) for name in ("agreed", "differed", "faulty", "poor", "quality", "against_hold")}
     numbers = record(
@@ -67,16 +77,16 @@ def second_of(random: Random, report: Report, edge: int, missed: int, moved: int
         cause=number_of("CAUSE", report.cause.value), lock_count=report.count or 0, day=second.day, sod=second.of_day,
         has_local=1, local_half_hours=integer(random.randint(-31, 31)), dst=1, **ports,
     )  # fmt: skip
-    return record(is_told=told, edge_us=edge, missed=missed, moved=moved, report=numbers)
+    return record(is_told=told, **beside, report=numbers)
 
 
 @question("header", "c_keeper.beat_in")
 def seconds(random: Random) -> Iterator[tuple]:
     for _ in range(60):
-        report, edge = random_report(random), random.randrange(2**32)
-        missed, moved = random.choice((0, random.randrange(2_000))), random.randrange(3)
-        beat = record(report=report, told=SILENT, edge_us=edge, missed=missed, moved=moved)
-        yield (second_of(random, report, edge, missed, moved),), beat
+        report, missed = random_report(random), random.choice((0, random.randrange(2_000)))
+        edge, bound = random.randrange(2**32), random.randrange(490_900)
+        beside = {"edge_us": edge, "bound_us": bound, "missed": missed, "moved": random.randrange(3)}
+        yield (second_of(random, report, beside),), record(report=report, told=SILENT, **beside)
 
 
 @question("header", "c_keeper.stamp_in")
@@ -84,7 +94,7 @@ def stamps(random: Random) -> Iterator[tuple]:
     """A stamp stands for one if the call answered 0."""
     for answer in (0, 0, 0, 0, 26, 1):
         second = Second(random.randint(1, LAST_DAY), random.randrange(86_401))
-        offset, bound = random.randrange(2_000_000), random.randint(1_549, 491_549)
+        offset, bound = random.randrange(2_000_000), random.randrange(490_900)
         numbers = record(day=second.day, sod=second.of_day, offset_us=offset, bound_us=bound)
         stamp = record(second=second, offset_us=offset, bound_us=bound)
         yield (answer, numbers), some(stamp if answer == 0 else None)
@@ -98,7 +108,8 @@ def pasts(random: Random) -> Iterator[Fact]:
         for now in range(random.randint(1, 8)):
             report, missed, told = random_report(random), random.choice((0, 0, 3)), random.choice((0, 1, 1))
             pulsed = f"{random.randrange(5)} {now} 2000"
-            second = second_of(random, report, 0, missed, 0, told)
+            beside = {"edge_us": 0, "bound_us": 0, "missed": missed, "moved": 0}
+            second = second_of(random, report, beside, told)
             moments += [f"was_pulsed {pulsed} {random.randint(0, 100)}", f"was_ticked {now} {second}"]
             calls += [f"Hear {pulsed}", f"Tick {now}"]
             since = (0 if report.cause == Cause.VOTED else since + missed + 1) if told else since

@@ -226,7 +226,8 @@ static void call_timekeeper(void) {
     irig_second told;
     irig_stamp stamp;
     plan_world();
-    require(s->begin(&one.setup, &one.table, one.world.drift_us, now_us) == IRIG_DONE, "begin");
+    irig_wires wires = wires_of(&one.world);
+    require(s->begin(&one.setup, &one.table, &wires, now_us) == IRIG_DONE, "begin");
     while (next_byte < end_byte) {
         uint8_t line = (uint8_t)take(&luck, 6);
         switch (take(&luck, 8)) {

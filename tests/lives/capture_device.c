@@ -25,10 +25,10 @@ void on_second(const irig_second *second) {
     told.is_told = 1;
 }
 
-static uint32_t begin(const irig_setup *wanted, const irig_table *known, uint32_t most_drift_us,
+static uint32_t begin(const irig_setup *wanted, const irig_table *known, const irig_wires *given,
                       uint32_t now_us) {
     timer_us = now_us;
-    return capture_init(wanted, known, most_drift_us);
+    return capture_init(wanted, known, given);
 }
 
 /* It may ask for another time behind the last pulse of a frame alone. */
@@ -55,7 +55,7 @@ static uint32_t wait(uint32_t now_us) {
     return compare_us - now_us < UINT32_C(1) << 31 ? compare_us - now_us : 0;
 }
 
-static void restart(void) { begin(&setup, &table, drift_us, timer_us); }
+static void restart(void) { begin(&setup, &table, &wires, timer_us); }
 
 static void flip(uint32_t bit) { ((uint8_t *)&timekeeper)[bit / 8] ^= (uint8_t)(1u << bit % 8); }
 

@@ -88,7 +88,8 @@ static void say(const life *l, const irig_second *s) {
            (double)(l->device.now_us - l->world.edge_us[0]) / 1e6, (unsigned)edge,
            (long long)(l->judge.edge_us - l->world.edge_us[edge]), (unsigned)r->day,
            (unsigned)r->sod, r->lock, (unsigned)r->lock_count, r->cause, r->agreed);
-    printf("%u missed, moved %u times\n", (unsigned)s->missed, (unsigned)s->moved);
+    printf("%u missed, moved %u times, within %u us\n", (unsigned)s->missed, (unsigned)s->moved,
+           (unsigned)s->bound_us);
 }
 
 static void keep(life *l, const irig_second *s) {
@@ -100,10 +101,11 @@ static void keep(life *l, const irig_second *s) {
 
 /* When something came that is stamped: in the last seconds, or just at a bound of what can be. */
 static uint64_t stamped_time(life *l) {
-    static const int32_t JUST_US[] = {-1, 0, 1001549, 1001550};
     chance *luck = &l->device.luck;
+    uint64_t last_us = SECOND_US + l->judge.bound_us;
+    uint64_t just_us[] = {UINT64_MAX, 0, last_us, last_us + 1}; /* the first one is -1 */
     if (!is_once_in(luck, 4) || !l->judge.has_told) return l->device.now_us - below(luck, 2500000);
-    return l->judge.edge_us + (uint64_t)(int64_t)JUST_US[below(luck, 4)];
+    return l->judge.edge_us + just_us[below(luck, 4)];
 }
 
 void tick(life *l, uint64_t now_us) {
@@ -184,8 +186,8 @@ static void begin(life *l, const subject *s) {
         d->pace = BY_WAIT;
         d->late_us = d->always_us = 0;
     }
-    uint32_t answer =
-        s->begin(&l->setup, &l->table, l->world.drift_us, (uint32_t)d->now_us);
+    irig_wires wires = wires_of(&l->world);
+    uint32_t answer = s->begin(&l->setup, &l->table, &wires, (uint32_t)d->now_us);
     if (answer != IRIG_DONE) fail(j, "it does not begin: %u", answer);
     set_next_tick(l);
 }

@@ -66,7 +66,7 @@ void play(life *l, const subject *s);
 /* Makes the life of this number; the seed is that of a whole run. */
 void plan(life *l, uint64_t seed, uint64_t number);
 
-enum { KINDS = 61 };
+enum { KINDS = 64 };
 
 /* Makes edges, and lines that send nominal frames at their time, of a life that has its settings,
  * first second, leap and length. */

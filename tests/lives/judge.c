@@ -2,13 +2,11 @@
 
 #include <stdarg.h>
 #include <stdio.h>
+#include <stdlib.h>
 #include <string.h>
 
 enum {
     WAIT_MOST_US = 1005000,
-    EARLY_US = 1549,
-    LATE_US = 549,
-    LINE_US = 450,
     IN_TIME_US = 98000,
     OWN_EARLY_US = 4000
 };
@@ -28,6 +26,12 @@ void fail(judge *j, const char *form, ...) {
     va_end(values);
 }
 
+/* How far a vote's edge may lie off: the ends of two true lines do by twice their jitter, and the
+ * drift in the element that is told before its end. */
+static int64_t vote_us(const judge *j) {
+    return 2 * jitter_us(j->world) + (j->world->drift_us > 0);
+}
+
 static int liars_at_most(const judge *j) { return j->lines / 2; }
 
 static void forget(judge *j) {
@@ -37,6 +41,7 @@ static void forget(judge *j) {
         j->sent[i].whole = -1;
     }
     j->has_told = false;
+    j->bound_us = 0;
     j->announced = j->voted = j->asked = j->moved = -1;
     j->row = j->moves = 0;
 }
@@ -81,7 +86,8 @@ void judge_pulse(judge *j, uint8_t line, const pulse *p) {
     if (p->end_us > j->now_us) j->now_us = p->end_us;
     if (p->is_true) {
         uint64_t at_us = element_us(j->world, p->frame, p->element);
-        if (p->rise_us - at_us + LINE_US - 1 > 2 * (LINE_US - 1))
+        uint64_t most_us = (uint64_t)jitter_us(j->world);
+        if (p->rise_us - at_us + most_us > 2 * most_us)
             fail(j, "world: a true pulse of line %u is not at its time", line);
     } else {
         s->false_us = p->rise_us;
@@ -129,8 +135,8 @@ static void judge_vote(judge *j, const irig_second *s, uint64_t edge_us) {
     int64_t off_us = off(j, edge_us, m);
     int agreed = __builtin_popcount(s->report.agreed);
     if (agreed <= liars_at_most(j)) fail(j, "a vote of %d lines", agreed);
-    if (off_us < -EARLY_US || off_us > LATE_US)
-        fail(j, "a vote %lld us off edge %u", (long long)off_us, m);
+    if (s->bound_us > vote_us(j) || llabs(off_us) > s->bound_us)
+        fail(j, "a vote %lld us off edge %u, within %u us", (long long)off_us, m, s->bound_us);
     bool is_next = j->has_told && j->voted + 1 == (int64_t)m && s->missed == 0 && j->row > 0;
     j->row = is_next ? j->row + 1 : 1;
     j->voted = m;
@@ -151,9 +157,9 @@ static void judge_announced(judge *j, const irig_second *s, uint64_t edge_us) {
     }
     int64_t off_us = off(j, edge_us, (uint32_t)m);
     int64_t drift_us = age * j->world->drift_us;
-    if (off_us < -EARLY_US - drift_us || off_us > LATE_US + drift_us)
-        fail(j, "it announces T(%lld) %lld us off its edge, %lld s behind a vote", (long long)m,
-             (long long)off_us, (long long)age);
+    if (s->bound_us > vote_us(j) + drift_us || llabs(off_us) > s->bound_us)
+        fail(j, "it announces T(%lld) %lld us off its edge, within %u us, %lld s behind a vote",
+             (long long)m, (long long)off_us, s->bound_us, (long long)age);
     if (age > j->setup.holdover) fail(j, "it holds for %lld s", (long long)age);
     if (r->cause != (age > 0 ? IRIG_CAUSE_HELD : IRIG_CAUSE_VOTED) ||
         (age > 0) != (r->agreed == 0) || age != m - j->voted)
@@ -211,6 +217,7 @@ static void judge_told(judge *j, const irig_second *s) {
     j->has_told = true;
     j->moves = 0;
     j->edge_us = edge_us;
+    j->bound_us = s->bound_us;
     j->report = s->report;
 }
 
@@ -228,7 +235,7 @@ static void judge_moved(judge *j, uint32_t m) {
     uint32_t wait_us = j->subject->wait((uint32_t)j->now_us);
     int64_t off_us = off(j, j->now_us + wait_us - WAIT_MOST_US, m);
     bool was_early = j->has_told && off(j, j->edge_us, m) < -OWN_EARLY_US;
-    if (!was_early || off_us < -EARLY_US || off_us > LATE_US)
+    if (!was_early || llabs(off_us) > vote_us(j))
         fail(j, "%d lines sent frame %u whole, and edge %u has no vote", whole_lines(j, m - 1),
              m - 1, m);
     else if (j->moved >= 0 && j->moved + 1 == (int64_t)m)
@@ -251,7 +258,7 @@ static void judge_come(judge *j) {
 /* It has behind the first tick that comes in time behind the edge, */
 static void judge_come_by_tick(judge *j) {
     int64_t since_us = off(j, j->now_us, j->come);
-    if (since_us >= LATE_US && since_us <= IN_TIME_US) judge_come(j);
+    if (since_us >= vote_us(j) && since_us <= IN_TIME_US) judge_come(j);
 }
 
 /* and whenever ticks come as `wait` says, as soon as that time is over. */
@@ -283,12 +290,13 @@ void judge_wait(judge *j, uint32_t wait_us, bool is_behind_tick) {
 /* A stamp is right if its second's edge lies as near as it says. */
 void judge_stamp(judge *j, uint64_t time_us) {
     irig_stamp s = {0};
-    int64_t m, most_us = EARLY_US + (int64_t)j->setup.holdover * j->world->drift_us;
+    int64_t m, most_us = vote_us(j) + (int64_t)j->setup.holdover * j->world->drift_us;
     uint32_t answer = j->subject->stamp((uint32_t)time_us, &s);
     bool is_behind = j->has_told && j->report.announces && time_us >= j->edge_us;
     if (answer != IRIG_DONE) {
         if (answer != IRIG_FAULT_VALUE) fail(j, "a stamp answers %u", answer);
-        if (is_behind && time_us <= j->edge_us + SECOND_US) fail(j, "no stamp of the last second");
+        if (is_behind && time_us <= j->edge_us + SECOND_US + j->bound_us)
+            fail(j, "no stamp of the last second");
         return;
     }
     if (!find_second(j->world, (utc){s.day, s.sod}, &m) || m > (int64_t)j->come + 1 ||

@@ -50,6 +50,7 @@ typedef struct judge {
     uint32_t come;    /* the last edge that has come */
     bool has_told;    /* a second, since it began or was restarted: of the last one */
     uint64_t edge_us; /* its edge, */
+    uint32_t bound_us; /* how far off that may be, as it is told, */
     irig_report report;
     int64_t announced; /* the last second announced, or -1 */
     int64_t voted;     /* the edge of the last second with a vote, or -1 */

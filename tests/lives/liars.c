@@ -31,7 +31,7 @@ static uint64_t end_of(const line *l, const sky *s) {
     case AT_PLACE: break;
     case AT_BOUND: /* where that line ends, by its last pulse */
         end_us = (int64_t)element_us(s->world, frame, ELEMENTS - 1) + ELEMENT_US +
-                 last_offset(&s->line[told->target], frame);
+                 last_offset(&s->line[told->target], s, frame);
         break;
     case SHIFTED: break;
     case WALKING: end_us += told->rate_us * gone; break;

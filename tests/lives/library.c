@@ -5,10 +5,10 @@
 
 static irig_timekeeper keeper;
 
-static uint32_t begin(const irig_setup *setup, const irig_table *table, uint32_t drift_us,
+static uint32_t begin(const irig_setup *setup, const irig_table *table, const irig_wires *wires,
                       uint32_t now_us) {
     (void)now_us;
-    return irig_timekeeper_init(&keeper, setup, table, drift_us);
+    return irig_timekeeper_init(&keeper, setup, table, wires);
 }
 
 static uint8_t hear(uint8_t line, uint32_t rise_us, uint32_t width_us) {
@@ -34,10 +34,10 @@ const subject library_subject = {"library", begin, hear, tick, wait, restart, st
 
 /* ---- with the model */
 
-static uint32_t begin_both(const irig_setup *setup, const irig_table *table, uint32_t drift_us,
-                           uint32_t now_us) {
-    uint32_t wanted = model_subject.begin(setup, table, drift_us, now_us);
-    return begin(setup, table, drift_us, now_us) == wanted ? wanted : DIFFERS;
+static uint32_t begin_both(const irig_setup *setup, const irig_table *table,
+                           const irig_wires *wires, uint32_t now_us) {
+    uint32_t wanted = model_subject.begin(setup, table, wires, now_us);
+    return begin(setup, table, wires, now_us) == wanted ? wanted : DIFFERS;
 }
 
 static uint8_t hear_both(uint8_t line, uint32_t rise_us, uint32_t width_us) {
@@ -48,7 +48,8 @@ static uint8_t hear_both(uint8_t line, uint32_t rise_us, uint32_t width_us) {
 /* But for bytes that belong to no number. */
 bool are_alike(const irig_second *a, const irig_second *b) {
     if (!a->is_told || !b->is_told) return a->is_told == b->is_told;
-    return a->edge_us == b->edge_us && a->missed == b->missed && a->moved == b->moved &&
+    return a->edge_us == b->edge_us && a->bound_us == b->bound_us && a->missed == b->missed &&
+           a->moved == b->moved &&
            memcmp(&a->report, &b->report, offsetof(irig_report, dst) + 1) == 0;
 }
 

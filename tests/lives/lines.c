@@ -1,7 +1,5 @@
 #include "lines.h"
 
-enum { JITTER_US = 449 };
-
 uint32_t width_of(width kind, const frame *symbols, unsigned element, chance *luck) {
     uint32_t low = is_marker(element) ? 6500 : is_one(symbols, element) ? 3500 : 500;
     switch (kind) {
@@ -14,18 +12,20 @@ uint32_t width_of(width kind, const frame *symbols, unsigned element, chance *lu
 
 /* ---- true frames */
 
-static int32_t offset_of(line *l) {
+static int32_t offset_of(line *l, const sky *s) {
+    int32_t most_us = jitter_us(s->world);
     switch (l->spread) {
     case EQUAL: return l->offset_us;
-    case BY_CHANCE: return between(&l->luck, -JITTER_US, JITTER_US);
+    case BY_CHANCE: return between(&l->luck, -most_us, most_us);
     default: return l->element % 2 ? l->offset_us : -l->offset_us;
     }
 }
 
-int32_t last_offset(const line *l, uint32_t frame) {
+int32_t last_offset(const line *l, const sky *s, uint32_t frame) {
+    int32_t most_us = jitter_us(s->world);
     if (l->spread != BY_CHANCE) return l->offset_us;
     chance luck = {l->seed + frame};
-    return between(&luck, -JITTER_US, JITTER_US);
+    return between(&luck, -most_us, most_us);
 }
 
 static bool is_dark(const line *l, const sky *s) {
@@ -81,10 +81,12 @@ static bool next_true(line *l, const sky *s) {
             make_frame(l, s);
             if (l->frame >= s->world->seconds) return false;
         }
-        int32_t offset = l->element == ELEMENTS - 1 ? last_offset(l, l->frame) : offset_of(l);
+        int32_t offset =
+            l->element == ELEMENTS - 1 ? last_offset(l, s, l->frame) : offset_of(l, s);
         uint64_t at_us = element_us(s->world, l->frame, l->element);
         uint64_t rise_us = at_us + (uint64_t)(int64_t)offset;
-        if (rise_us <= l->end_us && l->end_us < at_us + JITTER_US) rise_us = l->end_us + 1;
+        uint64_t last_us = at_us + (uint64_t)jitter_us(s->world);
+        if (rise_us <= l->end_us && l->end_us < last_us) rise_us = l->end_us + 1;
         if (rise_us <= l->end_us || is_lost(l)) continue;
         uint32_t wide_us = width_of(l->width, &l->symbols, l->element, &l->luck);
         l->next = (pulse){.rise_us = rise_us,

@@ -8,7 +8,7 @@ typedef struct pulse {
     uint64_t rise_us, end_us;
     uint32_t frame;  /* of a true one: the frame that it belongs to, */
     uint8_t element; /* and which of its elements it is */
-    bool is_true;    /* it is that symbol, less than 450 us off its time */
+    bool is_true;    /* it is that symbol, and as near its time as the world says */
     bool is_claim;   /* and its frame, if whole, tells the true claim */
 } pulse;
 
@@ -27,7 +27,7 @@ typedef enum saying {
 /* When they end: an element behind their last pulse. */
 typedef enum aim {
     AT_PLACE,    /* at the edge, as true lines do */
-    AT_BOUND,    /* some 1,000 us before or behind another line */
+    AT_BOUND,    /* before or behind another line, so far that they just agree, or just do not */
     SHIFTED,     /* by as much in each second */
     WALKING,     /* by more in each second */
     AT_OWN_EDGE, /* by the edges that the device tells */
@@ -127,7 +127,7 @@ void begin_line(line *l, const sky *s, uint8_t number, uint64_t seed);
 void go_on(line *l, const sky *s);
 
 /* The time of a true line's last pulse of a frame, beside its nominal time. */
-int32_t last_offset(const line *l, uint32_t frame);
+int32_t last_offset(const line *l, const sky *s, uint32_t frame);
 
 /* A width of the symbol at an element. */
 uint32_t width_of(width kind, const frame *symbols, unsigned element, chance *luck);

@@ -48,9 +48,10 @@ static void say_failed(uint64_t number) {
     const life *l = &one;
     printf("failed: --seed %lu --life %lu: %s\n", (unsigned long)options.seed,
            (unsigned long)number, l->judge.text);
-    printf("  %u lines, lock_after %u, holdover %u, drift %u us, %u s, ticks %s\n", l->sky.lines,
-           (unsigned)l->setup.lock_after, (unsigned)l->setup.holdover, (unsigned)l->world.drift_us,
-           (unsigned)l->world.seconds, PACES_SAID[l->device.pace]);
+    printf("  %u lines, lock_after %u, holdover %u, within %u us, drift %u us, %u s, ticks %s\n",
+           l->sky.lines, (unsigned)l->setup.lock_after, (unsigned)l->setup.holdover,
+           (unsigned)l->world.within_us, (unsigned)l->world.drift_us, (unsigned)l->world.seconds,
+           PACES_SAID[l->device.pace]);
 }
 
 /* Whether a life goes as it has to. */
@@ -75,7 +76,7 @@ static void play_up_to_seconds(void) {
 
 /* All kinds have to be among them. */
 static void play_kinds(void) {
-    static const uint64_t ALL = (UINT64_C(1) << KINDS) - 1;
+    static const uint64_t ALL = UINT64_MAX >> (64 - KINDS);
     uint64_t played = 0;
     for (uint64_t number = 0; played != ALL && number < MOST_PLANNED; number++) {
         plan(&one, options.seed, number);

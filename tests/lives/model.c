@@ -10,6 +10,7 @@ const char *const WRONG_NAMES[WRONGS] = {EACH_WRONG(NAME_OF)};
 wrong model_wrong;
 
 static const uint32_t AHEAD_US = 10000;
+static const int32_t BEFORE_US = 1000; /* what ends longer before the first on which lines agree */
 static const uint32_t HALF_TURN = UINT32_C(1) << 31;
 enum { NO_VOTE = MOST_LINES + 1 }; /* more than there are */
 
@@ -27,7 +28,8 @@ static struct {
     uint8_t lines;
     heard_line line[5];
     bool has_edge;
-    uint32_t edge_us, drift_us, moved;
+    uint32_t edge_us, moved, bound_us; /* the last is of the last vote */
+    irig_wires wires;
     irig_second last, before; /* what was told last, as far as it announces */
 } k;
 
@@ -71,24 +73,69 @@ static void voices_at(uint32_t now_us, voice voices[MOST_LINES]) {
 /* How many it takes. */
 static int majority(void) { return is(ONE_IS_ENOUGH) ? 1 : k.lines / 2 + 1; }
 
-/* The line whose end is that on which lines agree, or none. */
-static const heard_line *agreed(uint32_t now_us) {
-    uint32_t apart = is(AGREES_WIDELY) ? 2000 : is(AGREES_SHORTLY) ? 600 : 1000;
+/* An edge on which lines agree, and the first line whose claim it is; or none. */
+typedef struct agreed_edge {
+    const heard_line *first;
+    uint32_t edge_us, bound_us;
+} agreed_edge;
+
+/* How far apart ends lie at most that agree. */
+static int32_t apart_us(void) {
+    int32_t apart = 2 * (k.wires.within_us - 1);
+    return is(AGREES_WIDELY) ? apart + 2000 : is(AGREES_SHORTLY) ? apart - 1 : apart;
+}
+
+/* How far behind the end of a line's frame those end that claim the same, in order, but for those
+ * that end longer before it than this; how many there are. */
+static int ends_behind(const heard_line *one, uint32_t now_us, int32_t before_us, int32_t *behind) {
     voice voices[MOST_LINES];
-    const heard_line *best = NULL;
+    int count = 0;
     voices_at(now_us, voices);
     for (int i = 0; i < k.lines; i++) {
-        const heard_line *one = &k.line[i];
-        int count = 0;
-        if (!is_kept(one, now_us) || (one->kept.kind != IRIG_TOLD_CLAIM && !is(ANY_CLAIM)))
-            continue;
-        for (int j = 0; j < k.lines; j++)
-            count += is_kept(&k.line[j], now_us) &&
-                     (are_one(&voices[i], &voices[j]) || is(ANY_CLAIM)) &&
-                     k.line[j].end_us - one->end_us <= apart;
-        if (count >= majority() && (!best || one->end_us - best->end_us < HALF_TURN)) best = one;
+        int32_t behind_us = (int32_t)(k.line[i].end_us - one->end_us);
+        bool is_one = is_kept(&k.line[i], now_us) && behind_us >= -before_us &&
+                      (are_one(&voices[one - k.line], &voices[i]) || is(ANY_CLAIM));
+        if (!is_one) continue;
+        int at = count++;
+        for (; at > 0 && behind[at - 1] > behind_us; at--) behind[at] = behind[at - 1];
+        behind[at] = behind_us;
     }
-    return best;
+    return count;
+}
+
+/* Whether enough end with this one, or no further behind it than agrees. */
+static bool is_first_of_enough(const heard_line *one, uint32_t now_us) {
+    int32_t behind[MOST_LINES];
+    bool is_claim = is_kept(one, now_us) && (one->kept.kind == IRIG_TOLD_CLAIM || is(ANY_CLAIM));
+    int count = is_claim ? ends_behind(one, now_us, 0, behind) : 0;
+    return count >= majority() && behind[majority() - 1] <= apart_us();
+}
+
+static int32_t clipped(int32_t behind_us) {
+    return behind_us < 0 ? 0 : behind_us > apart_us() ? apart_us() : behind_us;
+}
+
+/* The edge lies in the middle between the end by which enough of that claim end, and the one from
+ * which on enough do. */
+static agreed_edge middle(const heard_line *first, uint32_t now_us) {
+    int32_t behind[MOST_LINES];
+    int count = ends_behind(first, now_us, BEFORE_US, behind);
+    int32_t by = clipped(behind[majority() - 1]), from = clipped(behind[count - majority()]);
+    uint32_t middle_us = is(TAKES_FIRST) ? 0 : (uint32_t)(from + by) / 2;
+    uint32_t half_us = is(BOUNDS_LITTLE) ? 0 : (uint32_t)(by - from + 1) / 2;
+    uint32_t drift_us = k.wires.drift_us > 0 && !is(BOUNDS_STEADILY);
+    uint32_t bound_us = k.wires.within_us - 1u + drift_us + half_us;
+    return (agreed_edge){first, first->end_us + middle_us, bound_us};
+}
+
+/* By the first of those on which lines agree. */
+static agreed_edge agreed(uint32_t now_us) {
+    const heard_line *first = NULL;
+    for (const heard_line *one = k.line; one < k.line + k.lines; one++)
+        if (is_first_of_enough(one, now_us) &&
+            (!first || (int32_t)(one->end_us - first->end_us) < 0))
+            first = one;
+    return first ? middle(first, now_us) : (agreed_edge){0};
 }
 
 /* The earliest end of all that lie near one. */
@@ -118,6 +165,8 @@ static void tell(irig_second *s, uint32_t now_us, uint32_t edge_us, uint32_t mis
     step(&k.reader, voted < 0 ? NULL : &k.line[voted].kept.claim, &s->report);
     s->is_told = 1;
     s->edge_us = k.edge_us = edge_us;
+    uint32_t age = s->report.lock == IRIG_LOCK_HOLDOVER ? s->report.lock_count : 0;
+    s->bound_us = k.bound_us + (is(BOUNDS_FOREVER) ? 0 : age * k.wires.drift_us);
     s->missed = missed;
     s->moved = k.moved;
     k.has_edge = true;
@@ -127,7 +176,9 @@ static void tell(irig_second *s, uint32_t now_us, uint32_t edge_us, uint32_t mis
     k.last = *s;
 }
 
-static void tell_by_lines(irig_second *s, uint32_t now_us, uint32_t end_us) {
+static void tell_by_lines(irig_second *s, uint32_t now_us, const agreed_edge *by) {
+    uint32_t end_us = by->edge_us;
+    k.bound_us = by->bound_us;
     if (is(TAKES_EARLIEST)) end_us = earliest_near(end_us, now_us);
     uint32_t to_us = is(COUNTS_TO_CALL) ? now_us : end_us;
     uint32_t half_us = is(ROUNDS_LOW) ? 400000 : 500000;
@@ -159,10 +210,10 @@ static uint32_t tick(uint32_t now_us, irig_second *s) {
         if (!is(IDLES_NOT)) idle(&k.line[i].sync, now_us);
         if (!is_kept(&k.line[i], now_us) && !is(TAKES_STALE)) k.line[i].has_end = false;
     }
-    const heard_line *by = agreed(now_us);
+    agreed_edge by = agreed(now_us);
     uint32_t ahead_us = is(TAKES_AHEAD) ? AHEAD_US : 0;
-    if (by && now_us + ahead_us - by->end_us <= late_us() + ahead_us)
-        tell_by_lines(s, now_us, by->end_us);
+    if (by.first && now_us + ahead_us - by.edge_us <= late_us() + ahead_us)
+        tell_by_lines(s, now_us, &by);
     else tell_alone(s, now_us);
     for (int i = 0; i < k.lines && is(EMPTIES_PORTS); i++) k.line[i].heard.count = 0;
     return IRIG_DONE;
@@ -174,19 +225,18 @@ static uint32_t until(uint32_t time_us, uint32_t now_us) {
 }
 
 static uint32_t wait(uint32_t now_us) {
-    const heard_line *by = agreed(now_us);
+    agreed_edge by = agreed(now_us);
     uint32_t patience_us = is(WAITS_LONG) ? 6000 : 5000;
-    if (by) return until(by->end_us, now_us);
+    if (by.first) return until(by.edge_us, now_us);
     return k.has_edge ? until(k.edge_us + SECOND_US + patience_us, now_us) : SECOND_US;
 }
 
 /* A stamp by a second, of what came behind its edge, by a second and the edge's error at most. */
 static bool stamp_by(const irig_second *s, uint32_t time_us, irig_stamp *stamp) {
     const irig_report *r = &s->report;
-    uint32_t age = r->lock == IRIG_LOCK_HOLDOVER ? r->lock_count : 0;
-    uint32_t bound_us = 1549 + age * k.drift_us, offset_us = time_us - s->edge_us;
-    if (!r->announces || offset_us > SECOND_US + bound_us) return false;
-    *stamp = (irig_stamp){r->day, r->sod, offset_us, bound_us};
+    uint32_t offset_us = time_us - s->edge_us;
+    if (!r->announces || offset_us > SECOND_US + s->bound_us) return false;
+    *stamp = (irig_stamp){r->day, r->sod, offset_us, s->bound_us};
     return true;
 }
 
@@ -202,19 +252,20 @@ static void restart(void) {
     memset(&k.reader.state, 0, sizeof k.reader.state);
     for (int i = 0; i < 5; i++) k.line[i].sync.was_marker = 1;
     k.has_edge = k.has_edge && is(KEEPS_ITS_EDGE);
-    k.moved = 0;
+    k.moved = k.bound_us = 0;
     memset(&k.last, 0, sizeof k.last);
     memset(&k.before, 0, sizeof k.before);
 }
 
-static uint32_t begin(const irig_setup *setup, const irig_table *table, uint32_t drift_us,
+static uint32_t begin(const irig_setup *setup, const irig_table *table, const irig_wires *wires,
                       uint32_t now_us) {
     (void)now_us;
-    if (drift_us > 100) return IRIG_FAULT_VALUE;
-    if ((uint64_t)(setup->holdover + 2) * drift_us + 10000 > 500000) return IRIG_FAULT_DRIFT;
+    bool is_exact = wires->within_us >= 1 && wires->within_us <= 450;
+    if (!is_exact || wires->drift_us > 100) return IRIG_FAULT_VALUE;
+    if ((uint64_t)(setup->holdover + 2) * wires->drift_us + 10000 > 500000) return IRIG_FAULT_DRIFT;
     k.reader.setup = *setup;
     if (is(HOLDS_LONG)) k.reader.setup.holdover += 5;
-    k.drift_us = drift_us;
+    k.wires = *wires;
     k.reader.table = *table;
     k.lines = setup->redundancy == IRIG_PORTS_ONE    ? 1
               : setup->redundancy == IRIG_PORTS_FIVE ? 5

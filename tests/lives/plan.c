@@ -23,6 +23,8 @@ static void plan_setup(life *l, chance *luck) {
     static const uint8_t PORTS[] = {IRIG_PORTS_THREE, IRIG_PORTS_FIVE, IRIG_PORTS_ONE};
     uint32_t kind = (uint32_t)ONE_OF(luck, 0, 0, 0, 0, 0, 0, 0, 1, 1, 2);
     l->sky.lines = kind == 0 ? 3 : kind == 1 ? 5 : 1;
+    l->world.within_us = (uint32_t)ONE_OF(luck, 450, 450, 450, 50, 10, 1);
+    if (is_once_in(luck, 8)) l->world.within_us = 1 + below(luck, 450);
     l->world.drift_us = (uint32_t)ONE_OF(luck, 0, 1, 10, 100, 100);
     uint32_t most = l->world.drift_us ? 490000 / l->world.drift_us - 2 : 1000000;
     uint32_t holdover = (uint32_t)ONE_OF(luck, 0, 1, 5, 20, 60, 300, 1000000);
@@ -99,9 +101,10 @@ void begin_lines(life *l, uint64_t start_us, walk kind, chance *luck) {
 }
 
 /* Half of them are of one zone. */
-static void plan_line(line *l, int32_t zone, chance *luck) {
+static void plan_line(line *l, int32_t most_us, int32_t zone, chance *luck) {
     l->spread = (spread)below(luck, SPREADS);
-    l->offset_us = is_once_in(luck, 2) ? ONE_OF(luck, -449, 449) : between(luck, -449, 449);
+    l->offset_us = is_once_in(luck, 2) ? (is_once_in(luck, 2) ? -most_us : most_us)
+                                       : between(luck, -most_us, most_us);
     l->width = (width)below(luck, WIDTHS);
     l->zone = is_once_in(luck, 2) ? zone : between(luck, -31, 31);
     l->dst = is_once_in(luck, 4);
@@ -120,10 +123,14 @@ static void plan_darkness(life *l, chance *luck) {
 
 /* ---- lies */
 
-static int32_t plan_shift(aim aim, chance *luck) {
+static int32_t plan_shift(aim aim, int32_t most_us, chance *luck) {
+    int32_t apart_us = 2 * most_us; /* so far at most lie ends that agree */
     switch (aim) {
-    case AT_PLACE: return between(luck, -449, 449);
-    case AT_BOUND: return ONE_OF(luck, -1001, -1000, -999, 999, 1000, 1001, 0, -10100, -9000, 500);
+    case AT_PLACE: return between(luck, -most_us, most_us);
+    case AT_BOUND:
+        return ONE_OF(luck, -1001, -1000, -999, 999, 1000, 1001, 0, -10100, -9000, 500, -apart_us,
+                      -apart_us, -apart_us - 1, 1 - apart_us, apart_us, apart_us, apart_us + 1,
+                      apart_us - 1, -most_us, most_us);
     case SHIFTED:
         return is_once_in(luck, 2)
                    ? between(luck, -500000, 500000)
@@ -135,7 +142,7 @@ static int32_t plan_shift(aim aim, chance *luck) {
     }
 }
 
-static lie plan_lie(chance *luck, uint8_t lines) {
+static lie plan_lie(chance *luck, int32_t most_us, uint8_t lines) {
     lie told = {.seed = draw(luck)};
     told.manner = (manner)ONE_OF(luck, 0, 0, 0, 0, 0, 0, 0, 0, NOISE, STUCK);
     told.saying = (saying)ONE_OF(luck, SAYS_TRUTH, SAYS_OTHER, SAYS_OTHER, SAYS_LEAP, SAYS_POOR,
@@ -144,7 +151,7 @@ static lie plan_lie(chance *luck, uint8_t lines) {
     told.harm = (harm)ONE_OF(luck, 0, 0, 0, 0, CUT, TRAILED, LAST_MOVED, GLITCHES, HOLES);
     told.by = is_once_in(luck, 2) ? ONE_OF(luck, -1, 1)
                                   : ONE_OF(luck, -2, 2, 60, -60, 3600, -TURN_S, 86400, 7);
-    told.shift_us = plan_shift(told.aim, luck);
+    told.shift_us = plan_shift(told.aim, most_us, luck);
     told.rate_us =
         is_once_in(luck, 2) ? between(luck, -1000, 1000) : ONE_OF(luck, -1, 1, -100, 100, 1000);
     told.spacing_us = is_once_in(luck, 3) ? (uint32_t)between(luck, 9000, 10999) : ELEMENT_US;
@@ -163,7 +170,7 @@ static void plan_liar(life *l, const uint8_t *lines, uint32_t count, uint32_t fr
     bool is_patient = is_once_in(luck, 3);
     uint32_t most = (uint32_t)ONE_OF(luck, 3, 10, 60);
     for (int most_lies = s->lies + MOST_LIES / 3; s->lies < most_lies && time_us < end_us;) {
-        lie told = plan_lie(luck, s->lines);
+        lie told = plan_lie(luck, jitter_us(&l->world), s->lines);
         told.line = lines[below(luck, count)];
         told.from_us = time_us;
         told.to_us =
@@ -306,6 +313,7 @@ static uint64_t kinds_of(const life *l, walk kind_of_walk, uint32_t length) {
                      bit_of(l->table.until > 0 ? 1 + (l->table.len > 0) : 0, 3, &before) |
                      bit_of((uint32_t)(w->leap + 1), 3, &before) |
                      bit_of(w->first.day == LAST_DAY, 2, &before) |
+                     bit_of(w->within_us == 450 ? 0 : w->within_us > 1 ? 1 : 2, 3, &before) |
                      bit_of(kind_of_walk, WALKS, &before) | bit_of(length, 3, &before) |
                      bit_of(l->device.pace, PACES, &before) |
                      bit_of(l->device.restart_one_in > 0, 2, &before);
@@ -327,7 +335,8 @@ void plan(life *l, uint64_t seed, uint64_t number) {
                                        : (int32_t)below(&luck, WALKS));
     begin_lines(l, plan_start(l, &luck), kind_of_walk, &luck);
     int32_t zone = between(&luck, -31, 31);
-    for (int i = 0; i < l->sky.lines; i++) plan_line(&l->sky.line[i], zone, &luck);
+    for (int i = 0; i < l->sky.lines; i++)
+        plan_line(&l->sky.line[i], jitter_us(&l->world), zone, &luck);
     if (is_turn) plan_turn(l, &luck);
     else if (is_long) plan_long(l, &luck);
     else plan_short(l, &luck);

@@ -83,13 +83,13 @@ static void come_before(uint32_t now_us) {
 
 /* ---- the calls of a subject */
 
-static uint32_t begin(const irig_setup *given, const irig_table *known, uint32_t most_drift_us,
-                      uint32_t now_us) {
+static uint32_t begin(const irig_setup *wanted_setup, const irig_table *known,
+                      const irig_wires *exact, uint32_t now_us) {
     luck.state = timer_us = round_us = now_us;
     queued_count = taken = wanted = told = 0;
     is_otherwise = is_event_there = is_stamp_wanted = false;
-    uint32_t answer = library_subject.begin(given, known, most_drift_us, now_us);
-    return poll_init(given, known, most_drift_us) == answer ? answer : DIFFERS;
+    uint32_t answer = library_subject.begin(wanted_setup, known, exact, now_us);
+    return poll_init(wanted_setup, known, exact) == answer ? answer : DIFFERS;
 }
 
 static uint8_t hear(uint8_t line, uint32_t rise_us, uint32_t width_us) {
@@ -105,7 +105,7 @@ static uint8_t hear(uint8_t line, uint32_t rise_us, uint32_t width_us) {
 static uint32_t tick_at(uint32_t now_us, irig_second *s) {
     come_before(now_us);
     if (library_subject.tick(now_us, s) != IRIG_DONE)
-        library_subject.begin(&setup, &table, drift_us, now_us);
+        library_subject.begin(&setup, &table, &wires, now_us);
     if (s->is_told) wanted_second[wanted++ % MOST_WANTED] = *s;
     want_stamp(now_us, STAMPED_US);
     return is_otherwise ? DIFFERS : IRIG_DONE;
@@ -118,7 +118,7 @@ static uint32_t stamp(uint32_t time_us, irig_stamp *s) { return library_subject.
 static void restart(void) {
     come_round();
     bool was_otherwise = is_otherwise;
-    begin(&setup, &table, drift_us, timer_us);
+    begin(&setup, &table, &wires, timer_us);
     is_otherwise = was_otherwise;
 }
 

@@ -8,7 +8,8 @@ enum { MOST_PULSES = 20000, ALL = 31, BEGIN_US = -600000 };
 
 static pulse script[MOST_PULSES];
 static uint32_t scripted;
-static uint32_t given; /* the number that the table gives a row */
+static uint32_t given;    /* the number that the table gives a row */
+static int32_t jitter;    /* how far true pulses are off at most */
 
 /* ---- making worlds */
 
@@ -23,6 +24,7 @@ static void begin_drifting(life *l, uint32_t seconds, uint32_t drift_us) {
     l->sky.lines = 3;
     l->world.seconds = seconds;
     l->world.drift_us = drift_us;
+    l->world.within_us = (uint32_t)jitter + 1;
     l->world.is_odd = l->world.is_subtracted = false;
     l->world.first = (utc){9826, 45290};
     l->world.leap_day = -1;
@@ -160,8 +162,8 @@ static bool polled(life *l, const subject *s) {
 /* It ends so much before the first of two true lines, and tells something else, or not. */
 static bool early_liar(life *l, const subject *s, int32_t shift_us, int32_t by, width kind) {
     begin_row(l, 30);
-    send(l, 0, -449, kind);
-    send(l, 1, 449, kind);
+    send(l, 0, -jitter, kind);
+    send(l, 1, jitter, kind);
     lie *told = add_lie(l, 2, 0, 30, by);
     told->aim = AT_BOUND;
     told->shift_us = shift_us;
@@ -173,11 +175,36 @@ static bool liar_ends_before_a_wide_marker(life *l, const subject *s) {
 }
 
 static bool liar_ends_an_element_early(life *l, const subject *s) {
-    return early_liar(l, s, -10100, 0, NOMINAL) && l->judge.earliest >= -549;
+    return early_liar(l, s, -10100, 0, NOMINAL) && l->judge.earliest >= -1;
 }
 
 static bool liar_ends_at_the_bound(life *l, const subject *s) {
     return early_liar(l, s, -1000, 0, WIDE);
+}
+
+/* It is the first with which the first of the two true lines agrees, or ends 1 us too early. */
+static bool liar_agrees_with_one(life *l, const subject *s) {
+    return early_liar(l, s, -2 * jitter, 0, WIDE) && early_liar(l, s, -2 * jitter - 1, 0, WIDE);
+}
+
+/* A true line and a liar end as far apart as they may to agree; or 1 us further, and nothing is told.
+ * The other true line is dark. So the edge that is told lies twice as far off as the true line. */
+static bool liar_agrees_alone(life *l, const subject *s) {
+    for (int32_t more_us = 0; more_us <= 1; more_us++) {
+        begin_row(l, 30);
+        send(l, 0, -jitter, NOMINAL);
+        darken(l, 0, 30, 2);
+        lie *told = add_lie(l, 2, 0, 30, 0);
+        told->aim = AT_BOUND;
+        told->shift_us = -2 * jitter - more_us;
+        told->to_us += 20000;
+        if (!goes_right(l, s) || l->tolds != (more_us == 0 ? 30 : 0)) return false;
+        if (l->tolds == 0) continue;
+        const entry *last = entry_at(l, 30);
+        if (l->judge.earliest != -2 * jitter || last->second.bound_us != (uint32_t)(2 * jitter))
+            return false;
+    }
+    return true;
 }
 
 /* Nothing is told: of two lines each tells a time of its own. */
@@ -188,25 +215,30 @@ static bool two_tell_two_times(life *l, const subject *s) {
     return goes_right(l, s) && l->tolds == 0;
 }
 
-/* What is refused, so that nothing is held for half a second's drift. */
+/* What is refused, so that nothing is held for half a second's drift; and wires that are none. */
 static bool holdover_is_bounded(life *l, const subject *s) {
     static const struct {
-        uint32_t holdover, drift_us, answer;
-    } TRIED[] = {{4898, 100, IRIG_DONE},
-                 {4899, 100, IRIG_FAULT_DRIFT},
-                 {48998, 10, IRIG_DONE},
-                 {48999, 10, IRIG_FAULT_DRIFT},
-                 {489998, 1, IRIG_DONE},
-                 {489999, 1, IRIG_FAULT_DRIFT},
-                 {1000000, 0, IRIG_DONE},
-                 {1000000, 1, IRIG_FAULT_DRIFT},
-                 {0, 101, IRIG_FAULT_VALUE},
-                 {0, UINT32_MAX, IRIG_FAULT_VALUE},
-                 {1000000, 100, IRIG_FAULT_DRIFT}};
+        uint32_t holdover;
+        irig_wires wires;
+        uint32_t answer;
+    } TRIED[] = {{4898, {450, 100}, IRIG_DONE},
+                 {4899, {450, 100}, IRIG_FAULT_DRIFT},
+                 {48998, {1, 10}, IRIG_DONE},
+                 {48999, {1, 10}, IRIG_FAULT_DRIFT},
+                 {489998, {450, 1}, IRIG_DONE},
+                 {489999, {450, 1}, IRIG_FAULT_DRIFT},
+                 {1000000, {450, 0}, IRIG_DONE},
+                 {1000000, {450, 1}, IRIG_FAULT_DRIFT},
+                 {0, {450, 101}, IRIG_FAULT_VALUE},
+                 {0, {450, UINT16_MAX}, IRIG_FAULT_VALUE},
+                 {0, {0, 0}, IRIG_FAULT_VALUE},
+                 {0, {451, 0}, IRIG_FAULT_VALUE},
+                 {1000000, {UINT16_MAX, 100}, IRIG_FAULT_VALUE},
+                 {1000000, {450, 100}, IRIG_FAULT_DRIFT}};
     begin_row(l, 1);
     for (size_t i = 0; i < sizeof TRIED / sizeof *TRIED; i++) {
         l->setup.holdover = TRIED[i].holdover;
-        if (s->begin(&l->setup, &l->table, TRIED[i].drift_us, 0) != TRIED[i].answer) return false;
+        if (s->begin(&l->setup, &l->table, &TRIED[i].wires, 0) != TRIED[i].answer) return false;
     }
     return true;
 }
@@ -343,9 +375,9 @@ static bool joined_frame_alone(life *l, const subject *s) {
 /* Honest lines as far apart as they may lie, with the widest markers: each second has its vote. */
 static bool lines_apart(life *l, const subject *s) {
     begin_row(l, 20);
-    send(l, 0, -449, WIDE);
-    send(l, 1, 449, WIDE);
-    send(l, 2, 449, WIDE);
+    send(l, 0, -jitter, WIDE);
+    send(l, 1, jitter, WIDE);
+    send(l, 2, jitter, WIDE);
     return all_voted(l, s);
 }
 
@@ -355,15 +387,16 @@ static void drift_in_the_dark(life *l, int32_t rate_us) {
     begin_drifting(l, 180, 100);
     for (uint32_t n = 0; n <= l->world.seconds + 2; n++)
         set_edge(&l->world, n, rate_us * (n <= 6 ? 0 : n <= 139 ? (int32_t)n - 6 : 133));
-    send(l, 0, -449, NOMINAL);
-    send(l, 1, 449, NOMINAL);
+    send(l, 0, -jitter, NOMINAL);
+    send(l, 1, jitter, NOMINAL);
     darken(l, 6, 139, ALL);
     darken(l, 0, 180, 4);
 }
 
-/* The own tick falls between the ends of the two: they do agree. */
+/* The own tick falls 2.05 ms before the edge, between the ends of the two lines' last pulses if they
+ * are 50 us off or more, so that one alone is known: they do agree behind it. */
 static bool tick_between_two_ends(life *l, const subject *s) {
-    drift_in_the_dark(l, 42);
+    drift_in_the_dark(l, 53);
     return goes_right(l, s) && have_votes(l, 141, 180);
 }
 
@@ -536,9 +569,17 @@ typedef struct expected {
     uint32_t lock_count, moved, early_us;
 } expected;
 
-/* Votes end at edges 90 and 200. Behind the first darkness a frame ends 6.1 ms behind the own edge,
- * and is known 4.4 ms behind it: it is voted. Behind the second it ends 11.1 ms behind, and is
- * known 9.4 ms behind: edge 311 was told 5 ms behind it, and is moved. */
+/* How late the second line is. */
+static uint32_t second_late_us(void) { return jitter < 300 ? (uint32_t)jitter : 300; }
+
+/* How far off a vote is told to be: as far as a line, the drift in an element, and half of how late
+ * the second line is. */
+static uint32_t voted_us(void) { return (uint32_t)jitter + 1 + (second_late_us() + 1) / 2; }
+
+/* Votes end at edges 90 and 200. Behind the first darkness the lines' edge lies 6.1 ms behind the own
+ * one, and their frames are known 4.1 to 4.3 ms behind that: they are voted. Behind the second it lies
+ * 11.1 ms behind, and they are known 9.1 ms behind or more: edge 311 was told 5 ms behind the own one,
+ * and is moved. */
 static expected expect(uint32_t edge) {
     uint32_t votes = edge < 3 ? edge : edge > 311 && edge < 314 ? edge - 311 : 0;
     uint32_t last = edge <= 150 ? 90 : 200, alone = edge > last ? edge - last : 0;
@@ -552,9 +593,9 @@ static expected expect(uint32_t edge) {
                       alone == 101 ? IRIG_CAUSE_EXPIRED : IRIG_CAUSE_NO_VOTE, 0, 0, 100 * alone};
 }
 
-/* From 23:58:50 of 2016-12-31 over 23:59:60. A frame ends 1 us before its edge: its last element,
- * which is 10,001 us long by the counter, is taken for 10,000. By a vote the first two lines agree,
- * and the last is silent. */
+/* From 23:58:50 of 2016-12-31 over 23:59:60. The first line's frame ends 1 us before its edge: its
+ * last element, which is 10,001 us long by the counter, is taken for 10,000. By a vote the first two
+ * lines agree, and the last is silent. */
 static bool is_expected(const life *l, uint32_t edge) {
     const irig_second *s = &l->told[edge - 1].second;
     const irig_report *r = &s->report;
@@ -563,7 +604,9 @@ static bool is_expected(const life *l, uint32_t edge) {
     bool is_voted = is.cause == IRIG_CAUSE_VOTED || is.cause == IRIG_CAUSE_ACQUIRING;
     return r->announces == is.is_announced && r->lock == is.lock && r->cause == is.cause &&
            r->lock_count == is.lock_count && s->missed == 0 && s->moved == is.moved &&
-           s->edge_us == (uint32_t)l->world.edge_us[edge] - 1 - is.early_us &&
+           s->edge_us ==
+               (uint32_t)l->world.edge_us[edge] - 1 + second_late_us() / 2 - is.early_us &&
+           s->bound_us == voted_us() + (is.lock == IRIG_LOCK_HOLDOVER ? is.early_us : 0) &&
            r->day == (is.is_announced ? day : 0) && r->sod == (is.is_announced ? sod : 0) &&
            r->agreed == (is_voted ? 3 : 0) && r->quality == (is_voted ? 2 : 15) &&
            r->has_local == is_voted && r->dst == is_voted && r->differed == 0 && r->faulty == 0 &&
@@ -572,24 +615,29 @@ static bool is_expected(const life *l, uint32_t edge) {
 
 /* Of events behind the last edge, before it, and too far behind. */
 static bool stamps_last(const life *l, const subject *s) {
-    uint32_t edge_us = (uint32_t)l->judge.edge_us;
-    irig_stamp at = {0}, before = {0}, behind;
-    return !s->stamp || (s->stamp(edge_us + 250000, &at) == IRIG_DONE && at.day == 6210 &&
-                         at.sod == 249 && at.offset_us == 250000 && at.bound_us == 1549 &&
-                         s->stamp(edge_us - 1, &before) == IRIG_DONE && before.sod == 248 &&
-                         before.offset_us == 1000099 && before.bound_us == 1549 &&
-                         s->stamp(edge_us + 1001550, &behind) == IRIG_FAULT_VALUE);
+    uint32_t edge_us = (uint32_t)l->judge.edge_us, last_us = edge_us + SECOND_US + voted_us();
+    irig_stamp at = {0}, before = {0}, last = {0}, behind;
+    if (!s->stamp) return true;
+    bool is_stamped = s->stamp(edge_us + 250000, &at) == IRIG_DONE && at.day == 6210 &&
+                      at.sod == 249 && at.offset_us == 250000 && at.bound_us == voted_us();
+    /* Of the second before it, which is 100 us longer than a million. */
+    bool is_before = s->stamp(edge_us - 1, &before) == IRIG_DONE && before.sod == 248 &&
+                     before.offset_us == 1000099 && before.bound_us == voted_us();
+    return is_stamped && is_before == (voted_us() >= 99) &&
+           s->stamp(last_us, &last) == IRIG_DONE && last.sod == 249 &&
+           s->stamp(last_us + 1, &behind) == IRIG_FAULT_VALUE;
 }
 
-/* A counter gains 100 us a second. Of three lines the last is dead, and the second 300 us late. It
- * is dark for a minute, and then for longer than it holds over; a leap second is inserted. */
+/* A counter gains 100 us a second. Of three lines the last is dead, and the second 300 us late, or as
+ * late as it may be. It is dark for a minute, and then for longer than it holds over; a leap second is
+ * inserted. */
 static bool life_by_hand(life *l, const subject *s) {
     begin_drifting(l, 320, 100);
     l->setup.holdover = 100;
     l->world.first = (utc){6209, 86330};
     l->world.leap_day = 6209;
     l->world.leap = 1;
-    send(l, 1, 300, NOMINAL);
+    send(l, 1, (int32_t)second_late_us(), NOMINAL);
     for (int i = 0; i < 2; i++) {
         l->sky.line[i].quality = 2;
         l->sky.line[i].dst = true;
@@ -623,6 +671,8 @@ static const struct {
     {"a liar ends before a wide marker", liar_ends_before_a_wide_marker, 0, OF_ALL},
     {"a liar ends an element early", liar_ends_an_element_early, 0, OF_ALL},
     {"a liar ends at the bound", liar_ends_at_the_bound, 0, OF_ALL},
+    {"a liar agrees with one line", liar_agrees_with_one, 0, OF_ALL},
+    {"a liar agrees alone", liar_agrees_alone, 0, OF_ALL},
     {"two lines tell two times", two_tell_two_times, 0, OF_ALL},
     {"the holdover is bounded", holdover_is_bounded, 0, OF_ALL},
     {"a call out of order", call_out_of_order, 0, OF_ANY_TICKS},
@@ -650,19 +700,29 @@ static bool can_be_asked(const subject *s, asked what) {
     return what == OF_ALL || (what == OF_FLIPS ? s->flip != NULL : !s->is_by_wait);
 }
 
+/* One row, and whether it went as it has to. */
+static bool play_row(life *l, const subject *s, size_t row, bool is_loud) {
+    given = ROWS[row].given;
+    l->judge.is_failed = false;
+    bool is_passed = ROWS[row].play(l, s);
+    if (!is_passed && is_loud)
+        printf("row failed: %s, %d us off: %s\n", ROWS[row].name, (int)jitter,
+               is_right(l) ? "it came otherwise" : l->judge.text);
+    memset(l->sky.line, 0, sizeof l->sky.line);
+    l->judge.is_beyond = false;
+    return is_passed;
+}
+
 void play_rows(life *l, const subject *s, bool is_loud, unsigned long *passed,
                unsigned long *failed) {
-    for (size_t i = 0; i < sizeof ROWS / sizeof *ROWS; i++) {
-        if (!can_be_asked(s, ROWS[i].asked)) continue;
-        given = ROWS[i].given;
-        l->judge.is_failed = false;
-        bool is_passed = ROWS[i].play(l, s);
-        *passed += is_passed;
-        *failed += !is_passed;
-        if (!is_passed && is_loud)
-            printf("row failed: %s: %s\n", ROWS[i].name,
-                   is_right(l) ? "it came otherwise" : l->judge.text);
-        memset(l->sky.line, 0, sizeof l->sky.line);
-        l->judge.is_beyond = false;
+    static const int32_t JITTERS[] = {449, 49, 9, 0};
+    for (size_t i = 0; i < sizeof JITTERS / sizeof *JITTERS; i++) {
+        jitter = JITTERS[i];
+        for (size_t row = 0; row < sizeof ROWS / sizeof *ROWS; row++) {
+            if (!can_be_asked(s, ROWS[row].asked)) continue;
+            bool is_passed = play_row(l, s, row, is_loud);
+            *passed += is_passed;
+            *failed += !is_passed;
+        }
     }
 }

@@ -6,7 +6,7 @@
 
 typedef struct subject {
     const char *name;
-    uint32_t (*begin)(const irig_setup *, const irig_table *, uint32_t drift_us, uint32_t now_us);
+    uint32_t (*begin)(const irig_setup *, const irig_table *, const irig_wires *, uint32_t now_us);
     uint8_t (*hear)(uint8_t line, uint32_t rise_us, uint32_t width_us);
     uint32_t (*tick)(uint32_t now_us, irig_second *);
     uint32_t (*wait)(uint32_t now_us);
@@ -29,8 +29,8 @@ enum { DIFFERS = 200 }; /* what a subject answers where two have to answer alike
     X(EMPTIES_PORTS)   /* a tick empties a port in which a frame is being heard */                 \
     X(TAKES_STALE)     /* a frame is kept until the next one, over a turn of the counter too */    \
     X(ONE_IS_ENOUGH)   /* one line sets the edge, and has a vote */                                \
-    X(AGREES_WIDELY)   /* ends 2 ms apart agree */                                                 \
-    X(AGREES_SHORTLY)  /* ends 1 ms apart do not */                                                \
+    X(AGREES_WIDELY)   /* ends agree that lie 2 ms further apart */                                \
+    X(AGREES_SHORTLY)  /* those that lie as far apart as they may do not */                        \
     X(HAS_NO_PATIENCE) /* its own edge is counted before the lines' */                             \
     X(MOVES_NEVER)     /* an edge of the lines behind its own tick is another second */            \
     X(MISSES_NONE)     /* seconds that no tick came for are one */                                 \
@@ -46,6 +46,10 @@ enum { DIFFERS = 200 }; /* what a subject answers where two have to answer alike
     X(IDLES_NOT)       /* a line is never put out of step, however long it sends nothing */        \
     X(IDLES_BY_OTHERS) /* one is by a pulse of another line, too */                                \
     X(GUARDS_NOT)      /* a call whose time lies before the edge is one of a turn later */         \
+    X(TAKES_FIRST)     /* the edge is the end of the first frame on which lines agree */           \
+    X(BOUNDS_LITTLE)   /* its bound leaves out how far the ends lie apart, */                      \
+    X(BOUNDS_STEADILY) /* or the drift in an element, */                                           \
+    X(BOUNDS_FOREVER)  /* or that of the seconds since a vote */                                   \
     X(SERVES_ON)       /* what was announced before a jump is still stamped by */
 
 #define NUMBER_OF(wrong) wrong,

@@ -78,6 +78,7 @@ typedef struct world {
         edge_us[MOST_SECONDS + 3]; /* edge n, where T(n) begins, by a counter that does not wrap */
     uint32_t seconds;              /* the edges 0 to `seconds` + 2 are there */
     uint32_t drift_us;
+    uint32_t within_us; /* true pulses rise less than so many us from their time */
     utc first;                  /* T(0) */
     int64_t leap_day;           /* at whose end a leap comes, or none */
     int leap;                   /* 1 inserted, -1 deleted, 0 none */
@@ -92,6 +93,9 @@ static inline uint64_t element_us(const world *w, uint32_t second, unsigned elem
     return edge_us + (w->edge_us[second + 1] - edge_us) * element / ELEMENTS;
 }
 
+/* How far from its time a true pulse rises at most. */
+static inline int32_t jitter_us(const world *w) { return (int32_t)w->within_us - 1; }
+
 /* The last edge at or before a time, or 0. */
 uint32_t edge_before(const world *w, uint64_t time_us);
 
@@ -103,5 +107,10 @@ bool find_second(const world *w, utc at, int64_t *n);
 
 /* What a true frame of a second says, by a clock in this zone. */
 content true_content(const world *w, utc at, int32_t zone);
+
+/* What a device is told of it. */
+static inline irig_wires wires_of(const world *w) {
+    return (irig_wires){.within_us = (uint16_t)w->within_us, .drift_us = (uint16_t)w->drift_us};
+}
 
 #endif

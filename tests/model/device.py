@@ -11,15 +11,19 @@ WRAP = 2**32  # where the device's counter wraps
 SECOND = 1_000_000
 ELEMENT = 10_000
 STUCK = 500_000  # what is as wide is no pulse
-APART = 1_000  # how far the ends of frames lie apart that agree
+BEFORE = 1_000  # what ends longer before the first of those that agree has no part in a vote
 KEPT = 100_000  # how long a line keeps a frame behind its end
 COUNTED = 5_000  # how long behind its edge the counter alone counts a second
-OFF = 1_549  # how far a voted edge lies from the true one
 
 
 def since(earlier: int, later: int) -> int:
     """From one time to another by a counter that wraps."""
     return (later - earlier) % WRAP
+
+
+def off(time: int, other: int) -> int:
+    """How far a time lies behind another that is less than half a turn away; before it, below 0."""
+    return (time - other + WRAP // 2) % WRAP - WRAP // 2
 
 
 def lies_ahead(time: int, now: int) -> bool:
@@ -33,6 +37,15 @@ class Frame:
 
     word: Told
     end: int
+
+
+@dataclass(frozen=True)
+class Vote:
+    """What lines agree on: a claim, the edge behind it, and how far that may lie from the true one."""
+
+    claim: Claim
+    edge: int
+    bound: int
 
 
 @dataclass
@@ -90,12 +103,13 @@ class Announced:
 
 @dataclass(frozen=True)
 class Beat:
-    """What a tick answers: the report, what the lines' frames said, the told edge, the seconds that passed
-    untold before it, and how often the edge before was set right."""
+    """What a tick answers: the report, what the lines' frames said, the told edge and how far that may lie
+    from the true one, the seconds that passed untold before it, and how often the edge before was set right."""
 
     report: Report
     told: list[Told]
     edge: int
+    bound: int
     missed: int
     moved: int
 
@@ -117,6 +131,7 @@ class Device:
     reader_rules: ReaderRules
     table: Table | None
     redundancy: int
+    within: int
     drift: int
     lines: list[Line] = field(init=False)
 
@@ -125,24 +140,32 @@ class Device:
 
     def restart(self) -> None:
         self.lines = [Line() for _ in range(self.redundancy)]
-        self.reader, self.edge, self.moved = IDLE, None, 0
+        self.reader, self.edge, self.voted, self.moved = IDLE, None, 0, 0  # `voted` is the bound of the last vote
         self.last, self.before = None, None  # what was announced at the last told edge, and at the one before
 
     def hear(self, line: int, rise: int, width: int) -> int:
         """The place of a pulse in its frame."""
         return self.lines[line].hear(self.rules, rise, width) if width < STUCK else 0
 
-    def agreed(self, now: int) -> Frame | None:
-        """The frame on which lines agree: f + 1 of one claim, itself among them, end with it or up to 1 ms
-        behind it. Of several it is the one that ends last."""
-        kept = [line.kept(now) for line in self.lines]
-        claims = [frame for frame in kept if frame and isinstance(frame.word, Claim)]
-        found = None
-        for frame in claims:
-            near = [one for one in claims if one.word == frame.word and since(frame.end, one.end) <= APART]
-            if len(near) >= majority(self.redundancy) and (found is None or lies_ahead(frame.end, found.end)):
-                found = frame
-        return found
+    def ends(self, frame: Frame, now: int, before: int) -> list[int]:
+        """How far behind a frame's end those end that claim the same, in order, and no longer before it than so."""
+        kept = [one for line in self.lines if (one := line.kept(now)) and one.word == frame.word]
+        return sorted(behind for one in kept if (behind := off(one.end, frame.end)) >= -before)
+
+    def agreed(self, now: int) -> Vote | None:
+        """The edge on which lines agree: f + 1 of one claim end as near one another as the ends of two true lines.
+        It is the middle between the end by which f + 1 of that claim end and the one from which on f + 1 do."""
+        enough, apart = majority(self.redundancy), 2 * (self.within - 1)
+        claims = [frame for line in self.lines if (frame := line.kept(now)) and isinstance(frame.word, Claim)]
+        firsts = [one for one in claims if self.ends(one, now, 0)[enough - 1 : enough] and
+                  self.ends(one, now, 0)[enough - 1] <= apart]  # fmt: skip
+        if not firsts:
+            return None
+        first = min(firsts, key=lambda one: off(one.end, firsts[0].end))
+        ends = self.ends(first, now, BEFORE)
+        by, since_ = (min(max(end, 0), apart) for end in (ends[enough - 1], ends[-enough]))
+        bound = self.within - 1 + (self.drift > 0) + (by - since_ + 1) // 2
+        return Vote(first.word, (first.end + (since_ + by) // 2) % WRAP, bound)
 
     def tick(self, now: int) -> Beat | None:
         """What is said of a second, if one has begun."""
@@ -150,13 +173,14 @@ class Device:
             line.settle(now)
         told = [line.frame and line.frame.word for line in self.lines]
         agreed = self.agreed(now)
-        if agreed is None or lies_ahead(agreed.end, now):
+        if agreed is None or not 0 <= off(now, agreed.edge) <= KEPT:
             return self.count(self.seconds_alone(now), None, told)
         for line in self.lines:
             line.frame = None
-        if seconds := 1 if self.edge is None else (since(self.edge, agreed.end) + SECOND // 2) % WRAP // SECOND:
+        self.voted = agreed.bound
+        if seconds := 1 if self.edge is None else (since(self.edge, agreed.edge) + SECOND // 2) % WRAP // SECOND:
             return self.count(seconds, agreed, told)
-        self.edge, self.moved = agreed.end, self.moved + 1
+        self.edge, self.moved = agreed.edge, self.moved + 1
         return None
 
     def seconds_alone(self, now: int) -> int:
@@ -165,29 +189,30 @@ class Device:
             return 0
         return since(self.edge + COUNTED, now) // SECOND
 
-    def count(self, seconds: int, agreed: Frame | None, told: list[Told]) -> Beat | None:
+    def count(self, seconds: int, agreed: Vote | None, told: list[Told]) -> Beat | None:
         """The rule of the reader over the seconds that were missed, and one more."""
         if seconds == 0:
             return None
         for _ in range(seconds - 1):
             self.reader, _ = after_tick(self.reader_rules, self.table, self.reader, None)
-        vote = agreed and agreed.word
+        vote = agreed and agreed.claim
         self.reader, report = after_tick(self.reader_rules, self.table, self.reader, vote)
-        edge = agreed.end if agreed else (self.edge + SECOND * seconds) % WRAP
-        beat = Beat(report, told, edge, seconds - 1, self.moved)
+        edge = agreed.edge if agreed else (self.edge + SECOND * seconds) % WRAP
+        beat = Beat(report, told, edge, self.bound_of(report), seconds - 1, self.moved)
         self.before = None if vote and report.second is None else self.last
-        self.last = report.second and Announced(report.second, edge, self.bound_of(report))
+        self.last = report.second and Announced(report.second, edge, beat.bound)
         self.edge, self.moved = edge, 0
         return beat
 
     def bound_of(self, report: Report) -> int:
-        """How far the edge of a second may lie off by the drift of each second since the last vote."""
-        return OFF + self.drift * (report.count if report.lock == Lock.HOLDOVER else 0)
+        """How far the edge of a second may lie off: as far as the last voted one, and by the drift of each second since
+        then."""
+        return self.voted + self.drift * (report.count if report.lock == Lock.HOLDOVER else 0)
 
     def wait(self, now: int) -> int:
         """How long until a tick has something to do, if no call comes before."""
         if agreed := self.agreed(now):
-            return since(now, agreed.end) if lies_ahead(agreed.end, now) else 0
+            return since(now, agreed.edge) if lies_ahead(agreed.edge, now) else 0
         if self.edge is None:
             return SECOND
         due = self.edge + SECOND + COUNTED

@@ -398,7 +398,7 @@ class Devices(InAFolder):
             print("skipped: recordings against c/examples/capture.c; cc is missing")
             self.skipTest("no cc")
         sources = [ROOT / f"c/examples/{name}.c" for name in ("capture", "capture_bench")]
-        library = ROOT / "c/out/libirig.so.3"
+        library = ROOT / "c/out/libirig.so.4"
         for count in (1, 3, 5):
             subprocess.run(
                 ["cc", "-std=c11", f"-DLINES={count}", f"-I{ROOT / 'c'}", *sources, library,
@@ -506,7 +506,7 @@ class Edges(InAFolder):
         self.assertEqual(self.ticks(lines), self.each(1_050_600, 3) + held)
         log = ["4 relay 2026-11-24T09:30:04Z holdover:1 held", " 4 relay silence silence silence"]
         self.assertEqual(log_of(captured_wave(lines)[0])[6:8], log)
-        with self.assertRaisesRegex(ValueError, "most ports never claim one second within a mill"):
+        with self.assertRaisesRegex(ValueError, "most ports never claim one second within 0.9 ms"):
             captured_wave(self.clocks(6, (0, 1001, 2002)))
 
 
@@ -528,7 +528,7 @@ class Lines(unittest.TestCase):
 
     def test_a_polarity_that_is_said(self) -> None:
         lines = wave_of("leap_inserted")
-        with self.assertRaisesRegex(ValueError, "most ports never claim one second within a mill"):
+        with self.assertRaisesRegex(ValueError, "most ports never claim one second within 0.9 ms"):
             captured_wave(lines, "--polarity=inverted")
         text, _ = captured_wave(lines, "--polarity=normal")
         self.assertEqual(log_of(text), wanted_of("leap_inserted"))
@@ -716,7 +716,7 @@ class Words(InAFolder):
         self.assertEqual((ran.returncode, ran.stdout), (2, ""))
         self.assertEqual(
             ran.stderr,
-            "capture: there is no libirig.so.3: in a folder of irig's sources that one may write, `make -C c` makes it\n",
+            "capture: there is no libirig.so.4: in a folder of irig's sources that one may write, `make -C c` makes it\n",
         )
         ran = subprocess.run([tool, "--help"], capture_output=True, text=True)
         self.assertEqual((ran.returncode, ran.stderr), (0, ""))
@@ -729,7 +729,7 @@ class Words(InAFolder):
         self.assertIn("a.sr: sigrok-cli is missing, which reads it", ran.stderr)
 
     def test_what_ports_tell_that_claim_nothing(self) -> None:
-        with self.assertRaisesRegex(ValueError, "millisecond; at last G0 told fault 17 Parity, .*; --parity=odd"):
+        with self.assertRaisesRegex(ValueError, "0.9 ms; at last G0 told fault 17 Parity, .*; --parity=odd"):
             captured_wave(wave_of("odd_parity_and_subtract"))
 
     def test_frames_that_claim_nothing_at_first(self) -> None:

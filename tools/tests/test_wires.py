@@ -26,7 +26,7 @@ class Pictures(unittest.TestCase):
         """The frame of line 1 is the second to end, 300 us late: it is the edge, and the event's begin."""
         words = words_of("second")
         edge = "tick at 4,000,300: 2017-01-01T00:00:00Z locked voted, told edge 4,000,300"
-        stamp = "2017-01-01T00:00:00Z and 21,000 us, off by 1,549 us at most"
+        stamp = "2017-01-01T00:00:00Z and 21,000 us, off by 450 us at most"
         self.assertIn(edge, words)
         self.assertIn(f"event at 4,021,300, its stamp: {stamp}", words)
 

@@ -1,9 +1,9 @@
 -- A tick keeps the frames of lines, or drops them.
 use Rattle.std.proofs.Common.{◌==◌, ℕ, Bool, true, false, if◌then◌else◌, Option, Some, None, refl, inl, inr}
 use Rattle.irig_time.specs.Tables.{TableValue}
-use Rattle.irig_timekeeper.specs.declared.clock.ClockRules.{ClockRules}
+use Rattle.irig_timekeeper.specs.declared.setup.ClockRules.{ClockRules}
 use Rattle.irig_timekeeper.specs.declared.clock.ClockState.{ClockState}
-use Rattle.irig_timekeeper.specs.declared.lines.KeptClaim.{KeptClaim}
+use Rattle.irig_timekeeper.specs.declared.lines.Vote.{Vote}
 use Rattle.irig_timekeeper.specs.declared.lines.KeptFrame.{KeptFrame}
 use Rattle.irig_timekeeper.specs.declared.lines.Lines.{Lines}
 use Rattle.irig_timekeeper.specs.Clock.{after_own, after_vote, clock_after, clock_by, settled_at, vote_of_lines}
@@ -47,9 +47,9 @@ kept_by_tick c table s now = by (vote_of_lines c s now)
     own : (edges : ℕ) → AreKeptFrom s.lines (after_own c table (settled_at s now) edges).lines
     own edges = pick s.lines (edges == 0) _ _ (settled_from now s.lines) (settled_from now s.lines)
 
-    voted : (vote : KeptClaim) (edges : ℕ) → AreKeptFrom s.lines (after_vote c table (settled_at s now) vote edges).lines
+    voted : (vote : Vote) (edges : ℕ) → AreKeptFrom s.lines (after_vote c table (settled_at s now) vote edges).lines
     voted vote edges = pick s.lines (edges == 0) _ _ (taken_from s.lines (settled now s.lines)) (taken_from s.lines (settled now s.lines))
 
-    by : (vote : Option KeptClaim) → AreKeptFrom s.lines (clock_by c table (settled_at s now) now vote).lines
+    by : (vote : Option Vote) → AreKeptFrom s.lines (clock_by c table (settled_at s now) now vote).lines
     by None = own (edges_own s.edge_us now)
-    by (Some vote) = voted vote (edges_to_vote s.edge_us vote.end_us)
+    by (Some vote) = voted vote (edges_to_vote s.edge_us vote.edge_us)

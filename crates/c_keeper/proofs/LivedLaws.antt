@@ -6,9 +6,9 @@ use Rattle.irig_time.specs.declared.rules.Rules.{Rules}
 use Rattle.irig_time.specs.declared.rules.Sense.{Sense}
 use Rattle.irig_vote.specs.declared.redundancy.Redundancy.{Redundancy}
 use Rattle.irig_timekeeper.specs.declared.clock.Beat.{Beat}
-use Rattle.irig_timekeeper.specs.declared.clock.ClockRules.{ClockRules}
+use Rattle.irig_timekeeper.specs.declared.setup.ClockRules.{ClockRules}
 use Rattle.irig_timekeeper.specs.declared.clock.ClockState.{ClockState}
-use Rattle.irig_timekeeper.specs.declared.lines.KeptClaim.{KeptClaim}
+use Rattle.irig_timekeeper.specs.declared.lines.Vote.{Vote}
 use Rattle.irig_timekeeper.specs.Clock.{claim_voted, vote_of_lines}
 use Rattle.irig_timekeeper.specs.Keeping.{place_told, Keeping, after_pulse, after_tick, answer_at, new_keeping, new_state, restarted, vote_at, wait_at}
 use Rattle.irig_timekeeper.specs.Life.{device_of, life_of}
@@ -79,9 +79,9 @@ lived_wait t made past time now wait answers h clock =
 
 -- ---- a tick
 
-agreed_vote : (s : IrigSecond) (answer : Option Beat) (vote : Option KeptClaim) (r : Redundancy) (sense : Sense) (ports : List Tally) → IsSecondOf s answer
+agreed_vote : (s : IrigSecond) (answer : Option Beat) (vote : Option Vote) (r : Redundancy) (sense : Sense) (ports : List Tally) → IsSecondOf s answer
     → ((beat : Beat) → answer ≡ Some beat → voices_in s.report ≡ voices_to (claim_voted vote) beat.told r sense ports)
-    → (s.report.agreed ≡ 0 → ⊥) → (v : KeptClaim) × (vote ≡ Some v)
+    → (s.report.agreed ≡ 0 → ⊥) → (v : Vote) × (vote ≡ Some v)
 agreed_vote s answer (Some v) r sense ports is voices some = (v, refl)
 agreed_vote s None None r sense ports nothing voices some = absurd (some (ap (λ (x : IrigSecond). x.report.agreed) nothing))
 agreed_vote s (Some beat) None r sense ports is voices some = absurd (some (ap (λ (v : Voices). v.agreed) (voices beat refl) ∙ none_agrees beat.told r sense ports))

@@ -1,5 +1,5 @@
 -- What ticks of a life give C is what the laws of a device say of their answers.
-use Rattle.std.proofs.Common.{◌≡◌, ◌∙◌, ◌∷◌, ◌++◌, [], ◌+◌, ◌%◌, ◌^◌, ◌≤◌, ℕ, List, Option, Some, None, refl, sym, ap, subst, arith, inl, inr}
+use Rattle.std.proofs.Common.{◌≡◌, ◌∙◌, ◌∷◌, ◌++◌, [], ◌+◌, ◌*◌, ◌%◌, ◌^◌, ◌≤◌, ℕ, List, Option, Some, None, refl, sym, ap, subst, arith, inl, inr}
 use Rattle.irig_sync.specs.Lines.{Pulse}
 use Rattle.irig_time.specs.declared.second.UtcSecond.{UtcSecond}
 use Rattle.irig_time.specs.declared.rules.Rules.{Rules}
@@ -9,7 +9,9 @@ use Rattle.irig_reader.specs.declared.report.Cause.TheVariants as cause
 use Rattle.irig_reader.specs.declared.report.Report.{Report}
 use Rattle.irig_timekeeper.specs.declared.clock.Beat.{Beat}
 use Rattle.irig_timekeeper.specs.declared.lines.Lines.{Lines}
+use Rattle.irig_timekeeper.specs.declared.within.Within.{Within}
 use Rattle.irig_timekeeper.specs.Clock.{lasted}
+use Rattle.irig_timekeeper.specs.Exactness.{vote_us}
 use Rattle.irig_timekeeper.specs.Edges.{IsQuartz}
 use Rattle.irig_timekeeper.specs.Keeping.{Keeping, answer_at}
 use Rattle.irig_timekeeper.specs.Life.{Call, AreInOrder, AreTrueLately, AreTrueAtTicks, AreTrueOver, after_calls, device_of}
@@ -66,17 +68,16 @@ jump_beat s None nothing jump =
     absurd cc
 jump_beat s (Some beat) is jump = (beat, record { is = refl; told = is })
 
-as_told : (s : IrigSecond) (beat : Beat) (t : TimelineValue) (edges : ℕ → ℕ) (early late d holdover now : ℕ) (u : UtcSecond) → IsToldOf s beat
-    → IsToldInHoldover t edges early late d holdover now beat u → IsToldInHoldover t edges early late d holdover now (beat_in s) u
-as_told s beat t edges early late d holdover now u same h = record {
-  far = h.far;
-  held = subst (λ (r : Report). h.far ≤ lasted r.lock) (sym same.report) h.held;
-  few = h.few;
+as_told : (s : IrigSecond) (beat : Beat) (t : TimelineValue) (edges : ℕ → ℕ) (early late within d holdover now : ℕ) (u : UtcSecond) → IsToldOf s beat
+    → IsToldInHoldover t edges early late within d holdover now beat u → IsToldInHoldover t edges early late within d holdover now (beat_in s) u
+as_told s beat t edges early late within d holdover now u same h = record {
+  bound = subst (λ (r : Report). s.bound_us ≤ vote_us within d + lasted r.lock * d) (sym same.report) (omega (arith, h.bound, same.bound_us));
+  few = subst (λ (r : Report). lasted r.lock ≤ holdover) (sym same.report) h.few;
   told = record {
     m = h.told.m;
     edge = h.told.edge;
     clock = same.edge_us ∙ h.told.clock;
-    near = h.told.near;
+    near = record { least = omega (arith, h.told.near.least, same.bound_us); most = omega (arith, h.told.near.most, same.bound_us) };
     come = h.told.come;
     soon = h.told.soon;
     truth = h.told.truth;
@@ -85,20 +86,21 @@ as_told s beat t edges early late d holdover now u same h = record {
 
 -- ---- lines that are true so
 
--- what such lines keep is true, and ends so long at most before its edge and behind it
-pub record AreLinesSo (IsTrue : Rules → TimelineValue → (ℕ → ℕ) → ℕ → List Pulse → Type 0) (early late : ℕ) : Type 0 where
-  pub room : early + late ≤ 4098
-  pub truly : (rules : Rules) (t : TimelineValue) (d : ℕ) (edges : ℕ → ℕ) → IsQuartz d edges → TellAlwaysTruly (IsTrue rules t edges) rules t edges early late
+-- what such lines keep is true, and ends as near its edge as that of a line that is so exact, and at
+-- most so much earlier or later
+pub record AreLinesSo (within : Within) (IsTrue : Rules → TimelineValue → (ℕ → ℕ) → ℕ → List Pulse → Type 0) (early late : ℕ) : Type 0 where
+  pub room : early + late ≤ 3002
+  pub truly : (rules : Rules) (t : TimelineValue) (d : ℕ) (edges : ℕ → ℕ) → IsQuartz d edges → TellAlwaysTruly (IsTrue rules t edges) within.us d rules t edges early late
 
-pub whole_lines : AreLinesSo IsTrueLately 549 549
-whole_lines = record {
+pub whole_lines : (within : Within) → AreLinesSo within (IsTrueLately within.us) 0 0
+whole_lines within = record {
   room = omega arith;
-  truly = λ rules t d edges steady now end pulses claim is frame soon. true_lately rules t d edges now end pulses claim steady is frame soon;
+  truly = λ rules t d edges steady now end pulses claim is frame soon. true_lately within rules t d edges now end pulses claim steady is frame soon;
 }
 
 -- they may have faults
-pub faulty_lines : AreLinesSo IsTrueOrFaulty 2549 1549
-faulty_lines = record { room = omega arith; truly = either_tells_truly }
+pub faulty_lines : (within : Within) → AreLinesSo within (IsTrueOrFaulty within.us) 2002 1000
+faulty_lines within = record { room = omega arith; truly = either_tells_truly within }
 
 module _ (IsTrue : Rules → TimelineValue → (ℕ → ℕ) → ℕ → List Pulse → Type 0) (t : TimelineValue) (edges : ℕ → ℕ) (made : MadeOf) (start : ℕ) (lines : Lines) (fresh : AreNewLines lines) where
   abbrev pub new : Keeping
@@ -125,30 +127,30 @@ module _ (IsTrue : Rules → TimelineValue → (ℕ → ℕ) → ℕ → List Pu
         since = h.since;
       }
 
-  healed_tells : (early late : ℕ) → AreLinesSo IsTrue early late → (now : ℕ) (calls : List Call) (beat : Beat) (u : UtcSecond) → device.HasHealed IsTrue t edges (made_with made lines fresh) start calls
+  healed_tells : (early late : ℕ) → AreLinesSo made.clock.within IsTrue early late → (now : ℕ) (calls : List Call) (beat : Beat) (u : UtcSecond) → device.HasHealed IsTrue t edges (made_with made lines fresh) start calls
       → AreInOrder start made.clock.redundancy (Tick now ∷ calls) → AreTrueLately (IsTrue made.rules t edges) (f_of made.clock.redundancy) now calls
       → answer_at (after_calls new calls) (now % 2 ^ 32) ≡ Some beat → beat.report.announce ≡ Some u
-      → IsToldInHoldover t edges (early + 1000) late made.clock.drift_us made.clock.reader_rules.holdover now beat u
+      → IsToldInHoldover t edges early late made.clock.within.us made.clock.drift_us made.clock.reader_rules.holdover now beat u
   healed_tells early late so now calls beat u h =
       subst Tells (sym h.are) (λ order here answer says.
       healed (IsTrue made.rules t edges) t edges early late new start (begins made.limits made.rules made.clock made.table lines start fresh) tt h.is so.room
-      (so.truly made.rules t made.clock.drift_us edges h.is.steady)
+      (so.truly made.rules t made.clock.drift_us edges h.is.steady) (omega arith)
       h.earlier h.later h.mend now h.vote h.beat beat u order h.truth (here, h.since) h.voted h.answer answer says)
     where
       Tells : List Call → Type 0
       Tells calls = AreInOrder start made.clock.redundancy (Tick now ∷ calls) → AreTrueLately (IsTrue made.rules t edges) (f_of made.clock.redundancy) now calls
           → answer_at (after_calls new calls) (now % 2 ^ 32) ≡ Some beat → beat.report.announce ≡ Some u
-          → IsToldInHoldover t edges (early + 1000) late made.clock.drift_us made.clock.reader_rules.holdover now beat u
+          → IsToldInHoldover t edges early late made.clock.within.us made.clock.drift_us made.clock.reader_rules.holdover now beat u
 
-module _ (IsTrue : Rules → TimelineValue → (ℕ → ℕ) → ℕ → List Pulse → Type 0) (early late : ℕ) (so : AreLinesSo IsTrue early late) (q : IrigTimekeeper) (t : TimelineValue) (edges : ℕ → ℕ) (made : MadeOf) where
+module _ (IsTrue : Rules → TimelineValue → (ℕ → ℕ) → ℕ → List Pulse → Type 0) (early late : ℕ) (q : IrigTimekeeper) (t : TimelineValue) (edges : ℕ → ℕ) (made : MadeOf) (so : AreLinesSo made.clock.within IsTrue early late) where
   -- what is announced in a life is true
   pub tells_truly : (start now : ℕ) (past : List Moment) (s : IrigSecond) (u : UtcSecond) → HasLived q made (Ticked now s ∷ past)
       → GoesOnTruly IsTrue t edges made start now [] past → (report_in s.report).announce ≡ Some u
-      → IsToldInHoldover t edges (early + 1000) late made.clock.drift_us made.clock.reader_rules.holdover now (beat_in s) u
+      → IsToldInHoldover t edges early late made.clock.within.us made.clock.drift_us made.clock.reader_rules.holdover now (beat_in s) u
   tells_truly start now past s u h g says =
       let beat = announced_beat s _ u h.told.0.is says in
       let announces = ap (λ (r : Report). r.announce) (sym beat.1.told.report) ∙ says in
-      as_told s beat.0 t edges (early + 1000) late made.clock.drift_us made.clock.reader_rules.holdover now u beat.1.told
+      as_told s beat.0 t edges early late made.clock.within.us made.clock.drift_us made.clock.reader_rules.holdover now u beat.1.told
       (elim g.sound [
         | inl well ↦ device_true made.limits made.rules made.clock made.table h.lines start h.fresh (IsTrue made.rules t edges) t edges early late well.is so.room
             (so.truly made.rules t made.clock.drift_us edges well.is.steady) (calls_of past) now beat.0 u g.order (g.truth.0, well.truth) beat.1.is announces

@@ -22,6 +22,7 @@ use Rattle.irig_timekeeper.specs.Truth.{IsDevice, IsInstant, IsStampedTruly}
 use Rattle.irig_timekeeper.proofs.HealedStamps.{stamped_since}
 use Rattle.irig_timekeeper.proofs.LifeLaws.{order_before}
 use Rattle.irig_timekeeper.proofs.SinceLaws.{has_its_bound, lasts_since}
+use Rattle.irig_timekeeper.specs.Exactness.{vote_us}
 use Rattle.irig_timekeeper.proofs.StampLaws.{near_instant, stamped}
 use Rattle.c_numbers.specs.Reports.{report_in}
 use Rattle.c_keeper.specs.declared.second.IrigSecond.{IrigSecond}
@@ -40,7 +41,7 @@ stamped_as t k time h = ap (λ (s : ClockState). stamp_of s.last s.before time) 
 -- ---- a stamp is true
 
 -- off by so much more, as frames of such lines end before their edges and behind them
-module _ (IsTrue : Rules → TimelineValue → (ℕ → ℕ) → ℕ → List Pulse → Type 0) (early late more : ℕ) (so : AreLinesSo IsTrue early late) (low : early + 1000 ≤ 1549 + more) (high : late ≤ 1549 + more) (q : IrigTimekeeper) (t : TimelineValue) (edges : ℕ → ℕ) (made : MadeOf) (start time now : ℕ)
+module _ (IsTrue : Rules → TimelineValue → (ℕ → ℕ) → ℕ → List Pulse → Type 0) (early late more : ℕ) (low : early ≤ more) (high : late ≤ more) (q : IrigTimekeeper) (t : TimelineValue) (edges : ℕ → ℕ) (made : MadeOf) (so : AreLinesSo made.clock.within IsTrue early late) (start time now : ℕ)
     (past : List Moment) (stamp : Stamp) (h : HasLived q made past) (e : stamp_at (life_of (made_with made h.lines h.fresh) (calls_of past)) (time % 2 ^ 32) ≡ Some stamp) where
   stamped_healed : (mended : HasHealedBefore IsTrue t edges made start past time) → AreInOrder start made.clock.redundancy (Tick now ∷ calls_of past) → time ≤ now → now ≤ time + 1800000000 → IsStampedTruly t edges more time stamp
   stamped_healed mended order behind young =
@@ -64,14 +65,14 @@ module _ (IsTrue : Rules → TimelineValue → (ℕ → ℕ) → ℕ → List Pu
   ]
 
 module _ (q : IrigTimekeeper) (t : TimelineValue) (edges : ℕ → ℕ) (made : MadeOf) (start time now : ℕ) (past : List Moment) (stamp : Stamp) (h : HasLived q made past) (e : stamp_at (life_of (made_with made h.lines h.fresh) (calls_of past)) (time % 2 ^ 32) ≡ Some stamp) where
-  pub stamped_truly : StampsTruly IsTrueLately t edges made start time now past → IsStampedTruly t edges 0 time stamp
-  stamped_truly = stamped_so IsTrueLately 549 549 0 whole_lines (omega arith) (omega arith) q t edges made start time now past stamp h e
+  pub stamped_truly : StampsTruly (IsTrueLately made.clock.within.us) t edges made start time now past → IsStampedTruly t edges 0 time stamp
+  stamped_truly = stamped_so (IsTrueLately made.clock.within.us) 0 0 0 (omega arith) (omega arith) q t edges made (whole_lines made.clock.within) start time now past stamp h e
 
-  pub stamped_faulty : StampsTruly IsTrueOrFaulty t edges made start time now past → IsStampedTruly t edges 2000 time stamp
-  stamped_faulty = stamped_so IsTrueOrFaulty 2549 1549 2000 faulty_lines (omega arith) (omega arith) q t edges made start time now past stamp h e
+  pub stamped_faulty : StampsTruly (IsTrueOrFaulty made.clock.within.us) t edges made start time now past → IsStampedTruly t edges 2002 time stamp
+  stamped_faulty = stamped_so (IsTrueOrFaulty made.clock.within.us) 2002 1000 2002 (omega arith) (omega arith) q t edges made (faulty_lines made.clock.within) start time now past stamp h e
 
 -- the device of such a life
-pub sound_device : (t : TimelineValue) (edges : ℕ → ℕ) (made : MadeOf) (start time now : ℕ) (past : List Moment) → StampsTruly IsTrueLately t edges made start time now past → IsDevice t made.clock.drift_us edges made.clock.reader_rules made.table
+pub sound_device : (t : TimelineValue) (edges : ℕ → ℕ) (made : MadeOf) (start time now : ℕ) (past : List Moment) → StampsTruly (IsTrueLately made.clock.within.us) t edges made start time now past → IsDevice t made.clock.drift_us edges made.clock.reader_rules made.table
 sound_device t edges made start time now past lives = elim lives.sound [ inl well ↦ well.is | inr mended ↦ mended.healed.is ]
 
 -- two stamps of one instant
@@ -147,6 +148,6 @@ bounded_as q made past time stamp h e =
       earlier = is.earlier;
       are = is.are;
       says = ap (λ (r : Report). r.announce) found.report ∙ b.says;
-      bound = b.bound ∙ ap (λ (n : ℕ). 1549 + n * made.clock.drift_us)
-          (ap (λ (calls : List Call). device.since_vote new (Tick b.now ∷ calls)) (sym is.same) ∙ sym (since_is new (Ticked b.now is.second ∷ is.earlier) told));
+      bound = subst (λ (n : ℕ). stamp.bound_us ≤ vote_us made.clock.within.us made.clock.drift_us + n * made.clock.drift_us)
+          (ap (λ (calls : List Call). device.since_vote new (Tick b.now ∷ calls)) (sym is.same) ∙ sym (since_is new (Ticked b.now is.second ∷ is.earlier) told)) b.bound;
     }

@@ -3,12 +3,12 @@ use Rattle.std.specs.Prelude.{IfSome}
 use Rattle.std.proofs.Common.{◌≡◌, ◌∙◌, ℕ, Option, Some, None, refl, sym, ap, subst, arith}
 use Rattle.irig_time.specs.Tables.{TableValue}
 use Rattle.irig_timekeeper.specs.declared.clock.Beat.{Beat}
-use Rattle.irig_timekeeper.specs.declared.clock.ClockRules.{ClockRules}
+use Rattle.irig_timekeeper.specs.declared.setup.ClockRules.{ClockRules}
 use Rattle.irig_timekeeper.specs.declared.clock.ClockState.{ClockState}
 use Rattle.irig_time.specs.Seconds.{IsValid}
 use Rattle.irig_reader.specs.declared.report.Report.{Report}
 use Rattle.irig_timekeeper.specs.Clock.{clock_after, clock_answer, clock_wait, SaysOfUtc}
-use Rattle.irig_timekeeper.specs.Refusals.{clock_fault}
+use Rattle.irig_timekeeper.specs.Refusals.{clock_fault, within_of}
 use Rattle.c_numbers.specs.declared.setup.IrigSetup.{IrigSetup}
 use Rattle.c_numbers.specs.Reports.{report_in}
 use Rattle.c_numbers.specs.Setups.{reader_rules_in, redundancy_in}
@@ -17,6 +17,7 @@ use Rattle.irig_timekeeper.specs.Keeping.{Keeping, after_tick, answer_at, wait_a
 use Rattle.c_numbers.specs.LeapTables.{table_in}
 use Rattle.c_keeper.specs.declared.second.IrigSecond.{IrigSecond}
 use Rattle.c_keeper.specs.declared.timekeeper.IrigTimekeeper.{IrigTimekeeper}
+use Rattle.c_keeper.specs.declared.timekeeper.IrigWires.{IrigWires}
 use Rattle.c_keeper.specs.Seconds.{IsSecondOf, IsToldOf}
 use Rattle.c_keeper.specs.Timekeepers.{answer_in, clock_in, clock_state_in, state_behind, wait_in, IsAnnounced, IsTimekeeperOf}
 
@@ -52,19 +53,19 @@ pub valid_told : (s : IrigSecond) (answer : Option Beat) → IsSecondOf s answer
 valid_told s None nothing says = subst (λ (x : IrigSecond). IfSome (report_in x.report).announce IsValid) (sym nothing) tt
 valid_told s (Some beat) told says = subst (λ (r : Report). IfSome r.announce IsValid) (sym told.report) says
 
--- ---- the same setup and drift
+-- ---- the same setup and wires
 
-pub clock_as : (t q : IrigTimekeeper) → q.setup ≡ t.setup → q.drift_us ≡ t.drift_us → clock_in q ≡ clock_in t
-clock_as t q setup drift =
-    ap (λ (s : IrigSetup). clock_of s q.drift_us) setup ∙ ap (λ (d : ℕ). clock_of t.setup d) drift
+pub clock_as : (t q : IrigTimekeeper) → q.setup ≡ t.setup → q.wires ≡ t.wires → clock_in q ≡ clock_in t
+clock_as t q setup wires =
+    ap (λ (s : IrigSetup). clock_of s q.wires) setup ∙ ap (λ (w : IrigWires). clock_of t.setup w) wires
   where
-    clock_of : IrigSetup → ℕ → ClockRules
-    clock_of s d = record { reader_rules = reader_rules_in s; redundancy = redundancy_in s; drift_us = d }
+    clock_of : IrigSetup → IrigWires → ClockRules
+    clock_of s w = record { reader_rules = reader_rules_in s; redundancy = redundancy_in s; within = within_of w.within_us; drift_us = w.drift_us }
 
-pub steady_as : (t q : IrigTimekeeper) → q.setup ≡ t.setup → q.drift_us ≡ t.drift_us → clock_fault (reader_rules_in t.setup) t.drift_us ≡ None
-    → clock_fault (reader_rules_in q.setup) q.drift_us ≡ None
-steady_as t q setup drift steady =
-    ap (λ (s : IrigSetup). clock_fault (reader_rules_in s) q.drift_us) setup ∙ (ap (λ (d : ℕ). clock_fault (reader_rules_in t.setup) d) drift ∙ steady)
+pub steady_as : (t q : IrigTimekeeper) → q.setup ≡ t.setup → q.wires ≡ t.wires → clock_fault (reader_rules_in t.setup) t.wires.drift_us ≡ None
+    → clock_fault (reader_rules_in q.setup) q.wires.drift_us ≡ None
+steady_as t q setup wires steady =
+    ap (λ (s : IrigSetup). clock_fault (reader_rules_in s) q.wires.drift_us) setup ∙ (ap (λ (w : IrigWires). clock_fault (reader_rules_in t.setup) w.drift_us) wires ∙ steady)
 
 -- nothing was announced
 pub none_announced : (a : IrigAnnounced) → a.is_told ≡ 0 → IsAnnounced a

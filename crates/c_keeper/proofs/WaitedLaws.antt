@@ -1,10 +1,8 @@
 -- How long a timekeeper says to wait in a life, and what a tick then finds.
 use Rattle.std.proofs.Common.{◌≡◌, ◌∙◌, ◌∷◌, ◌+◌, ◌-◌, ◌%◌, ◌^◌, ◌≤◌, ℕ, List, Option, Some, None, sym, ap, subst, arith}
-use Rattle.irig_time.specs.declared.claim.Claim.{Claim}
-use Rattle.irig_vote.specs.Vote.{f_of}
-use Rattle.irig_timekeeper.specs.declared.clock.ClockRules.{ClockRules}
+use Rattle.irig_timekeeper.specs.declared.setup.ClockRules.{ClockRules}
 use Rattle.irig_timekeeper.specs.declared.clock.ClockState.{ClockState}
-use Rattle.irig_timekeeper.specs.declared.lines.KeptClaim.{KeptClaim}
+use Rattle.irig_timekeeper.specs.declared.lines.Vote.{Vote}
 use Rattle.irig_timekeeper.specs.Clock.{claim_voted, vote_of_lines}
 use Rattle.irig_timekeeper.specs.Counting.{edges_own}
 use Rattle.irig_timekeeper.specs.Keeping.{Keeping, wait_at}
@@ -25,10 +23,10 @@ use Rattle.c_keeper.proofs.ValueLaws.{waits_value}
 waits_as : (t : IrigTimekeeper) (k : Keeping) (time now : ℕ) → IsTimekeeperOf t k → time ≡ now % 2 ^ 32 → wait_in t time ≡ wait_at k (now % 2 ^ 32)
 waits_as t k time now h clock = waits_value t k time h ∙ ap (wait_at k) clock
 
-agreed_as : (t : IrigTimekeeper) (k : Keeping) (time now : ℕ) → IsTimekeeperOf t k → time ≡ now % 2 ^ 32 → agreed_in t time ≡ agreed (f_of k.clock.redundancy) (settled (now % 2 ^ 32) k.state.lines)
+agreed_as : (t : IrigTimekeeper) (k : Keeping) (time now : ℕ) → IsTimekeeperOf t k → time ≡ now % 2 ^ 32 → agreed_in t time ≡ agreed k.clock (settled (now % 2 ^ 32) k.state.lines)
 agreed_as t k time now h clock =
-    ap (λ (c : ClockRules). agreed (f_of c.redundancy) (settled time (clock_state_in t).lines)) h.clock
-    ∙ (ap (λ (s : ClockState). agreed (f_of k.clock.redundancy) (settled time s.lines)) h.state ∙ ap (λ (x : ℕ). agreed (f_of k.clock.redundancy) (settled x k.state.lines)) clock)
+    ap (λ (c : ClockRules). agreed c (settled time (clock_state_in t).lines)) h.clock
+    ∙ (ap (λ (s : ClockState). agreed k.clock (settled time s.lines)) h.state ∙ ap (λ (x : ℕ). agreed k.clock (settled x k.state.lines)) clock)
 
 module _ (t : IrigTimekeeper) (made : MadeOf) (start time now : ℕ) (past : List Moment) (h : HasLived t made past) (clock : time ≡ now % 2 ^ 32) (order : AreInOrder start made.clock.redundancy (Tick now ∷ calls_of past)) where
   abbrev whole : Made
@@ -40,20 +38,18 @@ module _ (t : IrigTimekeeper) (made : MadeOf) (start time now : ℕ) (past : Lis
   pub waited_at_most : wait_in t time ≤ 1005000
   waited_at_most = subst (λ (n : ℕ). n ≤ 1005000) (sym (waits_as t k time now h.is clock)) (waits_at_most whole start now (calls_of past) order)
 
-  pub waited_votes : (then edge : ℕ) (vote : KeptClaim) → AreInOrder start made.clock.redundancy (Tick then ∷ calls_of past) → agreed_in t time ≡ Some vote → vote.end_us ≡ edge % 2 ^ 32
-      → edge ≤ now + 10000 → now ≤ edge + 98000 → now + wait_in t time ≤ then → then ≤ edge + 98000 → (claim : Claim) × (vote_in t (then % 2 ^ 32) ≡ Some claim)
+  pub waited_votes : (then edge : ℕ) (vote : Vote) → AreInOrder start made.clock.redundancy (Tick then ∷ calls_of past) → agreed_in t time ≡ Some vote → vote.edge_us ≡ edge % 2 ^ 32
+      → edge ≤ now + 11000 → now ≤ edge + 98000 → now + wait_in t time ≤ then → then ≤ edge + 98000 → vote_in t (then % 2 ^ 32) ≡ Some vote.claim
   waited_votes then edge vote order' agree at ahead behind waited soon =
       let begun = begins made.limits made.rules made.clock made.table h.lines start h.fresh in
       let agreed_then = sym (agreed_as t k time now h.is clock) ∙ agree in
       let wait : wait_in t time ≡ wait_by (now % 2 ^ 32) k.state.edge_us (Some vote) = waits_as t k time now h.is clock ∙ ap (wait_by (now % 2 ^ 32) k.state.edge_us) agreed_then in
       let long = waits_for (device_of whole) start begun now edge k.state.edge_us vote at ahead (omega (arith, behind)) in
-      let w = vote_when_come (device_of whole) start begun (calls_of past) now then order order' (omega (arith, waited)) vote agreed_then edge at ahead (omega (arith, behind)) (omega (arith, wait, long.0, waited)) soon in (
-        w.0.claim,
-        ap (λ (c : ClockRules). claim_voted (vote_of_lines c (clock_state_in t) (then % 2 ^ 32))) h.is.clock
-            ∙ (ap (λ (s : ClockState). claim_voted (vote_of_lines k.clock s (then % 2 ^ 32))) h.is.state ∙ ap claim_voted w.1),
-      )
+      let w = vote_when_come (device_of whole) start begun (calls_of past) now then order order' (omega (arith, waited)) vote agreed_then edge at ahead (omega (arith, behind)) (omega (arith, wait, long.0, waited)) soon in
+      ap (λ (c : ClockRules). claim_voted (vote_of_lines c (clock_state_in t) (then % 2 ^ 32))) h.is.clock
+      ∙ (ap (λ (s : ClockState). claim_voted (vote_of_lines k.clock s (then % 2 ^ 32))) h.is.state ∙ ap claim_voted w)
 
-  -- without frames that agree
+  -- without an edge on which lines agree
   module _ (alone : agreed_in t time ≡ None) where
     waits_by_edge : wait_in t time ≡ wait_by (now % 2 ^ 32) (edge_in t) None
     waits_by_edge =

@@ -20,7 +20,7 @@ abbrev pub ComeInARow : TimelineValue → (ℕ → ℕ) → MadeOf → ℕ → �
     → Type 0
 ComeInARow t edges made start m moments before =
     (lines : Lines) (fresh : AreNewLines lines)
-    → device.ComeInARow IsTrueLately t edges (made_with made lines fresh) start m
+    → device.ComeInARow (IsTrueLately made.clock.within.us) t edges (made_with made lines fresh) start m
     (calls_of moments) (calls_of before)
 
 -- a tick of this past announced T(m), which is u, by a vote, 98 ms behind its edge at most

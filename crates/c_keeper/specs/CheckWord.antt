@@ -14,7 +14,7 @@ announced_numbers a = a.day ∷ a.sod ∷ a.edge_us ∷ a.bound_us ∷ a.is_told
 -- the numbers of its clock
 abbrev pub clock_numbers : IrigTimekeeper → List ℕ
 clock_numbers t =
-    t.drift_us ∷ t.edge_us ∷ t.moved ∷ t.has_edge
+    t.wires.within_us ∷ t.wires.drift_us ∷ t.edge_us ∷ t.moved ∷ t.has_edge ∷ t.bound_us
     ∷ announced_numbers t.last ++ announced_numbers t.before
 
 -- the numbers of a line

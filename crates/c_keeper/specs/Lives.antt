@@ -9,11 +9,11 @@ use Rattle.irig_time.specs.Timelines.{TimelineValue, IsSecond}
 use Rattle.irig_port.specs.declared.told.Told.TheVariants.{Silence}
 use Rattle.irig_vote.specs.Vote.{f_of}
 use Rattle.irig_timekeeper.specs.declared.clock.Beat.{Beat}
-use Rattle.irig_timekeeper.specs.declared.lines.KeptClaim.{KeptClaim}
+use Rattle.irig_timekeeper.specs.declared.lines.Vote.{Vote}
 use Rattle.irig_timekeeper.specs.declared.lines.Lines.{Lines}
 use Rattle.irig_timekeeper.specs.declared.stamp.Stamp.{Stamp}
 use Rattle.irig_timekeeper.specs.Keeping.{Keeping, answer_at, place_told, vote_at, wait_at}
-use Rattle.irig_timekeeper.specs.Exactness.{vote_early_us}
+use Rattle.irig_timekeeper.specs.Exactness.{vote_us}
 use Rattle.irig_timekeeper.specs.Life.{Call, AreInOrder, AreTrueLately, AreTrueOver, after_calls, device_of, life_of}
 use Rattle.irig_timekeeper.specs.Life.Call.{Hear, Tick}
 use Rattle.irig_timekeeper.specs.Lived.{MadeOf, LivesWell, made_with}
@@ -27,8 +27,10 @@ use Rattle.c_numbers.specs.Reports.{report_in}
 use Rattle.c_numbers.specs.Setups.{limits_in, reader_rules_in, redundancy_in, rules_in}
 use Rattle.c_keeper.specs.declared.second.IrigSecond.{IrigSecond}
 use Rattle.c_keeper.specs.declared.timekeeper.IrigTimekeeper.{IrigTimekeeper}
+use Rattle.c_keeper.specs.declared.timekeeper.IrigWires.{IrigWires}
+use Rattle.irig_timekeeper.specs.Refusals.{within_of}
 use Rattle.c_keeper.specs.Seconds.{IsSecondOf}
-use Rattle.c_keeper.specs.Timekeepers.{clock_state_in, IsTimekeeperOf}
+use Rattle.c_keeper.specs.Timekeepers.{clock_in, clock_state_in, IsTimekeeperOf}
 
 -- a pulse on a line: it rose then, is so wide, and was answered this place; a tick, and the second
 -- that it gave; or a question how long to wait from then on, and the answer
@@ -44,15 +46,16 @@ calls_of (Pulsed line rise width place ∷ past) = Hear line rise width ∷ call
 calls_of (Ticked now second ∷ past) = Tick now ∷ calls_of past
 calls_of (Waited now wait ∷ past) = calls_of past
 
--- what a timekeeper is made of by such a setup, table and drift
-abbrev pub made_in : IrigSetup → IrigTable → ℕ → MadeOf
-made_in setup table drift = record {
+-- what a timekeeper is made of by such a setup, table and wires
+abbrev pub made_in : IrigSetup → IrigTable → IrigWires → MadeOf
+made_in setup table wires = record {
   limits = limits_in setup;
   rules = rules_in setup;
   clock = record {
     reader_rules = reader_rules_in setup;
     redundancy = redundancy_in setup;
-    drift_us = drift;
+    within = within_of wires.within_us;
+    drift_us = wires.drift_us;
   };
   table = table_in table;
 }
@@ -63,6 +66,7 @@ beat_in s = record {
   report = report_in s.report;
   told = record { a = Silence; b = Silence; c = Silence; d = Silence; e = Silence };
   edge_us = s.edge_us;
+  bound_us = s.bound_us;
   missed = s.missed;
   moved = s.moved;
 }
@@ -73,7 +77,7 @@ beat_in s = record {
 pub record HasTold (k : Keeping) (now : ℕ) (second : IrigSecond) : Type 0 where
   pub is : IsSecondOf second (answer_at k (now % 2 ^ 32))
   pub vote : (second.report.agreed ≡ 0 → ⊥)
-      → (vote : KeptClaim) × (vote_at k (now % 2 ^ 32) ≡ Some vote)
+      → (vote : Vote) × (vote_at k (now % 2 ^ 32) ≡ Some vote)
 
 -- so did each tick of this past, and each pulse and each question got its answer
 abbrev pub HaveTold : Keeping → List Moment → Type 0
@@ -179,8 +183,8 @@ since_vote (Ticked now second ∷ past) =
     if second.is_told == 0 then since_vote past
     else unless_voted (report_in second.report).cause (since_vote past + second.missed + 1)
 
--- a tick of that past announced the second of the stamp, whose bound is a vote's and the drift of each
--- second that had been counted by then since a vote
+-- a tick of that past announced the second of the stamp, whose bound is at most a vote's and the drift
+-- of each second that had been counted by then since a vote
 pub record HasItsBound (made : MadeOf) (past : List Moment) (stamp : Stamp) : Type 0 where
   pub later : List Moment
   pub now : ℕ
@@ -188,10 +192,12 @@ pub record HasItsBound (made : MadeOf) (past : List Moment) (stamp : Stamp) : Ty
   pub earlier : List Moment
   pub are : past ≡ later ++ (Ticked now second ∷ earlier)
   pub says : (report_in second.report).announce ≡ Some stamp.second
-  pub bound : stamp.bound_us ≡ vote_early_us + since_vote (Ticked now second ∷ earlier) * made.clock.drift_us
+  pub bound : stamp.bound_us
+      ≤ vote_us made.clock.within.us made.clock.drift_us
+      + since_vote (Ticked now second ∷ earlier) * made.clock.drift_us
 
 -- ---- how long to wait
 
--- the frame on which its lines agree at this time, whether its end has come or not
-abbrev pub agreed_in : IrigTimekeeper → ℕ → Option KeptClaim
-agreed_in t now = agreed (f_of (redundancy_in t.setup)) (settled now (clock_state_in t).lines)
+-- the edge on which its lines agree at this time, whether it has come or not
+abbrev pub agreed_in : IrigTimekeeper → ℕ → Option Vote
+agreed_in t now = agreed (clock_in t) (settled now (clock_state_in t).lines)

@@ -14,6 +14,7 @@ use Rattle.c_keeper.specs.declared.stamp.IrigStamp.{IrigStamp}
 pub record IsToldOf (s : IrigSecond) (beat : Beat) : Type 0 where
   pub is_told : s.is_told ≡ 1
   pub edge_us : s.edge_us ≡ beat.edge_us
+  pub bound_us : s.bound_us ≡ beat.bound_us
   pub missed : s.missed ≡ beat.missed
   pub moved : s.moved ≡ beat.moved
   pub report : report_in s.report ≡ beat.report
@@ -40,7 +41,14 @@ nothing_reported = record {
 
 -- the numbers of a tick that tells nothing
 abbrev pub nothing_told : IrigSecond
-nothing_told = record { is_told = 0; edge_us = 0; missed = 0; moved = 0; report = nothing_reported }
+nothing_told = record {
+  is_told = 0;
+  edge_us = 0;
+  bound_us = 0;
+  missed = 0;
+  moved = 0;
+  report = nothing_reported;
+}
 
 -- the numbers of what a tick answers
 abbrev pub IsSecondOf : IrigSecond → Option Beat → Type 0

@@ -6,13 +6,14 @@ use Rattle.irig_time.specs.declared.claim.Claim.{Claim}
 use Rattle.irig_time.specs.Seconds.{IsValid}
 use Rattle.irig_vote.specs.Vote.{f_of, ports_in}
 use Rattle.irig_timekeeper.specs.declared.clock.Beat.{Beat}
-use Rattle.irig_timekeeper.specs.declared.clock.ClockRules.{ClockRules}
+use Rattle.irig_timekeeper.specs.declared.setup.ClockRules.{ClockRules}
 use Rattle.irig_timekeeper.specs.declared.clock.ClockState.{ClockState}
 use Rattle.irig_timekeeper.specs.declared.stamp.Announced.{Announced}
 use Rattle.irig_timekeeper.specs.declared.stamp.Stamp.{Stamp}
 use Rattle.irig_timekeeper.specs.Clock.{clock_after, clock_answer, clock_vote, clock_wait}
 use Rattle.irig_timekeeper.specs.Keeping.{Keeping}
-use Rattle.irig_timekeeper.specs.Refusals.{clock_fault}
+use Rattle.irig_timekeeper.specs.Refusals.{clock_fault, within_of}
+use Rattle.irig_timekeeper.specs.Exactness.{most_within_us, most_drift_us, most_vote_us}
 use Rattle.irig_timekeeper.specs.Stamps.{stamp_of}
 use Rattle.irig_timekeeper.specs.Lines.{IfKept, IsInTurnOf}
 use Rattle.irig_timekeeper.specs.Steps.{claim_kept, line_at}
@@ -21,6 +22,7 @@ use Rattle.c_numbers.specs.LeapTables.{table_in}
 use Rattle.c_numbers.specs.States.{state_in, IsState}
 use Rattle.c_keeper.specs.declared.announced.IrigAnnounced.{IrigAnnounced}
 use Rattle.c_keeper.specs.declared.timekeeper.IrigTimekeeper.{IrigTimekeeper}
+use Rattle.c_keeper.specs.declared.timekeeper.IrigWires.{IrigWires}
 use Rattle.c_keeper.specs.Lines.{lines_in, HaveHeard, KeepNoMore}
 use Rattle.c_keeper.specs.CheckWord.{IsSealed}
 
@@ -43,7 +45,8 @@ abbrev pub clock_in : IrigTimekeeper → ClockRules
 clock_in t = record {
   reader_rules = reader_rules_in t.setup;
   redundancy = redundancy_in t.setup;
-  drift_us = t.drift_us;
+  within = within_of t.wires.within_us;
+  drift_us = t.wires.drift_us;
 }
 
 -- its last edge, if there was one
@@ -56,15 +59,22 @@ clock_state_in t = record {
   lines = lines_in (limits_in t.setup) (rules_in t.setup) t.lines;
   reader = state_in t.state;
   edge_us = edge_in t;
+  bound_us = t.bound_us;
   moved = t.moved;
   last = announced_in t.last;
   before = announced_in t.before;
 }
 
+-- lines may be so exact, and a counter so wrong
+abbrev pub AreWires : IrigWires → Type 0
+AreWires w = (1 ≤ w.within_us) × ((w.within_us ≤ most_within_us) × (w.drift_us ≤ most_drift_us))
+
 -- its calls accept the numbers
 pub record IsAccepted (t : IrigTimekeeper) : Type 0 where
   pub setup : IsSetup t.setup
-  pub steady : clock_fault (reader_rules_in t.setup) t.drift_us ≡ None
+  pub wires : AreWires t.wires
+  pub steady : clock_fault (reader_rules_in t.setup) t.wires.drift_us ≡ None
+  pub bound : t.bound_us ≤ most_vote_us
   pub is_state : IsState t.setup.lock_after t.state
   pub last : IsAnnounced t.last
   pub before : IsAnnounced t.before

@@ -26,12 +26,14 @@ fn clock_sum(timekeeper: &IrigTimekeeper) -> u64
     ensures value { result ≡ weighted 291 (clock_numbers timekeeper.now) }
     ensures few { result < 2 ^ 60 }
 {
-    291 * u64::from(timekeeper.drift_us)
-        + 293 * u64::from(timekeeper.edge_us)
-        + 295 * u64::from(timekeeper.moved)
-        + 297 * u64::from(timekeeper.has_edge)
-        + announced_sum(299, &timekeeper.last)
-        + announced_sum(309, &timekeeper.before)
+    291 * u64::from(timekeeper.wires.within_us)
+        + 293 * u64::from(timekeeper.wires.drift_us)
+        + 295 * u64::from(timekeeper.edge_us)
+        + 297 * u64::from(timekeeper.moved)
+        + 299 * u64::from(timekeeper.has_edge)
+        + 301 * u64::from(timekeeper.bound_us)
+        + announced_sum(303, &timekeeper.last)
+        + announced_sum(313, &timekeeper.before)
 }
 
 // The numbers of a line weigh a first weight and 0, 2, 4 .. more: so many times their sum, and what
@@ -80,9 +82,9 @@ fn slope(line: &IrigLine) -> u64
 #[inline(never)]
 fn line_sum(port: u8, line: &IrigLine) -> u64
     requires { port < 5 }
-    ensures { result ≡ weighted (319 + 30 * port) (line_numbers line.now) % 2 ^ 64 }
+    ensures { result ≡ weighted (323 + 30 * port) (line_numbers line.now) % 2 ^ 64 }
 {
-    let weight = 319 + 30 * u64::from(port);
+    let weight = 323 + 30 * u64::from(port);
     weight
         .wrapping_mul(plain_sum(line))
         .wrapping_add(slope(line))
@@ -93,17 +95,17 @@ fn line_sum(port: u8, line: &IrigLine) -> u64
 #[inline]
 fn line_change(port: u8, before: &IrigLine, after: &IrigLine) -> u64
     requires { port < 5 }
-    ensures { (weighted (319 + 30 * port) (line_numbers before.now) + result) % 2 ^ 64
-        ≡ weighted (319 + 30 * port) (line_numbers after.now) % 2 ^ 64 }
+    ensures { (weighted (323 + 30 * port) (line_numbers before.now) + result) % 2 ^ 64
+        ≡ weighted (323 + 30 * port) (line_numbers after.now) % 2 ^ 64 }
 {
-    let weight = 319 + 30 * u64::from(port);
+    let weight = 323 + 30 * u64::from(port);
     let all = plain_sum(after).wrapping_sub(plain_sum(before));
     let more = slope(after).wrapping_sub(slope(before));
     weight.wrapping_mul(all).wrapping_add(more)
 }
 
 fn lines_sum(lines: &IrigLines) -> u64
-    ensures { result ≡ weighted 319 (lines_numbers lines.now) % 2 ^ 64 }
+    ensures { result ≡ weighted 323 (lines_numbers lines.now) % 2 ^ 64 }
 {
     line_sum(0, &lines.a)
         .wrapping_add(line_sum(1, &lines.b))

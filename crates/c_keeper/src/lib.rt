@@ -20,5 +20,6 @@ pub use line::{IrigLine, IrigLines, hear, line_at};
 pub use second::{IrigSecond, second_of};
 pub use stamp::{IrigStamp, stamp_for_c};
 pub use timekeeper::{
-    IrigTimekeeper, clock_rules_of, clock_state_of, forget, is_accepted, keep, restart, stamp_at,
+    IrigTimekeeper, IrigWires, are_wires, clock_rules_of, clock_state_of, forget, is_accepted,
+    keep, restart, stamp_at,
 };

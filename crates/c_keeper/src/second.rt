@@ -26,6 +26,8 @@ pub struct IrigSecond {
     pub is_told: u8,
     /// Where the second begins.
     pub edge_us: u32,
+    /// How far from its true edge that may lie, if it is announced.
+    pub bound_us: u32,
     /// The seconds that passed untold before it.
     pub missed: u32,
     /// How often lines moved the edge since the second that was told before.
@@ -55,6 +57,7 @@ const NOTHING_REPORTED: IrigReport = IrigReport {
 const NOTHING_TOLD: IrigSecond = IrigSecond {
     is_told: 0,
     edge_us: 0,
+    bound_us: 0,
     missed: 0,
     moved: 0,
     report: NOTHING_REPORTED,
@@ -107,6 +110,7 @@ fn second_for_c(beat: &Beat, voices: &Voices, against: u8) -> IrigSecond
     IrigSecond {
         is_told: 1,
         edge_us: beat.edge_us,
+        bound_us: beat.bound_us,
         missed: beat.missed,
         moved: beat.moved,
         report: report_for_c(&beat.report, voices, against),

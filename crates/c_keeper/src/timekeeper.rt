@@ -16,8 +16,9 @@ ghost use Rattle.c_numbers.specs.States.{state_in, IsState};
 ghost use Rattle.c_keeper.specs.Lines.{lines_in, AreKeptFrom, HaveHeard, KeepNoMore};
 ghost use Rattle.c_numbers.specs.declared.state.TheConstants.{IDLE};
 ghost use Rattle.c_keeper.specs.CheckWord.{IsSealed};
+ghost use Rattle.irig_timekeeper.specs.Exactness.{most_vote_us};
 ghost use Rattle.irig_timekeeper.specs.Refusals.{clock_fault};
-ghost use Rattle.c_keeper.specs.Timekeepers.{announced_in, clock_in, clock_state_in, edge_in, IsAccepted, IsAnnounced};
+ghost use Rattle.c_keeper.specs.Timekeepers.{announced_in, clock_in, clock_state_in, edge_in, AreWires, IsAccepted, IsAnnounced};
 
 use crate::announced::{
     IrigAnnounced, NOTHING_ANNOUNCED, announced_for_c, announced_of, is_announced,
@@ -29,7 +30,17 @@ use c_numbers::{
     rules_of, state_for_c, state_of,
 };
 use irig_reader::State;
-use irig_timekeeper::{ClockRules, ClockState, Stamp, clock_fault, stamp_of};
+use irig_timekeeper::{ClockRules, ClockState, Stamp, clock_fault, nearest_within, stamp_of};
+
+/// How exact a timekeeper's lines and its counter are.
+#[repr(C)]
+#[derive(Clone, Copy, Drop)]
+pub struct IrigWires {
+    /// Each pulse of a true line rises less than so many microseconds from its place: 1 to 450.
+    pub within_us: u16,
+    /// How many microseconds a second the device's counter may be wrong: 0 to 100.
+    pub drift_us: u16,
+}
 
 /// A timekeeper, all of it plain numbers. It may be copied, kept and taken up again.
 #[repr(C)]
@@ -43,14 +54,16 @@ pub struct IrigTimekeeper {
     pub state: IrigState,
     /// Its lines, of three the first three, of one the first.
     pub lines: IrigLines,
-    /// How many microseconds a second the device's counter may be wrong.
-    pub drift_us: u32,
+    /// How exact its lines and its counter are.
+    pub wires: IrigWires,
     /// Where the last second begins that was counted.
     pub edge_us: u32,
     /// How often lines set that edge right since.
     pub moved: u32,
     /// 0 if no second was counted yet; any other, if one was.
     pub has_edge: u8,
+    /// How far from its true edge that of the last vote may lie, at most 899 us.
+    pub bound_us: u16,
     /// The last second that was counted, if it was announced.
     pub last: IrigAnnounced,
     /// The one counted before it, if it was announced.
@@ -67,23 +80,39 @@ pub fn clock_rules_of(timekeeper: &IrigTimekeeper) -> ClockRules
     ClockRules {
         reader_rules: reader_rules_of(&timekeeper.setup),
         redundancy: redundancy_of(&timekeeper.setup),
-        drift_us: timekeeper.drift_us,
+        within: nearest_within(u32::from(timekeeper.wires.within_us)),
+        drift_us: u32::from(timekeeper.wires.drift_us),
     }
 }
 
-// Whether setup, drift and the seconds that it announced have a meaning, lines that it has not keep
+/// Whether lines may be so exact, and a counter so wrong.
+pub fn are_wires(wires: &IrigWires) -> bool
+    ensures { IsTrue result ↔ AreWires wires.now }
+{
+    1 <= wires.within_us && wires.within_us <= 450 && wires.drift_us <= 100
+}
+
+// Whether setup, wires and the seconds that it announced have a meaning, lines that it has not keep
 // no frame, and its check word is that of its numbers, if `fixed` is what setup and table add to it.
 fn is_sound(fixed: u64, timekeeper: &IrigTimekeeper) -> bool
     requires { fixed ≡ (weighted 3 (setup_numbers timekeeper.now.setup)
         + weighted 19 (table_numbers timekeeper.now.table)) % 2 ^ 64 }
-    ensures { IsTrue result ↔ (IsSetup timekeeper.now.setup
-        × ((clock_fault (reader_rules_in timekeeper.now.setup) timekeeper.now.drift_us ≡ None)
+    ensures { IsTrue result ↔ (IsSetup timekeeper.now.setup × (AreWires timekeeper.now.wires
+        × ((clock_fault (reader_rules_in timekeeper.now.setup) timekeeper.now.wires.drift_us
+        ≡ None)
+        × ((timekeeper.now.bound_us ≤ most_vote_us)
         × (IsAnnounced timekeeper.now.last × (IsAnnounced timekeeper.now.before
         × (KeepNoMore (ports_in (redundancy_in timekeeper.now.setup)) timekeeper.now.lines
-        × IsSealed timekeeper.now))))) }
+        × IsSealed timekeeper.now))))))) }
 {
     is_setup(&timekeeper.setup)
-        && clock_fault(reader_rules_of(&timekeeper.setup), timekeeper.drift_us).is_none()
+        && are_wires(&timekeeper.wires)
+        && clock_fault(
+            reader_rules_of(&timekeeper.setup),
+            u32::from(timekeeper.wires.drift_us),
+        )
+        .is_none()
+        && timekeeper.bound_us <= 899
         && is_announced(&timekeeper.last)
         && is_announced(&timekeeper.before)
         && keep_no_more(redundancy_of(&timekeeper.setup).ports(), &timekeeper.lines)
@@ -105,6 +134,7 @@ pub fn clock_state_of(timekeeper: &IrigTimekeeper) -> ClockState
     requires { IsAccepted timekeeper.now }
     ensures is { result ≡ clock_state_in timekeeper.now }
     ensures counting { count_of result.reader < timekeeper.now.setup.lock_after }
+    ensures small { result.bound_us ≤ most_vote_us }
     ensures valid { AreKeptOfUtc result.lines }
     ensures announced { AnnouncedOfUtc result }
 {
@@ -116,6 +146,7 @@ pub fn clock_state_of(timekeeper: &IrigTimekeeper) -> ClockState
         ),
         reader: reader_of(timekeeper),
         edge_us: edge_of(timekeeper),
+        bound_us: u32::from(timekeeper.bound_us),
         moved: timekeeper.moved,
         last: announced_of(&timekeeper.last),
         before: announced_of(&timekeeper.before),
@@ -183,6 +214,7 @@ pub fn keep(timekeeper: &mut IrigTimekeeper, state: &ClockState)
         (rules_in timekeeper.old.setup) timekeeper.old.lines)
         state.now.lines }
     requires counting { count_of state.now.reader < timekeeper.old.setup.lock_after }
+    requires small { state.now.bound_us ≤ most_vote_us }
     ensures state { clock_state_in timekeeper.new ≡ state.now }
     ensures heard { (heard : Heard) → HaveHeard timekeeper.old.lines heard
         → HaveHeard timekeeper.new.lines heard }
@@ -191,12 +223,13 @@ pub fn keep(timekeeper: &mut IrigTimekeeper, state: &ClockState)
         → KeepNoMore ports timekeeper.new.lines }
     ensures setup { timekeeper.new.setup ≡ timekeeper.old.setup }
     ensures table { timekeeper.new.table ≡ timekeeper.old.table }
-    ensures drift { timekeeper.new.drift_us ≡ timekeeper.old.drift_us }
+    ensures wires { timekeeper.new.wires ≡ timekeeper.old.wires }
     ensures check { timekeeper.new.check ≡ timekeeper.old.check }
 {
     keep_lines(&mut timekeeper.lines, &state.lines);
     timekeeper.state = state_for_c(&state.reader);
     set_edge(timekeeper, state.edge_us);
+    timekeeper.bound_us = state.bound_us as u16;
     timekeeper.moved = state.moved;
     timekeeper.last = announced_for_c(&state.last);
     timekeeper.before = announced_for_c(&state.before);
@@ -213,15 +246,17 @@ pub fn forget(timekeeper: &mut IrigTimekeeper)
     ensures is_state { timekeeper.new.state ≡ IDLE }
     ensures last { timekeeper.new.last.is_told ≡ 0 }
     ensures before { timekeeper.new.before.is_told ≡ 0 }
+    ensures bound { timekeeper.new.bound_us ≡ 0 }
     ensures absent { (ports : ℕ) → KeepNoMore ports timekeeper.new.lines }
     ensures setup { timekeeper.new.setup ≡ timekeeper.old.setup }
     ensures table { timekeeper.new.table ≡ timekeeper.old.table }
-    ensures drift { timekeeper.new.drift_us ≡ timekeeper.old.drift_us }
+    ensures wires { timekeeper.new.wires ≡ timekeeper.old.wires }
     ensures check { timekeeper.new.check ≡ timekeeper.old.check }
 {
     timekeeper.lines = lines_of_nothing();
     timekeeper.state = IDLE;
     set_edge(timekeeper, None);
+    timekeeper.bound_us = 0;
     timekeeper.moved = 0;
     timekeeper.last = NOTHING_ANNOUNCED;
     timekeeper.before = NOTHING_ANNOUNCED;
@@ -238,10 +273,11 @@ pub fn restart(timekeeper: &mut IrigTimekeeper)
     ensures is_state { timekeeper.new.state ≡ IDLE }
     ensures last { timekeeper.new.last.is_told ≡ 0 }
     ensures before { timekeeper.new.before.is_told ≡ 0 }
+    ensures bound { timekeeper.new.bound_us ≡ 0 }
     ensures absent { (ports : ℕ) → KeepNoMore ports timekeeper.new.lines }
     ensures setup { timekeeper.new.setup ≡ timekeeper.old.setup }
     ensures table { timekeeper.new.table ≡ timekeeper.old.table }
-    ensures drift { timekeeper.new.drift_us ≡ timekeeper.old.drift_us }
+    ensures wires { timekeeper.new.wires ≡ timekeeper.old.wires }
     ensures sealed { IsSealed timekeeper.new ↔ IsSealed timekeeper.old }
 {
     let before = changing_sum(timekeeper);

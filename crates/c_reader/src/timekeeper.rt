@@ -12,10 +12,10 @@ ghost use Rattle.irig_time.specs.Timelines.{TimelineValue, IsSecond};
 ghost use Rattle.irig_time.specs.TimelineFaults.{IsTimeline};
 ghost use Rattle.irig_vote.specs.Vote.{ports_in};
 ghost use Rattle.irig_reader.specs.declared.report.Cause.TheVariants as Cause;
-ghost use Rattle.irig_timekeeper.specs.Exactness.{vote_early_us, vote_late_us};
+ghost use Rattle.irig_timekeeper.specs.Exactness.{most_vote_us};
 ghost use Rattle.irig_timekeeper.specs.declared.clock.Beat.{Beat};
 ghost use Rattle.irig_timekeeper.specs.declared.stamp.Stamp.{Stamp};
-ghost use Rattle.irig_timekeeper.specs.declared.lines.KeptClaim.{KeptClaim};
+ghost use Rattle.irig_timekeeper.specs.declared.lines.Vote.{Vote};
 ghost use Rattle.irig_timekeeper.specs.Clock.{lasted};
 ghost use Rattle.irig_timekeeper.specs.Counting.{edges_own};
 ghost use Rattle.irig_timekeeper.specs.Edges.{IsQuartz};
@@ -25,7 +25,7 @@ ghost use Rattle.irig_timekeeper.specs.Lived.{MadeOf, LivesWell};
 ghost use Rattle.irig_timekeeper.specs.Lines.{IsTrueLately, IsTrueOrFaulty};
 ghost use Rattle.irig_timekeeper.specs.Loops.{AreMadeInTurn, AreToldInTime, TicksEach};
 ghost use Rattle.irig_timekeeper.specs.Keeping.{Heard, Keeping, new_keeping, place_told, one_pulse_more, after_pulse, after_tick, answer_at, wait_at, stamp_at, restarted};
-ghost use Rattle.irig_timekeeper.specs.Refusals.{clock_fault};
+ghost use Rattle.irig_timekeeper.specs.Refusals.{clock_fault, within_of};
 ghost use Rattle.irig_timekeeper.specs.Steps.{is_pulse, AreNewLines};
 ghost use Rattle.irig_timekeeper.specs.Truth.{IsToldTruly, IsToldInHoldover, IsLaterSecond, IsEdgeAt, IsInstant, IsStampedTruly, AreApartBeats};
 ghost use Rattle.c_numbers.specs.LeapTables.{table_in, HasKinds, IsTable, code_of_table};
@@ -41,12 +41,13 @@ ghost use Rattle.c_keeper.specs.Lines.{frames_in, lines_in, numbers_at, HaveHear
 ghost use Rattle.c_keeper.specs.Lives.{Moment, AreTogether, HasLived, HasHealed, HasItsBound, GoesOnTruly, StampsTruly, agreed_in, beat_in, calls_of, made_in, since_vote};
 ghost use Rattle.c_keeper.specs.Lives.Moment.{Pulsed, Ticked, Waited};
 ghost use Rattle.c_keeper.specs.Seconds.{against_at, stamp_in, IsSecondOf, IsToldOf};
-ghost use Rattle.c_keeper.specs.Timekeepers.{answer_in, clock_in, clock_state_in, edge_in, stamp_for, state_behind, vote_in, wait_in, HeardTruly, IsAccepted, IsAnnounced, IsTimekeeperOf};
+ghost use Rattle.c_keeper.specs.Timekeepers.{answer_in, clock_in, clock_state_in, edge_in, stamp_for, state_behind, vote_in, wait_in, AreWires, HeardTruly, IsAccepted, IsAnnounced, IsTimekeeperOf};
 
 use crate::line::NO_PORT;
 use c_keeper::{
-    IrigSecond, IrigStamp, IrigTimekeeper, check_of, clock_rules_of, clock_state_of, forget, hear,
-    is_accepted, keep, line_at, restart, second_of, set_line, stamp_at, stamp_for_c,
+    IrigSecond, IrigStamp, IrigTimekeeper, IrigWires, are_wires, check_of, clock_rules_of,
+    clock_state_of, forget, hear, is_accepted, keep, line_at, restart, second_of, set_line,
+    stamp_at, stamp_for_c,
 };
 use c_numbers::{
     IrigSetup, IrigTable, OUT_OF_RANGE, fixed_sum, has_kinds, held_by, is_port, is_setup,
@@ -57,24 +58,27 @@ use irig_timekeeper::{clock_fault, is_pulse, tick, wait_of};
 /// The holdover is longer than the device's counter can count.
 const DRIFT: u32 = 35;
 
-/// Makes a timekeeper to which nothing has happened, by a counter that is at most `drift_us`
-/// microseconds a second wrong. 26 if a number of the setup has no meaning or is out of its range, a
-/// leap that counts has another kind, or the drift is above 100; then 31 to 34 for the first fault
-/// of the table; then 35 if the holdover is longer than such a counter can count.
+/// Makes a timekeeper to which nothing has happened, with such wires. 26 if a number of the setup or
+/// of the wires has no meaning or is out of its range, or a leap that counts has another kind; then
+/// 31 to 34 for the first fault of the table; then 35 if the holdover is longer than such a counter
+/// can count.
 #[unsafe(no_mangle)]
 pub extern "C" fn irig_c_timekeeper_init(
     timekeeper: &mut IrigTimekeeper,
     setup: &IrigSetup,
     table: &IrigTable,
-    drift_us: u32,
+    wires: &IrigWires,
 ) -> u32
-    ensures answer { (result ≡ 0) ↔ (IsSetup setup.now × (HasKinds table.now × (IsTable table.now
-        × (clock_fault (reader_rules_in setup.now) drift_us ≡ None)))) }
-    ensures table { IsSetup setup.now → HasKinds table.now → drift_us ≤ 100
+    ensures answer { (result ≡ 0) ↔ (IsSetup setup.now × (HasKinds table.now
+        × (AreWires wires.now × (IsTable table.now
+        × (clock_fault (reader_rules_in setup.now) wires.now.drift_us ≡ None))))) }
+    ensures table { IsSetup setup.now → HasKinds table.now → AreWires wires.now
         → (IsTable table.now → ⊥) → result ≡ code_of_table table.now }
-    ensures drift { IsSetup setup.now → HasKinds table.now → drift_us ≤ 100 → IsTable table.now
-        → (clock_fault (reader_rules_in setup.now) drift_us ≡ None → ⊥) → result ≡ 35 }
-    ensures range { (IsSetup setup.now → HasKinds table.now → drift_us ≤ 100 → ⊥) → result ≡ 26 }
+    ensures drift { IsSetup setup.now → HasKinds table.now → AreWires wires.now
+        → IsTable table.now
+        → (clock_fault (reader_rules_in setup.now) wires.now.drift_us ≡ None → ⊥) → result ≡ 35 }
+    ensures range { (IsSetup setup.now → HasKinds table.now → AreWires wires.now → ⊥)
+        → result ≡ 26 }
     ensures refused { (result ≡ 0 → ⊥) → timekeeper.new ≡ timekeeper.old }
     ensures fresh { result ≡ 0 → IsTimekeeperOf timekeeper.new (new_keeping (limits_in setup.now)
         (rules_in setup.now) (clock_in timekeeper.new) (table_in table.now)
@@ -82,27 +86,30 @@ pub extern "C" fn irig_c_timekeeper_init(
     ensures clock { result ≡ 0 → clock_in timekeeper.new ≡ record {
       reader_rules = reader_rules_in setup.now;
       redundancy = redundancy_in setup.now;
-      drift_us = drift_us;
+      within = within_of wires.now.within_us;
+      drift_us = wires.now.drift_us;
     } }
+    ensures exact { result ≡ 0
+        → (clock_in timekeeper.new).within.us ≡ wires.now.within_us }
     ensures lines { (limits : Option Limits) (rules : Rules) → result ≡ 0
         → AreNewLines (lines_in limits rules timekeeper.new.lines) }
     // a life begins, of which nothing has passed
     ensures lived { result ≡ 0
-        → HasLived timekeeper.new (made_in setup.now table.now drift_us) [] }
+        → HasLived timekeeper.new (made_in setup.now table.now wires.now) [] }
 {
-    if !is_setup(setup) || !has_kinds(table) || drift_us > 100 {
+    if !is_setup(setup) || !has_kinds(table) || !are_wires(wires) {
         return OUT_OF_RANGE;
     }
     let fault = table_fault(table);
     if fault != 0 {
         return fault;
     }
-    if clock_fault(reader_rules_of(setup), drift_us).is_some() {
+    if clock_fault(reader_rules_of(setup), u32::from(wires.drift_us)).is_some() {
         return DRIFT;
     }
     timekeeper.setup = *setup;
     timekeeper.table = *table;
-    timekeeper.drift_us = drift_us;
+    timekeeper.wires = *wires;
     forget(timekeeper);
     timekeeper.check = check_of(fixed_sum(setup, table), timekeeper);
     0
@@ -196,14 +203,15 @@ pub extern "C" fn irig_c_timekeeper_tick(
     // A second that is announced by a vote is the true one, whatever lies in the numbers, if all lines
     // but f were true in the last 1.2 s and each line that keeps a frame has heard it: this needs
     // nothing of the past (irig_lives, the law `votes_are_true`).
-    ensures truth { (t : TimelineValue) (d : ℕ) (edges : ℕ → ℕ) (now : ℕ)
-        (pulses : ℕ → List Pulse) (u : UtcSecond) → result ≡ 0 → now_us ≡ now % 2 ^ 32
-        → IsQuartz d edges → IsTimeline t
-        → HeardTruly (IsTrueLately (rules_in timekeeper.old.setup) t edges now) timekeeper.old now
-        pulses
+    ensures truth { (t : TimelineValue) (edges : ℕ → ℕ) (now : ℕ) (pulses : ℕ → List Pulse)
+        (u : UtcSecond) → result ≡ 0 → now_us ≡ now % 2 ^ 32
+        → IsQuartz timekeeper.old.wires.drift_us edges → IsTimeline t
+        → HeardTruly (IsTrueLately timekeeper.old.wires.within_us (rules_in timekeeper.old.setup)
+        t edges now) timekeeper.old now pulses
         → second.new.is_told ≡ 1 → (report_in second.new.report).cause ≡ Cause.Voted
         → (report_in second.new.report).announce ≡ Some u
-        → (beat : Beat) × IsToldOf second.new beat × IsToldTruly t edges vote_early_us vote_late_us now beat u }
+        → (beat : Beat) × IsToldOf second.new beat
+        × IsToldTruly t edges second.new.bound_us second.new.bound_us now beat u }
     // Its life goes on.
     ensures lived { (made : MadeOf) (past : List Moment) (now : ℕ)
         → HasLived timekeeper.old made past → now_us ≡ now % 2 ^ 32
@@ -213,16 +221,16 @@ pub extern "C" fn irig_c_timekeeper_tick(
     // (irig_lives, the laws `a_device_tells_the_truth` and `a_device_heals`).
     ensures life { (t : TimelineValue) (edges : ℕ → ℕ) (made : MadeOf) (start now : ℕ)
         (past : List Moment) (u : UtcSecond) → HasLived timekeeper.old made past
-        → now_us ≡ now % 2 ^ 32 → GoesOnTruly IsTrueLately t edges made start now [] past
+        → now_us ≡ now % 2 ^ 32 → GoesOnTruly (IsTrueLately made.clock.within.us) t edges made start now [] past
         → (report_in second.new.report).announce ≡ Some u
-        → IsToldInHoldover t edges vote_early_us vote_late_us made.clock.drift_us made.clock.reader_rules.holdover
-        now (beat_in second.new) u }
+        → IsToldInHoldover t edges 0 0 made.clock.within.us made.clock.drift_us
+        made.clock.reader_rules.holdover now (beat_in second.new) u }
     // It is a later second than any that was announced before.
     ensures order { (t : TimelineValue) (edges : ℕ → ℕ) (made : MadeOf) (start before now : ℕ)
         (earlier later : List Moment) (first : IrigSecond) (u v : UtcSecond)
         → HasLived timekeeper.old made (later ++ (Ticked before first ∷ earlier))
         → now_us ≡ now % 2 ^ 32
-        → GoesOnTruly IsTrueLately t edges made start now later (Ticked before first ∷ earlier)
+        → GoesOnTruly (IsTrueLately made.clock.within.us) t edges made start now later (Ticked before first ∷ earlier)
         → (report_in first.report).announce ≡ Some u
         → (report_in second.new.report).announce ≡ Some v → IsLaterSecond t u v }
     // A holdover has lasted for the seconds since the last vote, whatever lines carry.
@@ -233,28 +241,28 @@ pub extern "C" fn irig_c_timekeeper_tick(
     // The cause is never `Jump`.
     ensures calm { (t : TimelineValue) (edges : ℕ → ℕ) (made : MadeOf) (start now : ℕ)
         (past : List Moment) → HasLived timekeeper.old made past → now_us ≡ now % 2 ^ 32
-        → GoesOnTruly IsTrueLately t edges made start now [] past
+        → GoesOnTruly (IsTrueLately made.clock.within.us) t edges made start now [] past
         → ¬ ((report_in second.new.report).cause ≡ Cause.Jump) }
-    // All this holds too, but for 2 ms before the edge and 1 ms behind it, if a line counts as true that
+    // All this holds too, but for 2.002 ms before the edge and 1 ms behind it, if a line counts as true that
     // lost any pulses, or had one fault of any kind in each hundred of them, in the last 1.2 s (the law
     // `lines_with_faults_tell_truly`).
     ensures faulty { (t : TimelineValue) (edges : ℕ → ℕ) (made : MadeOf) (start now : ℕ)
         (past : List Moment) (u : UtcSecond) → HasLived timekeeper.old made past
-        → now_us ≡ now % 2 ^ 32 → GoesOnTruly IsTrueOrFaulty t edges made start now [] past
+        → now_us ≡ now % 2 ^ 32 → GoesOnTruly (IsTrueOrFaulty made.clock.within.us) t edges made start now [] past
         → (report_in second.new.report).announce ≡ Some u
-        → IsToldInHoldover t edges (2000 + vote_early_us) (1000 + vote_late_us) made.clock.drift_us made.clock.reader_rules.holdover
-        now (beat_in second.new) u }
+        → IsToldInHoldover t edges 2002 1000 made.clock.within.us made.clock.drift_us
+        made.clock.reader_rules.holdover now (beat_in second.new) u }
     ensures faulty_order { (t : TimelineValue) (edges : ℕ → ℕ) (made : MadeOf)
         (start before now : ℕ) (earlier later : List Moment) (first : IrigSecond)
         (u v : UtcSecond)
         → HasLived timekeeper.old made (later ++ (Ticked before first ∷ earlier))
         → now_us ≡ now % 2 ^ 32
-        → GoesOnTruly IsTrueOrFaulty t edges made start now later (Ticked before first ∷ earlier)
+        → GoesOnTruly (IsTrueOrFaulty made.clock.within.us) t edges made start now later (Ticked before first ∷ earlier)
         → (report_in first.report).announce ≡ Some u
         → (report_in second.new.report).announce ≡ Some v → IsLaterSecond t u v }
     ensures faulty_calm { (t : TimelineValue) (edges : ℕ → ℕ) (made : MadeOf) (start now : ℕ)
         (past : List Moment) → HasLived timekeeper.old made past → now_us ≡ now % 2 ^ 32
-        → GoesOnTruly IsTrueOrFaulty t edges made start now [] past
+        → GoesOnTruly (IsTrueOrFaulty made.clock.within.us) t edges made start now [] past
         → ¬ ((report_in second.new.report).cause ≡ Cause.Jump) }
     // Ticked at least each 96 ms it has announced by a vote, once as many seconds as it locks after, and
     // two more, came whole on more than f lines (the law `a_polling_device_announces`).
@@ -319,7 +327,8 @@ fn tick_accepted(timekeeper: &mut IrigTimekeeper, now_us: u32) -> IrigSecond
         timekeeper.new.lines }
     ensures setup { timekeeper.new.setup ≡ timekeeper.old.setup }
     ensures table { timekeeper.new.table ≡ timekeeper.old.table }
-    ensures drift { timekeeper.new.drift_us ≡ timekeeper.old.drift_us }
+    ensures wires { timekeeper.new.wires ≡ timekeeper.old.wires }
+    ensures bound { timekeeper.new.bound_us ≤ most_vote_us }
 {
     let rules = clock_rules_of(timekeeper);
     let mut state = clock_state_of(timekeeper);
@@ -345,21 +354,21 @@ pub extern "C" fn irig_c_timekeeper_wait(timekeeper: &IrigTimekeeper, now_us: u3
     ensures most { (made : MadeOf) (start now : ℕ) (past : List Moment)
         → HasLived timekeeper.now made past → now_us ≡ now % 2 ^ 32
         → AreInOrder start made.clock.redundancy (Tick now ∷ calls_of past) → result ≤ 1005000 }
-    // above 0, if no frames agree and no second is due
+    // above 0, if lines agree on no edge and no second is due
     ensures above { (made : MadeOf) (start now : ℕ) (past : List Moment)
         → HasLived timekeeper.now made past → now_us ≡ now % 2 ^ 32
         → AreInOrder start made.clock.redundancy (Tick now ∷ calls_of past)
         → agreed_in timekeeper.now now_us ≡ None → edges_own (edge_in timekeeper.now) now_us ≡ 0
         → 1 ≤ result }
-    // a tick after so long, or later, has a vote, if frames agree and it comes by 98 ms behind their
-    // end (irig_lives, the law `waiting_is_right`)
+    // a tick after so long, or later, has the vote, if lines agree on an edge and it comes by 98 ms
+    // behind that (irig_lives, the law `waiting_is_right`)
     ensures votes { (made : MadeOf) (start now tick edge : ℕ) (past : List Moment)
-        (vote : KeptClaim) → HasLived timekeeper.now made past → now_us ≡ now % 2 ^ 32
+        (vote : Vote) → HasLived timekeeper.now made past → now_us ≡ now % 2 ^ 32
         → AreInOrder start made.clock.redundancy (Tick now ∷ calls_of past)
         → AreInOrder start made.clock.redundancy (Tick tick ∷ calls_of past)
-        → agreed_in timekeeper.now now_us ≡ Some vote → vote.end_us ≡ edge % 2 ^ 32
-        → edge ≤ now + 10000 → now ≤ edge + 98000 → now + result ≤ tick → tick ≤ edge + 98000
-        → (claim : Claim) × (vote_in timekeeper.now (tick % 2 ^ 32) ≡ Some claim) }
+        → agreed_in timekeeper.now now_us ≡ Some vote → vote.edge_us ≡ edge % 2 ^ 32
+        → edge ≤ now + 11000 → now ≤ edge + 98000 → now + result ≤ tick → tick ≤ edge + 98000
+        → vote_in timekeeper.now (tick % 2 ^ 32) ≡ Some vote.claim }
     // else the own counter then counts a second
     ensures counts { (made : MadeOf) (start now tick e : ℕ) (past : List Moment)
         → HasLived timekeeper.now made past → now_us ≡ now % 2 ^ 32
@@ -397,7 +406,7 @@ pub extern "C" fn irig_c_timekeeper_stamp(
     // an event of the last half hour, but for the bound (irig_lives, the law `stamps_are_true`).
     ensures truth { (t : TimelineValue) (edges : ℕ → ℕ) (made : MadeOf) (start time now : ℕ)
         (past : List Moment) (found : Stamp) → HasLived timekeeper.now made past
-        → time_us ≡ time % 2 ^ 32 → LivesWell IsTrueLately t edges made start (calls_of past)
+        → time_us ≡ time % 2 ^ 32 → LivesWell (IsTrueLately made.clock.within.us) t edges made start (calls_of past)
         → AreInOrder start made.clock.redundancy (Tick now ∷ calls_of past)
         → time ≤ now → now ≤ time + 1800000000 → stamp_in result stamp.new ≡ Some found
         → IsStampedTruly t edges 0 time found }
@@ -406,34 +415,34 @@ pub extern "C" fn irig_c_timekeeper_stamp(
     ensures healed { (t : TimelineValue) (edges : ℕ → ℕ) (made : MadeOf)
         (start edge time now : ℕ) (past : List Moment) (found : Stamp)
         → HasLived timekeeper.now made past → time_us ≡ time % 2 ^ 32
-        → (healed : HasHealed IsTrueLately t edges made start past)
+        → (healed : HasHealed (IsTrueLately made.clock.within.us) t edges made start past)
         → IsEdgeAt healed.second.edge_us edge healed.mend
         → (edge ≤ time) ⊎ ((report_in healed.second.report).announce ≡ None)
         → AreInOrder start made.clock.redundancy (Tick now ∷ calls_of past)
         → time ≤ now → now ≤ time + 1800000000 → stamp_in result stamp.new ≡ Some found
         → IsStampedTruly t edges 0 time found }
     // Of either life: if a line counts as true that lost any pulses, or had one fault of any kind in
-    // each hundred of them, in the last 1.2 s, they name it but for the bound and 2 ms (the law
+    // each hundred of them, in the last 1.2 s, they name it but for the bound and 2.002 ms (the law
     // `lines_with_faults_tell_truly`).
     ensures faulty { (t : TimelineValue) (edges : ℕ → ℕ) (made : MadeOf) (start time now : ℕ)
         (past : List Moment) (found : Stamp) → HasLived timekeeper.now made past
         → time_us ≡ time % 2 ^ 32
-        → StampsTruly IsTrueOrFaulty t edges made start time now past
-        → stamp_in result stamp.new ≡ Some found → IsStampedTruly t edges 2000 time found }
+        → StampsTruly (IsTrueOrFaulty made.clock.within.us) t edges made start time now past
+        → stamp_in result stamp.new ≡ Some found → IsStampedTruly t edges 2002 time found }
     // Of either life: another device's stamp of the same instant, of which its own clause `truth` or
     // `healed` holds, names one no further off than the sum of both bounds and the drift of two seconds
     // of each device (the law `stamps_are_true`, clause `together`).
     ensures together { (t : TimelineValue) (edges others : ℕ → ℕ) (made : MadeOf)
         (start time now e n tau there : ℕ) (past : List Moment) (found other : Stamp)
         → HasLived timekeeper.now made past → time_us ≡ time % 2 ^ 32
-        → StampsTruly IsTrueLately t edges made start time now past
+        → StampsTruly (IsTrueLately made.clock.within.us) t edges made start time now past
         → stamp_in result stamp.new ≡ Some found
         → IsInstant made.clock.drift_us edges n tau time
         → IsQuartz e others → IsInstant e others n tau there
         → IsStampedTruly t others 0 there other
         → AreTogether t (found.bound_us + other.bound_us + 2 * made.clock.drift_us + 2 * e) found
         other }
-    // Whatever lines carry, the bound is 1.549 ms and the drift of each second since a vote.
+    // Whatever lines carry, the bound is at most a vote's and the drift of each second since one.
     ensures bound { (made : MadeOf) (past : List Moment) (found : Stamp)
         → HasLived timekeeper.now made past → stamp_in result stamp.new ≡ Some found
         → HasItsBound made past found }

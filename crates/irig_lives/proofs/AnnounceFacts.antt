@@ -133,7 +133,7 @@ are_left i zero = tt
 are_left i (suc k) = (k, omega arith, is_pulse_of i k, are_left i k)
 
 -- a frame's last pulse is a marker
-leaves : (i f : ℕ) → f < 4 → LeavesTheFirst (edges f) (sent i (100 * f))
+leaves : (i f : ℕ) → f < 4 → LeavesTheFirst 450 (edges f) (sent i (100 * f))
 unfolding sent pulse frames width_of
 leaves i zero low = tt
 leaves i (suc zero) low = inl refl
@@ -149,7 +149,7 @@ tells_it i (suc (suc zero)) low = refl
 tells_it i (suc (suc (suc zero))) low = refl
 tells_it i (suc (suc (suc (suc f)))) low = absurd (omega (arith, low))
 
-is_whole : (i f : ℕ) → f < 4 → IsWhole None rules noon edges (f + 1) (sent i (100 * f + 100))
+is_whole : (i f : ℕ) → f < 4 → IsWhole 450 None rules noon edges (f + 1) (sent i (100 * f + 100))
 is_whole i f low = record {
   line = line;
   right = is_line.right;
@@ -198,16 +198,16 @@ polled_now = 4297549400
 unfoldable by_polls : List Call
 by_polls = Tick polled_now ∷ polled
 
--- with one 90 ms behind each time that is named: the frames agree 401 us before the edge
+-- with one 90 ms behind each time that is named: the lines agree 1 us before the edge
 waits : ℕ → List Call
 waits zero = []
-waits (suc k) = with_element k (cond ((k % 100 == 9) && nat_le 100 k) (Tick (edges (k / 100) + 89599) ∷ waits k) (waits k))
+waits (suc k) = with_element k (cond ((k % 100 == 9) && nat_le 100 k) (Tick (edges (k / 100) + 89999) ∷ waits k) (waits k))
 
 unfoldable waited : List Call
 waited = waits 409
 
 abbrev waited_now : ℕ
-waited_now = 4297589999
+waited_now = 4297590399
 
 unfoldable by_wait : List Call
 by_wait = Tick waited_now ∷ waited
@@ -225,22 +225,24 @@ waits_in_order : AreInOrder start of.Three by_wait
 unfolding by_wait waited waits with_element own others rise_of width_of lie frames in_order have_risen is_after
 waits_in_order = order_is start of.Three by_wait refl
 
--- ---- what they say
+-- ---- what they say: the frames of lines 1 and 0 end 401 us before the edge and 399 us behind it, so the
+-- lines agree on the middle, and its bound is 450 us and half of what lies between their ends
 
 abbrev beat : ℕ → Beat
 beat edge = record {
   report = record { announce = Some (at 43204); lock = lock.Locked; cause = cause.Voted };
   told = record silence { a = tells.Claim (claim_of 43203); b = tells.Claim (claim_of 43203); c = tells.Claim (claim_of 43200) };
   edge_us = edge;
+  bound_us = 850;
   missed = 0;
   moved = 0;
 }
 
-polls_answer : answer_at (after_calls device polled) (polled_now % 2 ^ 32) ≡ Some (beat 2532703)
+polls_answer : answer_at (after_calls device polled) (polled_now % 2 ^ 32) ≡ Some (beat 2533103)
 unfolding polled polls with_element own others rise_of width_of lie frames step_of told_of frame_told coded_told ones values_of field_at control_of offset_in utc_minute is_month_end four_years
 polls_answer = refl
 
-waits_answer : answer_at (after_calls device waited) (waited_now % 2 ^ 32) ≡ Some (beat 2532703)
+waits_answer : answer_at (after_calls device waited) (waited_now % 2 ^ 32) ≡ Some (beat 2533103)
 unfolding waited waits with_element own others rise_of width_of lie frames step_of told_of frame_told coded_told ones values_of field_at control_of offset_in utc_minute is_month_end four_years
 waits_answer = refl
 
@@ -257,9 +259,9 @@ comes_whole m calls are n low long = record {
       let parts : m ≡ 100 * n + 100 + (m - (100 * n + 100)) = omega (arith, long) in
       let next : n + 1 ≡ 1 + n = omega arith in (
         m - (100 * n + 100),
-        subst (λ (ps : List Pulse). IsWhole None rules noon edges (1 + n) (drop (m - (100 * n + 100)) ps)) (sym (are i (ltb-true i 2 first)))
-            (subst (IsWhole None rules noon edges (1 + n)) (sym (drop_some i (m - (100 * n + 100)) (100 * n + 100) m parts))
-            (subst (λ (j : ℕ). IsWhole None rules noon edges j (sent i (100 * n + 100))) next (is_whole i n low))),
+        subst (λ (ps : List Pulse). IsWhole 450 None rules noon edges (1 + n) (drop (m - (100 * n + 100)) ps)) (sym (are i (ltb-true i 2 first)))
+            (subst (IsWhole 450 None rules noon edges (1 + n)) (sym (drop_some i (m - (100 * n + 100)) (100 * n + 100) m parts))
+            (subst (λ (j : ℕ). IsWhole 450 None rules noon edges j (sent i (100 * n + 100))) next (is_whole i n low))),
       );
 }
 
@@ -306,7 +308,7 @@ unfolding Left
 left_tail k p [] left = tt
 left_tail k p (q ∷ ps) left = let rest = left.3 in (rest.0, omega (arith, rest.1, left.1), rest.2, rest.3)
 
-left_lately : (now k : ℕ) (ps : List Pulse) → Left k ps → ArePulsesLately line edges now k ps
+left_lately : (now k : ℕ) (ps : List Pulse) → Left k ps → ArePulsesLately 450 line edges now k ps
 unfolding Left
 left_lately now k [] left = tt
 left_lately now k (p ∷ ps) left = inr (left.0, left.1, left.2, left_lately now left.0 ps left.3)
@@ -321,7 +323,7 @@ less_left k port rise width calls left i small other = elim (cases_Bool (is_puls
   ]
 ]
 
-pub truly : (k : ℕ) (calls : List Call) → AllLeft k calls → AreTrueOver (IsTrueLately rules noon edges) 1 calls []
+pub truly : (k : ℕ) (calls : List Call) → AllLeft k calls → AreTrueOver (IsTrueLately 450 rules noon edges) 1 calls []
 unfolding AllLeft
 truly k [] left = tt
 truly k (Hear port rise width ∷ calls) left = truly k calls (less_left k port rise width calls left)
@@ -331,7 +333,7 @@ truly k (Tick now ∷ calls) left = (
     few = (let one : count_by (λ (i : ℕ). i == 2) (range_with_len 0 5) ≡ 1 = refl in omega (arith, one));
     true_lines = λ i small other.
         let none : calls ++ [] ≡ calls = append-nil calls in
-        subst (λ (c : List Call). IsTrueLately rules noon edges now (pulses_on i c)) (sym none) (record { line = line; next = k; is_line = is_line; are = left_lately now k (pulses_on i calls) (left i small (eqb-false i 2 other)) });
+        subst (λ (c : List Call). IsTrueLately 450 rules noon edges now (pulses_on i c)) (sym none) (record { line = line; next = k; is_line = is_line; are = left_lately now k (pulses_on i calls) (left i small (eqb-false i 2 other)) });
   },
   truly k calls left,
 )
@@ -459,7 +461,7 @@ goes_is late (Tick now ∷ calls) e =
 
 -- ---- so the laws speak of them
 
-in_a_row : (m : ℕ) (calls : List Call) → 400 ≤ m → ((i : ℕ) → i < 2 → pulses_on i calls ≡ sent i m) → ((i : ℕ) → i < 5 → 2 < i → pulses_on i calls ≡ []) → AreInOrder start of.Three calls → edges 4 + 2000 ≤ last_tick start calls → ComeInARow IsTrueLately noon edges made start 1 calls []
+in_a_row : (m : ℕ) (calls : List Call) → 400 ≤ m → ((i : ℕ) → i < 2 → pulses_on i calls ≡ sent i m) → ((i : ℕ) → i < 5 → 2 < i → pulses_on i calls ≡ []) → AreInOrder start of.Three calls → edges 4 + 2000 ≤ last_tick start calls → ComeInARow (IsTrueLately 450) noon edges made start 1 calls []
 in_a_row m calls long are none order late =
     let same : calls ++ [] ≡ calls = append-nil calls in
     record {
@@ -525,7 +527,8 @@ late_vote : answer_at (after_calls device told_late) ((edges 4 + 50000) % 2 ^ 32
 unfolding told_late polls with_element own others rise_of width_of lie frames step_of told_of frame_told coded_told ones values_of field_at control_of offset_in utc_minute is_month_end four_years
 late_vote = refl
 
--- a tick 100 ms behind the end on which lines agree has a vote, one a microsecond later none
-too_late : (vote_at (after_calls device waited) ((edges 4 + 99599) % 2 ^ 32) ≡ Some (record { claim = claim_of 43203; end_us = 2532703 })) × (vote_at (after_calls device waited) ((edges 4 + 99600) % 2 ^ 32) ≡ None)
+-- a tick 100 ms behind the end of line 1's frame has a vote; a microsecond later that frame is late, and
+-- no two lines agree
+too_late : (vote_at (after_calls device waited) ((edges 4 + 99599) % 2 ^ 32) ≡ Some (record { claim = claim_of 43203; edge_us = 2533103; bound_us = 850 })) × (vote_at (after_calls device waited) ((edges 4 + 99600) % 2 ^ 32) ≡ None)
 unfolding waited waits with_element own others rise_of width_of lie frames step_of told_of frame_told coded_told ones values_of field_at control_of offset_in utc_minute is_month_end four_years
 too_late = (refl, refl)

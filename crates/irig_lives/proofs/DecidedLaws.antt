@@ -125,15 +125,15 @@ same_self One = refl
 same_self Marker = refl
 same_self Bad = refl
 
-module _ (line : ℕ → Symbol) (edges : ℕ → ℕ) where
-  pulse_is : (k : ℕ) (p : Pulse) → is_pulse_of line edges k p ≡ true → IsPulseOf line edges 450 k p
+module _ (within : ℕ) (line : ℕ → Symbol) (edges : ℕ → ℕ) where
+  pulse_is : (k : ℕ) (p : Pulse) → is_pulse_of within line edges k p ≡ true → IsPulseOf line edges within k p
   unfolding is_pulse_of
   pulse_is k p e =
-      let a = both (nat_lt (element_at edges k) (p.rise + 450)) _ e in
-      let b = both (nat_lt p.rise (element_at edges k + 450)) _ a.1 in
+      let a = both (nat_lt (element_at edges k) (p.rise + within)) _ e in
+      let b = both (nat_lt p.rise (element_at edges k + within)) _ a.1 in
       ((ltb-true _ _ a.0, ltb-true _ _ b.0), same_is (symbol_of p.width) (line k) b.1)
 
-  pulse_from : (k : ℕ) (p : Pulse) → IsPulseOf line edges 450 k p → is_pulse_of line edges k p ≡ true
+  pulse_from : (k : ℕ) (p : Pulse) → IsPulseOf line edges within k p → is_pulse_of within line edges k p ≡ true
   unfolding is_pulse_of
   pulse_from k p h =
       let same : is_same (symbol_of p.width) (line k) ≡ true = subst (λ (x : Symbol). is_same (symbol_of p.width) x ≡ true) h.1 (same_self (symbol_of p.width)) in
@@ -143,62 +143,62 @@ module _ (line : ℕ → Symbol) (edges : ℕ → ℕ) where
   chosen true k j o e = inl (refl, same_Some k j e)
   chosen false k j o e = inr (refl, e)
 
-  last_is : (k : ℕ) (p : Pulse) (j : ℕ) → last_before line edges k p ≡ Some j → (j < k) × (is_pulse_of line edges j p ≡ true)
+  last_is : (k : ℕ) (p : Pulse) (j : ℕ) → last_before within line edges k p ≡ Some j → (j < k) × (is_pulse_of within line edges j p ≡ true)
   unfolding last_before
   last_is zero p j e = absurd cc
-  last_is (suc k) p j e = elim (chosen (is_pulse_of line edges k p) k j (last_before line edges k p) e) [
-    | inl found ↦ (omega (arith, found.1), subst (λ (i : ℕ). is_pulse_of line edges i p ≡ true) found.1 found.0)
+  last_is (suc k) p j e = elim (chosen (is_pulse_of within line edges k p) k j (last_before within line edges k p) e) [
+    | inl found ↦ (omega (arith, found.1), subst (λ (i : ℕ). is_pulse_of within line edges i p ≡ true) found.1 found.0)
     | inr before ↦ (let is = last_is k p j before.1 in (omega (arith, is.0), is.1))
   ]
 
-  last_from : (k : ℕ) (p : Pulse) (j : ℕ) → j < k → is_pulse_of line edges j p ≡ true → (m : ℕ) × (last_before line edges k p ≡ Some m) × (j ≤ m)
+  last_from : (k : ℕ) (p : Pulse) (j : ℕ) → j < k → is_pulse_of within line edges j p ≡ true → (m : ℕ) × (last_before within line edges k p ≡ Some m) × (j ≤ m)
   unfolding last_before
   last_from zero p j less e = absurd (omega (arith, less))
-  last_from (suc k) p j less e = elim (cases_Bool (is_pulse_of line edges k p)) [
+  last_from (suc k) p j less e = elim (cases_Bool (is_pulse_of within line edges k p)) [
     | inl this_one ↦ (k, rw this_one refl, omega (arith, less))
     | inr other ↦ (let found = last_from k p j (below other (cases_lt j k)) e in (found.0, rw other found.1, found.2))
   ]
     where
-      below : is_pulse_of line edges k p ≡ false → (j < k) ⊎ (k ≤ j) → j < k
+      below : is_pulse_of within line edges k p ≡ false → (j < k) ⊎ (k ≤ j) → j < k
       below other (inl low) = low
       below other (inr high) =
           let same : j ≡ k = omega (arith, less, high) in
-          let wrong : true ≡ false = sym e ∙ ap (λ (i : ℕ). is_pulse_of line edges i p) same ∙ other in
+          let wrong : true ≡ false = sym e ∙ ap (λ (i : ℕ). is_pulse_of within line edges i p) same ∙ other in
           absurd cc
 
   module _ (now : ℕ) where
-    from_last : (k : ℕ) (p : Pulse) (ps : List Pulse) → ((j : ℕ) → are_lately line edges now (Some j) ps ≡ true → ArePulsesLately line edges now j ps)
-        → (o : Option ℕ) → last_before line edges k p ≡ o → are_lately line edges now o ps ≡ true → ArePulsesLately line edges now k (p ∷ ps)
+    from_last : (k : ℕ) (p : Pulse) (ps : List Pulse) → ((j : ℕ) → are_lately within line edges now (Some j) ps ≡ true → ArePulsesLately within line edges now j ps)
+        → (o : Option ℕ) → last_before within line edges k p ≡ o → are_lately within line edges now o ps ≡ true → ArePulsesLately within line edges now k (p ∷ ps)
     unfolding are_lately
     from_last k p ps rest None is e = absurd cc
     from_last k p ps rest (Some j) is e = (let found = last_is k p j is in inr (j, found.0, pulse_is j p found.1, rest j e))
 
-    lately_is : (k : ℕ) (ps : List Pulse) → are_lately line edges now (Some k) ps ≡ true → ArePulsesLately line edges now k ps
+    lately_is : (k : ℕ) (ps : List Pulse) → are_lately within line edges now (Some k) ps ≡ true → ArePulsesLately within line edges now k ps
     unfolding are_lately
     lately_is k [] e = tt
     lately_is k (p ∷ ps) e = elim (cases_Bool (nat_lt (p.rise + 1200000) now)) [
       | inl old ↦ inl (ltb-true _ _ old, lately_is k ps (rw (are_lately, old) at e))
-      | inr new ↦ from_last k p ps (λ j. lately_is j ps) (last_before line edges k p) refl (rw (are_lately, new) at e)
+      | inr new ↦ from_last k p ps (λ j. lately_is j ps) (last_before within line edges k p) refl (rw (are_lately, new) at e)
     ]
 
     -- what is so below an element is so below a later one
-    lower : (j k : ℕ) (ps : List Pulse) → j ≤ k → ArePulsesLately line edges now j ps → ArePulsesLately line edges now k ps
+    lower : (j k : ℕ) (ps : List Pulse) → j ≤ k → ArePulsesLately within line edges now j ps → ArePulsesLately within line edges now k ps
     lower j k [] less h = tt
     lower j k (p ∷ ps) less (inl old) = inl (old.0, lower j k ps less old.1)
     lower j k (p ∷ ps) less (inr new) = inr (new.0, omega (arith, less, new.1), new.2, new.3)
 
-    behind : (k : ℕ) (p : Pulse) (ps : List Pulse) → ArePulsesLately line edges now k (p ∷ ps) → ArePulsesLately line edges now k ps
+    behind : (k : ℕ) (p : Pulse) (ps : List Pulse) → ArePulsesLately within line edges now k (p ∷ ps) → ArePulsesLately within line edges now k ps
     behind k p ps (inl old) = old.1
     behind k p ps (inr new) = lower new.0 k ps (omega (arith, new.1)) new.3
 
-    newest : (k : ℕ) (p : Pulse) (ps : List Pulse) → nat_lt (p.rise + 1200000) now ≡ false → ArePulsesLately line edges now k (p ∷ ps)
-        → (m : ℕ) × (last_before line edges k p ≡ Some m) × ArePulsesLately line edges now m ps
+    newest : (k : ℕ) (p : Pulse) (ps : List Pulse) → nat_lt (p.rise + 1200000) now ≡ false → ArePulsesLately within line edges now k (p ∷ ps)
+        → (m : ℕ) × (last_before within line edges k p ≡ Some m) × ArePulsesLately within line edges now m ps
     newest k p ps new (inl old) = (let wrong : true ≡ false = sym (lt-ltb (p.rise + 1200000) now old.0) ∙ new in absurd cc)
     newest k p ps new (inr is) =
         let found = last_from k p is.0 is.1 (pulse_from is.0 p is.2) in
         (found.0, found.1, lower is.0 found.0 ps found.2 is.3)
 
-    lately_from : (k : ℕ) (ps : List Pulse) → ArePulsesLately line edges now k ps → are_lately line edges now (Some k) ps ≡ true
+    lately_from : (k : ℕ) (ps : List Pulse) → ArePulsesLately within line edges now k ps → are_lately within line edges now (Some k) ps ≡ true
     unfolding are_lately
     lately_from k [] h = refl
     lately_from k (p ∷ ps) h = elim (cases_Bool (nat_lt (p.rise + 1200000) now)) [
@@ -206,8 +206,8 @@ module _ (line : ℕ → Symbol) (edges : ℕ → ℕ) where
       | inr new ↦ (let found = newest k p ps new h in rw (are_lately, new, found.1) ((lately_from found.0 ps found.2)))
     ]
 
-pub lately_decided : (line : ℕ → Symbol) (edges : ℕ → ℕ) (now next : ℕ) (pulses : List Pulse) → ArePulsesLately line edges now next pulses ↔ (are_lately line edges now (Some next) pulses ≡ true)
-lately_decided line edges now next pulses = (lately_from line edges now next pulses, lately_is line edges now next pulses)
+pub lately_decided : (within : ℕ) (line : ℕ → Symbol) (edges : ℕ → ℕ) (now next : ℕ) (pulses : List Pulse) → ArePulsesLately within line edges now next pulses ↔ (are_lately within line edges now (Some next) pulses ≡ true)
+lately_decided within line edges now next pulses = (lately_from within line edges now next pulses, lately_is within line edges now next pulses)
 
 -- ---- lines that are true
 
@@ -276,15 +276,15 @@ module _ (IsTrue : ℕ → List Pulse → Type 0) (is_true : ℕ → List Pulse 
   over_decided calls before = (over_from calls before, over_are calls before)
 
 -- a line that is given is one that is true
-pub truly_is : (rules : Rules) (t : TimelineValue) (edges : ℕ → ℕ) (line : ℕ → Symbol) → IsLineOf rules t line → (next f : ℕ) (calls : List Call)
-    → are_true_at_ticks (λ now pulses. are_lately line edges now (Some next) pulses) f calls ≡ true → AreTrueAtTicks (IsTrueLately rules t edges) f calls
-truly_is rules t edges line is_line next f calls e =
-    still calls ((ticks_decided IsSo (λ now pulses. are_lately line edges now (Some next) pulses) f (λ now pulses. lately_decided line edges now next pulses) calls).1 e)
+pub truly_is : (within : ℕ) (rules : Rules) (t : TimelineValue) (edges : ℕ → ℕ) (line : ℕ → Symbol) → IsLineOf rules t line → (next f : ℕ) (calls : List Call)
+    → are_true_at_ticks (λ now pulses. are_lately within line edges now (Some next) pulses) f calls ≡ true → AreTrueAtTicks (IsTrueLately within rules t edges) f calls
+truly_is within rules t edges line is_line next f calls e =
+    still calls ((ticks_decided IsSo (λ now pulses. are_lately within line edges now (Some next) pulses) f (λ now pulses. lately_decided within line edges now next pulses) calls).1 e)
   where
     IsSo : ℕ → List Pulse → Type 0
-    IsSo now pulses = ArePulsesLately line edges now next pulses
+    IsSo now pulses = ArePulsesLately within line edges now next pulses
 
-    still : (calls : List Call) → AreTrueAtTicks IsSo f calls → AreTrueAtTicks (IsTrueLately rules t edges) f calls
+    still : (calls : List Call) → AreTrueAtTicks IsSo f calls → AreTrueAtTicks (IsTrueLately within rules t edges) f calls
     still [] h = tt
     still (Hear port rise width ∷ calls) h = still calls h
     still (Tick now ∷ calls) h = (

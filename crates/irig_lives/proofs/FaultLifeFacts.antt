@@ -17,7 +17,8 @@ use Rattle.irig_reader.specs.declared.report.Cause.TheVariants as cause
 use Rattle.irig_reader.specs.Rule.{step_of}
 use Rattle.irig_sync.proofs.EdgeLaws.{even_element}
 use Rattle.irig_timekeeper.specs.declared.clock.Beat.{Beat}
-use Rattle.irig_timekeeper.specs.declared.clock.ClockRules.{ClockRules}
+use Rattle.irig_timekeeper.specs.declared.setup.ClockRules.{ClockRules}
+use Rattle.irig_timekeeper.specs.Refusals.{within_of}
 use Rattle.irig_timekeeper.specs.declared.stamp.Stamp.{Stamp}
 use Rattle.irig_timekeeper.specs.Lines.{HasOneFaultInPlace, IsTrueLately, IsTrueButForFaults, IsTrueOrFaulty}
 use Rattle.irig_timekeeper.specs.Keeping.{Keeping, new_keeping, answer_at, stamp_at}
@@ -33,7 +34,7 @@ use Rattle.irig_lives.proofs.DecidedLaws.{order_is}
 use Rattle.irig_lives.proofs.FaultLineFacts.{fast, fast_steady, claim, line, is_checked, pulses, are, is_pulse, rest_is}
 
 abbrev clock : ClockRules
-clock = record { reader_rules = record { lock_after = 1; holdover = 100 }; redundancy = of.One; drift_us = 100 }
+clock = record { reader_rules = record { lock_after = 1; holdover = 100 }; redundancy = of.One; within = within_of 450; drift_us = 100 }
 
 by_counter : IsDevice noon 100 fast clock.reader_rules no_table
 by_counter = record { steady = fast_steady; sound = is_device.sound; knows = is_device.knows; short = is_device.short }
@@ -73,7 +74,7 @@ no_others = (refl, refl, refl, refl)
 
 -- ---- the line is true but for that fault
 
-last_is : HasOneFaultInPlace line fast (take 100 (drop 0 late)) × HasOneFaultInPlace line fast (take 100 (drop 1 late))
+last_is : HasOneFaultInPlace 450 line fast (take 100 (drop 0 late)) × HasOneFaultInPlace 450 line fast (take 100 (drop 1 late))
 unfolding line
 last_is = (
   record {
@@ -104,27 +105,27 @@ last_is = (
   },
 )
 
-late_line : (time : ℕ) → IsTrueButForFaults rules noon fast time late
+late_line : (time : ℕ) → IsTrueButForFaults 450 rules noon fast time late
 late_line time = record { line = line; is_line = is_checked; few = λ n soon. by n }
   where
-    by : (n : ℕ) → HasOneFaultInPlace line fast (take 100 (drop n late))
+    by : (n : ℕ) → HasOneFaultInPlace 450 line fast (take 100 (drop n late))
     by zero = last_is.0
     by (suc zero) = last_is.1
     by (suc (suc n)) = rest_is fast refl 10001 refl 449 (omega arith) n 98 (omega arith)
 
-dark : (time : ℕ) → IsTrueButForFaults rules noon fast time []
+dark : (time : ℕ) → IsTrueButForFaults 450 rules noon fast time []
 dark time = record { line = line; is_line = is_checked; few = λ n soon. by n }
   where
-    by : (n : ℕ) → HasOneFaultInPlace line fast (take 100 (drop n []))
-    by zero = faultless line fast 0 [] tt
-    by (suc n) = faultless line fast 0 [] tt
+    by : (n : ℕ) → HasOneFaultInPlace 450 line fast (take 100 (drop n []))
+    by zero = faultless 450 line fast 0 [] tt
+    by (suc n) = faultless 450 line fast 0 [] tt
 
-faulty : (i : ℕ) → i < 5 → IsTrueButForFaults rules noon fast now (pulses_on i calls)
-faulty zero less = subst (IsTrueButForFaults rules noon fast now) (sym on_line) (late_line now)
-faulty (suc zero) less = subst (IsTrueButForFaults rules noon fast now) (sym no_others.0) (dark now)
-faulty (suc (suc zero)) less = subst (IsTrueButForFaults rules noon fast now) (sym no_others.1) (dark now)
-faulty (suc (suc (suc zero))) less = subst (IsTrueButForFaults rules noon fast now) (sym no_others.2) (dark now)
-faulty (suc (suc (suc (suc zero)))) less = subst (IsTrueButForFaults rules noon fast now) (sym no_others.3) (dark now)
+faulty : (i : ℕ) → i < 5 → IsTrueButForFaults 450 rules noon fast now (pulses_on i calls)
+faulty zero less = subst (IsTrueButForFaults 450 rules noon fast now) (sym on_line) (late_line now)
+faulty (suc zero) less = subst (IsTrueButForFaults 450 rules noon fast now) (sym no_others.0) (dark now)
+faulty (suc (suc zero)) less = subst (IsTrueButForFaults 450 rules noon fast now) (sym no_others.1) (dark now)
+faulty (suc (suc (suc zero))) less = subst (IsTrueButForFaults 450 rules noon fast now) (sym no_others.2) (dark now)
+faulty (suc (suc (suc (suc zero)))) less = subst (IsTrueButForFaults 450 rules noon fast now) (sym no_others.3) (dark now)
 faulty (suc (suc (suc (suc (suc i))))) less = absurd (omega (arith, less))
 
 at_tick : (IsTrue : ℕ → List Pulse → Type 0) → ((i : ℕ) → i < 5 → IsTrue now (pulses_on i calls)) → AreTrueAtTicks IsTrue 0 (Tick now ∷ calls)
@@ -132,7 +133,7 @@ unfolding calls heard
 at_tick IsTrue are = (record { untrue = λ i. false; few = omega arith; true_lines = λ i less right. are i less }, tt)
 
 -- but it is no line that is true, nor true but for lost pulses
-untrue : ¬ IsTrueLately rules noon fast now late
+untrue : ¬ IsTrueLately 450 rules noon fast now late
 untrue is = elim is.are [
   | inl old ↦ absurd (omega (arith, old.0))
   | inr new ↦ elim new.3 [
@@ -141,7 +142,8 @@ untrue is = elim is.are [
   ]
 ]
 
--- ---- what the device says
+-- ---- what the device says: of one line the edge is the end of its frame, and the bound that of a true
+-- line's frame, 449 us and the drift of an element
 
 abbrev second : UtcSecond
 second = record { day = 6209; sod = 43201 }
@@ -154,6 +156,7 @@ beat = record {
   report = record { announce = Some second; lock = lock.Locked; cause = cause.Voted };
   told = record silence { a = tells.Claim claim };
   edge_us = 2000099;
+  bound_us = 450;
   missed = 0;
   moved = 0;
 }
@@ -162,23 +165,23 @@ answer : answer_at (after_calls device calls) (now % 2 ^ 32) ≡ Some beat
 unfolding calls heard line step_of told_of frame_told coded_told ones values_of field_at control_of offset_in utc_minute is_month_end four_years
 answer = refl
 
-told : IsToldInHoldover noon fast 3549 1549 100 100 now beat second
+told : IsToldInHoldover noon fast 2002 1000 450 100 100 now beat second
 told =
-    device_true None rules clock no_table new_lines 900000 are_new (IsTrueButForFaults rules noon fast) noon fast 2549 1549 by_counter (omega arith) (faults_tell_truly rules noon 100 fast fast_steady) calls now beat second order (at_tick (IsTrueButForFaults rules noon fast) faulty) answer refl
+    device_true None rules clock no_table new_lines 900000 are_new (IsTrueButForFaults 450 rules noon fast) noon fast 2002 1000 by_counter (omega arith) (faults_tell_truly (within_of 450) rules noon 100 fast fast_steady) calls now beat second order (at_tick (IsTrueButForFaults 450 rules noon fast) faulty) answer refl
 
 -- an event a quarter of a second behind the edge
 abbrev stamp : Stamp
-stamp = record { second = second; offset_us = 250000; bound_us = 1549 }
+stamp = record { second = second; offset_us = 250000; bound_us = 450 }
 
 stamp_is : stamp_at (after_calls device (Tick now ∷ calls)) 2250099 ≡ Some stamp
 unfolding calls heard line step_of told_of frame_told coded_told ones values_of field_at control_of offset_in utc_minute is_month_end four_years
 stamp_is = refl
 
-stamp_true : IsStampedTruly noon fast 2000 2250099 stamp
+stamp_true : IsStampedTruly noon fast 2002 2250099 stamp
 unfolding calls heard line in_order have_risen is_after
 stamp_true =
-    stamped None rules clock no_table new_lines 900000 are_new noon fast 2549 1549 2000 by_counter (omega arith) (omega arith) (IsTrueOrFaulty rules noon fast) (omega arith) (either_tells_truly rules noon 100 fast fast_steady) (Tick now ∷ calls) 2250099 2300000
-    asked (at_tick (IsTrueOrFaulty rules noon fast) (λ i less. inr (faulty i less))) (omega arith) (omega arith) stamp stamp_is
+    stamped None rules clock no_table new_lines 900000 are_new noon fast 2002 1000 2002 by_counter (omega arith) (omega arith) (IsTrueOrFaulty 450 rules noon fast) (omega arith) (either_tells_truly (within_of 450) rules noon 100 fast fast_steady) (Tick now ∷ calls) 2250099 2300000
+    asked (at_tick (IsTrueOrFaulty 450 rules noon fast) (λ i less. inr (faulty i less))) (omega arith) (omega arith) stamp stamp_is
   where
     asked : AreInOrder 900000 of.One (Tick 2300000 ∷ (Tick now ∷ calls))
     asked = order_is 900000 of.One (Tick 2300000 ∷ (Tick now ∷ calls)) refl

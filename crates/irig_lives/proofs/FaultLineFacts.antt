@@ -27,6 +27,7 @@ use Rattle.irig_gen.proofs.GenLaws.{true_frames}
 use Rattle.irig_port.specs.Told.{told_of}
 use Rattle.irig_port.proofs.CarriesLaws.{carries_is_told}
 use Rattle.irig_timekeeper.specs.Edges.{IsQuartz}
+use Rattle.irig_timekeeper.specs.Refusals.{within_of}
 use Rattle.irig_timekeeper.specs.Lines.{line_of, IsLastBefore, IsFrameOf, IsCheckedLineOf, HasOneFaultInPlace, IsTrueButForFaults}
 use Rattle.irig_timekeeper.proofs.FaultLines.{faults_are_true, dropped, taken, faultless}
 use Rattle.irig_lives.proofs.LifeFacts.{noon, rules, frame_0, told_0}
@@ -119,10 +120,10 @@ module _ (edges : ℕ → ℕ) (start : edges 0 ≡ 1000000) (step : ℕ) (long 
   are (suc n) most = (is_pulse n (omega (arith, most)), are n (omega (arith, most)))
 
   -- behind what is at fault
-  pub rest_is : (n k : ℕ) → k ≤ 100 → HasOneFaultInPlace line edges (take 100 (drop n (pulses step off k)))
+  pub rest_is : (n k : ℕ) → k ≤ 100 → HasOneFaultInPlace 450 line edges (take 100 (drop n (pulses step off k)))
   rest_is n k most =
-      let left = dropped line edges n k (pulses step off k) (are k most) in
-      faultless line edges left.0 (take 100 (drop n (pulses step off k))) (taken line edges 100 left.0 (drop n (pulses step off k)) left.1)
+      let left = dropped 450 line edges n k (pulses step off k) (are k most) in
+      faultless 450 line edges left.0 (take 100 (drop n (pulses step off k))) (taken 450 line edges 100 left.0 (drop n (pulses step off k)) left.1)
 
 frame_by : (ps : List Pulse) (end : ℕ) → AreOnTime 100 ps → symbols_of_last 100 ps ≡ frame_0 → IsLastBefore end ps → IsFrameOf rules claim end ps
 frame_by ps end on same last = record {
@@ -141,10 +142,10 @@ early_symbols : symbols_of_last 100 early ≡ frame_0
 unfolding line
 early_symbols = refl
 
-early_line : (now : ℕ) → IsTrueButForFaults rules noon fast now early
+early_line : (now : ℕ) → IsTrueButForFaults 450 rules noon fast now early
 early_line now = record { line = line; is_line = is_checked; few = λ n soon. by n }
   where
-    by : (n : ℕ) → HasOneFaultInPlace line fast (take 100 (drop n early))
+    by : (n : ℕ) → HasOneFaultInPlace 450 line fast (take 100 (drop n early))
     by zero = record {
       one = record {
         element = 98;
@@ -185,10 +186,10 @@ late_symbols : symbols_of_last 100 late ≡ frame_0
 unfolding line
 late_symbols = refl
 
-late_line : (now : ℕ) → IsTrueButForFaults rules noon slow now late
+late_line : (now : ℕ) → IsTrueButForFaults 450 rules noon slow now late
 late_line now = record { line = line; is_line = is_checked; few = λ n soon. by n }
   where
-    by : (n : ℕ) → HasOneFaultInPlace line slow (take 100 (drop n late))
+    by : (n : ℕ) → HasOneFaultInPlace 450 line slow (take 100 (drop n late))
     by zero = record {
       one = record {
         element = 99;
@@ -232,7 +233,7 @@ past_fault = record {
 past_frame : IsFrameOf rules claim 2002350 past × (2002350 ≡ slow 1 + 2450)
 past_frame = (frame_by past 2002350 (refl, (refl, in_time 9999 (omega arith) (omega arith) 898 97 (omega arith))) past_symbols refl, refl)
 
-past_line : (now : ℕ) → now ≤ 2102350 → ¬ (IsTrueButForFaults rules noon slow now past)
+past_line : (now : ℕ) → now ≤ 2102350 → ¬ (IsTrueButForFaults 450 rules noon slow now past)
 past_line now soon is =
-    let near = faults_are_true rules noon 100 slow slow_steady now 2002350 past claim is past_frame.0 (omega (arith, soon)) in
+    let near = faults_are_true (within_of 450) rules noon 100 slow slow_steady now 2002350 past claim is past_frame.0 (omega (arith, soon)) in
     omega (arith, near.near.least, near.near.most)

@@ -19,7 +19,8 @@ use Rattle.irig_reader.specs.declared.report.Lock.TheVariants as lock
 use Rattle.irig_reader.specs.declared.report.Cause.TheVariants as cause
 use Rattle.irig_reader.specs.Rule.{step_of}
 use Rattle.irig_timekeeper.specs.declared.clock.Beat.{Beat}
-use Rattle.irig_timekeeper.specs.declared.clock.ClockRules.{ClockRules}
+use Rattle.irig_timekeeper.specs.declared.setup.ClockRules.{ClockRules}
+use Rattle.irig_timekeeper.specs.Refusals.{within_of}
 use Rattle.irig_timekeeper.specs.Lines.{IsLineOf, IsTrueLately, line_of}
 use Rattle.irig_timekeeper.specs.Keeping.{Keeping, new_keeping, answer_at}
 use Rattle.irig_timekeeper.specs.Truth.{IsDevice, IsToldInHoldover}
@@ -33,7 +34,7 @@ use Rattle.irig_lives.specs.Decided.{is_after, have_risen, in_order, is_same, is
 use Rattle.irig_lives.proofs.DecidedLaws.{order_is, truly_is}
 
 abbrev clock : ClockRules
-clock = record { reader_rules = record { lock_after = 1; holdover = 100 }; redundancy = of.Five; drift_us = 100 }
+clock = record { reader_rules = record { lock_after = 1; holdover = 100 }; redundancy = of.Five; within = within_of 450; drift_us = 100 }
 
 is_device_of_five : IsDevice noon 100 edges clock.reader_rules no_table
 is_device_of_five = record { steady = steady; sound = is_device.sound; knows = is_device.knows; short = is_device.short }
@@ -73,11 +74,13 @@ order : AreInOrder 4293400000 of.Five (Tick now ∷ calls)
 unfolding calls heard true_pulse false_pulse width_of in_order have_risen is_after
 order = order_is 4293400000 of.Five (Tick now ∷ calls) refl
 
-truth : AreTrueAtTicks (IsTrueLately rules noon edges) 2 (Tick now ∷ calls)
+truth : AreTrueAtTicks (IsTrueLately 450 rules noon edges) 2 (Tick now ∷ calls)
 unfolding calls heard true_pulse false_pulse width_of lies are_true_at_ticks are_true_lately are_lately last_before is_pulse_of is_same
-truth = truly_is rules noon edges line is_line 100 2 (Tick now ∷ calls) refl
+truth = truly_is 450 rules noon edges line is_line 100 2 (Tick now ∷ calls) refl
 
--- ---- what it says: 12:00:01
+-- ---- what it says: 12:00:01. The frames of the true lines end 401 us and 1 us before the edge and 399 us
+-- behind it. Only all three are more than two, so the lines agree on the middle of the first and the last
+-- end, and its bound is 450 us and half of what lies between these
 
 abbrev device : Keeping
 device = new_keeping None rules clock no_table new_lines
@@ -86,7 +89,8 @@ abbrev beat : Beat
 beat = record {
   report = record { announce = Some (at 43201); lock = lock.Locked; cause = cause.Voted };
   told = record { a = tells.Claim (claim_of 43200); b = tells.Claim (claim_of 43200); c = tells.Claim (claim_of 43200); d = tells.Claim (claim_of 43201); e = tells.Claim (claim_of 43201) };
-  edge_us = 4294499699;
+  edge_us = 4294500099;
+  bound_us = 850;
   missed = 0;
   moved = 0;
 }
@@ -95,7 +99,7 @@ answer : answer_at (after_calls device calls) (now % 2 ^ 32) ≡ Some beat
 unfolding calls heard true_pulse false_pulse width_of step_of told_of frame_told coded_told ones values_of field_at control_of offset_in utc_minute is_month_end four_years
 answer = refl
 
-told : IsToldInHoldover noon edges 1549 549 100 100 now beat (at 43201)
+told : IsToldInHoldover noon edges 0 0 450 100 100 now beat (at 43201)
 told =
-    device_true None rules clock no_table new_lines 4293400000 are_new (IsTrueLately rules noon edges) noon edges 549 549 is_device_of_five (omega arith)
-    (λ time end pulses c is f soon. true_lately rules noon 100 edges time end pulses c steady is f soon) calls now beat (at 43201) order truth answer refl
+    device_true None rules clock no_table new_lines 4293400000 are_new (IsTrueLately 450 rules noon edges) noon edges 0 0 is_device_of_five (omega arith)
+    (λ time end pulses c is f soon. true_lately (within_of 450) rules noon 100 edges time end pulses c steady is f soon) calls now beat (at 43201) order truth answer refl

@@ -29,7 +29,8 @@ use Rattle.irig_reader.specs.declared.report.Cause.{Cause}
 use Rattle.irig_reader.specs.declared.report.Cause.TheVariants as cause
 use Rattle.irig_reader.specs.Rule.{step_of}
 use Rattle.irig_timekeeper.specs.declared.clock.Beat.{Beat}
-use Rattle.irig_timekeeper.specs.declared.clock.ClockRules.{ClockRules}
+use Rattle.irig_timekeeper.specs.declared.setup.ClockRules.{ClockRules}
+use Rattle.irig_timekeeper.specs.Refusals.{within_of}
 use Rattle.irig_timekeeper.specs.Edges.{IsQuartz}
 use Rattle.irig_timekeeper.specs.Lines.{IsLineOf, IsTrueLately, line_of}
 use Rattle.irig_timekeeper.specs.Keeping.{Keeping, new_keeping, answer_at}
@@ -59,7 +60,7 @@ steady : IsQuartz 100 edges
 steady = record { few = omega arith; steady = record { least = λ n. omega arith; most = λ n. omega arith } }
 
 abbrev clock : ClockRules
-clock = record { reader_rules = record { lock_after = 1; holdover = 100 }; redundancy = of.One; drift_us = 100 }
+clock = record { reader_rules = record { lock_after = 1; holdover = 100 }; redundancy = of.One; within = within_of 450; drift_us = 100 }
 
 -- 23:59:60 is inserted, or 23:59:59 deleted
 abbrev leaps : Leap → List (ℕ × Leap)
@@ -129,7 +130,7 @@ now_1 = 2002000
 abbrev calls_2 : List Call
 calls_2 = Tick now_1 ∷ calls_1
 
--- so many seconds behind the edge, which is told 100 us early
+-- so many seconds behind the edge, which is told 1 us early
 abbrev behind : ℕ → ℕ
 behind n = 2006000 + 1000000 * n
 
@@ -140,11 +141,11 @@ order : AreInOrder 900000 of.One (Tick (behind 60) ∷ calls_3 59) × AreInOrder
 unfolding calls_1 heard width_of in_order have_risen is_after
 order = (order_is 900000 of.One (Tick (behind 60) ∷ calls_3 59) refl, order_is 900000 of.One (Tick (behind 58) ∷ calls_3 57) refl)
 
-truth : (l : Leap) → AreTrueAtTicks (IsTrueLately rules (with_leap l) edges) 0 (Tick (behind 60) ∷ calls_3 59) × AreTrueAtTicks (IsTrueLately rules (with_leap l) edges) 0 (Tick (behind 58) ∷ calls_3 57)
+truth : (l : Leap) → AreTrueAtTicks (IsTrueLately 450 rules (with_leap l) edges) 0 (Tick (behind 60) ∷ calls_3 59) × AreTrueAtTicks (IsTrueLately 450 rules (with_leap l) edges) 0 (Tick (behind 58) ∷ calls_3 57)
 unfolding calls_1 heard width_of are_true_at_ticks are_true_lately are_lately last_before is_pulse_of is_same
 truth l = (
-  truly_is rules (with_leap l) edges line (is_line l) 100 0 (Tick (behind 60) ∷ calls_3 59) refl,
-  truly_is rules (with_leap l) edges line (is_line l) 100 0 (Tick (behind 58) ∷ calls_3 57) refl,
+  truly_is 450 rules (with_leap l) edges line (is_line l) 100 0 (Tick (behind 60) ∷ calls_3 59) refl,
+  truly_is 450 rules (with_leap l) edges line (is_line l) 100 0 (Tick (behind 58) ∷ calls_3 57) refl,
 )
 
 -- ---- what the device says
@@ -152,54 +153,57 @@ truth l = (
 abbrev device : TableValue → Keeping
 device known = new_keeping None rules clock known new_lines
 
-abbrev held : Option UtcSecond → Lock → Cause → ℕ → ℕ → Beat
-held announce l c edge missed = record { report = record { announce = announce; lock = l; cause = c }; told = silence; edge_us = edge; missed = missed; moved = 0 }
+abbrev held : Option UtcSecond → Lock → Cause → ℕ → ℕ → ℕ → Beat
+held announce l c edge bound missed = record { report = record { announce = announce; lock = l; cause = c }; told = silence; edge_us = edge; bound_us = bound; missed = missed; moved = 0 }
 
 abbrev voted : Beat
 voted = record {
   report = record { announce = Some (at 86341); lock = lock.Locked; cause = cause.Voted };
   told = record silence { a = tells.Claim claim };
   edge_us = 2000099;
+  bound_us = 450;
   missed = 0;
   moved = 0;
 }
 
--- 23:59:01 by the vote of its one line
+-- 23:59:01 by the vote of its one line, at the end of its frame: the bound is 449 us and the drift of an
+-- element
 answer_1 : answer_at (after_calls (device (knows_leap leap.Insert)) calls_1) now_1 ≡ Some voted
 unfolding calls_1 heard width_of step_of told_of frame_told coded_told ones values_of field_at control_of offset_in utc_minute is_month_end four_years
 answer_1 = refl
 
--- 23:59:60 and the new year, with a table that has the leap second
-inserted : (answer_at (after_calls (device (knows_leap leap.Insert)) calls_2) (behind 59) ≡ Some (held (Some (at 86400)) (lock.Holdover 59) cause.Held 61000099 58))
-    × (answer_at (after_calls (device (knows_leap leap.Insert)) (calls_3 59)) (behind 60) ≡ Some (held (Some new_year) (lock.Holdover 60) cause.Held 62000099 0))
+-- 23:59:60 and the new year, with a table that has the leap second: the bound is 100 us more for each
+-- second of the holdover
+inserted : (answer_at (after_calls (device (knows_leap leap.Insert)) calls_2) (behind 59) ≡ Some (held (Some (at 86400)) (lock.Holdover 59) cause.Held 61000099 6350 58))
+    × (answer_at (after_calls (device (knows_leap leap.Insert)) (calls_3 59)) (behind 60) ≡ Some (held (Some new_year) (lock.Holdover 60) cause.Held 62000099 6450 0))
 unfolding calls_1 heard width_of step_of told_of frame_told coded_told ones values_of field_at control_of offset_in utc_minute is_month_end four_years
 inserted = (refl, refl)
 
 -- 23:59:58 and the new year, with one that has a deletion
-deleted : (answer_at (after_calls (device (knows_leap leap.Delete)) calls_2) (behind 57) ≡ Some (held (Some (at 86398)) (lock.Holdover 57) cause.Held 59000099 56))
-    × (answer_at (after_calls (device (knows_leap leap.Delete)) (calls_3 57)) (behind 58) ≡ Some (held (Some new_year) (lock.Holdover 58) cause.Held 60000099 0))
+deleted : (answer_at (after_calls (device (knows_leap leap.Delete)) calls_2) (behind 57) ≡ Some (held (Some (at 86398)) (lock.Holdover 57) cause.Held 59000099 6150 56))
+    × (answer_at (after_calls (device (knows_leap leap.Delete)) (calls_3 57)) (behind 58) ≡ Some (held (Some new_year) (lock.Holdover 58) cause.Held 60000099 6250 0))
 unfolding calls_1 heard width_of step_of told_of frame_told coded_told ones values_of field_at control_of offset_in utc_minute is_month_end four_years
 deleted = (refl, refl)
 
--- 23:59:58 and nothing more, without a table
-unknown : (answer_at (after_calls (device no_table) calls_2) (behind 57) ≡ Some (held (Some (at 86398)) (lock.Holdover 57) cause.Held 59000099 56))
-    × (answer_at (after_calls (device no_table) (calls_3 57)) (behind 58) ≡ Some (held None lock.Unlocked cause.LeapGuard 60000099 0))
+-- 23:59:58 and nothing more, without a table: then no holdover lasts, and the bound is the vote's
+unknown : (answer_at (after_calls (device no_table) calls_2) (behind 57) ≡ Some (held (Some (at 86398)) (lock.Holdover 57) cause.Held 59000099 6150 56))
+    × (answer_at (after_calls (device no_table) (calls_3 57)) (behind 58) ≡ Some (held None lock.Unlocked cause.LeapGuard 60000099 450 0))
 unfolding calls_1 heard width_of step_of told_of frame_told coded_told ones values_of field_at control_of offset_in utc_minute is_month_end four_years
 unknown = (refl, refl)
 
 -- ---- so the law speaks of it
 
-module _ (l : Leap) (calls : List Call) (now : ℕ) (beat : Beat) (u : UtcSecond) (ordered : AreInOrder 900000 of.One (Tick now ∷ calls)) (are : AreTrueAtTicks (IsTrueLately rules (with_leap l) edges) 0 (Tick now ∷ calls)) where
-  by_law : answer_at (after_calls (device (knows_leap l)) calls) (now % 2 ^ 32) ≡ Some beat → beat.report.announce ≡ Some u → IsToldInHoldover (with_leap l) edges 1549 549 100 100 now beat u
+module _ (l : Leap) (calls : List Call) (now : ℕ) (beat : Beat) (u : UtcSecond) (ordered : AreInOrder 900000 of.One (Tick now ∷ calls)) (are : AreTrueAtTicks (IsTrueLately 450 rules (with_leap l) edges) 0 (Tick now ∷ calls)) where
+  by_law : answer_at (after_calls (device (knows_leap l)) calls) (now % 2 ^ 32) ≡ Some beat → beat.report.announce ≡ Some u → IsToldInHoldover (with_leap l) edges 0 0 450 100 100 now beat u
   by_law =
-      device_true None rules clock (knows_leap l) new_lines 900000 are_new (IsTrueLately rules (with_leap l) edges) (with_leap l) edges 549 549 (is_device l) (omega arith)
-      (λ time end pulses c is f soon. true_lately rules (with_leap l) 100 edges time end pulses c steady is f soon) calls now beat u ordered are
+      device_true None rules clock (knows_leap l) new_lines 900000 are_new (IsTrueLately 450 rules (with_leap l) edges) (with_leap l) edges 0 0 (is_device l) (omega arith)
+      (λ time end pulses c is f soon. true_lately (within_of 450) rules (with_leap l) 100 edges time end pulses c steady is f soon) calls now beat u ordered are
 
-told_60 : IsToldInHoldover (with_leap leap.Insert) edges 1549 549 100 100 (behind 59) (held (Some (at 86400)) (lock.Holdover 59) cause.Held 61000099 58) (at 86400)
+told_60 : IsToldInHoldover (with_leap leap.Insert) edges 0 0 450 100 100 (behind 59) (held (Some (at 86400)) (lock.Holdover 59) cause.Held 61000099 6350 58) (at 86400)
 told_60 = by_law leap.Insert calls_2 (behind 59) _ (at 86400) order.0.3 (truth leap.Insert).0.1 inserted.0 refl
 
-told_new_year : IsToldInHoldover (with_leap leap.Insert) edges 1549 549 100 100 (behind 60) (held (Some new_year) (lock.Holdover 60) cause.Held 62000099 0) new_year
+told_new_year : IsToldInHoldover (with_leap leap.Insert) edges 0 0 450 100 100 (behind 60) (held (Some new_year) (lock.Holdover 60) cause.Held 62000099 6450 0) new_year
 told_new_year = by_law leap.Insert (calls_3 59) (behind 60) _ new_year order.0 (truth leap.Insert).0 inserted.1 refl
 
-told_without_59 : IsToldInHoldover (with_leap leap.Delete) edges 1549 549 100 100 (behind 58) (held (Some new_year) (lock.Holdover 58) cause.Held 60000099 0) new_year
+told_without_59 : IsToldInHoldover (with_leap leap.Delete) edges 0 0 450 100 100 (behind 58) (held (Some new_year) (lock.Holdover 58) cause.Held 60000099 6250 0) new_year
 told_without_59 = by_law leap.Delete (calls_3 57) (behind 58) _ new_year order.1 (truth leap.Delete).1 deleted.1 refl

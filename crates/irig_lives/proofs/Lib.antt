@@ -14,3 +14,4 @@ pub mod LeapFacts
 pub mod FiveFacts
 pub mod StampFacts
 pub mod FaultLifeFacts
+pub mod ExactFacts

@@ -38,11 +38,12 @@ use Rattle.irig_reader.specs.declared.report.Lock.TheVariants as lock
 use Rattle.irig_reader.specs.declared.report.Cause.TheVariants as cause
 use Rattle.irig_reader.specs.Rule.{step_of}
 use Rattle.irig_sync.proofs.EdgeLaws.{even_element}
-use Rattle.irig_timekeeper.specs.declared.lines.KeptClaim.{KeptClaim}
 use Rattle.irig_timekeeper.specs.declared.lines.Line.{Line}
 use Rattle.irig_timekeeper.specs.declared.lines.Lines.{Lines}
+use Rattle.irig_timekeeper.specs.declared.lines.Vote.{Vote}
 use Rattle.irig_timekeeper.specs.declared.clock.Beat.{Beat}
-use Rattle.irig_timekeeper.specs.declared.clock.ClockRules.{ClockRules}
+use Rattle.irig_timekeeper.specs.declared.setup.ClockRules.{ClockRules}
+use Rattle.irig_timekeeper.specs.Refusals.{within_of}
 use Rattle.irig_timekeeper.specs.Edges.{IsQuartz}
 use Rattle.irig_timekeeper.specs.Lines.{IsLineOf, IsTrueLately}
 use Rattle.irig_timekeeper.specs.Steps.{IsNewLine, AreNewLines}
@@ -80,7 +81,7 @@ true_table : IsTrueTable noon no_table
 true_table = record { leaps = λ day end from to. absurd (omega (arith, from, to)) }
 
 abbrev pub clock : ClockRules
-clock = record { reader_rules = record { lock_after = 2; holdover = 100 }; redundancy = of.Three; drift_us = 100 }
+clock = record { reader_rules = record { lock_after = 2; holdover = 100 }; redundancy = of.Three; within = within_of 450; drift_us = 100 }
 
 pub is_device : IsDevice noon 100 edges clock.reader_rules no_table
 is_device = record { steady = steady; sound = is_timeline; knows = inl true_table; short = omega arith }
@@ -285,9 +286,9 @@ order_4 : AreInOrder 4293400000 of.Three life_4
 unfolding calls_3 elements_before with_element pulse_told with_tick width_of lie line frame in_order have_risen is_after
 order_4 = order_is 4293400000 of.Three life_4 refl
 
-truth_4 : AreTrueAtTicks (IsTrueLately rules noon edges) 1 life_4
+truth_4 : AreTrueAtTicks (IsTrueLately 450 rules noon edges) 1 life_4
 unfolding calls_3 elements_before with_element pulse_told with_tick width_of lie are_true_at_ticks are_true_lately are_lately last_before is_pulse_of is_same line frame
-truth_4 = truly_is rules noon edges line is_line 400 1 life_4 refl
+truth_4 = truly_is 450 rules noon edges line is_line 400 1 life_4 refl
 
 abbrev pub device : Keeping
 device = new_keeping None rules clock no_table new_lines
@@ -295,20 +296,26 @@ device = new_keeping None rules clock no_table new_lines
 abbrev pub silence : Tells
 silence = record { a = tells.Silence; b = tells.Silence; c = tells.Silence; d = tells.Silence; e = tells.Silence }
 
+-- the frames of lines 1 and 0 end 401 us before the edge and 399 us behind it, 800 us apart. So the
+-- lines agree on the middle, 1 us before the edge, and its bound is that of a true line's frame, 450 us
+-- with the drift of an element, and half of that
 abbrev beat_3 : Beat
 beat_3 = record {
   report = record { announce = Some (at 43203); lock = lock.Locked; cause = cause.Voted };
   told = record silence { a = tells.Claim (claim_of 43202); b = tells.Claim (claim_of 43202); c = tells.Claim (claim_of 43200) };
-  edge_us = 1532603;
+  edge_us = 1533003;
+  bound_us = 850;
   missed = 0;
   moved = 0;
 }
 
+-- a second later by the own counter, which drifts 100 us more
 abbrev beat_4 : Beat
 beat_4 = record {
   report = record { announce = Some (at 43204); lock = lock.Holdover 1; cause = cause.Held };
   told = silence;
-  edge_us = 2532603;
+  edge_us = 2533003;
+  bound_us = 950;
   missed = 0;
   moved = 0;
 }
@@ -322,32 +329,32 @@ unfolding calls_3 elements_before with_element pulse_told with_tick width_of lie
 answer_4 = refl
 
 -- so the laws speak of it
-truly_told : TellAlwaysTruly (IsTrueLately rules noon edges) rules noon edges 549 549
-truly_told now end pulses claim is frame soon = true_lately rules noon 100 edges now end pulses claim steady is frame soon
+truly_told : TellAlwaysTruly (IsTrueLately 450 rules noon edges) 450 100 rules noon edges 0 0
+truly_told now end pulses claim is frame soon = true_lately (within_of 450) rules noon 100 edges now end pulses claim steady is frame soon
 
-told_4 : IsToldInHoldover noon edges 1549 549 100 100 now_4 beat_4 (at 43204)
-told_4 = device_true None rules clock no_table new_lines 4293400000 are_new (IsTrueLately rules noon edges) noon edges 549 549 is_device (omega arith) truly_told (Tick now_3 ∷ calls_3) now_4 beat_4 (at 43204) order_4 truth_4 answer_4 refl
+told_4 : IsToldInHoldover noon edges 0 0 450 100 100 now_4 beat_4 (at 43204)
+told_4 = device_true None rules clock no_table new_lines 4293400000 are_new (IsTrueLately 450 rules noon edges) noon edges 0 0 is_device (omega arith) truly_told (Tick now_3 ∷ calls_3) now_4 beat_4 (at 43204) order_4 truth_4 answer_4 refl
 
 later_4 : IsLaterSecond noon (at 43203) (at 43204)
-later_4 = device_in_order None rules clock no_table new_lines 4293400000 are_new (IsTrueLately rules noon edges) noon edges 549 549 is_device (omega arith) truly_told calls_3 [] now_3 now_4 beat_3 beat_4 (at 43203) (at 43204) order_4 truth_4 answer_3 refl answer_4 refl
+later_4 = device_in_order None rules clock no_table new_lines 4293400000 are_new (IsTrueLately 450 rules noon edges) noon edges 0 0 is_device (omega arith) truly_told calls_3 [] now_3 now_4 beat_3 beat_4 (at 43203) (at 43204) order_4 truth_4 answer_3 refl answer_4 refl
 
 -- by the vote of its third second it has healed from whatever came before
 abbrev pub made : Made
 made = record { limits = None; rules = rules; clock = clock; table = no_table; lines = new_lines; fresh = are_new }
 
-abbrev vote_3 : KeptClaim
-vote_3 = record { claim = claim_of 43202; end_us = 1532603 }
+abbrev vote_3 : Vote
+vote_3 = record { claim = claim_of 43202; edge_us = 1533003; bound_us = 850 }
 
 voted_3 : vote_at (after_calls device calls_3) (now_3 % 2 ^ 32) ≡ Some vote_3
 unfolding calls_3 elements_before with_element with_tick width_of lie line frame step_of told_of frame_told coded_told ones values_of field_at control_of offset_in utc_minute is_month_end four_years pulse_told
 voted_3 = refl
 
-healed_4 : HasHealed IsTrueLately noon edges made 4293400000 life_4
+healed_4 : HasHealed (IsTrueLately 450) noon edges made 4293400000 life_4
 healed_4 = record { is = is_device; order = order_4; later = Tick now_4 ∷ []; mend = now_3; earlier = calls_3; are = refl; vote = vote_3; voted = voted_3; beat = beat_3; answer = answer_3; truth = truth_4.1.0; since = (truth_4.0, tt) }
 
 -- an event 0.25 s behind the last edge is stamped with its second, 2 ms before it with the one before
-stamp_4 : (stamp_at (after_tick (after_calls device (Tick now_3 ∷ calls_3)) (now_4 % 2 ^ 32)) 2782603 ≡ Some (record { second = at 43204; offset_us = 250000; bound_us = 1649 }))
-    × (stamp_at (after_tick (after_calls device (Tick now_3 ∷ calls_3)) (now_4 % 2 ^ 32)) 2530603 ≡ Some (record { second = at 43203; offset_us = 998000; bound_us = 1549 }))
+stamp_4 : (stamp_at (after_tick (after_calls device (Tick now_3 ∷ calls_3)) (now_4 % 2 ^ 32)) 2783003 ≡ Some (record { second = at 43204; offset_us = 250000; bound_us = 950 }))
+    × (stamp_at (after_tick (after_calls device (Tick now_3 ∷ calls_3)) (now_4 % 2 ^ 32)) 2531003 ≡ Some (record { second = at 43203; offset_us = 998000; bound_us = 850 }))
 unfolding calls_3 elements_before with_element pulse_told with_tick width_of lie line frame step_of told_of frame_told coded_told ones values_of field_at control_of offset_in utc_minute is_month_end four_years
 stamp_4 = (refl, refl)
 
@@ -365,34 +372,34 @@ order_by_lines : AreInOrder 4293400000 of.Three (Tick now_3 ∷ by_lines)
 unfolding by_lines queued elements_before with_element pulse_told with_tick width_of lie line frame in_order have_risen is_after
 order_by_lines = order_is 4293400000 of.Three (Tick now_3 ∷ by_lines) refl
 
-truth_by_lines : AreTrueAtTicks (IsTrueLately rules noon edges) 1 (Tick now_3 ∷ by_lines)
+truth_by_lines : AreTrueAtTicks (IsTrueLately 450 rules noon edges) 1 (Tick now_3 ∷ by_lines)
 unfolding by_lines queued elements_before with_element pulse_told with_tick width_of lie are_true_at_ticks are_true_lately are_lately last_before is_pulse_of is_same line frame
-truth_by_lines = truly_is rules noon edges line is_line 400 1 (Tick now_3 ∷ by_lines) refl
+truth_by_lines = truly_is 450 rules noon edges line is_line 400 1 (Tick now_3 ∷ by_lines) refl
 
 answer_by_lines : answer_at (after_calls device by_lines) (now_3 % 2 ^ 32) ≡ Some beat_3
 unfolding by_lines queued elements_before with_element pulse_told with_tick width_of lie line frame step_of told_of frame_told coded_told ones values_of field_at control_of offset_in utc_minute is_month_end four_years
 answer_by_lines = refl
 
-told_by_lines : IsToldInHoldover noon edges 1549 549 100 100 now_3 beat_3 (at 43203)
-told_by_lines = device_true None rules clock no_table new_lines 4293400000 are_new (IsTrueLately rules noon edges) noon edges 549 549 is_device (omega arith) truly_told by_lines now_3 beat_3 (at 43203) order_by_lines truth_by_lines answer_by_lines refl
+told_by_lines : IsToldInHoldover noon edges 0 0 450 100 100 now_3 beat_3 (at 43203)
+told_by_lines = device_true None rules clock no_table new_lines 4293400000 are_new (IsTrueLately 450 rules noon edges) noon edges 0 0 is_device (omega arith) truly_told by_lines now_3 beat_3 (at 43203) order_by_lines truth_by_lines answer_by_lines refl
 
 -- ---- what the premises let through
 
 -- a line that brings nothing is true; one that brings a pulse 600 us off is not, for 1.2 s
-silent : (now : ℕ) → IsTrueLately rules noon edges now []
+silent : (now : ℕ) → IsTrueLately 450 rules noon edges now []
 silent now = record { line = line; next = 0; is_line = is_line; are = tt }
 
 stray_pulse : List Pulse
 stray_pulse = pulse_at 4293500600 8000 ∷ []
 
-stray : ¬ IsTrueLately rules noon edges 4293600000 stray_pulse
+stray : ¬ IsTrueLately 450 rules noon edges 4293600000 stray_pulse
 unfolding stray_pulse
 stray is = elim is.are [
   | inl old ↦ absurd (omega (arith, old.0))
   | inr new ↦ (let low : new.0 % 100 < 100 = omega arith in let time = even_element 1000100 edges (λ n. omega arith) new.0 in absurd (omega (arith, low, time, new.2.0.0, new.2.0.1)))
 ]
 
-stray_old : IsTrueLately rules noon edges 4294700601 stray_pulse
+stray_old : IsTrueLately 450 rules noon edges 4294700601 stray_pulse
 unfolding stray_pulse
 stray_old = record { line = line; next = 0; is_line = is_line; are = inl (omega arith, tt) }
 
@@ -400,7 +407,7 @@ stray_old = record { line = line; next = 0; is_line = is_line; are = inl (omega 
 damaged_pulse : List Pulse
 damaged_pulse = pulse_at 4293500000 5000 ∷ []
 
-damaged : ¬ IsTrueLately rules noon edges 4293600000 damaged_pulse
+damaged : ¬ IsTrueLately 450 rules noon edges 4293600000 damaged_pulse
 unfolding damaged_pulse
 damaged is = elim is.are [
   | inl old ↦ absurd (omega (arith, old.0))
@@ -420,7 +427,7 @@ damaged is = elim is.are [
 in_turn : List Call
 in_turn = Hear 1 4293590600 8000 ∷ Hear 0 4293500600 8000 ∷ []
 
-rotating : ¬ AreTrueLately (IsTrueLately rules noon edges) 1 4293600000 in_turn
+rotating : ¬ AreTrueLately (IsTrueLately 450 rules noon edges) 1 4293600000 in_turn
 unfolding in_turn
 rotating is = elim (cases_Bool (is.untrue 0)) [
   | inr right ↦ stray_at 4293500600 (inl refl) (is.true_lines 0 (omega arith) right)
@@ -430,7 +437,7 @@ rotating is = elim (cases_Bool (is.untrue 0)) [
   ]
 ]
   where
-    stray_at : (rise : ℕ) → (rise ≡ 4293500600) ⊎ (rise ≡ 4293590600) → ¬ IsTrueLately rules noon edges 4293600000 (pulse_at rise 8000 ∷ [])
+    stray_at : (rise : ℕ) → (rise ≡ 4293500600) ⊎ (rise ≡ 4293590600) → ¬ IsTrueLately 450 rules noon edges 4293600000 (pulse_at rise 8000 ∷ [])
     stray_at rise (inl at) is = elim is.are [
       | inl old ↦ absurd (omega (arith, old.0, at))
       | inr new ↦ (let low : new.0 % 100 < 100 = omega arith in let time = even_element 1000100 edges (λ n. omega arith) new.0 in absurd (omega (arith, low, at, time, new.2.0.0, new.2.0.1)))

@@ -1,6 +1,6 @@
 -- What a tick leaves that announces by a vote, and what a device says that then hears nothing.
 use Rattle.std.specs.Prelude.{◌==◌, ◌&&◌}
-use Rattle.std.proofs.Common.{◌≡◌, ◌∙◌, ℕ, zero, suc, ◌+◌, ◌-◌, ◌<◌, ◌≤◌, false, Option, Some, None, Ok, refl, sym, ap, subst, arith, inl, inr}
+use Rattle.std.proofs.Common.{◌≡◌, ◌∙◌, ℕ, zero, suc, ◌+◌, ◌-◌, ◌*◌, ◌<◌, ◌≤◌, false, Option, Some, None, Ok, refl, sym, ap, subst, arith, inl, inr}
 use Rattle.std.proofs.lemmas.Bool.{cases_Bool}
 use Rattle.irig_time.specs.declared.second.UtcSecond.{UtcSecond}
 use Rattle.irig_time.specs.declared.claim.Claim.{Claim}
@@ -21,16 +21,15 @@ use Rattle.irig_reader.specs.declared.report.Lock.TheVariants as lock
 use Rattle.irig_reader.specs.Locking.{voted_report}
 use Rattle.irig_reader.specs.Rule.{count_step, holdover_step, step_of}
 use Rattle.irig_reader.proofs.StepCases.{count_cases, vote_cases, none_cases}
-use Rattle.irig_vote.specs.Vote.{f_of}
 use Rattle.irig_timekeeper.specs.declared.clock.Beat.{Beat}
-use Rattle.irig_timekeeper.specs.declared.clock.ClockRules.{ClockRules}
+use Rattle.irig_timekeeper.specs.declared.setup.ClockRules.{ClockRules}
 use Rattle.irig_timekeeper.specs.declared.clock.ClockState.{ClockState}
-use Rattle.irig_timekeeper.specs.declared.lines.KeptClaim.{KeptClaim}
 use Rattle.irig_timekeeper.specs.declared.lines.Lines.{Lines}
+use Rattle.irig_timekeeper.specs.declared.lines.Vote.{Vote}
 use Rattle.irig_timekeeper.specs.Counting.{edges_own, edges_to_vote, edge_behind}
 use Rattle.irig_timekeeper.specs.Steps.{settled, taken, agreed, if_come}
 use Rattle.irig_timekeeper.specs.Rule.{missed, step_behind}
-use Rattle.irig_timekeeper.specs.Clock.{beat_by, step_to, after_vote, answer_to_vote, after_own, answer_alone, own_edge, clock_by, answer_by, settled_at}
+use Rattle.irig_timekeeper.specs.Clock.{bound_of, beat_by, step_to, after_vote, answer_to_vote, after_own, answer_alone, own_edge, clock_by, answer_by, settled_at}
 use Rattle.irig_timekeeper.specs.Keeping.{Keeping, vote_at, after_tick, answer_at}
 use Rattle.irig_timekeeper.proofs.SinceLaws.{begun_age, voted_age}
 
@@ -81,6 +80,7 @@ pub record IsLeft (u : UtcSecond) (beat : Beat) (new : ClockState) : Type 0 wher
   pub last : h.last ≡ u
   pub age : h.age ≡ 0
   pub edge : new.edge_us ≡ Some beat.edge_us
+  pub bound : beat.bound_us ≡ new.bound_us
   pub lines : Lines
   pub dark : new.lines ≡ taken lines
 
@@ -89,20 +89,33 @@ module _ (c : ClockRules) (table : TableValue) (s : ClockState) (u : UtcSecond) 
   left_alone n e = elim (cases_Bool (n == 0)) [
     | inl none ↦ let no : None ≡ Some beat = rw none at e in absurd cc
     | inr some ↦
-        let is : Some (beat_by s (step_to c table s n None) (n - 1) (own_edge s.edge_us n)) ≡ Some beat = rw some at e in
-        let same : beat_by s (step_to c table s n None) (n - 1) (own_edge s.edge_us n) ≡ beat = cc in
+        let is : Some (beat_by c s (step_to c table s n None) (n - 1) (own_edge s.edge_us n) s.bound_us) ≡ Some beat = rw some at e in
+        let same : beat_by c s (step_to c table s n None) (n - 1) (own_edge s.edge_us n) s.bound_us ≡ beat = cc in
         absurd (never_alone c.reader_rules table u (missed c.reader_rules table (n - 1) s.reader) (ap (λ (b : Beat). b.report) same ∙ says))
   ]
 
-  left_voted : (v : KeptClaim) (n : ℕ) → answer_to_vote c table s v n ≡ Some beat → IsLeft u beat (after_vote c table s v n)
+  left_voted : (v : Vote) (n : ℕ) → answer_to_vote c table s v n ≡ Some beat → IsLeft u beat (after_vote c table s v n)
   unfolding IfAnnounced
   left_voted v n e = elim (cases_Bool (n == 0)) [
     | inl none ↦ let no : None ≡ Some beat = rw none at e in absurd cc
     | inr some ↦
-        let is : Some (beat_by s (step_to c table s n (Some v.claim)) (n - 1) v.end_us) ≡ Some beat = rw some at e in
-        let same : beat_by s (step_to c table s n (Some v.claim)) (n - 1) v.end_us ≡ beat = cc in
+        let is : Some (beat_by c s (step_to c table s n (Some v.claim)) (n - 1) v.edge_us v.bound_us) ≡ Some beat = rw some at e in
+        let same : beat_by c s (step_to c table s n (Some v.claim)) (n - 1) v.edge_us v.bound_us ≡ beat = cc in
         let locked = voted_locks c.reader_rules table u (missed c.reader_rules table (n - 1) s.reader) v.claim (ap (λ (b : Beat). b.report.announce) same ∙ ap (λ (r : Report). r.announce) says) in
-        rw some (record { h = locked.h; reader = locked.is; last = locked.last; age = locked.age; edge = ap (λ (b : Beat). Some b.edge_us) same; lines = s.lines; dark = refl })
+        let none : v.bound_us + 0 * c.drift_us ≡ v.bound_us = omega arith in
+        let bound : beat.bound_us ≡ v.bound_us =
+        ap (λ (b : Beat). b.bound_us) (sym same)
+        ∙ ap (λ (r : Report). bound_of c.drift_us v.bound_us r.lock) (ap (λ (b : Beat). b.report) same ∙ says) ∙ none in
+        rw some (record {
+          h = locked.h;
+          reader = locked.is;
+          last = locked.last;
+          age = locked.age;
+          edge = ap (λ (b : Beat). Some b.edge_us) same;
+          bound = bound;
+          lines = s.lines;
+          dark = refl;
+        })
   ]
 
 pub left_by : (k : Keeping) (clock : ℕ) (u : UtcSecond) (beat : Beat) → answer_at k clock ≡ Some beat → beat.report ≡ voted_report u → IsLeft u beat (after_tick k clock).state
@@ -111,9 +124,9 @@ left_by k clock u beat answer says = of (vote_at k clock) answer
     s : ClockState
     s = settled_at k.state clock
 
-    of : (o : Option KeptClaim) → answer_by k.clock k.table s clock o ≡ Some beat → IsLeft u beat (clock_by k.clock k.table s clock o)
+    of : (o : Option Vote) → answer_by k.clock k.table s clock o ≡ Some beat → IsLeft u beat (clock_by k.clock k.table s clock o)
     of None e = left_alone k.clock k.table s u beat says (edges_own k.state.edge_us clock) e
-    of (Some v) e = left_voted k.clock k.table s u beat says v (edges_to_vote k.state.edge_us v.end_us) e
+    of (Some v) e = left_voted k.clock k.table s u beat says v (edges_to_vote k.state.edge_us v.edge_us) e
 
 -- ---- a tick of dark lines, so many seconds later
 
@@ -122,22 +135,24 @@ pub record SaysAlone (k : Keeping) (clock e n : ℕ) (u : UtcSecond) : Type 0 wh
   pub answer : answer_at k clock ≡ Some beat
   pub says : beat.report.announce ≡ Some u
   pub edge : beat.edge_us ≡ edge_behind e (suc n)
+  pub bound : k.state.bound_us ≤ beat.bound_us
 
 pub says_alone : (k : Keeping) (clock e n : ℕ) (u : UtcSecond) (lines : Lines) → k.state.lines ≡ taken lines → k.state.edge_us ≡ Some e → edges_own (Some e) clock ≡ suc n
     → (step_behind k.clock.reader_rules k.table n k.state.reader None).report.announce ≡ Some u → SaysAlone k clock e n u
 says_alone k clock e n u lines dark edge count says =
     let s : ClockState = settled_at k.state clock in
-    let none : vote_at k clock ≡ None = ap (λ (x : Lines). if_come clock (agreed (f_of k.clock.redundancy) (settled clock x))) dark in
+    let none : vote_at k clock ≡ None = ap (λ (x : Lines). if_come clock (agreed k.clock (settled clock x))) dark in
     let so_many : edges_own k.state.edge_us clock ≡ suc n = ap (λ (o : Option ℕ). edges_own o clock) edge ∙ count in
     let less : suc n - 1 ≡ n = omega arith in
     let some : (suc n == 0) ≡ false = grind arith in
-    let counted_on : answer_alone k.clock k.table s (suc n) ≡ Some (beat_by s (step_to k.clock k.table s (suc n) None) (suc n - 1) (own_edge k.state.edge_us (suc n))) = rw some refl in
+    let counted_on : answer_alone k.clock k.table s (suc n) ≡ Some (beat_by k.clock s (step_to k.clock k.table s (suc n) None) (suc n - 1) (own_edge k.state.edge_us (suc n)) k.state.bound_us) = rw some refl in
     let step : (step_to k.clock k.table s (suc n) None).report.announce ≡ Some u = ap (λ (m : ℕ). (step_behind k.clock.reader_rules k.table m k.state.reader None).report.announce) less ∙ says in
     record {
-      beat = beat_by s (step_to k.clock k.table s (suc n) None) (suc n - 1) (own_edge k.state.edge_us (suc n));
+      beat = beat_by k.clock s (step_to k.clock k.table s (suc n) None) (suc n - 1) (own_edge k.state.edge_us (suc n)) k.state.bound_us;
       answer = ap (answer_by k.clock k.table s clock) none ∙ ap (answer_alone k.clock k.table s) so_many ∙ counted_on;
       says = step;
       edge = ap (λ (o : Option ℕ). own_edge o (suc n)) edge;
+      bound = omega arith;
     }
 
 -- ---- seconds that a locked reader counts alone

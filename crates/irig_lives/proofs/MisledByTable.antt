@@ -22,7 +22,7 @@ use Rattle.irig_vote.specs.Vote.{f_of}
 use Rattle.irig_reader.specs.declared.rule.State.{State}
 use Rattle.irig_reader.specs.declared.rule.State.TheVariants.{Idle, Locked}
 use Rattle.irig_reader.specs.Rules.{IsReaderRules}
-use Rattle.irig_timekeeper.specs.declared.clock.ClockRules.{ClockRules}
+use Rattle.irig_timekeeper.specs.declared.setup.ClockRules.{ClockRules}
 use Rattle.irig_timekeeper.specs.Counting.{edges_own}
 use Rattle.irig_timekeeper.specs.Lines.{IsTrueLately}
 use Rattle.irig_timekeeper.specs.Rule.{step_behind}
@@ -54,8 +54,8 @@ deletion = table 30 deletions
 
 -- ---- what was true, stays so
 
-still_true : (rules : Rules) (t : TimelineValue) (now then : ℕ) (pulses : List Pulse) → now ≤ then → IsTrueLately rules t edges now pulses → IsTrueLately rules t edges then pulses
-still_true rules t now then pulses later is = record { line = is.line; next = is.next; is_line = is.is_line; are = sent.still_lately is.line now then is.next later pulses is.are }
+still_true : (within : ℕ) (rules : Rules) (t : TimelineValue) (now then : ℕ) (pulses : List Pulse) → now ≤ then → IsTrueLately within rules t edges now pulses → IsTrueLately within rules t edges then pulses
+still_true within rules t now then pulses later is = record { line = is.line; next = is.next; is_line = is.is_line; are = sent.still_lately within is.line now then is.next later pulses is.are }
 
 still_after : (ps : List Pulse) (now then : ℕ) → now ≤ then → IsAfter ps now → IsAfter ps then
 still_after [] now then later after = tt
@@ -135,11 +135,11 @@ module _ (rules : Rules) (clock : ClockRules) (range : IsReaderRules clock.reade
   new = device_of made
 
   -- where that leaves the device
-  stands : (now : ℕ) (s : State) (o : Option ℕ) (e : ℕ) (h : HoldValue) → o ≡ Some e → s ≡ Locked h → h.last ≡ at (first + n) → h.age ≡ 0 → IsOnTrack lie edges 1549 549 clock.drift_us 0 clock.reader_rules deletion now s o → IsAloneAt lie n 0 s
-  stands now s None e h edge is last age track = absurd cc
-  stands now s (Some x) e h edge is last age (inl idle) = let both : Locked h ≡ Idle = sym is ∙ idle.0 in absurd cc
-  stands now s (Some x) e h edge is last age (inr on) =
-      let sure = subst (λ (y : State). StandsAt lie edges 1549 549 clock.drift_us 0 clock.reader_rules deletion now y x on.0 on.1) is on.2 in
+  stands : (now : ℕ) (s : State) (voted : ℕ) (o : Option ℕ) (e : ℕ) (h : HoldValue) → o ≡ Some e → s ≡ Locked h → h.last ≡ at (first + n) → h.age ≡ 0 → IsOnTrack lie edges 0 0 clock.drift_us 0 clock.reader_rules deletion now s voted o → IsAloneAt lie n 0 s
+  stands now s voted None e h edge is last age track = absurd cc
+  stands now s voted (Some x) e h edge is last age (inl idle) = let both : Locked h ≡ Idle = sym is ∙ idle.0 in absurd cc
+  stands now s voted (Some x) e h edge is last age (inr on) =
+      let sure = subst (λ (y : State). StandsAt lie edges 0 0 clock.drift_us 0 clock.reader_rules deletion now y voted x on.0 on.1) is on.2 in
       let there = subst (IsSecond lie on.0) last sure.truth.on_time.last in
       let same : on.0 ≡ n = omega (arith, there.sum, (second n (omega arith)).sum) in
       record { h = h; is = is; on_time = subst (λ (w : ℕ). IsOnTime lie w h) same sure.truth.on_time; age_is = age }
@@ -172,9 +172,9 @@ module _ (rules : Rules) (clock : ClockRules) (range : IsReaderRules clock.reade
       let k : Keeping = after_calls new calls in
       let e : ℕ = a.beat.edge_us in
       let left = left_by (after_calls new a.earlier) (a.now % 2 ^ 32) (at (first + n)) a.beat a.answer a.says in
-      let track = (ticks None rules clock deletion new_lines 9999000 are_new (IsTrueLately rules lie edges) lie edges 549 549 device (omega arith)
-      (λ time end pulses claim is frame soon. true_lately rules lie clock.drift_us edges time end pulses claim device.steady is frame soon) a.earlier a.now told.order told.truth).track in
-      let alone = stands a.now k.state.reader k.state.edge_us e left.h left.edge left.reader left.last left.age track in
+      let track = (ticks None rules clock deletion new_lines 9999000 are_new (IsTrueLately clock.within.us rules lie edges) lie edges 0 0 device (omega arith)
+      (λ time end pulses claim is frame soon. true_lately clock.within rules lie clock.drift_us edges time end pulses claim device.steady is frame soon) a.earlier a.now told.order told.truth).track in
+      let alone = stands a.now k.state.reader k.state.bound_us k.state.edge_us e left.h left.edge left.reader left.last left.age track in
       let many = (many_alone clock.reader_rules deletion lie lie_is (record { leaps = λ day end from to. refl }) n 57 k.state.reader then_second alone (omega (arith, long)) then_seconds of_that_day).1 in
       let late : a.now ≤ now = omega (arith, told.at.soon) in
       let order : AreInOrder 9999000 clock.redundancy (Tick now ∷ calls) = (late, omega (arith, told.at.come), (λ line. still_after (pulses_on line a.earlier) a.now now late (told.order.2 line)), told.order) in
@@ -187,12 +187,12 @@ module _ (rules : Rules) (clock : ClockRules) (range : IsReaderRules clock.reade
       let then = says_alone k (now % 2 ^ 32) e 57 new_month left.lines left.dark left.edge count says in
       let edge = own_edge_at a.now now late (omega (arith, told.at.come)) e told.edge told.at 58 (sym come) (omega arith) in
       let same : told.m ≡ n = omega (arith, told.second.sum, (second n (omega arith)).sum) in
-      let truths = truth_before (IsTrueLately rules truth edges) (f_of clock.redundancy) a.later calls
-      (subst (AreTrueAtTicks (IsTrueLately rules truth edges) (f_of clock.redundancy)) a.are (sent.all_true rules clock range deletion lie device (sent.frame rules lie lie_is) carried truth carried_truth)) in
-      let lately : AreTrueLately (IsTrueLately rules truth edges) (f_of clock.redundancy) now calls = record {
+      let truths = truth_before (IsTrueLately clock.within.us rules truth edges) (f_of clock.redundancy) a.later calls
+      (subst (AreTrueAtTicks (IsTrueLately clock.within.us rules truth edges) (f_of clock.redundancy)) a.are (sent.all_true rules clock range deletion lie device (sent.frame rules lie lie_is) carried truth carried_truth)) in
+      let lately : AreTrueLately (IsTrueLately clock.within.us rules truth edges) (f_of clock.redundancy) now calls = record {
         untrue = truths.0.untrue;
         few = truths.0.few;
-        true_lines = λ i low right. still_true rules truth a.now now (pulses_on i a.earlier) late (truths.0.true_lines i low right);
+        true_lines = λ i low right. still_true clock.within.us rules truth a.now now (pulses_on i a.earlier) late (truths.0.true_lines i low right);
       } in
       record {
         edges = edges;
@@ -212,6 +212,6 @@ module _ (rules : Rules) (clock : ClockRules) (range : IsReaderRules clock.reade
         m = locks + 60;
         edge = told.edge + 58 * 1000000;
         told = subst (λ (x : ℕ). IsEdgeAt x (told.edge + 58 * 1000000) now) (sym then.edge) edge;
-        near = record { least = omega (arith, told.near.least, same); most = omega (arith, told.near.most, same) };
+        near = record { least = omega (arith, told.near.least, same, left.bound, then.bound); most = omega (arith, told.near.most, same, left.bound, then.bound) };
         untrue = no_month;
       }

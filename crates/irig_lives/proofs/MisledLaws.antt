@@ -10,7 +10,7 @@ use Rattle.irig_hold.specs.Truth.{IsTrueTable}
 use Rattle.irig_vote.specs.Vote.{f_of}
 use Rattle.irig_reader.specs.declared.report.Report.{Report}
 use Rattle.irig_reader.specs.Rules.{IsReaderRules}
-use Rattle.irig_timekeeper.specs.declared.clock.ClockRules.{ClockRules}
+use Rattle.irig_timekeeper.specs.declared.setup.ClockRules.{ClockRules}
 use Rattle.irig_timekeeper.specs.Lines.{IsTrueLately}
 use Rattle.irig_timekeeper.specs.Truth.{IsDevice}
 use Rattle.irig_timekeeper.specs.Life.{Made, AreTrueAtTicks}
@@ -80,7 +80,7 @@ module _ (rules : Rules) (clock : ClockRules) (range : IsReaderRules clock.reade
         calls = a.earlier;
         now = a.now;
         order = told.order;
-        truth = truth_before (IsTrueLately rules truth edges) (f_of clock.redundancy + 1) a.later (Tick a.now ∷ a.earlier) (subst (AreTrueAtTicks (IsTrueLately rules truth edges) (f_of clock.redundancy + 1)) a.are others);
+        truth = truth_before (IsTrueLately clock.within.us rules truth edges) (f_of clock.redundancy + 1) a.later (Tick a.now ∷ a.earlier) (subst (AreTrueAtTicks (IsTrueLately clock.within.us rules truth edges) (f_of clock.redundancy + 1)) a.are others);
         beat = a.beat;
         answer = a.answer;
         u = u;

@@ -71,19 +71,19 @@ module _ (line : ℕ → Symbol) (right : IsTrueLine line) where
   sent zero = []
   sent (suc k) = pulse k ∷ sent k
 
-  is_pulse_of : (k : ℕ) → IsPulseOf line edges 450 k (pulse k)
+  is_pulse_of : (within : ℕ) → 1 ≤ within → (k : ℕ) → IsPulseOf line edges within k (pulse k)
   unfolding pulse
-  is_pulse_of k = let at = at_element k in ((omega (arith, at), omega (arith, at)), width_is (k % 100) (line k) (right k))
+  is_pulse_of within some k = let at = at_element k in ((omega (arith, at, some), omega (arith, at, some)), width_is (k % 100) (line k) (right k))
 
-  are_sent : (k : ℕ) → ArePulsesBefore line edges 450 k (sent k)
+  are_sent : (k : ℕ) → ArePulsesBefore line edges 1 k (sent k)
   unfolding sent
   are_sent zero = tt
-  are_sent (suc k) = (is_pulse_of k, are_sent k)
+  are_sent (suc k) = (is_pulse_of 1 (omega arith) k, are_sent k)
 
-  pub lately : (now k : ℕ) → ArePulsesLately line edges now k (sent k)
+  pub lately : (within : ℕ) → 1 ≤ within → (now k : ℕ) → ArePulsesLately within line edges now k (sent k)
   unfolding sent
-  lately now zero = tt
-  lately now (suc k) = inr (k, omega arith, is_pulse_of k, lately now k)
+  lately within some now zero = tt
+  lately within some now (suc k) = inr (k, omega arith, is_pulse_of within some k, lately within some now k)
 
   so_many : (k : ℕ) → length (sent k) ≡ k
   unfolding sent
@@ -106,10 +106,10 @@ module _ (line : ℕ → Symbol) (right : IsTrueLine line) where
     split zero = let none : k + 0 ≡ k = omega arith in ap sent none
     split (suc n) = let next : k + suc n ≡ suc (k + n) = omega arith in ap sent next ∙ ap (λ (ps : List Pulse). pulse (k + n) ∷ ps) (split n)
 
-    pub are_recent : (n : ℕ) → ArePulsesBefore line edges 450 (k + n) (recent n)
+    pub are_recent : (within : ℕ) → 1 ≤ within → (n : ℕ) → ArePulsesBefore line edges within (k + n) (recent n)
     unfolding recent
-    are_recent zero = tt
-    are_recent (suc n) = let next : suc (k + n) ≡ k + suc n = omega arith in subst (λ (j : ℕ). ArePulsesBefore line edges 450 j (pulse (k + n) ∷ recent n)) next (is_pulse_of (k + n), are_recent n)
+    are_recent within some zero = tt
+    are_recent within some (suc n) = let next : suc (k + n) ≡ k + suc n = omega arith in subst (λ (j : ℕ). ArePulsesBefore line edges within j (pulse (k + n) ∷ recent n)) next (is_pulse_of within some (k + n), are_recent within some n)
 
     pub so_recent : (n : ℕ) → length (recent n) ≡ n
     unfolding recent
@@ -121,16 +121,16 @@ module _ (line : ℕ → Symbol) (right : IsTrueLine line) where
       let k = 100 * f + 100 in
       let long = so_many k in
       let from : k - 100 ≡ 100 * f = omega arith in
-      (of_row line edges 450 k 100 (sent k) (are_sent k) (omega (arith, long))).1 ∙ ap (λ (b : ℕ). row line b 100) from
+      (of_row line edges 1 k 100 (sent k) (are_sent k) (omega (arith, long))).1 ∙ ap (λ (b : ℕ). row line b 100) from
 
-  pub leaves : (f : ℕ) → LeavesTheFirst (edges f) (sent (100 * f))
+  pub leaves : (within f : ℕ) → LeavesTheFirst within (edges f) (sent (100 * f))
   unfolding sent pulse
-  leaves zero = tt
-  leaves (suc f) =
+  leaves within zero = tt
+  leaves within (suc f) =
       let last : 100 * suc f ≡ suc (100 * f + 99) = omega arith in
       let place : (100 * f + 99) % 100 ≡ 99 = omega arith in
       let marker = last_is_marker (line (100 * f + 99)) (subst (λ (i : ℕ). IsRight i (Some (line (100 * f + 99)))) place (right (100 * f + 99))) in
-      subst (λ (k : ℕ). LeavesTheFirst (edges (suc f)) (sent k)) (sym last) (inl marker)
+      subst (λ (k : ℕ). LeavesTheFirst within (edges (suc f)) (sent k)) (sym last) (inl marker)
 
   pub after : (k time : ℕ) → tick k ≤ time → IsAfter (sent k) time
   unfolding sent pulse

@@ -29,8 +29,7 @@ use Rattle.irig_vote.specs.declared.redundancy.Redundancy.TheVariants.{One, Thre
 use Rattle.irig_vote.specs.Vote.{f_of, ports_in}
 use Rattle.irig_reader.specs.declared.report.Report.{Report}
 use Rattle.irig_reader.specs.Rules.{IsReaderRules}
-use Rattle.irig_timekeeper.specs.declared.clock.ClockRules.{ClockRules}
-use Rattle.irig_timekeeper.specs.Clock.{lasted}
+use Rattle.irig_timekeeper.specs.declared.setup.ClockRules.{ClockRules}
 use Rattle.irig_timekeeper.specs.Lines.{ArePulsesLately, IsLineOf, IsTrueLately, line_of}
 use Rattle.irig_timekeeper.specs.Announcing.{IsWhole, ComesWhole, Announces}
 use Rattle.irig_timekeeper.specs.Truth.{IsDevice, IsEdgeAt}
@@ -81,10 +80,10 @@ enough Three = omega arith
 enough Five = omega arith
 
 -- what is true of late stays so
-pub still_lately : (line : ℕ → Symbol) (now then k : ℕ) → now ≤ then → (ps : List Pulse) → ArePulsesLately line edges now k ps → ArePulsesLately line edges then k ps
-still_lately line now then k later [] are = tt
-still_lately line now then k later (p ∷ ps) (inl old) = inl (omega (arith, later, old.0), still_lately line now then k later ps old.1)
-still_lately line now then k later (p ∷ ps) (inr new) = inr (new.0, new.1, new.2, still_lately line now then new.0 later ps new.3)
+pub still_lately : (within : ℕ) (line : ℕ → Symbol) (now then k : ℕ) → now ≤ then → (ps : List Pulse) → ArePulsesLately within line edges now k ps → ArePulsesLately within line edges then k ps
+still_lately within line now then k later [] are = tt
+still_lately within line now then k later (p ∷ ps) (inl old) = inl (omega (arith, later, old.0), still_lately within line now then k later ps old.1)
+still_lately within line now then k later (p ∷ ps) (inr new) = inr (new.0, new.1, new.2, still_lately within line now then new.0 later ps new.3)
 
 module _ (rules : Rules) (clock : ClockRules) (range : IsReaderRules clock.reader_rules) (sheet : TableValue) (t : TimelineValue) (is : IsDevice t clock.drift_us edges clock.reader_rules sheet) where
   abbrev pub made : Made
@@ -121,7 +120,7 @@ module _ (rules : Rules) (clock : ClockRules) (range : IsReaderRules clock.reade
         get_or_from_slice_get (row line (100 * f) 100) i (line (100 * f + i)) d (row-get line (100 * f) 100 i low) ∙ stands f i early low
         ∙ sym (get_or_from_slice_get (frame f) i (get_or (frame f) i Bad) d (slice_get-get_or (frame f) i Bad there))))
 
-    whole : (f : ℕ) → f < seconds → IsWhole None rules t edges (f + 1) (sent line is_line.right (100 * f + 100))
+    whole : (f : ℕ) → f < seconds → IsWhole clock.within.us None rules t edges (f + 1) (sent line is_line.right (100 * f + 100))
     whole f early =
         let own = carried f early in
         let same : symbols_of_last 100 (sent line is_line.right (100 * f + 100)) ≡ frame f = heard line is_line.right f ∙ as_sent f early in
@@ -134,8 +133,8 @@ module _ (rules : Rules) (clock : ClockRules) (range : IsReaderRules clock.reade
           earlier = sent line is_line.right (100 * f);
           parts = split line is_line.right (100 * f) 100;
           hundred = so_recent line is_line.right (100 * f) 100;
-          are = are_recent line is_line.right (100 * f) 100;
-          first = leaves line is_line.right f;
+          are = are_recent line is_line.right (100 * f) clock.within.us clock.within.some 100;
+          first = leaves line is_line.right clock.within.us f;
           claim = own.0;
           tells = ap (told_within None rules) same ∙ (carries_is_told rules (frame f) own.0).1 own.2;
           truth = own.1;
@@ -154,28 +153,28 @@ module _ (rules : Rules) (clock : ClockRules) (range : IsReaderRules clock.reade
     ordered = in_order line is_line.right n clock.redundancy (enough clock.redundancy) (100 * seconds + 2)
 
     -- all lines are true to a timeline whose claims they carry, and all but these lines to any
-    pub all_true : (t' : TimelineValue) → ((f : ℕ) → f < seconds → Carried rules t' f (frame f)) → AreTrueAtTicks (IsTrueLately rules t' edges) (f_of clock.redundancy) calls
+    pub all_true : (t' : TimelineValue) → ((f : ℕ) → f < seconds → Carried rules t' f (frame f)) → AreTrueAtTicks (IsTrueLately clock.within.us rules t' edges) (f_of clock.redundancy) calls
     unfolding calls
-    all_true t' carries = at_ticks line is_line.right n (IsTrueLately rules t' edges) (f_of clock.redundancy) (λ k. record { untrue = λ i. false; few = omega arith; true_lines = λ i less right. by k i }) (100 * seconds + 2)
+    all_true t' carries = at_ticks line is_line.right n (IsTrueLately clock.within.us rules t' edges) (f_of clock.redundancy) (λ k. record { untrue = λ i. false; few = omega arith; true_lines = λ i less right. by k i }) (100 * seconds + 2)
       where
         is_line' : IsLineOf rules t' line
         is_line' = checked_is_line rules t' line (sent_is_checked rules t' seconds frame carries)
 
-        by : (k i : ℕ) → IsTrueLately rules t' edges (tick k) (pulses_on i (first_calls k))
+        by : (k i : ℕ) → IsTrueLately clock.within.us rules t' edges (tick k) (pulses_on i (first_calls k))
         by k i = elim (cases_Bool (sends clock.redundancy i)) [
-          | inl low ↦ subst (IsTrueLately rules t' edges (tick k)) (sym (sent_on line is_line.right n i k (ltb-true i n low))) (record { line = line; next = k; is_line = is_line'; are = lately line is_line.right (tick k) k })
-          | inr far ↦ subst (IsTrueLately rules t' edges (tick k)) (sym (none_on line is_line.right n i k (ltb-false i n far))) (record { line = line; next = k; is_line = is_line'; are = tt })
+          | inl low ↦ subst (IsTrueLately clock.within.us rules t' edges (tick k)) (sym (sent_on line is_line.right n i k (ltb-true i n low))) (record { line = line; next = k; is_line = is_line'; are = lately line is_line.right clock.within.us clock.within.some (tick k) k })
+          | inr far ↦ subst (IsTrueLately clock.within.us rules t' edges (tick k)) (sym (none_on line is_line.right n i k (ltb-false i n far))) (record { line = line; next = k; is_line = is_line'; are = tt })
         ]
 
-    pub others_true : (t' : TimelineValue) → AreTrueAtTicks (IsTrueLately rules t' edges) n calls
+    pub others_true : (t' : TimelineValue) → AreTrueAtTicks (IsTrueLately clock.within.us rules t' edges) n calls
     unfolding calls
-    others_true t' = at_ticks line is_line.right n (IsTrueLately rules t' edges) n (λ k. record { untrue = sends clock.redundancy; few = (let e = count_sends clock.redundancy in omega (arith, e)); true_lines = by k }) (100 * seconds + 2)
+    others_true t' = at_ticks line is_line.right n (IsTrueLately clock.within.us rules t' edges) n (λ k. record { untrue = sends clock.redundancy; few = (let e = count_sends clock.redundancy in omega (arith, e)); true_lines = by k }) (100 * seconds + 2)
       where
         nothing_sent : IsLineOf rules t' (line_of (λ f. []) 0)
         nothing_sent = checked_is_line rules t' (line_of (λ f. []) 0) (sent_is_checked rules t' 0 (λ f. []) (λ f low. absurd (omega (arith, low))))
 
-        by : (k i : ℕ) → i < 5 → sends clock.redundancy i ≡ false → IsTrueLately rules t' edges (tick k) (pulses_on i (first_calls k))
-        by k i less far = subst (IsTrueLately rules t' edges (tick k)) (sym (none_on line is_line.right n i k (ltb-false i n far))) (record { line = line_of (λ f. []) 0; next = k; is_line = nothing_sent; are = tt })
+        by : (k i : ℕ) → i < 5 → sends clock.redundancy i ≡ false → IsTrueLately clock.within.us rules t' edges (tick k) (pulses_on i (first_calls k))
+        by k i less far = subst (IsTrueLately clock.within.us rules t' edges (tick k)) (sym (none_on line is_line.right n i k (ltb-false i n far))) (record { line = line_of (λ f. []) 0; next = k; is_line = nothing_sent; are = tt })
 
     -- ---- they announce
 
@@ -192,18 +191,18 @@ module _ (rules : Rules) (clock : ClockRules) (range : IsReaderRules clock.reade
               let all : 100 * f + 100 + (count - (100 * f + 100)) ≡ count = omega (arith, low) in
               let left : drop (count - (100 * f + 100)) (pulses_on i (first_calls count)) ≡ sent line is_line.right (100 * f + 100) =
               ap (drop (count - (100 * f + 100))) (sent_on line is_line.right n i count here ∙ ap (sent line is_line.right) (sym all)) ∙ drop_sent line is_line.right (count - (100 * f + 100)) (100 * f + 100) in
-              (count - (100 * f + 100), subst (IsWhole None rules t edges (1 + f)) (sym left) (subst (λ (m : ℕ). IsWhole None rules t edges m (sent line is_line.right (100 * f + 100))) next (whole f low))));
+              (count - (100 * f + 100), subst (IsWhole clock.within.us None rules t edges (1 + f)) (sym left) (subst (λ (m : ℕ). IsWhole clock.within.us None rules t edges m (sent line is_line.right (100 * f + 100))) next (whole f low))));
         }
 
     alone : calls ≡ calls ++ []
     alone = sym (append-nil calls)
 
-    in_a_row : ComeInARow IsTrueLately t edges made 9999000 1 calls []
+    in_a_row : ComeInARow (IsTrueLately clock.within.us) t edges made 9999000 1 calls []
     unfolding calls
     in_a_row = record {
       is = is;
       order = subst (AreInOrder 9999000 clock.redundancy) alone ordered;
-      truth = truth_over (IsTrueLately rules t edges) (f_of clock.redundancy) calls [] (subst (AreTrueAtTicks (IsTrueLately rules t edges) (f_of clock.redundancy)) alone (all_true t carried));
+      truth = truth_over (IsTrueLately clock.within.us rules t edges) (f_of clock.redundancy) calls [] (subst (AreTrueAtTicks (IsTrueLately clock.within.us rules t edges) (f_of clock.redundancy)) alone (all_true t carried));
       some = omega arith;
       locks = range.lock_after.0;
       told = 9999000;
@@ -227,11 +226,11 @@ module _ (rules : Rules) (clock : ClockRules) (range : IsReaderRules clock.reade
     pub record IsTold (u : UtcSecond) : Type 0 where
       pub a : Announces edges (device_of made) (1 + 1 + clock.reader_rules.lock_after) u calls
       pub order : AreInOrder 9999000 clock.redundancy (Tick a.now ∷ a.earlier)
-      pub truth : AreTrueAtTicks (IsTrueLately rules t edges) (f_of clock.redundancy) (Tick a.now ∷ a.earlier)
+      pub truth : AreTrueAtTicks (IsTrueLately clock.within.us rules t edges) (f_of clock.redundancy) (Tick a.now ∷ a.earlier)
       pub m : ℕ
       pub edge : ℕ
       pub at : IsEdgeAt a.beat.edge_us edge a.now
-      pub near : IsNear edges 1549 549 m edge
+      pub near : IsNear edges a.beat.bound_us a.beat.bound_us m edge
       pub second : IsSecond t m u
 
     pub told : (u : UtcSecond) → IsSecond t (1 + 1 + clock.reader_rules.lock_after) u → IsTold u
@@ -239,13 +238,9 @@ module _ (rules : Rules) (clock : ClockRules) (range : IsReaderRules clock.reade
         let a = announced u second in
         let says : a.beat.report.announce ≡ Some u = ap (λ (r : Report). r.announce) a.says in
         let order = order_before 9999000 clock.redundancy a.later (Tick a.now ∷ a.earlier) (subst (AreInOrder 9999000 clock.redundancy) a.are ordered) in
-        let truth = truth_before (IsTrueLately rules t edges) (f_of clock.redundancy) a.later (Tick a.now ∷ a.earlier) (subst (AreTrueAtTicks (IsTrueLately rules t edges) (f_of clock.redundancy)) a.are (all_true t carried)) in
-        let told = device_true None rules clock sheet new_lines 9999000 are_new (IsTrueLately rules t edges) t edges 549 549 is (omega arith)
-        (λ now end pulses claim is_true frame soon. true_lately rules t clock.drift_us edges now end pulses claim is.steady is_true frame soon) a.earlier a.now a.beat u order truth a.answer says in
-        let voted : lasted a.beat.report.lock ≡ 0 = ap (λ (r : Report). lasted r.lock) a.says in
-        let none : told.far ≡ 0 = omega (arith, voted, told.held) in
-        let nothing : 0 * clock.drift_us ≡ 0 = omega arith in
-        let by_vote : told.far * clock.drift_us ≡ 0 = ap (λ (x : ℕ). x * clock.drift_us) none ∙ nothing in
+        let truth = truth_before (IsTrueLately clock.within.us rules t edges) (f_of clock.redundancy) a.later (Tick a.now ∷ a.earlier) (subst (AreTrueAtTicks (IsTrueLately clock.within.us rules t edges) (f_of clock.redundancy)) a.are (all_true t carried)) in
+        let told = device_true None rules clock sheet new_lines 9999000 are_new (IsTrueLately clock.within.us rules t edges) t edges 0 0 is (omega arith)
+        (λ now end pulses claim is_true frame soon. true_lately clock.within rules t clock.drift_us edges now end pulses claim is.steady is_true frame soon) a.earlier a.now a.beat u order truth a.answer says in
         record {
           a = a;
           order = order;
@@ -253,6 +248,6 @@ module _ (rules : Rules) (clock : ClockRules) (range : IsReaderRules clock.reade
           m = told.told.m;
           edge = told.told.edge;
           at = record { clock = told.told.clock; come = told.told.come; soon = told.told.soon };
-          near = record { least = omega (arith, told.told.near.least, by_vote); most = omega (arith, told.told.near.most, by_vote) };
+          near = record { least = omega (arith, told.told.near.least); most = omega (arith, told.told.near.most) };
           second = told.told.truth;
         }

@@ -15,7 +15,8 @@ use Rattle.irig_port.specs.Told.{told_of, frame_told, coded_told}
 use Rattle.irig_port.proofs.CarriesLaws.{carries_is_told}
 use Rattle.irig_vote.specs.declared.redundancy.Redundancy.TheVariants as of
 use Rattle.irig_reader.specs.Rule.{step_of}
-use Rattle.irig_timekeeper.specs.declared.clock.ClockRules.{ClockRules}
+use Rattle.irig_timekeeper.specs.declared.setup.ClockRules.{ClockRules}
+use Rattle.irig_timekeeper.specs.Refusals.{within_of}
 use Rattle.irig_timekeeper.specs.declared.stamp.Stamp.{Stamp}
 use Rattle.irig_timekeeper.specs.Edges.{IsQuartz}
 use Rattle.irig_timekeeper.specs.Lines.{IsLineOf, IsTrueLately, line_of}
@@ -48,7 +49,7 @@ slow_steady : IsQuartz 100 slow
 slow_steady = record { few = omega arith; steady = record { least = λ n. omega arith; most = λ n. omega arith } }
 
 abbrev clock : ClockRules
-clock = record { reader_rules = record { lock_after = 1; holdover = 100 }; redundancy = of.One; drift_us = 100 }
+clock = record { reader_rules = record { lock_after = 1; holdover = 100 }; redundancy = of.One; within = within_of 450; drift_us = 100 }
 
 by_counter : (edges : ℕ → ℕ) → IsQuartz 100 edges → IsDevice noon 100 edges clock.reader_rules no_table
 by_counter edges steady = record { steady = steady; sound = is_device.sound; knows = is_device.knows; short = is_device.short }
@@ -94,13 +95,13 @@ order : AreInOrder 900000 of.One (Tick asked ∷ by_fast) × AreInOrder 900000 o
 unfolding by_fast by_slow heard width_of frames in_order have_risen is_after
 order = (order_is 900000 of.One (Tick asked ∷ by_fast) refl, order_is 900000 of.One (Tick asked ∷ by_slow) refl)
 
-fast_truth : AreTrueAtTicks (IsTrueLately rules noon fast) 0 by_fast
+fast_truth : AreTrueAtTicks (IsTrueLately 450 rules noon fast) 0 by_fast
 unfolding by_fast heard width_of frames are_true_at_ticks are_true_lately are_lately last_before is_pulse_of is_same
-fast_truth = truly_is rules noon fast line is_line 200 0 by_fast refl
+fast_truth = truly_is 450 rules noon fast line is_line 200 0 by_fast refl
 
-slow_truth : AreTrueAtTicks (IsTrueLately rules noon slow) 0 by_slow
+slow_truth : AreTrueAtTicks (IsTrueLately 450 rules noon slow) 0 by_slow
 unfolding by_slow heard width_of frames are_true_at_ticks are_true_lately are_lately last_before is_pulse_of is_same
-slow_truth = truly_is rules noon slow line is_line 200 0 by_slow refl
+slow_truth = truly_is 450 rules noon slow line is_line 200 0 by_slow refl
 
 -- ---- the instant, by each counter
 
@@ -110,16 +111,18 @@ instants = (
   record { least = omega arith; most = omega arith; begun = omega arith; before_next = omega arith },
 )
 
--- ---- the stamps: 12:00:02 and a quarter of a second, but for what the counters drifted in a second
+-- ---- the stamps: 12:00:02 and a quarter of a second, but for what the counters drifted in a second.
+-- Of one line the edge is the end of its frame, and the bound that of the frame, 449 us and the drift of
+-- an element
 
 abbrev device : Keeping
 device = new_keeping None rules clock no_table new_lines
 
 abbrev fast_stamp : Stamp
-fast_stamp = record { second = at 43202; offset_us = 250026; bound_us = 1549 }
+fast_stamp = record { second = at 43202; offset_us = 250026; bound_us = 450 }
 
 abbrev slow_stamp : Stamp
-slow_stamp = record { second = at 43202; offset_us = 249974; bound_us = 1549 }
+slow_stamp = record { second = at 43202; offset_us = 249974; bound_us = 450 }
 
 stamps : (stamp_at (after_calls device by_fast) 3250225 ≡ Some fast_stamp) × (stamp_at (after_calls device by_slow) 3249775 ≡ Some slow_stamp)
 unfolding by_fast by_slow heard width_of frames step_of told_of frame_told coded_told ones values_of field_at control_of offset_in utc_minute is_month_end four_years
@@ -127,17 +130,18 @@ stamps = (refl, refl)
 
 fast_true : IsStampedTruly noon fast 0 3250225 fast_stamp
 fast_true =
-    stamped None rules clock no_table new_lines 900000 are_new noon fast 549 549 0 (by_counter fast fast_steady) (omega arith) (omega arith) (IsTrueLately rules noon fast) (omega arith)
-    (λ time end pulses c is f soon. true_lately rules noon 100 fast time end pulses c fast_steady is f soon) by_fast 3250225 asked order.0 fast_truth (omega arith) (omega arith) fast_stamp stamps.0
+    stamped None rules clock no_table new_lines 900000 are_new noon fast 0 0 0 (by_counter fast fast_steady) (omega arith) (omega arith) (IsTrueLately 450 rules noon fast) (omega arith)
+    (λ time end pulses c is f soon. true_lately (within_of 450) rules noon 100 fast time end pulses c fast_steady is f soon) by_fast 3250225 asked order.0 fast_truth (omega arith) (omega arith) fast_stamp stamps.0
 
 slow_true : IsStampedTruly noon slow 0 3249775 slow_stamp
 slow_true =
-    stamped None rules clock no_table new_lines 900000 are_new noon slow 549 549 0 (by_counter slow slow_steady) (omega arith) (omega arith) (IsTrueLately rules noon slow) (omega arith)
-    (λ time end pulses c is f soon. true_lately rules noon 100 slow time end pulses c slow_steady is f soon) by_slow 3249775 asked order.1 slow_truth (omega arith) (omega arith) slow_stamp stamps.1
+    stamped None rules clock no_table new_lines 900000 are_new noon slow 0 0 0 (by_counter slow slow_steady) (omega arith) (omega arith) (IsTrueLately 450 rules noon slow) (omega arith)
+    (λ time end pulses c is f soon. true_lately (within_of 450) rules noon 100 slow time end pulses c slow_steady is f soon) by_slow 3249775 asked order.1 slow_truth (omega arith) (omega arith) slow_stamp stamps.1
 
--- what the law says of them: they name instants that lie at most 3,498 us apart. They lie 250 apart
-together : (fast_true.m * 1000000 + fast_stamp.offset_us ≤ slow_true.m * 1000000 + slow_stamp.offset_us + 3498)
-    × (slow_true.m * 1000000 + slow_stamp.offset_us ≤ fast_true.m * 1000000 + fast_stamp.offset_us + 3498)
+-- what the law says of them: they name instants that lie at most 1,300 us apart, by both bounds and
+-- the drift of two seconds of each. They lie 52 us apart
+together : (fast_true.m * 1000000 + fast_stamp.offset_us ≤ slow_true.m * 1000000 + slow_stamp.offset_us + 1300)
+    × (slow_true.m * 1000000 + slow_stamp.offset_us ≤ fast_true.m * 1000000 + fast_stamp.offset_us + 1300)
 together =
     let p = near_instant noon 100 fast fast_steady 2 250000 3250225 instants.0 fast_stamp fast_true in
     let q = near_instant noon 100 slow slow_steady 2 250000 3249775 instants.1 slow_stamp slow_true in

@@ -1,12 +1,10 @@
 -- The loop that polls, second by second: each has a tick 50 to 80 ms behind its edge, and so the law of
 -- seconds that are heard well speaks of it.
-use Rattle.std.proofs.Common.{◌≡◌, ◌∙◌, ℕ, zero, suc, ◌+◌, ◌-◌, ◌*◌, ◌%◌, ◌<◌, ◌≤◌, cond, List, [], ◌∷◌, ◌++◌, take, drop, refl, sym, ap, subst, arith, append-nil}
+use Rattle.std.proofs.Common.{◌≡◌, ◌∙◌, ℕ, zero, suc, ◌+◌, ◌-◌, ◌*◌, ◌<◌, ◌≤◌, List, [], ◌∷◌, ◌++◌, take, drop, refl, sym, ap, subst, arith, append-nil}
 use Rattle.std.proofs.lemmas.List.{take-append-drop}
-use Rattle.std.specs.Prelude.{nat_lt, ◌==◌}
-use Rattle.irig_frame.specs.declared.symbol.Symbol.{Symbol}
 use Rattle.irig_sync.specs.Edges.{element_at}
-use Rattle.irig_sync.specs.Lines.{Pulse}
 use Rattle.irig_vote.specs.declared.redundancy.Redundancy.TheVariants as of
+use Rattle.irig_timekeeper.specs.Refusals.{within_of}
 use Rattle.irig_timekeeper.specs.Lines.{IsTrueLately}
 use Rattle.irig_timekeeper.specs.Life.{Call, AreInOrder, AreTrueOver, last_tick, pulses_on}
 use Rattle.irig_timekeeper.specs.Life.Call.{Tick}
@@ -67,12 +65,12 @@ unfolding polls with_element own others rise_of width_of lie frames
 ticks = (refl, refl, refl, refl)
 
 -- of each second the frames came whole, and no more lines lied than may
-true_upto : AreTrueOver (IsTrueLately rules noon edges) 1 (upto 405) []
+true_upto : AreTrueOver (IsTrueLately 450 rules noon edges) 1 (upto 405) []
 true_upto = truly 405 (upto 405) (all_left 405 (upto 405) pulses_4 nothing)
 
-module _ (n : ℕ) (low : n < 4) (k : ℕ) (long : 100 * n + 100 ≤ k) (before : ℕ) (last : last_tick start (polls k) ≡ before) (early : before ≤ edges (1 + n) + 3000) (come : edges (1 + n) + 549 ≤ element_at edges k - 1000)
-    (soon : element_at edges k - 1000 ≤ edges (1 + n) + 98000) (are : (i : ℕ) → i < 2 → pulses_on i (polls k) ≡ sent i k) (newer older : List Call) (all : newer ++ older ≡ polls k) (truth : AreTrueOver (IsTrueLately rules noon edges) 1 (Tick (element_at edges k - 1000) ∷ newer) older) where
-  well : IsWellHeard (IsTrueLately rules noon edges) noon edges device start (1 + n) (Tick (element_at edges k - 1000) ∷ newer) older
+module _ (n : ℕ) (low : n < 4) (k : ℕ) (long : 100 * n + 100 ≤ k) (before : ℕ) (last : last_tick start (polls k) ≡ before) (early : before ≤ edges (1 + n) + 3000) (come : edges (1 + n) + 899 ≤ element_at edges k - 1000)
+    (soon : element_at edges k - 1000 ≤ edges (1 + n) + 98000) (are : (i : ℕ) → i < 2 → pulses_on i (polls k) ≡ sent i k) (newer older : List Call) (all : newer ++ older ≡ polls k) (truth : AreTrueOver (IsTrueLately 450 rules noon edges) 1 (Tick (element_at edges k - 1000) ∷ newer) older) where
+  well : IsWellHeard (IsTrueLately 450 rules noon edges) noon edges device start (1 + n) (Tick (element_at edges k - 1000) ∷ newer) older
   well = record {
     now = element_at edges k - 1000;
     others = newer;
@@ -88,9 +86,9 @@ module _ (n : ℕ) (low : n < 4) (k : ℕ) (long : 100 * n + 100 ≤ k) (before 
 segment : (k older : ℕ) → drop 307 (polls k) ≡ upto older → take 307 (polls k) ++ upto older ≡ polls k
 segment k older same = ap (λ (c : List Call). take 307 (polls k) ++ c) (sym same) ∙ take-append-drop 307 (polls k)
 
-four_seconds : AreWellHeard (IsTrueLately rules noon edges) noon edges device start 1 4 (upto 405) []
+four_seconds : AreWellHeard (IsTrueLately 450 rules noon edges) noon edges device start 1 4 (upto 405) []
 four_seconds =
-    let IsTrue = IsTrueLately rules noon edges in
+    let IsTrue = IsTrueLately 450 rules noon edges in
     let all_4 = segment 405 306 parts.2 in
     let all_3 = segment 306 207 parts.1 in
     let all_2 = segment 207 108 parts.0 in
@@ -128,6 +126,6 @@ order = order_is start of.Three (upto 405) refl
 -- so its last tick announces
 announced : Announces edges device 4 (at 43204) (upto 405)
 announced =
-    announces (IsTrueLately rules noon edges) noon edges device start (begins made.limits made.rules made.clock made.table made.lines start made.fresh) is_device
-    (λ now end pulses claim is_true frame soon. true_lately rules noon 100 edges now end pulses claim is_device.steady is_true frame soon)
+    announces (IsTrueLately 450 rules noon edges) noon edges device start (begins made.limits made.rules made.clock made.table made.lines start made.fresh) is_device
+    (λ now end pulses claim is_true frame soon. true_lately (within_of 450) rules noon 100 edges now end pulses claim is_device.steady is_true frame soon)
     refl 1 (omega arith) (omega arith) [] start (λ i. tt) (omega arith) (upto 405) four_seconds order (at 43204) second_4

@@ -10,7 +10,6 @@ use Rattle.irig_sync.specs.Edges.{element_at}
 use Rattle.irig_sync.specs.Lines.{Pulse}
 use Rattle.irig_vote.specs.declared.redundancy.Redundancy.{Redundancy}
 use Rattle.irig_vote.specs.Vote.{ports_in}
-use Rattle.irig_timekeeper.specs.Exactness.{within_us}
 use Rattle.irig_timekeeper.specs.Steps.{is_pulse}
 use Rattle.irig_timekeeper.specs.Life.{Call, pulses_on, last_tick}
 use Rattle.irig_timekeeper.specs.Life.Call.{Hear, Tick}
@@ -54,26 +53,26 @@ is_same Marker Marker = true
 is_same Bad Bad = true
 is_same _ _ = false
 
--- it is a pulse of the line's k-th element, less than 450 us off
-unfoldable pub is_pulse_of : (ℕ → Symbol) → (ℕ → ℕ) → ℕ → Pulse → Bool
-is_pulse_of line edges k p =
-    nat_lt (element_at edges k) (p.rise + within_us)
-    && (nat_lt p.rise (element_at edges k + within_us) && is_same (symbol_of p.width) (line k))
+-- it is a pulse of the line's k-th element, less than `within` us off
+unfoldable pub is_pulse_of : (within : ℕ) → (ℕ → Symbol) → (ℕ → ℕ) → ℕ → Pulse → Bool
+is_pulse_of within line edges k p =
+    nat_lt (element_at edges k) (p.rise + within)
+    && (nat_lt p.rise (element_at edges k + within) && is_same (symbol_of p.width) (line k))
 
 -- the last element before the k-th that has this pulse
-unfoldable pub last_before : (ℕ → Symbol) → (ℕ → ℕ) → ℕ → Pulse → Option ℕ
-last_before line edges zero p = None
-last_before line edges (suc k) p =
-    if is_pulse_of line edges k p then Some k else last_before line edges k p
+unfoldable pub last_before : (within : ℕ) → (ℕ → Symbol) → (ℕ → ℕ) → ℕ → Pulse → Option ℕ
+last_before within line edges zero p = None
+last_before within line edges (suc k) p =
+    if is_pulse_of within line edges k p then Some k else last_before within line edges k p
 
 -- of these pulses, the newest first, those that rose within 1.2 s before now, or later, are those of
 -- some elements before that one, if there is one, in order
-unfoldable pub are_lately : (ℕ → Symbol) → (ℕ → ℕ) → ℕ → Option ℕ → List Pulse → Bool
-are_lately line edges now None ps = false
-are_lately line edges now (Some k) [] = true
-are_lately line edges now (Some k) (p ∷ ps) =
-    are_lately line edges now
-    (if nat_lt (p.rise + 1200000) now then Some k else last_before line edges k p)
+unfoldable pub are_lately : (within : ℕ) → (ℕ → Symbol) → (ℕ → ℕ) → ℕ → Option ℕ → List Pulse → Bool
+are_lately within line edges now None ps = false
+are_lately within line edges now (Some k) [] = true
+are_lately within line edges now (Some k) (p ∷ ps) =
+    are_lately within line edges now
+    (if nat_lt (p.rise + 1200000) now then Some k else last_before within line edges k p)
     ps
 
 -- ---- lines that are true

@@ -12,7 +12,7 @@ use Rattle.irig_timekeeper.specs.Keeping.{answer_at}
 use Rattle.irig_timekeeper.specs.Truth.{IsEdgeAt}
 use Rattle.irig_timekeeper.specs.Life.{Call, Made, AreInOrder, AreTrueAtTicks, life_of}
 use Rattle.irig_timekeeper.specs.Life.Call.{Tick}
-use Rattle.irig_timekeeper.specs.Exactness.{vote_late_us, vote_early_us, most_held_us}
+use Rattle.irig_timekeeper.specs.Exactness.{most_held_us}
 
 -- a device of a setup and a table that are not refused, with a steady counter on a sound timeline:
 -- its calls are in order, and at each tick all but at most so many lines are true. The last tick
@@ -27,7 +27,7 @@ pub record IsMisled (t : TimelineValue) (made : Made) (untrue_lines : ℕ) : Typ
   pub calls : List Call
   pub now : ℕ
   pub order : AreInOrder start made.clock.redundancy (Tick now ∷ calls)
-  pub truth : AreTrueAtTicks (IsTrueLately made.rules t edges) untrue_lines (Tick now ∷ calls)
+  pub truth : AreTrueAtTicks (IsTrueLately made.clock.within.us made.rules t edges) untrue_lines (Tick now ∷ calls)
   pub beat : Beat
   pub answer : answer_at (life_of made calls) (now % 2 ^ 32) ≡ Some beat
   pub u : UtcSecond
@@ -35,5 +35,5 @@ pub record IsMisled (t : TimelineValue) (made : Made) (untrue_lines : ℕ) : Typ
   pub m : ℕ
   pub edge : ℕ
   pub told : IsEdgeAt beat.edge_us edge now
-  pub near : IsNear edges vote_early_us vote_late_us m edge
+  pub near : IsNear edges beat.bound_us beat.bound_us m edge
   pub untrue : ¬ IsSecond t m u

@@ -30,12 +30,12 @@ ghost use Rattle.irig_timekeeper.specs.Life.{Call, Made, AreInOrder, AreTrueLate
 ghost use Rattle.irig_timekeeper.specs.Life.Call.{Tick};
 ghost use Rattle.irig_timekeeper.specs.Since.{since_vote, HasItsBound};
 ghost use Rattle.irig_timekeeper.specs.Healing.{HasHealed};
-ghost use Rattle.irig_timekeeper.specs.Exactness.{within_us, most_drift_us, vote_late_us, vote_early_us, most_held_us};
+ghost use Rattle.irig_timekeeper.specs.Exactness.{most_drift_us, end_off_us, window_us, most_vote_us, most_held_us};
 
 use irig_port::Limits;
 use irig_reader::{Cause, ReaderRules};
 use irig_time::{Claim, Rules, UtcSecond};
-use irig_timekeeper::{Beat, KeptClaim, KeptFrame, Lines, Stamp};
+use irig_timekeeper::{Beat, ClockRules, KeptClaim, KeptFrame, Lines, Stamp, Vote, Within};
 
 /// Counting is right while a device's own edge is: let its last edge lie at most b1 before and b2
 /// behind T(w), and the edge that lines agree on at most c1 before and c2 behind T(w + k). If
@@ -65,50 +65,54 @@ pub fn lines_keep_frames()
 
 /// Kept frames are true: if a line was true for the last 1.2 s, whatever it was before, and a frame
 /// that it sent ended at most 100 ms ago, then what the frame claims is the true claim of the
-/// second before an edge, and the frame ends less than 450 us and the drift of a second off it.
+/// second before an edge, and the frame ends as near it as the line's pulses do to their places, but
+/// for the drift of an element.
 pub fn kept_frames_are_true()
-    ensures { (rules : Rules) (t : TimelineValue) (d now end : ℕ) (edges : ℕ → ℕ)
-        (pulses : List Pulse) (claim : Claim) → IsQuartz d edges
-        → IsTrueLately rules t edges now pulses → IsFrameOf rules claim end pulses
-        → now ≤ end + 100000 → IsTrueNear t edges (within_us - 1 + d) (within_us - 1 + d) end claim }
+    ensures { (within : Within) (rules : Rules) (t : TimelineValue) (d now end : ℕ)
+        (edges : ℕ → ℕ) (pulses : List Pulse) (claim : Claim) → IsQuartz d edges
+        → IsTrueLately within.us rules t edges now pulses → IsFrameOf rules claim end pulses
+        → now ≤ end + 100000
+        → IsTrueNear t edges (end_off_us within.us d) (end_off_us within.us d) end claim }
 {}
 
-/// A vote is true whenever it is told: if at most f lines were untrue in the last 1.2 s, the frame
-/// on which lines agree claims the true second before an edge, and ends near that edge, at most
-/// 100 ms ago. What a tick then announces by the vote is the second that begins there: wherever the
-/// device stood, and whenever it was called before.
+/// A vote is true whenever it is told: if at most f lines were untrue in the last 1.2 s, what lines
+/// agree on is the true claim of the second before an edge, and the edge on which they agree lies no
+/// further from it than the bound that is told, and has come, at most 100 ms ago. What a tick then
+/// announces by the vote is the second that begins there: wherever the device stood, and whenever
+/// it was called before.
 pub fn votes_are_true()
-    ensures vote { (t : TimelineValue) (d : ℕ) (edges : ℕ → ℕ) (k : Keeping) (now : ℕ)
-        (pulses : ℕ → List Pulse) (vote : KeptClaim) → IsQuartz d edges
-        → AreHeardTruly (IsTrueLately k.rules t edges now) k.rules (f_of k.clock.redundancy) now
+    ensures vote { (t : TimelineValue) (edges : ℕ → ℕ) (k : Keeping) (now : ℕ)
+        (pulses : ℕ → List Pulse) (vote : Vote) → IsQuartz k.clock.drift_us edges
+        → AreHeardTruly (IsTrueLately k.clock.within.us k.rules t edges now) k.rules (f_of k.clock.redundancy) now
         k.state.lines pulses
-        → vote_at k (now % 2 ^ 32) ≡ Some vote → IsTrueVote t edges vote_early_us vote_late_us now vote }
-    ensures second { (t : TimelineValue) (d : ℕ) (edges : ℕ → ℕ) (k : Keeping) (now : ℕ)
-        (pulses : ℕ → List Pulse) (beat : Beat) (u : UtcSecond) → IsQuartz d edges → IsTimeline t
-        → AreHeardTruly (IsTrueLately k.rules t edges now) k.rules (f_of k.clock.redundancy) now
+        → vote_at k (now % 2 ^ 32) ≡ Some vote → IsTrueVote t edges 0 0 now vote }
+    ensures second { (t : TimelineValue) (edges : ℕ → ℕ) (k : Keeping) (now : ℕ)
+        (pulses : ℕ → List Pulse) (beat : Beat) (u : UtcSecond) → IsQuartz k.clock.drift_us edges
+        → IsTimeline t
+        → AreHeardTruly (IsTrueLately k.clock.within.us k.rules t edges now) k.rules (f_of k.clock.redundancy) now
         k.state.lines pulses
         → answer_at k (now % 2 ^ 32) ≡ Some beat → beat.report.cause ≡ Cause.Voted
-        → beat.report.announce ≡ Some u → IsToldTruly t edges vote_early_us vote_late_us now beat u }
+        → beat.report.announce ≡ Some u → IsToldTruly t edges beat.bound_us beat.bound_us now beat u }
 {}
 
 /// A device tells the truth all its life: of every list of calls in order, whenever it was ticked,
 /// if at each tick at most f lines were untrue in the last 1.2 s, its counter is as steady as its
 /// setup says, and its leap table is true or its holdover at most 57 seconds. What a tick announces
-/// is T(m), for an edge m near which the edge that is told lies, from 1.549 ms before it to 0.549 ms
-/// behind, and off by the drift of as many edges more as a holdover may last, which is less than
-/// half a second. The edge that is told has come, less than 1.005 s before the tick.
+/// is T(m), for an edge m from which the edge that is told lies no further than the bound that is
+/// told: at most that of a vote, and the drift of as many edges as a holdover has lasted, which is
+/// less than half a second. The edge that is told has come, less than 1.005 s before the tick.
 pub fn a_device_tells_the_truth()
     ensures life { (t : TimelineValue) (edges : ℕ → ℕ) (made : Made) (start now : ℕ)
         (calls : List Call) (beat : Beat) (u : UtcSecond)
-        → LivesTruly IsTrueLately t edges made start (Tick now ∷ calls)
+        → LivesTruly (IsTrueLately made.clock.within.us) t edges made start (Tick now ∷ calls)
         → answer_at (life_of made calls) (now % 2 ^ 32) ≡ Some beat
         → beat.report.announce ≡ Some u
-        → IsToldInHoldover t edges vote_early_us vote_late_us made.clock.drift_us made.clock.reader_rules.holdover
-        now beat u }
+        → IsToldInHoldover t edges 0 0 made.clock.within.us made.clock.drift_us
+        made.clock.reader_rules.holdover now beat u }
     // In order: what a later tick announces is a later second, so that none is announced twice.
     ensures order { (t : TimelineValue) (edges : ℕ → ℕ) (made : Made) (start before now : ℕ)
         (earlier later : List Call) (beat then : Beat) (u v : UtcSecond)
-        → LivesTruly IsTrueLately t edges made start
+        → LivesTruly (IsTrueLately made.clock.within.us) t edges made start
         (Tick now ∷ (later ++ (Tick before ∷ earlier)))
         → answer_at (life_of made earlier) (before % 2 ^ 32) ≡ Some beat
         → beat.report.announce ≡ Some u
@@ -122,7 +126,7 @@ pub fn a_device_tells_the_truth()
     // And no report has the cause `Jump`.
     ensures calm { (t : TimelineValue) (edges : ℕ → ℕ) (made : Made) (start now : ℕ)
         (calls : List Call) (beat : Beat)
-        → LivesTruly IsTrueLately t edges made start (Tick now ∷ calls)
+        → LivesTruly (IsTrueLately made.clock.within.us) t edges made start (Tick now ∷ calls)
         → answer_at (life_of made calls) (now % 2 ^ 32) ≡ Some beat
         → ¬ (beat.report.cause ≡ Cause.Jump) }
     // A setup without a fault is one of these.
@@ -131,18 +135,19 @@ pub fn a_device_tells_the_truth()
     // The bound is less than half a second.
     ensures half { (t : TimelineValue) (d : ℕ) (edges : ℕ → ℕ) (rules : ReaderRules)
         (table : TableValue) (far : ℕ) → IsDevice t d edges rules table → far ≤ rules.holdover
-        → vote_early_us + far * d < 500000 }
+        → most_vote_us + far * d < 500000 }
     // One tick, of any device that stands at the truth or has nothing to go on.
     ensures tick { (t : TimelineValue) (edges : ℕ → ℕ) (k : Keeping) (last tick now : ℕ)
         (pulses : ℕ → List Pulse)
         → IsDevice t k.clock.drift_us edges k.clock.reader_rules k.table → tick ≤ now
         → now ≤ tick + 1800000000
-        → IsOnTrack t edges vote_early_us vote_late_us k.clock.drift_us last k.clock.reader_rules k.table tick
-        k.state.reader k.state.edge_us
-        → AreHeardTruly (IsTrueLately k.rules t edges now) k.rules (f_of k.clock.redundancy) now
+        → IsOnTrack t edges 0 0 k.clock.drift_us last k.clock.reader_rules k.table tick
+        k.state.reader k.state.bound_us k.state.edge_us
+        → AreHeardTruly (IsTrueLately k.clock.within.us k.rules t edges now) k.rules (f_of k.clock.redundancy) now
         k.state.lines pulses
-        → IsOnTrack t edges vote_early_us vote_late_us k.clock.drift_us last k.clock.reader_rules k.table now
-        (after_tick k (now % 2 ^ 32)).state.reader (after_tick k (now % 2 ^ 32)).state.edge_us }
+        → IsOnTrack t edges 0 0 k.clock.drift_us last k.clock.reader_rules k.table now
+        (after_tick k (now % 2 ^ 32)).state.reader (after_tick k (now % 2 ^ 32)).state.bound_us
+        (after_tick k (now % 2 ^ 32)).state.edge_us }
 {}
 
 /// In order, whatever lines carry and however the counter drifts: the edges that are told lie half
@@ -161,25 +166,25 @@ pub fn edges_lie_apart()
 /// as its rules allow.)
 pub fn a_device_heals()
     ensures life { (t : TimelineValue) (edges : ℕ → ℕ) (made : Made) (start mend now : ℕ)
-        (earlier later : List Call) (vote : KeptClaim) (beat then : Beat) (u : UtcSecond)
+        (earlier later : List Call) (vote : Vote) (beat then : Beat) (u : UtcSecond)
         → IsDevice t made.clock.drift_us edges made.clock.reader_rules made.table
         → AreInOrder start made.clock.redundancy (Tick now ∷ (later ++ (Tick mend ∷ earlier)))
-        → AreTrueLately (IsTrueLately made.rules t edges) (f_of made.clock.redundancy) mend
+        → AreTrueLately (IsTrueLately made.clock.within.us made.rules t edges) (f_of made.clock.redundancy) mend
         earlier
-        → AreTrueOver (IsTrueLately made.rules t edges) (f_of made.clock.redundancy)
+        → AreTrueOver (IsTrueLately made.clock.within.us made.rules t edges) (f_of made.clock.redundancy)
         (Tick now ∷ later) (Tick mend ∷ earlier)
         → vote_at (life_of made earlier) (mend % 2 ^ 32) ≡ Some vote
         → answer_at (life_of made earlier) (mend % 2 ^ 32) ≡ Some beat
         → answer_at (life_of made (later ++ (Tick mend ∷ earlier))) (now % 2 ^ 32) ≡ Some then
         → then.report.announce ≡ Some u
-        → IsToldInHoldover t edges vote_early_us vote_late_us made.clock.drift_us made.clock.reader_rules.holdover
-        now then u }
+        → IsToldInHoldover t edges 0 0 made.clock.within.us made.clock.drift_us
+        made.clock.reader_rules.holdover now then u }
     // What a later tick announces is a later second.
     ensures order { (t : TimelineValue) (edges : ℕ → ℕ) (made : Made) (start before now : ℕ)
         (earlier later : List Call) (beat then : Beat) (u v : UtcSecond)
-        → HasHealed IsTrueLately t edges made start (Tick before ∷ earlier)
+        → HasHealed (IsTrueLately made.clock.within.us) t edges made start (Tick before ∷ earlier)
         → AreInOrder start made.clock.redundancy (Tick now ∷ (later ++ (Tick before ∷ earlier)))
-        → AreTrueOver (IsTrueLately made.rules t edges) (f_of made.clock.redundancy)
+        → AreTrueOver (IsTrueLately made.clock.within.us made.rules t edges) (f_of made.clock.redundancy)
         (Tick now ∷ later) (Tick before ∷ earlier)
         → answer_at (life_of made earlier) (before % 2 ^ 32) ≡ Some beat
         → beat.report.announce ≡ Some u
@@ -187,16 +192,16 @@ pub fn a_device_heals()
         → then.report.announce ≡ Some v → IsLaterSecond t u v }
     // No later report has the cause `Jump`.
     ensures calm { (t : TimelineValue) (edges : ℕ → ℕ) (made : Made) (start now : ℕ)
-        (calls : List Call) (beat : Beat) → HasHealed IsTrueLately t edges made start calls
+        (calls : List Call) (beat : Beat) → HasHealed (IsTrueLately made.clock.within.us) t edges made start calls
         → AreInOrder start made.clock.redundancy (Tick now ∷ calls)
-        → AreTrueLately (IsTrueLately made.rules t edges) (f_of made.clock.redundancy) now calls
+        → AreTrueLately (IsTrueLately made.clock.within.us made.rules t edges) (f_of made.clock.redundancy) now calls
         → answer_at (life_of made calls) (now % 2 ^ 32) ≡ Some beat
         → ¬ (beat.report.cause ≡ Cause.Jump) }
     // Stamps are true of events that come at the edge of that vote or later. If it announces
     // nothing, as at a jump, they are true of all events: none goes by what was announced before.
     ensures stamps { (t : TimelineValue) (edges : ℕ → ℕ) (made : Made) (start edge time now : ℕ)
         (calls : List Call) (stamp : Stamp)
-        → (healed : HasHealed IsTrueLately t edges made start calls)
+        → (healed : HasHealed (IsTrueLately made.clock.within.us) t edges made start calls)
         → IsEdgeAt healed.beat.edge_us edge healed.mend
         → (edge ≤ time) ⊎ (healed.beat.report.announce ≡ None)
         → AreInOrder start made.clock.redundancy (Tick now ∷ calls)
@@ -206,21 +211,23 @@ pub fn a_device_heals()
 {}
 
 /// No f lines can keep a device from a vote: if more than f lines keep frames of one claim that end
-/// within 1 ms behind the first of them, and a tick comes when the frames of the true lines have
-/// ended, at most 99 ms behind, it has a vote, whatever the others keep.
+/// as near behind the first of them as lines so exact do, and a tick comes when the frames of the
+/// true lines have ended, as long ago as a pulse of theirs may lie off and 99 ms at most, it has a
+/// vote, whatever the others keep.
 pub fn enough_lines_vote()
-    ensures agree { (f : ℕ) (lines : Lines) (i : ℕ) (first : KeptClaim) → i < 5
+    ensures agree { (clock : ClockRules) (lines : Lines) (i : ℕ) (first : KeptClaim) → i < 5
         → claim_kept (line_at lines i).frame ≡ Some first
-        → f < count_by (agrees first) (all_kept lines)
-        → (vote : KeptClaim) × (agreed f lines ≡ Some vote) }
-    ensures come { (t : TimelineValue) (d : ℕ) (edges : ℕ → ℕ) (k : Keeping) (now : ℕ)
-        (pulses : ℕ → List Pulse) (vote : KeptClaim) → IsQuartz d edges
-        → (heard : AreHeardTruly (IsTrueLately k.rules t edges now) k.rules
+        → f_of clock.redundancy
+        < count_by (agrees (window_us clock.within.us) first) (all_kept lines)
+        → (vote : Vote) × (agreed clock lines ≡ Some vote) }
+    ensures come { (t : TimelineValue) (edges : ℕ → ℕ) (k : Keeping) (now : ℕ)
+        (pulses : ℕ → List Pulse) (vote : Vote) → IsQuartz k.clock.drift_us edges
+        → (heard : AreHeardTruly (IsTrueLately k.clock.within.us k.rules t edges now) k.rules
         (f_of k.clock.redundancy) now k.state.lines pulses)
         → ((i : ℕ) → i < 5 → heard.untrue i ≡ false
-        → IfKept (HasJustCome now) k.rules (claim_kept (line_at k.state.lines i).frame)
+        → IfKept (HasJustCome k.clock.within.us now) k.rules (claim_kept (line_at k.state.lines i).frame)
         (pulses i))
-        → agreed (f_of k.clock.redundancy) (settled (now % 2 ^ 32) k.state.lines) ≡ Some vote
+        → agreed k.clock (settled (now % 2 ^ 32) k.state.lines) ≡ Some vote
         → vote_at k (now % 2 ^ 32) ≡ Some vote }
 {}
 
@@ -233,7 +240,7 @@ pub fn beats_are_votes()
         (votes : List (Option Claim)) (vote : Option Claim) → state ≡ state_of rules table votes
         → step_behind rules table missed state vote
         ≡ step_of rules table (state_of rules table (then_none missed votes)) vote }
-    ensures lock { (t : TimelineValue) (n : ℕ) (k : Keeping) (vote : KeptClaim)
+    ensures lock { (t : TimelineValue) (n : ℕ) (k : Keeping) (vote : Vote)
         (before earlier : List (Option Claim)) (u : UtcSecond) → IsTimeline t
         → 1 ≤ k.clock.reader_rules.lock_after
         → IsSilentAfter k.clock.reader_rules k.table earlier
@@ -243,25 +250,26 @@ pub fn beats_are_votes()
         → answer_to_vote k.clock k.table k.state vote 1 ≡ Some (record {
           report = voted_report u;
           told = tells_of k.state.lines;
-          edge_us = vote.end_us;
+          edge_us = vote.edge_us;
+          bound_us = vote.bound_us;
           missed = 0;
           moved = k.state.moved;
         }) }
 {}
 
-/// Waiting is right: with a frame on which lines agree, a tick after as long as a device says, or
-/// later, by 98 ms behind that frame's end, has a vote, which answers or sets the edge right.
+/// Waiting is right: if lines agree on an edge, a tick after as long as a device says, or later, by
+/// 98 ms behind that edge, has that vote, which answers or sets the edge right.
 /// Without one it counts an edge by the own counter. A device says 0 only if a tick at once does
 /// so.
 pub fn waiting_is_right()
-    ensures votes { (made : Made) (start now then edge : ℕ) (calls : List Call) (vote : KeptClaim)
+    ensures votes { (made : Made) (start now then edge : ℕ) (calls : List Call) (vote : Vote)
         → AreInOrder start made.clock.redundancy (Tick now ∷ calls)
         → AreInOrder start made.clock.redundancy (Tick then ∷ calls)
-        → agreed (f_of (life_of made calls).clock.redundancy)
+        → agreed (life_of made calls).clock
         (settled (now % 2 ^ 32) (life_of made calls).state.lines) ≡ Some vote
-        → vote.end_us ≡ edge % 2 ^ 32 → edge ≤ now + 10000 → now ≤ edge + 98000
+        → vote.edge_us ≡ edge % 2 ^ 32 → edge ≤ now + 11000 → now ≤ edge + 98000
         → now + wait_at (life_of made calls) (now % 2 ^ 32) ≤ then → then ≤ edge + 98000
-        → (v : KeptClaim) × (vote_at (life_of made calls) (then % 2 ^ 32) ≡ Some v) }
+        → vote_at (life_of made calls) (then % 2 ^ 32) ≡ Some vote }
     ensures counts { (e edge tick now more : ℕ) → IsEdgeAt e edge tick → tick ≤ now
         → now + wait_by (now % 2 ^ 32) (Some e) None + more ≤ tick + 1800000000
         → 1 ≤ edges_own (Some e) ((now + wait_by (now % 2 ^ 32) (Some e) None + more) % 2 ^ 32) }
@@ -279,11 +287,12 @@ pub fn stamps_are_true()
         (calls : List Call) (stamp : Stamp)
         → IsDevice t made.clock.drift_us edges made.clock.reader_rules made.table
         → AreInOrder start made.clock.redundancy (Tick now ∷ calls)
-        → AreTrueAtTicks (IsTrueLately made.rules t edges) (f_of made.clock.redundancy) calls
+        → AreTrueAtTicks (IsTrueLately made.clock.within.us made.rules t edges) (f_of made.clock.redundancy) calls
         → time ≤ now → now ≤ time + 1800000000
         → stamp_at (life_of made calls) (time % 2 ^ 32) ≡ Some stamp
         → IsStampedTruly t edges 0 time stamp }
-    // The bound is 1.549 ms and the drift of each second since the last vote, whatever lines carry.
+    // The bound is at most that of a vote and the drift of each second since the last one, whatever
+    // lines carry.
     ensures bound { (made : Made) (time : ℕ) (calls : List Call) (stamp : Stamp)
         → stamp_at (life_of made calls) (time % 2 ^ 32) ≡ Some stamp
         → HasItsBound made calls stamp }
@@ -299,16 +308,16 @@ pub fn stamps_are_true()
 
 /// A device announces, and f lines cannot stop it: wherever it stands, let there be seconds in a
 /// row, two more than it locks after, of each of which more than f lines send the frame whole, and
-/// let a tick come from 549 us to 98 ms behind its edge, when those lines have told it, and none
-/// before it more than 3 ms behind the edge. Then a tick of the last of these seconds announces it
-/// by a vote, whatever the other lines send.
+/// let a tick come behind its edge, by the bound of a vote at least and 98 ms at most, when those
+/// lines have told it, and none before it more than 3 ms behind the edge. Then a tick of the last
+/// of these seconds announces it by a vote, whatever the other lines send.
 pub fn a_device_announces()
     ensures { (t : TimelineValue) (edges : ℕ → ℕ) (made : Made) (start m told : ℕ)
         (calls before : List Call) (u : UtcSecond)
         → IsDevice t made.clock.drift_us edges made.clock.reader_rules made.table
         → AreInOrder start made.clock.redundancy calls → 1 ≤ m
         → 1 ≤ made.clock.reader_rules.lock_after → HaveRisen told before → told + 11000 < edges m
-        → AreWellHeard (IsTrueLately made.rules t edges) t edges (device_of made) start m
+        → AreWellHeard (IsTrueLately made.clock.within.us made.rules t edges) t edges (device_of made) start m
         (suc (suc made.clock.reader_rules.lock_after)) calls before
         → IsSecond t (m + 1 + made.clock.reader_rules.lock_after) u
         → Announces edges (device_of made) (m + 1 + made.clock.reader_rules.lock_after) u calls }

@@ -2,6 +2,7 @@
 
 ghost use Rattle.std.specs.Prelude.{◌≡◌, ◌+◌, ◌*◌, ◌%◌, ◌^◌, ◌<◌, ◌≤◌, ℕ, List, ◌∷◌, ◌++◌, Option, Some};
 ghost use Rattle.irig_frame.specs.declared.symbol.Symbol.{Symbol};
+ghost use Rattle.irig_sync.specs.Edges.{element_drift};
 ghost use Rattle.irig_sync.specs.Lines.{Pulse};
 ghost use Rattle.irig_sync.specs.FaultyLines.{ArePulsesBefore};
 ghost use Rattle.irig_time.specs.Timelines.{TimelineValue, IsTrueClaim};
@@ -17,44 +18,48 @@ ghost use Rattle.irig_timekeeper.specs.Keeping.{answer_at, stamp_at};
 ghost use Rattle.irig_timekeeper.specs.Truth.{IsToldInHoldover, IsLaterSecond, IsDevice, IsStampedTruly};
 ghost use Rattle.irig_timekeeper.specs.Life.{Call, Made, AreInOrder, AreTrueAtTicks, LivesTruly, life_of};
 ghost use Rattle.irig_timekeeper.specs.Life.Call.{Tick};
-ghost use Rattle.irig_timekeeper.specs.Exactness.{within_us, vote_late_us, vote_early_us};
+ghost use Rattle.irig_timekeeper.specs.Exactness.{most_vote_us};
 
 use irig_reader::{Cause, ReaderRules};
 use irig_time::{Claim, Rules, UtcSecond};
-use irig_timekeeper::{Beat, Stamp};
+use irig_timekeeper::{Beat, Stamp, Within};
 
 /// Lines with faults tell truly: what [`a_device_tells_the_truth`](crate::a_device_tells_the_truth)
 /// says holds too if a line counts as true that had one fault of any kind in each hundred pulses of
 /// the last 1.2 s: a pulse was lost, late, early, doubled, cut in two or of another width, or one
-/// was added. But a frame may then end up to 2 ms earlier, and up to 1 ms later.
+/// was added. But a frame may then end up to 2.002 ms earlier, and up to 1 ms later: each of the two
+/// pulses that a fault may leave in place of the last ones may come up to 1 ms early by the pulse
+/// before it, and by an element's drift more.
 pub fn lines_with_faults_tell_truly()
     // A frame that ended at most 100 ms ago claims the true second before an edge, and ends near
     // that edge.
-    ensures kept { (rules : Rules) (t : TimelineValue) (d now end : ℕ) (edges : ℕ → ℕ)
-        (pulses : List Pulse) (claim : Claim) → IsQuartz d edges
-        → IsTrueButForFaults rules t edges now pulses → IsFrameOf rules claim end pulses
-        → now ≤ end + 100000 → IsTrueNear t edges (1999 + within_us + d) (998 + within_us + d) end claim }
-    // So a device tells the truth all its life: the edge that it tells lies from 3.549 ms before
-    // the true one to 1.549 ms behind, and as much further off as a holdover drifts.
+    ensures kept { (within : Within) (rules : Rules) (t : TimelineValue) (d now end : ℕ)
+        (edges : ℕ → ℕ) (pulses : List Pulse) (claim : Claim) → IsQuartz d edges
+        → IsTrueButForFaults within.us rules t edges now pulses → IsFrameOf rules claim end pulses
+        → now ≤ end + 100000
+        → IsTrueNear t edges (1999 + within.us + element_drift (3 * d))
+        (998 + within.us + element_drift (2 * d)) end claim }
+    // So a device tells the truth all its life: the edge that it tells lies no further off than its
+    // bound, and 2.002 ms more before the true one and 1 ms more behind it.
     ensures life { (t : TimelineValue) (edges : ℕ → ℕ) (made : Made) (start now : ℕ)
         (calls : List Call) (beat : Beat) (u : UtcSecond)
-        → LivesTruly IsTrueButForFaults t edges made start (Tick now ∷ calls)
+        → LivesTruly (IsTrueButForFaults made.clock.within.us) t edges made start (Tick now ∷ calls)
         → answer_at (life_of made calls) (now % 2 ^ 32) ≡ Some beat
         → beat.report.announce ≡ Some u
-        → IsToldInHoldover t edges (2000 + vote_early_us) (1000 + vote_late_us) made.clock.drift_us made.clock.reader_rules.holdover
-        now beat u }
+        → IsToldInHoldover t edges 2002 1000 made.clock.within.us made.clock.drift_us
+        made.clock.reader_rules.holdover now beat u }
     // Some of its lines may have faults while others lose any pulses.
     ensures either { (t : TimelineValue) (edges : ℕ → ℕ) (made : Made) (start now : ℕ)
         (calls : List Call) (beat : Beat) (u : UtcSecond)
-        → LivesTruly IsTrueOrFaulty t edges made start (Tick now ∷ calls)
+        → LivesTruly (IsTrueOrFaulty made.clock.within.us) t edges made start (Tick now ∷ calls)
         → answer_at (life_of made calls) (now % 2 ^ 32) ≡ Some beat
         → beat.report.announce ≡ Some u
-        → IsToldInHoldover t edges (2000 + vote_early_us) (1000 + vote_late_us) made.clock.drift_us made.clock.reader_rules.holdover
-        now beat u }
+        → IsToldInHoldover t edges 2002 1000 made.clock.within.us made.clock.drift_us
+        made.clock.reader_rules.holdover now beat u }
     // In order: what a later tick announces is a later second.
     ensures order { (t : TimelineValue) (edges : ℕ → ℕ) (made : Made) (start before now : ℕ)
         (earlier later : List Call) (beat then : Beat) (u v : UtcSecond)
-        → LivesTruly IsTrueButForFaults t edges made start
+        → LivesTruly (IsTrueButForFaults made.clock.within.us) t edges made start
         (Tick now ∷ (later ++ (Tick before ∷ earlier)))
         → answer_at (life_of made earlier) (before % 2 ^ 32) ≡ Some beat
         → beat.report.announce ≡ Some u
@@ -63,22 +68,22 @@ pub fn lines_with_faults_tell_truly()
     // And no report has the cause `Jump`.
     ensures calm { (t : TimelineValue) (edges : ℕ → ℕ) (made : Made) (start now : ℕ)
         (calls : List Call) (beat : Beat)
-        → LivesTruly IsTrueButForFaults t edges made start (Tick now ∷ calls)
+        → LivesTruly (IsTrueButForFaults made.clock.within.us) t edges made start (Tick now ∷ calls)
         → answer_at (life_of made calls) (now % 2 ^ 32) ≡ Some beat
         → ¬ (beat.report.cause ≡ Cause.Jump) }
-    // Stamps lie no further off than their bound and 2 ms.
+    // Stamps lie no further off than their bound and 2.002 ms.
     ensures stamps { (t : TimelineValue) (edges : ℕ → ℕ) (made : Made) (start time now : ℕ)
         (calls : List Call) (stamp : Stamp)
         → IsDevice t made.clock.drift_us edges made.clock.reader_rules made.table
         → AreInOrder start made.clock.redundancy (Tick now ∷ calls)
-        → AreTrueAtTicks (IsTrueOrFaulty made.rules t edges) (f_of made.clock.redundancy) calls
+        → AreTrueAtTicks (IsTrueOrFaulty made.clock.within.us made.rules t edges) (f_of made.clock.redundancy) calls
         → time ≤ now → now ≤ time + 1800000000
         → stamp_at (life_of made calls) (time % 2 ^ 32) ≡ Some stamp
-        → IsStampedTruly t edges 2000 time stamp }
+        → IsStampedTruly t edges 2002 time stamp }
     // The bound is less than half a second.
     ensures half { (t : TimelineValue) (d : ℕ) (edges : ℕ → ℕ) (rules : ReaderRules)
         (table : TableValue) (far : ℕ) → IsDevice t d edges rules table → far ≤ rules.holdover
-        → 2000 + vote_early_us + far * d < 500000 }
+        → 2002 + most_vote_us + far * d < 500000 }
     // A line may have faults that sends n frames, each of which carries the true claim of its second,
     // and nothing behind them.
     ensures lines { (rules : Rules) (t : TimelineValue) (n : ℕ) (frames : ℕ → List Symbol)
@@ -93,7 +98,8 @@ pub fn lines_with_faults_tell_truly()
     ensures lossy { (rules : Rules) (t : TimelineValue) (line : ℕ → Symbol)
         → IsCheckedLineOf rules t line → IsLineOf rules t line }
     // And it has none while each pulse comes.
-    ensures whole { (rules : Rules) (t : TimelineValue) (line : ℕ → Symbol) (edges : ℕ → ℕ)
-        (now k : ℕ) (pulses : List Pulse) → IsCheckedLineOf rules t line
-        → ArePulsesBefore line edges within_us k pulses → IsTrueButForFaults rules t edges now pulses }
+    ensures whole { (within : ℕ) (rules : Rules) (t : TimelineValue) (line : ℕ → Symbol)
+        (edges : ℕ → ℕ) (now k : ℕ) (pulses : List Pulse) → IsCheckedLineOf rules t line
+        → ArePulsesBefore line edges within k pulses
+        → IsTrueButForFaults within rules t edges now pulses }
 {}

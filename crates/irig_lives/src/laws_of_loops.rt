@@ -16,7 +16,7 @@ use irig_time::UtcSecond;
 pub fn a_polling_device_announces()
     ensures { (t : TimelineValue) (edges : ℕ → ℕ) (made : Made) (start m most : ℕ)
         (calls before : List Call) (u : UtcSecond)
-        → ComeInARow IsTrueLately t edges made start m calls before
+        → ComeInARow (IsTrueLately made.clock.within.us) t edges made start m calls before
         → most ≤ 96000 → TicksEach most start calls before → AreToldInTime start calls before
         → IsSecond t (m + 1 + made.clock.reader_rules.lock_after) u
         → Announces edges (device_of made) (m + 1 + made.clock.reader_rules.lock_after) u
@@ -30,7 +30,7 @@ pub fn a_polling_device_announces()
 pub fn a_waiting_device_announces()
     ensures { (t : TimelineValue) (edges : ℕ → ℕ) (made : Made) (start m late : ℕ)
         (calls before : List Call) (u : UtcSecond)
-        → ComeInARow IsTrueLately t edges made start m calls before
+        → ComeInARow (IsTrueLately made.clock.within.us) t edges made start m calls before
         → late ≤ 96000 → GoesByWait late (device_of made) calls before
         → AreMadeInTurn start calls before
         → IsSecond t (m + 1 + made.clock.reader_rules.lock_after) u

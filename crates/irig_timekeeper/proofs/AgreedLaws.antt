@@ -1,265 +1,357 @@
--- A frame on which lines agree has a vote when its end has come.
-use Rattle.std.specs.Prelude.{count_by, nat_le, nat_lt, slice_get}
-use Rattle.std.proofs.Common.{◌≡◌, ◌∙◌, ℕ, zero, suc, ◌+◌, ◌-◌, ◌%◌, ◌^◌, ◌<◌, ◌≤◌, Bool, true, false, cond, List, [], ◌∷◌, Option, Some, None, refl, sym, ap, subst, arith}
-use Rattle.std.proofs.lemmas.Bool.{leb-true, leb-false, ltb-true, ltb-false, lt-ltb}
+-- A vote on which lines agree is that of a tick when its edge has come.
+use Rattle.std.specs.Prelude.{◌&&◌, count_by, min, max, nat_le, nat_lt}
+use Rattle.std.proofs.Common.{◌≡◌, ◌∙◌, ◌⊎◌, ℕ, ◌+◌, ◌-◌, ◌%◌, ◌^◌, ◌<◌, ◌≤◌, Bool, true, false, cond, List, [], ◌∷◌, drop, Option, Some, None, refl, sym, ap, subst, arith, inl, inr}
+use Rattle.std.proofs.lemmas.Bool.{cases_Bool, leb-true, ltb-true, ltb-false}
+use Rattle.std.proofs.lemmas.List.Sums.{sum_by-cons}
 use Rattle.irig_sync.specs.Sync.{clock_gap}
+use Rattle.irig_time.specs.Claims.{same_claim}
 use Rattle.irig_vote.specs.Vote.{f_of}
-use Rattle.irig_vote.proofs.CountLaws.{same_itself}
+use Rattle.irig_timekeeper.specs.declared.lines.KeptFrame.{KeptFrame}
 use Rattle.irig_timekeeper.specs.declared.lines.KeptClaim.{KeptClaim}
 use Rattle.irig_timekeeper.specs.declared.lines.Lines.{Lines}
+use Rattle.irig_timekeeper.specs.declared.lines.Vote.{Vote}
+use Rattle.irig_timekeeper.specs.declared.setup.ClockRules.{ClockRules}
+use Rattle.irig_timekeeper.specs.Exactness.{window_us}
 use Rattle.irig_timekeeper.specs.Lines.{IfKept}
 use Rattle.irig_timekeeper.specs.Counting.{is_late, has_come}
-use Rattle.irig_timekeeper.specs.Steps.{line_at, settled, claim_kept, all_kept, agrees, is_candidate, later, last_candidate, agreed, if_come, wait_by}
+use Rattle.irig_timekeeper.specs.Steps.{line_at, still_kept, settled, claim_kept, all_kept, agrees, is_candidate, earlier, first_candidate, place_behind, ends_by, ends_from, end_behind, ended_by, ending_from, vote_between, vote_with, agreed, if_come, wait_by}
 use Rattle.irig_timekeeper.specs.Keeping.{Keeping, vote_at}
 use Rattle.irig_timekeeper.specs.Life.{Call, after_calls, pulses_on, last_tick, AreInOrder}
 use Rattle.irig_timekeeper.specs.Life.Call.{Tick}
-use Rattle.irig_timekeeper.proofs.AgreeLaws.{EachKept}
-use Rattle.irig_timekeeper.proofs.VoteLaws.{frame_settled, one_more, not_late}
-use Rattle.irig_timekeeper.proofs.WaitLaws.{one_is_agreed, get_kept}
-use Rattle.irig_timekeeper.proofs.WholeLaws.{whole_of}
-use Rattle.irig_timekeeper.proofs.LifeLaws.{AreLinesAt, IsEndAt, lines_after}
-use Rattle.irig_timekeeper.proofs.OrderLaws.{shared, kept_by, IsCandidateAt, IsKeptThere, there_at, candidate, agreeing, many, absent, agreed_by, EndsAt, ends_at, near_end}
+use Rattle.irig_timekeeper.proofs.PartLaws.{split, narrow}
+use Rattle.irig_timekeeper.proofs.VoteLaws.{still, frame_settled, not_late, last_late}
+use Rattle.irig_timekeeper.proofs.LifeLaws.{AreLinesAt, IsEndAt, and_false, lines_after}
+use Rattle.irig_timekeeper.proofs.OrderLaws.{shared, kept_by, IsCandidateAt, IsKeptThere, there_at, IsAgreedOn, agreed_on, agreeing, many, absent, EndsAt, ends_at, near_end, lies_behind}
 use Rattle.irig_timekeeper.proofs.FrameLaws.{in_time, stays_kept}
-use Rattle.irig_timekeeper.proofs.EnoughLaws.{more_of, both_true}
 
--- the time of an end that lies at most 10 ms ahead
-end_at : ℕ → KeptClaim → ℕ
-end_at now v = now + 10000 - clock_gap v.end_us ((now + 10000) % 2 ^ 32)
+-- ---- a frame that ended before another one, by the clock of 32 bits
 
-end_is : (now edge : ℕ) (v : KeptClaim) → v.end_us ≡ edge % 2 ^ 32 → edge ≤ now + 10000 → now ≤ edge + 101000 → end_at now v ≡ edge
-unfolding end_at
-end_is now edge v clock ahead soon = of v.end_us clock
+high_is : (g w : ℕ) → w < g → nat_le g w ≡ false
+high_is g w h = grind (arith, h)
+
+not_less : (g w : ℕ) → w ≤ g → nat_lt g w ≡ false
+not_less g w h = grind (arith, h)
+
+-- it does not agree
+ended_before : (window : ℕ) (x y : KeptClaim) (a b : ℕ) → window ≤ 898 → x.end_us ≡ a % 2 ^ 32 → y.end_us ≡ b % 2 ^ 32 → b < a → a ≤ b + 200000 → agrees window x (Some y) ≡ false
+ended_before window x y a b narrow at at' before near =
+    let far = gap x.end_us y.end_us at at' in
+    and_false (same_claim x.claim y.claim) _ (high_is (clock_gap x.end_us y.end_us) window (omega (arith, far, narrow)))
   where
-    of : (e : ℕ) → e ≡ edge % 2 ^ 32 → now + 10000 - clock_gap e ((now + 10000) % 2 ^ 32) ≡ edge
-    of e clock = omega (arith, clock, ahead, soon)
+    gap : (e e' : ℕ) → e ≡ a % 2 ^ 32 → e' ≡ b % 2 ^ 32 → 898 < clock_gap e e'
+    gap e e' at at' = omega (arith, at, at', before, near)
 
-each_get : (Such : KeptClaim → Type 0) (xs : List (Option KeptClaim)) → EachKept Such xs → (i : ℕ) (y : KeptClaim) → slice_get xs i ≡ Some (Some y) → Such y
-each_get Such [] each i y e = absurd cc
-each_get Such (None ∷ xs) each zero y e = absurd cc
-each_get Such (None ∷ xs) each (suc i) y e = each_get Such xs each i y e
-each_get Such (Some x ∷ xs) each zero y e = let same : x ≡ y = cc in subst Such same each.0
-each_get Such (Some x ∷ xs) each (suc i) y e = each_get Such xs each.1 i y e
+-- and if it did so more than 1 ms before, it does not count
+far_place : (x y : KeptClaim) (a b : ℕ) → x.end_us ≡ a % 2 ^ 32 → y.end_us ≡ b % 2 ^ 32 → b + 1000 < a → a ≤ b + 200000 → 2 ^ 31 ≤ place_behind x y
+far_place x y a b at at' before near = of x.end_us y.end_us at at'
+  where
+    of : (e e' : ℕ) → e ≡ a % 2 ^ 32 → e' ≡ b % 2 ^ 32 → 2 ^ 31 ≤ (clock_gap e e' + 1000) % 2 ^ 32
+    of e e' at at' = omega (arith, at, at', before, near)
 
-each_of : (Such : KeptClaim → Type 0) (lines : Lines) → EachKept Such (all_kept lines) → (i : ℕ) → i < 5 → (y : KeptClaim) → claim_kept (line_at lines i).frame ≡ Some y → Such y
-each_of Such lines each i small y e = each_get Such (all_kept lines) each i y (get_kept lines i y small e)
+not_by : (x y : KeptClaim) (behind : ℕ) → behind ≤ 898 → 2 ^ 31 ≤ place_behind x y → ends_by x behind (Some y) ≡ false
+not_by x y behind low far = and_false (same_claim x.claim y.claim) _ (high_is (place_behind x y) (behind + 1000) (omega (arith, low, far)))
+
+not_from : (x y : KeptClaim) (behind : ℕ) → 2 ^ 31 ≤ place_behind x y → ends_from x behind (Some y) ≡ false
+not_from x y behind far = and_false (same_claim x.claim y.claim) _ (and_false (nat_le (behind + 1000) (place_behind x y)) _ (not_less (place_behind x y) (2 ^ 31) far))
+
+end_low : (window : ℕ) (x : KeptClaim) (o : Option KeptClaim) → agrees window x o ≡ true → end_behind x o ≤ window
+end_low window x None e = omega arith
+end_low window x (Some y) e = leb-true (clock_gap x.end_us y.end_us) window (split (same_claim x.claim y.claim) (nat_le (clock_gap x.end_us y.end_us) window) e).1
+
+-- ---- frames, of which some are gone
+
+module _ (Stays Gone : KeptClaim → Type 0) where
+  -- what is kept stays, or is gone
+  abbrev IsLeft : Option KeptClaim → Option KeptClaim → Type 0
+  IsLeft o o' = ((o ≡ o') × ((z : KeptClaim) → o ≡ Some z → Stays z)) ⊎ ((o' ≡ None) × ((y : KeptClaim) × (o ≡ Some y) × Gone y))
+
+  abbrev AreLeft : List (Option KeptClaim) → List (Option KeptClaim) → Type 0
+  AreLeft [] [] = Unit {0}
+  AreLeft [] (o' ∷ os') = ⊥
+  AreLeft (o ∷ os) [] = ⊥
+  AreLeft (o ∷ os) (o' ∷ os') = IsLeft o o' × AreLeft os os'
+
+  -- if what is gone does not count, as many count
+  module _ (counts : Option KeptClaim → Bool) (none : counts None ≡ false) (gone : (y : KeptClaim) → Gone y → counts (Some y) ≡ false) where
+    same_at : (o o' : Option KeptClaim) → IsLeft o o' → counts o ≡ counts o'
+    same_at o o' (inl stays) = ap counts stays.0
+    same_at o o' (inr l) = ap counts l.1.1 ∙ gone l.1.0 l.1.2 ∙ sym none ∙ ap counts (sym l.0)
+
+    same_count : (os os' : List (Option KeptClaim)) → AreLeft os os' → count_by counts os ≡ count_by counts os'
+    same_count [] [] l = refl
+    same_count [] (o' ∷ os') l = absurd l
+    same_count (o ∷ os) [] l = absurd l
+    same_count (o ∷ os) (o' ∷ os') l =
+        let x = sum_by-cons (λ k. cond (counts k) 1 0) o os in
+        let y = sum_by-cons (λ k. cond (counts k) 1 0) o' os' in
+        let here : ◌≡◌ {A = ℕ} (cond (counts o) 1 0) (cond (counts o') 1 0) = ap (λ (b : Bool). cond b 1 0) (same_at o o' l.0) in
+        omega (arith, x, y, here, same_count os os' l.1)
+
+  module _ (window f : ℕ) (all all' : List (Option KeptClaim)) (left : AreLeft all all') where
+    -- the candidate that ends first is the same
+    module _ (alone : (z y : KeptClaim) → Stays z → Gone y → agrees window z (Some y) ≡ false) (never : (y : KeptClaim) → Gone y → is_candidate window f y all ≡ false) where
+      same_candidate : (z : KeptClaim) → Stays z → is_candidate window f z all ≡ is_candidate window f z all'
+      same_candidate z stays = ap (nat_lt f) (same_count (agrees window z) refl (λ y gone. alone z y stays gone) all all' left)
+
+      first_stays : (o : Option KeptClaim) → ((z : KeptClaim) → o ≡ Some z → Stays z) → (os os' : List (Option KeptClaim)) → ((so_far : Option KeptClaim) → first_candidate window f all os so_far ≡ first_candidate window f all' os' so_far)
+          → (so_far : Option KeptClaim) → first_candidate window f all (o ∷ os) so_far ≡ first_candidate window f all' (o ∷ os') so_far
+      first_stays None stays os os' rest so_far = rest so_far
+      first_stays (Some z) stays os os' rest so_far =
+          ap (λ (b : Bool). first_candidate window f all os (cond b (earlier window so_far z) so_far)) (same_candidate z (stays z refl)) ∙ rest _
+
+      first_gone : (y : KeptClaim) → Gone y → (os : List (Option KeptClaim)) (so_far : Option KeptClaim) → first_candidate window f all (Some y ∷ os) so_far ≡ first_candidate window f all os so_far
+      first_gone y gone os so_far = ap (λ (b : Bool). first_candidate window f all os (cond b (earlier window so_far y) so_far)) (never y gone)
+
+      same_first : (os os' : List (Option KeptClaim)) → AreLeft os os' → (so_far : Option KeptClaim) → first_candidate window f all os so_far ≡ first_candidate window f all' os' so_far
+      same_first [] [] l so_far = refl
+      same_first [] (o' ∷ os') l so_far = absurd l
+      same_first (o ∷ os) [] l so_far = absurd l
+      same_first (o ∷ os) (o' ∷ os') l so_far = of l.0 (λ s. same_first os os' l.1 s)
+        where
+          of : IsLeft o o' → ((s : Option KeptClaim) → first_candidate window f all os s ≡ first_candidate window f all' os' s) → first_candidate window f all (o ∷ os) so_far ≡ first_candidate window f all' (o' ∷ os') so_far
+          of (inl stays) rest = first_stays o stays.1 os os' rest so_far ∙ ap (λ (x : Option KeptClaim). first_candidate window f all' (x ∷ os') so_far) stays.0
+          of (inr gone) rest =
+              ap (λ (x : Option KeptClaim). first_candidate window f all (x ∷ os) so_far) gone.1.1
+              ∙ first_gone gone.1.0 gone.1.2 os so_far ∙ rest so_far
+              ∙ ap (λ (x : Option KeptClaim). first_candidate window f all' (x ∷ os') so_far) (sym gone.0)
+
+    -- and so are the times between which its edge lies
+    module _ (x : KeptClaim) (alone : (y : KeptClaim) → Gone y → agrees window x (Some y) ≡ false) (by : (y : KeptClaim) (behind : ℕ) → Gone y → behind ≤ window → ends_by x behind (Some y) ≡ false)
+        (from : (y : KeptClaim) (behind : ℕ) → Gone y → ends_from x behind (Some y) ≡ false) where
+      abbrev TestBy : List (Option KeptClaim) → Option KeptClaim → Bool
+      TestBy frames o = agrees window x o && nat_lt f (count_by (ends_by x (end_behind x o)) frames)
+
+      abbrev TestFrom : List (Option KeptClaim) → Option KeptClaim → Bool
+      TestFrom frames o = agrees window x o && nat_lt f (count_by (ends_from x (end_behind x o)) frames)
+
+      same_test_by : (o : Option KeptClaim) → TestBy all o ≡ TestBy all' o
+      same_test_by o = of (agrees window x o) refl
+        where
+          of : (b : Bool) → agrees window x o ≡ b → (b && nat_lt f (count_by (ends_by x (end_behind x o)) all)) ≡ (b && nat_lt f (count_by (ends_by x (end_behind x o)) all'))
+          of false e = refl
+          of true e = ap (nat_lt f) (same_count (ends_by x (end_behind x o)) refl (λ y gone. by y (end_behind x o) gone (end_low window x o e)) all all' left)
+
+      same_test_from : (o : Option KeptClaim) → TestFrom all o ≡ TestFrom all' o
+      same_test_from o = of (agrees window x o) refl
+        where
+          of : (b : Bool) → agrees window x o ≡ b → (b && nat_lt f (count_by (ends_from x (end_behind x o)) all)) ≡ (b && nat_lt f (count_by (ends_from x (end_behind x o)) all'))
+          of false e = refl
+          of true e = ap (nat_lt f) (same_count (ends_from x (end_behind x o)) refl (λ y gone. from y (end_behind x o) gone) all all' left)
+
+      step_by : (o o' : Option KeptClaim) → IsLeft o o' → (so_far : ℕ) → cond (TestBy all o) (min (end_behind x o) so_far) so_far ≡ cond (TestBy all' o') (min (end_behind x o') so_far) so_far
+      step_by o o' (inl stays) so_far =
+          ap (λ (b : Bool). cond b (min (end_behind x o) so_far) so_far) (same_test_by o)
+          ∙ ap (λ (y : Option KeptClaim). cond (TestBy all' y) (min (end_behind x y) so_far) so_far) stays.0
+      step_by o o' (inr gone) so_far =
+          ap (λ (y : Option KeptClaim). cond (TestBy all y) (min (end_behind x y) so_far) so_far) gone.1.1
+          ∙ ap (λ (b : Bool). cond (b && nat_lt f (count_by (ends_by x (end_behind x (Some gone.1.0))) all)) (min (end_behind x (Some gone.1.0)) so_far) so_far) (alone gone.1.0 gone.1.2)
+          ∙ ap (λ (y : Option KeptClaim). cond (TestBy all' y) (min (end_behind x y) so_far) so_far) (sym gone.0)
+
+      step_from : (o o' : Option KeptClaim) → IsLeft o o' → (so_far : ℕ) → cond (TestFrom all o) (max (end_behind x o) so_far) so_far ≡ cond (TestFrom all' o') (max (end_behind x o') so_far) so_far
+      step_from o o' (inl stays) so_far =
+          ap (λ (b : Bool). cond b (max (end_behind x o) so_far) so_far) (same_test_from o)
+          ∙ ap (λ (y : Option KeptClaim). cond (TestFrom all' y) (max (end_behind x y) so_far) so_far) stays.0
+      step_from o o' (inr gone) so_far =
+          ap (λ (y : Option KeptClaim). cond (TestFrom all y) (max (end_behind x y) so_far) so_far) gone.1.1
+          ∙ ap (λ (b : Bool). cond (b && nat_lt f (count_by (ends_from x (end_behind x (Some gone.1.0))) all)) (max (end_behind x (Some gone.1.0)) so_far) so_far) (alone gone.1.0 gone.1.2)
+          ∙ ap (λ (y : Option KeptClaim). cond (TestFrom all' y) (max (end_behind x y) so_far) so_far) (sym gone.0)
+
+      same_by : (os os' : List (Option KeptClaim)) → AreLeft os os' → (so_far : ℕ) → ended_by window f x all os so_far ≡ ended_by window f x all' os' so_far
+      same_by [] [] l so_far = refl
+      same_by [] (o' ∷ os') l so_far = absurd l
+      same_by (o ∷ os) [] l so_far = absurd l
+      same_by (o ∷ os) (o' ∷ os') l so_far = ap (ended_by window f x all os) (step_by o o' l.0 so_far) ∙ same_by os os' l.1 _
+
+      same_from : (os os' : List (Option KeptClaim)) → AreLeft os os' → (so_far : ℕ) → ending_from window f x all os so_far ≡ ending_from window f x all' os' so_far
+      same_from [] [] l so_far = refl
+      same_from [] (o' ∷ os') l so_far = absurd l
+      same_from (o ∷ os) [] l so_far = absurd l
+      same_from (o ∷ os) (o' ∷ os') l so_far = ap (ending_from window f x all os) (step_from o o' l.0 so_far) ∙ same_from os os' l.1 _
+
+-- ---- what is late is not kept
+
+late_gone : (clock : ℕ) (frame : Option KeptFrame) (y : KeptClaim) → claim_kept frame ≡ Some y → is_late y.end_us clock ≡ true → claim_kept (still_kept clock frame) ≡ None
+late_gone clock frame y e late = of (claim_kept (still_kept clock frame)) refl
+  where
+    of : (o : Option KeptClaim) → claim_kept (still_kept clock frame) ≡ o → o ≡ None
+    of None there = refl
+    of (Some z) there =
+        let kept = still clock frame z there in
+        let same : z ≡ y = (let both : Some z ≡ Some y = sym kept.0 ∙ e in cc) in
+        absurd (let both : true ≡ false = sym late ∙ ap (λ (x : KeptClaim). is_late x.end_us clock) (sym same) ∙ kept.1 in cc)
+
+late_past : (end then : ℕ) → end ≤ then + 10000 → then + 10000 < end + 2 ^ 32 → is_late (end % 2 ^ 32) (then % 2 ^ 32) ≡ true → end + 100000 < then
+late_past end then ahead turn late =
+    let gap : (clock_gap (end % 2 ^ 32) (then % 2 ^ 32) + 10000) % 2 ^ 32 ≡ then + 10000 - end = omega (arith, ahead, turn) in
+    let far = ltb-true 110000 ((clock_gap (end % 2 ^ 32) (then % 2 ^ 32) + 10000) % 2 ^ 32) late in
+    omega (arith, gap, far, ahead)
+
+-- ---- a tick when the edge has come
 
 module _ (new : Keeping) (start : ℕ) (begun : AreLinesAt new new (λ i. []) start start) where
-  module _ (calls : List Call) (now : ℕ) (order : AreInOrder start new.clock.redundancy (Tick now ∷ calls)) where
+  module _ (calls : List Call) (now then : ℕ) (order : AreInOrder start new.clock.redundancy (Tick now ∷ calls)) (order' : AreInOrder start new.clock.redundancy (Tick then ∷ calls)) (on : now ≤ then) (v : Vote) (agrees_now : agreed (after_calls new calls).clock (settled (now % 2 ^ 32) (after_calls new calls).state.lines) ≡ Some v) (edge : ℕ)
+      (at : v.edge_us ≡ edge % 2 ^ 32) (ahead : edge ≤ now + 11000) (behind : now ≤ edge + 101000) (come : edge ≤ then) (soon : then ≤ edge + 98000) where
+    abbrev c : ClockRules
+    c = (after_calls new calls).clock
+
+    abbrev lines : Lines
+    lines = (after_calls new calls).state.lines
+
     abbrev all : List (Option KeptClaim)
     all = all_kept (settled (now % 2 ^ 32) (after_calls new calls).state.lines)
 
-    abbrev f : ℕ
-    f = f_of (after_calls new calls).clock.redundancy
+    abbrev all_then : List (Option KeptClaim)
+    all_then = all_kept (settled (then % 2 ^ 32) (after_calls new calls).state.lines)
 
-    abbrev Candidate : KeptClaim → Type 0
-    Candidate v = IsCandidateAt new start begun calls now order v
+    abbrev w : ℕ
+    w = window_us (after_calls new calls).clock.within.us
 
-    -- two candidates share a line, so they end within 1 ms of one another
-    close : (v w : KeptClaim) (p : Candidate v) (q : Candidate w) → (end_at now v ≤ end_at now w + 1000) × (v.end_us ≡ end_at now v % 2 ^ 32)
-    close v w p q =
-        let one = shared new.clock.redundancy (agreeing new start begun calls now order v p) (agreeing new start begun calls now order w q) (absent new start begun calls now order v p) (absent new start begun calls now order w q) (many new start begun calls now order v p) (many new start begun calls now order w q) in
-        let x = ends_at new start begun calls now order v p in
-        let y = ends_at new start begun calls now order w q in
-        let near = near_end new start begun calls now order v p x.0 x.1 one.0 one.1 one.2 in
-        let near' = near_end new start begun calls now order w q y.0 y.1 one.0 one.1 one.3 in
-        let here = end_is now x.0 v x.1.clock x.1.ahead x.1.soon in
-        let there = end_is now y.0 w y.1.clock y.1.ahead y.1.soon in
-        (omega (arith, near, near', here, there), x.1.clock ∙ ap (λ (e : ℕ). e % 2 ^ 32) (sym here))
+    abbrev n : ℕ
+    n = f_of (after_calls new calls).clock.redundancy
 
-    -- of two the later one
-    record IsLater (so_far : Option KeptClaim) (x : KeptClaim) (z : KeptClaim) : Type 0 where
-      is : Candidate z
-      after : end_at now x ≤ end_at now z
-      before : (s : KeptClaim) → so_far ≡ Some s → end_at now s ≤ end_at now z
+    few : w ≤ 898
+    few = narrow (after_calls new calls).clock
 
-    gap_order : (e e' x y : ℕ) → e ≡ x % 2 ^ 32 → e' ≡ y % 2 ^ 32 → x ≤ y + 1000 → y ≤ x + 1000 → (clock_gap e e' ≤ 1000 → x ≤ y) × (1000 < clock_gap e e' → y ≤ x)
-    gap_order e e' x y p q near far = (λ low. omega (arith, p, q, near, far, low), λ high. omega (arith, p, q, near, far, high))
+    a : IsAgreedOn new start begun calls now order v
+    a = agreed_on new start begun calls now order v agrees_now
 
-    later_is : (so_far : Option KeptClaim) → ((s : KeptClaim) → so_far ≡ Some s → Candidate s) → (x : KeptClaim) → Candidate x → (z : KeptClaim) × (later so_far x ≡ Some z) × IsLater so_far x z
-    later_is None cand x is = (x, refl, record { is = is; after = omega arith; before = λ s e. absurd cc })
-    later_is (Some y) cand x is = by (nat_le (clock_gap y.end_us x.end_us) 1000) refl
+    end : (end : ℕ) × EndsAt new start begun calls now order a.x a.is end
+    end = ends_at new start begun calls now order a.x a.is
+
+    -- the tick comes at most 99 ms behind the end of the candidate's frame
+    upto : then ≤ end.0 + 98898
+    upto =
+        let lies = lies_behind c all v a.x a.parts end.0 end.1.clock in
+        let same : lies.edge ≡ edge = one_edge v.edge_us lies.edge edge lies.clock at (omega (arith, lies.most, few, end.1.ahead, behind)) (omega (arith, ahead, lies.least, end.1.soon)) in
+        omega (arith, same, lies.most, few, soon)
       where
-        y_is : Candidate y
-        y_is = cand y refl
+        one_edge : (e x y : ℕ) → e ≡ x % 2 ^ 32 → e ≡ y % 2 ^ 32 → x ≤ y + 200000 → y ≤ x + 200000 → x ≡ y
+        one_edge e x y p q near far = omega (arith, p, q, near, far)
 
-        ordered : (clock_gap y.end_us x.end_us ≤ 1000 → end_at now y ≤ end_at now x) × (1000 < clock_gap y.end_us x.end_us → end_at now x ≤ end_at now y)
-        ordered = let p = close y x y_is is in let q = close x y is y_is in gap_order y.end_us x.end_us (end_at now y) (end_at now x) p.1 q.1 p.0 q.0
+    -- what a line keeps now it keeps then, unless it is late then
+    record Stays (z : KeptClaim) : Type 0 where
+      end : ℕ
+      clock : z.end_us ≡ end % 2 ^ 32
+      most : end ≤ now + 10000
+      least : then ≤ end + 100000
 
-        by : (test : Bool) → nat_le (clock_gap y.end_us x.end_us) 1000 ≡ test → (z : KeptClaim) × (cond test (Some x) (Some y) ≡ Some z) × IsLater (Some y) x z
-        by true e = (x, refl, record { is = is; after = omega arith; before = λ s same. (let at : y ≡ s = cc in subst (λ (w : KeptClaim). end_at now w ≤ end_at now x) at (ordered.0 (leb-true (clock_gap y.end_us x.end_us) 1000 e))) })
-        by false e = (y, refl, record { is = y_is; after = ordered.1 (let high = leb-false (clock_gap y.end_us x.end_us) 1000 e in omega (arith, high)); before = λ s same. (let at : y ≡ s = cc in subst (λ (w : KeptClaim). end_at now w ≤ end_at now y) at (omega arith)) })
+    record IsGone (y : KeptClaim) : Type 0 where
+      there : IsKeptThere new start begun calls now order y
+      end : ℕ
+      clock : y.end_us ≡ end % 2 ^ 32
+      most : end ≤ now + 10000
+      least : now ≤ end + 100000
+      low : 10000 ≤ end
+      past : end + 100000 < then
 
-    -- the last of them ends last
-    EndsBefore : KeptClaim → KeptClaim → Type 0
-    EndsBefore r w = is_candidate f w all ≡ true → end_at now w ≤ end_at now r
+    -- what is kept then was kept now
+    kept_now : (j : ℕ) → j < 5 → (y : KeptClaim) → claim_kept (line_at (settled (then % 2 ^ 32) lines) j).frame ≡ Some y → claim_kept (line_at (settled (now % 2 ^ 32) lines) j).frame ≡ Some y
+    kept_now j small y kept =
+        let l = (lines_after new start begun calls now order).lines j small in
+        let raw = kept_by new start begun calls then order' j small y kept in
+        let h = subst (λ (o : Option KeptClaim). IfKept (IsEndAt (pulses_on j calls) (last_tick start calls) now) (after_calls new calls).rules o (pulses_on j calls)) raw.0 l.kept in
+        let soon = not_late h.0 then (omega (arith, h.3.0, on)) (omega (arith, h.3.1, order'.1)) (subst (λ (e : ℕ). is_late e (then % 2 ^ 32) ≡ false) h.1 raw.1) in
+        ap claim_kept (frame_settled (now % 2 ^ 32) lines j small)
+        ∙ stays_kept (now % 2 ^ 32) (line_at lines j).frame y raw.0 (ap (λ (x : ℕ). is_late x (now % 2 ^ 32)) h.1 ∙ in_time h.0 now h.3.0 (omega (arith, soon, on)))
 
-    record IsLast (xs : List (Option KeptClaim)) (so_far : Option KeptClaim) (r : KeptClaim) : Type 0 where
-      before : (s : KeptClaim) → so_far ≡ Some s → end_at now s ≤ end_at now r
-      each : EachKept (EndsBefore r) xs
-
-    last_is : (xs : List (Option KeptClaim)) → EachKept (IsKeptThere new start begun calls now order) xs → (so_far : Option KeptClaim) → ((s : KeptClaim) → so_far ≡ Some s → Candidate s) → (r : KeptClaim) → last_candidate f all xs so_far ≡ Some r → IsLast xs so_far r
-    unfolding EndsBefore
-    last_is [] there so_far cand r e = record { before = λ s same. (let at : s ≡ r = (let both : Some s ≡ Some r = sym same ∙ e in cc) in subst (λ (w : KeptClaim). end_at now w ≤ end_at now r) (sym at) (omega arith)); each = tt }
-    last_is (None ∷ xs) there so_far cand r e = let l = last_is xs there so_far cand r e in record { before = l.before; each = l.each }
-    last_is (Some x ∷ xs) there so_far cand r e = by (is_candidate f x all) refl e (λ o c last. last_is xs there.1 o c r last)
+    is_left : (j : ℕ) → j < 5 → IsLeft Stays IsGone (claim_kept (line_at (settled (now % 2 ^ 32) lines) j).frame) (claim_kept (line_at (settled (then % 2 ^ 32) lines) j).frame)
+    is_left j small = of (claim_kept (line_at (settled (now % 2 ^ 32) lines) j).frame) refl (claim_kept (line_at (settled (then % 2 ^ 32) lines) j).frame) refl
       where
-        by : (test : Bool) → is_candidate f x all ≡ test → last_candidate f all xs (cond test (later so_far x) so_far) ≡ Some r → ((o : Option KeptClaim) → ((s : KeptClaim) → o ≡ Some s → Candidate s) → last_candidate f all xs o ≡ Some r → IsLast xs o r) → IsLast (Some x ∷ xs) so_far r
-        by false other last rest = let l = rest so_far cand last in record { before = l.before; each = (λ counted. absurd (let both : true ≡ false = sym counted ∙ other in cc), l.each) }
-        by true counted last rest =
-            let is : Candidate x = record { counts = counted; range = there.0.range; i = there.0.i; small = there.0.small; keeps = there.0.keeps } in
-            let z = later_is so_far cand x is in
-            let l = rest (later so_far x) (λ s same. (let at : z.0 ≡ s = (let both : Some z.0 ≡ Some s = sym z.1 ∙ same in cc) in subst Candidate at z.2.is)) last in
-            let upto = l.before z.0 z.1 in
-            record { before = λ s same. omega (arith, z.2.before s same, upto); each = (λ _. omega (arith, z.2.after, upto), l.each) }
+        of : (o : Option KeptClaim) → claim_kept (line_at (settled (now % 2 ^ 32) lines) j).frame ≡ o → (o' : Option KeptClaim) → claim_kept (line_at (settled (then % 2 ^ 32) lines) j).frame ≡ o' → IsLeft Stays IsGone o o'
+        of None e None e' = inl (refl, λ z none. absurd cc)
+        of None e (Some y) e' = absurd (let both : None ≡ Some y = sym e ∙ kept_now j small y e' in cc)
+        of (Some y) e o' e' =
+            let l = (lines_after new start begun calls now order).lines j small in
+            let raw = kept_by new start begun calls now order j small y e in
+            let h = subst (λ (o : Option KeptClaim). IfKept (IsEndAt (pulses_on j calls) (last_tick start calls) now) (after_calls new calls).rules o (pulses_on j calls)) raw.0 l.kept in
+            let soon = not_late h.0 now h.3.0 (omega (arith, h.3.1, order.1)) (subst (λ (e : ℕ). is_late e (now % 2 ^ 32) ≡ false) h.1 raw.1) in
+            let turn : then + 10000 < h.0 + 2 ^ 32 = omega (arith, h.3.1, order'.1) in
+            elim (cases_Bool (is_late y.end_us (then % 2 ^ 32))) [
+              | inl late ↦
+                  let past = late_past h.0 then (omega (arith, h.3.0, on)) turn (subst (λ (x : ℕ). is_late x (then % 2 ^ 32) ≡ true) h.1 late) in
+                  let none = sym e' ∙ ap claim_kept (frame_settled (then % 2 ^ 32) lines j small) ∙ late_gone (then % 2 ^ 32) (line_at lines j).frame y raw.0 late in
+                  inr (
+                    none,
+                    (
+                      y,
+                      refl,
+                      record {
+                        there = there_at new start begun calls now order j small y e;
+                        end = h.0;
+                        clock = h.1;
+                        most = h.3.0;
+                        least = soon;
+                        low = last_late h.0 (drop h.2.late (pulses_on j calls)) h.2.last;
+                        past = past;
+                      },
+                    ),
+                  )
+              | inr in_time ↦
+                  let same : Some y ≡ o' = sym (stays_kept (then % 2 ^ 32) (line_at lines j).frame y raw.0 in_time) ∙ sym (ap claim_kept (frame_settled (then % 2 ^ 32) lines j small)) ∙ e' in
+                  let upto = not_late h.0 then (omega (arith, h.3.0, on)) turn (subst (λ (x : ℕ). is_late x (then % 2 ^ 32) ≡ false) h.1 in_time) in
+                  inl (same, λ z is. (let one : y ≡ z = cc in subst Stays one (record { end = h.0; clock = h.1; most = h.3.0; least = upto })))
+            ]
 
-    all_there : EachKept (IsKeptThere new start begun calls now order) all
-    all_there =
-        one_more (IsKeptThere new start begun calls now order) _ _ (there_at new start begun calls now order 0 (omega arith))
-        (one_more (IsKeptThere new start begun calls now order) _ _ (there_at new start begun calls now order 1 (omega arith))
-        (one_more (IsKeptThere new start begun calls now order) _ _ (there_at new start begun calls now order 2 (omega arith))
-        (one_more (IsKeptThere new start begun calls now order) _ _ (there_at new start begun calls now order 3 (omega arith))
-        (one_more (IsKeptThere new start begun calls now order) _ _ (there_at new start begun calls now order 4 (omega arith)) tt))))
+    left : AreLeft Stays IsGone all all_then
+    left = (is_left 0 (omega arith), (is_left 1 (omega arith), (is_left 2 (omega arith), (is_left 3 (omega arith), (is_left 4 (omega arith), tt)))))
 
-    -- so what is agreed ends last of all candidates
-    ends_last : (v w : KeptClaim) → agreed f (settled (now % 2 ^ 32) (after_calls new calls).state.lines) ≡ Some v → Candidate w → end_at now w ≤ end_at now v
-    unfolding EndsBefore
-    ends_last v w e is =
-        let l = last_is all all_there None (λ s same. absurd cc) v e in
-        each_of (EndsBefore v) (settled (now % 2 ^ 32) (after_calls new calls).state.lines) l.each is.i is.small w is.keeps is.counts
+    -- what is gone agrees with none that stays
+    alone : (z y : KeptClaim) → Stays z → IsGone y → agrees w z (Some y) ≡ false
+    alone z y stays gone = ended_before w z y stays.end gone.end few stays.clock gone.clock (omega (arith, stays.least, gone.past)) (omega (arith, stays.most, gone.least))
 
-  -- ---- a tick when it has come
+    -- nor is it a candidate: two share a line, so they end within a window of one another
+    never : (y : KeptClaim) → IsGone y → is_candidate w n y all ≡ false
+    never y gone = elim (cases_Bool (is_candidate w n y all)) [
+      | inr not ↦ not
+      | inl counts ↦
+          let q : IsCandidateAt new start begun calls now order y = record { counts = counts; range = gone.there.range; i = gone.there.i; small = gone.there.small; keeps = gone.there.keeps } in
+          let one = shared new.clock.redundancy (agreeing new start begun calls now order a.x a.is) (agreeing new start begun calls now order y q) (absent new start begun calls now order a.x a.is) (absent new start begun calls now order y q) (many new start begun calls now order a.x a.is) (many new start begun calls now order y q) in
+          let near = near_end new start begun calls now order a.x a.is end.0 end.1 one.0 one.1 one.2 in
+          let near' = near_end new start begun calls now order y q gone.end (record { clock = gone.clock; ahead = gone.most; soon = omega (arith, gone.least); low = omega (arith, gone.low) }) one.0 one.1 one.3 in
+          absurd (omega (arith, near.0, near'.1, few, gone.past, upto))
+    ]
 
-  module _ (calls : List Call) (now then : ℕ) (order : AreInOrder start new.clock.redundancy (Tick now ∷ calls)) (order' : AreInOrder start new.clock.redundancy (Tick then ∷ calls)) (on : now ≤ then) (v : KeptClaim) (agrees_now : agreed (f calls now order) (settled (now % 2 ^ 32) (after_calls new calls).state.lines) ≡ Some v) (edge : ℕ)
-      (at : v.end_us ≡ edge % 2 ^ 32) (ahead : edge ≤ now + 10000) (behind : now ≤ edge + 101000) (come : edge ≤ then) (soon : then ≤ edge + 98000) where
-    lines : Lines
-    lines = (after_calls new calls).state.lines
+    -- and it ended more than 1 ms before the candidate
+    far : (y : KeptClaim) → IsGone y → 2 ^ 31 ≤ place_behind a.x y
+    far y gone = far_place a.x y end.0 gone.end end.1.clock gone.clock (omega (arith, upto, gone.past)) (omega (arith, end.1.ahead, gone.least))
 
-    is : Candidate calls now order v
-    is = candidate new start begun calls now order v agrees_now
+    alone_there : (y : KeptClaim) → IsGone y → agrees w a.x (Some y) ≡ false
+    alone_there y gone = ended_before w a.x y end.0 gone.end few end.1.clock gone.clock (omega (arith, upto, gone.past)) (omega (arith, end.1.ahead, gone.least))
 
-    low : 9000 ≤ edge
-    low =
-        let e = ends_at new start begun calls now order v is in
-        let p = end_is now e.0 v e.1.clock e.1.ahead e.1.soon in
-        let q = end_is now edge v at ahead behind in
-        omega (arith, p, q, e.1.low)
+    -- so lines agree on the same
+    agreed_then : agreed c (settled (then % 2 ^ 32) lines) ≡ Some v
+    agreed_then =
+        let first = same_first Stays IsGone w n all all_then left alone never all all_then left None in
+        let from = same_from Stays IsGone w n all all_then left a.x alone_there (λ y behind gone low. not_by a.x y behind (omega (arith, low, few)) (far y gone)) (λ y behind gone. not_from a.x y behind (far y gone)) all all_then left 0 in
+        let by = same_by Stays IsGone w n all all_then left a.x alone_there (λ y behind gone low. not_by a.x y behind (omega (arith, low, few)) (far y gone)) (λ y behind gone. not_from a.x y behind (far y gone)) all all_then left w in
+        ap (vote_with c.within.us c.drift_us n all_then) (sym first ∙ a.first)
+        ∙ ap (λ (p : ℕ). Some (vote_between c.within.us c.drift_us a.x p (ended_by w n a.x all_then all_then w))) (sym from ∙ sym a.parts.is_from)
+        ∙ ap (λ (p : ℕ). Some (vote_between c.within.us c.drift_us a.x a.parts.from p)) (sym by ∙ sym a.parts.is_by)
+        ∙ ap Some (sym a.parts.is)
 
-    ends : EndsAt new start begun calls now order v is edge
-    ends = record { clock = at; ahead = ahead; soon = behind; low = low }
-
-    -- what a line keeps now and agrees, it keeps then
-    keeps_on : (j : ℕ) → j < 5 → (y : KeptClaim) → claim_kept (line_at (after_calls new calls).state.lines j).frame ≡ Some y → y.end_us ≡ whole_of (pulses_on j calls) % 2 ^ 32 → whole_of (pulses_on j calls) ≤ then + 10000 → then ≤ whole_of (pulses_on j calls) + 100000
-        → claim_kept (line_at (settled (then % 2 ^ 32) (after_calls new calls).state.lines) j).frame ≡ Some y
-    keeps_on j small y keeps end ahead soon =
-        ap claim_kept (frame_settled (then % 2 ^ 32) (after_calls new calls).state.lines j small)
-        ∙ stays_kept (then % 2 ^ 32) (line_at (after_calls new calls).state.lines j).frame y keeps (ap (λ (e : ℕ). is_late e (then % 2 ^ 32)) end ∙ in_time (whole_of (pulses_on j calls)) then ahead soon)
-
-    agrees_then : (j : ℕ) → j < 5 → agreeing new start begun calls now order v is j ≡ true → agrees v (claim_kept (line_at (settled (then % 2 ^ 32) (after_calls new calls).state.lines) j).frame) ≡ true
-    agrees_then j small agree =
-        let a = agreed_by new start begun calls now order v is j small agree in
-        let near = near_end new start begun calls now order v is edge ends j small agree in
-        let kept = keeps_on j small a.y a.keeps a.ends (omega (arith, a.ahead, on)) (omega (arith, near.0, soon)) in
-        subst (λ (o : Option KeptClaim). agrees v o ≡ true) (a.settled_keeps ∙ sym kept) agree
-
-    -- it agrees with itself
-    itself : agreeing new start begun calls now order v is is.i ≡ true
-    itself = subst (λ (o : Option KeptClaim). agrees v o ≡ true) (sym is.keeps) (both_true _ _ (same_itself v.claim) (no_gap v.end_us is.range))
+    has_come_then : has_come v.edge_us (then % 2 ^ 32) ≡ true
+    has_come_then = low_gap (clock_gap v.edge_us (then % 2 ^ 32)) (gap v.edge_us at)
       where
-        few : (g : ℕ) → g ≡ 0 → nat_le g 1000 ≡ true
-        few g e = rw e refl
+        low_gap : (g : ℕ) → g ≤ 100000 → nat_le g 100000 ≡ true
+        low_gap g h = grind (arith, h)
 
-        no_gap : (e : ℕ) → e < 2 ^ 32 → nat_le (clock_gap e e) 1000 ≡ true
-        no_gap e range = few (clock_gap e e) (omega (arith, range))
+        gap : (e : ℕ) → e ≡ edge % 2 ^ 32 → clock_gap e (then % 2 ^ 32) ≤ 100000
+        gap e clock = omega (arith, clock, come, soon)
 
-    there : claim_kept (line_at (settled (then % 2 ^ 32) (after_calls new calls).state.lines) is.i).frame ≡ Some v
-    there =
-        let a = agreed_by new start begun calls now order v is is.i is.small itself in
-        let near = near_end new start begun calls now order v is edge ends is.i is.small itself in
-        let same : a.y ≡ v = (let both : Some a.y ≡ Some v = sym a.settled_keeps ∙ is.keeps in cc) in
-        keeps_on is.i is.small a.y a.keeps a.ends (omega (arith, a.ahead, on)) (omega (arith, near.0, soon)) ∙ ap Some same
-
-    counts_then : is_candidate (f calls now order) v (all_kept (settled (then % 2 ^ 32) (after_calls new calls).state.lines)) ≡ true
-    counts_then =
-        let more = more_of (agreeing new start begun calls now order v is) (λ j. agrees v (claim_kept (line_at (settled (then % 2 ^ 32) (after_calls new calls).state.lines) j).frame)) 0 5 (λ j small agree. all_then j small agree) in
-        let counted = ltb-true (f calls now order) (count_by (agrees v) (all calls now order)) is.counts in
-        lt-ltb (f calls now order) (count_by (agrees v) (all_kept (settled (then % 2 ^ 32) (after_calls new calls).state.lines))) (omega (arith, counted, more))
+    -- the tick has that vote
+    pub vote_when_come : vote_at (after_calls new calls) (then % 2 ^ 32) ≡ Some v
+    vote_when_come = ap (if_come (then % 2 ^ 32)) agreed_then ∙ come_is has_come_then
       where
-        all_then : (j : ℕ) → j < 5 → agreeing new start begun calls now order v is (0 + j) ≡ true → agrees v (claim_kept (line_at (settled (then % 2 ^ 32) (after_calls new calls).state.lines) (0 + j)).frame) ≡ true
-        all_then j small agree =
-            let same : 0 + j ≡ j = omega arith in
-            subst (λ (i : ℕ). agrees v (claim_kept (line_at (settled (then % 2 ^ 32) (after_calls new calls).state.lines) i).frame) ≡ true) (sym same) (agrees_then j small (subst (λ (i : ℕ). agreeing new start begun calls now order v is i ≡ true) same agree))
-
-    agreed_then : (w : KeptClaim) × (agreed (f calls now order) (settled (then % 2 ^ 32) (after_calls new calls).state.lines) ≡ Some w)
-    agreed_then = one_is_agreed (f calls now order) (settled (then % 2 ^ 32) (after_calls new calls).state.lines) is.i v is.small there counts_then
-
-    -- what is agreed then is a candidate now
-    module _ (w : KeptClaim) (e : agreed (f calls then order') (settled (then % 2 ^ 32) (after_calls new calls).state.lines) ≡ Some w) where
-      there_is : IsCandidateAt new start begun calls then order' w
-      there_is = candidate new start begun calls then order' w e
-
-      kept_now : (j : ℕ) → j < 5 → (y : KeptClaim) → claim_kept (line_at (settled (then % 2 ^ 32) (after_calls new calls).state.lines) j).frame ≡ Some y → claim_kept (line_at (settled (now % 2 ^ 32) (after_calls new calls).state.lines) j).frame ≡ Some y
-      kept_now j small y kept =
-          let l = (lines_after new start begun calls now order).lines j small in
-          let raw = kept_by new start begun calls then order' j small y kept in
-          let h = subst (λ (o : Option KeptClaim). IfKept (IsEndAt (pulses_on j calls) (last_tick start calls) now) (after_calls new calls).rules o (pulses_on j calls)) raw.0 l.kept in
-          let soon = not_late h.0 then (omega (arith, h.3.0, on)) (omega (arith, h.3.1, order'.1)) (subst (λ (e : ℕ). is_late e (then % 2 ^ 32) ≡ false) h.1 raw.1) in
-          ap claim_kept (frame_settled (now % 2 ^ 32) (after_calls new calls).state.lines j small)
-          ∙ stays_kept (now % 2 ^ 32) (line_at (after_calls new calls).state.lines j).frame y raw.0 (ap (λ (x : ℕ). is_late x (now % 2 ^ 32)) h.1 ∙ in_time h.0 now h.3.0 (omega (arith, soon, on)))
-
-      agrees_before : (j : ℕ) → j < 5 → agreeing new start begun calls then order' w there_is j ≡ true → agrees w (claim_kept (line_at (settled (now % 2 ^ 32) (after_calls new calls).state.lines) j).frame) ≡ true
-      agrees_before j small agree =
-          let a = agreed_by new start begun calls then order' w there_is j small agree in
-          subst (λ (o : Option KeptClaim). agrees w o ≡ true) (a.settled_keeps ∙ sym (kept_now j small a.y a.settled_keeps)) agree
-
-      was : Candidate calls now order w
-      was =
-          let more = more_of (agreeing new start begun calls then order' w there_is) (λ j. agrees w (claim_kept (line_at (settled (now % 2 ^ 32) (after_calls new calls).state.lines) j).frame)) 0 5 (λ j small agree. all_before j small agree) in
-          let counted = ltb-true (f calls now order) (count_by (agrees w) (all calls then order')) there_is.counts in
-          record {
-            counts = lt-ltb (f calls now order) (count_by (agrees w) (all calls now order)) (omega (arith, counted, more));
-            range = there_is.range;
-            i = there_is.i;
-            small = there_is.small;
-            keeps = kept_now there_is.i there_is.small w there_is.keeps;
-          }
-        where
-          all_before : (j : ℕ) → j < 5 → agreeing new start begun calls then order' w there_is (0 + j) ≡ true → agrees w (claim_kept (line_at (settled (now % 2 ^ 32) (after_calls new calls).state.lines) (0 + j)).frame) ≡ true
-          all_before j small agree =
-              let same : 0 + j ≡ j = omega arith in
-              subst (λ (i : ℕ). agrees w (claim_kept (line_at (settled (now % 2 ^ 32) (after_calls new calls).state.lines) i).frame) ≡ true) (sym same) (agrees_before j small (subst (λ (i : ℕ). agreeing new start begun calls then order' w there_is i ≡ true) same agree))
-
-      has_come_then : has_come w.end_us (then % 2 ^ 32) ≡ true
-      has_come_then =
-          let last = ends_last calls now order v w agrees_now was in
-          let near = close calls now order v w is was in
-          let here = end_is now edge v at ahead behind in
-          let clock = (close calls now order w v was is).1 in
-          few w.end_us (end_at now w) clock (omega (arith, last, here, come)) (omega (arith, near.0, here, soon))
-        where
-          low_gap : (g : ℕ) → g ≤ 100000 → nat_le g 100000 ≡ true
-          low_gap g h = grind (arith, h)
-
-          few : (e x : ℕ) → e ≡ x % 2 ^ 32 → x ≤ then → then ≤ x + 100000 → has_come e (then % 2 ^ 32) ≡ true
-          few e x clock come near = low_gap (clock_gap e (then % 2 ^ 32)) (omega (arith, clock, come, near))
-
-    pub vote_when_come : (w : KeptClaim) × (vote_at (after_calls new calls) (then % 2 ^ 32) ≡ Some w)
-    vote_when_come =
-        let w = agreed_then in
-        (w.0, by (agreed (f calls then order') (settled (then % 2 ^ 32) (after_calls new calls).state.lines)) w.1)
-      where
-        come_is : (x : KeptClaim) → has_come x.end_us (then % 2 ^ 32) ≡ true → if_come (then % 2 ^ 32) (Some x) ≡ Some x
-        come_is x there = rw there refl
-
-        by : (o : Option KeptClaim) → o ≡ Some agreed_then.0 → if_come (then % 2 ^ 32) o ≡ Some agreed_then.0
-        by o e = ap (if_come (then % 2 ^ 32)) e ∙ come_is agreed_then.0 (has_come_then agreed_then.0 agreed_then.1)
+        come_is : has_come v.edge_us (then % 2 ^ 32) ≡ true → if_come (then % 2 ^ 32) (Some v) ≡ Some v
+        come_is there = rw there refl
 
   -- how long to wait for it
-  pub waits_for : (now edge : ℕ) (o : Option ℕ) (v : KeptClaim) → v.end_us ≡ edge % 2 ^ 32 → edge ≤ now + 10000 → now ≤ edge + 101000 → (edge ≤ now + wait_by (now % 2 ^ 32) o (Some v)) × (wait_by (now % 2 ^ 32) o (Some v) ≤ 10000)
-  waits_for now edge o v at ahead behind = of (nat_lt (clock_gap (now % 2 ^ 32) v.end_us) (2 ^ 31)) refl
+  pub waits_for : (now edge : ℕ) (o : Option ℕ) (v : Vote) → v.edge_us ≡ edge % 2 ^ 32 → edge ≤ now + 11000 → now ≤ edge + 101000 → (edge ≤ now + wait_by (now % 2 ^ 32) o (Some v)) × (wait_by (now % 2 ^ 32) o (Some v) ≤ 11000)
+  waits_for now edge o v at ahead behind = of (nat_lt (clock_gap (now % 2 ^ 32) v.edge_us) (2 ^ 31)) refl
     where
-      gap : (e : ℕ) → e ≡ edge % 2 ^ 32 → (clock_gap (now % 2 ^ 32) e < 2 ^ 31 → (edge ≤ now + clock_gap (now % 2 ^ 32) e) × (clock_gap (now % 2 ^ 32) e ≤ 10000)) × (2 ^ 31 ≤ clock_gap (now % 2 ^ 32) e → edge ≤ now)
+      gap : (e : ℕ) → e ≡ edge % 2 ^ 32 → (clock_gap (now % 2 ^ 32) e < 2 ^ 31 → (edge ≤ now + clock_gap (now % 2 ^ 32) e) × (clock_gap (now % 2 ^ 32) e ≤ 11000)) × (2 ^ 31 ≤ clock_gap (now % 2 ^ 32) e → edge ≤ now)
       gap e clock = (λ low. (omega (arith, clock, ahead, behind, low), omega (arith, clock, ahead, behind, low)), λ high. omega (arith, clock, ahead, behind, high))
 
-      of : (test : Bool) → nat_lt (clock_gap (now % 2 ^ 32) v.end_us) (2 ^ 31) ≡ test → (edge ≤ now + cond test (clock_gap (now % 2 ^ 32) v.end_us) 0) × (cond test (clock_gap (now % 2 ^ 32) v.end_us) 0 ≤ 10000)
-      of true e = (gap v.end_us at).0 (ltb-true (clock_gap (now % 2 ^ 32) v.end_us) (2 ^ 31) e)
-      of false e = (let high = ltb-false (clock_gap (now % 2 ^ 32) v.end_us) (2 ^ 31) e in let past = (gap v.end_us at).1 high in omega (arith, past), omega arith)
+      of : (test : Bool) → nat_lt (clock_gap (now % 2 ^ 32) v.edge_us) (2 ^ 31) ≡ test → (edge ≤ now + cond test (clock_gap (now % 2 ^ 32) v.edge_us) 0) × (cond test (clock_gap (now % 2 ^ 32) v.edge_us) 0 ≤ 11000)
+      of true e = (gap v.edge_us at).0 (ltb-true (clock_gap (now % 2 ^ 32) v.edge_us) (2 ^ 31) e)
+      of false e = (let high = ltb-false (clock_gap (now % 2 ^ 32) v.edge_us) (2 ^ 31) e in let past = (gap v.edge_us at).1 high in omega (arith, past), omega arith)

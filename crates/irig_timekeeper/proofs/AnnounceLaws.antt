@@ -15,11 +15,12 @@ use Rattle.irig_reader.specs.Held.{then_none}
 use Rattle.irig_reader.specs.Locking.{then_true}
 use Rattle.irig_reader.specs.Rule.{step_of, state_of, report_of}
 use Rattle.irig_reader.proofs.TrueVotesInARow.{locked_from_anywhere}
-use Rattle.irig_timekeeper.specs.declared.lines.KeptClaim.{KeptClaim}
+use Rattle.irig_timekeeper.specs.declared.lines.Vote.{Vote}
 use Rattle.irig_timekeeper.specs.declared.clock.Beat.{Beat}
-use Rattle.irig_timekeeper.specs.declared.clock.ClockRules.{ClockRules}
+use Rattle.irig_timekeeper.specs.declared.setup.ClockRules.{ClockRules}
 use Rattle.irig_timekeeper.specs.declared.clock.ClockState.{ClockState}
 use Rattle.irig_timekeeper.specs.Edges.{IsNear}
+use Rattle.irig_timekeeper.specs.Exactness.{vote_us, most_vote_us}
 use Rattle.irig_timekeeper.specs.Counting.{edges_to_vote, edges_own}
 use Rattle.irig_timekeeper.specs.Rule.{missed}
 use Rattle.irig_timekeeper.specs.Steps.{is_pulse, settled, agreed, if_come}
@@ -54,39 +55,39 @@ quiet k clock none nothing = of (vote_at k clock) none
     by : (n : ℕ) → n ≡ 0 → IsQuiet k.state (after_own k.clock k.table s n)
     by n e = rw e (record { edge = refl; reader = refl })
 
-    of : (o : Option KeptClaim) → o ≡ None → IsQuiet k.state (clock_by k.clock k.table s clock o)
+    of : (o : Option Vote) → o ≡ None → IsQuiet k.state (clock_by k.clock k.table s clock o)
     of (Some v) e = absurd cc
     of None e = by (edges_own k.state.edge_us clock) nothing
 
 -- with one, by the edges that it counts
-record IsVoted (c : ClockRules) (table : TableValue) (s : ClockState) (v : KeptClaim) (n : ℕ) (new : ClockState) (answer : Option Beat) : Type 0 where
-  edge : new.edge_us ≡ Some v.end_us
+record IsVoted (c : ClockRules) (table : TableValue) (s : ClockState) (v : Vote) (n : ℕ) (new : ClockState) (answer : Option Beat) : Type 0 where
+  edge : new.edge_us ≡ Some v.edge_us
   none : n ≡ 0 → new.reader ≡ s.reader
   some : 1 ≤ n → new.reader ≡ (step_to c table s n (Some v.claim)).state
   tells : 1 ≤ n → (b : Beat) × (answer ≡ Some b) × (b.report ≡ (step_to c table s n (Some v.claim)).report)
 
-voted_by : (c : ClockRules) (table : TableValue) (s : ClockState) (v : KeptClaim) (n : ℕ) → IsVoted c table s v n (after_vote c table s v n) (answer_to_vote c table s v n)
+voted_by : (c : ClockRules) (table : TableValue) (s : ClockState) (v : Vote) (n : ℕ) → IsVoted c table s v n (after_vote c table s v n) (answer_to_vote c table s v n)
 voted_by c table s v n = elim (cases_Bool (n == 0)) [
   | inl waits ↦
       let nothing : n ≡ 0 = eqb-true n 0 waits in
       rw waits (record { edge = refl; none = λ e. refl; some = λ e. absurd (omega (arith, e, nothing)); tells = λ e. absurd (omega (arith, e, nothing)) })
   | inr more ↦
       let apart = eqb-false n 0 more in
-      rw more (record { edge = refl; none = λ e. absurd (apart e); some = λ e. refl; tells = λ e. (beat_by s (step_to c table s n (Some v.claim)) (n - 1) v.end_us, refl, refl) })
+      rw more (record { edge = refl; none = λ e. absurd (apart e); some = λ e. refl; tells = λ e. (beat_by c s (step_to c table s n (Some v.claim)) (n - 1) v.edge_us v.bound_us, refl, refl) })
 ]
 
-voted : (k : Keeping) (clock : ℕ) (v : KeptClaim) → vote_at k clock ≡ Some v → IsVoted k.clock k.table (settled_at k.state clock) v (edges_to_vote k.state.edge_us v.end_us) (after_tick k clock).state (answer_at k clock)
+voted : (k : Keeping) (clock : ℕ) (v : Vote) → vote_at k clock ≡ Some v → IsVoted k.clock k.table (settled_at k.state clock) v (edges_to_vote k.state.edge_us v.edge_us) (after_tick k clock).state (answer_at k clock)
 voted k clock v e = of (vote_at k clock) e
   where
     s : ClockState
     s = settled_at k.state clock
 
-    of : (o : Option KeptClaim) → o ≡ Some v → IsVoted k.clock k.table s v (edges_to_vote k.state.edge_us v.end_us) (clock_by k.clock k.table s clock o) (answer_by k.clock k.table s clock o)
+    of : (o : Option Vote) → o ≡ Some v → IsVoted k.clock k.table s v (edges_to_vote k.state.edge_us v.edge_us) (clock_by k.clock k.table s clock o) (answer_by k.clock k.table s clock o)
     of None e = absurd cc
     of (Some x) e =
         let same : v ≡ x = cc in
-        subst (λ (y : KeptClaim). IsVoted k.clock k.table s y (edges_to_vote k.state.edge_us y.end_us) (after_vote k.clock k.table s x (edges_to_vote k.state.edge_us x.end_us)) (answer_to_vote k.clock k.table s x (edges_to_vote k.state.edge_us x.end_us))) (sym same)
-        (voted_by k.clock k.table s x (edges_to_vote k.state.edge_us x.end_us))
+        subst (λ (y : Vote). IsVoted k.clock k.table s y (edges_to_vote k.state.edge_us y.edge_us) (after_vote k.clock k.table s x (edges_to_vote k.state.edge_us x.edge_us)) (answer_to_vote k.clock k.table s x (edges_to_vote k.state.edge_us x.edge_us))) (sym same)
+        (voted_by k.clock k.table s x (edges_to_vote k.state.edge_us x.edge_us))
 
 -- a tick leaves the reader, or steps on by some edges and a vote, or none
 abbrev Stepped : ClockRules → TableValue → State → State → Type 0
@@ -102,13 +103,13 @@ stepped k clock = of (vote_at k clock)
     own n true e = rw e (inl refl)
     own n false e = rw e (inr (n - 1, None, refl))
 
-    by_vote : (v : KeptClaim) (n : ℕ) (test : Bool) → (n == 0) ≡ test → Stepped k.clock k.table k.state.reader (after_vote k.clock k.table s v n).reader
+    by_vote : (v : Vote) (n : ℕ) (test : Bool) → (n == 0) ≡ test → Stepped k.clock k.table k.state.reader (after_vote k.clock k.table s v n).reader
     by_vote v n true e = rw e (inl refl)
     by_vote v n false e = rw e (inr (n - 1, Some v.claim, refl))
 
-    of : (o : Option KeptClaim) → Stepped k.clock k.table k.state.reader (clock_by k.clock k.table s clock o).reader
+    of : (o : Option Vote) → Stepped k.clock k.table k.state.reader (clock_by k.clock k.table s clock o).reader
     of None = own (edges_own k.state.edge_us clock) _ refl
-    of (Some v) = by_vote v (edges_to_vote k.state.edge_us v.end_us) _ refl
+    of (Some v) = by_vote v (edges_to_vote k.state.edge_us v.edge_us) _ refl
 
 -- a pulse changes neither the edge nor the reader
 passes_by : (k : Keeping) (port rise width : ℕ) → IsQuiet k.state (after_pulse k port rise width).state
@@ -124,7 +125,7 @@ pub record IsServed (IsTrue : ℕ → List Pulse → Type 0) (t : TimelineValue)
   pub are : calls ≡ Tick now ∷ others
   pub early : last_tick start (others ++ before) ≤ edges m + 3000
   pub soon : now ≤ edges m + 98000
-  pub comes : ((edges m + 549 ≤ now) × ComesWhole t edges new m (others ++ before)) ⊎ ((edges m ≤ now + 11000) × ((v : KeptClaim) × (vote_at (after_calls new (others ++ before)) (now % 2 ^ 32) ≡ Some v)))
+  pub comes : ((edges m + vote_us new.clock.within.us new.clock.drift_us ≤ now) × ComesWhole t edges new m (others ++ before)) ⊎ ((edges m ≤ now + 11000) × ((v : Vote) × (vote_at (after_calls new (others ++ before)) (now % 2 ^ 32) ≡ Some v)))
   pub truth : AreTrueOver IsTrue (f_of new.clock.redundancy) calls before
 
 -- so many in a row
@@ -143,7 +144,7 @@ heard_serve IsTrue t edges new start m (suc n) calls before heard =
       heard_serve IsTrue t edges new start m n heard.1 before heard.4,
     )
 
-module _ (IsTrue : ℕ → List Pulse → Type 0) (t : TimelineValue) (edges : ℕ → ℕ) (new : Keeping) (start : ℕ) (begun : AreLinesAt new new (λ i. []) start start) (is : IsDevice t new.clock.drift_us edges new.clock.reader_rules new.table) (truly : TellAlwaysTruly IsTrue new.rules t edges 549 549) where
+module _ (IsTrue : ℕ → List Pulse → Type 0) (t : TimelineValue) (edges : ℕ → ℕ) (new : Keeping) (start : ℕ) (begun : AreLinesAt new new (λ i. []) start start) (is : IsDevice t new.clock.drift_us edges new.clock.reader_rules new.table) (truly : TellAlwaysTruly IsTrue new.clock.within.us new.clock.drift_us new.rules t edges 0 0) where
   abbrev state : List Call → ClockState
   state calls = (after_calls new calls).state
 
@@ -159,7 +160,7 @@ module _ (IsTrue : ℕ → List Pulse → Type 0) (t : TimelineValue) (edges : �
     edge : (state calls).edge_us ≡ Some e
     V : ℕ
     at : IsEdgeAt e V (last_tick start calls)
-    near : IsNear edges 1549 549 m V
+    near : IsNear edges most_vote_us most_vote_us m V
     set : IsSetByVote new start begun V calls
     reads : Reads votes (state calls).reader
 
@@ -215,7 +216,7 @@ module _ (IsTrue : ℕ → List Pulse → Type 0) (t : TimelineValue) (edges : �
       }
 
   -- two votes do not come in one second
-  far_apart : (V now : ℕ) (calls : List Call) → AreInOrder start new.clock.redundancy (Tick now ∷ calls) → IsSetByVote new start begun V calls → (v : KeptClaim) → vote_at (after_calls new calls) (now % 2 ^ 32) ≡ Some v → (V' : ℕ) → IsEdgeAt v.end_us V' now → V + 890000 ≤ V'
+  far_apart : (V now : ℕ) (calls : List Call) → AreInOrder start new.clock.redundancy (Tick now ∷ calls) → IsSetByVote new start begun V calls → (v : Vote) → vote_at (after_calls new calls) (now % 2 ^ 32) ≡ Some v → (V' : ℕ) → IsEdgeAt v.edge_us V' now → V + 889000 ≤ V'
   far_apart V now calls order set v voted V' at =
       votes_apart new start begun set.earlier set.later set.before now set.v v V V'
       (subst (λ (c : List Call). AreInOrder start new.clock.redundancy (Tick now ∷ c)) set.are order) set.voted set.at
@@ -224,7 +225,7 @@ module _ (IsTrue : ℕ → List Pulse → Type 0) (t : TimelineValue) (edges : �
   no_second : (m : ℕ) (votes : List (Option Claim)) (now : ℕ) (calls : List Call) → AreInOrder start new.clock.redundancy (Tick now ∷ calls) → now ≤ edges m + 98000 → IsVotedAt m votes calls → vote_at (after_calls new calls) (now % 2 ^ 32) ≡ None
   no_second m votes now calls order upto v = of (vote_at (after_calls new calls) (now % 2 ^ 32)) refl
     where
-      of : (o : Option KeptClaim) → vote_at (after_calls new calls) (now % 2 ^ 32) ≡ o → o ≡ None
+      of : (o : Option Vote) → vote_at (after_calls new calls) (now % 2 ^ 32) ≡ o → o ≡ None
       of None e = refl
       of (Some x) e =
           let V' = edge_of new start begun calls now order x e in
@@ -233,25 +234,25 @@ module _ (IsTrue : ℕ → List Pulse → Type 0) (t : TimelineValue) (edges : �
 
   -- ---- a vote of the m-th second
 
-  record IsVoteOf (m now : ℕ) (v : KeptClaim) : Type 0 where
+  record IsVoteOf (m now : ℕ) (v : Vote) : Type 0 where
     V : ℕ
-    at : IsEdgeAt v.end_us V now
+    at : IsEdgeAt v.edge_us V now
     close : now ≤ V + 100000
-    near : IsNear edges 1549 549 m V
+    near : IsNear edges most_vote_us most_vote_us m V
     claim : truth_at t (m - 1) ≡ Some v.claim
 
-  vote_of : (m now : ℕ) (calls : List Call) → AreInOrder start new.clock.redundancy (Tick now ∷ calls) → AreTrueLately IsTrue f now calls → edges m ≤ now + 890000 → now ≤ edges m + 98000 → (v : KeptClaim) → vote_at (after_calls new calls) (now % 2 ^ 32) ≡ Some v → IsVoteOf m now v
+  vote_of : (m now : ℕ) (calls : List Call) → AreInOrder start new.clock.redundancy (Tick now ∷ calls) → AreTrueLately IsTrue f now calls → edges m ≤ now + 890000 → now ≤ edges m + 98000 → (v : Vote) → vote_at (after_calls new calls) (now % 2 ^ 32) ≡ Some v → IsVoteOf m now v
   vote_of m now calls order lately from upto v voted =
-      let h = heard_truly IsTrue t edges 549 549 new start begun calls now order lately in
-      let same = ap (λ (c : ClockRules). if_come (now % 2 ^ 32) (agreed (f_of c.redundancy) (settled (now % 2 ^ 32) (state calls).lines))) (sym (same_clock calls now order)) in
-      let vote = vote_is_true (IsTrue now) new.rules t edges 549 549 f now (state calls).lines (λ i. pulses_on i calls) (truly now) h v (same ∙ voted) in
-      let here : vote.truth.second + 1 ≡ m = one_edge new.clock.drift_us edges is.steady (vote.truth.second + 1) m (omega (arith, vote.truth.near.least, vote.come, upto)) (omega (arith, vote.truth.near.most, vote.soon, from)) in
+      let h = heard_truly IsTrue t edges 0 0 new start begun calls now order lately in
+      let same = ap (λ (c : ClockRules). if_come (now % 2 ^ 32) (agreed c (settled (now % 2 ^ 32) (state calls).lines))) (sym (same_clock calls now order)) in
+      let vote = vote_is_true (IsTrue now) new.rules t new.clock edges is.steady 0 0 (omega arith) now (state calls).lines (λ i. pulses_on i calls) (truly now) h v (same ∙ voted) in
+      let here : vote.truth.second + 1 ≡ m = one_edge new.clock.drift_us edges is.steady (vote.truth.second + 1) m (omega (arith, vote.truth.near.least, vote.small, vote.come, upto)) (omega (arith, vote.truth.near.most, vote.small, vote.soon, from)) in
       let before : vote.truth.second ≡ m - 1 = omega (arith, here) in
       record {
-        V = vote.end;
+        V = vote.edge;
         at = record { clock = vote.clock; come = vote.come; soon = omega (arith, vote.soon) };
         close = vote.soon;
-        near = subst (λ (i : ℕ). IsNear edges 1549 549 i vote.end) here (record { least = omega (arith, vote.truth.near.least); most = omega (arith, vote.truth.near.most) });
+        near = subst (λ (i : ℕ). IsNear edges most_vote_us most_vote_us i vote.edge) here (record { least = omega (arith, vote.truth.near.least, vote.small); most = omega (arith, vote.truth.near.most, vote.small) });
         claim = ap (truth_at t) (sym before) ∙ (claim_is t vote.truth.second v.claim).1 vote.truth.truth;
       }
 
@@ -260,23 +261,23 @@ module _ (IsTrue : ℕ → List Pulse → Type 0) (t : TimelineValue) (edges : �
     votes : List (Option Claim)
     reads : Reads votes (state calls).reader
 
-  set_here : (V now : ℕ) (calls : List Call) (v : KeptClaim) → vote_at (after_calls new calls) (now % 2 ^ 32) ≡ Some v → IsEdgeAt v.end_us V now → IsSetByVote new start begun V (Tick now ∷ calls)
+  set_here : (V now : ℕ) (calls : List Call) (v : Vote) → vote_at (after_calls new calls) (now % 2 ^ 32) ≡ Some v → IsEdgeAt v.edge_us V now → IsSetByVote new start begun V (Tick now ∷ calls)
   set_here V now calls v voted at = record { earlier = calls; later = []; before = now; v = v; are = refl; voted = voted; at = at }
 
   record IsFirstVoted (m : ℕ) (calls : List Call) : Type 0 where
     votes : List (Option Claim)
     voted_at : IsVotedAt m votes calls
 
-  step_reads : (k : Keeping) (n : ℕ) (votes : List (Option Claim)) (v : KeptClaim) → k.clock ≡ new.clock → k.table ≡ new.table → Reads votes k.state.reader → (step_to k.clock k.table (settled_at k.state 0) n (Some v.claim)).state ≡ state_of new.clock.reader_rules new.table (Some v.claim ∷ then_none (n - 1) votes)
+  step_reads : (k : Keeping) (n : ℕ) (votes : List (Option Claim)) (v : Vote) → k.clock ≡ new.clock → k.table ≡ new.table → Reads votes k.state.reader → (step_to k.clock k.table (settled_at k.state 0) n (Some v.claim)).state ≡ state_of new.clock.reader_rules new.table (Some v.claim ∷ then_none (n - 1) votes)
   step_reads k n votes v clock table reads =
       ap (λ (c : ClockRules). (step_of c.reader_rules k.table (missed c.reader_rules k.table (n - 1) k.state.reader) (Some v.claim)).state) clock
       ∙ ap (λ (x : TableValue). (step_of new.clock.reader_rules x (missed new.clock.reader_rules x (n - 1) k.state.reader) (Some v.claim)).state) table
       ∙ ap (λ (s : State). (step_of new.clock.reader_rules new.table s (Some v.claim)).state) (missed_are_none new.clock.reader_rules new.table (n - 1) k.state.reader votes reads)
 
-  first_voted : (m now : ℕ) (calls : List Call) → AreInOrder start new.clock.redundancy (Tick now ∷ calls) → (v : KeptClaim) → vote_at (after_calls new calls) (now % 2 ^ 32) ≡ Some v → IsVoteOf m now v → IsReached calls → IsFirstVoted m (Tick now ∷ calls)
+  first_voted : (m now : ℕ) (calls : List Call) → AreInOrder start new.clock.redundancy (Tick now ∷ calls) → (v : Vote) → vote_at (after_calls new calls) (now % 2 ^ 32) ≡ Some v → IsVoteOf m now v → IsReached calls → IsFirstVoted m (Tick now ∷ calls)
   first_voted m now calls order v is_voted vote reached =
       let k : Keeping = after_calls new calls in
-      let n : ℕ = edges_to_vote k.state.edge_us v.end_us in
+      let n : ℕ = edges_to_vote k.state.edge_us v.edge_us in
       let left = voted k (now % 2 ^ 32) v is_voted in
       elim (cases_Bool (n == 0)) [
         | inl waits ↦ by reached.votes (left.none (eqb-true n 0 waits) ∙ reached.reads) left.edge
@@ -285,18 +286,18 @@ module _ (IsTrue : ℕ → List Pulse → Type 0) (t : TimelineValue) (edges : �
             by (Some v.claim ∷ then_none (n - 1) reached.votes) (left.some some ∙ step_reads k n reached.votes v (same_clock calls now order) (same_table calls now order) reached.reads) left.edge
       ]
     where
-      by : (votes : List (Option Claim)) → Reads votes (state (Tick now ∷ calls)).reader → (state (Tick now ∷ calls)).edge_us ≡ Some v.end_us → IsFirstVoted m (Tick now ∷ calls)
+      by : (votes : List (Option Claim)) → Reads votes (state (Tick now ∷ calls)).reader → (state (Tick now ∷ calls)).edge_us ≡ Some v.edge_us → IsFirstVoted m (Tick now ∷ calls)
       by votes reads edge = record {
         votes = votes;
-        voted_at = record { e = v.end_us; edge = edge; V = vote.V; at = vote.at; near = vote.near; set = set_here vote.V now calls v is_voted vote.at; reads = reads };
+        voted_at = record { e = v.edge_us; edge = edge; V = vote.V; at = vote.at; near = vote.near; set = set_here vote.V now calls v is_voted vote.at; reads = reads };
       }
 
   -- behind a second that was voted it counts one
-  counts_one : (m now : ℕ) (votes : List (Option Claim)) (calls : List Call) → AreInOrder start new.clock.redundancy (Tick now ∷ calls) → (v : KeptClaim) (vote : IsVoteOf (m + 1) now v) → (at : IsVotedAt m votes calls) → edges_to_vote (state calls).edge_us v.end_us ≡ 1
+  counts_one : (m now : ℕ) (votes : List (Option Claim)) (calls : List Call) → AreInOrder start new.clock.redundancy (Tick now ∷ calls) → (v : Vote) (vote : IsVoteOf (m + 1) now v) → (at : IsVotedAt m votes calls) → edges_to_vote (state calls).edge_us v.edge_us ≡ 1
   counts_one m now votes calls order v vote at =
-      ap (λ (o : Option ℕ). edges_to_vote o v.end_us) at.edge
-      ∙ voted_count (last_tick start calls) now order.0 (omega (arith, order.1)) at.e at.V at.at v.end_us vote.V vote.at vote.close
-      ∙ counts new.clock.drift_us 1549 549 1549 549 m 1 at.V vote.V edges is.steady at.near vote.near (omega (arith, is.steady.few)) (omega (arith, is.steady.few))
+      ap (λ (o : Option ℕ). edges_to_vote o v.edge_us) at.edge
+      ∙ voted_count (last_tick start calls) now order.0 (omega (arith, order.1)) at.e at.V at.at v.edge_us vote.V vote.at vote.close
+      ∙ counts new.clock.drift_us most_vote_us most_vote_us most_vote_us most_vote_us m 1 at.V vote.V edges is.steady at.near vote.near (omega (arith, is.steady.few)) (omega (arith, is.steady.few))
 
   record IsVotedNext (m : ℕ) (votes : List (Option Claim)) (now : ℕ) (calls : List Call) : Type 0 where
     voted_at : IsVotedAt (m + 1) (truth_at t m ∷ votes) (Tick now ∷ calls)
@@ -304,10 +305,10 @@ module _ (IsTrue : ℕ → List Pulse → Type 0) (t : TimelineValue) (edges : �
     answer : answer_at (after_calls new calls) (now % 2 ^ 32) ≡ Some beat
     report : beat.report ≡ report_of new.clock.reader_rules new.table (truth_at t m) votes
 
-  next_voted : (m now : ℕ) (votes : List (Option Claim)) (calls : List Call) → AreInOrder start new.clock.redundancy (Tick now ∷ calls) → (v : KeptClaim) → vote_at (after_calls new calls) (now % 2 ^ 32) ≡ Some v → IsVoteOf (m + 1) now v → IsVotedAt m votes calls → IsVotedNext m votes now calls
+  next_voted : (m now : ℕ) (votes : List (Option Claim)) (calls : List Call) → AreInOrder start new.clock.redundancy (Tick now ∷ calls) → (v : Vote) → vote_at (after_calls new calls) (now % 2 ^ 32) ≡ Some v → IsVoteOf (m + 1) now v → IsVotedAt m votes calls → IsVotedNext m votes now calls
   next_voted m now votes calls order v is_voted vote at =
       let k : Keeping = after_calls new calls in
-      let n : ℕ = edges_to_vote k.state.edge_us v.end_us in
+      let n : ℕ = edges_to_vote k.state.edge_us v.edge_us in
       let one : n ≡ 1 = counts_one m now votes calls order v vote at in
       let some : 1 ≤ n = omega (arith, one) in
       let left = voted k (now % 2 ^ 32) v is_voted in
@@ -316,7 +317,7 @@ module _ (IsTrue : ℕ → List Pulse → Type 0) (t : TimelineValue) (edges : �
       let claim : Some v.claim ≡ truth_at t m = sym vote.claim ∙ ap (truth_at t) same in
       record {
         voted_at = record {
-          e = v.end_us;
+          e = v.edge_us;
           edge = left.edge;
           V = vote.V;
           at = vote.at;
@@ -361,7 +362,7 @@ module _ (IsTrue : ℕ → List Pulse → Type 0) (t : TimelineValue) (edges : �
         )
   ]
     where
-      by : Waits m votes later older → (o : Option KeptClaim) → vote_at (after_calls new (later ++ older)) (now % 2 ^ 32) ≡ o → Waits m votes (Tick now ∷ later) older ⊎ Goes m votes (Tick now ∷ later) older
+      by : Waits m votes later older → (o : Option Vote) → vote_at (after_calls new (later ++ older)) (now % 2 ^ 32) ≡ o → Waits m votes (Tick now ∷ later) older ⊎ Goes m votes (Tick now ∷ later) older
       by waits None e = inl (voted_waits m votes now (later ++ older) order e waits.0 (omega (arith, waits.0.near.least, early, is.steady.steady.most m, is.steady.few)), (λ _. e, waits.1))
       by waits (Some v) e =
           let V' = edge_of new start begun (later ++ older) now order v e in
@@ -372,13 +373,13 @@ module _ (IsTrue : ℕ → List Pulse → Type 0) (t : TimelineValue) (edges : �
 
   -- the last tick of a second has a vote, if none has
   has_one : (m : ℕ) → 1 ≤ m → (older : List Call) (told : ℕ) → HaveRisen told older → told + 11000 < edges m → (others : List Call) (now : ℕ) → AreInOrder start new.clock.redundancy (Tick now ∷ (others ++ older)) → HaveNoVotes new (edges m - 11000) others older
-      → AreTrueLately IsTrue f now (others ++ older) → now ≤ edges m + 98000 → ((edges m + 549 ≤ now) × ComesWhole t edges new m (others ++ older)) ⊎ ((edges m ≤ now + 11000) × ((v : KeptClaim) × (vote_at (after_calls new (others ++ older)) (now % 2 ^ 32) ≡ Some v)))
-      → (edges m ≤ now + 11000) × ((v : KeptClaim) × (vote_at (after_calls new (others ++ older)) (now % 2 ^ 32) ≡ Some v))
+      → AreTrueLately IsTrue f now (others ++ older) → now ≤ edges m + 98000 → ((edges m + vote_us new.clock.within.us new.clock.drift_us ≤ now) × ComesWhole t edges new m (others ++ older)) ⊎ ((edges m ≤ now + 11000) × ((v : Vote) × (vote_at (after_calls new (others ++ older)) (now % 2 ^ 32) ≡ Some v)))
+      → (edges m ≤ now + 11000) × ((v : Vote) × (vote_at (after_calls new (others ++ older)) (now % 2 ^ 32) ≡ Some v))
   has_one m some older told risen past others now order none lately soon (inr voted) = voted
   has_one m some older told risen past others now order none lately soon (inl come) =
       let whole = come.1 in (
         omega (arith, come.0),
-        has_vote IsTrue t new.clock.drift_us edges is.steady new start begun truly m some older told risen past (others ++ older) now order soon whole.whole whole.many
+        has_vote IsTrue t edges new is.steady start begun truly m some older told risen past (others ++ older) now order soon whole.whole whole.many
             (λ i small is_whole. (let w = whole.frames i small is_whole in whole_kept t new.clock.drift_us edges is.steady new start begun i small m older told risen past others now order none soon w.0 w.1)) come.0 lately,
       )
 
@@ -437,7 +438,7 @@ module _ (IsTrue : ℕ → List Pulse → Type 0) (t : TimelineValue) (edges : �
       | inl none ↦ by none (vote_at (after_calls new (later ++ older)) (now % 2 ^ 32)) refl
     ]
       where
-        by : HaveNoVotes new (edges m - 11000) later older → (o : Option KeptClaim) → vote_at (after_calls new (later ++ older)) (now % 2 ^ 32) ≡ o → HaveNoVotes new (edges m - 11000) (Tick now ∷ later) older ⊎ IsFirstVoted m (Tick now ∷ (later ++ older))
+        by : HaveNoVotes new (edges m - 11000) later older → (o : Option Vote) → vote_at (after_calls new (later ++ older)) (now % 2 ^ 32) ≡ o → HaveNoVotes new (edges m - 11000) (Tick now ∷ later) older ⊎ IsFirstVoted m (Tick now ∷ (later ++ older))
         by none None e = inl (λ _. e, none)
         by none (Some v) e = elim (cases_lt (now + 11000) (edges m)) [
           | inl before ↦ inl (λ from. absurd (omega (arith, from, before)), none)

@@ -14,8 +14,10 @@ use Rattle.irig_vote.specs.Vote.{f_of}
 use Rattle.irig_vote.proofs.CountLaws.{same_itself}
 use Rattle.irig_timekeeper.specs.declared.lines.KeptClaim.{KeptClaim}
 use Rattle.irig_timekeeper.specs.declared.lines.Lines.{Lines}
-use Rattle.irig_timekeeper.specs.declared.clock.ClockRules.{ClockRules}
+use Rattle.irig_timekeeper.specs.declared.lines.Vote.{Vote}
+use Rattle.irig_timekeeper.specs.declared.setup.ClockRules.{ClockRules}
 use Rattle.irig_timekeeper.specs.Edges.{IsQuartz}
+use Rattle.irig_timekeeper.specs.Exactness.{window_us, vote_us}
 use Rattle.irig_timekeeper.specs.Steps.{line_at, settled, claim_kept, all_kept, agrees, agreed, if_come}
 use Rattle.irig_timekeeper.specs.Keeping.{Keeping, vote_at}
 use Rattle.irig_timekeeper.specs.Truth.{AreHeardTruly}
@@ -146,13 +148,13 @@ pub both_true : (a b : Bool) → a ≡ true → b ≡ true → (a && b) ≡ true
 both_true true b p q = q
 both_true false b p q = absurd cc
 
-near_gap : (x y : ℕ) → x ≤ y → y ≤ x + 1000 → nat_le (clock_gap (x % 2 ^ 32) (y % 2 ^ 32)) 1000 ≡ true
-near_gap x y order near =
-    let gap : clock_gap (x % 2 ^ 32) (y % 2 ^ 32) ≡ y - x = omega (arith, order, near) in
-    rw gap (few (y - x) (omega (arith, near)))
+near_gap : (window x y : ℕ) → window ≤ 898 → x ≤ y → y ≤ x + window → nat_le (clock_gap (x % 2 ^ 32) (y % 2 ^ 32)) window ≡ true
+near_gap window x y narrow order near =
+    let gap : clock_gap (x % 2 ^ 32) (y % 2 ^ 32) ≡ y - x = omega (arith, order, near, narrow) in
+    rw gap (few (y - x) window (omega (arith, near)))
   where
-    few : (g : ℕ) → g ≤ 1000 → nat_le g 1000 ≡ true
-    few g h = grind (arith, h)
+    few : (g w : ℕ) → g ≤ w → nat_le g w ≡ true
+    few g w h = grind (arith, h)
 
 -- edges that lie less than a second apart are one
 pub one_edge : (d : ℕ) (edges : ℕ → ℕ) → IsQuartz d edges → (i j : ℕ) → edges i < edges j + 999900 → edges j < edges i + 999900 → i ≡ j
@@ -180,6 +182,12 @@ module _ (t : TimelineValue) (d : ℕ) (edges : ℕ → ℕ) (quartz : IsQuartz 
   abbrev lines : Lines
   lines = (after_calls new calls).state.lines
 
+  abbrev window : ℕ
+  window = window_us new.clock.within.us
+
+  abbrev f : ℕ
+  f = f_of new.clock.redundancy
+
   abbrev ends : ℕ → ℕ
   ends i = whole_of (pulses_on i calls)
 
@@ -190,31 +198,28 @@ module _ (t : TimelineValue) (d : ℕ) (edges : ℕ → ℕ) (quartz : IsQuartz 
   kept i small is =
       let k = keeps i small is in
       ap claim_kept (frame_settled clock lines i small)
-      ∙ stays_kept clock (line_at lines i).frame (record { claim = k.claim; end_us = k.end % 2 ^ 32 }) k.keeps (in_time k.end now (ahead i small is) (omega (arith, k.least, upto)))
+      ∙ stays_kept clock (line_at lines i).frame (record { claim = k.claim; end_us = k.end % 2 ^ 32 }) k.keeps (in_time k.end now (ahead i small is) (omega (arith, k.least, upto, quartz.few, new.clock.within.few)))
 
   -- all of them agree with the one that ends first
-  agree : (i j : ℕ) (small : i < 5) (low : j < 5) (is : whole i ≡ true) (so : whole j ≡ true) → ends i ≤ ends j → agrees (record { claim = (keeps i small is).claim; end_us = (keeps i small is).end % 2 ^ 32 }) (claim_kept (line_at (settled clock lines) j).frame) ≡ true
+  agree : (i j : ℕ) (small : i < 5) (low : j < 5) (is : whole i ≡ true) (so : whole j ≡ true) → ends i ≤ ends j → agrees window (record { claim = (keeps i small is).claim; end_us = (keeps i small is).end % 2 ^ 32 }) (claim_kept (line_at (settled clock lines) j).frame) ≡ true
   agree i j small low is so order =
       let k = keeps i small is in
       let l = keeps j low so in
       let same : m ≡ m - 1 + 1 = omega (arith, some) in
       let one = subst (λ (x : ℕ). IsTrueClaim t x k.claim) same k.truth in
       let other = subst (λ (x : ℕ). IsTrueClaim t x l.claim) same l.truth in
-      subst (λ (o : Option KeptClaim). agrees (record { claim = k.claim; end_us = k.end % 2 ^ 32 }) o ≡ true) (sym (kept j low so))
-      (both_true _ _ (same_truth t (m - 1) k.claim l.claim one other) (near_gap k.end l.end (omega (arith, order, k.is, l.is)) (omega (arith, k.close_least, l.close_most))))
+      subst (λ (o : Option KeptClaim). agrees window (record { claim = k.claim; end_us = k.end % 2 ^ 32 }) o ≡ true) (sym (kept j low so))
+      (both_true _ _ (same_truth t (m - 1) k.claim l.claim one other) (near_gap window k.end l.end (omega (arith, new.clock.within.few)) (omega (arith, order, k.is, l.is)) (omega (arith, k.close_least, l.close_most))))
 
-  f : ℕ
-  f = f_of new.clock.redundancy
-
-  pub some_agree : (x : KeptClaim) × (agreed (f_of new.clock.redundancy) (settled clock lines) ≡ Some x)
+  pub some_agree : (v : Vote) × (agreed new.clock (settled clock lines) ≡ Some v)
   some_agree =
       let here : 0 + first.i ≡ first.i = omega arith in
       let is : whole first.i ≡ true = subst (λ (j : ℕ). whole j ≡ true) here first.at in
       let x : KeptClaim = record { claim = (keeps first.i first.low is).claim; end_us = (keeps first.i first.low is).end % 2 ^ 32 } in
-      let all = more_of whole (λ j. agrees x (claim_kept (line_at (settled clock lines) j).frame)) 0 5 (λ j low so. agree_at x first.i first.low is refl j low so) in
-      one_is_agreed (f_of new.clock.redundancy) (settled clock lines) first.i x first.low (kept first.i first.low is) (lt-ltb (f_of new.clock.redundancy) (count_by (agrees x) (all_kept (settled clock lines))) (omega (arith, many, all)))
+      let all = more_of whole (λ j. agrees window x (claim_kept (line_at (settled clock lines) j).frame)) 0 5 (λ j low so. agree_at x first.i first.low is refl j low so) in
+      one_is_agreed new.clock (settled clock lines) first.i x first.low (kept first.i first.low is) (lt-ltb f (count_by (agrees window x) (all_kept (settled clock lines))) (omega (arith, many, all)))
     where
-      agree_at : (x : KeptClaim) (i : ℕ) (small : i < 5) (is : whole i ≡ true) → i ≡ first.i → (j : ℕ) → j < 5 → whole (0 + j) ≡ true → agrees (record { claim = (keeps i small is).claim; end_us = (keeps i small is).end % 2 ^ 32 }) (claim_kept (line_at (settled clock lines) (0 + j)).frame) ≡ true
+      agree_at : (x : KeptClaim) (i : ℕ) (small : i < 5) (is : whole i ≡ true) → i ≡ first.i → (j : ℕ) → j < 5 → whole (0 + j) ≡ true → agrees window (record { claim = (keeps i small is).claim; end_us = (keeps i small is).end % 2 ^ 32 }) (claim_kept (line_at (settled clock lines) (0 + j)).frame) ≡ true
       agree_at x i small is same j low so =
           let there : 0 + j ≡ j = omega arith in
           let here : 0 + first.i ≡ i = omega (arith, same) in
@@ -222,23 +227,30 @@ module _ (t : TimelineValue) (d : ℕ) (edges : ℕ → ℕ) (quartz : IsQuartz 
           let least = first.least j low so in
           let e1 : ends (0 + first.i) ≡ ends i = ap ends here in
           let e2 : ends (0 + j) ≡ ends j = ap ends there in
-          subst (λ (k : ℕ). agrees (record { claim = (keeps i small is).claim; end_us = (keeps i small is).end % 2 ^ 32 }) (claim_kept (line_at (settled clock lines) k).frame) ≡ true) (sym there)
+          subst (λ (k : ℕ). agrees window (record { claim = (keeps i small is).claim; end_us = (keeps i small is).end % 2 ^ 32 }) (claim_kept (line_at (settled clock lines) k).frame) ≡ true) (sym there)
           (agree i j small low is so' (omega (arith, least, e1, e2)))
 
-module _ (IsTrue : ℕ → List Pulse → Type 0) (t : TimelineValue) (d : ℕ) (edges : ℕ → ℕ) (quartz : IsQuartz d edges) (new : Keeping) (start : ℕ) (begun : AreLinesAt new new (λ i. []) start start) (truly : TellAlwaysTruly IsTrue new.rules t edges 549 549)
+module _ (IsTrue : ℕ → List Pulse → Type 0) (t : TimelineValue) (edges : ℕ → ℕ) (new : Keeping) (quartz : IsQuartz new.clock.drift_us edges) (start : ℕ) (begun : AreLinesAt new new (λ i. []) start start) (truly : TellAlwaysTruly IsTrue new.clock.within.us new.clock.drift_us new.rules t edges 0 0)
     (m : ℕ) (some : 1 ≤ m) (older : List Call) (told : ℕ) (risen : HaveRisen told older) (past : told + 11000 < edges m) (calls : List Call) (now : ℕ) (order : AreInOrder start new.clock.redundancy (Tick now ∷ calls)) (upto : now ≤ edges m + 98000)
-    (whole : ℕ → Bool) (many : f_of new.clock.redundancy < count_by whole (range_with_len 0 5)) (keeps : (i : ℕ) (small : i < 5) → whole i ≡ true → Keeps t d edges quartz new start begun i small m older told risen past calls) where
+    (whole : ℕ → Bool) (many : f_of new.clock.redundancy < count_by whole (range_with_len 0 5)) (keeps : (i : ℕ) (small : i < 5) → whole i ≡ true → Keeps t new.clock.drift_us edges quartz new start begun i small m older told risen past calls) where
+  abbrev heard_lines : Lines
+  heard_lines = (after_calls new calls).state.lines
+
+  abbrev IsHeard : Type 0
+  IsHeard = AreHeardTruly (IsTrue now) new.rules (f_of new.clock.redundancy) now heard_lines (λ i. pulses_on i calls)
+
   -- what a true line keeps then ends at this edge
-  ready : edges m + 549 ≤ now → (h : AreHeardTruly (IsTrue now) new.rules (f_of new.clock.redundancy) now (after_calls new calls).state.lines (λ i. pulses_on i calls)) → AreReady (IsTrue now) new.rules t edges 549 549 (f_of new.clock.redundancy) now (after_calls new calls).state.lines (λ i. pulses_on i calls) (truly now) h
+  ready : edges m + vote_us new.clock.within.us new.clock.drift_us ≤ now → (h : IsHeard) → AreReady (IsTrue now) new.rules t new.clock edges quartz 0 0 (omega arith) now heard_lines (λ i. pulses_on i calls) (truly now) h
   ready from h i low right y end is frame ahead soon keeps =
       let near = truly now end (pulses_on i calls) y.claim (h.true_lines i low right) frame soon in
-      let same : near.second + 1 ≡ m = one_edge d edges quartz (near.second + 1) m (omega (arith, near.near.least, ahead, upto)) (omega (arith, near.near.most, soon, from)) in
+      let few = new.clock.within.few in
+      let same : near.second + 1 ≡ m = one_edge new.clock.drift_us edges quartz (near.second + 1) m (omega (arith, near.near.least, ahead, upto, few, quartz.few)) (omega (arith, near.near.most, soon, from, few, quartz.few)) in
       let here : edges (near.second + 1) ≡ edges m = ap edges same in
-      (omega (arith, near.near.most, here, from), omega (arith, near.near.least, here, upto))
+      (omega (arith, near.near.most, here, from), omega (arith, near.near.least, here, upto, few, quartz.few))
 
-  pub has_vote : edges m + 549 ≤ now → AreTrueLately IsTrue (f_of new.clock.redundancy) now calls → (v : KeptClaim) × (vote_at (after_calls new calls) (now % 2 ^ 32) ≡ Some v)
+  pub has_vote : edges m + vote_us new.clock.within.us new.clock.drift_us ≤ now → AreTrueLately IsTrue (f_of new.clock.redundancy) now calls → (v : Vote) × (vote_at (after_calls new calls) (now % 2 ^ 32) ≡ Some v)
   has_vote from lately =
-      let h = heard_truly IsTrue t edges 549 549 new start begun calls now order lately in
-      let x = some_agree t d edges quartz new start begun m some older told risen past calls now upto whole many keeps (λ i small is. (let k = keeps i small is in omega (arith, k.is, ended t d edges quartz new start begun i small m older told risen past calls now order))) in
-      let same = ap (λ (c : ClockRules). if_come (now % 2 ^ 32) (agreed (f_of c.redundancy) (settled (now % 2 ^ 32) (after_calls new calls).state.lines))) (lines_after new start begun calls now order).same.clock in
-      (x.0, same ∙ vote_comes (IsTrue now) new.rules t edges 549 549 (f_of new.clock.redundancy) now (after_calls new calls).state.lines (λ i. pulses_on i calls) (truly now) h (ready from h) x.0 x.1)
+      let h = heard_truly IsTrue t edges 0 0 new start begun calls now order lately in
+      let v = some_agree t new.clock.drift_us edges quartz new start begun m some older told risen past calls now upto whole many keeps (λ i small is. (let k = keeps i small is in omega (arith, k.is, ended t new.clock.drift_us edges quartz new start begun i small m older told risen past calls now order))) in
+      let same = ap (λ (c : ClockRules). if_come (now % 2 ^ 32) (agreed c (settled (now % 2 ^ 32) heard_lines))) (lines_after new start begun calls now order).same.clock in
+      (v.0, same ∙ vote_comes (IsTrue now) new.rules t new.clock edges quartz 0 0 (omega arith) now heard_lines (λ i. pulses_on i calls) (truly now) h (ready from h) v.0 v.1)

@@ -12,7 +12,7 @@ use Rattle.irig_frame.specs.Symbols.{symbol_of}
 use Rattle.irig_frame.specs.FieldTable.{is_marker_place}
 use Rattle.irig_frame.specs.Decoder.{IsRight, Reads}
 use Rattle.irig_sync.specs.Lines.{Pulse, pulse_at, AreOnTime, IsTimeOf, IsTrueLine, symbols_of_last}
-use Rattle.irig_sync.specs.Edges.{element_at, second_long, IsSteady, IsClock}
+use Rattle.irig_sync.specs.Edges.{element_at, second_long, element_drift, IsClock}
 use Rattle.irig_sync.specs.FaultyLines.{IsPulseOf, ArePulsesBefore}
 use Rattle.irig_sync.proofs.LineLaws.{on_time_is}
 use Rattle.irig_sync.proofs.EdgeLaws.{far_apart, two_apart}
@@ -23,9 +23,11 @@ use Rattle.irig_time.specs.declared.claim.Claim.{Claim}
 use Rattle.irig_time.specs.Carries.{Carries}
 use Rattle.irig_time.specs.Timelines.{TimelineValue}
 use Rattle.irig_port.proofs.FaultLaws.{odd_place, first_odd, second_odd, odd_at, misplaced, marker_at}
+use Rattle.irig_timekeeper.specs.declared.within.Within.{Within}
+use Rattle.irig_timekeeper.specs.Exactness.{end_off_us}
 use Rattle.irig_timekeeper.specs.Edges.{IsQuartz, IsTrueNear}
 use Rattle.irig_timekeeper.specs.Lines.{IsLastBefore, IsFrameOf, StandButForOne, IsCheckedLineOf, RoseBefore, HasOneFaultInPlace, RoseLately, IsTrueButForFaults, IsTrueOrFaulty}
-use Rattle.irig_timekeeper.proofs.LineLaws.{true_lately}
+use Rattle.irig_timekeeper.proofs.LineLaws.{clock_of, true_lately}
 use Rattle.irig_timekeeper.proofs.LifeLaws.{TellAlwaysTruly}
 
 -- ---- one of some pulses
@@ -72,8 +74,8 @@ symbol_at n i j ps few e = slice_get-get_or (symbols_of_last n ps) i Bad (omega 
 
 -- ---- a hundred pulses
 
-module _ (line : ℕ → Symbol) (edges : ℕ → ℕ) where
-  before_at : (k j : ℕ) (ps : List Pulse) → ArePulsesBefore line edges 450 k ps → j < length ps → (e : ℕ) × (e + suc j ≡ k) × IsPulseOf line edges 450 e (nth ps j)
+module _ (within : Within) (line : ℕ → Symbol) (edges : ℕ → ℕ) where
+  before_at : (k j : ℕ) (ps : List Pulse) → ArePulsesBefore line edges within.us k ps → j < length ps → (e : ℕ) × (e + suc j ≡ k) × IsPulseOf line edges within.us e (nth ps j)
   before_at k j [] h less = absurd (omega (arith, less))
   before_at zero j (p ∷ ps) h less = absurd h
   before_at (suc k) zero (p ∷ ps) h less = (k, omega arith, h.0)
@@ -81,11 +83,12 @@ module _ (line : ℕ → Symbol) (edges : ℕ → ℕ) where
 
   -- the pulse is of the element so many before the last
   abbrev IsBack : ℕ → ℕ → Pulse → Type 0
-  IsBack last j p = (e : ℕ) × (e + j ≡ last) × IsPulseOf line edges 450 e p
+  IsBack last j p = (e : ℕ) × (e + j ≡ last) × IsPulseOf line edges within.us e p
 
-  -- an element behind the newest pulse lies so near the end of the last element's frame
+  -- an element behind the newest pulse lies so near the end of the last element's frame: two pulses in
+  -- place of its last two may rise 1 ms early each, and one 1 ms late
   abbrev IsNewest : ℕ → ℕ → Pulse → Type 0
-  IsNewest d last p = (edges (last / 100 + 1) ≤ p.rise + 10000 + 2449 + d) × (p.rise + 10000 ≤ edges (last / 100 + 1) + 1448 + d)
+  IsNewest d last p = (edges (last / 100 + 1) ≤ p.rise + 10000 + (1999 + within.us + element_drift (3 * d))) × (p.rise + 10000 ≤ edges (last / 100 + 1) + (998 + within.us + element_drift (2 * d)))
 
   -- but for one, or for two at the beginning or the end, a hundred pulses are of elements in a row
   record AreButForOne (d : ℕ) (ps : List Pulse) : Type 0 where
@@ -96,7 +99,7 @@ module _ (line : ℕ → Symbol) (edges : ℕ → ℕ) where
     beside : (other ≡ odd) ⊎ (((odd ≡ 1) × (other ≡ 0)) ⊎ ((odd ≡ 98) × (other ≡ 99)))
     newest : last % 100 ≡ 99 → IsNewest d last (nth ps 0)
 
-  module _ (d : ℕ) (steady : IsSteady d edges) where
+  module _ (d : ℕ) (steady : IsQuartz d edges) where
     -- the time of the 99th element of a frame, or of the 98th or the 97th
     in_frame : (last e i : ℕ) → e + i ≡ last → i ≤ 99 → last % 100 ≡ 99 → element_at edges e ≡ edges (last / 100) + second_long edges (last / 100) * (99 - i) / 100
     in_frame last e i at few end =
@@ -108,24 +111,24 @@ module _ (line : ℕ → Symbol) (edges : ℕ → ℕ) where
     exact last p is end =
         let time = is.2.0 in
         let at = in_frame last is.0 0 is.1 (omega arith) end in
-        (omega (arith, at, time.0, steady.most (last / 100)), omega (arith, at, time.1, steady.least (last / 100)))
+        (omega (arith, at, time.0, steady.steady.most (last / 100), steady.few, within.some), omega (arith, at, time.1, steady.steady.least (last / 100), steady.few, within.some))
 
     -- what stands in place of the last of a frame, or of the last two
-    one_new : (e last : ℕ) (p q : Pulse) → e + 1 ≡ last → IsTimeOf edges 450 e q.rise → (q.rise + 9000 ≤ p.rise) × (p.rise < q.rise + 11000) → last % 100 ≡ 99 → IsNewest d last p
+    one_new : (e last : ℕ) (p q : Pulse) → e + 1 ≡ last → IsTimeOf edges within.us e q.rise → (q.rise + 9000 ≤ p.rise) × (p.rise < q.rise + 11000) → last % 100 ≡ 99 → IsNewest d last p
     one_new e last p q is time gap end =
         let at = in_frame last e 1 is (omega arith) end in
-        (omega (arith, at, time.0, gap.0, steady.most (last / 100)), omega (arith, at, time.1, gap.1, steady.least (last / 100)))
+        (omega (arith, at, time.0, gap.0, steady.steady.most (last / 100), steady.few, within.some), omega (arith, at, time.1, gap.1, steady.steady.least (last / 100), steady.few, within.some))
 
-    two_new : (e last : ℕ) (p q r : Pulse) → e + 2 ≡ last → IsTimeOf edges 450 e r.rise → q.rise + 9000 ≤ p.rise → r.rise + 9000 ≤ q.rise → p.rise < element_at edges last + 450 → last % 100 ≡ 99 → IsNewest d last p
+    two_new : (e last : ℕ) (p q r : Pulse) → e + 2 ≡ last → IsTimeOf edges within.us e r.rise → q.rise + 9000 ≤ p.rise → r.rise + 9000 ≤ q.rise → p.rise < element_at edges last + within.us → last % 100 ≡ 99 → IsNewest d last p
     two_new e last p q r is time first second most end =
         let at = in_frame last e 2 is (omega arith) end in
         let here = in_frame last last 0 (omega arith) (omega arith) end in
-        (omega (arith, at, time.0, first, second, steady.most (last / 100)), omega (arith, here, most, steady.least (last / 100)))
+        (omega (arith, at, time.0, first, second, steady.steady.most (last / 100), steady.few, within.some), omega (arith, here, most, steady.steady.least (last / 100), steady.few, within.some))
 
-  module _ (d : ℕ) (steady : IsQuartz d edges) (k : ℕ) (after fault before : List Pulse) (later : ArePulsesBefore line edges 450 (length after + suc k) after) (earlier : ArePulsesBefore line edges 450 k before)
+  module _ (d : ℕ) (steady : IsQuartz d edges) (k : ℕ) (after fault before : List Pulse) (later : ArePulsesBefore line edges within.us (length after + suc k) after) (earlier : ArePulsesBefore line edges within.us k before)
       (on : AreOnTime 100 (after ++ (fault ++ before))) (many : 100 ≤ length (after ++ (fault ++ before))) where
-    clock : IsClock d 450 edges
-    clock = record { steady = steady.steady; near = omega (arith, steady.few) }
+    clock : IsClock d within.us edges
+    clock = clock_of within d edges steady
 
     abbrev all : List Pulse
     all = after ++ (fault ++ before)
@@ -136,14 +139,14 @@ module _ (line : ℕ → Symbol) (edges : ℕ → ℕ) where
     newer : (j : ℕ) → j < length after → IsBack (k + length after) j (nth all j)
     newer j less =
         let it = before_at (length after + suc k) j after later less in
-        (it.0, omega (arith, it.1), subst (IsPulseOf line edges 450 it.0) (sym (get_or_append_left after (fault ++ before) (pulse_at 0 0) j less)) it.2)
+        (it.0, omega (arith, it.1), subst (IsPulseOf line edges within.us it.0) (sym (get_or_append_left after (fault ++ before) (pulse_at 0 0) j less)) it.2)
 
-    older : (j m : ℕ) → j ≡ length after + (length fault + m) → m < length before → (e : ℕ) × (e + suc m ≡ k) × IsPulseOf line edges 450 e (nth all j)
+    older : (j m : ℕ) → j ≡ length after + (length fault + m) → m < length before → (e : ℕ) × (e + suc m ≡ k) × IsPulseOf line edges within.us e (nth all j)
     older j m at less =
         let it = before_at k m before earlier less in
         let same : nth all j ≡ nth before m =
         ap (nth all) at ∙ get_or-append-add after (fault ++ before) (length fault + m) (pulse_at 0 0) ∙ get_or-append-add fault before m (pulse_at 0 0) in
-        (it.0, it.1, subst (IsPulseOf line edges 450 it.0) (sym same) it.2)
+        (it.0, it.1, subst (IsPulseOf line edges within.us it.0) (sym same) it.2)
 
     -- all hundred came behind the fault
     past : 100 ≤ length after → AreButForOne d all
@@ -153,7 +156,7 @@ module _ (line : ℕ → Symbol) (edges : ℕ → ℕ) where
       other = 100;
       rest = λ j less n m. newer j (omega (arith, less, long));
       beside = inl refl;
-      newest = exact d steady.steady (k + length after) (nth all 0) (newer 0 (omega (arith, long)));
+      newest = exact d steady (k + length after) (nth all 0) (newer 0 (omega (arith, long)));
     }
 
     -- nothing has come since a pulse was lost
@@ -164,7 +167,7 @@ module _ (line : ℕ → Symbol) (edges : ℕ → ℕ) where
       other = 100;
       rest = λ j less n m. back j less;
       beside = inl refl;
-      newest = exact d steady.steady (k - 1) (nth all 0) (back 0 (omega arith));
+      newest = exact d steady (k - 1) (nth all 0) (back 0 (omega arith));
     }
       where
         back : (j : ℕ) → j < 100 → IsBack (k - 1) j (nth all j)
@@ -176,7 +179,7 @@ module _ (line : ℕ → Symbol) (edges : ℕ → ℕ) where
         let new = newer a (omega (arith, at)) in
         let old = older (suc a) 0 (omega (arith, at, none)) (omega (arith, at, none, few, total, many)) in
         let gap = apart_at 100 a all on few in
-        let far = far_apart d 450 edges clock old.0 new.0 (nth all (suc a)).rise (nth all a).rise old.2.0 new.2.0 (omega (arith, old.1, new.1, at)) in
+        let far = far_apart d within.us edges clock old.0 new.0 (nth all (suc a)).rise (nth all a).rise old.2.0 new.2.0 (omega (arith, old.1, new.1, at)) in
         omega (arith, far, gap.1)
 
     -- one pulse stands in the element's place
@@ -190,8 +193,8 @@ module _ (line : ℕ → Symbol) (edges : ℕ → ℕ) where
       newest = λ end. elim (cases_eq (length after) 0) [
         | inl new ↦
             let it = older 1 0 (omega (arith, one, new)) (omega (arith, one, new, total, many)) in
-            one_new d steady.steady it.0 (k + length after) (nth all 0) (nth all 1) (omega (arith, it.1, new)) it.2.0 (apart_at 100 0 all on (omega arith)) end
-        | inr old ↦ exact d steady.steady (k + length after) (nth all 0) (newer 0 (omega (arith, old))) end
+            one_new d steady it.0 (k + length after) (nth all 0) (nth all 1) (omega (arith, it.1, new)) it.2.0 (apart_at 100 0 all on (omega arith)) end
+        | inr old ↦ exact d steady (k + length after) (nth all 0) (newer 0 (omega (arith, old))) end
       ];
     }
       where
@@ -216,7 +219,7 @@ module _ (line : ℕ → Symbol) (edges : ℕ → ℕ) where
       other = 99;
       rest = λ j less n m. newer j (let in_after : j < length after = (elim (cases_lt j 99) [ inl low ↦ omega (arith, low, at) | inr high ↦ absurd (n (omega (arith, high, less))) ]) in in_after);
       beside = inl refl;
-      newest = exact d steady.steady (k + length after) (nth all 0) (newer 0 (omega (arith, at)));
+      newest = exact d steady (k + length after) (nth all 0) (newer 0 (omega (arith, at)));
     }
 
     begins : length after ≡ 98 → AreButForOne d all
@@ -226,7 +229,7 @@ module _ (line : ℕ → Symbol) (edges : ℕ → ℕ) where
       other = 99;
       rest = λ j less n m. newer j (elim (cases_lt j 98) [ inl low ↦ omega (arith, low, at) | inr high ↦ elim (cases_lt j 99) [ inl low ↦ absurd (n (omega (arith, high, low))) | inr past ↦ absurd (m (omega (arith, past, less))) ] ]);
       beside = inr (inr (refl, refl));
-      newest = exact d steady.steady (k + length after) (nth all 0) (newer 0 (omega (arith, at)));
+      newest = exact d steady (k + length after) (nth all 0) (newer 0 (omega (arith, at)));
     }
 
     both : (a : ℕ) → length after ≡ suc a → length fault ≡ 2 → suc a < 98 → ⊥
@@ -237,11 +240,11 @@ module _ (line : ℕ → Symbol) (edges : ℕ → ℕ) where
         let second = apart_at 100 (suc a) all on (omega (arith, few)) in
         let third = apart_at 100 (suc (suc a)) all on (omega (arith, few)) in
         let two_on : new.0 ≡ suc (suc old.0) = omega (arith, old.1, new.1, at) in
-        let time : IsTimeOf edges 450 (suc (suc old.0)) (nth all a).rise = subst (λ (e : ℕ). IsTimeOf edges 450 e (nth all a).rise) two_on new.2.0 in
-        let near = two_apart d 450 edges clock old.0 (nth all (suc (suc (suc a)))).rise (nth all a).rise old.2.0 time in
+        let time : IsTimeOf edges within.us (suc (suc old.0)) (nth all a).rise = subst (λ (e : ℕ). IsTimeOf edges within.us e (nth all a).rise) two_on new.2.0 in
+        let near = two_apart d within.us edges clock old.0 (nth all (suc (suc (suc a)))).rise (nth all a).rise old.2.0 time in
         omega (arith, near, first.0, second.0, third.0)
 
-    ends : length after ≡ 0 → length fault ≡ 2 → (nth all 0).rise < element_at edges (k + 1) + 450 → AreButForOne d all
+    ends : length after ≡ 0 → length fault ≡ 2 → (nth all 0).rise < element_at edges (k + 1) + within.us → AreButForOne d all
     ends at two most = record {
       last = k + 1;
       odd = 1;
@@ -258,13 +261,13 @@ module _ (line : ℕ → Symbol) (edges : ℕ → ℕ) where
           let it = older 2 0 (omega (arith, at, two)) (omega (arith, at, two, total, many)) in
           let first = apart_at 100 0 all on (omega arith) in
           let second = apart_at 100 1 all on (omega arith) in
-          two_new d steady.steady it.0 (k + 1) (nth all 0) (nth all 1) (nth all 2) (omega (arith, it.1)) it.2.0 first.0 second.0 most end;
+          two_new d steady it.0 (k + 1) (nth all 0) (nth all 1) (nth all 2) (omega (arith, it.1)) it.2.0 first.0 second.0 most end;
     }
 
   -- ---- by what is at fault
 
-  module _ (d : ℕ) (steady : IsQuartz d edges) (k : ℕ) (before : List Pulse) (earlier : ArePulsesBefore line edges 450 k before) where
-    by_fault : (after fault : List Pulse) → length fault ≤ 2 → RoseBefore (element_at edges (k + 1) + 450) fault → ArePulsesBefore line edges 450 (length after + suc k) after
+  module _ (d : ℕ) (steady : IsQuartz d edges) (k : ℕ) (before : List Pulse) (earlier : ArePulsesBefore line edges within.us k before) where
+    by_fault : (after fault : List Pulse) → length fault ≤ 2 → RoseBefore (element_at edges (k + 1) + within.us) fault → ArePulsesBefore line edges within.us (length after + suc k) after
         → AreOnTime 100 (after ++ (fault ++ before)) → 100 ≤ length (after ++ (fault ++ before)) → length after < 100 → AreButForOne d (after ++ (fault ++ before))
     by_fault [] [] few rose later on many low = none d steady k [] [] before later earlier on many refl refl
     by_fault (p ∷ a) [] few rose later on many low = absurd (lost d steady k (p ∷ a) [] before later earlier on many (length a) (omega arith) refl (omega (arith, low)))
@@ -279,7 +282,7 @@ module _ (line : ℕ → Symbol) (edges : ℕ → ℕ) where
     ]
     by_fault after (y ∷ (x ∷ (w ∷ more))) few rose later on many low = absurd (omega (arith, few))
 
-  fits : (d : ℕ) → IsQuartz d edges → (ps : List Pulse) → HasOneFaultInPlace line edges ps → AreOnTime 100 ps → AreButForOne d ps
+  fits : (d : ℕ) → IsQuartz d edges → (ps : List Pulse) → HasOneFaultInPlace within.us line edges ps → AreOnTime 100 ps → AreButForOne d ps
   fits d steady ps is on =
       let h = is.one in
       let parts = h.parts in
@@ -293,7 +296,7 @@ module _ (line : ℕ → Symbol) (edges : ℕ → ℕ) where
 
 -- ---- a frame
 
-module _ (line : ℕ → Symbol) (edges : ℕ → ℕ) (right : IsTrueLine line) (ps : List Pulse) (d : ℕ) (is : AreButForOne line edges d ps) (many : 100 ≤ length ps) (coded : Coded) (reads : Reads (symbols_of_last 100 ps) coded) where
+module _ (within : Within) (line : ℕ → Symbol) (edges : ℕ → ℕ) (right : IsTrueLine line) (ps : List Pulse) (d : ℕ) (is : AreButForOne within line edges d ps) (many : 100 ≤ length ps) (coded : Coded) (reads : Reads (symbols_of_last 100 ps) coded) where
   abbrev heard : List Symbol
   heard = symbols_of_last 100 ps
 
@@ -373,18 +376,18 @@ lately now (suc n) p (q ∷ ps) on soon =
     let gap = (on_time_is (p.rise - q.rise)).0 on.0 in
     (omega (arith, soon), lately now n q ps on.1 (omega (arith, soon, gap.0, gap.1)))
 
-module _ (rules : Rules) (t : TimelineValue) (d : ℕ) (edges : ℕ → ℕ) (steady : IsQuartz d edges) where
-  framed : (line : ℕ → Symbol) (end : ℕ) (p : Pulse) (ps : List Pulse) (claim : Claim) → IsCheckedLineOf rules t line → HasOneFaultInPlace line edges (take 100 (p ∷ ps)) → AreOnTime 100 (p ∷ ps)
-      → Carries rules (symbols_of_last 100 (p ∷ ps)) claim → end ≡ p.rise + 10000 → IsTrueNear t edges (2449 + d) (1448 + d) end claim
+module _ (within : Within) (rules : Rules) (t : TimelineValue) (d : ℕ) (edges : ℕ → ℕ) (steady : IsQuartz d edges) where
+  framed : (line : ℕ → Symbol) (end : ℕ) (p : Pulse) (ps : List Pulse) (claim : Claim) → IsCheckedLineOf rules t line → HasOneFaultInPlace within.us line edges (take 100 (p ∷ ps)) → AreOnTime 100 (p ∷ ps)
+      → Carries rules (symbols_of_last 100 (p ∷ ps)) claim → end ≡ p.rise + 10000 → IsTrueNear t edges (1999 + within.us + element_drift (3 * d)) (998 + within.us + element_drift (2 * d)) end claim
   framed line end p ps claim checked one on carries at =
       let hundred : List Pulse = take 100 (p ∷ ps) in
       let on_time = on-take 100 (p ∷ ps) on in
-      let is = fits line edges d steady hundred one on_time in
+      let is = fits within line edges d steady hundred one on_time in
       let many = many_on 98 hundred on_time in
       let same = last-take 100 (p ∷ ps) in
       let carried = subst (λ (s : List Symbol). Carries rules s claim) (sym same) carries in
       let f : ℕ = is.last / 100 in
-      let end_of : is.last % 100 ≡ 99 = whole line edges checked.right hundred d is many carried.coded carried.reads in
+      let end_of : is.last % 100 ≡ 99 = whole within line edges checked.right hundred d is many carried.coded carried.reads in
       let newest = is.newest end_of in
       record {
         second = f;
@@ -392,32 +395,32 @@ module _ (rules : Rules) (t : TimelineValue) (d : ℕ) (edges : ℕ → ℕ) (st
           least = omega (arith, at, newest.0);
           most = omega (arith, at, newest.1);
         };
-        truth = checked.truth f (99 - is.odd) (symbols_of_last 100 hundred) claim (stand line edges checked.right hundred d is many carried.coded carried.reads) carried;
+        truth = checked.truth f (99 - is.odd) (symbols_of_last 100 hundred) claim (stand within line edges checked.right hundred d is many carried.coded carried.reads) carried;
       }
 
-  ended : (line : ℕ → Symbol) (now end : ℕ) (run : List Pulse) (claim : Claim) → IsCheckedLineOf rules t line → (RoseLately now (take 100 run) → HasOneFaultInPlace line edges (take 100 run)) → AreOnTime 100 run
-      → IsLastBefore end run → Carries rules (symbols_of_last 100 run) claim → now ≤ end + 100000 → IsTrueNear t edges (2449 + d) (1448 + d) end claim
+  ended : (line : ℕ → Symbol) (now end : ℕ) (run : List Pulse) (claim : Claim) → IsCheckedLineOf rules t line → (RoseLately now (take 100 run) → HasOneFaultInPlace within.us line edges (take 100 run)) → AreOnTime 100 run
+      → IsLastBefore end run → Carries rules (symbols_of_last 100 run) claim → now ≤ end + 100000 → IsTrueNear t edges (1999 + within.us + element_drift (3 * d)) (998 + within.us + element_drift (2 * d)) end claim
   ended line now end [] claim checked few on at carries soon = absurd at
   ended line now end (p ∷ ps) claim checked few on at carries soon = framed line end p ps claim checked (few (lately now 99 p ps on (omega (arith, at, soon)))) on carries at
 
-  pub faults_are_true : (now end : ℕ) (pulses : List Pulse) (claim : Claim) → IsTrueButForFaults rules t edges now pulses → IsFrameOf rules claim end pulses → now ≤ end + 100000 → IsTrueNear t edges (2449 + d) (1448 + d) end claim
+  pub faults_are_true : (now end : ℕ) (pulses : List Pulse) (claim : Claim) → IsTrueButForFaults within.us rules t edges now pulses → IsFrameOf rules claim end pulses → now ≤ end + 100000 → IsTrueNear t edges (1999 + within.us + element_drift (3 * d)) (998 + within.us + element_drift (2 * d)) end claim
   faults_are_true now end pulses claim is frame soon = ended is.line now end (drop frame.late pulses) claim is.is_line (is.few frame.late) frame.on_time frame.last frame.carries soon
 
--- with any steady counter's bounds
-pub faults_tell_truly : (rules : Rules) (t : TimelineValue) (d : ℕ) (edges : ℕ → ℕ) → IsQuartz d edges → TellAlwaysTruly (IsTrueButForFaults rules t edges) rules t edges 2549 1549
-faults_tell_truly rules t d edges steady now end pulses claim is frame soon =
-    let near = faults_are_true rules t d edges steady now end pulses claim is frame soon in
+-- so they tell truly but for 2.002 ms before an edge and 1 ms behind it
+pub faults_tell_truly : (within : Within) (rules : Rules) (t : TimelineValue) (d : ℕ) (edges : ℕ → ℕ) → IsQuartz d edges → TellAlwaysTruly (IsTrueButForFaults within.us rules t edges) within.us d rules t edges 2002 1000
+faults_tell_truly within rules t d edges steady now end pulses claim is frame soon =
+    let near = faults_are_true within rules t d edges steady now end pulses claim is frame soon in
     record {
       second = near.second;
-      near = record { least = omega (arith, near.near.least, steady.few); most = omega (arith, near.near.most, steady.few) };
+      near = record { least = omega (arith, near.near.least, steady.few, within.some); most = omega (arith, near.near.most, steady.few, within.some) };
       truth = near.truth;
     }
 
 -- the same of lines of which any pulses may be lost, or which may have faults
-pub either_tells_truly : (rules : Rules) (t : TimelineValue) (d : ℕ) (edges : ℕ → ℕ) → IsQuartz d edges → TellAlwaysTruly (IsTrueOrFaulty rules t edges) rules t edges 2549 1549
-either_tells_truly rules t d edges steady now end pulses claim (inr is) frame soon = faults_tell_truly rules t d edges steady now end pulses claim is frame soon
-either_tells_truly rules t d edges steady now end pulses claim (inl is) frame soon =
-    let near = true_lately rules t d edges now end pulses claim steady is frame soon in
+pub either_tells_truly : (within : Within) (rules : Rules) (t : TimelineValue) (d : ℕ) (edges : ℕ → ℕ) → IsQuartz d edges → TellAlwaysTruly (IsTrueOrFaulty within.us rules t edges) within.us d rules t edges 2002 1000
+either_tells_truly within rules t d edges steady now end pulses claim (inr is) frame soon = faults_tell_truly within rules t d edges steady now end pulses claim is frame soon
+either_tells_truly within rules t d edges steady now end pulses claim (inl is) frame soon =
+    let near = true_lately within rules t d edges now end pulses claim steady is frame soon in
     record {
       second = near.second;
       near = record { least = omega (arith, near.near.least); most = omega (arith, near.near.most) };
@@ -441,27 +444,27 @@ same_but own q s whole long is =
           get_or_from_slice_get s i (get_or own i Bad) Bad (is i low away ∙ own_at) ∙ sym (get_or_from_slice_get (slice_set own q x) i (get_or own i Bad) Bad there)
     ]))
 
-module _ (line : ℕ → Symbol) (edges : ℕ → ℕ) where
-  pub dropped : (n k : ℕ) (ps : List Pulse) → ArePulsesBefore line edges 450 k ps → (j : ℕ) × ArePulsesBefore line edges 450 j (drop n ps)
+module _ (within : ℕ) (line : ℕ → Symbol) (edges : ℕ → ℕ) where
+  pub dropped : (n k : ℕ) (ps : List Pulse) → ArePulsesBefore line edges within k ps → (j : ℕ) × ArePulsesBefore line edges within j (drop n ps)
   dropped zero k ps are = (k, are)
   dropped (suc n) k [] are = (k, tt)
   dropped (suc n) zero (p ∷ ps) are = absurd are
   dropped (suc n) (suc k) (p ∷ ps) are = dropped n k ps are.1
 
-  pub taken : (n k : ℕ) (ps : List Pulse) → ArePulsesBefore line edges 450 k ps → ArePulsesBefore line edges 450 k (take n ps)
+  pub taken : (n k : ℕ) (ps : List Pulse) → ArePulsesBefore line edges within k ps → ArePulsesBefore line edges within k (take n ps)
   taken zero k ps are = tt
   taken (suc n) k [] are = tt
   taken (suc n) zero (p ∷ ps) are = are
   taken (suc n) (suc k) (p ∷ ps) are = (are.0, taken n k ps are.1)
 
   -- nothing is at fault
-  pub faultless : (k : ℕ) (ps : List Pulse) → ArePulsesBefore line edges 450 k ps → HasOneFaultInPlace line edges ps
+  pub faultless : (k : ℕ) (ps : List Pulse) → ArePulsesBefore line edges within k ps → HasOneFaultInPlace within line edges ps
   faultless k ps are = record {
     one = record { element = k; after = []; fault = []; before = ps; parts = refl; few = omega arith; later = tt; earlier = are };
     in_place = tt;
   }
 
-  pub whole_is_true : (rules : Rules) (t : TimelineValue) (now k : ℕ) (pulses : List Pulse) → IsCheckedLineOf rules t line → ArePulsesBefore line edges 450 k pulses → IsTrueButForFaults rules t edges now pulses
+  pub whole_is_true : (rules : Rules) (t : TimelineValue) (now k : ℕ) (pulses : List Pulse) → IsCheckedLineOf rules t line → ArePulsesBefore line edges within k pulses → IsTrueButForFaults within rules t edges now pulses
   whole_is_true rules t now k pulses checked are = record {
     line = line;
     is_line = checked;

@@ -25,6 +25,8 @@ use Rattle.irig_timekeeper.specs.declared.lines.KeptFrame.{KeptFrame}
 use Rattle.irig_timekeeper.specs.declared.lines.KeptClaim.{KeptClaim}
 use Rattle.irig_timekeeper.specs.declared.lines.Line.{Line}
 use Rattle.irig_timekeeper.specs.declared.lines.Lines.{Lines}
+use Rattle.irig_timekeeper.specs.declared.lines.Vote.{Vote}
+use Rattle.irig_timekeeper.specs.declared.within.Within.{Within}
 use Rattle.irig_timekeeper.specs.declared.clock.ClockState.{ClockState}
 use Rattle.irig_timekeeper.specs.Counting.{is_late, edges_own}
 use Rattle.irig_timekeeper.specs.Steps.{is_pulse, line_at, line_heard, frame_behind, still_kept, settled, claim_told, claim_kept}
@@ -37,20 +39,21 @@ use Rattle.irig_timekeeper.proofs.LifeLaws.{AreLinesAt, IsLineAt, line_soon, lin
 use Rattle.irig_timekeeper.proofs.WholeLaws.{whole_of, AreSorted, whole_here, not_whole, whole_apart, whole_by}
 use Rattle.irig_timekeeper.proofs.OrderLaws.{five, own_pulse, others_pulse}
 use Rattle.irig_timekeeper.specs.Edges.{IsQuartz}
+use Rattle.irig_timekeeper.specs.Exactness.{end_off_us}
 use Rattle.irig_timekeeper.specs.Announcing.{LeavesTheFirst, IsWhole}
 use Rattle.irig_timekeeper.proofs.LineLaws.{clock_of}
 
 -- ---- the places of a whole frame
 
-module _ (d : ℕ) (edges : ℕ → ℕ) (quartz : IsQuartz d edges) (line : ℕ → Symbol) (right : IsTrueLine line) (f : ℕ) (rest : List Pulse) (leaves : LeavesTheFirst (edges f) rest) where
-  marker_of : (k : ℕ) (p : Pulse) → IsPulseOf line edges 450 k p → is_marker p.width ≡ is_marker_place (k % 100)
+module _ (within : Within) (d : ℕ) (edges : ℕ → ℕ) (quartz : IsQuartz d edges) (line : ℕ → Symbol) (right : IsTrueLine line) (f : ℕ) (rest : List Pulse) (leaves : LeavesTheFirst within.us (edges f) rest) where
+  marker_of : (k : ℕ) (p : Pulse) → IsPulseOf line edges within.us k p → is_marker p.width ≡ is_marker_place (k % 100)
   marker_of k p is = ap is_marker_symbol is.1 ∙ marks line right k
 
   first_marker : is_marker_place 0 ≡ true
   first_marker = refl
 
   -- its first pulse begins it
-  first_place : (p : Pulse) → IsPulseOf line edges 450 (100 * f) p → place_after (p ∷ rest) ≡ 1
+  first_place : (p : Pulse) → IsPulseOf line edges within.us (100 * f) p → place_after (p ∷ rest) ≡ 1
   first_place p is = of rest leaves
     where
       zero_place : 100 * f % 100 ≡ 0
@@ -74,7 +77,7 @@ module _ (d : ℕ) (edges : ℕ → ℕ) (quartz : IsQuartz d edges) (line : ℕ
       late : (g : ℕ) → 11000 ≤ g → is_on_time g ≡ false
       late g h = grind (arith, h)
 
-      of : (rest : List Pulse) → LeavesTheFirst (edges f) rest → place_after (p ∷ rest) ≡ 1
+      of : (rest : List Pulse) → LeavesTheFirst within.us (edges f) rest → place_after (p ∷ rest) ≡ 1
       of [] leaves = ap flag marker
       of (q ∷ qs) leaves =
           ap (λ (b : Bool). place_at (is_on_time (p.rise - q.rise)) b (is_marker q.width) (place_after (q ∷ qs))) marker
@@ -84,10 +87,10 @@ module _ (d : ℕ) (edges : ℕ → ℕ) (quartz : IsQuartz d edges) (line : ℕ
           ])
 
   -- and each goes on
-  next_place : (n : ℕ) → n < 99 → (p q : Pulse) (ps : List Pulse) → IsPulseOf line edges 450 (100 * f + suc n) p → IsPulseOf line edges 450 (100 * f + n) q → place_after (q ∷ ps) ≡ n + 1 → place_after (p ∷ (q ∷ ps)) ≡ suc n + 1
+  next_place : (n : ℕ) → n < 99 → (p q : Pulse) (ps : List Pulse) → IsPulseOf line edges within.us (100 * f + suc n) p → IsPulseOf line edges within.us (100 * f + n) q → place_after (q ∷ ps) ≡ n + 1 → place_after (p ∷ (q ∷ ps)) ≡ suc n + 1
   next_place n low p q ps here before at =
       let next : 100 * f + suc n ≡ suc (100 * f + n) = omega arith in
-      let gap = next_apart d 450 edges (clock_of d edges quartz) (100 * f + n) q.rise p.rise before.0 (subst (λ (k : ℕ). IsTimeOf edges 450 k p.rise) next here.0) in
+      let gap = next_apart d within.us edges (clock_of within d edges quartz) (100 * f + n) q.rise p.rise before.0 (subst (λ (k : ℕ). IsTimeOf edges within.us k p.rise) next here.0) in
       let on : is_on_time (p.rise - q.rise) ≡ true = (on_time_is (p.rise - q.rise)).1 (omega (arith, gap.0), omega (arith, gap.0, gap.1)) in
       let place : (100 * f + n) % 100 ≡ n = omega (arith, low) in
       let place' : (100 * f + suc n) % 100 ≡ (n + 1) % 100 = omega (arith, low) in
@@ -100,41 +103,41 @@ module _ (d : ℕ) (edges : ℕ → ℕ) (quartz : IsQuartz d edges) (line : ℕ
       ∙ ap (place_at true (is_marker_place ((n + 1) % 100)) (is_marker_place n)) at
       ∙ step_at n (omega (arith, low)) ∙ inside
 
-  frame_place : (n : ℕ) → n < 100 → (p : Pulse) (ps : List Pulse) → length ps ≡ n → ArePulsesBefore line edges 450 (suc (100 * f + n)) (p ∷ ps) → place_after (p ∷ (ps ++ rest)) ≡ n + 1
+  frame_place : (n : ℕ) → n < 100 → (p : Pulse) (ps : List Pulse) → length ps ≡ n → ArePulsesBefore line edges within.us (suc (100 * f + n)) (p ∷ ps) → place_after (p ∷ (ps ++ rest)) ≡ n + 1
   frame_place zero low p [] long are =
       let same : 100 * f + 0 ≡ 100 * f = omega arith in
-      first_place p (subst (λ (k : ℕ). IsPulseOf line edges 450 k p) same are.0)
+      first_place p (subst (λ (k : ℕ). IsPulseOf line edges within.us k p) same are.0)
   frame_place zero low p (q ∷ ps) long are = absurd cc
   frame_place (suc n) low p [] long are = absurd cc
   frame_place (suc n) low p (q ∷ ps) long are =
       let next : 100 * f + suc n ≡ suc (100 * f + n) = omega arith in
-      let tail = subst (λ (k : ℕ). ArePulsesBefore line edges 450 k (q ∷ ps)) next are.1 in
+      let tail = subst (λ (k : ℕ). ArePulsesBefore line edges within.us k (q ∷ ps)) next are.1 in
       next_place n (omega (arith, low)) p q (ps ++ rest) are.0 tail.0 (frame_place n (omega (arith, low)) q ps (omega (arith, long)) tail)
 
--- when the frame of the m-th edge ends that came without an offset: each line's does so within 449 us
+-- when the frame of the m-th edge ends that came without an offset: each line's does so less than `within` us off
 abbrev pub ends_at : (ℕ → ℕ) → ℕ → ℕ
 ends_at edges m = edges (m - 1) + second_long edges (m - 1) * 99 / 100 + 10000
 
 -- so the hundredth of a whole frame has that place, and rose an element before the edge
-pub record EndsWhole (edges : ℕ → ℕ) (m : ℕ) (pulses : List Pulse) : Type 0 where
+pub record EndsWhole (within d : ℕ) (edges : ℕ → ℕ) (m : ℕ) (pulses : List Pulse) : Type 0 where
   pub p : Pulse
   pub ps : List Pulse
   pub are : pulses ≡ p ∷ ps
   pub place : place_after (p ∷ ps) ≡ 100
-  pub least : edges m ≤ p.rise + 10000 + 549
-  pub most : p.rise + 10000 ≤ edges m + 549
-  pub close_least : ends_at edges m ≤ p.rise + 10000 + 449
-  pub close_most : p.rise + 10000 ≤ ends_at edges m + 449
+  pub least : edges m ≤ p.rise + 10000 + end_off_us within d
+  pub most : p.rise + 10000 ≤ edges m + end_off_us within d
+  pub close_least : ends_at edges m ≤ p.rise + 10000 + (within - 1)
+  pub close_most : p.rise + 10000 ≤ ends_at edges m + (within - 1)
   pub marker : is_marker p.width ≡ true
 
-pub ends_whole : (limits : Option Limits) (rules : Rules) (t : TimelineValue) (d : ℕ) (edges : ℕ → ℕ) (m : ℕ) (pulses : List Pulse) → IsQuartz d edges → (w : IsWhole limits rules t edges m pulses) → EndsWhole edges m pulses
-ends_whole limits rules t d edges m pulses quartz w = of w.frame w.parts w.hundred w.are
+pub ends_whole : (within : Within) (limits : Option Limits) (rules : Rules) (t : TimelineValue) (d : ℕ) (edges : ℕ → ℕ) (m : ℕ) (pulses : List Pulse) → IsQuartz d edges → (w : IsWhole within.us limits rules t edges m pulses) → EndsWhole within.us d edges m pulses
+ends_whole within limits rules t d edges m pulses quartz w = of w.frame w.parts w.hundred w.are
   where
-    of : (frame : List Pulse) → pulses ≡ frame ++ w.earlier → length frame ≡ 100 → ArePulsesBefore w.line edges 450 (100 * w.f + 100) frame → EndsWhole edges m pulses
+    of : (frame : List Pulse) → pulses ≡ frame ++ w.earlier → length frame ≡ 100 → ArePulsesBefore w.line edges within.us (100 * w.f + 100) frame → EndsWhole within.us d edges m pulses
     of [] parts hundred are = absurd cc
     of (p ∷ ps) parts hundred are =
         let next : 100 * w.f + 100 ≡ suc (100 * w.f + 99) = omega arith in
-        let are' = subst (λ (k : ℕ). ArePulsesBefore w.line edges 450 k (p ∷ ps)) next are in
+        let are' = subst (λ (k : ℕ). ArePulsesBefore w.line edges within.us k (p ∷ ps)) next are in
         let long : length ps ≡ 99 = omega (arith, hundred) in
         let frame : (100 * w.f + 99) / 100 ≡ w.f = omega arith in
         let place : (100 * w.f + 99) % 100 ≡ 99 = omega arith in
@@ -145,12 +148,12 @@ ends_whole limits rules t d edges m pulses quartz w = of w.frame w.parts w.hundr
           p = p;
           ps = ps ++ w.earlier;
           are = parts;
-          place = frame_place d edges quartz w.line w.right w.f w.earlier w.first 99 (omega arith) p ps long are';
-          least = omega (arith, edge, last, are'.0.0.0, quartz.steady.most w.f, quartz.few);
-          most = omega (arith, edge, last, are'.0.0.1, quartz.steady.least w.f, quartz.few);
-          close_least = omega (arith, ends, last, are'.0.0.0);
-          close_most = omega (arith, ends, last, are'.0.0.1);
-          marker = marker_of d edges quartz w.line w.right w.f w.earlier w.first (100 * w.f + 99) p are'.0 ∙ ap is_marker_place place;
+          place = frame_place within d edges quartz w.line w.right w.f w.earlier w.first 99 (omega arith) p ps long are';
+          least = omega (arith, edge, last, are'.0.0.0, quartz.steady.most w.f, within.some);
+          most = omega (arith, edge, last, are'.0.0.1, quartz.steady.least w.f, within.some);
+          close_least = omega (arith, ends, last, are'.0.0.0, within.some);
+          close_most = omega (arith, ends, last, are'.0.0.1, within.some);
+          marker = marker_of within d edges quartz w.line w.right w.f w.earlier w.first (100 * w.f + 99) p are'.0 ∙ ap is_marker_place place;
         }
 
 -- ---- it is kept
@@ -189,7 +192,7 @@ settles k clock e = of (vote_at k clock) e
     either true x y lines p q = p
     either false x y lines p q = q
 
-    of : (o : Option KeptClaim) → o ≡ None → (clock_by k.clock k.table (settled_at k.state clock) clock o).lines ≡ settled clock k.state.lines
+    of : (o : Option Vote) → o ≡ None → (clock_by k.clock k.table (settled_at k.state clock) clock o).lines ≡ settled clock k.state.lines
     of (Some x) e = absurd cc
     of None e = either (edges_own k.state.edge_us clock == 0) _ _ _ refl refl
 
@@ -203,10 +206,10 @@ module _ (t : TimelineValue) (d : ℕ) (edges : ℕ → ℕ) (quartz : IsQuartz 
     pub truth : IsTrueClaim t m claim
     pub end : ℕ
     pub keeps : kept_claim calls ≡ Some (record { claim = claim; end_us = end % 2 ^ 32 })
-    pub least : edges m ≤ end + 549
-    pub most : end ≤ edges m + 549
-    pub close_least : ends_at edges m ≤ end + 449
-    pub close_most : end ≤ ends_at edges m + 449
+    pub least : edges m ≤ end + end_off_us new.clock.within.us d
+    pub most : end ≤ edges m + end_off_us new.clock.within.us d
+    pub close_least : ends_at edges m ≤ end + (new.clock.within.us - 1)
+    pub close_most : end ≤ ends_at edges m + (new.clock.within.us - 1)
     pub is : end ≡ whole_of (pulses_on i calls)
 
   -- by a tick to come it ends an element ahead at most
@@ -229,7 +232,7 @@ module _ (t : TimelineValue) (d : ℕ) (edges : ℕ → ℕ) (quartz : IsQuartz 
 
   -- the hundredth
   module _ (port rise width : ℕ) (calls : List Call) (now : ℕ) (order : AreInOrder start new.clock.redundancy (Tick now ∷ (Hear port rise width ∷ calls))) (narrow : is_pulse width ≡ true) (same : (i == port) ≡ true)
-      (w : IsWhole new.limits new.rules t edges m (pulses_on i (Hear port rise width ∷ calls))) (ends : EndsWhole edges m (pulses_on i (Hear port rise width ∷ calls))) where
+      (w : IsWhole new.clock.within.us new.limits new.rules t edges m (pulses_on i (Hear port rise width ∷ calls))) (ends : EndsWhole new.clock.within.us d edges m (pulses_on i (Hear port rise width ∷ calls))) where
     abbrev k : Keeping
     k = after_calls new calls
 
@@ -327,7 +330,7 @@ module _ (t : TimelineValue) (d : ℕ) (edges : ℕ → ℕ) (quartz : IsQuartz 
   ticks_on : (calls : List Call) (now : ℕ) → AreInOrder start new.clock.redundancy (Tick now ∷ calls) → now ≤ edges m + 98000 → vote_at (after_calls new calls) (now % 2 ^ 32) ≡ None → Keeps calls → Keeps (Tick now ∷ calls)
   ticks_on calls now order upto none k =
       let clock : ℕ = now % 2 ^ 32 in
-      let late = in_time k.end now (omega (arith, k.is, ended calls now order)) (omega (arith, k.least, upto)) in
+      let late = in_time k.end now (omega (arith, k.is, ended calls now order)) (omega (arith, k.least, upto, quartz.few, new.clock.within.few)) in
       let lines = ap (λ (x : Lines). (line_at x i).frame) (settles (after_calls new calls) clock none) ∙ frame_settled clock (after_calls new calls).state.lines i small in
       record {
         claim = k.claim;
@@ -353,7 +356,7 @@ module _ (t : TimelineValue) (d : ℕ) (edges : ℕ → ℕ) (quartz : IsQuartz 
         let risen = has_risen port rise width now calls order.2 narrow in
         let soon : IsSoon l.told rise = line_soon rise l risen order.1 (after, (order.3.1 narrow).1) in
         let place : place_of (line_at (after_calls new calls).state.lines i).sync (rise % 2 ^ 32) width ≡ place_after (p ∷ pulses) = place_at_time (line_at (after_calls new calls).state.lines i).sync pulses l.told rise width l.hearing.sync after soon in
-        let inside : ¬ (place_after (p ∷ pulses) ≡ 100) = λ ends. (let far = whole_apart p pulses (after, l.sorted) ends in absurd (omega (arith, far, k.is, k.least, risen, upto))) in
+        let inside : ¬ (place_after (p ∷ pulses) ≡ 100) = λ ends. (let far = whole_apart p pulses (after, l.sorted) ends in absurd (omega (arith, far, k.is, k.least, risen, upto, quartz.few, new.clock.within.few))) in
         record {
           claim = k.claim;
           truth = k.truth;
@@ -368,7 +371,7 @@ module _ (t : TimelineValue) (d : ℕ) (edges : ℕ → ℕ) (quartz : IsQuartz 
 
   -- the frame was told, and then so many pulses
   abbrev pub Whole : ℕ → List Pulse → Type 0
-  Whole late pulses = IsWhole new.limits new.rules t edges m (drop late pulses)
+  Whole late pulses = IsWhole new.clock.within.us new.limits new.rules t edges m (drop late pulses)
 
   drop_more : (late : ℕ) (p : Pulse) (ps : List Pulse) → drop (suc late) (p ∷ ps) ≡ drop late ps
   drop_more late p ps = refl
@@ -381,10 +384,10 @@ module _ (t : TimelineValue) (d : ℕ) (edges : ℕ → ℕ) (quartz : IsQuartz 
   -- what was told before rose too early to be its last
   pub not_before : (late : ℕ) (ps : List Pulse) → AreSorted ps → IsAfter ps told → ¬ Whole late ps
   not_before zero ps sorted after w =
-      let ends = ends_whole new.limits new.rules t d edges m ps quartz w in
-      absurd (let rose = subst (λ (x : List Pulse). IsAfter x told) ends.are after in omega (arith, rose, ends.least, past))
+      let ends = ends_whole new.clock.within new.limits new.rules t d edges m ps quartz w in
+      absurd (let rose = subst (λ (x : List Pulse). IsAfter x told) ends.are after in omega (arith, rose, ends.least, past, quartz.few, new.clock.within.few))
   not_before (suc late) [] sorted after w =
-      let ends = ends_whole new.limits new.rules t d edges m [] quartz w in
+      let ends = ends_whole new.clock.within new.limits new.rules t d edges m [] quartz w in
       absurd (let none = ends.are in cc)
   not_before (suc late) (p ∷ ps) sorted after w = not_before late ps sorted.1 (earlier ps p.rise sorted.0 after) w
     where
@@ -397,7 +400,7 @@ module _ (t : TimelineValue) (d : ℕ) (edges : ℕ → ℕ) (quartz : IsQuartz 
   whole_kept (Tick time ∷ later) now order none upto late w =
       let before = whole_kept later time order.3 none.1 (omega (arith, order.0, upto)) late w in
       let end = ended (later ++ older) time order.3 in
-      ticks_on (later ++ older) time order.3 (omega (arith, order.0, upto)) (none.0 (omega (arith, before.is, before.least, end))) before
+      ticks_on (later ++ older) time order.3 (omega (arith, order.0, upto)) (none.0 (omega (arith, before.is, before.least, end, quartz.few, new.clock.within.few))) before
   whole_kept (Hear port rise width ∷ later) now order none upto late w = elim (cases_Bool (i == port)) [
     | inr other ↦
         let same = others_pulses i port rise width (later ++ older) other in
@@ -414,7 +417,7 @@ module _ (t : TimelineValue) (d : ℕ) (edges : ℕ → ℕ) (quartz : IsQuartz 
   ]
     where
       by : is_pulse width ≡ true → (i == port) ≡ true → (late : ℕ) → Whole late (pulses_on i (Hear port rise width ∷ (later ++ older))) → ((late : ℕ) → Whole late (pulses_on i (later ++ older)) → Keeps (later ++ older)) → Keeps (Hear port rise width ∷ (later ++ older))
-      by narrow same zero w kept = keeps_whole port rise width (later ++ older) now order narrow same w (ends_whole new.limits new.rules t d edges m _ quartz w)
+      by narrow same zero w kept = keeps_whole port rise width (later ++ older) now order narrow same w (ends_whole new.clock.within new.limits new.rules t d edges m _ quartz w)
       by narrow same (suc late) w kept =
           let on = own_pulses i port rise width (later ++ older) narrow same in
           let before = kept late (subst (λ (ps : List Pulse). Whole (suc late) ps) on w) in

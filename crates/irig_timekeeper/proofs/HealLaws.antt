@@ -23,14 +23,16 @@ use Rattle.irig_reader.proofs.HeldEdges.{IfHold, late_step}
 use Rattle.irig_reader.proofs.StepCases.{count_cases, vote_cases}
 use Rattle.irig_timekeeper.specs.declared.lines.KeptClaim.{KeptClaim}
 use Rattle.irig_timekeeper.specs.declared.lines.Lines.{Lines}
+use Rattle.irig_timekeeper.specs.declared.lines.Vote.{Vote}
 use Rattle.irig_timekeeper.specs.declared.clock.Beat.{Beat}
-use Rattle.irig_timekeeper.specs.declared.clock.ClockRules.{ClockRules}
+use Rattle.irig_timekeeper.specs.declared.setup.ClockRules.{ClockRules}
 use Rattle.irig_timekeeper.specs.declared.clock.ClockState.{ClockState}
 use Rattle.irig_timekeeper.specs.Lines.{IfKept}
+use Rattle.irig_timekeeper.specs.Exactness.{window_us, vote_us}
 use Rattle.irig_timekeeper.specs.Counting.{edges_to_vote, edges_own}
 use Rattle.irig_timekeeper.specs.Rule.{missed}
 use Rattle.irig_timekeeper.specs.Steps.{is_pulse, line_at, claim_kept, all_kept, still_kept, settled, agreed, if_come}
-use Rattle.irig_timekeeper.specs.Clock.{beat_by, step_to, after_vote, answer_to_vote, after_own, clock_by, answer_by, settled_at}
+use Rattle.irig_timekeeper.specs.Clock.{bound_of, beat_by, step_to, after_vote, answer_to_vote, after_own, clock_by, answer_by, settled_at}
 use Rattle.irig_timekeeper.specs.Keeping.{Keeping, vote_at, after_tick, answer_at}
 use Rattle.irig_timekeeper.specs.Truth.{IsTrueVote, IsOnTrack, IsToldInHoldover, IsLaterSecond, IsDevice}
 use Rattle.irig_timekeeper.specs.Life.{Call, after_calls, pulses_on, last_tick, AreInOrder, AreTrueLately, AreTrueOver}
@@ -38,6 +40,8 @@ use Rattle.irig_timekeeper.specs.Life.Call.{Hear, Tick}
 use Rattle.irig_timekeeper.proofs.AgreeLaws.{EachKept, is_one}
 use Rattle.irig_timekeeper.proofs.SureSteps.{mended_by_vote}
 use Rattle.irig_timekeeper.proofs.VotedLaws.{voted_second}
+use Rattle.irig_timekeeper.proofs.PartLaws.{agreed_first}
+use Rattle.irig_timekeeper.proofs.BoundLaws.{answer_bound}
 use Rattle.irig_timekeeper.proofs.TrackLaws.{IsToldNewly, KeepsTrue}
 use Rattle.irig_timekeeper.proofs.VoteLaws.{still, come, one_more, vote_is_true}
 use Rattle.irig_timekeeper.proofs.LifeLaws.{IsSameSetup, AreLinesAt, IsEndAt, lines_after, TellAlwaysTruly, heard_truly, tick_in, track_on, order_before}
@@ -66,11 +70,13 @@ module _ (EndsSo : List Pulse → ℕ → Type 0) (rules : Rules) (lines : Lines
       (one_more IsMarked _ _ (marked_at clock 3 (omega arith))
       (one_more IsMarked _ _ (marked_at clock 4 (omega arith)) tt))))
 
-  vote_marked : (f clock : ℕ) (v : KeptClaim) → if_come clock (agreed f (settled clock lines)) ≡ Some v → IsMarkedLate v.claim
+  vote_marked : (c : ClockRules) (clock : ℕ) (v : Vote) → if_come clock (agreed c (settled clock lines)) ≡ Some v → IsMarkedLate v.claim
   unfolding IsMarked
-  vote_marked f clock v e =
+  vote_marked c clock v e =
       let all = all_kept (settled clock lines) in
-      (is_one IsMarked f all all v (each_marked clock) (come clock (agreed f (settled clock lines)) v e).0).1
+      let first = agreed_first c (settled clock lines) v (come clock (agreed c (settled clock lines)) v e).0 in
+      let claims = ap (λ (x : Vote). x.claim) first.2 in
+      subst IsMarkedLate (sym claims) (is_one IsMarked (window_us c.within.us) (f_of c.redundancy) all all first.0 (each_marked clock) first.1).1
 
 -- ---- and so a reader heard of one there
 
@@ -87,15 +93,15 @@ module _ (c : ClockRules) (table : TableValue) (s : ClockState) (late : IfHold s
   late_own : (n : ℕ) → IfHold (after_own c table s n).reader HasHeardLate
   late_own n = either_late (n == 0) s _ late (late_step c.reader_rules table (missed c.reader_rules table (n - 1) s.reader) None (late_missed c.reader_rules table (n - 1) s.reader late) tt)
 
-  late_voted : (v : KeptClaim) (n : ℕ) → IsMarkedLate v.claim → IfHold (after_vote c table s v n).reader HasHeardLate
+  late_voted : (v : Vote) (n : ℕ) → IsMarkedLate v.claim → IfHold (after_vote c table s v n).reader HasHeardLate
   late_voted v n marked = either_late (n == 0) _ _ late (late_step c.reader_rules table (missed c.reader_rules table (n - 1) s.reader) (Some v.claim) (late_missed c.reader_rules table (n - 1) s.reader late) marked)
 
-late_ticked : (k : Keeping) (clock : ℕ) → IfHold k.state.reader HasHeardLate → ((v : KeptClaim) → vote_at k clock ≡ Some v → IsMarkedLate v.claim) → IfHold (after_tick k clock).state.reader HasHeardLate
+late_ticked : (k : Keeping) (clock : ℕ) → IfHold k.state.reader HasHeardLate → ((v : Vote) → vote_at k clock ≡ Some v → IsMarkedLate v.claim) → IfHold (after_tick k clock).state.reader HasHeardLate
 late_ticked k clock late marked = of (vote_at k clock) refl
   where
-    of : (v : Option KeptClaim) → vote_at k clock ≡ v → IfHold (clock_by k.clock k.table (settled_at k.state clock) clock v).reader HasHeardLate
+    of : (v : Option Vote) → vote_at k clock ≡ v → IfHold (clock_by k.clock k.table (settled_at k.state clock) clock v).reader HasHeardLate
     of None e = late_own k.clock k.table (settled_at k.state clock) late (edges_own k.state.edge_us clock)
-    of (Some v) e = late_voted k.clock k.table (settled_at k.state clock) late v (edges_to_vote k.state.edge_us v.end_us) (marked v e)
+    of (Some v) e = late_voted k.clock k.table (settled_at k.state clock) late v (edges_to_vote k.state.edge_us v.edge_us) (marked v e)
 
 module _ (new : Keeping) (start : ℕ) (begins : AreLinesAt new new (λ i. []) start start) where
   pub late_life : IfHold new.state.reader HasHeardLate → (calls : List Call) → AreInOrder start new.clock.redundancy calls → IfHold (after_calls new calls).state.reader HasHeardLate
@@ -107,7 +113,7 @@ module _ (new : Keeping) (start : ℕ) (begins : AreLinesAt new new (λ i. []) s
       let l = lines_after new start begins calls now order in
       let k = after_calls new calls in
       late_ticked k (now % 2 ^ 32) (late_life late calls order.3)
-      (λ v e. vote_marked (λ ps. IsEndAt ps (last_tick start calls) now) k.rules k.state.lines (λ i. pulses_on i calls) (λ i low. (l.lines i low).kept) (f_of k.clock.redundancy) (now % 2 ^ 32) v e)
+      (λ v e. vote_marked (λ ps. IsEndAt ps (last_tick start calls) now) k.rules k.state.lines (λ i. pulses_on i calls) (λ i low. (l.lines i low).kept) k.clock (now % 2 ^ 32) v e)
 
 -- ---- a true vote that counts an edge
 
@@ -123,20 +129,21 @@ says_voted rules table s c u = vote_cases Says rules table s c (λ h e. counts h
 
 -- it then stands at the truth, and what it announces is true
 pub record Mends (t : TimelineValue) (d : ℕ) (edges : ℕ → ℕ) (early late : ℕ) (rules : ReaderRules) (table : TableValue) (now : ℕ) (new : ClockState) (b : Beat) : Type 0 where
-  pub track : IsOnTrack t edges early late d 0 rules table now new.reader new.edge_us
-  pub told : (u : UtcSecond) → b.report.announce ≡ Some u → IsToldNewly t d edges early late 0 rules table now b u new.reader new.edge_us
+  pub track : IsOnTrack t edges early late d 0 rules table now new.reader new.bound_us new.edge_us
+  pub told : (u : UtcSecond) → b.report.announce ≡ Some u → IsToldNewly t d edges early late 0 rules table now b u new.reader new.bound_us new.edge_us
 
-module _ (t : TimelineValue) (edges : ℕ → ℕ) (early late : ℕ) (c : ClockRules) (table : TableValue) (s : ClockState) (is : IsDevice t c.drift_us edges c.reader_rules table) (heard : IfHold s.reader HasHeardLate) (now : ℕ) (v : KeptClaim) (vote : IsTrueVote t edges early late now v) where
-  stands : (n last : ℕ) → last ≤ vote.truth.second + 1 → IsOnTrack t edges early late c.drift_us last c.reader_rules table now (step_to c table s n (Some v.claim)).state (Some v.end_us)
+module _ (t : TimelineValue) (edges : ℕ → ℕ) (early late : ℕ) (c : ClockRules) (table : TableValue) (s : ClockState) (is : IsDevice t c.drift_us edges c.reader_rules table) (heard : IfHold s.reader HasHeardLate) (now : ℕ) (v : Vote) (vote : IsTrueVote t edges early late now v) where
+  stands : (n last : ℕ) → last ≤ vote.truth.second + 1 → IsOnTrack t edges early late c.drift_us last c.reader_rules table now (step_to c table s n (Some v.claim)).state v.bound_us (Some v.edge_us)
   stands n last low =
       let before = late_missed c.reader_rules table (n - 1) s.reader heard in
       inr (
         vote.truth.second + 1,
         0,
         record {
-          edge = vote.end;
+          edge = vote.edge;
           at = record { clock = vote.clock; come = vote.come; soon = omega (arith, vote.soon) };
           near = record { least = omega (arith, vote.truth.near.least); most = omega (arith, vote.truth.near.most) };
+          small = vote.small;
           truth = mended_by_vote t c.reader_rules table is.sound vote.truth.second (missed c.reader_rules table (n - 1) s.reader) v.claim vote.truth.truth before;
           young = omega arith;
           few = omega arith;
@@ -144,25 +151,21 @@ module _ (t : TimelineValue) (edges : ℕ → ℕ) (early late : ℕ) (c : Clock
         },
       )
 
-  says : (n : ℕ) (b : Beat) (u : UtcSecond) → beat_by s (step_to c table s n (Some v.claim)) (n - 1) v.end_us ≡ b → b.report.announce ≡ Some u
-      → IsToldNewly t c.drift_us edges early late 0 c.reader_rules table now b u (step_to c table s n (Some v.claim)).state (Some v.end_us)
+  says : (n : ℕ) (b : Beat) (u : UtcSecond) → beat_by c s (step_to c table s n (Some v.claim)) (n - 1) v.edge_us v.bound_us ≡ b → b.report.announce ≡ Some u
+      → IsToldNewly t c.drift_us edges early late 0 c.reader_rules table now b u (step_to c table s n (Some v.claim)).state v.bound_us (Some v.edge_us)
   says n b u beat e =
       let state = missed c.reader_rules table (n - 1) s.reader in
       let announces = ap (λ (x : Beat). x.report.announce) beat ∙ e in
+      let bound : bound_of c.drift_us v.bound_us (step_to c table s n (Some v.claim)).report.lock ≡ b.bound_us = ap (λ (x : Beat). x.bound_us) beat in
       record {
         told = record {
-          far = 0;
-          held = omega arith;
-          few = omega arith;
-          told = record {
-            m = vote.truth.second + 1;
-            edge = vote.end;
-            clock = ap (λ (x : Beat). x.edge_us) (sym beat) ∙ vote.clock;
-            near = record { least = omega (arith, vote.truth.near.least); most = omega (arith, vote.truth.near.most) };
-            come = vote.come;
-            soon = omega (arith, vote.soon);
-            truth = voted_second t vote.truth.second c.reader_rules table state v.claim u is.sound ((claim_is t vote.truth.second v.claim).1 vote.truth.truth) (says_voted c.reader_rules table state v.claim u announces) announces;
-          };
+          m = vote.truth.second + 1;
+          edge = vote.edge;
+          clock = ap (λ (x : Beat). x.edge_us) (sym beat) ∙ vote.clock;
+          near = record { least = omega (arith, vote.truth.near.least, bound); most = omega (arith, vote.truth.near.most, bound) };
+          come = vote.come;
+          soon = omega (arith, vote.soon);
+          truth = voted_second t vote.truth.second c.reader_rules table state v.claim u is.sound ((claim_is t vote.truth.second v.claim).1 vote.truth.truth) (says_voted c.reader_rules table state v.claim u announces) announces;
         };
         later = omega arith;
         track = stands n (vote.truth.second + 1) (omega arith);
@@ -172,12 +175,12 @@ module _ (t : TimelineValue) (edges : ℕ → ℕ) (early late : ℕ) (c : Clock
   heals_by n b e = elim (cases_Bool (n == 0)) [
     | inl none ↦ let both : None ≡ Some b = rw none at e in absurd cc
     | inr some ↦
-        let beat : beat_by s (step_to c table s n (Some v.claim)) (n - 1) v.end_us ≡ b = let told : Some (beat_by s (step_to c table s n (Some v.claim)) (n - 1) v.end_us) ≡ Some b = rw some at e in cc in
+        let beat : beat_by c s (step_to c table s n (Some v.claim)) (n - 1) v.edge_us v.bound_us ≡ b = let told : Some (beat_by c s (step_to c table s n (Some v.claim)) (n - 1) v.edge_us v.bound_us) ≡ Some b = rw some at e in cc in
         rw some (record { track = stands n 0 (omega arith); told = λ u e. says n b u beat e })
   ]
 
 -- a tick at which it comes, by the setup that the device was made with
-module _ (t : TimelineValue) (edges : ℕ → ℕ) (early late : ℕ) (k : Keeping) (now : ℕ) (v : KeptClaim) (b : Beat) where
+module _ (t : TimelineValue) (edges : ℕ → ℕ) (early late : ℕ) (k : Keeping) (now : ℕ) (v : Vote) (b : Beat) where
   abbrev Heals : ClockRules → TableValue → Type 0
   Heals c table = IsDevice t c.drift_us edges c.reader_rules table → Mends t c.drift_us edges early late c.reader_rules table now (after_tick k (now % 2 ^ 32)).state b
 
@@ -187,12 +190,12 @@ module _ (t : TimelineValue) (edges : ℕ → ℕ) (early late : ℕ) (k : Keepi
       s : ClockState
       s = settled_at k.state (now % 2 ^ 32)
 
-      of : (o : Option KeptClaim) → o ≡ Some v → answer_by k.clock k.table s (now % 2 ^ 32) o ≡ Some b
+      of : (o : Option Vote) → o ≡ Some v → answer_by k.clock k.table s (now % 2 ^ 32) o ≡ Some b
           → Mends t k.clock.drift_us edges early late k.clock.reader_rules k.table now (clock_by k.clock k.table s (now % 2 ^ 32) o) b
       of None e answer = absurd cc
       of (Some x) e answer =
           let same : v ≡ x = cc in
-          heals_by t edges early late k.clock k.table s is heard now x (subst (λ (y : KeptClaim). IsTrueVote t edges early late now y) same vote) (edges_to_vote s.edge_us x.end_us) b answer
+          heals_by t edges early late k.clock k.table s is heard now x (subst (λ (y : Vote). IsTrueVote t edges early late now y) same vote) (edges_to_vote s.edge_us x.edge_us) b answer
 
   heals : (new : Keeping) → IsSameSetup new k → IfHold k.state.reader HasHeardLate → IsTrueVote t edges early late now v → vote_at k (now % 2 ^ 32) ≡ Some v → answer_at k (now % 2 ^ 32) ≡ Some b → Heals new.clock new.table
   heals new same heard vote voted answer =
@@ -200,35 +203,38 @@ module _ (t : TimelineValue) (edges : ℕ → ℕ) (early late : ℕ) (k : Keepi
       (subst (λ (x : TableValue). Heals k.clock x) same.table (heals_here heard vote voted answer))
 
 module _ (IsTrue : ℕ → List Pulse → Type 0) (t : TimelineValue) (edges : ℕ → ℕ) (early late : ℕ) (new : Keeping) (start : ℕ) (begins : AreLinesAt new new (λ i. []) start start) (heard : IfHold new.state.reader HasHeardLate)
-    (is : IsDevice t new.clock.drift_us edges new.clock.reader_rules new.table) (room : early + late ≤ 4098) (truly : TellAlwaysTruly IsTrue new.rules t edges early late) where
-  pub mended : (earlier : List Call) (mend : ℕ) (v : KeptClaim) (b : Beat) → AreInOrder start new.clock.redundancy (Tick mend ∷ earlier) → AreTrueLately IsTrue (f_of new.clock.redundancy) mend earlier
+    (is : IsDevice t new.clock.drift_us edges new.clock.reader_rules new.table) (room : early + late ≤ 3002) (truly : TellAlwaysTruly IsTrue new.clock.within.us new.clock.drift_us new.rules t edges early late) where
+  pub mended : (earlier : List Call) (mend : ℕ) (v : Vote) (b : Beat) → AreInOrder start new.clock.redundancy (Tick mend ∷ earlier) → AreTrueLately IsTrue (f_of new.clock.redundancy) mend earlier
       → vote_at (after_calls new earlier) (mend % 2 ^ 32) ≡ Some v → answer_at (after_calls new earlier) (mend % 2 ^ 32) ≡ Some b
-      → Mends t new.clock.drift_us edges (early + 1000) late new.clock.reader_rules new.table mend (after_calls new (Tick mend ∷ earlier)).state b
+      → Mends t new.clock.drift_us edges early late new.clock.reader_rules new.table mend (after_calls new (Tick mend ∷ earlier)).state b
   mended earlier mend v b order lately voted answer =
       let l = lines_after new start begins earlier mend order in
       let k : Keeping = after_calls new earlier in
       let h = heard_truly IsTrue t edges early late new start begins earlier mend order lately in
-      let vote = vote_is_true (IsTrue mend) new.rules t edges early late (f_of new.clock.redundancy) mend k.state.lines (λ i. pulses_on i earlier) (truly mend) h v (ap (λ (c : ClockRules). if_come (mend % 2 ^ 32) (agreed (f_of c.redundancy) (settled (mend % 2 ^ 32) k.state.lines))) (sym l.same.clock) ∙ voted) in
-      heals t edges (early + 1000) late k mend v b new l.same (late_life new start begins heard earlier order.3) vote voted answer is
+      let vote = vote_is_true (IsTrue mend) new.rules t new.clock edges is.steady early late room mend k.state.lines (λ i. pulses_on i earlier) (truly mend) h v
+      (ap (λ (c : ClockRules). if_come (mend % 2 ^ 32) (agreed c (settled (mend % 2 ^ 32) k.state.lines))) (sym l.same.clock) ∙ voted) in
+      heals t edges early late k mend v b new l.same (late_life new start begins heard earlier order.3) vote voted answer is
 
-  pub healed : (earlier later : List Call) (mend now : ℕ) (v : KeptClaim) (b then : Beat) (u : UtcSecond) → AreInOrder start new.clock.redundancy (Tick now ∷ (later ++ (Tick mend ∷ earlier)))
+  pub healed : new.state.bound_us ≤ vote_us new.clock.within.us new.clock.drift_us → (earlier later : List Call) (mend now : ℕ) (v : Vote) (b then : Beat) (u : UtcSecond) → AreInOrder start new.clock.redundancy (Tick now ∷ (later ++ (Tick mend ∷ earlier)))
       → AreTrueLately IsTrue (f_of new.clock.redundancy) mend earlier → AreTrueOver IsTrue (f_of new.clock.redundancy) (Tick now ∷ later) (Tick mend ∷ earlier)
       → vote_at (after_calls new earlier) (mend % 2 ^ 32) ≡ Some v → answer_at (after_calls new earlier) (mend % 2 ^ 32) ≡ Some b
       → answer_at (after_calls new (later ++ (Tick mend ∷ earlier))) (now % 2 ^ 32) ≡ Some then → then.report.announce ≡ Some u
-      → IsToldInHoldover t edges (early + 1000) late new.clock.drift_us new.clock.reader_rules.holdover now then u
-  healed earlier later mend now v b then u order lately truth voted answer answers says =
+      → IsToldInHoldover t edges early late new.clock.within.us new.clock.drift_us new.clock.reader_rules.holdover now then u
+  healed low earlier later mend now v b then u order lately truth voted answer answers says =
       let ordered = order_before start new.clock.redundancy later (Tick mend ∷ earlier) order.3 in
       let base = (mended earlier mend v b ordered lately voted answer).track in
       let track = track_on IsTrue t edges early late new start begins is room truly 0 (Tick mend ∷ earlier) base later order.3 truth.1 in
-      ((tick_in IsTrue t edges early late new start begins is room truly 0 (later ++ (Tick mend ∷ earlier)) now order truth.0 track).told then u answers says).told
+      let told = ((tick_in IsTrue t edges early late new start begins is room truly 0 (later ++ (Tick mend ∷ earlier)) now order truth.0 track).told then u answers says).told in
+      let has = answer_bound new low (later ++ (Tick mend ∷ earlier)) (now % 2 ^ 32) in
+      record { told = told; bound = has.bound then answers; few = has.few then answers }
 
   -- ---- since then
 
-  module _ (earlier : List Call) (mend : ℕ) (v : KeptClaim) (b : Beat) (lately : AreTrueLately IsTrue (f_of new.clock.redundancy) mend earlier) (voted : vote_at (after_calls new earlier) (mend % 2 ^ 32) ≡ Some v) (answer : answer_at (after_calls new earlier) (mend % 2 ^ 32) ≡ Some b) where
+  module _ (earlier : List Call) (mend : ℕ) (v : Vote) (b : Beat) (lately : AreTrueLately IsTrue (f_of new.clock.redundancy) mend earlier) (voted : vote_at (after_calls new earlier) (mend % 2 ^ 32) ≡ Some v) (answer : answer_at (after_calls new earlier) (mend % 2 ^ 32) ≡ Some b) where
     -- what a later tick leaves and answers
     pub tick_since : (later : List Call) (now : ℕ) → AreInOrder start new.clock.redundancy (Tick now ∷ (later ++ (Tick mend ∷ earlier))) → AreTrueLately IsTrue (f_of new.clock.redundancy) now (later ++ (Tick mend ∷ earlier))
         → AreTrueOver IsTrue (f_of new.clock.redundancy) later (Tick mend ∷ earlier)
-        → KeepsTrue t new.clock.drift_us edges (early + 1000) late 0 new.clock.reader_rules new.table now (after_tick (after_calls new (later ++ (Tick mend ∷ earlier))) (now % 2 ^ 32)).state (answer_at (after_calls new (later ++ (Tick mend ∷ earlier))) (now % 2 ^ 32))
+        → KeepsTrue t new.clock.drift_us edges early late 0 new.clock.reader_rules new.table now (after_tick (after_calls new (later ++ (Tick mend ∷ earlier))) (now % 2 ^ 32)).state (answer_at (after_calls new (later ++ (Tick mend ∷ earlier))) (now % 2 ^ 32))
     tick_since later now order here truth =
         let ordered = order_before start new.clock.redundancy later (Tick mend ∷ earlier) order.3 in
         let base = (mended earlier mend v b ordered lately voted answer).track in
@@ -238,7 +244,7 @@ module _ (IsTrue : ℕ → List Pulse → Type 0) (t : TimelineValue) (edges : �
     abbrev Newly : ℕ → List Call → Type 0
     Newly now calls =
         AreInOrder start new.clock.redundancy (Tick now ∷ calls) → (x : Beat) (u : UtcSecond) → answer_at (after_calls new calls) (now % 2 ^ 32) ≡ Some x → x.report.announce ≡ Some u
-        → IsToldNewly t new.clock.drift_us edges (early + 1000) late 0 new.clock.reader_rules new.table now x u (after_calls new (Tick now ∷ calls)).state.reader (after_calls new (Tick now ∷ calls)).state.edge_us
+        → IsToldNewly t new.clock.drift_us edges early late 0 new.clock.reader_rules new.table now x u (after_calls new (Tick now ∷ calls)).state.reader (after_calls new (Tick now ∷ calls)).state.bound_us (after_calls new (Tick now ∷ calls)).state.edge_us
 
     pub newly : (later calls : List Call) (now : ℕ) → Tick now ∷ calls ≡ later ++ (Tick mend ∷ earlier) → AreTrueOver IsTrue (f_of new.clock.redundancy) later (Tick mend ∷ earlier) → Newly now calls
     newly [] calls now are truth =
@@ -259,10 +265,10 @@ module _ (IsTrue : ℕ → List Pulse → Type 0) (t : TimelineValue) (edges : �
         let base : List Call = Tick before ∷ calls in
         let ordered = order_before start new.clock.redundancy later base order.3 in
         let one = newly first calls before are truth ordered x u told announces in
-        let M : ℕ = one.told.told.m in
+        let M : ℕ = one.told.m in
         let track = track_on IsTrue t edges early late new start begins is room truly M base one.track later order.3 since.1 in
         let two = (tick_in IsTrue t edges early late new start begins is room truly M (later ++ base) now order since.0 track).told y w answers again in
-        record { m = M; n = two.told.told.m; less = two.later; before = one.told.told.truth; then = two.told.told.truth }
+        record { m = M; n = two.told.m; less = two.later; before = one.told.truth; then = two.told.truth }
 
     -- no later tick tells a jump
     pub calm_since : (later calls : List Call) (now : ℕ) → calls ≡ later ++ (Tick mend ∷ earlier) → AreTrueOver IsTrue (f_of new.clock.redundancy) later (Tick mend ∷ earlier) → AreInOrder start new.clock.redundancy (Tick now ∷ calls) → AreTrueLately IsTrue (f_of new.clock.redundancy) now calls

@@ -10,16 +10,17 @@ use Rattle.irig_time.specs.Timelines.{TimelineValue}
 use Rattle.irig_time.specs.Tables.{TableValue}
 use Rattle.irig_port.specs.declared.limits.Limits.{Limits}
 use Rattle.irig_vote.specs.Vote.{f_of}
-use Rattle.irig_timekeeper.specs.declared.lines.KeptClaim.{KeptClaim}
 use Rattle.irig_timekeeper.specs.declared.lines.Lines.{Lines}
+use Rattle.irig_timekeeper.specs.declared.lines.Vote.{Vote}
 use Rattle.irig_timekeeper.specs.declared.stamp.Announced.{Announced}
 use Rattle.irig_timekeeper.specs.declared.stamp.Stamp.{Stamp}
 use Rattle.irig_timekeeper.specs.declared.clock.Beat.{Beat}
-use Rattle.irig_timekeeper.specs.declared.clock.ClockRules.{ClockRules}
+use Rattle.irig_timekeeper.specs.declared.setup.ClockRules.{ClockRules}
 use Rattle.irig_timekeeper.specs.declared.clock.ClockState.{ClockState}
+use Rattle.irig_timekeeper.specs.Exactness.{most_held_us, most_vote_us}
 use Rattle.irig_timekeeper.specs.Counting.{edges_to_vote}
 use Rattle.irig_timekeeper.specs.Steps.{AreNewLines}
-use Rattle.irig_timekeeper.specs.Clock.{bound_of, announced_at, still_serves, beat_by, step_to, after_vote, answer_to_vote, clock_by, answer_by, settled_at}
+use Rattle.irig_timekeeper.specs.Clock.{announced_at, still_serves, beat_by, step_to, after_vote, answer_to_vote, clock_by, answer_by, settled_at}
 use Rattle.irig_timekeeper.specs.Stamps.{stamp_by}
 use Rattle.irig_timekeeper.specs.Keeping.{Keeping, new_keeping, vote_at, after_tick, answer_at, stamp_at}
 use Rattle.irig_timekeeper.specs.Truth.{IsEdgeAt, IsDevice, IsStampedTruly}
@@ -32,31 +33,31 @@ use Rattle.irig_timekeeper.proofs.HealLaws.{mended, tick_since}
 
 -- ---- what serves on behind a vote
 
-served : (vote : Option KeptClaim) (announce : Option UtcSecond) (last : Option Announced) (v : KeptClaim) (a : Announced) → still_serves (Some v.claim) announce last ≡ Some a → (u : UtcSecond) × (announce ≡ Some u)
+served : (vote : Option Vote) (announce : Option UtcSecond) (last : Option Announced) (v : Vote) (a : Announced) → still_serves (Some v.claim) announce last ≡ Some a → (u : UtcSecond) × (announce ≡ Some u)
 served vote None last v a e = absurd cc
 served vote (Some u) last v a e = (u, refl)
 
-serves_voted : (c : ClockRules) (table : TableValue) (s : ClockState) (v : KeptClaim) (n : ℕ) (b : Beat) (a : Announced) → answer_to_vote c table s v n ≡ Some b → (after_vote c table s v n).before ≡ Some a → (u : UtcSecond) × (b.report.announce ≡ Some u)
+serves_voted : (c : ClockRules) (table : TableValue) (s : ClockState) (v : Vote) (n : ℕ) (b : Beat) (a : Announced) → answer_to_vote c table s v n ≡ Some b → (after_vote c table s v n).before ≡ Some a → (u : UtcSecond) × (b.report.announce ≡ Some u)
 serves_voted c table s v n b a answer e = elim (cases_Bool (n == 0)) [
   | inl waits ↦ let both : None ≡ Some b = rw waits at answer in absurd cc
   | inr more ↦
-      let told : Some (beat_by s (step_to c table s n (Some v.claim)) (n - 1) v.end_us) ≡ Some b = rw more at answer in
-      let beat : beat_by s (step_to c table s n (Some v.claim)) (n - 1) v.end_us ≡ b = cc in
+      let told : Some (beat_by c s (step_to c table s n (Some v.claim)) (n - 1) v.edge_us v.bound_us) ≡ Some b = rw more at answer in
+      let beat : beat_by c s (step_to c table s n (Some v.claim)) (n - 1) v.edge_us v.bound_us ≡ b = cc in
       let kept : still_serves (Some v.claim) (step_to c table s n (Some v.claim)).report.announce s.last ≡ Some a = rw more at e in
       let says = served (Some v) (step_to c table s n (Some v.claim)).report.announce s.last v a kept in
       (says.0, ap (λ (x : Beat). x.report.announce) (sym beat) ∙ says.1)
 ]
 
 -- what was announced before a vote is kept only if the vote announces a second
-serves_by : (k : Keeping) (clock : ℕ) (v : KeptClaim) (b : Beat) (a : Announced) → vote_at k clock ≡ Some v → answer_at k clock ≡ Some b → (after_tick k clock).state.before ≡ Some a → (u : UtcSecond) × (b.report.announce ≡ Some u)
+serves_by : (k : Keeping) (clock : ℕ) (v : Vote) (b : Beat) (a : Announced) → vote_at k clock ≡ Some v → answer_at k clock ≡ Some b → (after_tick k clock).state.before ≡ Some a → (u : UtcSecond) × (b.report.announce ≡ Some u)
 serves_by k clock v b a voted = of (vote_at k clock) voted
   where
     s : ClockState
     s = settled_at k.state clock
 
-    of : (o : Option KeptClaim) → o ≡ Some v → answer_by k.clock k.table s clock o ≡ Some b → (clock_by k.clock k.table s clock o).before ≡ Some a → (u : UtcSecond) × (b.report.announce ≡ Some u)
+    of : (o : Option Vote) → o ≡ Some v → answer_by k.clock k.table s clock o ≡ Some b → (clock_by k.clock k.table s clock o).before ≡ Some a → (u : UtcSecond) × (b.report.announce ≡ Some u)
     of None e answer kept = absurd cc
-    of (Some x) e answer kept = serves_voted k.clock k.table s x (edges_to_vote k.state.edge_us x.end_us) b a answer kept
+    of (Some x) e answer kept = serves_voted k.clock k.table s x (edges_to_vote k.state.edge_us x.edge_us) b a answer kept
 
 -- and then that one is the last
 says_last : (edge bound : ℕ) (o : Option UtcSecond) (u : UtcSecond) → o ≡ Some u → (x : Announced) × (announced_at edge bound o ≡ Some x)
@@ -66,8 +67,8 @@ says_last edge bound (Some w) u e = (record { second = w; edge_us = edge; bound_
 -- ---- a device
 
 module _ (limits : Option Limits) (rules : Rules) (clock : ClockRules) (table : TableValue) (lines : Lines) (start : ℕ) (fresh : AreNewLines lines) (IsTrue : ℕ → List Pulse → Type 0) (t : TimelineValue) (edges : ℕ → ℕ) (early late more : ℕ)
-    (is : IsDevice t clock.drift_us edges clock.reader_rules table) (room : early + late ≤ 4098) (low : early + 1000 ≤ 1549 + more) (high : late ≤ 1549 + more) (truly : TellAlwaysTruly IsTrue rules t edges early late)
-    (earlier : List Call) (mend : ℕ) (v : KeptClaim) (b : Beat) (lately : AreTrueLately IsTrue (f_of clock.redundancy) mend earlier) where
+    (is : IsDevice t clock.drift_us edges clock.reader_rules table) (room : early + late ≤ 3002) (low : early ≤ more) (high : late ≤ more) (truly : TellAlwaysTruly IsTrue clock.within.us clock.drift_us rules t edges early late)
+    (earlier : List Call) (mend : ℕ) (v : Vote) (b : Beat) (lately : AreTrueLately IsTrue (f_of clock.redundancy) mend earlier) where
   abbrev new : Keeping
   new = new_keeping limits rules clock table lines
 
@@ -98,7 +99,7 @@ module _ (limits : Option Limits) (rules : Rules) (clock : ClockRules) (table : 
   module _ (order : AreInOrder start clock.redundancy (Tick mend ∷ earlier)) (voted : vote_at (after_calls new earlier) (mend % 2 ^ 32) ≡ Some v) (answer : answer_at (after_calls new earlier) (mend % 2 ^ 32) ≡ Some b) where
     tells_mend : TellsSo limits rules clock table lines start fresh Told earlier mend
     tells_mend =
-        tells_truly limits rules clock table lines start fresh t edges early late more is low high earlier mend order
+        tells_truly limits rules clock table lines start fresh t edges early late more is low high earlier mend
         (λ x u told announces. ((mended IsTrue t edges early late new start (begins limits rules clock table lines start fresh) tt is room truly earlier mend v x order lately voted told).told u announces).told)
 
     turns_old : (edge : ℕ) → IsEdgeAt b.edge_us edge mend → (a : Announced) → (state limits rules clock table lines start fresh base).before ≡ Some a → IsToldBefore IsToldAnyhow edge a → Before (state limits rules clock table lines start fresh base).last edge a
@@ -107,20 +108,20 @@ module _ (limits : Option Limits) (rules : Rules) (clock : ClockRules) (table : 
         let k : Keeping = after_calls new earlier in
         let said = serves_by k (mend % 2 ^ 32) v b a voted answer kept in
         let left = (leaves_told k (mend % 2 ^ 32)).told b answer in
-        let last = says_last b.edge_us (bound_of k.clock.drift_us b.report.lock) b.report.announce said.0 said.1 in
+        let last = says_last b.edge_us b.bound_us b.report.announce said.0 said.1 in
         inr (record { old = was; at = at; said = said; beside = (last.0, left.0 ∙ last.1) })
 
     at_mend : IfStamps limits rules clock table lines start fresh Told Before base (state limits rules clock table lines start fresh base).edge_us
     at_mend =
         let any : Option Announced → ℕ → Announced → Type 0 = λ last A a. Unit {0} in
-        let were = stamps limits rules clock table lines start fresh IsToldAnyhow any (λ last edge a was. tt) earlier order.3 (tell_anyhow limits rules clock table lines start fresh t edges is earlier order.3) in
+        let were = stamps limits rules clock table lines start fresh IsToldAnyhow any (λ last edge a was. tt) earlier order.3 (tell_anyhow limits rules clock table lines start fresh t edges is earlier) in
         beat_stamps limits rules clock table lines start fresh Told Before earlier mend order IsToldAnyhow any b answer tells_mend turns_old were
 
     tell_since : (later : List Call) → AreInOrder start clock.redundancy (later ++ base) → AreTrueOver IsTrue (f_of clock.redundancy) later base → TellSo limits rules clock table lines start fresh Told later base
     tell_since [] ordered truth = tt
     tell_since (Hear port rise width ∷ later) ordered truth = tell_since later ordered.2 truth
     tell_since (Tick now ∷ later) ordered truth = (
-      tells_truly limits rules clock table lines start fresh t edges early late more is low high (later ++ base) now ordered
+      tells_truly limits rules clock table lines start fresh t edges early late more is low high (later ++ base) now
           (λ x u told announces. ((tick_since IsTrue t edges early late new start (begins limits rules clock table lines start fresh) tt is room truly earlier mend v b lately voted answer later now ordered truth.0 truth.1).told x u told announces).told),
       tell_since later ordered.3 truth.1,
     )
@@ -157,7 +158,7 @@ module _ (limits : Option Limits) (rules : Rules) (clock : ClockRules) (table : 
               of false far e = absurd cc
               of true few e = leb-true (clock_gap a.edge_us (time % 2 ^ 32)) (1000000 + a.bound_us) few
 
-          two_ways : (x bound A V y small old tick : ℕ) → now < tick + 1800000000 → tick < A + 1505000 → A ≡ V → V ≤ time → x ≡ A % 2 ^ 32 → y ≡ old % 2 ^ 32 → small ≤ 491549 → old + 500000 ≤ A → A < old + 1802000000
+          two_ways : (x bound A V y small old tick : ℕ) → now < tick + 1800000000 → tick < A + 1505000 → A ≡ V → V ≤ time → x ≡ A % 2 ^ 32 → y ≡ old % 2 ^ 32 → small ≤ most_vote_us + most_held_us → old + 500000 ≤ A → A < old + 1802000000
               → 1000000 + bound < clock_gap x (time % 2 ^ 32) → clock_gap y (time % 2 ^ 32) ≤ 1000000 + small → ⊥
           two_ways x bound A V y small old tick soon near same behind at_x at_y few apart later far close =
               let gap : clock_gap x (time % 2 ^ 32) + A ≡ time = omega (arith, soon, near, same, behind, at_x, past) in

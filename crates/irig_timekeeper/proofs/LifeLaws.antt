@@ -22,8 +22,9 @@ use Rattle.irig_timekeeper.specs.declared.lines.KeptFrame.{KeptFrame}
 use Rattle.irig_timekeeper.specs.declared.lines.KeptClaim.{KeptClaim}
 use Rattle.irig_timekeeper.specs.declared.lines.Line.{Line}
 use Rattle.irig_timekeeper.specs.declared.lines.Lines.{Lines}
+use Rattle.irig_timekeeper.specs.declared.lines.Vote.{Vote}
 use Rattle.irig_timekeeper.specs.declared.clock.Beat.{Beat}
-use Rattle.irig_timekeeper.specs.declared.clock.ClockRules.{ClockRules}
+use Rattle.irig_timekeeper.specs.declared.setup.ClockRules.{ClockRules}
 use Rattle.irig_timekeeper.specs.declared.clock.ClockState.{ClockState}
 use Rattle.irig_timekeeper.specs.Lines.{IfKept, IsInTurnOf}
 use Rattle.irig_timekeeper.specs.Counting.{is_late, edges_to_vote, edges_own}
@@ -36,6 +37,7 @@ use Rattle.irig_timekeeper.specs.Life.Call.{Hear, Tick}
 use Rattle.irig_timekeeper.proofs.LineLaws.{kept_more}
 use Rattle.irig_timekeeper.proofs.WholeLaws.{whole_of, AreSorted, whole_here, not_whole}
 use Rattle.irig_timekeeper.proofs.VoteLaws.{TellsTruly, still, not_late}
+use Rattle.irig_timekeeper.proofs.BoundLaws.{answer_bound}
 use Rattle.irig_timekeeper.proofs.TrackLaws.{KeepsTrue, tick_true}
 
 -- ---- one line
@@ -217,9 +219,9 @@ either_ticked old clock false x y p q = q
 pub ticked : (k : Keeping) (clock : ℕ) → IsTicked k.state (after_tick k clock).state clock
 ticked k clock = of (vote_at k clock)
   where
-    of : (v : Option KeptClaim) → IsTicked k.state (clock_by k.clock k.table (settled_at k.state clock) clock v) clock
+    of : (v : Option Vote) → IsTicked k.state (clock_by k.clock k.table (settled_at k.state clock) clock v) clock
     of None = either_ticked k.state clock (edges_own k.state.edge_us clock == 0) _ _ (inl refl) (inl refl)
-    of (Some v) = either_ticked k.state clock (edges_to_vote k.state.edge_us v.end_us == 0) _ _ (inr refl) (inr refl)
+    of (Some v) = either_ticked k.state clock (edges_to_vote k.state.edge_us v.edge_us == 0) _ _ (inr refl) (inr refl)
 
 -- ---- what lines keep, after calls in order
 
@@ -360,25 +362,26 @@ lines_after new start begins (Tick time ∷ calls) now order =
 
 -- ---- a life, of which at each tick at most f lines are not such true lines
 
--- at any time such a line's frames claim the true second before an edge, and end near it
-abbrev pub TellAlwaysTruly : (ℕ → List Pulse → Type 0) → Rules → TimelineValue → (ℕ → ℕ) → ℕ → ℕ → Type 0
-TellAlwaysTruly IsTrue rules t edges early late = (now : ℕ) → TellsTruly (IsTrue now) rules t edges early late now
+-- at any time such a line's frames claim the true second before an edge, and end as near it as a true
+-- line's do, and at most so much earlier or later
+abbrev pub TellAlwaysTruly : (ℕ → List Pulse → Type 0) → (within d : ℕ) → Rules → TimelineValue → (ℕ → ℕ) → (early late : ℕ) → Type 0
+TellAlwaysTruly IsTrue within d rules t edges early late = (now : ℕ) → TellsTruly (IsTrue now) within d rules t edges early late now
 
 module _ (IsTrue : ℕ → List Pulse → Type 0) (t : TimelineValue) (edges : ℕ → ℕ) (early late : ℕ) where
   -- a tick, by the setup that a device was made with
-  module _ (new k : Keeping) (M tick now : ℕ) (pulses : ℕ → List Pulse) (order : tick ≤ now) (soon : now ≤ tick + 1800000000) (room : early + late ≤ 4098) where
+  module _ (new k : Keeping) (M tick now : ℕ) (pulses : ℕ → List Pulse) (order : tick ≤ now) (soon : now ≤ tick + 1800000000) (room : early + late ≤ 3002) where
     abbrev TicksTruly : ClockRules → TableValue → Rules → Type 0
     TicksTruly c table rules =
-        TellsTruly (IsTrue now) rules t edges early late now → IsDevice t c.drift_us edges c.reader_rules table → IsOnTrack t edges (early + 1000) late c.drift_us M c.reader_rules table tick k.state.reader k.state.edge_us
+        TellsTruly (IsTrue now) c.within.us c.drift_us rules t edges early late now → IsDevice t c.drift_us edges c.reader_rules table → IsOnTrack t edges early late c.drift_us M c.reader_rules table tick k.state.reader k.state.bound_us k.state.edge_us
         → AreHeardTruly (IsTrue now) rules (f_of c.redundancy) now k.state.lines pulses
-        → KeepsTrue t c.drift_us edges (early + 1000) late M c.reader_rules table now (after_tick k (now % 2 ^ 32)).state (answer_at k (now % 2 ^ 32))
+        → KeepsTrue t c.drift_us edges early late M c.reader_rules table now (after_tick k (now % 2 ^ 32)).state (answer_at k (now % 2 ^ 32))
 
     ticks_truly : IsSameSetup new k → TicksTruly new.clock new.table new.rules
     ticks_truly same =
         subst (λ (c : ClockRules). TicksTruly c new.table new.rules) same.clock
         (subst (λ (x : TableValue). TicksTruly k.clock x new.rules) same.table
         (subst (λ (r : Rules). TicksTruly k.clock k.table r) same.rules
-        (λ truly is on heard. tick_true (IsTrue now) t k.clock.drift_us edges early late k M tick now pulses room truly is order soon on heard)))
+        (λ truly is on heard. tick_true (IsTrue now) t edges early late k M tick now pulses room truly is order soon on heard)))
 
   module _ (new : Keeping) (start : ℕ) (begins : AreLinesAt new new (λ i. []) start start) where
     -- what its lines brought, at a tick
@@ -397,12 +400,12 @@ module _ (IsTrue : ℕ → List Pulse → Type 0) (t : TimelineValue) (edges : �
         }
 
     abbrev pub IsTrack : ℕ → ℕ → Keeping → Type 0
-    IsTrack M tick k = IsOnTrack t edges (early + 1000) late new.clock.drift_us M new.clock.reader_rules new.table tick k.state.reader k.state.edge_us
+    IsTrack M tick k = IsOnTrack t edges early late new.clock.drift_us M new.clock.reader_rules new.table tick k.state.reader k.state.bound_us k.state.edge_us
 
-    module _ (is : IsDevice t new.clock.drift_us edges new.clock.reader_rules new.table) (room : early + late ≤ 4098) (truly : TellAlwaysTruly IsTrue new.rules t edges early late) where
+    module _ (is : IsDevice t new.clock.drift_us edges new.clock.reader_rules new.table) (room : early + late ≤ 3002) (truly : TellAlwaysTruly IsTrue new.clock.within.us new.clock.drift_us new.rules t edges early late) where
       -- what a tick answers in a life
       pub tick_in : (M : ℕ) (calls : List Call) (now : ℕ) → AreInOrder start new.clock.redundancy (Tick now ∷ calls) → AreTrueLately IsTrue (f_of new.clock.redundancy) now calls → IsTrack M (last_tick start calls) (after_calls new calls)
-          → KeepsTrue t new.clock.drift_us edges (early + 1000) late M new.clock.reader_rules new.table now (after_tick (after_calls new calls) (now % 2 ^ 32)).state (answer_at (after_calls new calls) (now % 2 ^ 32))
+          → KeepsTrue t new.clock.drift_us edges early late M new.clock.reader_rules new.table now (after_tick (after_calls new calls) (now % 2 ^ 32)).state (answer_at (after_calls new calls) (now % 2 ^ 32))
       tick_in M calls now order lately track =
           let l = lines_after new start begins calls now order in
           ticks_truly new (after_calls new calls) M (last_tick start calls) now (λ i. pulses_on i calls) order.0 (omega (arith, order.1)) room l.same (truly now) is track (heard_truly calls now order lately)
@@ -476,10 +479,10 @@ module _ (limits : Option Limits) (rules : Rules) (clock : ClockRules) (table : 
     lines = λ i low. moved rules rules _ _ _ _ _ _ start start refl (sym (nothing_by i low)) refl refl (new_line rules (line_at lines i) start (each_new lines fresh i low));
   }
 
-  module _ (IsTrue : ℕ → List Pulse → Type 0) (t : TimelineValue) (edges : ℕ → ℕ) (early late : ℕ) (is : IsDevice t clock.drift_us edges clock.reader_rules table) (room : early + late ≤ 4098) (truly : TellAlwaysTruly IsTrue rules t edges early late) where
+  module _ (IsTrue : ℕ → List Pulse → Type 0) (t : TimelineValue) (edges : ℕ → ℕ) (early late : ℕ) (is : IsDevice t clock.drift_us edges clock.reader_rules table) (room : early + late ≤ 3002) (truly : TellAlwaysTruly IsTrue clock.within.us clock.drift_us rules t edges early late) where
     -- where it stands, and what a tick answers
     pub ticks : (calls : List Call) (now : ℕ) → AreInOrder start clock.redundancy (Tick now ∷ calls) → AreTrueAtTicks IsTrue (f_of clock.redundancy) (Tick now ∷ calls)
-        → KeepsTrue t clock.drift_us edges (early + 1000) late 0 clock.reader_rules table now (after_tick (after_calls new calls) (now % 2 ^ 32)).state (answer_at (after_calls new calls) (now % 2 ^ 32))
+        → KeepsTrue t clock.drift_us edges early late 0 clock.reader_rules table now (after_tick (after_calls new calls) (now % 2 ^ 32)).state (answer_at (after_calls new calls) (now % 2 ^ 32))
     ticks calls now order truth =
         let none : calls ++ [] ≡ calls = append-nil calls in
         let all = subst (AreTrueAtTicks IsTrue (f_of clock.redundancy)) (sym none) truth.1 in
@@ -487,8 +490,10 @@ module _ (limits : Option Limits) (rules : Rules) (clock : ClockRules) (table : 
         tick_in IsTrue t edges early late new start begins is room truly 0 calls now order truth.0 (subst (λ (x : List Call). IsTrack IsTrue t edges early late new start begins 0 (last_tick start x) (after_calls new x)) none track)
 
     pub device_true : (calls : List Call) (now : ℕ) (b : Beat) (u : UtcSecond) → AreInOrder start clock.redundancy (Tick now ∷ calls) → AreTrueAtTicks IsTrue (f_of clock.redundancy) (Tick now ∷ calls)
-        → answer_at (after_calls new calls) (now % 2 ^ 32) ≡ Some b → b.report.announce ≡ Some u → IsToldInHoldover t edges (early + 1000) late clock.drift_us clock.reader_rules.holdover now b u
-    device_true calls now b u order truth answer says = ((ticks calls now order truth).told b u answer says).told
+        → answer_at (after_calls new calls) (now % 2 ^ 32) ≡ Some b → b.report.announce ≡ Some u → IsToldInHoldover t edges early late clock.within.us clock.drift_us clock.reader_rules.holdover now b u
+    device_true calls now b u order truth answer says =
+        let has = answer_bound new (omega arith) calls (now % 2 ^ 32) in
+        record { told = ((ticks calls now order truth).told b u answer says).told; bound = has.bound b answer; few = has.few b answer }
 
     pub device_calm : (calls : List Call) (now : ℕ) (b : Beat) → AreInOrder start clock.redundancy (Tick now ∷ calls) → AreTrueAtTicks IsTrue (f_of clock.redundancy) (Tick now ∷ calls)
         → answer_at (after_calls new calls) (now % 2 ^ 32) ≡ Some b → ¬ (b.report.cause ≡ cause.Jump)
@@ -503,7 +508,7 @@ module _ (limits : Option Limits) (rules : Rules) (clock : ClockRules) (table : 
         let ordered = order_before start clock.redundancy later base order.3 in
         let true_so_far = truth_before IsTrue (f_of clock.redundancy) later base truth.1 in
         let first = (ticks earlier before ordered true_so_far).told b u answer says in
-        let M : ℕ = first.told.told.m in
+        let M : ℕ = first.told.m in
         let track = track_on IsTrue t edges early late new start begins is room truly M base first.track later order.3 (truth_over IsTrue (f_of clock.redundancy) later base truth.1) in
         let second = (tick_in IsTrue t edges early late new start begins is room truly M (later ++ base) now order truth.0 track).told b' u' answer' says' in
-        record { m = M; n = second.told.told.m; less = second.later; before = first.told.told.truth; then = second.told.told.truth }
+        record { m = M; n = second.told.m; less = second.later; before = first.told.truth; then = second.told.truth }

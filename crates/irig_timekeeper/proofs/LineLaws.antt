@@ -20,6 +20,8 @@ use Rattle.irig_port.specs.Limits.{told_within}
 use Rattle.irig_port.specs.Hearing.{IsRun}
 use Rattle.irig_port.proofs.CarriesLaws.{carries_is_told}
 use Rattle.irig_port.proofs.LimitLaws.{claim_within}
+use Rattle.irig_timekeeper.specs.declared.within.Within.{Within}
+use Rattle.irig_timekeeper.specs.Exactness.{end_off_us}
 use Rattle.irig_timekeeper.specs.Edges.{IsQuartz, IsTrueNear}
 use Rattle.irig_timekeeper.specs.declared.lines.KeptFrame.{KeptFrame}
 use Rattle.irig_timekeeper.specs.declared.lines.KeptClaim.{KeptClaim}
@@ -61,19 +63,20 @@ stands_one line first x is = (refl, λ i less. (let none : i ≡ 0 = omega (arit
 
 -- ---- pulses in a row
 
-pub clock_of : (d : ℕ) (edges : ℕ → ℕ) → IsQuartz d edges → IsClock d 450 edges
-clock_of d edges steady = record { steady = steady.steady; near = omega (arith, steady.few) }
+-- pulses of a true line are told apart
+pub clock_of : (within : Within) (d : ℕ) (edges : ℕ → ℕ) → IsQuartz d edges → IsClock d within.us edges
+clock_of within d edges steady = record { steady = steady.steady; near = omega (arith, steady.few, within.few) }
 
-module _ (d : ℕ) (edges : ℕ → ℕ) (steady : IsQuartz d edges) where
+module _ (within : Within) (d : ℕ) (edges : ℕ → ℕ) (steady : IsQuartz d edges) where
   -- the last pulses, each on time behind the one before, are those of elements in a row
   record AreInARow (line : ℕ → Symbol) (k m : ℕ) (p : Pulse) (ps : List Pulse) : Type 0 where
     first : ℕ
     low : first + m < k
     stand : StandFrom line first (suc m) (symbols_of_last (suc m) (p ∷ ps))
-    here : IsPulseOf line edges 450 (first + m) p
+    here : IsPulseOf line edges within.us (first + m) p
 
   module _ (line : ℕ → Symbol) (now : ℕ) where
-    alone : (k : ℕ) (p : Pulse) (ps : List Pulse) → ArePulsesLately line edges now k (p ∷ ps) → now ≤ p.rise + 1200000 → AreInARow line k 0 p ps
+    alone : (k : ℕ) (p : Pulse) (ps : List Pulse) → ArePulsesLately within.us line edges now k (p ∷ ps) → now ≤ p.rise + 1200000 → AreInARow line k 0 p ps
     alone k p ps (inl old) late = absurd (omega (arith, old.0, late))
     alone k p ps (inr is) late =
         let j = is.0 in
@@ -85,23 +88,23 @@ module _ (d : ℕ) (edges : ℕ → ℕ) (steady : IsQuartz d edges) where
           here = rw here is.2;
         }
 
-    in_a_row : (m k : ℕ) (p : Pulse) (ps : List Pulse) → ArePulsesLately line edges now k (p ∷ ps) → AreOnTime (suc m) (p ∷ ps) → now + 11000 * m ≤ p.rise + 1200000 → AreInARow line k m p ps
+    in_a_row : (m k : ℕ) (p : Pulse) (ps : List Pulse) → ArePulsesLately within.us line edges now k (p ∷ ps) → AreOnTime (suc m) (p ∷ ps) → now + 11000 * m ≤ p.rise + 1200000 → AreInARow line k m p ps
     in_a_row zero k p ps are on late = alone k p ps are (omega (arith, late))
     in_a_row (suc m) k p [] are on late = absurd on
     in_a_row (suc m) k p (q ∷ ps) (inl old) on late = absurd (omega (arith, old.0, late))
     in_a_row (suc m) k p (q ∷ ps) (inr is) on late =
         let gap = (on_time_is (p.rise - q.rise)).0 on.0 in
         let before = in_a_row m is.0 q ps is.3 on.1 (omega (arith, late, gap.0, gap.1)) in
-        let next : is.0 ≡ suc (before.first + m) = is_next d 450 edges (clock_of d edges steady) (before.first + m) is.0 q.rise p.rise before.here.0 is.2.0 before.low on.0 in
+        let next : is.0 ≡ suc (before.first + m) = is_next d within.us edges (clock_of within d edges steady) (before.first + m) is.0 q.rise p.rise before.here.0 is.2.0 before.low on.0 in
         let there : is.0 ≡ before.first + suc m = omega (arith, next) in
         record {
           first = before.first;
           low = omega (arith, is.1, next);
           stand = stands_more line before.first (suc m) (symbols_of_last (suc m) (q ∷ ps)) (symbol_of p.width) before.stand (is.2.1 ∙ ap line there);
-          here = subst (λ (j : ℕ). IsPulseOf line edges 450 j p) there is.2;
+          here = subst (λ (j : ℕ). IsPulseOf line edges within.us j p) there is.2;
         }
 
-    dropped : (n k : ℕ) (pulses : List Pulse) → ArePulsesLately line edges now k pulses → (j : ℕ) × ArePulsesLately line edges now j (drop n pulses)
+    dropped : (n k : ℕ) (pulses : List Pulse) → ArePulsesLately within.us line edges now k pulses → (j : ℕ) × ArePulsesLately within.us line edges now j (drop n pulses)
     dropped zero k pulses are = (k, are)
     dropped (suc n) k [] are = (k, tt)
     dropped (suc n) k (p ∷ ps) (inl old) = dropped n k ps old.1
@@ -109,13 +112,13 @@ module _ (d : ℕ) (edges : ℕ → ℕ) (steady : IsQuartz d edges) where
 
 -- ---- a frame that was heard whole
 
-module _ (rules : Rules) (t : TimelineValue) (d : ℕ) (edges : ℕ → ℕ) (steady : IsQuartz d edges) where
+module _ (within : Within) (rules : Rules) (t : TimelineValue) (d : ℕ) (edges : ℕ → ℕ) (steady : IsQuartz d edges) where
   -- by its hundred pulses
-  framed : (now end : ℕ) (line : ℕ → Symbol) (k : ℕ) (p : Pulse) (ps : List Pulse) (claim : Claim) → IsLineOf rules t line → ArePulsesLately line edges now k (p ∷ ps) → AreOnTime 100 (p ∷ ps)
-      → Carries rules (symbols_of_last 100 (p ∷ ps)) claim → end ≡ p.rise + 10000 → now ≤ end + 100000 → IsTrueNear t edges (449 + d) (449 + d) end claim
+  framed : (now end : ℕ) (line : ℕ → Symbol) (k : ℕ) (p : Pulse) (ps : List Pulse) (claim : Claim) → IsLineOf rules t line → ArePulsesLately within.us line edges now k (p ∷ ps) → AreOnTime 100 (p ∷ ps)
+      → Carries rules (symbols_of_last 100 (p ∷ ps)) claim → end ≡ p.rise + 10000 → now ≤ end + 100000 → IsTrueNear t edges (end_off_us within.us d) (end_off_us within.us d) end claim
   unfolding StandFrom
   framed now end line k p ps claim is are on carries at soon =
-      let row = in_a_row d edges steady line now 99 k p ps are on (omega (arith, at, soon)) in
+      let row = in_a_row within d edges steady line now 99 k p ps are on (omega (arith, at, soon)) in
       let whole : row.first % 100 ≡ 0 = only_whole line row.first (symbols_of_last 100 (p ∷ ps)) carries.coded is.right row.stand.1 carries.reads in
       let f : ℕ = row.first / 100 in
       let first : row.first ≡ 100 * f = omega (arith, whole) in
@@ -131,24 +134,24 @@ module _ (rules : Rules) (t : TimelineValue) (d : ℕ) (edges : ℕ → ℕ) (st
         truth = is.truth f (symbols_of_last 100 (p ∷ ps)) claim (subst (λ (j : ℕ). StandAt line j (symbols_of_last 100 (p ∷ ps))) first row.stand.1) carries;
       }
 
-  ended : (now end : ℕ) (line : ℕ → Symbol) (k : ℕ) (run : List Pulse) (claim : Claim) → IsLineOf rules t line → ArePulsesLately line edges now k run
-      → AreOnTime 100 run → IsLastBefore end run → Carries rules (symbols_of_last 100 run) claim → now ≤ end + 100000 → IsTrueNear t edges (449 + d) (449 + d) end claim
+  ended : (now end : ℕ) (line : ℕ → Symbol) (k : ℕ) (run : List Pulse) (claim : Claim) → IsLineOf rules t line → ArePulsesLately within.us line edges now k run
+      → AreOnTime 100 run → IsLastBefore end run → Carries rules (symbols_of_last 100 run) claim → now ≤ end + 100000 → IsTrueNear t edges (end_off_us within.us d) (end_off_us within.us d) end claim
   ended now end line k [] claim is are on at carries soon = absurd at
   ended now end line k (p ∷ ps) claim is are on at carries soon = framed now end line k p ps claim is are on carries at soon
 
-  pub frame_is_true : (now end : ℕ) (pulses : List Pulse) (claim : Claim) → IsTrueLately rules t edges now pulses → IsFrameOf rules claim end pulses → now ≤ end + 100000 → IsTrueNear t edges (449 + d) (449 + d) end claim
+  pub frame_is_true : (now end : ℕ) (pulses : List Pulse) (claim : Claim) → IsTrueLately within.us rules t edges now pulses → IsFrameOf rules claim end pulses → now ≤ end + 100000 → IsTrueNear t edges (end_off_us within.us d) (end_off_us within.us d) end claim
   frame_is_true now end pulses claim is frame soon =
-      let left = dropped d edges steady is.line now frame.late is.next pulses is.are in
+      let left = dropped within d edges steady is.line now frame.late is.next pulses is.are in
       ended now end is.line left.0 (drop frame.late pulses) claim is.is_line left.1 frame.on_time frame.last frame.carries soon
 
--- with any steady counter's bounds
-pub true_lately : (rules : Rules) (t : TimelineValue) (d : ℕ) (edges : ℕ → ℕ) (now end : ℕ) (pulses : List Pulse) (claim : Claim) → IsQuartz d edges → IsTrueLately rules t edges now pulses → IsFrameOf rules claim end pulses → now ≤ end + 100000
-    → IsTrueNear t edges 549 549 end claim
-true_lately rules t d edges now end pulses claim steady is frame soon =
-    let near = frame_is_true rules t d edges steady now end pulses claim is frame soon in
+-- the same, with nothing more
+pub true_lately : (within : Within) (rules : Rules) (t : TimelineValue) (d : ℕ) (edges : ℕ → ℕ) (now end : ℕ) (pulses : List Pulse) (claim : Claim) → IsQuartz d edges → IsTrueLately within.us rules t edges now pulses → IsFrameOf rules claim end pulses → now ≤ end + 100000
+    → IsTrueNear t edges (0 + end_off_us within.us d) (0 + end_off_us within.us d) end claim
+true_lately within rules t d edges now end pulses claim steady is frame soon =
+    let near = frame_is_true within rules t d edges steady now end pulses claim is frame soon in
     record {
       second = near.second;
-      near = record { least = omega (arith, near.near.least, steady.few); most = omega (arith, near.near.most, steady.few) };
+      near = record { least = omega (arith, near.near.least); most = omega (arith, near.near.most) };
       truth = near.truth;
     }
 

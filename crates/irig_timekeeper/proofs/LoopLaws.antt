@@ -103,16 +103,16 @@ narrow_marker width e = of (nat_lt width 500) (nat_lt width 3500) (nat_lt width 
 
 module _ (t : TimelineValue) (d : ℕ) (edges : ℕ → ℕ) (quartz : IsQuartz d edges) (new : Keeping) (m : ℕ) where
   abbrev Whole : ℕ → List Pulse → Type 0
-  Whole late pulses = IsWhole new.limits new.rules t edges m (drop late pulses)
+  Whole late pulses = IsWhole new.clock.within.us new.limits new.rules t edges m (drop late pulses)
 
   -- the last pulse of one of them, which ends near the edge
   pub record IsLastOfOne (port rise width : ℕ) (calls : List Call) : Type 0 where
-    pub whole : IsWhole new.limits new.rules t edges m (pulses_on port (Hear port rise width ∷ calls))
+    pub whole : IsWhole new.clock.within.us new.limits new.rules t edges m (pulses_on port (Hear port rise width ∷ calls))
     pub small : port < 5
     pub narrow : is_pulse width ≡ true
-    pub least : edges m ≤ rise + width + 4049
-    pub most : rise + width ≤ edges m + 48
-    pub rose : edges m ≤ rise + 10549
+    pub least : edges m ≤ rise + width + 3950
+    pub most : rise + width + 51 ≤ edges m
+    pub rose : edges m ≤ rise + 10450
 
   module _ (port rise width : ℕ) (calls : List Call) (come : ComesWhole t edges new m (Hear port rise width ∷ calls)) where
     HasOne : ℕ → Type 0
@@ -140,19 +140,19 @@ module _ (t : TimelineValue) (d : ℕ) (edges : ℕ → ℕ) (quartz : IsQuartz 
       on : pulses_on port (Hear port rise width ∷ calls) ≡ pulse_at rise width ∷ pulses_on port calls
       on = own_pulses port port rise width calls narrow (eq-eqb port port refl)
 
-      is_last : port < 5 → (w : IsWhole new.limits new.rules t edges m (pulse_at rise width ∷ pulses_on port calls)) → IsLastOfOne port rise width calls
+      is_last : port < 5 → (w : IsWhole new.clock.within.us new.limits new.rules t edges m (pulse_at rise width ∷ pulses_on port calls)) → IsLastOfOne port rise width calls
       is_last small w =
-          let ends = ends_whole new.limits new.rules t d edges m (pulse_at rise width ∷ pulses_on port calls) quartz w in
+          let ends = ends_whole new.clock.within new.limits new.rules t d edges m (pulse_at rise width ∷ pulses_on port calls) quartz w in
           let head : pulse_at rise width ≡ ends.p = (let e = ends.are in cc) in
           let rises : rise ≡ ends.p.rise = ap (λ (q : Pulse). q.rise) head in
           let marker = narrow_marker width (subst (λ (q : Pulse). is_marker q.width ≡ true) (sym head) ends.marker) in
           record {
-            whole = subst (IsWhole new.limits new.rules t edges m) (sym on) w;
+            whole = subst (IsWhole new.clock.within.us new.limits new.rules t edges m) (sym on) w;
             small = small;
             narrow = narrow;
-            least = omega (arith, rises, ends.least, marker.0);
-            most = omega (arith, rises, ends.most, marker.1);
-            rose = omega (arith, rises, ends.least);
+            least = omega (arith, rises, ends.least, marker.0, new.clock.within.few, quartz.few);
+            most = omega (arith, rises, ends.most, marker.1, new.clock.within.few, quartz.few);
+            rose = omega (arith, rises, ends.least, new.clock.within.few, quartz.few);
           }
 
       by : port < 5 → (late : ℕ) → Whole late (pulse_at rise width ∷ pulses_on port calls) → ComesWhole t edges new m calls ⊎ IsLastOfOne port rise width calls
@@ -246,7 +246,7 @@ module _ (IsTrue : ℕ → List Pulse → Type 0) (t : TimelineValue) (d : ℕ) 
       (serve (m + n) (omega (arith, some)) row.rest row.done row.on (subst (ComesWhole t edges new (m + n)) row.are (whole n (omega (arith, few)))) (subst (λ (c : List Call). edges (m + n) + 2000 ≤ last_tick start c) row.are (omega (arith, rise, last))))
 
   -- so the device announces the last
-  pub loop_announces : (begun : AreLinesAt new new (λ i. []) start start) (is : IsDevice t new.clock.drift_us edges new.clock.reader_rules new.table) (truly : TellAlwaysTruly IsTrue new.rules t edges 549 549) → new.state.reader ≡ state_of new.clock.reader_rules new.table [] → (m : ℕ) → 1 ≤ m → 1 ≤ new.clock.reader_rules.lock_after → (calls before : List Call)
+  pub loop_announces : (begun : AreLinesAt new new (λ i. []) start start) (is : IsDevice t new.clock.drift_us edges new.clock.reader_rules new.table) (truly : TellAlwaysTruly IsTrue new.clock.within.us new.clock.drift_us new.rules t edges 0 0) → new.state.reader ≡ state_of new.clock.reader_rules new.table [] → (m : ℕ) → 1 ≤ m → 1 ≤ new.clock.reader_rules.lock_after → (calls before : List Call)
       → AreServing IsTrue t edges new start Loop m calls before → ((n : ℕ) → n < new.clock.reader_rules.lock_after + 2 → ComesWhole t edges new (m + n) (calls ++ before)) → edges (m + 1 + new.clock.reader_rules.lock_after) + 2000 ≤ last_tick start (calls ++ before) → (u : UtcSecond) → IsSecond t (m + 1 + new.clock.reader_rules.lock_after) u
       → Announces edges new (m + 1 + new.clock.reader_rules.lock_after) u (calls ++ before)
   loop_announces begun is truly fresh m some enough calls before on whole last u second =
@@ -267,7 +267,7 @@ module _ (IsTrue : ℕ → List Pulse → Type 0) (t : TimelineValue) (d : ℕ) 
 
 -- ---- a tick at least so often
 
-module _ (IsTrue : ℕ → List Pulse → Type 0) (t : TimelineValue) (d : ℕ) (edges : ℕ → ℕ) (quartz : IsQuartz d edges) (new : Keeping) (start : ℕ) (most : ℕ) (few : most ≤ 96000) where
+module _ (IsTrue : ℕ → List Pulse → Type 0) (t : TimelineValue) (edges : ℕ → ℕ) (new : Keeping) (quartz : IsQuartz new.clock.drift_us edges) (start : ℕ) (most : ℕ) (few : most ≤ 96000) where
   abbrev pub Polls : List Call → List Call → Type 0
   Polls calls before = AreToldInTime start calls before × TicksEach most start calls before
 
@@ -285,7 +285,7 @@ module _ (IsTrue : ℕ → List Pulse → Type 0) (t : TimelineValue) (d : ℕ) 
       let polls = polls_split first.x z done (subst (λ (c : List Call). Polls c done) first.are on.loop) in
       let truth = truth_splits IsTrue (f_of new.clock.redundancy) first.x z done (subst (λ (c : List Call). AreTrueOver IsTrue (f_of new.clock.redundancy) c done) first.are on.truth) in
       let ordered = subst (AreInOrder start new.clock.redundancy) joined on.order in
-      let told = told_before t d edges quartz new m start new.clock.redundancy first.x (z ++ done) ordered first.come polls.0.0 (subst (ComesWhole t edges new m) joined come) in
+      let told = told_before t new.clock.drift_us edges quartz new m start new.clock.redundancy first.x (z ++ done) ordered first.come polls.0.0 (subst (ComesWhole t edges new m) joined come) in
       record {
         x = first.x;
         z = z;
@@ -296,23 +296,23 @@ module _ (IsTrue : ℕ → List Pulse → Type 0) (t : TimelineValue) (d : ℕ) 
           are = refl;
           early = omega (arith, first.early);
           soon = omega (arith, first.early, polls.1.1.0, few);
-          comes = inl (omega (arith, first.come), record { whole = told.whole; many = told.many; frames = told.frames });
+          comes = inl (omega (arith, first.come, new.clock.within.few, quartz.few), record { whole = told.whole; many = told.many; frames = told.frames });
           truth = truth.1;
         };
       }
 
 -- so, by what `a_device_announces` says of true lines
-pub polling_announces : (t : TimelineValue) (edges : ℕ → ℕ) (made : Made) (start m most : ℕ) (calls before : List Call) (u : UtcSecond) → ComeInARow IsTrueLately t edges made start m calls before → most ≤ 96000 → TicksEach most start calls before → AreToldInTime start calls before
+pub polling_announces : (t : TimelineValue) (edges : ℕ → ℕ) (made : Made) (start m most : ℕ) (calls before : List Call) (u : UtcSecond) → ComeInARow (IsTrueLately made.clock.within.us) t edges made start m calls before → most ≤ 96000 → TicksEach most start calls before → AreToldInTime start calls before
     → IsSecond t (m + 1 + made.clock.reader_rules.lock_after) u → Announces edges (device_of made) (m + 1 + made.clock.reader_rules.lock_after) u (calls ++ before)
 polling_announces t edges made start m most calls before u come few each told second =
     let quartz = come.is.steady in
     let new = device_of made in
-    loop_announces (IsTrueLately made.rules t edges) t made.clock.drift_us edges quartz new start
-    (Polls (IsTrueLately made.rules t edges) t made.clock.drift_us edges quartz new start most few)
-    (polls_split (IsTrueLately made.rules t edges) t made.clock.drift_us edges quartz new start most few)
-    (polls_serve (IsTrueLately made.rules t edges) t made.clock.drift_us edges quartz new start most few)
+    loop_announces (IsTrueLately made.clock.within.us made.rules t edges) t made.clock.drift_us edges quartz new start
+    (Polls (IsTrueLately made.clock.within.us made.rules t edges) t edges new quartz start most few)
+    (polls_split (IsTrueLately made.clock.within.us made.rules t edges) t edges new quartz start most few)
+    (polls_serve (IsTrueLately made.clock.within.us made.rules t edges) t edges new quartz start most few)
     (begins made.limits made.rules made.clock made.table made.lines start made.fresh) come.is
-    (λ now end pulses claim is_true frame soon. true_lately made.rules t made.clock.drift_us edges now end pulses claim quartz is_true frame soon)
+    (λ now end pulses claim is_true frame soon. true_lately made.clock.within made.rules t made.clock.drift_us edges now end pulses claim quartz is_true frame soon)
     refl m come.some come.locks calls before
     (record { told = come.told; risen = come.risen; ticked = come.ticked; past = come.past; order = come.order; truth = come.truth; loop = (told, each) })
     come.whole come.last u second

@@ -2,7 +2,7 @@
 -- frames lie apart.
 use Rattle.std.specs.Prelude.{◌==◌, count_by, nat_le}
 use Rattle.std.specs.List.{range_with_len}
-use Rattle.std.proofs.Common.{◌≡◌, ◌∙◌, ◌⊎◌, ℕ, zero, suc, ◌+◌, ◌-◌, ◌*◌, ◌%◌, ◌^◌, ◌<◌, ◌≤◌, Bool, true, false, cond, List, [], ◌∷◌, ◌++◌, drop, Option, Some, None, refl, sym, ap, subst, arith, inl, inr, append-nil}
+use Rattle.std.proofs.Common.{◌≡◌, ◌∙◌, ◌⊎◌, ℕ, zero, suc, ◌+◌, ◌-◌, ◌*◌, ◌/◌, ◌%◌, ◌^◌, ◌<◌, ◌≤◌, Bool, true, false, cond, List, [], ◌∷◌, ◌++◌, drop, Option, Some, None, refl, sym, ap, subst, arith, inl, inr, append-nil}
 use Rattle.std.proofs.lemmas.Bool.{cases_Bool, eqb-true, eqb-false, ne_eqb, ltb-true, leb-true}
 use Rattle.std.proofs.lemmas.List.Sums.{sum_by-cons}
 use Rattle.irig_sync.specs.Sync.{clock_gap, place_of}
@@ -16,19 +16,22 @@ use Rattle.irig_vote.specs.Vote.{f_of, ports_in}
 use Rattle.irig_timekeeper.specs.declared.lines.KeptClaim.{KeptClaim}
 use Rattle.irig_timekeeper.specs.declared.lines.Line.{Line}
 use Rattle.irig_timekeeper.specs.declared.lines.Lines.{Lines}
+use Rattle.irig_timekeeper.specs.declared.lines.Vote.{Vote}
 use Rattle.irig_timekeeper.specs.declared.clock.Beat.{Beat}
-use Rattle.irig_timekeeper.specs.declared.clock.ClockRules.{ClockRules}
+use Rattle.irig_timekeeper.specs.declared.setup.ClockRules.{ClockRules}
 use Rattle.irig_timekeeper.specs.declared.clock.ClockState.{ClockState}
 use Rattle.irig_timekeeper.specs.Lines.{IfKept}
 use Rattle.irig_timekeeper.specs.Counting.{edges_between, edge_behind, is_late, has_come, edges_to_vote, edges_own}
-use Rattle.irig_timekeeper.specs.Steps.{is_pulse, line_at, claim_kept, still_kept, line_taken, settled, taken, all_kept, agrees, is_candidate, agreed}
+use Rattle.irig_timekeeper.specs.Exactness.{window_us}
+use Rattle.irig_timekeeper.specs.Steps.{is_pulse, line_at, claim_kept, still_kept, line_taken, settled, taken, all_kept, agrees, is_candidate, first_candidate, agreed}
 use Rattle.irig_timekeeper.specs.Clock.{step_to, beat_by, after_vote, answer_to_vote, after_own, answer_alone, own_edge, clock_by, answer_by, settled_at}
 use Rattle.irig_timekeeper.specs.Keeping.{Keeping, vote_at, after_pulse, after_tick, answer_at}
 use Rattle.irig_timekeeper.specs.Truth.{IsEdgeAt, AreApartBeats}
 use Rattle.irig_timekeeper.specs.Life.{Call, after_calls, pulses_on, last_tick, AreInOrder}
 use Rattle.irig_timekeeper.specs.Life.Call.{Hear, Tick}
-use Rattle.irig_timekeeper.proofs.AgreeLaws.{is_one}
-use Rattle.irig_timekeeper.proofs.VoteLaws.{still, come, frame_settled, one_more, not_late, split, last_late}
+use Rattle.irig_timekeeper.proofs.AgreeLaws.{EachKept, is_one}
+use Rattle.irig_timekeeper.proofs.PartLaws.{split, IsVoteOf, agreed_first, vote_of, narrow}
+use Rattle.irig_timekeeper.proofs.VoteLaws.{still, come, frame_settled, one_more, not_late, last_late}
 use Rattle.irig_timekeeper.proofs.WholeLaws.{whole_of, AreSorted, whole_here, not_whole, whole_apart}
 use Rattle.irig_timekeeper.proofs.TimeLaws.{own_count, still_edge, own_edge_at, voted_count, same_edge}
 use Rattle.irig_timekeeper.proofs.LifeLaws.{AreLinesAt, IsEndAt, line_soon, lines_after, order_before, ticked, line_takes, line_same, line_other, own_pulses, others_pulses, no_pulse, has_risen, unheard}
@@ -228,16 +231,34 @@ ranged EndsSo rules (Some x) pulses y h e =
     subst (λ (v : KeptClaim). v.end_us < 2 ^ 32) same low
 
 -- a tick that has a vote takes the frames
-takes : (k : Keeping) (clock : ℕ) (v : KeptClaim) → vote_at k clock ≡ Some v → (after_tick k clock).state.lines ≡ taken (settled clock k.state.lines)
+takes : (k : Keeping) (clock : ℕ) (v : Vote) → vote_at k clock ≡ Some v → (after_tick k clock).state.lines ≡ taken (settled clock k.state.lines)
 takes k clock v e = of (vote_at k clock) e
   where
     either : (b : Bool) (x y : ClockState) (lines : Lines) → x.lines ≡ lines → y.lines ≡ lines → (cond b x y).lines ≡ lines
     either true x y lines p q = p
     either false x y lines p q = q
 
-    of : (o : Option KeptClaim) → o ≡ Some v → (clock_by k.clock k.table (settled_at k.state clock) clock o).lines ≡ taken (settled clock k.state.lines)
+    of : (o : Option Vote) → o ≡ Some v → (clock_by k.clock k.table (settled_at k.state clock) clock o).lines ≡ taken (settled clock k.state.lines)
     of None e = absurd cc
-    of (Some x) e = either (edges_to_vote k.state.edge_us x.end_us == 0) _ _ _ refl refl
+    of (Some x) e = either (edges_to_vote k.state.edge_us x.edge_us == 0) _ _ _ refl refl
+
+-- the edge of a vote lies behind the end of its frame, and not further than the window
+pub record LiesBehind (window e end : ℕ) : Type 0 where
+  pub edge : ℕ
+  pub clock : e ≡ edge % 2 ^ 32
+  pub least : end ≤ edge
+  pub most : edge ≤ end + window
+
+pub lies_behind : (c : ClockRules) (all : List (Option KeptClaim)) (v : Vote) (x : KeptClaim) → IsVoteOf c all v x → (end : ℕ) → x.end_us ≡ end % 2 ^ 32 → LiesBehind (window_us c.within.us) v.edge_us end
+lies_behind c all v x p end at = record {
+  edge = end + (p.from + p.by) / 2;
+  clock = ap (λ (z : Vote). z.edge_us) p.is ∙ wrapped x.end_us p.from p.by at;
+  least = omega arith;
+  most = omega (arith, p.from_most, p.by_most);
+}
+  where
+    wrapped : (e from by : ℕ) → e ≡ end % 2 ^ 32 → (e + (from + by) / 2) % 2 ^ 32 ≡ (end + (from + by) / 2) % 2 ^ 32
+    wrapped e from by at = omega (arith, at)
 
 module _ (new : Keeping) (start : ℕ) (begins : AreLinesAt new new (λ i. []) start start) where
   module _ (calls : List Call) (now : ℕ) (order : AreInOrder start new.clock.redundancy (Tick now ∷ calls)) where
@@ -247,26 +268,35 @@ module _ (new : Keeping) (start : ℕ) (begins : AreLinesAt new new (λ i. []) s
     abbrev pub lines : Lines
     lines = (after_calls new calls).state.lines
 
+    abbrev pub rules : ClockRules
+    rules = (after_calls new calls).clock
+
     abbrev pub f : ℕ
     f = f_of (after_calls new calls).clock.redundancy
+
+    abbrev pub window : ℕ
+    window = window_us (after_calls new calls).clock.within.us
+
+    few : window_us (after_calls new calls).clock.within.us ≤ 898
+    few = narrow (after_calls new calls).clock
 
     -- what a line keeps
     pub kept_by : (i : ℕ) → i < 5 → (y : KeptClaim) → claim_kept (line_at (settled clock lines) i).frame ≡ Some y → (claim_kept (line_at lines i).frame ≡ Some y) × (is_late y.end_us clock ≡ false)
     kept_by i small y e = still clock (line_at lines i).frame y (ap claim_kept (sym (frame_settled clock lines i small)) ∙ e)
 
     -- a frame on which more than f lines agree, and that one of them keeps
-    pub record IsCandidateAt (v : KeptClaim) : Type 0 where
-      pub counts : is_candidate f v (all_kept (settled clock lines)) ≡ true
-      pub range : v.end_us < 2 ^ 32
+    pub record IsCandidateAt (x : KeptClaim) : Type 0 where
+      pub counts : is_candidate window f x (all_kept (settled clock lines)) ≡ true
+      pub range : x.end_us < 2 ^ 32
       pub i : ℕ
       pub small : i < 5
-      pub keeps : claim_kept (line_at (settled clock lines) i).frame ≡ Some v
+      pub keeps : claim_kept (line_at (settled clock lines) i).frame ≡ Some x
 
-    pub record IsKeptThere (v : KeptClaim) : Type 0 where
-      pub range : v.end_us < 2 ^ 32
+    pub record IsKeptThere (x : KeptClaim) : Type 0 where
+      pub range : x.end_us < 2 ^ 32
       pub i : ℕ
       pub small : i < 5
-      pub keeps : claim_kept (line_at (settled clock lines) i).frame ≡ Some v
+      pub keeps : claim_kept (line_at (settled clock lines) i).frame ≡ Some x
 
     pub there_at : (i : ℕ) → i < 5 → (y : KeptClaim) → claim_kept (line_at (settled clock lines) i).frame ≡ Some y → IsKeptThere y
     there_at i small y e = record {
@@ -276,46 +306,61 @@ module _ (new : Keeping) (start : ℕ) (begins : AreLinesAt new new (λ i. []) s
       keeps = e;
     }
 
-    pub candidate : (v : KeptClaim) → agreed f (settled clock lines) ≡ Some v → IsCandidateAt v
-    candidate v e =
-        let all = all_kept (settled clock lines) in
-        let one = is_one IsKeptThere f all all v
-        (one_more IsKeptThere _ _ (there_at 0 (omega arith))
+    all_there : EachKept IsKeptThere (all_kept (settled clock lines))
+    all_there =
+        one_more IsKeptThere _ _ (there_at 0 (omega arith))
         (one_more IsKeptThere _ _ (there_at 1 (omega arith))
         (one_more IsKeptThere _ _ (there_at 2 (omega arith))
         (one_more IsKeptThere _ _ (there_at 3 (omega arith))
-        (one_more IsKeptThere _ _ (there_at 4 (omega arith)) tt)))))
-        e in
-        record { counts = one.0; range = one.1.range; i = one.1.i; small = one.1.small; keeps = one.1.keeps }
+        (one_more IsKeptThere _ _ (there_at 4 (omega arith)) tt))))
 
-    module _ (v : KeptClaim) (is : IsCandidateAt v) where
+    -- the vote is of the candidate that ends first
+    pub record IsAgreedOn (v : Vote) : Type 0 where
+      pub x : KeptClaim
+      pub is : IsCandidateAt x
+      pub first : first_candidate window f (all_kept (settled clock lines)) (all_kept (settled clock lines)) None ≡ Some x
+      pub parts : IsVoteOf rules (all_kept (settled clock lines)) v x
+
+    pub agreed_on : (v : Vote) → agreed rules (settled clock lines) ≡ Some v → IsAgreedOn v
+    agreed_on v e =
+        let all = all_kept (settled clock lines) in
+        let first = agreed_first rules (settled clock lines) v e in
+        let one = is_one IsKeptThere window f all all first.0 all_there first.1 in
+        record {
+          x = first.0;
+          is = record { counts = one.0; range = one.1.range; i = one.1.i; small = one.1.small; keeps = one.1.keeps };
+          first = first.1;
+          parts = vote_of rules all v first.0 one.0 first.2;
+        }
+
+    module _ (x : KeptClaim) (is : IsCandidateAt x) where
       abbrev pub agreeing : ℕ → Bool
-      agreeing i = agrees v (claim_kept (line_at (settled clock lines) i).frame)
+      agreeing i = agrees window x (claim_kept (line_at (settled clock lines) i).frame)
 
       pub many : f_of new.clock.redundancy < count_by agreeing (range_with_len 0 5)
       many =
           let same : f ≡ f_of new.clock.redundancy = ap (λ (c : ClockRules). f_of c.redundancy) (lines_after new start begins calls now order).same.clock in
-          let counted = ltb-true f (count_by (agrees v) (all_kept (settled clock lines))) is.counts in
+          let counted = ltb-true f (count_by (agrees window x) (all_kept (settled clock lines))) is.counts in
           omega (arith, counted, same)
 
       pub absent : (i : ℕ) → i < 5 → ports_in new.clock.redundancy ≤ i → agreeing i ≡ false
       absent i small far = of (claim_kept (line_at (settled clock lines) i).frame) refl
         where
-          of : (o : Option KeptClaim) → claim_kept (line_at (settled clock lines) i).frame ≡ o → agrees v o ≡ false
+          of : (o : Option KeptClaim) → claim_kept (line_at (settled clock lines) i).frame ≡ o → agrees window x o ≡ false
           of None e = refl
           of (Some y) e =
               let l = (lines_after new start begins calls now order).lines i small in
               let none = kept_of_nothing (IsEndAt (pulses_on i calls) (last_tick start calls) now) (after_calls new calls).rules (claim_kept (line_at lines i).frame) (pulses_on i calls) (silent_line start new.clock.redundancy i far calls order.3) l.kept in
               absurd (let both : None ≡ Some y = sym none ∙ (kept_by i small y e).0 in cc)
 
-      -- a line that agrees keeps a frame that ended with it, or up to 1 ms behind
+      -- a line that agrees keeps a frame that ended with it, or up to the window behind
       pub record IsAgreeing (i : ℕ) : Type 0 where
         pub y : KeptClaim
         pub keeps : claim_kept (line_at lines i).frame ≡ Some y
         pub settled_keeps : claim_kept (line_at (settled clock lines) i).frame ≡ Some y
-        pub same : same_claim v.claim y.claim ≡ true
+        pub same : same_claim x.claim y.claim ≡ true
         pub ends : y.end_us ≡ whole_of (pulses_on i calls) % 2 ^ 32
-        pub near : clock_gap v.end_us (whole_of (pulses_on i calls) % 2 ^ 32) ≤ 1000
+        pub near : clock_gap x.end_us (whole_of (pulses_on i calls) % 2 ^ 32) ≤ window
         pub ahead : whole_of (pulses_on i calls) ≤ now + 10000
         pub soon : now ≤ whole_of (pulses_on i calls) + 100000
         pub low : 10000 ≤ whole_of (pulses_on i calls)
@@ -323,7 +368,7 @@ module _ (new : Keeping) (start : ℕ) (begins : AreLinesAt new new (λ i. []) s
       pub agreed_by : (i : ℕ) → i < 5 → agreeing i ≡ true → IsAgreeing i
       agreed_by i small agree = of (claim_kept (line_at (settled clock lines) i).frame) refl agree
         where
-          of : (o : Option KeptClaim) → claim_kept (line_at (settled clock lines) i).frame ≡ o → agrees v o ≡ true → IsAgreeing i
+          of : (o : Option KeptClaim) → claim_kept (line_at (settled clock lines) i).frame ≡ o → agrees window x o ≡ true → IsAgreeing i
           of None e agree = absurd cc
           of (Some y) e agree =
               let l = (lines_after new start begins calls now order).lines i small in
@@ -333,104 +378,117 @@ module _ (new : Keeping) (start : ℕ) (begins : AreLinesAt new new (λ i. []) s
               let ends : y.end_us ≡ whole_of (pulses_on i calls) % 2 ^ 32 = h.1 ∙ ap (λ (x : ℕ). x % 2 ^ 32) whole in
               let ahead : whole_of (pulses_on i calls) ≤ now + 10000 = omega (arith, whole, h.3.0) in
               let turn : now + 10000 < whole_of (pulses_on i calls) + 2 ^ 32 = omega (arith, whole, h.3.1, order.1) in
-              let both = split (same_claim v.claim y.claim) (nat_le (clock_gap v.end_us y.end_us) 1000) agree in
+              let both = split (same_claim x.claim y.claim) (nat_le (clock_gap x.end_us y.end_us) window) agree in
               record {
                 y = y;
                 keeps = keeps.0;
                 settled_keeps = e;
                 same = both.0;
                 ends = ends;
-                near = subst (λ (e : ℕ). clock_gap v.end_us e ≤ 1000) ends (leb-true (clock_gap v.end_us y.end_us) 1000 both.1);
+                near = subst (λ (e : ℕ). clock_gap x.end_us e ≤ window) ends (leb-true (clock_gap x.end_us y.end_us) window both.1);
                 ahead = ahead;
                 soon = not_late (whole_of (pulses_on i calls)) now ahead turn (subst (λ (e : ℕ). is_late e clock ≡ false) ends keeps.1);
                 low = omega (arith, whole, last_late h.0 (drop h.2.late (pulses_on i calls)) h.2.last);
               }
 
-      -- so it ended at this time
-      pub record EndsAt (edge : ℕ) : Type 0 where
-        pub clock : v.end_us ≡ edge % 2 ^ 32
-        pub ahead : edge ≤ now + 10000
-        pub soon : now ≤ edge + 101000
-        pub low : 9000 ≤ edge
+      -- so the candidate ended at this time
+      pub record EndsAt (end : ℕ) : Type 0 where
+        pub clock : x.end_us ≡ end % 2 ^ 32
+        pub ahead : end ≤ now + 10000
+        pub soon : now ≤ end + 101000
+        pub low : 9000 ≤ end
 
-      exact_end : (i : ℕ) → i < 5 → agreeing i ≡ true → (edge : ℕ) × EndsAt edge × (edge ≤ whole_of (pulses_on i calls)) × (whole_of (pulses_on i calls) ≤ edge + 1000)
+      exact_end : (i : ℕ) → i < 5 → agreeing i ≡ true → (end : ℕ) × EndsAt end × (end ≤ whole_of (pulses_on i calls)) × (whole_of (pulses_on i calls) ≤ end + window)
       exact_end i small agree =
           let a = agreed_by i small agree in
           let end : ℕ = whole_of (pulses_on i calls) in
-          let gap : ℕ = clock_gap v.end_us (end % 2 ^ 32) in (
+          let gap : ℕ = clock_gap x.end_us (end % 2 ^ 32) in (
             end - gap,
             record {
-              clock = wrapped v.end_us end is.range a.low a.near;
+              clock = wrapped x.end_us end is.range a.low (omega (arith, a.near, few));
               ahead = omega (arith, a.ahead);
-              soon = omega (arith, a.soon, a.near, a.low);
-              low = omega (arith, a.near, a.low);
+              soon = omega (arith, a.soon, a.near, a.low, few);
+              low = omega (arith, a.near, a.low, few);
             },
             omega arith,
-            omega (arith, a.near, a.low),
+            omega (arith, a.near, a.low, few),
           )
         where
-          wrapped : (e end : ℕ) → e < 2 ^ 32 → 10000 ≤ end → clock_gap e (end % 2 ^ 32) ≤ 1000 → e ≡ (end - clock_gap e (end % 2 ^ 32)) % 2 ^ 32
+          wrapped : (e end : ℕ) → e < 2 ^ 32 → 10000 ≤ end → clock_gap e (end % 2 ^ 32) ≤ 898 → e ≡ (end - clock_gap e (end % 2 ^ 32)) % 2 ^ 32
           wrapped e end range low near = omega (arith, range, low, near)
 
-      pub ends_at : (edge : ℕ) × EndsAt edge
+      pub ends_at : (end : ℕ) × EndsAt end
       ends_at =
           let one = shared new.clock.redundancy agreeing agreeing absent absent many many in
           let e = exact_end one.0 one.1 one.2 in
           (e.0, e.1)
 
-      -- each that agrees ended there, or up to 1 ms behind
-      pub near_end : (edge : ℕ) → EndsAt edge → (i : ℕ) → i < 5 → agreeing i ≡ true → (edge ≤ whole_of (pulses_on i calls)) × (whole_of (pulses_on i calls) ≤ edge + 1000)
-      near_end edge at i small agree =
+      -- each that agrees ended there, or up to the window behind
+      pub near_end : (end : ℕ) → EndsAt end → (i : ℕ) → i < 5 → agreeing i ≡ true → (end ≤ whole_of (pulses_on i calls)) × (whole_of (pulses_on i calls) ≤ end + window)
+      near_end end at i small agree =
           let e = exact_end i small agree in
-          let same : e.0 ≡ edge = one_end v.end_us e.0 edge e.1.clock at.clock (omega (arith, e.1.ahead, at.soon)) (omega (arith, at.ahead, e.1.soon)) in
+          let same : e.0 ≡ end = one_end x.end_us e.0 end e.1.clock at.clock (omega (arith, e.1.ahead, at.soon)) (omega (arith, at.ahead, e.1.soon)) in
           (omega (arith, same, e.2), omega (arith, same, e.3))
         where
           one_end : (e x y : ℕ) → e ≡ x % 2 ^ 32 → e ≡ y % 2 ^ 32 → x ≤ y + 200000 → y ≤ x + 200000 → x ≡ y
           one_end e x y p q near far = omega (arith, p, q, near, far)
 
-  module _ (calls : List Call) (now : ℕ) (order : AreInOrder start new.clock.redundancy (Tick now ∷ calls)) (v : KeptClaim) (voted : vote_at (after_calls new calls) (now % 2 ^ 32) ≡ Some v) where
-    there : (agreed (f calls now order) (settled (now % 2 ^ 32) (lines calls now order)) ≡ Some v) × (has_come v.end_us (now % 2 ^ 32) ≡ true)
-    there = come (now % 2 ^ 32) (agreed (f calls now order) (settled (now % 2 ^ 32) (lines calls now order))) v voted
+  module _ (calls : List Call) (now : ℕ) (order : AreInOrder start new.clock.redundancy (Tick now ∷ calls)) (v : Vote) (voted : vote_at (after_calls new calls) (now % 2 ^ 32) ≡ Some v) where
+    there : (agreed (rules calls now order) (settled (now % 2 ^ 32) (lines calls now order)) ≡ Some v) × (has_come v.edge_us (now % 2 ^ 32) ≡ true)
+    there = come (now % 2 ^ 32) (agreed (rules calls now order) (settled (now % 2 ^ 32) (lines calls now order))) v voted
 
-    cand : IsCandidateAt calls now order v
-    cand = candidate calls now order v there.0
+    on : IsAgreedOn calls now order v
+    on = agreed_on calls now order v there.0
 
-    -- the edge that is voted has come
-    pub edge_of : (edge : ℕ) × IsEdgeAt v.end_us edge now × (now ≤ edge + 100000) × (9000 ≤ edge)
-    edge_of =
-        let end = ends_at calls now order v cand in
-        let few = leb-true (clock_gap v.end_us (now % 2 ^ 32)) 100000 there.1 in
-        let has = has_come_so v.end_us end.0 end.1.clock end.1.ahead end.1.soon few in
-        (end.0, record { clock = end.1.clock; come = has.0; soon = omega (arith, has.1) }, has.1, end.1.low)
+    end : (end : ℕ) × EndsAt calls now order on.x on.is end
+    end = ends_at calls now order on.x on.is
+
+    lies : LiesBehind (window calls now order) v.edge_us end.0
+    lies = lies_behind (rules calls now order) (all_kept (settled (now % 2 ^ 32) (lines calls now order))) v on.x on.parts end.0 end.1.clock
+
+    narrows : window calls now order ≤ 898
+    narrows = narrow (rules calls now order)
+
+    has : (lies.edge ≤ now) × (now ≤ lies.edge + 100000)
+    has =
+        let few = leb-true (clock_gap v.edge_us (now % 2 ^ 32)) 100000 there.1 in
+        has_come_so v.edge_us lies.edge lies.clock (omega (arith, lies.most, end.1.ahead, narrows)) (omega (arith, lies.least, end.1.soon)) few
       where
-        has_come_so : (e edge : ℕ) → e ≡ edge % 2 ^ 32 → edge ≤ now + 10000 → now ≤ edge + 101000 → clock_gap e (now % 2 ^ 32) ≤ 100000 → (edge ≤ now) × (now ≤ edge + 100000)
+        has_come_so : (e edge : ℕ) → e ≡ edge % 2 ^ 32 → edge ≤ now + 11000 → now ≤ edge + 101000 → clock_gap e (now % 2 ^ 32) ≤ 100000 → (edge ≤ now) × (now ≤ edge + 100000)
         has_come_so e edge clock ahead soon few = (omega (arith, clock, ahead, soon, few), omega (arith, clock, ahead, soon, few))
 
+    at_edge : IsEdgeAt v.edge_us lies.edge now
+    at_edge = record { clock = lies.clock; come = has.0; soon = omega (arith, has.1) }
+
+    -- the edge that is voted has come
+    pub edge_of : (edge : ℕ) × IsEdgeAt v.edge_us edge now × (now ≤ edge + 100000) × (9000 ≤ edge)
+    edge_of = (lies.edge, at_edge, has.1, omega (arith, lies.least, end.1.low))
+
+    -- a line that agrees ended within a window of the edge, at most 898 us wide
     record IsVoter (V i : ℕ) : Type 0 where
       y : KeptClaim
       keeps : claim_kept (line_at (lines calls now order) i).frame ≡ Some y
-      least : V ≤ whole_of (pulses_on i calls)
-      most : whole_of (pulses_on i calls) ≤ V + 1000
+      least : V ≤ whole_of (pulses_on i calls) + 898
+      most : whole_of (pulses_on i calls) ≤ V + 898
 
-    voter : (V : ℕ) → IsEdgeAt v.end_us V now → (i : ℕ) → i < 5 → agreeing calls now order v cand i ≡ true → IsVoter V i
+    voter : (V : ℕ) → IsEdgeAt v.edge_us V now → (i : ℕ) → i < 5 → agreeing calls now order on.x on.is i ≡ true → IsVoter V i
     voter V at i small agree =
-        let a = agreed_by calls now order v cand i small agree in
-        let e = edge_of in
-        let same : e.0 ≡ V = same_edge v.end_us e.0 V now e.1 at in
-        let near = near_end calls now order v cand V (record { clock = at.clock; ahead = omega (arith, at.come); soon = omega (arith, same, e.2); low = omega (arith, same, e.3) }) i small agree in
-        record { y = a.y; keeps = a.keeps; least = near.0; most = near.1 }
+        let a = agreed_by calls now order on.x on.is i small agree in
+        let same : lies.edge ≡ V = same_edge v.edge_us lies.edge V now at_edge at in
+        let near = near_end calls now order on.x on.is end.0 end.1 i small agree in
+        record { y = a.y; keeps = a.keeps; least = omega (arith, same, lies.most, near.0, narrows); most = omega (arith, same, lies.least, near.1, narrows) }
 
   -- two votes share a line, whose frames lie a frame apart
-  pub votes_apart : (earlier later : List Call) (before now : ℕ) (v v' : KeptClaim) (V V' : ℕ) → AreInOrder start new.clock.redundancy (Tick now ∷ (later ++ (Tick before ∷ earlier)))
-      → vote_at (after_calls new earlier) (before % 2 ^ 32) ≡ Some v → IsEdgeAt v.end_us V before
-      → vote_at (after_calls new (later ++ (Tick before ∷ earlier))) (now % 2 ^ 32) ≡ Some v' → IsEdgeAt v'.end_us V' now → V + 890000 ≤ V'
+  pub votes_apart : (earlier later : List Call) (before now : ℕ) (v v' : Vote) (V V' : ℕ) → AreInOrder start new.clock.redundancy (Tick now ∷ (later ++ (Tick before ∷ earlier)))
+      → vote_at (after_calls new earlier) (before % 2 ^ 32) ≡ Some v → IsEdgeAt v.edge_us V before
+      → vote_at (after_calls new (later ++ (Tick before ∷ earlier))) (now % 2 ^ 32) ≡ Some v' → IsEdgeAt v'.edge_us V' now → V + 889000 ≤ V'
   votes_apart earlier later before now v v' V V' order voted at voted' at' =
       let base : List Call = Tick before ∷ earlier in
       let calls : List Call = later ++ base in
       let ordered = order_before start new.clock.redundancy later base order.3 in
-      let p = cand earlier before ordered v voted in
-      let q = cand calls now order v' voted' in
-      let one = shared new.clock.redundancy (agreeing earlier before ordered v p) (agreeing calls now order v' q) (absent earlier before ordered v p) (absent calls now order v' q) (many earlier before ordered v p) (many calls now order v' q) in
+      let p = on earlier before ordered v voted in
+      let q = on calls now order v' voted' in
+      let one = shared new.clock.redundancy (agreeing earlier before ordered p.x p.is) (agreeing calls now order q.x q.is) (absent earlier before ordered p.x p.is) (absent calls now order q.x q.is) (many earlier before ordered p.x p.is) (many calls now order q.x q.is) in
       let i : ℕ = one.0 in
       let first = voter earlier before ordered v voted V at i one.1 one.2 in
       let second = voter calls now order v' voted' V' at' i one.1 one.3 in
@@ -447,10 +505,10 @@ module _ (new : Keeping) (start : ℕ) (begins : AreLinesAt new new (λ i. []) s
     pub earlier : List Call
     pub later : List Call
     pub before : ℕ
-    pub v : KeptClaim
+    pub v : Vote
     pub are : calls ≡ later ++ (Tick before ∷ earlier)
     pub voted : vote_at (after_calls new earlier) (before % 2 ^ 32) ≡ Some v
-    pub at : IsEdgeAt v.end_us edge before
+    pub at : IsEdgeAt v.edge_us edge before
 
   pub set_before : (edge : ℕ) (call : Call) (calls : List Call) → IsSetByVote edge calls → IsSetByVote edge (call ∷ calls)
   set_before edge call calls set = record { earlier = set.earlier; later = call ∷ set.later; before = set.before; v = set.v; are = ap (λ (x : List Call). call ∷ x) set.are; voted = set.voted; at = set.at }
@@ -519,13 +577,13 @@ module _ (new : Keeping) (start : ℕ) (begins : AreLinesAt new new (λ i. []) s
               rw more (record {
                 next = (edge + n * 1000000, then, inl (omega (arith, near, some)));
                 told = λ b answer.
-                    let beat : b ≡ beat_by (record s { edge_us = Some e }) (step_to k.clock k.table (record s { edge_us = Some e }) n None) (n - 1) (own_edge (Some e) n) = cc in
+                    let beat : b ≡ beat_by k.clock (record s { edge_us = Some e }) (step_to k.clock k.table (record s { edge_us = Some e }) n None) (n - 1) (own_edge (Some e) n) s.bound_us = cc in
                     tells (edge_behind e n) (edge + n * 1000000) b then (omega (arith, some)) (inr (omega (arith, near, some))) (ap (λ (x : Beat). x.edge_us) beat);
               })
         ]
 
     -- by a vote
-    by_vote : (v : KeptClaim) → vote_at k (now % 2 ^ 32) ≡ Some v → (o : Option ℕ) → IsPaced A calls o → (n : ℕ) → n ≡ edges_to_vote o v.end_us
+    by_vote : (v : Vote) → vote_at k (now % 2 ^ 32) ≡ Some v → (o : Option ℕ) → IsPaced A calls o → (n : ℕ) → n ≡ edges_to_vote o v.edge_us
         → IsPacedTick A now calls (after_vote k.clock k.table (record s { edge_us = o }) v n).edge_us (answer_to_vote k.clock k.table (record s { edge_us = o }) v n)
     by_vote v voted None paced n same =
         let V = edge_of calls now order v voted in
@@ -533,15 +591,15 @@ module _ (new : Keeping) (start : ℕ) (begins : AreLinesAt new new (λ i. []) s
         rw some (record {
           next = (V.0, V.1, inl (omega (arith, paced)));
           told = λ b answer.
-              let beat : b ≡ beat_by (record s { edge_us = None }) (step_to k.clock k.table (record s { edge_us = None }) n (Some v.claim)) (n - 1) v.end_us = cc in
-              tells v.end_us V.0 b V.1 (omega (arith, V.3)) (inl paced) (ap (λ (x : Beat). x.edge_us) beat);
+              let beat : b ≡ beat_by k.clock (record s { edge_us = None }) (step_to k.clock k.table (record s { edge_us = None }) n (Some v.claim)) (n - 1) v.edge_us v.bound_us = cc in
+              tells v.edge_us V.0 b V.1 (omega (arith, V.3)) (inl paced) (ap (λ (x : Beat). x.edge_us) beat);
         })
     by_vote v voted (Some e) paced n same =
         let edge : ℕ = paced.0 in
         let at = paced.1 in
         let V = edge_of calls now order v voted in
-        let count : n ≡ edges_between edge V.0 = same ∙ voted_count tick now ordered soon e edge at v.end_us V.0 V.1 V.2 in
-        let behind : (A ≤ edge) ⊎ ((A ≤ edge + 100000) × (edge + 890000 ≤ V.0)) = elim paced.2 [
+        let count : n ≡ edges_between edge V.0 = same ∙ voted_count tick now ordered soon e edge at v.edge_us V.0 V.1 V.2 in
+        let behind : (A ≤ edge) ⊎ ((A ≤ edge + 100000) × (edge + 889000 ≤ V.0)) = elim paced.2 [
           | inl low ↦ inl low
           | inr set ↦ inr (set.0, votes_behind now v V.0 edge set.1 order voted V.1)
         ] in
@@ -557,12 +615,12 @@ module _ (new : Keeping) (start : ℕ) (begins : AreLinesAt new new (λ i. []) s
               rw more (record {
                 next = (V.0, V.1, inl (omega (arith, far)));
                 told = λ b answer.
-                    let beat : b ≡ beat_by (record s { edge_us = Some e }) (step_to k.clock k.table (record s { edge_us = Some e }) n (Some v.claim)) (n - 1) v.end_us = cc in
-                    tells v.end_us V.0 b V.1 (omega (arith, V.3)) (inr far) (ap (λ (x : Beat). x.edge_us) beat);
+                    let beat : b ≡ beat_by k.clock (record s { edge_us = Some e }) (step_to k.clock k.table (record s { edge_us = Some e }) n (Some v.claim)) (n - 1) v.edge_us v.bound_us = cc in
+                    tells v.edge_us V.0 b V.1 (omega (arith, V.3)) (inr far) (ap (λ (x : Beat). x.edge_us) beat);
               })
         ]
       where
-        votes_behind : (now : ℕ) (v : KeptClaim) (V edge : ℕ) → (set : IsSetByVote edge calls) → AreInOrder start new.clock.redundancy (Tick now ∷ calls) → vote_at (after_calls new calls) (now % 2 ^ 32) ≡ Some v → IsEdgeAt v.end_us V now → edge + 890000 ≤ V
+        votes_behind : (now : ℕ) (v : Vote) (V edge : ℕ) → (set : IsSetByVote edge calls) → AreInOrder start new.clock.redundancy (Tick now ∷ calls) → vote_at (after_calls new calls) (now % 2 ^ 32) ≡ Some v → IsEdgeAt v.edge_us V now → edge + 889000 ≤ V
         votes_behind now v V edge set order voted at =
             votes_apart set.earlier set.later set.before now set.v v edge V
             (subst (λ (x : List Call). AreInOrder start new.clock.redundancy (Tick now ∷ x)) set.are order) set.voted set.at
@@ -571,7 +629,7 @@ module _ (new : Keeping) (start : ℕ) (begins : AreLinesAt new new (λ i. []) s
     pub paced_tick : IsPaced A calls k.state.edge_us → IsPacedTick A now calls (after_tick k (now % 2 ^ 32)).state.edge_us (answer_at k (now % 2 ^ 32))
     paced_tick paced = of (vote_at k (now % 2 ^ 32)) refl
       where
-        of : (o : Option KeptClaim) → vote_at k (now % 2 ^ 32) ≡ o → IsPacedTick A now calls (clock_by k.clock k.table s (now % 2 ^ 32) o).edge_us (answer_by k.clock k.table s (now % 2 ^ 32) o)
+        of : (o : Option Vote) → vote_at k (now % 2 ^ 32) ≡ o → IsPacedTick A now calls (clock_by k.clock k.table s (now % 2 ^ 32) o).edge_us (answer_by k.clock k.table s (now % 2 ^ 32) o)
         of None e = own k.state.edge_us paced _ refl
         of (Some v) e = by_vote v e k.state.edge_us paced _ refl
 

@@ -1,6 +1,6 @@
 -- A holdover has lasted for the seconds since the last vote, and a stamp's bound counts them.
 use Rattle.std.specs.Prelude.{◌==◌, ◌&&◌, nat_le}
-use Rattle.std.proofs.Common.{◌≡◌, ◌∙◌, ℕ, zero, suc, ◌+◌, ◌-◌, ◌*◌, ◌%◌, ◌^◌, Bool, true, false, cond, List, [], ◌∷◌, ◌++◌, Option, Some, None, refl, sym, ap, subst, arith, inl, inr}
+use Rattle.std.proofs.Common.{◌≡◌, ◌∙◌, ℕ, zero, suc, ◌+◌, ◌-◌, ◌*◌, ◌%◌, ◌^◌, ◌≤◌, Bool, true, false, cond, List, [], ◌∷◌, ◌++◌, Option, Some, None, refl, sym, ap, subst, arith, inl, inr}
 use Rattle.std.proofs.lemmas.Bool.{cases_Bool}
 use Rattle.irig_sync.specs.Sync.{clock_gap}
 use Rattle.irig_time.specs.declared.second.UtcSecond.{UtcSecond}
@@ -18,21 +18,23 @@ use Rattle.irig_reader.specs.declared.rule.State.TheVariants.{Idle, Acquiring, L
 use Rattle.irig_reader.specs.declared.rule.Step.{Step}
 use Rattle.irig_reader.specs.Rule.{count_step, step_of}
 use Rattle.irig_reader.proofs.StepCases.{count_cases, vote_cases, none_cases}
-use Rattle.irig_timekeeper.specs.declared.lines.KeptClaim.{KeptClaim}
+use Rattle.irig_timekeeper.specs.declared.lines.Vote.{Vote}
 use Rattle.irig_timekeeper.specs.declared.stamp.Announced.{Announced}
 use Rattle.irig_timekeeper.specs.declared.stamp.Stamp.{Stamp}
 use Rattle.irig_timekeeper.specs.declared.clock.Beat.{Beat}
-use Rattle.irig_timekeeper.specs.declared.clock.ClockRules.{ClockRules}
+use Rattle.irig_timekeeper.specs.declared.setup.ClockRules.{ClockRules}
 use Rattle.irig_timekeeper.specs.declared.clock.ClockState.{ClockState}
+use Rattle.irig_timekeeper.specs.Exactness.{vote_us}
 use Rattle.irig_timekeeper.specs.Counting.{edges_to_vote, edges_own}
 use Rattle.irig_timekeeper.specs.Rule.{missed, step_behind}
 use Rattle.irig_timekeeper.specs.Steps.{is_pulse}
-use Rattle.irig_timekeeper.specs.Clock.{lasted, bound_of, beat_by, step_to, after_vote, answer_to_vote, after_own, answer_alone, own_edge, clock_by, answer_by, settled_at}
+use Rattle.irig_timekeeper.specs.Clock.{lasted, beat_by, step_to, after_vote, answer_to_vote, after_own, answer_alone, own_edge, clock_by, answer_by, settled_at}
 use Rattle.irig_timekeeper.specs.Stamps.{stamp_by, first_stamp}
 use Rattle.irig_timekeeper.specs.Keeping.{Keeping, vote_at, after_tick, answer_at, stamp_at}
 use Rattle.irig_timekeeper.specs.Life.{Call, Made, after_calls, device_of, life_of}
 use Rattle.irig_timekeeper.specs.Life.Call.{Hear, Tick}
 use Rattle.irig_timekeeper.specs.Since.{unless_voted, since_answer, since_vote, HasItsBound}
+use Rattle.irig_timekeeper.proofs.BoundLaws.{answer_bound}
 use Rattle.irig_timekeeper.proofs.StampLaws.{leaves_told, stays_behind, kept_second}
 
 -- ---- the age of a hold
@@ -122,21 +124,21 @@ module _ (c : ClockRules) (table : TableValue) (s : ClockState) (since : ℕ) (a
   waits : (new : ClockState) → s.reader ≡ new.reader → IsSinceTick since new None
   waits new same = record { aged = subst (IsAged since) same aged; lasts = λ b u e. absurd cc }
 
-  tells : (n edge : ℕ) (vote : Option Claim) (new : ClockState) → (step_to c table s n vote).state ≡ new.reader → IsSinceTick since new (Some (beat_by s (step_to c table s n vote) (n - 1) edge))
-  tells n edge vote new same =
+  tells : (n edge voted : ℕ) (vote : Option Claim) (new : ClockState) → (step_to c table s n vote).state ≡ new.reader → IsSinceTick since new (Some (beat_by c s (step_to c table s n vote) (n - 1) edge voted))
+  tells n edge voted vote new same =
       let is = behind c.reader_rules table since (n - 1) s.reader vote aged in
       record {
         aged = subst (IsAged (unless_voted (step_to c table s n vote).report.cause (since + (n - 1) + 1))) same is.aged;
         lasts = λ b u e says.
-            let beat : beat_by s (step_to c table s n vote) (n - 1) edge ≡ b = cc in
+            let beat : beat_by c s (step_to c table s n vote) (n - 1) edge voted ≡ b = cc in
             ap (λ (x : Beat). lasted x.report.lock) (sym beat) ∙ is.lasts u (ap (λ (x : Beat). x.report.announce) beat ∙ says);
       }
 
   since_own : (n : ℕ) → IsSinceTick since (after_own c table s n) (answer_alone c table s n)
-  since_own n = elim (cases_Bool (n == 0)) [ inl none ↦ rw none (waits s refl) | inr some ↦ rw some (tells n (own_edge s.edge_us n) None _ refl) ]
+  since_own n = elim (cases_Bool (n == 0)) [ inl none ↦ rw none (waits s refl) | inr some ↦ rw some (tells n (own_edge s.edge_us n) s.bound_us None _ refl) ]
 
-  since_voted : (v : KeptClaim) (n : ℕ) → IsSinceTick since (after_vote c table s v n) (answer_to_vote c table s v n)
-  since_voted v n = elim (cases_Bool (n == 0)) [ inl none ↦ rw none (waits _ refl) | inr some ↦ rw some (tells n v.end_us (Some v.claim) _ refl) ]
+  since_voted : (v : Vote) (n : ℕ) → IsSinceTick since (after_vote c table s v n) (answer_to_vote c table s v n)
+  since_voted v n = elim (cases_Bool (n == 0)) [ inl none ↦ rw none (waits _ refl) | inr some ↦ rw some (tells n v.edge_us v.bound_us (Some v.claim) _ refl) ]
 
 since_tick : (k : Keeping) (clock since : ℕ) → IsAged since k.state.reader → IsSinceTick since (after_tick k clock).state (answer_at k clock)
 since_tick k clock since aged = of (vote_at k clock)
@@ -144,9 +146,9 @@ since_tick k clock since aged = of (vote_at k clock)
     s : ClockState
     s = settled_at k.state clock
 
-    of : (o : Option KeptClaim) → IsSinceTick since (clock_by k.clock k.table s clock o) (answer_by k.clock k.table s clock o)
+    of : (o : Option Vote) → IsSinceTick since (clock_by k.clock k.table s clock o) (answer_by k.clock k.table s clock o)
     of None = since_own k.clock k.table s since aged (edges_own k.state.edge_us clock)
-    of (Some v) = since_voted k.clock k.table s since aged v (edges_to_vote k.state.edge_us v.end_us)
+    of (Some v) = since_voted k.clock k.table s since aged v (edges_to_vote k.state.edge_us v.edge_us)
 
 -- ---- a life
 
@@ -162,11 +164,6 @@ module _ (made : Made) where
   pub lasts_since : (calls : List Call) (now : ℕ) (b : Beat) (u : UtcSecond) → answer_at (life_of made calls) (now % 2 ^ 32) ≡ Some b → b.report.announce ≡ Some u → lasted b.report.lock ≡ since_vote new (Tick now ∷ calls)
   lasts_since calls now b u answer says = (since_tick (after_calls new calls) (now % 2 ^ 32) (since_vote new calls) (aged_life calls)).lasts b u answer says
 
-  same_clock : (calls : List Call) → (after_calls new calls).clock ≡ made.clock
-  same_clock [] = refl
-  same_clock (Hear port rise width ∷ calls) = elim (cases_Bool (is_pulse width)) [ inl narrow ↦ rw narrow (same_clock calls) | inr wide ↦ rw wide (same_clock calls) ]
-  same_clock (Tick now ∷ calls) = same_clock calls
-
   -- what is kept was announced, and has its bound
   record IsBounded (calls : List Call) (a : Announced) : Type 0 where
     later : List Call
@@ -176,7 +173,7 @@ module _ (made : Made) where
     beat : Beat
     answer : answer_at (life_of made earlier) (now % 2 ^ 32) ≡ Some beat
     says : beat.report.announce ≡ Some a.second
-    bound : a.bound_us ≡ 1549 + since_vote new (Tick now ∷ earlier) * made.clock.drift_us
+    bound : a.bound_us ≤ vote_us made.clock.within.us made.clock.drift_us + since_vote new (Tick now ∷ earlier) * made.clock.drift_us
 
   one_later : (call : Call) (calls : List Call) (a : Announced) → IsBounded calls a → IsBounded (call ∷ calls) a
   one_later call calls a is = record {
@@ -201,8 +198,8 @@ module _ (made : Made) where
   told_bounded calls now b a answer e =
       let k : Keeping = life_of made calls in
       let left = (leaves_told k (now % 2 ^ 32)).told b answer in
-      let kept = kept_second b.edge_us (bound_of k.clock.drift_us b.report.lock) b.report.announce a (sym left.0 ∙ e) in
-      let bound : a.bound_us ≡ bound_of made.clock.drift_us b.report.lock = kept.4 ∙ ap (λ (c : ClockRules). bound_of c.drift_us b.report.lock) (same_clock calls) in
+      let kept = kept_second b.edge_us b.bound_us b.report.announce a (sym left.0 ∙ e) in
+      let has = answer_bound new (omega arith) calls (now % 2 ^ 32) in
       record {
         later = [];
         now = now;
@@ -211,7 +208,8 @@ module _ (made : Made) where
         beat = b;
         answer = answer;
         says = kept.1 ∙ ap (λ (u : UtcSecond). Some u) (sym kept.2);
-        bound = bound ∙ ap (λ (n : ℕ). 1549 + n * made.clock.drift_us) (lasts_since calls now b kept.0 answer kept.1);
+        bound = subst (λ (n : ℕ). a.bound_us ≤ vote_us made.clock.within.us made.clock.drift_us + n * made.clock.drift_us) (lasts_since calls now b kept.0 answer kept.1)
+            (subst (λ (n : ℕ). n ≤ vote_us made.clock.within.us made.clock.drift_us + lasted b.report.lock * made.clock.drift_us) (sym kept.4) (has.bound b answer));
       }
 
   bounded_tick : (calls : List Call) (now : ℕ) → AreBounded calls (life_of made calls).state → AreBounded (Tick now ∷ calls) (after_tick (life_of made calls) (now % 2 ^ 32)).state
@@ -252,7 +250,7 @@ module _ (made : Made) where
             beat = is.beat;
             answer = is.answer;
             says = is.says ∙ ap (λ (x : Stamp). Some x.second) same;
-            bound = ap (λ (x : Stamp). x.bound_us) (sym same) ∙ is.bound;
+            bound = subst (λ (x : Stamp). x.bound_us ≤ vote_us made.clock.within.us made.clock.drift_us + since_vote new (Tick is.now ∷ is.earlier) * made.clock.drift_us) same is.bound;
           }
 
   pub has_its_bound : (time : ℕ) (calls : List Call) (stamp : Stamp) → stamp_at (life_of made calls) (time % 2 ^ 32) ≡ Some stamp → HasItsBound made calls stamp

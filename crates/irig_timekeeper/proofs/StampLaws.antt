@@ -12,84 +12,64 @@ use Rattle.irig_time.specs.declared.rules.Rules.{Rules}
 use Rattle.irig_time.specs.Timelines.{TimelineValue, IsSecond}
 use Rattle.irig_time.specs.Tables.{TableValue}
 use Rattle.irig_vote.specs.Vote.{f_of}
-use Rattle.irig_reader.specs.declared.rule.Step.{Step}
-use Rattle.irig_timekeeper.specs.declared.lines.KeptClaim.{KeptClaim}
 use Rattle.irig_timekeeper.specs.declared.lines.Lines.{Lines}
+use Rattle.irig_timekeeper.specs.declared.lines.Vote.{Vote}
 use Rattle.irig_timekeeper.specs.declared.stamp.Announced.{Announced}
 use Rattle.irig_timekeeper.specs.declared.stamp.Stamp.{Stamp}
 use Rattle.irig_timekeeper.specs.declared.clock.Beat.{Beat}
-use Rattle.irig_timekeeper.specs.declared.clock.ClockRules.{ClockRules}
+use Rattle.irig_timekeeper.specs.declared.setup.ClockRules.{ClockRules}
 use Rattle.irig_timekeeper.specs.declared.clock.ClockState.{ClockState}
 use Rattle.irig_timekeeper.specs.Edges.{IsQuartz, IsNear}
+use Rattle.irig_timekeeper.specs.Exactness.{most_held_us, most_vote_us}
 use Rattle.irig_timekeeper.specs.Counting.{edges_between, edges_to_vote, edges_own}
-use Rattle.irig_timekeeper.specs.Rule.{missed}
 use Rattle.irig_timekeeper.specs.Steps.{is_pulse}
-use Rattle.irig_timekeeper.specs.Clock.{lasted, bound_of, announced, announced_at, still_serves, step_to, beat_by, after_vote, answer_to_vote, after_own, answer_alone, own_edge, clock_by, answer_by, settled_at}
+use Rattle.irig_timekeeper.specs.Clock.{lasted, announced_at, still_serves, step_to, beat_by, after_vote, answer_to_vote, after_own, answer_alone, own_edge, clock_by, answer_by, settled_at}
 use Rattle.irig_timekeeper.specs.Stamps.{stamp_by, first_stamp, stamp_of}
 use Rattle.irig_timekeeper.specs.Keeping.{Keeping, vote_at, after_pulse, after_tick, answer_at, stamp_at}
-use Rattle.irig_timekeeper.specs.Truth.{IsEdgeAt, IsToldInHoldover, IsDevice, IsStampedTruly, IsInstant}
+use Rattle.irig_timekeeper.specs.Truth.{IsEdgeAt, IsToldTruly, IsDevice, IsStampedTruly, IsInstant}
 use Rattle.irig_timekeeper.specs.Life.{Call, after_calls, last_tick, AreInOrder, AreTrueAtTicks}
 use Rattle.irig_timekeeper.specs.Life.Call.{Hear, Tick}
-use Rattle.irig_timekeeper.proofs.AgeLaws.{step_lasts}
+use Rattle.irig_timekeeper.proofs.BoundLaws.{answer_bound}
 use Rattle.irig_timekeeper.proofs.CountingLaws.{rises}
 use Rattle.irig_timekeeper.proofs.TimeLaws.{own_count, still_edge, voted_count, same_edge}
 use Rattle.irig_timekeeper.specs.Steps.{AreNewLines}
 use Rattle.irig_timekeeper.specs.Keeping.{new_keeping}
-use Rattle.irig_timekeeper.proofs.LifeLaws.{AreLinesAt, lines_after, TellAlwaysTruly, begins, ticks}
+use Rattle.irig_timekeeper.proofs.LifeLaws.{AreLinesAt, TellAlwaysTruly, begins, ticks}
 use Rattle.irig_timekeeper.proofs.OrderLaws.{IsSetByVote, set_before, edge_of, votes_apart, IsPaced, paced_tick, paced_on}
 
 -- ---- what a tick keeps of the seconds that it told
 
 -- a tick that answers keeps what it told, and the one before at most; any other keeps both
-pub record LeavesTold (drift : ℕ) (old new : ClockState) (answer : Option Beat) : Type 0 where
+pub record LeavesTold (old new : ClockState) (answer : Option Beat) : Type 0 where
   pub same : answer ≡ None → (new.last ≡ old.last) × (new.before ≡ old.before)
-  pub told : (b : Beat) → answer ≡ Some b → (new.last ≡ announced drift b.report b.edge_us) × ((a : Announced) → new.before ≡ Some a → old.last ≡ Some a) × (new.edge_us ≡ Some b.edge_us)
+  pub told : (b : Beat) → answer ≡ Some b → (new.last ≡ announced_at b.edge_us b.bound_us b.report.announce) × ((a : Announced) → new.before ≡ Some a → old.last ≡ Some a) × (new.edge_us ≡ Some b.edge_us)
 
 served : (vote : Option Claim) (announce : Option UtcSecond) (last : Option Announced) (a : Announced) → still_serves vote announce last ≡ Some a → last ≡ Some a
 served None announce last a e = e
 served (Some vote) None last a e = absurd cc
 served (Some vote) (Some u) last a e = e
 
-leaves_own : (c : ClockRules) (table : TableValue) (s : ClockState) (n : ℕ) → LeavesTold c.drift_us s (after_own c table s n) (answer_alone c table s n)
+leaves_own : (c : ClockRules) (table : TableValue) (s : ClockState) (n : ℕ) → LeavesTold s (after_own c table s n) (answer_alone c table s n)
 leaves_own c table s n = elim (cases_Bool (n == 0)) [
   | inl waits ↦ rw waits (record { same = λ e. (refl, refl); told = λ b e. absurd cc })
-  | inr more ↦ rw more (record { same = λ e. absurd cc; told = λ b e. (let beat : beat_by s (step_to c table s n None) (n - 1) (own_edge s.edge_us n) ≡ b = cc in (ap (λ (x : Beat). announced c.drift_us x.report x.edge_us) beat, (λ a e. e), ap (λ (x : Beat). Some x.edge_us) beat)) })
+  | inr more ↦ rw more (record { same = λ e. absurd cc; told = λ b e. (let beat : beat_by c s (step_to c table s n None) (n - 1) (own_edge s.edge_us n) s.bound_us ≡ b = cc in (ap (λ (x : Beat). announced_at x.edge_us x.bound_us x.report.announce) beat, (λ a e. e), ap (λ (x : Beat). Some x.edge_us) beat)) })
 ]
 
-leaves_voted : (c : ClockRules) (table : TableValue) (s : ClockState) (v : KeptClaim) (n : ℕ) → LeavesTold c.drift_us s (after_vote c table s v n) (answer_to_vote c table s v n)
+leaves_voted : (c : ClockRules) (table : TableValue) (s : ClockState) (v : Vote) (n : ℕ) → LeavesTold s (after_vote c table s v n) (answer_to_vote c table s v n)
 leaves_voted c table s v n = elim (cases_Bool (n == 0)) [
   | inl waits ↦ rw waits (record { same = λ e. (refl, refl); told = λ b e. absurd cc })
-  | inr more ↦ rw more (record { same = λ e. absurd cc; told = λ b e. (let beat : beat_by s (step_to c table s n (Some v.claim)) (n - 1) v.end_us ≡ b = cc in (ap (λ (x : Beat). announced c.drift_us x.report x.edge_us) beat, (λ a e. served (Some v.claim) (step_to c table s n (Some v.claim)).report.announce s.last a e), ap (λ (x : Beat). Some x.edge_us) beat)) })
+  | inr more ↦ rw more (record { same = λ e. absurd cc; told = λ b e. (let beat : beat_by c s (step_to c table s n (Some v.claim)) (n - 1) v.edge_us v.bound_us ≡ b = cc in (ap (λ (x : Beat). announced_at x.edge_us x.bound_us x.report.announce) beat, (λ a e. served (Some v.claim) (step_to c table s n (Some v.claim)).report.announce s.last a e), ap (λ (x : Beat). Some x.edge_us) beat)) })
 ]
 
-pub leaves_told : (k : Keeping) (clock : ℕ) → LeavesTold k.clock.drift_us k.state (after_tick k clock).state (answer_at k clock)
+pub leaves_told : (k : Keeping) (clock : ℕ) → LeavesTold k.state (after_tick k clock).state (answer_at k clock)
 leaves_told k clock = of (vote_at k clock)
   where
     s : ClockState
     s = settled_at k.state clock
 
-    of : (o : Option KeptClaim) → LeavesTold k.clock.drift_us k.state (clock_by k.clock k.table s clock o) (answer_by k.clock k.table s clock o)
+    of : (o : Option Vote) → LeavesTold k.state (clock_by k.clock k.table s clock o) (answer_by k.clock k.table s clock o)
     of None = let l = leaves_own k.clock k.table s (edges_own k.state.edge_us clock) in record { same = l.same; told = l.told }
-    of (Some v) = let l = leaves_voted k.clock k.table s v (edges_to_vote k.state.edge_us v.end_us) in record { same = l.same; told = l.told }
-
--- the report of a beat says of a holdover that it has lasted as long as it may, at most
-beat_lasts : (k : Keeping) (clock : ℕ) (b : Beat) → answer_at k clock ≡ Some b → lasted b.report.lock ≤ k.clock.reader_rules.holdover
-beat_lasts k clock b e = of (vote_at k clock) e
-  where
-    s : ClockState
-    s = settled_at k.state clock
-
-    by : (step : Step) (n edge : ℕ) (test : Bool) → lasted step.report.lock ≤ k.clock.reader_rules.holdover → cond test None (Some (beat_by s step n edge)) ≡ Some b → lasted b.report.lock ≤ k.clock.reader_rules.holdover
-    by step n edge true few e = absurd cc
-    by step n edge false few e = let beat : beat_by s step n edge ≡ b = cc in subst (λ (x : Beat). lasted x.report.lock ≤ k.clock.reader_rules.holdover) beat few
-
-    of : (o : Option KeptClaim) → answer_by k.clock k.table s clock o ≡ Some b → lasted b.report.lock ≤ k.clock.reader_rules.holdover
-    of None e =
-        let n = edges_own k.state.edge_us clock in
-        by (step_to k.clock k.table s n None) (n - 1) (own_edge k.state.edge_us n) (n == 0) (step_lasts k.clock.reader_rules k.table (missed k.clock.reader_rules k.table (n - 1) k.state.reader) None) e
-    of (Some v) e =
-        let n = edges_to_vote k.state.edge_us v.end_us in
-        by (step_to k.clock k.table s n (Some v.claim)) (n - 1) v.end_us (n == 0) (step_lasts k.clock.reader_rules k.table (missed k.clock.reader_rules k.table (n - 1) k.state.reader) (Some v.claim)) e
+    of (Some v) = let l = leaves_voted k.clock k.table s v (edges_to_vote k.state.edge_us v.edge_us) in record { same = l.same; told = l.told }
 
 -- ---- one that was told truly
 
@@ -98,7 +78,7 @@ pub record IsToldSo (t : TimelineValue) (edges : ℕ → ℕ) (more edge : ℕ) 
   pub clock : a.edge_us ≡ edge % 2 ^ 32
   pub near : IsNear edges (a.bound_us + more) (a.bound_us + more) m edge
   pub truth : IsSecond t m a.second
-  pub small : a.bound_us ≤ 491549
+  pub small : a.bound_us ≤ most_vote_us + most_held_us
 
 pub kept_second : (edge bound : ℕ) (o : Option UtcSecond) (a : Announced) → announced_at edge bound o ≡ Some a → (u : UtcSecond) × (o ≡ Some u) × (a.second ≡ u) × (a.edge_us ≡ edge) × (a.bound_us ≡ bound)
 kept_second edge bound None a e = absurd cc
@@ -106,20 +86,18 @@ kept_second edge bound (Some u) a e =
     let same : record { second = u; edge_us = edge; bound_us = bound } ≡ a = cc in
     (u, refl, ap (λ (x : Announced). x.second) (sym same), ap (λ (x : Announced). x.edge_us) (sym same), ap (λ (x : Announced). x.bound_us) (sym same))
 
-told_so : (t : TimelineValue) (edges : ℕ → ℕ) (early late d holdover more now : ℕ) (b : Beat) (edge : ℕ) → early ≤ 1549 + more → late ≤ 1549 + more → (holdover + 2) * d ≤ 490000 → lasted b.report.lock ≤ holdover
-    → ((u : UtcSecond) → b.report.announce ≡ Some u → IsToldInHoldover t edges early late d holdover now b u) → IsEdgeAt b.edge_us edge now → (a : Announced) → announced d b.report b.edge_us ≡ Some a → IsToldSo t edges more edge a
-told_so t edges early late d holdover more now b edge low high short lasts told at a e =
-    let kept = kept_second b.edge_us (bound_of d b.report.lock) b.report.announce a e in
+told_so : (t : TimelineValue) (edges : ℕ → ℕ) (early late more now : ℕ) (b : Beat) (edge : ℕ) → early ≤ more → late ≤ more → b.bound_us ≤ most_vote_us + most_held_us
+    → ((u : UtcSecond) → b.report.announce ≡ Some u → IsToldTruly t edges (early + b.bound_us) (late + b.bound_us) now b u) → IsEdgeAt b.edge_us edge now → (a : Announced) → announced_at b.edge_us b.bound_us b.report.announce ≡ Some a → IsToldSo t edges more edge a
+told_so t edges early late more now b edge low high small told at a e =
+    let kept = kept_second b.edge_us b.bound_us b.report.announce a e in
     let is = told kept.0 kept.1 in
-    let same : is.told.edge ≡ edge = same_edge b.edge_us is.told.edge edge now (record { clock = is.told.clock; come = is.told.come; soon = is.told.soon }) at in
-    let far = mul-le-mul_left d is.held in
-    let most = mul-le-mul_left d (let h : lasted b.report.lock ≤ holdover + 2 = omega (arith, lasts) in h) in
+    let same : is.edge ≡ edge = same_edge b.edge_us is.edge edge now (record { clock = is.clock; come = is.come; soon = is.soon }) at in
     record {
-      m = is.told.m;
+      m = is.m;
       clock = kept.3 ∙ at.clock;
-      near = record { least = omega (arith, is.told.near.least, same, low, far, kept.4); most = omega (arith, is.told.near.most, same, high, far, kept.4) };
-      truth = subst (IsSecond t is.told.m) (sym kept.2) is.told.truth;
-      small = omega (arith, kept.4, most, short);
+      near = record { least = omega (arith, is.near.least, same, low, kept.4); most = omega (arith, is.near.most, same, high, kept.4) };
+      truth = subst (IsSecond t is.m) (sym kept.2) is.truth;
+      small = omega (arith, kept.4, small);
     }
 
 -- ---- the last edge is the one that was told last, or lines have set it right since, once
@@ -165,25 +143,25 @@ module _ (new : Keeping) (start : ℕ) (begun : AreLinesAt new new (λ i. []) st
           let zero : n ≡ 0 = eqb-true n 0 waits in
           let count = same ∙ own_count (last_tick start calls) now ordered soon e f.x f.at in
           rw waits (record { e = e; edge = refl; fresh = record { x = f.x; at = still_edge (last_tick start calls) now ordered soon e f.x f.at (sym count ∙ zero); is = fresh_on A (Tick now) calls f.x f.is } })
-      | inr more ↦ let both : Some (beat_by s (step_to k.clock k.table s n None) (n - 1) (own_edge (Some e) n)) ≡ None = rw more at none in absurd cc
+      | inr more ↦ let both : Some (beat_by k.clock s (step_to k.clock k.table s n None) (n - 1) (own_edge (Some e) n) s.bound_us) ≡ None = rw more at none in absurd cc
     ]
 
-    fresh_voted : (v : KeptClaim) → vote_at k (now % 2 ^ 32) ≡ Some v → (n : ℕ) → n ≡ edges_to_vote (Some e) v.end_us → answer_to_vote k.clock k.table s v n ≡ None → StaysFresh A (Tick now ∷ calls) (after_vote k.clock k.table s v n).edge_us
+    fresh_voted : (v : Vote) → vote_at k (now % 2 ^ 32) ≡ Some v → (n : ℕ) → n ≡ edges_to_vote (Some e) v.edge_us → answer_to_vote k.clock k.table s v n ≡ None → StaysFresh A (Tick now ∷ calls) (after_vote k.clock k.table s v n).edge_us
     fresh_voted v voted n same none = elim (cases_Bool (n == 0)) [
       | inl waits ↦
           let zero : n ≡ 0 = eqb-true n 0 waits in
           let V = edge_of new start begun calls now order v voted in
-          let count : n ≡ edges_between f.x V.0 = same ∙ voted_count (last_tick start calls) now ordered soon e f.x f.at v.end_us V.0 V.1 V.2 in
+          let count : n ≡ edges_between f.x V.0 = same ∙ voted_count (last_tick start calls) now ordered soon e f.x f.at v.edge_us V.0 V.1 V.2 in
           let set : IsSetByVote new start begun V.0 (Tick now ∷ calls) = record { earlier = calls; later = []; before = now; v = v; are = refl; voted = voted; at = V.1 } in
           let is : FreshBy A (Tick now ∷ calls) V.0 = elim f.is [
             | inl here ↦ inr (omega (arith, here, f.at.come, ordered, V.2), omega (arith, here, count, zero), set)
             | inr old ↦ absurd (omega (arith, count, zero, behind v voted V.0 V.1 old.2))
           ] in
-          rw waits (record { e = v.end_us; edge = refl; fresh = record { x = V.0; at = V.1; is = is } })
-      | inr more ↦ let both : Some (beat_by s (step_to k.clock k.table s n (Some v.claim)) (n - 1) v.end_us) ≡ None = rw more at none in absurd cc
+          rw waits (record { e = v.edge_us; edge = refl; fresh = record { x = V.0; at = V.1; is = is } })
+      | inr more ↦ let both : Some (beat_by k.clock s (step_to k.clock k.table s n (Some v.claim)) (n - 1) v.edge_us v.bound_us) ≡ None = rw more at none in absurd cc
     ]
       where
-        behind : (v : KeptClaim) → vote_at k (now % 2 ^ 32) ≡ Some v → (V : ℕ) → IsEdgeAt v.end_us V now → (set : IsSetByVote new start begun f.x calls) → f.x + 890000 ≤ V
+        behind : (v : Vote) → vote_at k (now % 2 ^ 32) ≡ Some v → (V : ℕ) → IsEdgeAt v.edge_us V now → (set : IsSetByVote new start begun f.x calls) → f.x + 889000 ≤ V
         behind v voted V at set =
             votes_apart new start begun set.earlier set.later set.before now set.v v f.x V
             (subst (λ (c : List Call). AreInOrder start new.clock.redundancy (Tick now ∷ c)) set.are order) set.voted set.at
@@ -195,7 +173,7 @@ module _ (new : Keeping) (start : ℕ) (begun : AreLinesAt new new (λ i. []) st
         same : settled_at k.state (now % 2 ^ 32) ≡ s
         same = ap (λ (o : Option ℕ). record (settled_at k.state (now % 2 ^ 32)) { edge_us = o }) edge
 
-        of : (o : Option KeptClaim) → vote_at k (now % 2 ^ 32) ≡ o → (x : ClockState) → x ≡ s → answer_by k.clock k.table x (now % 2 ^ 32) o ≡ None → StaysFresh A (Tick now ∷ calls) (clock_by k.clock k.table x (now % 2 ^ 32) o).edge_us
+        of : (o : Option Vote) → vote_at k (now % 2 ^ 32) ≡ o → (x : ClockState) → x ≡ s → answer_by k.clock k.table x (now % 2 ^ 32) o ≡ None → StaysFresh A (Tick now ∷ calls) (clock_by k.clock k.table x (now % 2 ^ 32) o).edge_us
         of None e x is none = subst (λ (y : ClockState). answer_by k.clock k.table y (now % 2 ^ 32) None ≡ None → StaysFresh A (Tick now ∷ calls) (clock_by k.clock k.table y (now % 2 ^ 32) None).edge_us) (sym is) (fresh_own _ refl) none
         of (Some v) e x is none = subst (λ (y : ClockState). answer_by k.clock k.table y (now % 2 ^ 32) (Some v) ≡ None → StaysFresh A (Tick now ∷ calls) (clock_by k.clock k.table y (now % 2 ^ 32) (Some v)).edge_us) (sym is) (fresh_voted v e _ refl) none
 
@@ -207,7 +185,7 @@ stays_behind k port rise width = elim (cases_Bool (is_pulse width)) [ inl narrow
 none_stays : (k : Keeping) (clock : ℕ) → k.state.edge_us ≡ None → answer_at k clock ≡ None → (after_tick k clock).state.edge_us ≡ None
 none_stays k clock edge none = of (vote_at k clock) (settled_at k.state clock) edge none
   where
-    of : (o : Option KeptClaim) (s : ClockState) → s.edge_us ≡ None → answer_by k.clock k.table s clock o ≡ None → (clock_by k.clock k.table s clock o).edge_us ≡ None
+    of : (o : Option Vote) (s : ClockState) → s.edge_us ≡ None → answer_by k.clock k.table s clock o ≡ None → (clock_by k.clock k.table s clock o).edge_us ≡ None
     of None s edge none = own (s.edge_us) edge
       where
         own : (o : Option ℕ) → o ≡ None → (after_own k.clock k.table s (edges_own o clock)).edge_us ≡ None
@@ -215,7 +193,7 @@ none_stays k clock edge none = of (vote_at k clock) (settled_at k.state clock) e
         own (Some x) e = absurd cc
     of (Some v) s edge none = first s.edge_us edge none
       where
-        first : (o : Option ℕ) → o ≡ None → answer_to_vote k.clock k.table s v (edges_to_vote o v.end_us) ≡ None → (after_vote k.clock k.table s v (edges_to_vote o v.end_us)).edge_us ≡ None
+        first : (o : Option ℕ) → o ≡ None → answer_to_vote k.clock k.table s v (edges_to_vote o v.edge_us) ≡ None → (after_vote k.clock k.table s v (edges_to_vote o v.edge_us)).edge_us ≡ None
         first None e none = absurd cc
         first (Some x) e none = absurd cc
 
@@ -224,7 +202,7 @@ none_stays k clock edge none = of (vote_at k clock) (settled_at k.state clock) e
 -- with its bound it lies within a second and a half behind such an edge
 pub record IsToldAnyhow (edge : ℕ) (a : Announced) : Type 0 where
   pub clock : a.edge_us ≡ edge % 2 ^ 32
-  pub small : a.bound_us ≤ 491549
+  pub small : a.bound_us ≤ most_vote_us + most_held_us
 
 -- what was told so before the last edge, half a second to half an hour
 pub record IsToldBefore (Told : ℕ → Announced → Type 0) (A : ℕ) (a : Announced) : Type 0 where
@@ -258,7 +236,7 @@ module _ (limits : Option Limits) (rules : Rules) (clock : ClockRules) (table : 
   -- what a tick tells is told so
   abbrev pub TellsSo : (ℕ → Announced → Type 0) → List Call → ℕ → Type 0
   TellsSo Told calls now =
-      (b : Beat) → answer_at (after_calls new calls) (now % 2 ^ 32) ≡ Some b → (edge : ℕ) → IsEdgeAt b.edge_us edge now → (a : Announced) → announced clock.drift_us b.report b.edge_us ≡ Some a → Told edge a
+      (b : Beat) → answer_at (after_calls new calls) (now % 2 ^ 32) ≡ Some b → (edge : ℕ) → IsEdgeAt b.edge_us edge now → (a : Announced) → announced_at b.edge_us b.bound_us b.report.announce ≡ Some a → Told edge a
 
   abbrev pub TellSo : (ℕ → Announced → Type 0) → List Call → List Call → Type 0
   TellSo Told [] base = Unit {0}
@@ -292,11 +270,8 @@ module _ (limits : Option Limits) (rules : Rules) (clock : ClockRules) (table : 
       abbrev answer : Option Beat
       answer = answer_at keeper (now % 2 ^ 32)
 
-      same_clock : keeper.clock ≡ clock
-      same_clock = (lines_after new start begun calls now order).same.clock
-
-      leaves : LeavesTold clock.drift_us keeper.state (state (Tick now ∷ calls)) answer
-      leaves = subst (λ (c : ClockRules). LeavesTold c.drift_us keeper.state (state (Tick now ∷ calls)) answer) same_clock (leaves_told keeper (now % 2 ^ 32))
+      leaves : LeavesTold keeper.state (state (Tick now ∷ calls)) answer
+      leaves = leaves_told keeper (now % 2 ^ 32)
 
       -- that tells an edge; what was told before was told otherwise
       module _ (Was : ℕ → Announced → Type 0) (Earlier : Option Announced → ℕ → Announced → Type 0) (b : Beat) (answers : answer ≡ Some b) (tells : TellsSo Told calls now)
@@ -378,23 +353,28 @@ module _ (limits : Option Limits) (rules : Rules) (clock : ClockRules) (table : 
 
   -- ---- what is told
 
-  -- whatever lines carry
-  pub tells_anyhow : (t : TimelineValue) (edges : ℕ → ℕ) → IsDevice t clock.drift_us edges clock.reader_rules table → (calls : List Call) (now : ℕ) → AreInOrder start clock.redundancy (Tick now ∷ calls) → TellsSo IsToldAnyhow calls now
-  tells_anyhow t edges is calls now order b e edge at a says =
-      let lasts = subst (λ (c : ClockRules). lasted b.report.lock ≤ c.reader_rules.holdover) (lines_after new start begun calls now order).same.clock (beat_lasts (after_calls new calls) (now % 2 ^ 32) b e) in
-      let kept = kept_second b.edge_us (bound_of clock.drift_us b.report.lock) b.report.announce a says in
-      let most = mul-le-mul_left clock.drift_us (let h : lasted b.report.lock ≤ clock.reader_rules.holdover + 2 = omega (arith, lasts) in h) in
-      record { clock = kept.3 ∙ at.clock; small = omega (arith, kept.4, most, is.short) }
+  -- its bound is no more than a vote's and the drift of the longest holdover
+  small_bound : (t : TimelineValue) (edges : ℕ → ℕ) → IsDevice t clock.drift_us edges clock.reader_rules table → (calls : List Call) (now : ℕ) (b : Beat) → answer_at (after_calls new calls) (now % 2 ^ 32) ≡ Some b → b.bound_us ≤ most_vote_us + most_held_us
+  small_bound t edges is calls now b e =
+      let has = answer_bound new (omega arith) calls (now % 2 ^ 32) in
+      let most = mul-le-mul_left clock.drift_us (let h : lasted b.report.lock ≤ clock.reader_rules.holdover + 2 = omega (arith, has.few b e) in h) in
+      omega (arith, has.bound b e, most, is.short, is.steady.few, clock.within.few)
 
-  pub tell_anyhow : (t : TimelineValue) (edges : ℕ → ℕ) → IsDevice t clock.drift_us edges clock.reader_rules table → (calls : List Call) → AreInOrder start clock.redundancy calls → TellSo IsToldAnyhow calls []
-  tell_anyhow t edges is [] order = tt
-  tell_anyhow t edges is (Hear port rise width ∷ calls) order = tell_anyhow t edges is calls order.2
-  tell_anyhow t edges is (Tick now ∷ calls) order =
+  -- whatever lines carry
+  pub tells_anyhow : (t : TimelineValue) (edges : ℕ → ℕ) → IsDevice t clock.drift_us edges clock.reader_rules table → (calls : List Call) (now : ℕ) → TellsSo IsToldAnyhow calls now
+  tells_anyhow t edges is calls now b e edge at a says =
+      let kept = kept_second b.edge_us b.bound_us b.report.announce a says in
+      record { clock = kept.3 ∙ at.clock; small = omega (arith, kept.4, small_bound t edges is calls now b e) }
+
+  pub tell_anyhow : (t : TimelineValue) (edges : ℕ → ℕ) → IsDevice t clock.drift_us edges clock.reader_rules table → (calls : List Call) → TellSo IsToldAnyhow calls []
+  tell_anyhow t edges is [] = tt
+  tell_anyhow t edges is (Hear port rise width ∷ calls) = tell_anyhow t edges is calls
+  tell_anyhow t edges is (Tick now ∷ calls) =
       let none : calls ≡ calls ++ [] = sym (append-nil calls) in
-      (subst (λ (x : List Call). TellsSo IsToldAnyhow x now) none (tells_anyhow t edges is calls now order), tell_anyhow t edges is calls order.3)
+      (subst (λ (x : List Call). TellsSo IsToldAnyhow x now) none (tells_anyhow t edges is calls now), tell_anyhow t edges is calls)
 
 module _ (limits : Option Limits) (rules : Rules) (clock : ClockRules) (table : TableValue) (lines : Lines) (start : ℕ) (new_lines : AreNewLines lines) (t : TimelineValue) (edges : ℕ → ℕ) (early late more : ℕ)
-    (is : IsDevice t clock.drift_us edges clock.reader_rules table) (low : early + 1000 ≤ 1549 + more) (high : late ≤ 1549 + more) where
+    (is : IsDevice t clock.drift_us edges clock.reader_rules table) (low : early ≤ more) (high : late ≤ more) where
   abbrev pub from : Keeping
   from = new_keeping limits rules clock table lines
 
@@ -402,13 +382,11 @@ module _ (limits : Option Limits) (rules : Rules) (clock : ClockRules) (table : 
   Told edge a = IsToldSo t edges more edge a
 
   -- truly
-  pub tells_truly : (calls : List Call) (now : ℕ) → AreInOrder start clock.redundancy (Tick now ∷ calls)
-      → ((b : Beat) (u : UtcSecond) → answer_at (after_calls from calls) (now % 2 ^ 32) ≡ Some b → b.report.announce ≡ Some u → IsToldInHoldover t edges (early + 1000) late clock.drift_us clock.reader_rules.holdover now b u)
+  pub tells_truly : (calls : List Call) (now : ℕ)
+      → ((b : Beat) (u : UtcSecond) → answer_at (after_calls from calls) (now % 2 ^ 32) ≡ Some b → b.report.announce ≡ Some u → IsToldTruly t edges (early + b.bound_us) (late + b.bound_us) now b u)
       → TellsSo limits rules clock table lines start new_lines Told calls now
-  tells_truly calls now order told b e edge at =
-      let same = (lines_after from start (begins limits rules clock table lines start new_lines) calls now order).same.clock in
-      let lasts = subst (λ (c : ClockRules). lasted b.report.lock ≤ c.reader_rules.holdover) same (beat_lasts (after_calls from calls) (now % 2 ^ 32) b e) in
-      told_so t edges (early + 1000) late clock.drift_us clock.reader_rules.holdover more now b edge low high is.short lasts (λ u says. told b u e says) at
+  tells_truly calls now told b e edge at =
+      told_so t edges early late more now b edge low high (small_bound limits rules clock table lines start new_lines t edges is calls now b e) (λ u says. told b u e says) at
 
   -- ---- a stamp
 
@@ -419,7 +397,7 @@ module _ (limits : Option Limits) (rules : Rules) (clock : ClockRules) (table : 
     pub by_told : (edge : ℕ) → (a : Announced) → Told edge a → edge ≤ last_tick start calls + 100000 → last_tick start calls < edge + 1804000000 → (stamp : Stamp) → stamp_by (Some a) (time % 2 ^ 32) ≡ Some stamp → IsStampedTruly t edges more time stamp
     by_told edge a told come near stamp e = of (nat_le (clock_gap a.edge_us (time % 2 ^ 32)) (1000000 + a.bound_us)) refl e
       where
-        gap_is : (x edge time bound : ℕ) → x ≡ edge % 2 ^ 32 → bound ≤ 491549 → edge ≤ time + 1800100000 → time < edge + 3604000000 → clock_gap x (time % 2 ^ 32) ≤ 1000000 + bound → edge + clock_gap x (time % 2 ^ 32) ≡ time
+        gap_is : (x edge time bound : ℕ) → x ≡ edge % 2 ^ 32 → bound ≤ most_vote_us + most_held_us → edge ≤ time + 1800100000 → time < edge + 3604000000 → clock_gap x (time % 2 ^ 32) ≤ 1000000 + bound → edge + clock_gap x (time % 2 ^ 32) ≡ time
         gap_is x edge time bound is small come near few = omega (arith, is, small, come, near, few)
 
         of : (test : Bool) → nat_le (clock_gap a.edge_us (time % 2 ^ 32)) (1000000 + a.bound_us) ≡ test
@@ -470,14 +448,13 @@ module _ (limits : Option Limits) (rules : Rules) (clock : ClockRules) (table : 
 
   -- ---- a life, true at each tick
 
-  module _ (IsTrue : ℕ → List Pulse → Type 0) (room : early + late ≤ 4098) (truly : TellAlwaysTruly IsTrue rules t edges early late) where
+  module _ (IsTrue : ℕ → List Pulse → Type 0) (room : early + late ≤ 3002) (truly : TellAlwaysTruly IsTrue clock.within.us clock.drift_us rules t edges early late) where
     tell_truly : (calls : List Call) → AreInOrder start clock.redundancy calls → AreTrueAtTicks IsTrue (f_of clock.redundancy) calls → TellSo limits rules clock table lines start new_lines Told calls []
     tell_truly [] order truth = tt
     tell_truly (Hear port rise width ∷ calls) order truth = tell_truly calls order.2 truth
     tell_truly (Tick now ∷ calls) order truth =
-        let none : calls ≡ calls ++ [] = sym (append-nil calls) in
-        let true_ticks = ticks limits rules clock table lines start new_lines IsTrue t edges early late is room truly calls now order truth in (
-          subst (λ (x : List Call). TellsSo limits rules clock table lines start new_lines Told x now) none (tells_truly calls now order (λ b u e says. (true_ticks.told b u e says).told)),
+        let none : calls ≡ calls ++ [] = sym (append-nil calls) in (
+          subst (λ (x : List Call). TellsSo limits rules clock table lines start new_lines Told x now) none (tells_truly calls now (λ b u e says. ((ticks limits rules clock table lines start new_lines IsTrue t edges early late is room truly calls now order truth).told b u e says).told)),
           tell_truly calls order.3 truth.1,
         )
 

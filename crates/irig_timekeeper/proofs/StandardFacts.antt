@@ -4,10 +4,12 @@ use Rattle.irig_time.specs.declared.mark.Mark.TheVariants.{Unspoken}
 use Rattle.irig_time.specs.declared.claim.Claim.{Claim}
 use Rattle.irig_reader.specs.declared.rules.ReaderRules.{ReaderRules}
 use Rattle.irig_timekeeper.specs.declared.lines.KeptClaim.{KeptClaim}
+use Rattle.irig_timekeeper.specs.declared.lines.Vote.{Vote}
+use Rattle.irig_timekeeper.specs.Exactness.{window_us}
 use Rattle.irig_timekeeper.specs.Counting.{edges_to, edges_to_vote, edges_own, edge_behind, is_late, has_come}
 use Rattle.irig_timekeeper.specs.Refusals.{clock_fault}
 use Rattle.irig_timekeeper.specs.declared.setup.ClockFault.TheVariants.{Drift, Holdover}
-use Rattle.irig_timekeeper.specs.Steps.{last_candidate, until, wait_by}
+use Rattle.irig_timekeeper.specs.Steps.{first_candidate, vote_with, until, wait_by}
 
 -- by the own counter a second is counted 5 ms after it should have come, over the wrap too; an edge
 -- that lies ahead is none
@@ -32,22 +34,35 @@ rules_of holdover = record { lock_after = 3; holdover = holdover }
 pub known_refused : (clock_fault (rules_of 1000000) 1 ≡ Some Holdover) × (clock_fault (rules_of 4898) 100 ≡ None) × (clock_fault (rules_of 4899) 100 ≡ Some Holdover) × (clock_fault (rules_of 1000000) 101 ≡ Some Drift) × (clock_fault (rules_of 1000000) 0 ≡ None)
 known_refused = (refl, refl, refl, refl, refl)
 
--- of three frames of one claim the second ends 1 ms behind the first, and the third 1 us later: the
--- second is the last with which another one agrees; of another claim, or by three, none is
+-- frames of one claim and of another
 abbrev claim_of : ℕ → Claim
 claim_of sod = record { at = record { day = 6209; sod = sod }; mark = Unspoken }
 
 abbrev frame_of : ℕ → ℕ → Option KeptClaim
 frame_of sod end = Some (record { claim = claim_of sod; end_us = end })
 
-abbrev three : List (Option KeptClaim)
-three = frame_of 7 4294967000 ∷ frame_of 7 704 ∷ frame_of 7 705 ∷ None ∷ None ∷ []
+abbrev three : ℕ → ℕ → ℕ → List (Option KeptClaim)
+three a b c = frame_of 7 a ∷ frame_of 7 b ∷ frame_of 7 c ∷ None ∷ None ∷ []
 
-abbrev two : List (Option KeptClaim)
-two = frame_of 7 4294967000 ∷ frame_of 8 4294967000 ∷ None ∷ None ∷ None ∷ []
+abbrev two : ℕ → ℕ → List (Option KeptClaim)
+two a b = frame_of 7 a ∷ frame_of 7 b ∷ frame_of 8 b ∷ None ∷ None ∷ []
 
-pub known_agreed : (last_candidate 1 three three None ≡ frame_of 7 704) × (last_candidate 2 three three None ≡ None) × (last_candidate 1 two two None ≡ None)
-known_agreed = (refl, refl, refl)
+abbrev vote_in : (within d f : ℕ) → List (Option KeptClaim) → Option Vote
+vote_in within d f all = vote_with within d f all (first_candidate (window_us within) f all all None)
+
+abbrev edge_of : (edge bound : ℕ) → Option Vote
+edge_of edge bound = Some (record { claim = claim_of 7; edge_us = edge; bound_us = bound })
+
+-- two lines at the limits of 450 us leave an edge between them, 899 us off at most; three the second
+-- of them, 450 us off at most; further apart none, nor of two claims, nor by three lines
+pub known_agreed : (vote_in 450 100 1 (two 4294967000 602) ≡ edge_of 153 899) × (vote_in 450 100 1 (two 4294967000 603) ≡ None) × (vote_in 450 100 1 (three 4294967000 4294967200 602) ≡ edge_of 4294967200 450)
+    × (vote_in 450 0 1 (three 4294967000 602 1502) ≡ edge_of 602 449) × (vote_in 450 100 2 (two 4294967000 602) ≡ None)
+known_agreed = (refl, refl, refl, refl, refl)
+
+-- at 10 us by a counter of 1 ppm they leave 19 us and 10 us, and the middle is rounded to what comes
+-- first
+pub known_exact : (vote_in 10 1 1 (two 4294967290 12) ≡ edge_of 3 19) × (vote_in 10 1 1 (two 4294967290 13) ≡ None) × (vote_in 10 1 1 (three 4294967290 4294967295 12) ≡ edge_of 4294967295 10) × (vote_in 10 1 1 (two 7 8) ≡ edge_of 7 11)
+known_exact = (refl, refl, refl, refl)
 
 -- to wait
 pub known_wait : (until 4294967000 704 ≡ 1000) × (until 704 4294967000 ≡ 0) × (wait_by 4294000000 (Some 4294000000) None ≡ 1005000) × (wait_by 37704 (Some 4294000000) None ≡ 0) × (wait_by 5 None None ≡ 1000000)

@@ -14,18 +14,19 @@ use Rattle.irig_reader.specs.declared.rule.State.{State}
 use Rattle.irig_reader.specs.declared.rule.State.TheVariants.{Idle, Locked}
 use Rattle.irig_reader.specs.declared.rule.Step.{Step}
 use Rattle.irig_reader.specs.Rule.{step_of}
-use Rattle.irig_timekeeper.specs.declared.lines.KeptClaim.{KeptClaim}
+use Rattle.irig_timekeeper.specs.declared.lines.Vote.{Vote}
 use Rattle.irig_timekeeper.specs.declared.clock.Beat.{Beat}
 use Rattle.irig_timekeeper.specs.Edges.{IsNear}
+use Rattle.irig_timekeeper.specs.Exactness.{most_vote_us}
 use Rattle.irig_timekeeper.specs.Counting.{edges_between, edges_to, edges_to_vote, edges_own, edge_behind}
 use Rattle.irig_timekeeper.specs.Rule.{missed, step_behind}
-use Rattle.irig_timekeeper.specs.Truth.{IsTrueVote, IsEdgeAt, StandsAt, IsOnTrack, IsToldTruly, IsToldInHoldover, IsDevice, StandsSurely, age_of}
+use Rattle.irig_timekeeper.specs.Truth.{IsTrueVote, IsEdgeAt, StandsAt, IsOnTrack, IsToldTruly, IsDevice, StandsSurely, age_of}
 use Rattle.irig_sync.specs.Lines.{Pulse}
 use Rattle.irig_vote.specs.Vote.{f_of}
 use Rattle.irig_timekeeper.specs.Truth.{AreHeardTruly}
-use Rattle.irig_timekeeper.specs.declared.clock.ClockRules.{ClockRules}
+use Rattle.irig_timekeeper.specs.declared.setup.ClockRules.{ClockRules}
 use Rattle.irig_timekeeper.specs.declared.clock.ClockState.{ClockState}
-use Rattle.irig_timekeeper.specs.Clock.{lasted, own_edge, beat_by, step_to, after_vote, answer_to_vote, after_own, answer_alone, clock_by, answer_by, settled_at}
+use Rattle.irig_timekeeper.specs.Clock.{lasted, bound_of, own_edge, beat_by, step_to, after_vote, answer_to_vote, after_own, answer_alone, clock_by, answer_by, settled_at}
 use Rattle.irig_timekeeper.specs.Keeping.{Keeping, vote_at, after_tick, answer_at}
 use Rattle.irig_timekeeper.proofs.VoteLaws.{TellsTruly, vote_is_true}
 use Rattle.irig_timekeeper.proofs.CountingLaws.{apart, counts, rises}
@@ -34,26 +35,26 @@ use Rattle.irig_timekeeper.proofs.AgeLaws.{alone_step, gone, gone_idle, missed_i
 use Rattle.irig_timekeeper.proofs.SureSteps.{IsSureStep, sure_step, missed_surely}
 
 -- it announces a later second than the last one, and stands there
-pub record IsToldNewly (t : TimelineValue) (d : ℕ) (edges : ℕ → ℕ) (early late : ℕ) (M : ℕ) (rules : ReaderRules) (table : TableValue) (now : ℕ) (b : Beat) (u : UtcSecond) (s : State) (o : Option ℕ) : Type 0 where
-  pub told : IsToldInHoldover t edges early late d rules.holdover now b u
-  pub later : M < told.told.m
-  pub track : IsOnTrack t edges early late d told.told.m rules table now s o
+pub record IsToldNewly (t : TimelineValue) (d : ℕ) (edges : ℕ → ℕ) (early late : ℕ) (M : ℕ) (rules : ReaderRules) (table : TableValue) (now : ℕ) (b : Beat) (u : UtcSecond) (s : State) (voted : ℕ) (o : Option ℕ) : Type 0 where
+  pub told : IsToldTruly t edges (early + b.bound_us) (late + b.bound_us) now b u
+  pub later : M < told.m
+  pub track : IsOnTrack t edges early late d told.m rules table now s voted o
 
-module _ (t : TimelineValue) (d : ℕ) (edges : ℕ → ℕ) (early late : ℕ) (rules : ReaderRules) (table : TableValue) (is : IsDevice t d edges rules table) (room : early + late ≤ 5098) (M : ℕ) where
+module _ (t : TimelineValue) (d : ℕ) (edges : ℕ → ℕ) (early late : ℕ) (rules : ReaderRules) (table : TableValue) (is : IsDevice t d edges rules table) (room : early + late ≤ 3002) (M : ℕ) where
   -- ---- with a vote
 
   -- a true vote leads to the truth from there, or from nothing
-  module _ (now : ℕ) (v : KeptClaim) (vote : IsTrueVote t edges early late now v) where
+  module _ (now : ℕ) (v : Vote) (vote : IsTrueVote t edges early late now v) where
     m : ℕ
     m = vote.truth.second + 1
 
     true_vote : Some v.claim ≡ truth_at t vote.truth.second
     true_vote = sym ((claim_is t vote.truth.second v.claim).1 vote.truth.truth)
 
-    edge_now : IsEdgeAt v.end_us vote.end now
+    edge_now : IsEdgeAt v.edge_us vote.edge now
     edge_now = record { clock = vote.clock; come = vote.come; soon = omega (arith, vote.soon) }
 
-    near_now : IsNear edges (early + 0 * d) (late + 0 * d) (vote.truth.second + 1) vote.end
+    near_now : IsNear edges (early + v.bound_us + 0 * d) (late + v.bound_us + 0 * d) (vote.truth.second + 1) vote.edge
     near_now = record {
       least = omega (arith, vote.truth.near.least);
       most = omega (arith, vote.truth.near.most);
@@ -62,14 +63,15 @@ module _ (t : TimelineValue) (d : ℕ) (edges : ℕ → ℕ) (early late : ℕ) 
     votes : (s : State) → StandsSurely t table vote.truth.second s → IsSureStep t table (vote.truth.second + 1) (step_of rules table s (Some v.claim))
     votes s at = sure_step t rules table is.sound is.knows vote.truth.second s (Some v.claim) at (inr true_vote)
 
-    on_track : (last : ℕ) (s : State) → last ≤ vote.truth.second + 1 → StandsSurely t table vote.truth.second s → IsOnTrack t edges early late d last rules table now (step_of rules table s (Some v.claim)).state (Some v.end_us)
+    on_track : (last : ℕ) (s : State) → last ≤ vote.truth.second + 1 → StandsSurely t table vote.truth.second s → IsOnTrack t edges early late d last rules table now (step_of rules table s (Some v.claim)).state v.bound_us (Some v.edge_us)
     on_track last s low at = inr (
       vote.truth.second + 1,
       0,
       record {
-        edge = vote.end;
+        edge = vote.edge;
         at = edge_now;
         near = near_now;
+        small = vote.small;
         truth = (votes s at).state;
         young = omega arith;
         few = omega arith;
@@ -77,12 +79,12 @@ module _ (t : TimelineValue) (d : ℕ) (edges : ℕ → ℕ) (early late : ℕ) 
       },
     )
 
-    abbrev told : (s : State) (b : Beat) (u : UtcSecond) → StandsSurely t table vote.truth.second s → b.edge_us ≡ v.end_us → (step_of rules table s (Some v.claim)).report.announce ≡ Some u → IsToldTruly t edges early late now b u
-    told s b u at e says = record {
+    abbrev told : (s : State) (b : Beat) (u : UtcSecond) → StandsSurely t table vote.truth.second s → b.edge_us ≡ v.edge_us → v.bound_us ≤ b.bound_us → (step_of rules table s (Some v.claim)).report.announce ≡ Some u → IsToldTruly t edges (early + b.bound_us) (late + b.bound_us) now b u
+    told s b u at e wide says = record {
       m = vote.truth.second + 1;
-      edge = vote.end;
+      edge = vote.edge;
       clock = e ∙ vote.clock;
-      near = record { least = omega (arith, room, near_now.least); most = omega (arith, room, near_now.most) };
+      near = record { least = omega (arith, wide, near_now.least); most = omega (arith, wide, near_now.most) };
       come = vote.come;
       soon = omega (arith, vote.soon);
       truth = (votes s at).says u says;
@@ -91,7 +93,7 @@ module _ (t : TimelineValue) (d : ℕ) (edges : ℕ → ℕ) (early late : ℕ) 
     -- the edges counted from the last edge, and where the rule then stands before the vote
     record Comes (tick : ℕ) (s : State) (e n : ℕ) : Type 0 where
       before : 1 ≤ n → StandsSurely t table vote.truth.second (missed rules table (n - 1) s)
-      none : n ≡ 0 → IsOnTrack t edges early late d M rules table now s (Some v.end_us)
+      none : n ≡ 0 → IsOnTrack t edges early late d M rules table now s v.bound_us (Some v.edge_us)
       later : 1 ≤ n → M < vote.truth.second + 1
 
     idle_begins : (tick : ℕ) (s : State) → s ≡ Idle → M ≡ 0 → Comes tick s 0 1
@@ -115,37 +117,37 @@ module _ (t : TimelineValue) (d : ℕ) (edges : ℕ → ℕ) (early late : ℕ) 
         omega (arith, rise, less)
 
     module _ (tick : ℕ) (order : tick ≤ now) (soon : now ≤ tick + 1800000000) (e edge : ℕ) (at : IsEdgeAt e edge tick) where
-      counted_at : edges_to e v.end_us ≡ edges_between edge vote.end
-      counted_at = voted_count tick now order soon e edge at v.end_us vote.end edge_now vote.soon
+      counted_at : edges_to e v.edge_us ≡ edges_between edge vote.edge
+      counted_at = voted_count tick now order soon e edge at v.edge_us vote.edge edge_now vote.soon
 
-      idle_comes : (s : State) → s ≡ Idle → edges M + late < edge + 500000 → Comes tick s e (edges_to e v.end_us)
+      idle_comes : (s : State) → s ≡ Idle → edges M + late + most_vote_us < edge + 500000 → Comes tick s e (edges_to e v.edge_us)
       idle_comes s idle ahead = record {
-        before = λ some. subst (StandsSurely t table vote.truth.second) (sym (missed_idle rules table (edges_to e v.end_us - 1) s idle)) tt;
+        before = λ some. subst (StandsSurely t table vote.truth.second) (sym (missed_idle rules table (edges_to e v.edge_us - 1) s idle)) tt;
         none = λ nothing. inl (
           idle,
           (
-            vote.end,
+            vote.edge,
             edge_now,
             elim (cases_lt (vote.truth.second + 1) M) [
-              | inl less ↦ absurd (omega (arith, room, up_one (vote.truth.second + 1) M less, near_now.most, vote.soon, at.come, order, ahead))
-              | inr more ↦ omega (arith, room, up M (vote.truth.second + 1) more, near_now.least)
+              | inl less ↦ absurd (omega (arith, room, vote.small, up_one (vote.truth.second + 1) M less, near_now.most, vote.soon, at.come, order, ahead))
+              | inr more ↦ omega (arith, room, vote.small, up M (vote.truth.second + 1) more, near_now.least)
             ],
           ),
         );
         later = λ some. elim (cases_lt M (vote.truth.second + 1)) [
           | inl less ↦ less
-          | inr more ↦ absurd (omega (arith, room, up (vote.truth.second + 1) M more, near_now.most, ahead, counted_at, some))
+          | inr more ↦ absurd (omega (arith, room, vote.small, up (vote.truth.second + 1) M more, near_now.most, ahead, counted_at, some))
         ];
       }
 
-    module _ (tick : ℕ) (order : tick ≤ now) (soon : now ≤ tick + 1800000000) (s : State) (e w a : ℕ) (stands : StandsAt t edges early late d M rules table tick s e w a) where
+    module _ (tick : ℕ) (order : tick ≤ now) (soon : now ≤ tick + 1800000000) (s : State) (voted e w a : ℕ) (stands : StandsAt t edges early late d M rules table tick s voted e w a) where
       drift : d * a ≤ 490000
       drift = let most = mul-le-mul_left d (let h : a ≤ rules.holdover + 2 = omega (arith, room, stands.few) in h) in omega (arith, room, most, is.short)
 
       edge : ℕ
       edge = stands.edge
 
-      counted : edges_to e v.end_us ≡ edges_between stands.edge vote.end
+      counted : edges_to e v.edge_us ≡ edges_between stands.edge vote.edge
       counted = counted_at tick order soon e stands.edge stands.at
 
       -- time goes on
@@ -157,7 +159,7 @@ module _ (t : TimelineValue) (d : ℕ) (edges : ℕ → ℕ) (early late : ℕ) 
             let there : vote.truth.second + 1 + k ≡ w = omega (arith, before) in
             let rise = subst (λ (i : ℕ). edges (vote.truth.second + 1) + k * 999900 ≤ edges i) there (rises d edges is.steady (vote.truth.second + 1) k) in
             let one : 1 ≤ k = omega (arith, before) in
-            absurd (omega (arith, room, rise, one, drift, stands.near.least, near_now.most, vote.soon, stands.at.come, order))
+            absurd (omega (arith, room, rise, one, drift, vote.small, stands.small, stands.near.least, near_now.most, vote.soon, stands.at.come, order))
       ]
 
       k : ℕ
@@ -168,24 +170,25 @@ module _ (t : TimelineValue) (d : ℕ) (edges : ℕ → ℕ) (early late : ℕ) 
       there = omega (arith, not_before)
 
       -- within the holdover it counts right
-      in_holdover : a + k ≤ rules.holdover + 2 → edges_between stands.edge vote.end ≡ k
+      in_holdover : a + k ≤ rules.holdover + 2 → edges_between stands.edge vote.edge ≡ k
       unfolding k
       in_holdover few =
           let most = mul-le-mul_left d few in
-          let here = subst (λ (i : ℕ). IsNear edges (early + 0 * d) (late + 0 * d) i vote.end) (sym there) near_now in
-          counts d (early + a * d) (late + a * d) (early + 0 * d) (late + 0 * d) w (vote.truth.second + 1 - w) stands.edge vote.end edges is.steady stands.near here (omega (arith, room, most, is.short)) (omega (arith, room, most, is.short))
+          let here = subst (λ (i : ℕ). IsNear edges (early + v.bound_us + 0 * d) (late + v.bound_us + 0 * d) i vote.edge) (sym there) near_now in
+          counts d (early + voted + a * d) (late + voted + a * d) (early + v.bound_us + 0 * d) (late + v.bound_us + 0 * d) w (vote.truth.second + 1 - w) stands.edge vote.edge edges is.steady stands.near here
+          (omega (arith, room, vote.small, stands.small, most, is.short)) (omega (arith, room, vote.small, stands.small, most, is.short))
 
       -- beyond it enough
-      beyond : rules.holdover + 2 < a + k → k ≤ edges_between stands.edge vote.end + 1
+      beyond : rules.holdover + 2 < a + k → k ≤ edges_between stands.edge vote.edge + 1
       unfolding k
       beyond long =
           let n : ℕ = vote.truth.second + 1 - w in
           let far = apart d edges is.steady w n in
           let upto = subst (λ (i : ℕ). edges w + n * 1000000 ≤ edges i + n * d) there far.least in
           let slow = mul-le-mul_left n is.steady.few in
-          let few : n ≤ 1803 = omega (arith, room, upto, slow, drift, near_now.least, stands.near.most, vote.come, soon, stands.at.soon) in
+          let few : n ≤ 1803 = omega (arith, room, vote.small, stands.small, upto, slow, drift, near_now.least, stands.near.most, vote.come, soon, stands.at.soon) in
           let drifts = mul-le-mul_left d few in
-          omega (arith, room, upto, drifts, drift, is.steady.few, near_now.least, stands.near.most)
+          omega (arith, room, vote.small, stands.small, upto, drifts, drift, is.steady.few, near_now.least, stands.near.most)
 
       comes_in : (n : ℕ) → n ≡ k → Comes tick s e n
       comes_in n same = record {
@@ -198,9 +201,10 @@ module _ (t : TimelineValue) (d : ℕ) (edges : ℕ → ℕ) (early late : ℕ) 
               vote.truth.second + 1,
               0,
               record {
-                edge = vote.end;
+                edge = vote.edge;
                 at = edge_now;
                 near = near_now;
+                small = vote.small;
                 truth = subst (λ (i : ℕ). StandsSurely t table i s) at stands.truth;
                 young = omega arith;
                 few = omega arith;
@@ -219,10 +223,10 @@ module _ (t : TimelineValue) (d : ℕ) (edges : ℕ → ℕ) (early late : ℕ) 
         later = λ some. omega (arith, there, long, stands.few, stands.behind);
       }
 
-      stands_comes : Comes tick s e (edges_to e v.end_us)
+      stands_comes : Comes tick s e (edges_to e v.edge_us)
       stands_comes = elim (cases_lt (rules.holdover + 2) (a + k)) [
-        | inl long ↦ comes_beyond (edges_to e v.end_us) long (omega (arith, room, beyond long, counted))
-        | inr few ↦ comes_in (edges_to e v.end_us) (counted ∙ in_holdover few)
+        | inl long ↦ comes_beyond (edges_to e v.edge_us) long (omega (arith, room, beyond long, counted))
+        | inr few ↦ comes_in (edges_to e v.edge_us) (counted ∙ in_holdover few)
       ]
 
   -- ---- without a vote
@@ -235,8 +239,8 @@ module _ (t : TimelineValue) (d : ℕ) (edges : ℕ → ℕ) (early late : ℕ) 
       one_more : suc (n - 1) ≡ n
       one_more = omega (arith, some)
 
-      idle_alone : s ≡ Idle → edges M + late < edge + 500000 → IsOnTrack t edges early late d M rules table now last.state (Some (edge_behind e n))
-      idle_alone idle ahead = inl (missed_idle rules table (suc (n - 1)) s idle, (edge + n * 1000000, own_edge_at tick now order soon e edge at n same some, omega (arith, room, ahead)))
+      idle_alone : (voted : ℕ) → s ≡ Idle → edges M + late + most_vote_us < edge + 500000 → IsOnTrack t edges early late d M rules table now last.state voted (Some (edge_behind e n))
+      idle_alone voted idle ahead = inl (missed_idle rules table (suc (n - 1)) s idle, (edge + n * 1000000, own_edge_at tick now order soon e edge at n same some, omega (arith, room, ahead)))
 
       idle_says : s ≡ Idle → last.report.announce ≡ None
       idle_says idle = elim (alone_step rules table (missed rules table (n - 1) s)) [
@@ -244,21 +248,21 @@ module _ (t : TimelineValue) (d : ℕ) (edges : ℕ → ℕ) (early late : ℕ) 
         | inr older ↦ let both : Idle ≡ Locked older.locked.h = sym (missed_idle rules table (suc (n - 1)) s idle) ∙ older.locked.is in absurd cc
       ]
 
-      module _ (w a : ℕ) (near : IsNear edges (early + a * d) (late + a * d) w edge) (truth : StandsSurely t table w s) (young : a ≤ age_of s) (short : a ≤ rules.holdover) where
-        further : IsNear edges (early + (a + n) * d) (late + (a + n) * d) (w + n) (edge + n * 1000000)
+      module _ (voted w a : ℕ) (near : IsNear edges (early + voted + a * d) (late + voted + a * d) w edge) (small : voted ≤ most_vote_us) (truth : StandsSurely t table w s) (young : a ≤ age_of s) (short : a ≤ rules.holdover) where
+        further : IsNear edges (early + voted + (a + n) * d) (late + voted + (a + n) * d) (w + n) (edge + n * 1000000)
         further =
             let far = apart d edges is.steady w n in
             record { least = omega (arith, room, far.most, near.least); most = omega (arith, room, far.least, near.most) }
 
-        ahead_then : M ≤ w → edges M + late < edge + n * 1000000 + 500000
+        ahead_then : M ≤ w → edges M + late + most_vote_us < edge + n * 1000000 + 500000
         ahead_then low =
             let rise = rises d edges is.steady M (w - M) in
             let there : M + (w - M) ≡ w = omega (arith, low) in
             let upto = subst (λ (x : ℕ). edges M + (w - M) * 999900 ≤ edges x) there rise in
             let most = mul-le-mul_left d (let h : a ≤ rules.holdover + 2 = omega (arith, short) in h) in
-            omega (arith, room, upto, most, is.short, near.least, some)
+            omega (arith, room, small, upto, most, is.short, near.least, some)
 
-        stands_alone : M ≤ w → IsOnTrack t edges early late d M rules table now last.state (Some (edge_behind e n))
+        stands_alone : M ≤ w → IsOnTrack t edges early late d M rules table now last.state voted (Some (edge_behind e n))
         stands_alone low = elim (gone rules table (n - 1) s) [
           | inl idle ↦ inl (idle, (edge + n * 1000000, own_edge_at tick now order soon e edge at n same some, ahead_then low))
           | inr older ↦
@@ -271,6 +275,7 @@ module _ (t : TimelineValue) (d : ℕ) (edges : ℕ → ℕ) (early late : ℕ) 
                   edge = edge + n * 1000000;
                   at = own_edge_at tick now order soon e edge at n same some;
                   near = further;
+                  small = small;
                   truth = subst (λ (i : ℕ). StandsSurely t table i last.state) reached (missed_surely t rules table is.sound is.knows w (suc (n - 1)) s truth);
                   young = omega (arith, age, older.older, young, one_more);
                   few = omega (arith, older.older, older.young, young, one_more);
@@ -280,7 +285,7 @@ module _ (t : TimelineValue) (d : ℕ) (edges : ℕ → ℕ) (early late : ℕ) 
         ]
 
         -- it has announced this second
-        stands_told : ¬ (last.state ≡ Idle) → IsOnTrack t edges early late d (w + n) rules table now last.state (Some (edge_behind e n))
+        stands_told : ¬ (last.state ≡ Idle) → IsOnTrack t edges early late d (w + n) rules table now last.state voted (Some (edge_behind e n))
         stands_told goes = elim (gone rules table (n - 1) s) [
           | inl idle ↦ absurd (goes idle)
           | inr older ↦
@@ -293,6 +298,7 @@ module _ (t : TimelineValue) (d : ℕ) (edges : ℕ → ℕ) (early late : ℕ) 
                   edge = edge + n * 1000000;
                   at = own_edge_at tick now order soon e edge at n same some;
                   near = further;
+                  small = small;
                   truth = subst (λ (i : ℕ). StandsSurely t table i last.state) reached (missed_surely t rules table is.sound is.knows w (suc (n - 1)) s truth);
                   young = omega (arith, age, older.older, young, one_more);
                   few = omega (arith, older.older, older.young, young, one_more);
@@ -301,8 +307,8 @@ module _ (t : TimelineValue) (d : ℕ) (edges : ℕ → ℕ) (early late : ℕ) 
               )
         ]
 
-        says_alone : (b : Beat) (u : UtcSecond) → b.edge_us ≡ edge_behind e n → last.report ≡ b.report → b.report.announce ≡ Some u → M ≤ w → IsToldNewly t d edges early late M rules table now b u last.state (Some (edge_behind e n))
-        says_alone b u is_edge reports says low = elim (alone_step rules table (missed rules table (n - 1) s)) [
+        says_alone : (b : Beat) (u : UtcSecond) → b.edge_us ≡ edge_behind e n → b.bound_us ≡ bound_of d voted b.report.lock → last.report ≡ b.report → b.report.announce ≡ Some u → M ≤ w → IsToldNewly t d edges early late M rules table now b u last.state voted (Some (edge_behind e n))
+        says_alone b u is_edge is_bound reports says low = elim (alone_step rules table (missed rules table (n - 1) s)) [
           | inl stop ↦ absurd (let both : None ≡ Some u = sym stop.1 ∙ ap (λ (r : Report). r.announce) reports ∙ says in cc)
           | inr older ↦ elim (gone rules table (n - 1) s) [
             | inl idle ↦ absurd (let both : Idle ≡ Locked older.locked.h = sym idle ∙ older.locked.is in cc)
@@ -312,20 +318,17 @@ module _ (t : TimelineValue) (d : ℕ) (edges : ℕ → ℕ) (early late : ℕ) 
                 let second = (sure_step t rules table is.sound is.knows (w + (n - 1)) (missed rules table (n - 1) s) None before (inl refl)).says u (ap (λ (r : Report). r.announce) reports ∙ says) in
                 let age : older.locked.h.age ≡ gone.h.age = ap age_of (sym older.locked.is ∙ gone.is) in
                 let lasts : lasted b.report.lock ≡ age_of (missed rules table (n - 1) s) + 1 = ap (λ (r : Report). lasted r.lock) (sym reports) ∙ ap lasted older.says in
+                let held : a + n ≤ lasted b.report.lock = omega (arith, lasts, older.locked.older, age, gone.older, young, one_more) in
+                let drifts = mul-le-mul_left d held in
                 record {
                   told = record {
-                    far = a + n;
-                    held = omega (arith, lasts, older.locked.older, age, gone.older, young, one_more);
-                    few = omega (arith, gone.older, gone.young, young, one_more);
-                    told = record {
-                      m = w + n;
-                      edge = edge + n * 1000000;
-                      clock = is_edge ∙ (own_edge_at tick now order soon e edge at n same some).clock;
-                      near = further;
-                      come = (own_edge_at tick now order soon e edge at n same some).come;
-                      soon = (own_edge_at tick now order soon e edge at n same some).soon;
-                      truth = subst (λ (i : ℕ). IsSecond t i u) reached second;
-                    };
+                    m = w + n;
+                    edge = edge + n * 1000000;
+                    clock = is_edge ∙ (own_edge_at tick now order soon e edge at n same some).clock;
+                    near = record { least = omega (arith, is_bound, drifts, further.least); most = omega (arith, is_bound, drifts, further.most) };
+                    come = (own_edge_at tick now order soon e edge at n same some).come;
+                    soon = (own_edge_at tick now order soon e edge at n same some).soon;
+                    truth = subst (λ (i : ℕ). IsSecond t i u) reached second;
                   };
                   later = omega (arith, low, some);
                   track = stands_told (λ idle. let both : Idle ≡ Locked older.locked.h = sym idle ∙ older.locked.is in cc);
@@ -335,34 +338,18 @@ module _ (t : TimelineValue) (d : ℕ) (edges : ℕ → ℕ) (early late : ℕ) 
 
   -- ---- a tick, by the last edge
 
-  abbrev told_once : (now : ℕ) (b : Beat) (u : UtcSecond) → IsToldTruly t edges early late now b u → IsToldInHoldover t edges early late d rules.holdover now b u
-  told_once now b u is_told = record {
-    far = 0;
-    held = omega arith;
-    few = omega arith;
-    told = record {
-      m = is_told.m;
-      edge = is_told.edge;
-      clock = is_told.clock;
-      near = record { least = omega (arith, room, is_told.near.least); most = omega (arith, room, is_told.near.most) };
-      come = is_told.come;
-      soon = is_told.soon;
-      truth = is_told.truth;
-    };
-  }
-
   module _ (tick now : ℕ) (order : tick ≤ now) (soon : now ≤ tick + 1800000000) where
-    comes : (v : KeptClaim) (vote : IsTrueVote t edges early late now v) (o : Option ℕ) (s : State) → IsOnTrack t edges early late d M rules table tick s o → Comes now v vote tick s 0 (edges_to_vote o v.end_us)
-    comes v vote None s idle = idle_begins now v vote tick s idle.0 idle.1
-    comes v vote (Some e) s (inl idle) = let c = idle_comes now v vote tick order soon e idle.1.0 idle.1.1 s idle.0 idle.1.2 in record { before = c.before; none = c.none; later = c.later }
-    comes v vote (Some e) s (inr at) = let c = stands_comes now v vote tick order soon s e at.0 at.1 at.2 in record { before = c.before; none = c.none; later = c.later }
+    comes : (v : Vote) (vote : IsTrueVote t edges early late now v) (voted : ℕ) (o : Option ℕ) (s : State) → IsOnTrack t edges early late d M rules table tick s voted o → Comes now v vote tick s 0 (edges_to_vote o v.edge_us)
+    comes v vote voted None s idle = idle_begins now v vote tick s idle.0 idle.1
+    comes v vote voted (Some e) s (inl idle) = let c = idle_comes now v vote tick order soon e idle.1.0 idle.1.1 s idle.0 idle.1.2 in record { before = c.before; none = c.none; later = c.later }
+    comes v vote voted (Some e) s (inr at) = let c = stands_comes now v vote tick order soon s voted e at.0 at.1 at.2 in record { before = c.before; none = c.none; later = c.later }
 
-    own_waits : (o : Option ℕ) (s : State) → IsOnTrack t edges early late d M rules table tick s o → edges_own o (now % 2 ^ 32) ≡ 0 → IsOnTrack t edges early late d M rules table now s o
-    own_waits None s idle none = idle
-    own_waits (Some e) s (inl idle) none =
+    own_waits : (voted : ℕ) (o : Option ℕ) (s : State) → IsOnTrack t edges early late d M rules table tick s voted o → edges_own o (now % 2 ^ 32) ≡ 0 → IsOnTrack t edges early late d M rules table now s voted o
+    own_waits voted None s idle none = idle
+    own_waits voted (Some e) s (inl idle) none =
         let at = idle.1 in
         inl (idle.0, (at.0, still_edge tick now order soon e at.0 at.1 (sym (own_count tick now order soon e at.0 at.1) ∙ none), at.2))
-    own_waits (Some e) s (inr at) none =
+    own_waits voted (Some e) s (inr at) none =
         let stands = at.2 in
         inr (
           at.0,
@@ -371,6 +358,7 @@ module _ (t : TimelineValue) (d : ℕ) (edges : ℕ → ℕ) (early late : ℕ) 
             edge = stands.edge;
             at = still_edge tick now order soon e stands.edge stands.at (sym (own_count tick now order soon e stands.edge stands.at) ∙ none);
             near = stands.near;
+            small = stands.small;
             truth = stands.truth;
             young = stands.young;
             few = stands.few;
@@ -378,109 +366,108 @@ module _ (t : TimelineValue) (d : ℕ) (edges : ℕ → ℕ) (early late : ℕ) 
           },
         )
 
-    own_tracks : (o : Option ℕ) (s : State) → IsOnTrack t edges early late d M rules table tick s o → (n : ℕ) → n ≡ edges_own o (now % 2 ^ 32) → 1 ≤ n
-        → IsOnTrack t edges early late d M rules table now (step_behind rules table (n - 1) s None).state (Some (own_edge o n))
-    own_tracks None s idle n same some = absurd (omega (arith, same, some))
-    own_tracks (Some e) s (inl idle) n same some =
+    own_tracks : (voted : ℕ) (o : Option ℕ) (s : State) → IsOnTrack t edges early late d M rules table tick s voted o → (n : ℕ) → n ≡ edges_own o (now % 2 ^ 32) → 1 ≤ n
+        → IsOnTrack t edges early late d M rules table now (step_behind rules table (n - 1) s None).state voted (Some (own_edge o n))
+    own_tracks voted None s idle n same some = absurd (omega (arith, same, some))
+    own_tracks voted (Some e) s (inl idle) n same some =
         let at = idle.1 in
-        idle_alone tick now order soon e at.0 at.1 s n (same ∙ own_count tick now order soon e at.0 at.1) some idle.0 idle.1.2
-    own_tracks (Some e) s (inr at) n same some =
+        idle_alone tick now order soon e at.0 at.1 s n (same ∙ own_count tick now order soon e at.0 at.1) some voted idle.0 idle.1.2
+    own_tracks voted (Some e) s (inr at) n same some =
         let stands = at.2 in
-        stands_alone tick now order soon e stands.edge stands.at s n (same ∙ own_count tick now order soon e stands.edge stands.at) some at.0 at.1 stands.near stands.truth stands.young stands.few stands.behind
+        stands_alone tick now order soon e stands.edge stands.at s n (same ∙ own_count tick now order soon e stands.edge stands.at) some voted at.0 at.1 stands.near stands.small stands.truth stands.young stands.few stands.behind
 
-    own_says : (o : Option ℕ) (s : State) → IsOnTrack t edges early late d M rules table tick s o → (n : ℕ) → n ≡ edges_own o (now % 2 ^ 32) → 1 ≤ n → (b : Beat) (u : UtcSecond) → b.edge_us ≡ own_edge o n
-        → (step_behind rules table (n - 1) s None).report ≡ b.report → b.report.announce ≡ Some u → IsToldNewly t d edges early late M rules table now b u (step_behind rules table (n - 1) s None).state (Some (own_edge o n))
-    own_says None s idle n same some b u is_edge reports says = absurd (omega (arith, same, some))
-    own_says (Some e) s (inl idle) n same some b u is_edge reports says =
+    own_says : (voted : ℕ) (o : Option ℕ) (s : State) → IsOnTrack t edges early late d M rules table tick s voted o → (n : ℕ) → n ≡ edges_own o (now % 2 ^ 32) → 1 ≤ n → (b : Beat) (u : UtcSecond) → b.edge_us ≡ own_edge o n → b.bound_us ≡ bound_of d voted b.report.lock
+        → (step_behind rules table (n - 1) s None).report ≡ b.report → b.report.announce ≡ Some u → IsToldNewly t d edges early late M rules table now b u (step_behind rules table (n - 1) s None).state voted (Some (own_edge o n))
+    own_says voted None s idle n same some b u is_edge is_bound reports says = absurd (omega (arith, same, some))
+    own_says voted (Some e) s (inl idle) n same some b u is_edge is_bound reports says =
         let at = idle.1 in
         absurd (let both : None ≡ Some u = sym (idle_says tick now order soon e at.0 at.1 s n (same ∙ own_count tick now order soon e at.0 at.1) some idle.0) ∙ ap (λ (r : Report). r.announce) reports ∙ says in cc)
-    own_says (Some e) s (inr at) n same some b u is_edge reports says =
+    own_says voted (Some e) s (inr at) n same some b u is_edge is_bound reports says =
         let stands = at.2 in
-        says_alone tick now order soon e stands.edge stands.at s n (same ∙ own_count tick now order soon e stands.edge stands.at) some at.0 at.1 stands.near stands.truth stands.young stands.few b u is_edge reports says stands.behind
+        says_alone tick now order soon e stands.edge stands.at s n (same ∙ own_count tick now order soon e stands.edge stands.at) some voted at.0 at.1 stands.near stands.small stands.truth stands.young stands.few b u is_edge is_bound reports says stands.behind
 
   -- by the own counter it tells no jump
-  own_calm : (o : Option ℕ) (s : State) (tick : ℕ) → IsOnTrack t edges early late d M rules table tick s o → (n : ℕ) → ¬ ((step_behind rules table n s None).report.cause ≡ cause.Jump)
-  own_calm None s tick idle n = calm_from 0 s n (subst (StandsSurely t table 0) (sym idle.0) tt)
+  own_calm : (voted : ℕ) (o : Option ℕ) (s : State) (tick : ℕ) → IsOnTrack t edges early late d M rules table tick s voted o → (n : ℕ) → ¬ ((step_behind rules table n s None).report.cause ≡ cause.Jump)
+  own_calm voted None s tick idle n = calm_from 0 s n (subst (StandsSurely t table 0) (sym idle.0) tt)
     where
       calm_from : (w : ℕ) (s : State) (n : ℕ) → StandsSurely t table w s → ¬ ((step_behind rules table n s None).report.cause ≡ cause.Jump)
       calm_from w s n at = (sure_step t rules table is.sound is.knows (w + n) (missed rules table n s) None (missed_surely t rules table is.sound is.knows w n s at) (inl refl)).jump
-  own_calm (Some e) s tick (inl idle) n = calm_from 0 s n (subst (StandsSurely t table 0) (sym idle.0) tt)
+  own_calm voted (Some e) s tick (inl idle) n = calm_from 0 s n (subst (StandsSurely t table 0) (sym idle.0) tt)
     where
       calm_from : (w : ℕ) (s : State) (n : ℕ) → StandsSurely t table w s → ¬ ((step_behind rules table n s None).report.cause ≡ cause.Jump)
       calm_from w s n at = (sure_step t rules table is.sound is.knows (w + n) (missed rules table n s) None (missed_surely t rules table is.sound is.knows w n s at) (inl refl)).jump
-  own_calm (Some e) s tick (inr at) n = (sure_step t rules table is.sound is.knows (at.0 + n) (missed rules table n s) None (missed_surely t rules table is.sound is.knows at.0 n s at.2.truth) (inl refl)).jump
+  own_calm voted (Some e) s tick (inr at) n = (sure_step t rules table is.sound is.knows (at.0 + n) (missed rules table n s) None (missed_surely t rules table is.sound is.knows at.0 n s at.2.truth) (inl refl)).jump
 
 -- ---- a tick
 
 -- a device that is on its track stays there, and what it answers is true
 pub record KeepsTrue (t : TimelineValue) (d : ℕ) (edges : ℕ → ℕ) (early late : ℕ) (M : ℕ) (rules : ReaderRules) (table : TableValue) (now : ℕ) (new : ClockState) (answer : Option Beat) : Type 0 where
-  pub track : IsOnTrack t edges early late d M rules table now new.reader new.edge_us
-  pub told : (b : Beat) (u : UtcSecond) → answer ≡ Some b → b.report.announce ≡ Some u → IsToldNewly t d edges early late M rules table now b u new.reader new.edge_us
+  pub track : IsOnTrack t edges early late d M rules table now new.reader new.bound_us new.edge_us
+  pub told : (b : Beat) (u : UtcSecond) → answer ≡ Some b → b.report.announce ≡ Some u → IsToldNewly t d edges early late M rules table now b u new.reader new.bound_us new.edge_us
   pub calm : (b : Beat) → answer ≡ Some b → ¬ (b.report.cause ≡ cause.Jump)
 
-module _ (t : TimelineValue) (d : ℕ) (edges : ℕ → ℕ) (early late : ℕ) (c : ClockRules) (table : TableValue) (s : ClockState) (is : IsDevice t d edges c.reader_rules table) (room : early + late ≤ 5098) (M tick now : ℕ) (order : tick ≤ now) (soon : now ≤ tick + 1800000000)
-    (on : IsOnTrack t edges early late d M c.reader_rules table tick s.reader s.edge_us) where
-  by_vote : (v : KeptClaim) (vote : IsTrueVote t edges early late now v) (n : ℕ) → n ≡ edges_to_vote s.edge_us v.end_us → KeepsTrue t d edges early late M c.reader_rules table now (after_vote c table s v n) (answer_to_vote c table s v n)
+module _ (t : TimelineValue) (edges : ℕ → ℕ) (early late : ℕ) (c : ClockRules) (table : TableValue) (s : ClockState) (is : IsDevice t c.drift_us edges c.reader_rules table) (room : early + late ≤ 3002) (M tick now : ℕ) (order : tick ≤ now) (soon : now ≤ tick + 1800000000)
+    (on : IsOnTrack t edges early late c.drift_us M c.reader_rules table tick s.reader s.bound_us s.edge_us) where
+  by_vote : (v : Vote) (vote : IsTrueVote t edges early late now v) (n : ℕ) → n ≡ edges_to_vote s.edge_us v.edge_us → KeepsTrue t c.drift_us edges early late M c.reader_rules table now (after_vote c table s v n) (answer_to_vote c table s v n)
   by_vote v vote n same =
-      let all = comes t d edges early late c.reader_rules table is room M tick now order soon v vote s.edge_us s.reader on in
+      let all = comes t c.drift_us edges early late c.reader_rules table is room M tick now order soon v vote s.bound_us s.edge_us s.reader on in
       let state = missed c.reader_rules table (n - 1) s.reader in
       elim (cases_Bool (n == 0)) [
         | inl waits ↦
-            let none : edges_to_vote s.edge_us v.end_us ≡ 0 = sym same ∙ eqb-true n 0 waits in
+            let none : edges_to_vote s.edge_us v.edge_us ≡ 0 = sym same ∙ eqb-true n 0 waits in
             rw waits (record { track = all.none none; told = λ b u e says. absurd cc; calm = λ b e. absurd cc })
         | inr more ↦
             let some : 1 ≤ n = omega (arith, eqb-false n 0 more) in
             let reached = subst (λ (i : ℕ). StandsSurely t table vote.truth.second (missed c.reader_rules table (i - 1) s.reader)) (sym same) (all.before (omega (arith, same, some))) in
             rw more (record {
-              track = on_track t d edges early late c.reader_rules table is room M now v vote M state (let less = all.later (omega (arith, same, some)) in omega (arith, less)) reached;
+              track = on_track t c.drift_us edges early late c.reader_rules table is room M now v vote M state (let less = all.later (omega (arith, same, some)) in omega (arith, less)) reached;
               told = λ b u e says.
-                  let beat : b ≡ beat_by s (step_to c table s n (Some v.claim)) (n - 1) v.end_us = cc in
+                  let beat : b ≡ beat_by c s (step_to c table s n (Some v.claim)) (n - 1) v.edge_us v.bound_us = cc in
                   record {
-                    told = told_once t d edges early late c.reader_rules table is room M now b u
-                        (told t d edges early late c.reader_rules table is room M now v vote state b u reached (ap (λ (x : Beat). x.edge_us) beat) (sym (ap (λ (x : Beat). x.report.announce) beat) ∙ says));
+                    told =
+                        let bound : b.bound_us ≡ bound_of c.drift_us v.bound_us (step_to c table s n (Some v.claim)).report.lock = ap (λ (x : Beat). x.bound_us) beat in
+                        told t c.drift_us edges early late c.reader_rules table is room M now v vote state b u reached (ap (λ (x : Beat). x.edge_us) beat) (omega (arith, bound)) (sym (ap (λ (x : Beat). x.report.announce) beat) ∙ says);
                     later = all.later (omega (arith, same, some));
-                    track = on_track t d edges early late c.reader_rules table is room M now v vote (vote.truth.second + 1) state (omega arith) reached;
+                    track = on_track t c.drift_us edges early late c.reader_rules table is room M now v vote (vote.truth.second + 1) state (omega arith) reached;
                   };
               calm = λ b e jumps.
-                  let beat : b ≡ beat_by s (step_to c table s n (Some v.claim)) (n - 1) v.end_us = cc in
-                  (votes t d edges early late c.reader_rules table is room M now v vote state reached).jump (sym (ap (λ (x : Beat). x.report.cause) beat) ∙ jumps);
+                  let beat : b ≡ beat_by c s (step_to c table s n (Some v.claim)) (n - 1) v.edge_us v.bound_us = cc in
+                  (votes t c.drift_us edges early late c.reader_rules table is room M now v vote state reached).jump (sym (ap (λ (x : Beat). x.report.cause) beat) ∙ jumps);
             })
       ]
 
-  alone : (n : ℕ) → n ≡ edges_own s.edge_us (now % 2 ^ 32) → KeepsTrue t d edges early late M c.reader_rules table now (after_own c table s n) (answer_alone c table s n)
+  alone : (n : ℕ) → n ≡ edges_own s.edge_us (now % 2 ^ 32) → KeepsTrue t c.drift_us edges early late M c.reader_rules table now (after_own c table s n) (answer_alone c table s n)
   alone n same =
       elim (cases_Bool (n == 0)) [
         | inl waits ↦
             let none : edges_own s.edge_us (now % 2 ^ 32) ≡ 0 = sym same ∙ eqb-true n 0 waits in
-            rw waits (record { track = own_waits t d edges early late c.reader_rules table is room M tick now order soon s.edge_us s.reader on none; told = λ b u e says. absurd cc; calm = λ b e. absurd cc })
+            rw waits (record { track = own_waits t c.drift_us edges early late c.reader_rules table is room M tick now order soon s.bound_us s.edge_us s.reader on none; told = λ b u e says. absurd cc; calm = λ b e. absurd cc })
         | inr more ↦
             let some : 1 ≤ n = omega (arith, eqb-false n 0 more) in
             rw more (record {
-              track = own_tracks t d edges early late c.reader_rules table is room M tick now order soon s.edge_us s.reader on n same some;
+              track = own_tracks t c.drift_us edges early late c.reader_rules table is room M tick now order soon s.bound_us s.edge_us s.reader on n same some;
               told = λ b u e says.
-                  let beat : b ≡ beat_by s (step_to c table s n None) (n - 1) (own_edge s.edge_us n) = cc in
-                  own_says t d edges early late c.reader_rules table is room M tick now order soon s.edge_us s.reader on n same some b u (ap (λ (x : Beat). x.edge_us) beat) (sym (ap (λ (x : Beat). x.report) beat)) says;
+                  let beat : b ≡ beat_by c s (step_to c table s n None) (n - 1) (own_edge s.edge_us n) s.bound_us = cc in
+                  own_says t c.drift_us edges early late c.reader_rules table is room M tick now order soon s.bound_us s.edge_us s.reader on n same some b u (ap (λ (x : Beat). x.edge_us) beat)
+                  (ap (λ (x : Beat). x.bound_us) beat ∙ ap (λ (x : Beat). bound_of c.drift_us s.bound_us x.report.lock) (sym beat)) (sym (ap (λ (x : Beat). x.report) beat)) says;
               calm = λ b e jumps.
-                  let beat : b ≡ beat_by s (step_to c table s n None) (n - 1) (own_edge s.edge_us n) = cc in
-                  own_calm t d edges early late c.reader_rules table is room M s.edge_us s.reader tick on (n - 1) (sym (ap (λ (x : Beat). x.report.cause) beat) ∙ jumps);
+                  let beat : b ≡ beat_by c s (step_to c table s n None) (n - 1) (own_edge s.edge_us n) s.bound_us = cc in
+                  own_calm t c.drift_us edges early late c.reader_rules table is room M s.bound_us s.edge_us s.reader tick on (n - 1) (sym (ap (λ (x : Beat). x.report.cause) beat) ∙ jumps);
             })
       ]
 
 -- with what its lines brought
-pub tick_true : (IsTrue : List Pulse → Type 0) (t : TimelineValue) (d : ℕ) (edges : ℕ → ℕ) (early late : ℕ) (k : Keeping) (M tick now : ℕ) (pulses : ℕ → List Pulse) → early + late ≤ 4098 → TellsTruly IsTrue k.rules t edges early late now
-    → IsDevice t d edges k.clock.reader_rules k.table → tick ≤ now → now ≤ tick + 1800000000
-    → IsOnTrack t edges (early + 1000) late d M k.clock.reader_rules k.table tick k.state.reader k.state.edge_us → AreHeardTruly IsTrue k.rules (f_of k.clock.redundancy) now k.state.lines pulses
-    → KeepsTrue t d edges (early + 1000) late M k.clock.reader_rules k.table now (after_tick k (now % 2 ^ 32)).state (answer_at k (now % 2 ^ 32))
-tick_true IsTrue t d edges early late k M tick now pulses room truly is order soon on heard = of (vote_at k (now % 2 ^ 32)) refl
+pub tick_true : (IsTrue : List Pulse → Type 0) (t : TimelineValue) (edges : ℕ → ℕ) (early late : ℕ) (k : Keeping) (M tick now : ℕ) (pulses : ℕ → List Pulse) → early + late ≤ 3002 → TellsTruly IsTrue k.clock.within.us k.clock.drift_us k.rules t edges early late now
+    → IsDevice t k.clock.drift_us edges k.clock.reader_rules k.table → tick ≤ now → now ≤ tick + 1800000000
+    → IsOnTrack t edges early late k.clock.drift_us M k.clock.reader_rules k.table tick k.state.reader k.state.bound_us k.state.edge_us → AreHeardTruly IsTrue k.rules (f_of k.clock.redundancy) now k.state.lines pulses
+    → KeepsTrue t k.clock.drift_us edges early late M k.clock.reader_rules k.table now (after_tick k (now % 2 ^ 32)).state (answer_at k (now % 2 ^ 32))
+tick_true IsTrue t edges early late k M tick now pulses room truly is order soon on heard = of (vote_at k (now % 2 ^ 32)) refl
   where
     s : ClockState
     s = settled_at k.state (now % 2 ^ 32)
 
-    wide : early + 1000 + late ≤ 5098
-    wide = omega (arith, room)
-
-    of : (v : Option KeptClaim) → vote_at k (now % 2 ^ 32) ≡ v → KeepsTrue t d edges (early + 1000) late M k.clock.reader_rules k.table now (clock_by k.clock k.table s (now % 2 ^ 32) v) (answer_by k.clock k.table s (now % 2 ^ 32) v)
-    of None e = alone t d edges (early + 1000) late k.clock k.table s is wide M tick now order soon on _ refl
+    of : (v : Option Vote) → vote_at k (now % 2 ^ 32) ≡ v → KeepsTrue t k.clock.drift_us edges early late M k.clock.reader_rules k.table now (clock_by k.clock k.table s (now % 2 ^ 32) v) (answer_by k.clock k.table s (now % 2 ^ 32) v)
+    of None e = alone t edges early late k.clock k.table s is room M tick now order soon on _ refl
     of (Some v) e =
-        let vote = vote_is_true IsTrue k.rules t edges early late (f_of k.clock.redundancy) now k.state.lines pulses truly heard v e in
-        by_vote t d edges (early + 1000) late k.clock k.table s is wide M tick now order soon on v vote _ refl
+        let vote = vote_is_true IsTrue k.rules t k.clock edges is.steady early late room now k.state.lines pulses truly heard v e in
+        by_vote t edges early late k.clock k.table s is room M tick now order soon on v vote _ refl

@@ -13,8 +13,12 @@ use Rattle.irig_timekeeper.specs.declared.lines.KeptFrame.{KeptFrame}
 use Rattle.irig_timekeeper.specs.declared.lines.KeptClaim.{KeptClaim}
 use Rattle.irig_timekeeper.specs.declared.lines.Line.{Line}
 use Rattle.irig_timekeeper.specs.declared.lines.Lines.{Lines}
+use Rattle.irig_timekeeper.specs.declared.lines.Vote.{Vote}
+use Rattle.irig_timekeeper.specs.declared.setup.ClockRules.{ClockRules}
+use Rattle.irig_timekeeper.specs.Exactness.{window_us}
+use Rattle.irig_vote.specs.Vote.{f_of}
 use Rattle.irig_timekeeper.specs.Counting.{is_late, has_come}
-use Rattle.irig_timekeeper.specs.Steps.{IsKeptOfUtc, AreKeptOfUtc, line_at, with_line, still_kept, settled, taken, claim_told, claim_kept, all_kept, is_candidate, later, last_candidate, agreed, if_come}
+use Rattle.irig_timekeeper.specs.Steps.{IsKeptOfUtc, AreKeptOfUtc, line_at, with_line, still_kept, settled, taken, claim_told, claim_kept, all_kept, is_candidate, earlier, first_candidate, vote_with, agreed, if_come}
 
 told_valid : (told : Told) → ∥ IfClaim told (λ c. IsValid c.at) ∥₁ → IfClaim told (λ c. IsValid c.at)
 told_valid (tells.Claim c) k = still_valid c.at k
@@ -91,26 +95,40 @@ AllKept : List (Option KeptClaim) → Type 0
 AllKept [] = Unit {0}
 AllKept (x ∷ xs) = IsClaimOfUtc x × AllKept xs
 
-later_valid : (so_far : Option KeptClaim) (x : KeptClaim) → IsClaimOfUtc so_far → IsClaimOfUtc (Some x) → IsClaimOfUtc (later so_far x)
-later_valid None x v w = w
-later_valid (Some y) x v w = either IsClaimOfUtc (nat_le (clock_gap y.end_us x.end_us) 1000) (Some x) (Some y) w v
+earlier_valid : (window : ℕ) (so_far : Option KeptClaim) (x : KeptClaim) → IsClaimOfUtc so_far → IsClaimOfUtc (Some x) → IsClaimOfUtc (earlier window so_far x)
+earlier_valid window None x v w = w
+earlier_valid window (Some y) x v w = either IsClaimOfUtc (nat_le (clock_gap y.end_us x.end_us) window) (Some y) (Some x) v w
 
-last_valid : (f : ℕ) (all xs : List (Option KeptClaim)) (so_far : Option KeptClaim) → AllKept xs → IsClaimOfUtc so_far → IsClaimOfUtc (last_candidate f all xs so_far)
+first_valid : (window f : ℕ) (all xs : List (Option KeptClaim)) (so_far : Option KeptClaim) → AllKept xs → IsClaimOfUtc so_far → IsClaimOfUtc (first_candidate window f all xs so_far)
 unfolding AllKept
-last_valid f all [] so_far v w = w
-last_valid f all (None ∷ xs) so_far v w = last_valid f all xs so_far v.1 w
-last_valid f all (Some x ∷ xs) so_far v w =
-    last_valid f all xs _ v.1 (either IsClaimOfUtc (is_candidate f x all) (later so_far x) so_far (later_valid so_far x w v.0) w)
+first_valid window f all [] so_far v w = w
+first_valid window f all (None ∷ xs) so_far v w = first_valid window f all xs so_far v.1 w
+first_valid window f all (Some x ∷ xs) so_far v w =
+    first_valid window f all xs _ v.1 (either IsClaimOfUtc (is_candidate window f x all) (earlier window so_far x) so_far (earlier_valid window so_far x w v.0) w)
+
+IsVoteOfUtc : Option Vote → Type 0
+IsVoteOfUtc vote = IfSome vote (λ v. IsValid v.claim.at)
+
+no_vote : IsVoteOfUtc None
+unfolding IsVoteOfUtc
+no_vote = tt
+
+vote_valid : (within d f : ℕ) (all : List (Option KeptClaim)) (first : Option KeptClaim) → IsClaimOfUtc first → IsVoteOfUtc (vote_with within d f all first)
+unfolding IsClaimOfUtc IsVoteOfUtc
+vote_valid within d f all None w = tt
+vote_valid within d f all (Some x) w = w
+
+come_valid : (now : ℕ) (vote : Option Vote) → IsVoteOfUtc vote → IsVoteOfUtc (if_come now vote)
+come_valid now None w = w
+come_valid now (Some x) w = either IsVoteOfUtc (has_come x.edge_us now) (Some x) None w no_vote
 
 nothing_valid : IsClaimOfUtc None
 unfolding IsClaimOfUtc
 nothing_valid = tt
 
-come_valid : (now : ℕ) (kept : Option KeptClaim) → IsClaimOfUtc kept → IsClaimOfUtc (if_come now kept)
-come_valid now None w = w
-come_valid now (Some x) w = either IsClaimOfUtc (has_come x.end_us now) (Some x) None w nothing_valid
-
-pub agreed_valid : (f now : ℕ) (lines : Lines) → AreKeptOfUtc lines → IfSome (if_come now (agreed f lines)) (λ k. IsValid k.claim.at)
-unfolding AllKept IsClaimOfUtc
-agreed_valid f now lines v =
-    come_valid now (agreed f lines) (last_valid f (all_kept lines) (all_kept lines) None (claim_valid lines.a.frame v.a, (claim_valid lines.b.frame v.b, (claim_valid lines.c.frame v.c, (claim_valid lines.d.frame v.d, (claim_valid lines.e.frame v.e, tt))))) tt)
+pub agreed_valid : (c : ClockRules) (now : ℕ) (lines : Lines) → AreKeptOfUtc lines → IfSome (if_come now (agreed c lines)) (λ v. IsValid v.claim.at)
+unfolding AllKept IsVoteOfUtc
+agreed_valid c now lines v =
+    come_valid now (agreed c lines) (vote_valid c.within.us c.drift_us (f_of c.redundancy) (all_kept lines) (first_candidate (window_us c.within.us) (f_of c.redundancy) (all_kept lines) (all_kept lines) None)
+    (first_valid (window_us c.within.us) (f_of c.redundancy) (all_kept lines) (all_kept lines) None
+    (claim_valid lines.a.frame v.a, (claim_valid lines.b.frame v.b, (claim_valid lines.c.frame v.c, (claim_valid lines.d.frame v.d, (claim_valid lines.e.frame v.e, tt))))) nothing_valid))

@@ -1,8 +1,8 @@
--- A frame on which lines agree is a true vote, if at most f of them were untrue of late.
-use Rattle.std.specs.Prelude.{count_by, nat_le, ◌&&◌}
+-- An edge on which lines agree is a true vote, if at most f of them were untrue of late.
+use Rattle.std.specs.Prelude.{count_by, nat_le, nat_lt, ◌&&◌}
 use Rattle.std.proofs.Common.{drop}
-use Rattle.std.proofs.Common.{◌≡◌, ◌∙◌, ℕ, zero, suc, ◌+◌, ◌-◌, ◌%◌, ◌^◌, ◌<◌, ◌≤◌, Bool, true, false, cond, List, [], ◌∷◌, Option, Some, None, refl, sym, ap, subst, arith}
-use Rattle.std.proofs.lemmas.Bool.{ltb-true, ltb-false, leb-true}
+use Rattle.std.proofs.Common.{◌≡◌, ◌∙◌, ℕ, zero, suc, ◌+◌, ◌-◌, ◌*◌, ◌/◌, ◌%◌, ◌^◌, ◌<◌, ◌≤◌, Bool, true, false, cond, List, [], ◌∷◌, Option, Some, None, refl, sym, ap, subst, arith, inl, inr}
+use Rattle.std.proofs.lemmas.Bool.{cases_lt, ltb-true, ltb-false, leb-true}
 use Rattle.irig_sync.specs.Lines.{Pulse}
 use Rattle.irig_sync.specs.Sync.{clock_gap}
 use Rattle.irig_time.specs.declared.rules.Rules.{Rules}
@@ -15,12 +15,18 @@ use Rattle.irig_port.specs.declared.told.Told.TheVariants as tells
 use Rattle.irig_timekeeper.specs.declared.lines.KeptFrame.{KeptFrame}
 use Rattle.irig_timekeeper.specs.declared.lines.KeptClaim.{KeptClaim}
 use Rattle.irig_timekeeper.specs.declared.lines.Lines.{Lines}
-use Rattle.irig_timekeeper.specs.Edges.{IsTrueNear}
+use Rattle.irig_timekeeper.specs.declared.lines.Vote.{Vote}
+use Rattle.irig_timekeeper.specs.declared.setup.ClockRules.{ClockRules}
+use Rattle.irig_vote.specs.Vote.{f_of}
+use Rattle.irig_timekeeper.specs.Edges.{IsQuartz, IsTrueNear}
 use Rattle.irig_timekeeper.specs.Lines.{IsLastBefore, IsFrameOf, IfKept, IsInTurnOf, HasJustCome}
 use Rattle.irig_timekeeper.specs.Counting.{is_late, has_come}
-use Rattle.irig_timekeeper.specs.Steps.{line_at, still_kept, settled, claim_told, claim_kept, all_kept, agrees, agreed, if_come}
+use Rattle.irig_timekeeper.specs.Steps.{line_at, still_kept, settled, claim_told, claim_kept, all_kept, agrees, is_candidate, place_behind, ends_by, ends_from, agreed, if_come}
 use Rattle.irig_timekeeper.specs.Truth.{AreHeardTruly, IsTrueVote}
+use Rattle.irig_timekeeper.specs.Exactness.{window_us, end_off_us, most_vote_us}
 use Rattle.irig_timekeeper.proofs.AgreeLaws.{one_agrees, kept_at, EachKept, is_one}
+use Rattle.irig_timekeeper.proofs.PartLaws.{split, narrow, IsVoteOf, agreed_first, vote_of}
+use Rattle.irig_timekeeper.proofs.CountingLaws.{rises}
 
 -- ---- what a tick keeps
 
@@ -46,13 +52,13 @@ still now (Some x) y e = by (is_late x.end_us now) refl e
     by true late e = absurd cc
     by false in_time e = (e, subst (λ (end : ℕ). is_late end now ≡ false) (end_of_claim x.told x.end_us y e) in_time)
 
-pub come : (now : ℕ) (o : Option KeptClaim) (y : KeptClaim) → if_come now o ≡ Some y → (o ≡ Some y) × (has_come y.end_us now ≡ true)
+pub come : (now : ℕ) (o : Option Vote) (y : Vote) → if_come now o ≡ Some y → (o ≡ Some y) × (has_come y.edge_us now ≡ true)
 come now None y e = absurd cc
-come now (Some x) y e = by (has_come x.end_us now) refl e
+come now (Some x) y e = by (has_come x.edge_us now) refl e
   where
-    by : (b : Bool) → has_come x.end_us now ≡ b → cond b (Some x) None ≡ Some y → (Some x ≡ Some y) × (has_come y.end_us now ≡ true)
+    by : (b : Bool) → has_come x.edge_us now ≡ b → cond b (Some x) None ≡ Some y → (Some x ≡ Some y) × (has_come y.edge_us now ≡ true)
     by false ahead e = absurd cc
-    by true there e = (e, let same : x ≡ y = cc in subst (λ (v : KeptClaim). has_come v.end_us now ≡ true) same there)
+    by true there e = (e, let same : x ≡ y = cc in subst (λ (v : Vote). has_come v.edge_us now ≡ true) same there)
 
 -- ---- by the clock of 32 bits
 
@@ -62,61 +68,28 @@ not_late end now order turn e =
     let most = ltb-false 110000 ((clock_gap (end % 2 ^ 32) (now % 2 ^ 32) + 10000) % 2 ^ 32) e in
     omega (arith, gap, most, order)
 
--- an end that lies up to 1 ms before another, and has come
-pub record IsComeBefore (e end now : ℕ) : Type 0 where
-  pub exact : ℕ
-  pub clock : e ≡ exact % 2 ^ 32
-  pub before : exact ≤ end
-  pub behind : end ≤ exact + 1000
-  pub come : exact ≤ now
-  pub soon : now ≤ exact + 100000
-
-pub come_before : (e end now : ℕ) → e < 2 ^ 32 → 10000 ≤ end → end ≤ now + 10000 → now ≤ end + 100000 → clock_gap e (end % 2 ^ 32) ≤ 1000 → clock_gap e (now % 2 ^ 32) ≤ 100000 → IsComeBefore e end now
-come_before e end now range late order soon near come =
-    let gap : ℕ = clock_gap e (end % 2 ^ 32) in
-    let exact : ℕ = end - gap in
-    let clock : e ≡ exact % 2 ^ 32 = omega (arith, range, late, near) in
-    let before : exact ≤ end = omega arith in
-    let behind : end ≤ exact + 1000 = omega (arith, near, late) in
-    let there : clock_gap (exact % 2 ^ 32) (now % 2 ^ 32) ≤ 100000 = subst (λ (x : ℕ). clock_gap x (now % 2 ^ 32) ≤ 100000) clock come in
-    record {
-      exact = exact;
-      clock = clock;
-      before = before;
-      behind = behind;
-      come = ahead exact now (omega (arith, before, order)) there;
-      soon = near_now exact now (omega (arith, behind, soon)) (omega (arith, before, order)) there;
-    }
-  where
-    ahead : (exact now : ℕ) → exact ≤ now + 10000 → clock_gap (exact % 2 ^ 32) (now % 2 ^ 32) ≤ 100000 → exact ≤ now
-    ahead exact now order there = omega (arith, order, there)
-
-    near_now : (exact now : ℕ) → now ≤ exact + 101000 → exact ≤ now + 10000 → clock_gap (exact % 2 ^ 32) (now % 2 ^ 32) ≤ 100000 → now ≤ exact + 100000
-    near_now exact now soon order there = omega (arith, soon, order, there)
-
 few_is : (g : ℕ) → g ≤ 100000 → nat_le g 100000 ≡ true
 few_is g h = grind (arith, h)
 
-gap_in_turn : (u v : ℕ) → u ≤ v → v ≤ u + 100000 → clock_gap (u % 2 ^ 32) (v % 2 ^ 32) ≤ 100000
-gap_in_turn u v h k = omega arith
+-- an end that lies so little before another is at this time
+exact_end : (e end gap : ℕ) → e < 2 ^ 32 → 10000 ≤ end → clock_gap e (end % 2 ^ 32) ≡ gap → gap ≤ 898 → e ≡ (end - gap) % 2 ^ 32
+exact_end e end gap range late is near = omega (arith, range, late, is, near)
 
-gap_of : (e end now : ℕ) → e < 2 ^ 32 → 10000 ≤ end → end ≤ now → now ≤ end + 99000 → clock_gap e (end % 2 ^ 32) ≤ 1000 → clock_gap e (now % 2 ^ 32) ≤ 100000
-gap_of e end now range late order soon near =
-    let gap : ℕ = clock_gap e (end % 2 ^ 32) in
-    let exact : ℕ = end - gap in
-    let clock : e ≡ exact % 2 ^ 32 = omega (arith, range, late, near) in
-    let before : exact ≤ now = omega (arith, order) in
-    let behind : now ≤ exact + 100000 = omega (arith, near, late, soon) in
-    subst (λ (x : ℕ). clock_gap x (now % 2 ^ 32) ≤ 100000) (sym clock) (gap_in_turn exact now before behind)
+-- what ends by such a time behind this end, and from it on
+ends_before : (e e' x y by : ℕ) → e ≡ x % 2 ^ 32 → e' ≡ y % 2 ^ 32 → x ≤ y + 200000 → y ≤ x + 200000 → by ≤ 898 → (clock_gap e e' + 1000) % 2 ^ 32 ≤ by + 1000 → y ≤ x + by
+ends_before e e' x y by p q near far few low = omega (arith, p, q, near, far, few, low)
 
-just_come : (e end now : ℕ) → e < 2 ^ 32 → 10000 ≤ end → end ≤ now → now ≤ end + 99000 → clock_gap e (end % 2 ^ 32) ≤ 1000 → has_come e (now % 2 ^ 32) ≡ true
-just_come e end now range late order soon near = few_is (clock_gap e (now % 2 ^ 32)) (gap_of e end now range late order soon near)
+ends_behind : (e e' x y from : ℕ) → e ≡ x % 2 ^ 32 → e' ≡ y % 2 ^ 32 → x ≤ y + 200000 → y ≤ x + 200000 → from + 1000 ≤ (clock_gap e e' + 1000) % 2 ^ 32 → (clock_gap e e' + 1000) % 2 ^ 32 < 2 ^ 31 → x + from ≤ y
+ends_behind e e' x y from p q near far high low = omega (arith, p, q, near, far, high, low)
+
+-- an edge by the clock has come
+edge_come : (edge now : ℕ) → edge ≤ now + 11000 → now ≤ edge + 101000 → clock_gap (edge % 2 ^ 32) (now % 2 ^ 32) ≤ 100000 → (edge ≤ now) × (now ≤ edge + 100000)
+edge_come edge now ahead soon few = (omega (arith, ahead, soon, few), omega (arith, ahead, soon, few))
+
+come_edge : (edge now : ℕ) → edge ≤ now → now ≤ edge + 100000 → clock_gap (edge % 2 ^ 32) (now % 2 ^ 32) ≤ 100000
+come_edge edge now come soon = omega (arith, come, soon)
 
 -- ---- the vote
-
-pub split : (a b : Bool) → (a && b) ≡ true → (a ≡ true) × (b ≡ true)
-split true b e = (refl, e)
-split false b e = absurd cc
 
 InRange : KeptClaim → Type 0
 InRange y = y.end_us < 2 ^ 32
@@ -129,21 +102,32 @@ pub last_late : (end : ℕ) (ps : List Pulse) → IsLastBefore end ps → 10000 
 last_late end [] last = absurd last
 last_late end (p ∷ ps) last = omega (arith, last)
 
-pair_with : (t : TimelineValue) (edges : ℕ → ℕ) (early late : ℕ) (c c' : Claim) (end exact : ℕ) → IsTrueNear t edges early late end c → c' ≡ c → exact ≤ end → end ≤ exact + 1000 → IsTrueNear t edges (early + 1000) late exact c'
-pair_with t edges early late c c' end exact is same before behind = record {
-  second = is.second;
-  near = record { least = omega (arith, is.near.least, behind); most = omega (arith, is.near.most, before) };
-  truth = subst (λ (x : Claim). IsTrueClaim t (is.second + 1) x) (sym same) is.truth;
-}
+-- the edge of an end is none behind that of another end near it
+not_after : (d : ℕ) (edges : ℕ → ℕ) → IsQuartz d edges → (m n x y : ℕ) → y ≤ edges m + 3452 → edges n ≤ x + 3452 → x ≤ y + 200000 → n ≤ m
+not_after d edges quartz m n x y most least near = elim (cases_lt m n) [
+  | inr more ↦ more
+  | inl less ↦
+      let there : m + (n - m) ≡ n = omega (arith, less) in
+      let rise = subst (λ (i : ℕ). edges m + (n - m) * 999900 ≤ edges i) there (rises d edges quartz m (n - m)) in
+      absurd (omega (arith, rise, less, most, least, near))
+]
 
--- a frame of such a line claims the true second before an edge, and ends near it
-abbrev pub TellsTruly : (List Pulse → Type 0) → Rules → TimelineValue → (ℕ → ℕ) → ℕ → ℕ → ℕ → Type 0
-TellsTruly IsTrue rules t edges early late now =
-    (end : ℕ) (pulses : List Pulse) (claim : Claim) → IsTrue pulses → IsFrameOf rules claim end pulses → now ≤ end + 100000 → IsTrueNear t edges early late end claim
+-- a frame of such a line claims the true second before an edge, and ends as near it as a true line's does,
+-- and at most so much earlier or later
+abbrev pub TellsTruly : (List Pulse → Type 0) → (within d : ℕ) → Rules → TimelineValue → (ℕ → ℕ) → (early late now : ℕ) → Type 0
+TellsTruly IsTrue within d rules t edges early late now =
+    (end : ℕ) (pulses : List Pulse) (claim : Claim) → IsTrue pulses → IsFrameOf rules claim end pulses → now ≤ end + 100000 → IsTrueNear t edges (early + end_off_us within d) (late + end_off_us within d) end claim
 
-module _ (IsTrue : List Pulse → Type 0) (rules : Rules) (t : TimelineValue) (edges : ℕ → ℕ) (early late f now : ℕ) (lines : Lines) (pulses : ℕ → List Pulse) (tells_truly : TellsTruly IsTrue rules t edges early late now) (h : AreHeardTruly IsTrue rules f now lines pulses) where
+module _ (IsTrue : List Pulse → Type 0) (rules : Rules) (t : TimelineValue) (c : ClockRules) (edges : ℕ → ℕ) (quartz : IsQuartz c.drift_us edges) (early late : ℕ) (room : early + late ≤ 3002) (now : ℕ) (lines : Lines) (pulses : ℕ → List Pulse)
+    (tells_truly : TellsTruly IsTrue c.within.us c.drift_us rules t edges early late now) (h : AreHeardTruly IsTrue rules (f_of c.redundancy) now lines pulses) where
   abbrev clock : ℕ
   clock = now % 2 ^ 32
+
+  abbrev off : ℕ
+  off = end_off_us c.within.us c.drift_us
+
+  abbrev all : List (Option KeptClaim)
+  all = all_kept (settled clock lines)
 
   kept_range : (o : Option KeptClaim) (ps : List Pulse) (y : KeptClaim) → IfKept (IsInTurnOf now) rules o ps → o ≡ Some y → InRange y
   unfolding InRange
@@ -156,7 +140,7 @@ module _ (IsTrue : List Pulse → Type 0) (rules : Rules) (t : TimelineValue) (e
   in_range : (i : ℕ) → i < 5 → (y : KeptClaim) → claim_kept (still_kept clock (line_at lines i).frame) ≡ Some y → InRange y
   in_range i low y e = kept_range (claim_kept (line_at lines i).frame) (pulses i) y (h.kept i low) (still clock (line_at lines i).frame y e).0
 
-  each : EachKept InRange (all_kept (settled clock lines))
+  each : EachKept InRange all
   each =
       one_more InRange _ _ (in_range 0 (omega arith))
       (one_more InRange _ _ (in_range 1 (omega arith))
@@ -164,80 +148,227 @@ module _ (IsTrue : List Pulse → Type 0) (rules : Rules) (t : TimelineValue) (e
       (one_more InRange _ _ (in_range 3 (omega arith))
       (one_more InRange _ _ (in_range 4 (omega arith)) tt))))
 
-  -- the true line that agrees
-  by_line : (x y : KeptClaim) (ps : List Pulse) → IsTrue ps → IfKept (IsInTurnOf now) rules (Some y) ps → is_late y.end_us clock ≡ false → agrees x (Some y) ≡ true → has_come x.end_us clock ≡ true → InRange x
-      → IsTrueVote t edges (early + 1000) late now x
-  unfolding InRange
-  by_line x y ps is turn in_time same there range =
-      let end : ℕ = turn.0 in
-      let soon = not_late end now turn.3.0 turn.3.1 (subst (λ (e : ℕ). is_late e clock ≡ false) turn.1 in_time) in
-      let true_end = tells_truly end ps y.claim is turn.2 soon in
-      let both = split (same_claim x.claim y.claim) (nat_le (clock_gap x.end_us y.end_us) 1000) same in
-      let near : clock_gap x.end_us (end % 2 ^ 32) ≤ 1000 = subst (λ (e : ℕ). clock_gap x.end_us e ≤ 1000) turn.1 (leb-true (clock_gap x.end_us y.end_us) 1000 both.1) in
-      let before = come_before x.end_us end now range (last_late end _ turn.2.last) turn.3.0 soon near (leb-true (clock_gap x.end_us clock) 100000 there) in
-      record {
-        end = before.exact;
-        clock = before.clock;
-        truth = pair_with t edges early late y.claim x.claim end before.exact true_end (same_is x.claim y.claim both.0) before.before before.behind;
-        come = before.come;
-        soon = before.soon;
-      }
+  -- a frame of a true line that is such
+  record IsTrueKept (is_such : Option KeptClaim → Bool) : Type 0 where
+    i : ℕ
+    low : i < 5
+    right : h.untrue i ≡ false
+    y : KeptClaim
+    keeps : claim_kept (line_at lines i).frame ≡ Some y
+    end : ℕ
+    at : y.end_us ≡ end % 2 ^ 32
+    frame : IsFrameOf rules y.claim end (pulses i)
+    is : is_such (Some y) ≡ true
+    ahead : end ≤ now + 10000
+    soon : now ≤ end + 100000
+    some : 10000 ≤ end
 
-  pub vote_is_true : (x : KeptClaim) → if_come clock (agreed f (settled clock lines)) ≡ Some x → IsTrueVote t edges (early + 1000) late now x
-  vote_is_true x e =
-      let all : List (Option KeptClaim) = all_kept (settled clock lines) in
-      let there = come clock (agreed f (settled clock lines)) x e in
-      let one = is_one InRange f all all x each there.0 in
-      let many = ltb-true f (count_by (agrees x) all) one.0 in
-      let found = one_agrees h.untrue x 0 all (omega (arith, many, h.few)) in
+  kept_true : (is_such : Option KeptClaim → Bool) (i : ℕ) → i < 5 → h.untrue i ≡ false → (y : KeptClaim) → claim_kept (line_at lines i).frame ≡ Some y → is_late y.end_us clock ≡ false → is_such (Some y) ≡ true
+      → IfKept (IsInTurnOf now) rules (Some y) (pulses i) → IsTrueKept is_such
+  kept_true is_such i low right y keeps in_time is turn = record {
+    i = i;
+    low = low;
+    right = right;
+    y = y;
+    keeps = keeps;
+    end = turn.0;
+    at = turn.1;
+    frame = turn.2;
+    is = is;
+    ahead = turn.3.0;
+    soon = not_late turn.0 now turn.3.0 turn.3.1 (subst (λ (e : ℕ). is_late e clock ≡ false) turn.1 in_time);
+    some = last_late turn.0 (drop turn.2.late (pulses i)) turn.2.last;
+  }
+
+  one_true : (is_such : Option KeptClaim → Bool) → is_such None ≡ false → f_of c.redundancy < count_by is_such all → IsTrueKept is_such
+  one_true is_such none many =
+      let found = one_agrees h.untrue is_such none 0 all (omega (arith, many, h.few)) in
       let low : found.i < 5 = found.low in
       let keeps = still clock (line_at lines found.i).frame found.y (ap claim_kept (sym (frame_settled clock lines found.i low)) ∙ kept_at (settled clock lines) found.i found.y found.keeps) in
-      let turn = subst (λ (o : Option KeptClaim). IfKept (IsInTurnOf now) rules o (pulses found.i)) keeps.0 (h.kept found.i low) in
       let at : 0 + found.i ≡ found.i = omega arith in
-      by_line x found.y (pulses found.i) (h.true_lines found.i low (subst (λ (j : ℕ). h.untrue j ≡ false) at found.true_line)) turn keeps.1 found.same there.1 one.1
+      kept_true is_such found.i low (subst (λ (j : ℕ). h.untrue j ≡ false) at found.true_line) found.y keeps.0 keeps.1 found.same
+      (subst (λ (o : Option KeptClaim). IfKept (IsInTurnOf now) rules o (pulses found.i)) keeps.0 (h.kept found.i low))
 
-  -- ---- a vote comes
+  near_edge : (is_such : Option KeptClaim → Bool) (k : IsTrueKept is_such) → IsTrueNear t edges (early + off) (late + off) k.end k.y.claim
+  near_edge is_such k = tells_truly k.end (pulses k.i) k.y.claim (h.true_lines k.i k.low k.right) k.frame k.soon
 
-  come_is : (x : KeptClaim) (time : ℕ) → has_come x.end_us time ≡ true → (o : Option KeptClaim) → o ≡ Some x → if_come time o ≡ Some x
-  come_is x time there None e = absurd cc
-  come_is x time there (Some y) e =
-      let same : y ≡ x = cc in
-      subst (λ (v : KeptClaim). if_come time (Some v) ≡ Some x) (sym same) (rw there refl)
+  -- a candidate, and where it ends
+  module _ (x : KeptClaim) (counts : is_candidate (window_us c.within.us) (f_of c.redundancy) x all ≡ true) (range : InRange x) where
+    one : IsTrueKept (agrees (window_us c.within.us) x)
+    one = one_true (agrees (window_us c.within.us) x) refl (ltb-true (f_of c.redundancy) (count_by (agrees (window_us c.within.us) x) all) counts)
 
-  there_by : (x y : KeptClaim) (ps : List Pulse) (end : ℕ) → y.end_us ≡ end % 2 ^ 32 → IsFrameOf rules y.claim end ps → HasJustCome now end → agrees x (Some y) ≡ true → InRange x → has_come x.end_us clock ≡ true
-  unfolding InRange
-  there_by x y ps end is frame ready same range =
-      let both = split (same_claim x.claim y.claim) (nat_le (clock_gap x.end_us y.end_us) 1000) same in
-      let near : clock_gap x.end_us (end % 2 ^ 32) ≤ 1000 = subst (λ (e : ℕ). clock_gap x.end_us e ≤ 1000) is (leb-true (clock_gap x.end_us y.end_us) 1000 both.1) in
-      just_come x.end_us end now range (last_late end (drop frame.late ps) frame.last) ready.0 ready.1 near
+    gap : ℕ
+    gap = clock_gap x.end_us one.y.end_us
+
+    near : gap ≤ 898
+    unfolding gap
+    near =
+        let parts = split (same_claim x.claim one.y.claim) (nat_le (clock_gap x.end_us one.y.end_us) (window_us c.within.us)) one.is in
+        let low = leb-true (clock_gap x.end_us one.y.end_us) (window_us c.within.us) parts.1 in
+        omega (arith, low, narrow c)
+
+    end : ℕ
+    end = one.end - gap
+
+    at_end : x.end_us ≡ end % 2 ^ 32
+    unfolding InRange gap end
+    at_end = exact_end x.end_us one.end (clock_gap x.end_us one.y.end_us) range one.some (ap (clock_gap x.end_us) (sym one.at)) near
+
+    ahead : end ≤ now + 10000
+    unfolding end
+    ahead = omega (arith, one.ahead)
+
+    soon : now ≤ end + 100898
+    unfolding end
+    soon = omega (arith, one.soon, near, one.some)
+
+    module _ (v : Vote) (of : IsVoteOf c all v x) where
+      by_then : IsTrueKept (ends_by x of.by)
+      by_then = one_true (ends_by x of.by) refl of.many_by
+
+      from_then : IsTrueKept (ends_from x of.from)
+      from_then = one_true (ends_from x of.from) refl of.many_from
+
+      by_split : (same_claim x.claim by_then.y.claim ≡ true) × (nat_le (place_behind x by_then.y) (of.by + 1000) ≡ true)
+      by_split = split (same_claim x.claim by_then.y.claim) (nat_le (place_behind x by_then.y) (of.by + 1000)) by_then.is
+
+      before : by_then.end ≤ end + of.by
+      before =
+          ends_before x.end_us by_then.y.end_us end by_then.end of.by at_end by_then.at (omega (arith, ahead, by_then.soon)) (omega (arith, soon, by_then.ahead)) (omega (arith, of.by_most, narrow c))
+          (leb-true (place_behind x by_then.y) (of.by + 1000) by_split.1)
+
+      from_split : (nat_le (of.from + 1000) (place_behind x from_then.y) ≡ true) × (nat_lt (place_behind x from_then.y) (2 ^ 31) ≡ true)
+      from_split =
+          split (nat_le (of.from + 1000) (place_behind x from_then.y)) (nat_lt (place_behind x from_then.y) (2 ^ 31))
+          (split (same_claim x.claim from_then.y.claim) (nat_le (of.from + 1000) (place_behind x from_then.y) && nat_lt (place_behind x from_then.y) (2 ^ 31)) from_then.is).1
+
+      behind : end + of.from ≤ from_then.end
+      behind =
+          ends_behind x.end_us from_then.y.end_us end from_then.end of.from at_end from_then.at (omega (arith, ahead, from_then.soon)) (omega (arith, soon, from_then.ahead))
+          (leb-true (of.from + 1000) (place_behind x from_then.y) from_split.0) (ltb-true (place_behind x from_then.y) (2 ^ 31) from_split.1)
+
+      edge : ℕ
+      edge = end + (of.from + of.by) / 2
+
+      at_edge : v.edge_us ≡ edge % 2 ^ 32
+      unfolding edge
+      at_edge = ap (λ (v : Vote). v.edge_us) of.is ∙ wraps x.end_us end ((of.from + of.by) / 2) at_end
+        where
+          wraps : (e end more : ℕ) → e ≡ end % 2 ^ 32 → (e + more) % 2 ^ 32 ≡ (end + more) % 2 ^ 32
+          wraps e end more is = omega (arith, is)
+
+      bound_is : v.bound_us ≡ off + (of.by - of.from + 1) / 2
+      bound_is = ap (λ (v : Vote). v.bound_us) of.is
+
+      by_near : IsTrueNear t edges (early + off) (late + off) by_then.end by_then.y.claim
+      by_near = near_edge (ends_by x of.by) by_then
+
+      from_near : IsTrueNear t edges (early + off) (late + off) from_then.end from_then.y.claim
+      from_near = near_edge (ends_from x of.from) from_then
+
+      off_few : off ≤ 450
+      off_few = omega (arith, c.within.few, quartz.few)
+
+      one_edge : from_near.second ≡ by_near.second
+      one_edge =
+          let low = not_after c.drift_us edges quartz (from_near.second + 1) (by_near.second + 1) by_then.end from_then.end
+          (omega (arith, from_near.near.most, off_few, room)) (omega (arith, by_near.near.least, off_few, room)) (omega (arith, by_then.ahead, from_then.soon)) in
+          let high = not_after c.drift_us edges quartz (by_near.second + 1) (from_near.second + 1) from_then.end by_then.end
+          (omega (arith, by_near.near.most, off_few, room)) (omega (arith, from_near.near.least, off_few, room)) (omega (arith, from_then.ahead, by_then.soon)) in
+          omega (arith, low, high)
+
+      least : edges (by_near.second + 1) ≤ edge + (early + v.bound_us)
+      unfolding edge
+      least = omega (arith, by_near.near.least, before, bound_is)
+
+      most : edge ≤ edges (by_near.second + 1) + (late + v.bound_us)
+      unfolding edge
+      most =
+          let same : edges (from_near.second + 1) ≡ edges (by_near.second + 1) = ap (λ (s : ℕ). edges (s + 1)) one_edge in
+          omega (arith, from_near.near.most, same, behind, bound_is)
+
+      claims : v.claim ≡ by_then.y.claim
+      claims = ap (λ (v : Vote). v.claim) of.is ∙ same_is x.claim by_then.y.claim by_split.0
+
+      small : v.bound_us ≤ most_vote_us
+      small = omega (arith, bound_is, of.by_most, c.within.few, quartz.few)
+
+      there : has_come v.edge_us clock ≡ true → (edge ≤ now) × (now ≤ edge + 100000)
+      unfolding edge
+      there come =
+          let few : clock_gap (edge % 2 ^ 32) (now % 2 ^ 32) ≤ 100000 = subst (λ (e : ℕ). clock_gap e clock ≤ 100000) at_edge (leb-true (clock_gap v.edge_us clock) 100000 come) in
+          edge_come edge now (omega (arith, ahead, of.from_most, of.by_most, narrow c)) (omega (arith, soon)) few
+
+      true_vote : has_come v.edge_us clock ≡ true → IsTrueVote t edges early late now v
+      true_vote come = record {
+        edge = edge;
+        clock = at_edge;
+        truth = record {
+          second = by_near.second;
+          near = record { least = least; most = most };
+          truth = subst (λ (x : Claim). IsTrueClaim t (by_near.second + 1) x) (sym claims) by_near.truth;
+        };
+        small = small;
+        come = (there come).0;
+        soon = (there come).1;
+      }
 
   -- what a true line keeps has just come, if it is not late
   abbrev pub AreReady : Type 0
   AreReady =
       (i : ℕ) → i < 5 → h.untrue i ≡ false → (y : KeptClaim) (end : ℕ) → y.end_us ≡ end % 2 ^ 32 → IsFrameOf rules y.claim end (pulses i) → end ≤ now + 10000 → now ≤ end + 100000
-      → claim_kept (line_at lines i).frame ≡ Some y → HasJustCome now end
+      → claim_kept (line_at lines i).frame ≡ Some y → HasJustCome c.within.us now end
 
-  pub vote_comes : AreReady → (x : KeptClaim) → agreed f (settled clock lines) ≡ Some x → if_come clock (agreed f (settled clock lines)) ≡ Some x
-  vote_comes ready x e =
-      let all : List (Option KeptClaim) = all_kept (settled clock lines) in
-      let one = is_one InRange f all all x each e in
-      let many = ltb-true f (count_by (agrees x) all) one.0 in
-      let found = one_agrees h.untrue x 0 all (omega (arith, many, h.few)) in
-      let low : found.i < 5 = found.low in
-      let keeps = still clock (line_at lines found.i).frame found.y (ap claim_kept (sym (frame_settled clock lines found.i low)) ∙ kept_at (settled clock lines) found.i found.y found.keeps) in
-      let at : 0 + found.i ≡ found.i = omega arith in
-      let turn = subst (λ (o : Option KeptClaim). IfKept (IsInTurnOf now) rules o (pulses found.i)) keeps.0 (h.kept found.i low) in
-      let soon = not_late turn.0 now turn.3.0 turn.3.1 (subst (λ (e : ℕ). is_late e clock ≡ false) turn.1 keeps.1) in
-      let is_ready = ready found.i low (subst (λ (j : ℕ). h.untrue j ≡ false) at found.true_line) found.y turn.0 turn.1 turn.2 turn.3.0 soon keeps.0 in
-      come_is x clock (there_by x found.y (pulses found.i) turn.0 turn.1 turn.2 is_ready found.same one.1) (agreed f (settled clock lines)) e
+  ready_of : AreReady → (is_such : Option KeptClaim → Bool) (k : IsTrueKept is_such) → HasJustCome c.within.us now k.end
+  ready_of ready is_such k = ready k.i k.low k.right k.y k.end k.at k.frame k.ahead k.soon k.keeps
+
+  -- the parts of what is agreed
+  record IsAgreedBy (v : Vote) : Type 0 where
+    x : KeptClaim
+    counts : is_candidate (window_us c.within.us) (f_of c.redundancy) x all ≡ true
+    range : InRange x
+    of : IsVoteOf c all v x
+
+  parts_of : (v : Vote) → agreed c (settled clock lines) ≡ Some v → IsAgreedBy v
+  parts_of v e =
+      let first = agreed_first c (settled clock lines) v e in
+      let one = is_one InRange (window_us c.within.us) (f_of c.redundancy) all all first.0 each first.1 in
+      record { x = first.0; counts = one.0; range = one.1; of = vote_of c all v first.0 one.0 first.2 }
+
+  pub vote_is_true : (v : Vote) → if_come clock (agreed c (settled clock lines)) ≡ Some v → IsTrueVote t edges early late now v
+  vote_is_true v e =
+      let there = come clock (agreed c (settled clock lines)) v e in
+      let p = parts_of v there.0 in
+      true_vote p.x p.counts p.range v p.of there.1
+
+  -- ---- a vote comes
+
+  come_is : (v : Vote) (time : ℕ) → has_come v.edge_us time ≡ true → (o : Option Vote) → o ≡ Some v → if_come time o ≡ Some v
+  come_is v time there None e = absurd cc
+  come_is v time there (Some y) e =
+      let same : y ≡ v = cc in
+      subst (λ (z : Vote). if_come time (Some z) ≡ Some v) (sym same) (rw there refl)
+
+  there_by : AreReady → (v : Vote) (p : IsAgreedBy v) → has_come v.edge_us clock ≡ true
+  unfolding edge
+  there_by ready v p =
+      let b = ready_of ready (ends_by p.x p.of.by) (by_then p.x p.counts p.range v p.of) in
+      let l = ready_of ready (ends_from p.x p.of.from) (from_then p.x p.counts p.range v p.of) in
+      let low = before p.x p.counts p.range v p.of in
+      let high = behind p.x p.counts p.range v p.of in
+      few_is (clock_gap v.edge_us clock) (subst (λ (e : ℕ). clock_gap e clock ≤ 100000) (sym (at_edge p.x p.counts p.range v p.of))
+      (come_edge (edge p.x p.counts p.range v p.of) now (omega (arith, l.0, high, p.of.by_most, c.within.some)) (omega (arith, b.1, low, p.of.by_most, narrow c))))
+
+  pub vote_comes : AreReady → (v : Vote) → agreed c (settled clock lines) ≡ Some v → if_come clock (agreed c (settled clock lines)) ≡ Some v
+  vote_comes ready v e = come_is v clock (there_by ready v (parts_of v e)) (agreed c (settled clock lines)) e
 
 -- an end that is known otherwise
-pub ready_by : (rules : Rules) (now : ℕ) (o : Option KeptClaim) (ps : List Pulse) (y : KeptClaim) (end : ℕ) → IfKept (HasJustCome now) rules o ps → o ≡ Some y → y.end_us ≡ end % 2 ^ 32 → end ≤ now + 10000 → now ≤ end + 100000 → HasJustCome now end
-ready_by rules now None ps y end h e is ahead soon = absurd cc
-ready_by rules now (Some x) ps y end h e is ahead soon =
+pub ready_by : (within : ℕ) (rules : Rules) (now : ℕ) (o : Option KeptClaim) (ps : List Pulse) (y : KeptClaim) (end : ℕ) → IfKept (HasJustCome within now) rules o ps → o ≡ Some y → y.end_us ≡ end % 2 ^ 32 → end ≤ now + 10000 → now ≤ end + 100000 → HasJustCome within now end
+ready_by within rules now None ps y end h e is ahead soon = absurd cc
+ready_by within rules now (Some x) ps y end h e is ahead soon =
     let same : x ≡ y = cc in
     let clock : h.0 % 2 ^ 32 ≡ end % 2 ^ 32 = sym h.1 ∙ ap (λ (z : KeptClaim). z.end_us) same ∙ is in
     by_clock h.0 end clock h.3.0 h.3.1 ahead soon
   where
-    by_clock : (x end : ℕ) → x % 2 ^ 32 ≡ end % 2 ^ 32 → x ≤ now → now ≤ x + 99000 → end ≤ now + 10000 → now ≤ end + 100000 → HasJustCome now end
+    by_clock : (x end : ℕ) → x % 2 ^ 32 ≡ end % 2 ^ 32 → x + (within - 1) ≤ now → now ≤ x + 99000 → end ≤ now + 10000 → now ≤ end + 100000 → HasJustCome within now end
     by_clock x end clock come near ahead soon = (omega (arith, clock, come, near, ahead, soon), omega (arith, clock, come, near, ahead, soon))

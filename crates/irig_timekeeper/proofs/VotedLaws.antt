@@ -1,6 +1,6 @@
 -- A second that a tick announces by a vote is true, from any state.
 use Rattle.std.specs.Prelude.{◌==◌}
-use Rattle.std.proofs.Common.{◌≡◌, ◌∙◌, ℕ, ◌+◌, ◌-◌, ◌%◌, ◌^◌, Bool, true, false, cond, List, Option, Some, None, refl, sym, ap, subst, arith}
+use Rattle.std.proofs.Common.{◌≡◌, ◌∙◌, ℕ, ◌+◌, ◌-◌, ◌*◌, ◌%◌, ◌^◌, ◌≤◌, Bool, true, false, cond, List, Option, Some, None, refl, sym, ap, subst, arith}
 use Rattle.irig_sync.specs.Lines.{Pulse}
 use Rattle.irig_time.specs.declared.second.UtcSecond.{UtcSecond}
 use Rattle.irig_time.specs.declared.claim.Claim.{Claim}
@@ -18,17 +18,19 @@ use Rattle.irig_hold.specs.declared.hold.Turn.TheVariants as turn
 use Rattle.irig_hold.specs.Steps.{HoldValue, alone_by}
 use Rattle.irig_reader.specs.declared.rules.ReaderRules.{ReaderRules}
 use Rattle.irig_reader.specs.declared.report.Report.{Report}
+use Rattle.irig_reader.specs.declared.report.Lock.{Lock}
 use Rattle.irig_reader.specs.declared.report.Lock.TheVariants as lock
 use Rattle.irig_reader.specs.declared.report.Cause.TheVariants as cause
 use Rattle.irig_reader.specs.declared.rule.State.{State}
 use Rattle.irig_reader.specs.declared.rule.State.TheVariants.{Idle, Acquiring, Locked}
 use Rattle.irig_reader.specs.Rule.{step_of, locked_step}
 use Rattle.irig_reader.proofs.OneEdge.{voted_seconds, clean_by_few}
-use Rattle.irig_timekeeper.specs.declared.lines.KeptClaim.{KeptClaim}
+use Rattle.irig_timekeeper.specs.declared.lines.Vote.{Vote}
 use Rattle.irig_timekeeper.specs.declared.clock.Beat.{Beat}
+use Rattle.irig_timekeeper.specs.Edges.{IsQuartz}
 use Rattle.irig_timekeeper.specs.Counting.{edges_to_vote, edges_own}
 use Rattle.irig_timekeeper.specs.Rule.{missed}
-use Rattle.irig_timekeeper.specs.Clock.{beat_by, step_to, own_edge, answer_by, settled_at}
+use Rattle.irig_timekeeper.specs.Clock.{lasted, beat_by, step_to, own_edge, answer_by, settled_at}
 use Rattle.irig_timekeeper.specs.declared.clock.ClockState.{ClockState}
 use Rattle.irig_timekeeper.specs.Keeping.{Keeping, answer_at, vote_at}
 use Rattle.irig_timekeeper.specs.Truth.{AreHeardTruly, IsTrueVote, IsToldTruly}
@@ -68,36 +70,40 @@ module _ (rules : ReaderRules) (table : TableValue) where
 
 -- ---- a tick
 
-pub tick_voted : (IsTrue : List Pulse → Type 0) (t : TimelineValue) (edges : ℕ → ℕ) (early late : ℕ) (k : Keeping) (now : ℕ) (pulses : ℕ → List Pulse) (b : Beat) (u : UtcSecond) → TellsTruly IsTrue k.rules t edges early late now → IsTimeline t
-    → AreHeardTruly IsTrue k.rules (f_of k.clock.redundancy) now k.state.lines pulses → answer_at k (now % 2 ^ 32) ≡ Some b → b.report.cause ≡ cause.Voted → b.report.announce ≡ Some u → IsToldTruly t edges (early + 1000) late now b u
-tick_voted IsTrue t edges early late k now pulses b u truly sound heard answer voted says = of (vote_at k (now % 2 ^ 32)) refl answer
+pub tick_voted : (IsTrue : List Pulse → Type 0) (t : TimelineValue) (edges : ℕ → ℕ) (k : Keeping) (early late : ℕ) → early + late ≤ 3002 → (now : ℕ) (pulses : ℕ → List Pulse) (b : Beat) (u : UtcSecond) → IsQuartz k.clock.drift_us edges
+    → TellsTruly IsTrue k.clock.within.us k.clock.drift_us k.rules t edges early late now → IsTimeline t → AreHeardTruly IsTrue k.rules (f_of k.clock.redundancy) now k.state.lines pulses
+    → answer_at k (now % 2 ^ 32) ≡ Some b → b.report.cause ≡ cause.Voted → b.report.announce ≡ Some u → IsToldTruly t edges (early + b.bound_us) (late + b.bound_us) now b u
+tick_voted IsTrue t edges k early late room now pulses b u quartz truly sound heard answer voted says = of (vote_at k (now % 2 ^ 32)) refl answer
   where
     s : ClockState
     s = settled_at k.state (now % 2 ^ 32)
 
-    by_own : (n : ℕ) (test : Bool) → (n == 0) ≡ test → cond test None (Some (beat_by s (step_to k.clock k.table s n None) (n - 1) (own_edge s.edge_us n))) ≡ Some b → IsToldTruly t edges (early + 1000) late now b u
+    by_own : (n : ℕ) (test : Bool) → (n == 0) ≡ test → cond test None (Some (beat_by k.clock s (step_to k.clock k.table s n None) (n - 1) (own_edge s.edge_us n) s.bound_us)) ≡ Some b → IsToldTruly t edges (early + b.bound_us) (late + b.bound_us) now b u
     by_own n true e answer = absurd cc
     by_own n false e answer =
-        let beat : beat_by s (step_to k.clock k.table s n None) (n - 1) (own_edge s.edge_us n) ≡ b = cc in
+        let beat : beat_by k.clock s (step_to k.clock k.table s n None) (n - 1) (own_edge s.edge_us n) s.bound_us ≡ b = cc in
         absurd (never_voted k.clock.reader_rules k.table (missed k.clock.reader_rules k.table (n - 1) k.state.reader) (ap (λ (x : Beat). x.report.cause) beat ∙ voted))
 
-    by_vote : (v : KeptClaim) → IsTrueVote t edges (early + 1000) late now v → (n : ℕ) (test : Bool) → (n == 0) ≡ test → cond test None (Some (beat_by s (step_to k.clock k.table s n (Some v.claim)) (n - 1) v.end_us)) ≡ Some b → IsToldTruly t edges (early + 1000) late now b u
+    by_vote : (v : Vote) → IsTrueVote t edges early late now v → (n : ℕ) (test : Bool) → (n == 0) ≡ test → cond test None (Some (beat_by k.clock s (step_to k.clock k.table s n (Some v.claim)) (n - 1) v.edge_us v.bound_us)) ≡ Some b
+        → IsToldTruly t edges (early + b.bound_us) (late + b.bound_us) now b u
     by_vote v vote n true e answer = absurd cc
     by_vote v vote n false e answer =
-        let beat : beat_by s (step_to k.clock k.table s n (Some v.claim)) (n - 1) v.end_us ≡ b = cc in
+        let beat : beat_by k.clock s (step_to k.clock k.table s n (Some v.claim)) (n - 1) v.edge_us v.bound_us ≡ b = cc in
         let state = missed k.clock.reader_rules k.table (n - 1) k.state.reader in
         let truth : truth_at t vote.truth.second ≡ Some v.claim = (claim_is t vote.truth.second v.claim).1 vote.truth.truth in
+        let lock : Lock = (step_to k.clock k.table s n (Some v.claim)).report.lock in
+        let bound : b.bound_us ≡ v.bound_us + lasted lock * k.clock.drift_us = ap (λ (x : Beat). x.bound_us) (sym beat) in
         record {
           m = vote.truth.second + 1;
-          edge = vote.end;
+          edge = vote.edge;
           clock = ap (λ (x : Beat). x.edge_us) (sym beat) ∙ vote.clock;
-          near = vote.truth.near;
+          near = record { least = omega (arith, vote.truth.near.least, bound); most = omega (arith, vote.truth.near.most, bound) };
           come = vote.come;
           soon = omega (arith, vote.soon);
           truth = voted_second t vote.truth.second k.clock.reader_rules k.table state v.claim u sound truth (ap (λ (x : Beat). x.report.cause) beat ∙ voted) (ap (λ (x : Beat). x.report.announce) beat ∙ says);
         }
 
-    of : (v : Option KeptClaim) → vote_at k (now % 2 ^ 32) ≡ v → answer_by k.clock k.table s (now % 2 ^ 32) v ≡ Some b → IsToldTruly t edges (early + 1000) late now b u
+    of : (v : Option Vote) → vote_at k (now % 2 ^ 32) ≡ v → answer_by k.clock k.table s (now % 2 ^ 32) v ≡ Some b → IsToldTruly t edges (early + b.bound_us) (late + b.bound_us) now b u
     of None e answer = by_own (edges_own s.edge_us (now % 2 ^ 32)) _ refl answer
     of (Some v) e answer =
-        by_vote v (vote_is_true IsTrue k.rules t edges early late (f_of k.clock.redundancy) now k.state.lines pulses truly heard v e) (edges_to_vote s.edge_us v.end_us) _ refl answer
+        by_vote v (vote_is_true IsTrue k.rules t k.clock edges quartz early late room now k.state.lines pulses truly heard v e) (edges_to_vote s.edge_us v.edge_us) _ refl answer

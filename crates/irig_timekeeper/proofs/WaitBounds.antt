@@ -1,6 +1,6 @@
 -- How long a device waits at most, in a life in order.
 use Rattle.std.specs.Prelude.{nat_lt}
-use Rattle.std.proofs.Common.{◌≡◌, ◌∷◌, ◌++◌, [], ◌+◌, ◌%◌, ◌^◌, ◌<◌, ◌≤◌, ℕ, Bool, true, false, cond, List, Option, Some, None, refl, sym, subst, arith, append-nil}
+use Rattle.std.proofs.Common.{◌≡◌, ◌∷◌, ◌++◌, [], ◌+◌, ◌/◌, ◌%◌, ◌^◌, ◌<◌, ◌≤◌, ℕ, Bool, true, false, cond, List, Option, Some, None, refl, sym, ap, subst, arith, append-nil}
 use Rattle.std.proofs.lemmas.Bool.{ltb-false, ltb-true}
 use Rattle.irig_sync.specs.Lines.{Pulse}
 use Rattle.irig_sync.specs.Sync.{clock_gap}
@@ -8,6 +8,9 @@ use Rattle.irig_time.specs.declared.rules.Rules.{Rules}
 use Rattle.irig_vote.specs.Vote.{f_of}
 use Rattle.irig_timekeeper.specs.declared.lines.KeptClaim.{KeptClaim}
 use Rattle.irig_timekeeper.specs.declared.lines.Lines.{Lines}
+use Rattle.irig_timekeeper.specs.declared.lines.Vote.{Vote}
+use Rattle.irig_timekeeper.specs.declared.setup.ClockRules.{ClockRules}
+use Rattle.irig_timekeeper.specs.Exactness.{window_us}
 use Rattle.irig_timekeeper.specs.Counting.{is_late}
 use Rattle.irig_timekeeper.specs.Keeping.{Keeping, wait_at}
 use Rattle.irig_timekeeper.specs.Life.{Call, Made, AreInOrder, after_calls, device_of, last_tick, life_of, pulses_on}
@@ -16,6 +19,7 @@ use Rattle.irig_timekeeper.specs.Lines.{IfKept}
 use Rattle.irig_timekeeper.specs.Steps.{agreed, all_kept, claim_kept, line_at, settled, still_kept, until, wait_by}
 use Rattle.irig_timekeeper.specs.Truth.{IfEdgeAt}
 use Rattle.irig_timekeeper.proofs.AgreeLaws.{EachKept, is_one}
+use Rattle.irig_timekeeper.proofs.PartLaws.{agreed_first, vote_of, narrow}
 use Rattle.irig_timekeeper.proofs.LifeLaws.{AreLinesAt, begins, lines_after}
 use Rattle.irig_timekeeper.proofs.OrderLaws.{IsPaced, paced_on}
 use Rattle.irig_timekeeper.proofs.VoteLaws.{one_more, still}
@@ -42,7 +46,7 @@ edge_in_life made start calls order = of (life_of made calls).state.edge_us pace
     of None h = tt
     of (Some e) h = (h.0, h.1)
 
--- ---- the frame on which lines agree is not late
+-- ---- the frame that makes a vote is not late
 
 IsTimely : ℕ → KeptClaim → Type 0
 IsTimely clock y = (is_late y.end_us clock ≡ false) × (y.end_us < 2 ^ 32)
@@ -53,15 +57,16 @@ of_clock EndsSo rules (Some x) pulses y h e =
     let same : x ≡ y = cc in
     subst (λ (v : KeptClaim). v.end_us < 2 ^ 32) same (omega (arith, h.1))
 
-until_end : (end now : ℕ) → is_late end (now % 2 ^ 32) ≡ false → end < 2 ^ 32 → until (now % 2 ^ 32) end ≤ 10000
-until_end end now timely few = of (nat_lt (clock_gap (now % 2 ^ 32) end) (2 ^ 31)) refl
+-- and the edge lies at most 898 us behind its end
+until_vote : (e end behind now : ℕ) → is_late end (now % 2 ^ 32) ≡ false → end < 2 ^ 32 → behind ≤ 898 → e ≡ (end + behind) % 2 ^ 32 → until (now % 2 ^ 32) e ≤ 11000
+until_vote e end behind now timely range few at = of (nat_lt (clock_gap (now % 2 ^ 32) e) (2 ^ 31)) refl
   where
-    near : (end now : ℕ) → end < 2 ^ 32 → now < 2 ^ 32 → (clock_gap end now + 10000) % 2 ^ 32 ≤ 110000 → clock_gap now end < 2 ^ 31 → clock_gap now end ≤ 10000
-    near end now few clock timely low = omega (arith, few, clock, timely, low)
+    near : (e end now : ℕ) → end < 2 ^ 32 → now < 2 ^ 32 → e ≡ (end + behind) % 2 ^ 32 → (clock_gap end now + 10000) % 2 ^ 32 ≤ 110000 → clock_gap now e < 2 ^ 31 → clock_gap now e ≤ 11000
+    near e end now range clock at timely low = omega (arith, range, clock, at, few, timely, low)
 
-    of : (test : Bool) → nat_lt (clock_gap (now % 2 ^ 32) end) (2 ^ 31) ≡ test → cond test (clock_gap (now % 2 ^ 32) end) 0 ≤ 10000
-    of true e = near end (now % 2 ^ 32) few (omega arith) (ltb-false 110000 ((clock_gap end (now % 2 ^ 32) + 10000) % 2 ^ 32) timely) (ltb-true (clock_gap (now % 2 ^ 32) end) (2 ^ 31) e)
-    of false e = omega arith
+    of : (test : Bool) → nat_lt (clock_gap (now % 2 ^ 32) e) (2 ^ 31) ≡ test → cond test (clock_gap (now % 2 ^ 32) e) 0 ≤ 11000
+    of true h = near e end (now % 2 ^ 32) range (omega arith) at (ltb-false 110000 ((clock_gap end (now % 2 ^ 32) + 10000) % 2 ^ 32) timely) (ltb-true (clock_gap (now % 2 ^ 32) e) (2 ^ 31) h)
+    of false h = omega arith
 
 until_edge : (e edge now : ℕ) → e ≡ edge % 2 ^ 32 → edge ≤ now → now ≤ edge + 1801005000 → until (now % 2 ^ 32) ((e + 1005000) % 2 ^ 32) ≤ 1005000
 until_edge e edge now clock come soon = of (nat_lt (clock_gap (now % 2 ^ 32) ((e + 1005000) % 2 ^ 32)) (2 ^ 31)) refl
@@ -79,8 +84,8 @@ module _ (made : Made) (start now : ℕ) (calls : List Call) (order : AreInOrder
   abbrev k : Keeping
   k = life_of made calls
 
-  abbrev f : ℕ
-  f = f_of (life_of made calls).clock.redundancy
+  abbrev c : ClockRules
+  c = (life_of made calls).clock
 
   abbrev lines : Lines
   lines = settled (now % 2 ^ 32) (life_of made calls).state.lines
@@ -99,17 +104,19 @@ module _ (made : Made) (start now : ℕ) (calls : List Call) (order : AreInOrder
       (one_more (IsTimely (now % 2 ^ 32)) _ _ (timely 3 (omega arith))
       (one_more (IsTimely (now % 2 ^ 32)) _ _ (timely 4 (omega arith)) tt))))
 
-  timely_vote : (v : KeptClaim) → agreed f lines ≡ Some v → IsTimely (now % 2 ^ 32) v
-  timely_vote v e = (is_one (IsTimely (now % 2 ^ 32)) f (all_kept lines) (all_kept lines) v each_timely e).1
-
-  by_vote : (v : KeptClaim) → IsTimely (now % 2 ^ 32) v → until (now % 2 ^ 32) v.end_us ≤ 1005000
+  by_vote : (v : Vote) → agreed c lines ≡ Some v → until (now % 2 ^ 32) v.edge_us ≤ 1005000
   unfolding IsTimely
-  by_vote v is = omega (arith, until_end v.end_us now is.0 is.1)
+  by_vote v e =
+      let first = agreed_first c lines v e in
+      let one = is_one (IsTimely (now % 2 ^ 32)) (window_us c.within.us) (f_of c.redundancy) (all_kept lines) (all_kept lines) first.0 each_timely first.1 in
+      let p = vote_of c (all_kept lines) v first.0 one.0 first.2 in
+      let near = until_vote v.edge_us first.0.end_us ((p.from + p.by) / 2) now one.1.0 one.1.1 (omega (arith, p.from_most, p.by_most, narrow c)) (ap (λ (x : Vote). x.edge_us) p.is) in
+      omega (arith, near)
 
-  of : (o : Option ℕ) → IfEdgeAt o (last_tick start calls) → (v : Option KeptClaim) → agreed f lines ≡ v → wait_by (now % 2 ^ 32) o v ≤ 1005000
-  of o at (Some v) e = by_vote v (timely_vote v e)
+  of : (o : Option ℕ) → IfEdgeAt o (last_tick start calls) → (v : Option Vote) → agreed c lines ≡ v → wait_by (now % 2 ^ 32) o v ≤ 1005000
+  of o at (Some v) e = by_vote v e
   of None at None e = omega arith
   of (Some edge) at None e = until_edge edge at.0 now at.1.clock (omega (arith, at.1.come, order.0)) (omega (arith, at.1.soon, order.1))
 
   pub waits_at_most : wait_at (life_of made calls) (now % 2 ^ 32) ≤ 1005000
-  waits_at_most = of k.state.edge_us (edge_in_life made start calls order.3) (agreed f lines) refl
+  waits_at_most = of k.state.edge_us (edge_in_life made start calls order.3) (agreed c lines) refl

@@ -11,8 +11,10 @@ use Rattle.irig_vote.specs.Vote.{f_of, ports_in}
 use Rattle.irig_time.specs.Claims.{same_claim}
 use Rattle.irig_timekeeper.specs.declared.lines.KeptClaim.{KeptClaim}
 use Rattle.irig_timekeeper.specs.declared.lines.Lines.{Lines}
-use Rattle.irig_timekeeper.specs.declared.clock.ClockRules.{ClockRules}
+use Rattle.irig_timekeeper.specs.declared.lines.Vote.{Vote}
+use Rattle.irig_timekeeper.specs.declared.setup.ClockRules.{ClockRules}
 use Rattle.irig_timekeeper.specs.Edges.{IsQuartz}
+use Rattle.irig_timekeeper.specs.Exactness.{window_us, end_off_us}
 use Rattle.irig_timekeeper.specs.Lines.{IsTrueLately}
 use Rattle.irig_timekeeper.specs.Steps.{is_pulse, line_at, settled, claim_kept, all_kept, agrees, agreed, wait_by}
 use Rattle.irig_timekeeper.specs.Keeping.{Keeping, place_told, vote_at, wait_at}
@@ -22,10 +24,11 @@ use Rattle.irig_timekeeper.specs.Announcing.{Announces, ComesWhole}
 use Rattle.irig_timekeeper.specs.Loops.{ComeInARow, AreToldInTime, made_at, latest, AreMadeInTurn, named, IsSoonEnough, GoesByWait}
 use Rattle.irig_timekeeper.proofs.LineLaws.{true_lately}
 use Rattle.irig_timekeeper.proofs.AgreeLaws.{is_one}
-use Rattle.irig_timekeeper.proofs.VoteLaws.{still, frame_settled, one_more, split}
+use Rattle.irig_timekeeper.proofs.PartLaws.{split, agreed_first, vote_of}
+use Rattle.irig_timekeeper.proofs.VoteLaws.{still, frame_settled, one_more}
 use Rattle.irig_timekeeper.proofs.LifeLaws.{begins, AreLinesAt, IsEndAt, TellAlwaysTruly, lines_after, own_pulses, others_pulses, no_pulse, unheard, order_before}
 use Rattle.irig_timekeeper.proofs.WholeLaws.{whole_of, nothing_whole}
-use Rattle.irig_timekeeper.proofs.OrderLaws.{shared, silent_line, kept_of_nothing, ranged}
+use Rattle.irig_timekeeper.proofs.OrderLaws.{shared, silent_line, kept_of_nothing, ranged, lies_behind}
 use Rattle.irig_timekeeper.proofs.FrameLaws.{place_is, ends_whole, HaveNoVotes, Keeps, ended, not_before, whole_kept}
 use Rattle.irig_timekeeper.proofs.EnoughLaws.{least_of, kept, some_agree}
 use Rattle.irig_timekeeper.proofs.LoopLaws.{loop_announces, Splits, truth_splits, turn_splits, last_on, first_tick, one_less, told_before, IsStep, AreServing}
@@ -69,15 +72,15 @@ told_in_turn start [] base turn = tt
 told_in_turn start (Tick now ∷ x) base turn = told_in_turn start x base turn.1
 told_in_turn start (Hear port rise width ∷ x) base turn = ((by_latest start (rise + width + 1000) (x ++ base) turn.0).1, told_in_turn start x base turn.1)
 
--- by a frame that ends at a time it names no later one
-named_by : (time end : ℕ) (o : Option ℕ) (v : KeptClaim) → v.end_us ≡ end % 2 ^ 32 → end ≤ time + 10000 → time ≤ end + 101000 → (time + wait_by (time % 2 ^ 32) o (Some v) ≤ time) ⊎ (time + wait_by (time % 2 ^ 32) o (Some v) ≤ end)
-named_by time end o v at ahead behind = of (nat_lt (clock_gap (time % 2 ^ 32) v.end_us) (2 ^ 31)) refl
+-- by a vote whose edge lies at a time it names no later one
+named_by : (time edge : ℕ) (o : Option ℕ) (v : Vote) → v.edge_us ≡ edge % 2 ^ 32 → edge ≤ time + 11000 → time ≤ edge + 101000 → (time + wait_by (time % 2 ^ 32) o (Some v) ≤ time) ⊎ (time + wait_by (time % 2 ^ 32) o (Some v) ≤ edge)
+named_by time edge o v at ahead behind = of (nat_lt (clock_gap (time % 2 ^ 32) v.edge_us) (2 ^ 31)) refl
   where
-    gap : (e : ℕ) → e ≡ end % 2 ^ 32 → clock_gap (time % 2 ^ 32) e < 2 ^ 31 → time + clock_gap (time % 2 ^ 32) e ≤ end
+    gap : (e : ℕ) → e ≡ edge % 2 ^ 32 → clock_gap (time % 2 ^ 32) e < 2 ^ 31 → time + clock_gap (time % 2 ^ 32) e ≤ edge
     gap e clock low = omega (arith, clock, ahead, behind, low)
 
-    of : (test : Bool) → nat_lt (clock_gap (time % 2 ^ 32) v.end_us) (2 ^ 31) ≡ test → (time + cond test (clock_gap (time % 2 ^ 32) v.end_us) 0 ≤ time) ⊎ (time + cond test (clock_gap (time % 2 ^ 32) v.end_us) 0 ≤ end)
-    of true e = inr (gap v.end_us at (ltb-true (clock_gap (time % 2 ^ 32) v.end_us) (2 ^ 31) e))
+    of : (test : Bool) → nat_lt (clock_gap (time % 2 ^ 32) v.edge_us) (2 ^ 31) ≡ test → (time + cond test (clock_gap (time % 2 ^ 32) v.edge_us) 0 ≤ time) ⊎ (time + cond test (clock_gap (time % 2 ^ 32) v.edge_us) 0 ≤ edge)
+    of true e = inr (gap v.edge_us at (ltb-true (clock_gap (time % 2 ^ 32) v.edge_us) (2 ^ 31) e))
     of false e = inl (omega arith)
 
 -- a device that keeps the frames, asked at a time up to that of a tick that may come then
@@ -86,6 +89,13 @@ module _ (t : TimelineValue) (d : ℕ) (edges : ℕ → ℕ) (quartz : IsQuartz 
     (keeps : (i : ℕ) (small : i < 5) → come.whole i ≡ true → Keeps t d edges quartz new start begun i small m older told risen past calls) (ahead : (i : ℕ) (small : i < 5) (is : come.whole i ≡ true) → (keeps i small is).end ≤ time + 10000) where
   abbrev lines : Lines
   lines = settled (time % 2 ^ 32) (after_calls new calls).state.lines
+
+  abbrev window : ℕ
+  window = window_us new.clock.within.us
+
+  -- a vote that shares a line with the frames of an edge lies at most so far from it
+  abbrev off : ℕ
+  off = end_off_us new.clock.within.us d + window_us new.clock.within.us
 
   -- a line that is not there sends no frame
   none_there : (i : ℕ) → i < 5 → ports_in new.clock.redundancy ≤ i → come.whole i ≡ false
@@ -109,67 +119,74 @@ module _ (t : TimelineValue) (d : ℕ) (edges : ℕ → ℕ) (quartz : IsQuartz 
   unfolding IsRanged
   in_range i small y e = ranged (IsEndAt (pulses_on i calls) (last_tick start calls) then) (after_calls new calls).rules (claim_kept (line_at (after_calls new calls).state.lines i).frame) (pulses_on i calls) y ((lines_after new start begun calls then order).lines i small).kept (raw i small y e)
 
-  none_agrees : (v : KeptClaim) (i : ℕ) → i < 5 → ports_in new.clock.redundancy ≤ i → agrees v (claim_kept (line_at lines i).frame) ≡ false
-  none_agrees v i small far = of (claim_kept (line_at lines i).frame) refl
+  none_agrees : (x : KeptClaim) (i : ℕ) → i < 5 → ports_in new.clock.redundancy ≤ i → agrees window x (claim_kept (line_at lines i).frame) ≡ false
+  none_agrees x i small far = of (claim_kept (line_at lines i).frame) refl
     where
-      of : (o : Option KeptClaim) → claim_kept (line_at lines i).frame ≡ o → agrees v o ≡ false
+      of : (o : Option KeptClaim) → claim_kept (line_at lines i).frame ≡ o → agrees window x o ≡ false
       of None e = refl
       of (Some y) e =
           let l = (lines_after new start begun calls then order).lines i small in
           let none = kept_of_nothing (IsEndAt (pulses_on i calls) (last_tick start calls) then) (after_calls new calls).rules (claim_kept (line_at (after_calls new calls).state.lines i).frame) (pulses_on i calls) (silent_line start new.clock.redundancy i far calls order.3) l.kept in
           absurd (let both : None ≡ Some y = sym none ∙ raw i small y e in cc)
 
-  -- it ends with a frame of these, or up to 1 ms before
-  record EndsWith (v : KeptClaim) : Type 0 where
-    end : ℕ
-    clock : v.end_us ≡ end % 2 ^ 32
-    least : edges m ≤ end + 1549
-    most : end ≤ edges m + 549
-    not_far : end ≤ time + 10000
+  -- its frame ends with a frame of these, or up to the window before, and its edge lies up to the
+  -- window behind that
+  record LiesNear (v : Vote) : Type 0 where
+    edge : ℕ
+    clock : v.edge_us ≡ edge % 2 ^ 32
+    least : edges m ≤ edge + off
+    most : edge ≤ edges m + off
+    not_far : edge ≤ time + 11000
 
-  ends_with : (v : KeptClaim) → agreed (f_of new.clock.redundancy) lines ≡ Some v → EndsWith v
+  lies_near : (v : Vote) → agreed new.clock lines ≡ Some v → LiesNear v
   unfolding IsRanged
-  ends_with v e =
+  lies_near v e =
       let all = all_kept lines in
-      let one = is_one IsRanged (f_of new.clock.redundancy) all all v
+      let f = f_of new.clock.redundancy in
+      let first = agreed_first new.clock lines v e in
+      let x = first.0 in
+      let one = is_one IsRanged window f all all x
       (one_more IsRanged _ _ (in_range 0 (omega arith))
       (one_more IsRanged _ _ (in_range 1 (omega arith))
       (one_more IsRanged _ _ (in_range 2 (omega arith))
       (one_more IsRanged _ _ (in_range 3 (omega arith))
       (one_more IsRanged _ _ (in_range 4 (omega arith)) tt)))))
-      e in
-      let counted = ltb-true (f_of new.clock.redundancy) (count_by (agrees v) all) one.0 in
-      let there = shared new.clock.redundancy come.whole (λ i. agrees v (claim_kept (line_at lines i).frame)) none_there (none_agrees v) come.many (omega (arith, counted)) in
+      first.1 in
+      let counted = ltb-true f (count_by (agrees window x) all) one.0 in
+      let there = shared new.clock.redundancy come.whole (λ i. agrees window x (claim_kept (line_at lines i).frame)) none_there (none_agrees x) come.many (omega (arith, counted)) in
       let k = keeps there.0 there.1 there.2 in
       let keeps_it = kept t d edges quartz new start begun m some older told risen past calls time upto come.whole come.many keeps ahead there.0 there.1 there.2 in
-      let agree : agrees v (Some (record { claim = k.claim; end_us = k.end % 2 ^ 32 })) ≡ true = subst (λ (o : Option KeptClaim). agrees v o ≡ true) keeps_it there.3 in
-      let near = leb-true (clock_gap v.end_us (k.end % 2 ^ 32)) 1000 (split (same_claim v.claim k.claim) (nat_le (clock_gap v.end_us (k.end % 2 ^ 32)) 1000) agree).1 in
+      let agree : agrees window x (Some (record { claim = k.claim; end_us = k.end % 2 ^ 32 })) ≡ true = subst (λ (o : Option KeptClaim). agrees window x o ≡ true) keeps_it there.3 in
+      let near = leb-true (clock_gap x.end_us (k.end % 2 ^ 32)) window (split (same_claim x.claim k.claim) (nat_le (clock_gap x.end_us (k.end % 2 ^ 32)) window) agree).1 in
+      let few = new.clock.within.few in
+      let at = wrapped x.end_us k.end one.1 (omega (arith, k.least, past, few, quartz.few)) (omega (arith, near, few)) in
+      let lies = lies_behind new.clock all v x (vote_of new.clock all v x one.0 first.2) (k.end - clock_gap x.end_us (k.end % 2 ^ 32)) at in
       record {
-        end = k.end - clock_gap v.end_us (k.end % 2 ^ 32);
-        clock = wrapped v.end_us k.end one.1 (omega (arith, k.least, past)) near;
-        least = omega (arith, k.least, near);
-        most = omega (arith, k.most);
-        not_far = omega (arith, ahead there.0 there.1 there.2);
+        edge = lies.edge;
+        clock = lies.clock;
+        least = omega (arith, k.least, near, lies.least);
+        most = omega (arith, k.most, lies.most);
+        not_far = omega (arith, ahead there.0 there.1 there.2, lies.most, few);
       }
     where
-      wrapped : (e end : ℕ) → e < 2 ^ 32 → 10000 ≤ end → clock_gap e (end % 2 ^ 32) ≤ 1000 → e ≡ (end - clock_gap e (end % 2 ^ 32)) % 2 ^ 32
+      wrapped : (e end : ℕ) → e < 2 ^ 32 → 10000 ≤ end → clock_gap e (end % 2 ^ 32) ≤ 898 → e ≡ (end - clock_gap e (end % 2 ^ 32)) % 2 ^ 32
       wrapped e end range low near = omega (arith, range, low, near)
 
   -- with the frames told it names no time that lies far behind the edge
-  names_soon : (time + wait_at (after_calls new calls) (time % 2 ^ 32) ≤ time) ⊎ (time + wait_at (after_calls new calls) (time % 2 ^ 32) ≤ edges m + 549)
+  names_soon : (time + wait_at (after_calls new calls) (time % 2 ^ 32) ≤ time) ⊎ (time + wait_at (after_calls new calls) (time % 2 ^ 32) ≤ edges m + off)
   names_soon =
       let k : Keeping = after_calls new calls in
       let v = some_agree t d edges quartz new start begun m some older told risen past calls time upto come.whole come.many keeps ahead in
-      let ends = ends_with v.0 v.1 in
+      let lies = lies_near v.0 v.1 in
       let same = (lines_after new start begun calls then order).same.clock in
-      let agree : agreed (f_of k.clock.redundancy) lines ≡ Some v.0 = ap (λ (c : ClockRules). agreed (f_of c.redundancy) lines) same ∙ v.1 in
+      let agree : agreed k.clock lines ≡ Some v.0 = ap (λ (c : ClockRules). agreed c lines) same ∙ v.1 in
       let wait : wait_at k (time % 2 ^ 32) ≡ wait_by (time % 2 ^ 32) k.state.edge_us (Some v.0) = ap (wait_by (time % 2 ^ 32) k.state.edge_us) agree in
-      elim (named_by time ends.end k.state.edge_us v.0 ends.clock ends.not_far (omega (arith, upto, ends.least))) [
+      elim (named_by time lies.edge k.state.edge_us v.0 lies.clock lies.not_far (omega (arith, upto, lies.least, new.clock.within.few, quartz.few))) [
         | inl early ↦ inl (omega (arith, wait, early))
-        | inr late ↦ inr (omega (arith, wait, late, ends.most))
+        | inr late ↦ inr (omega (arith, wait, late, lies.most))
       ]
 
-module _ (IsTrue : ℕ → List Pulse → Type 0) (t : TimelineValue) (d : ℕ) (edges : ℕ → ℕ) (quartz : IsQuartz d edges) (new : Keeping) (start : ℕ) (begun : AreLinesAt new new (λ i. []) start start) (truly : TellAlwaysTruly IsTrue new.rules t edges 549 549) (late : ℕ) (few : late ≤ 96000) where
+module _ (IsTrue : ℕ → List Pulse → Type 0) (t : TimelineValue) (edges : ℕ → ℕ) (new : Keeping) (quartz : IsQuartz new.clock.drift_us edges) (start : ℕ) (begun : AreLinesAt new new (λ i. []) start start) (late : ℕ) (few : late ≤ 96000) where
   abbrev pub Waits : List Call → List Call → Type 0
   Waits calls before = AreMadeInTurn start calls before × GoesByWait late new calls before
 
@@ -201,7 +218,7 @@ module _ (IsTrue : ℕ → List Pulse → Type 0) (t : TimelineValue) (d : ℕ) 
       z : List Call
       are : y ≡ x ++ (Tick time ∷ z)
       near : edges m ≤ time + 11000
-      v : KeptClaim
+      v : Vote
       voted : vote_at (after_calls new (z ++ done)) (time % 2 ^ 32) ≡ Some v
 
     voted_on : (call : Call) (y : List Call) → HasVoted y → HasVoted (call ∷ y)
@@ -215,7 +232,7 @@ module _ (IsTrue : ℕ → List Pulse → Type 0) (t : TimelineValue) (d : ℕ) 
       | inl none ↦ by none (vote_at (after_calls new (y ++ done)) (time % 2 ^ 32)) refl
     ]
       where
-        by : HaveNoVotes new (edges m - 11000) y done → (o : Option KeptClaim) → vote_at (after_calls new (y ++ done)) (time % 2 ^ 32) ≡ o → HaveNoVotes new (edges m - 11000) (Tick time ∷ y) done ⊎ HasVoted (Tick time ∷ y)
+        by : HaveNoVotes new (edges m - 11000) y done → (o : Option Vote) → vote_at (after_calls new (y ++ done)) (time % 2 ^ 32) ≡ o → HaveNoVotes new (edges m - 11000) (Tick time ∷ y) done ⊎ HasVoted (Tick time ∷ y)
         by none None e = inl ((λ _. e), none)
         by none (Some v) e = elim (cases_lt (time + 11000) (edges m)) [
           | inl before ↦ inl ((λ from. absurd (omega (arith, from, before))), none)
@@ -232,21 +249,21 @@ module _ (IsTrue : ℕ → List Pulse → Type 0) (t : TimelineValue) (d : ℕ) 
     -- the next tick comes soon behind the edge
     module _ (now : ℕ) (behind : edges m + 2000 ≤ now) where
       -- from these calls on, behind which they keep the frames, a time is named
-      by_named : (y : List Call) (time then : ℕ) → AreInOrder start new.clock.redundancy (Tick then ∷ (y ++ done)) → HaveNoVotes new (edges m - 11000) y done → then ≤ edges m + 2000 → time ≤ then → (then ≤ time) ⊎ (edges m ≤ time + 4049) → ComesWhole t edges new m (y ++ done)
+      by_named : (y : List Call) (time then : ℕ) → AreInOrder start new.clock.redundancy (Tick then ∷ (y ++ done)) → HaveNoVotes new (edges m - 11000) y done → then ≤ edges m + 2000 → time ≤ then → (then ≤ time) ⊎ (edges m ≤ time + 3950) → ComesWhole t edges new m (y ++ done)
           → now ≤ time + wait_at (after_calls new (y ++ done)) (time % 2 ^ 32) + late → now ≤ edges m + 2000 + late
       by_named y time then order none low upto behind come soon =
-          elim (names_soon t d edges quartz new start begun m some done told risen past (y ++ done) then order time (omega (arith, low, upto)) come keeps (λ i small is. ahead i (keeps i small is))) [
+          elim (names_soon t new.clock.drift_us edges quartz new start begun m some done told risen past (y ++ done) then order time (omega (arith, low, upto)) come keeps (λ i small is. ahead i (keeps i small is))) [
             | inl early ↦ omega (arith, soon, early, low, upto)
-            | inr end ↦ omega (arith, soon, end)
+            | inr end ↦ omega (arith, soon, end, new.clock.within.few, quartz.few)
           ]
         where
-          keeps : (i : ℕ) (small : i < 5) → come.whole i ≡ true → Keeps t d edges quartz new start begun i small m done told risen past (y ++ done)
-          keeps i small is = (let w = come.frames i small is in whole_kept t d edges quartz new start begun i small m done told risen past y then order none (omega (arith, low)) w.0 w.1)
+          keeps : (i : ℕ) (small : i < 5) → come.whole i ≡ true → Keeps t new.clock.drift_us edges quartz new start begun i small m done told risen past (y ++ done)
+          keeps i small is = (let w = come.frames i small is in whole_kept t new.clock.drift_us edges quartz new start begun i small m done told risen past y then order none (omega (arith, low)) w.0 w.1)
 
-          ahead : (i : ℕ) {small : i < 5} → (k : Keeps t d edges quartz new start begun i small m done told risen past (y ++ done)) → k.end ≤ time + 10000
+          ahead : (i : ℕ) {small : i < 5} → (k : Keeps t new.clock.drift_us edges quartz new start begun i small m done told risen past (y ++ done)) → k.end ≤ time + 10000
           ahead i {small} k = elim behind [
-            | inl same ↦ (let end = ended t d edges quartz new start begun i small m done told risen past (y ++ done) then order in omega (arith, k.is, end, same))
-            | inr near ↦ omega (arith, k.most, near)
+            | inl same ↦ (let end = ended t new.clock.drift_us edges quartz new start begun i small m done told risen past (y ++ done) then order in omega (arith, k.is, end, same))
+            | inr near ↦ omega (arith, k.most, near, new.clock.within.few, quartz.few)
           ]
 
       soon_behind : (y : List Call) → AreInOrder start new.clock.redundancy (Tick now ∷ (y ++ done)) → HaveNoVotes new (edges m - 11000) y done → last_tick start (y ++ done) < edges m + 2000 → AreMadeInTurn start y done → IsSoonEnough late new now y done → ComesWhole t edges new m (y ++ done) → now ≤ edges m + 2000 + late
@@ -254,17 +271,17 @@ module _ (IsTrue : ℕ → List Pulse → Type 0) (t : TimelineValue) (d : ℕ) 
           let one = some_line done come in
           let w = come.frames one.0 one.1 one.2 in
           let sorted = ((lines_after new start begun done now order).lines one.0 one.1).sorted in
-          absurd (not_before t d edges quartz new start begun one.0 one.1 m done told risen past w.0 (pulses_on one.0 done) sorted (risen one.0) w.1)
+          absurd (not_before t new.clock.drift_us edges quartz new start begun one.0 one.1 m done told risen past w.0 (pulses_on one.0 done) sorted (risen one.0) w.1)
       soon_behind (Tick time ∷ y) order none early turn soon come =
           let again : AreInOrder start new.clock.redundancy (Tick time ∷ (Tick time ∷ (y ++ done))) = (omega arith, omega arith, order.3.2, order.3) in
           by_named (Tick time ∷ y) time time again none (omega (arith, early)) (omega arith) (inl (omega arith)) come soon
-      soon_behind (Hear port rise width ∷ y) order none early turn soon come = elim (one_less t d edges quartz new m port rise width (y ++ done) come) [
+      soon_behind (Hear port rise width ∷ y) order none early turn soon come = elim (one_less t new.clock.drift_us edges quartz new m port rise width (y ++ done) come) [
         | inl less ↦ soon_behind y (unheard start new.clock.redundancy port rise width now (y ++ done) order) none early turn.1 soon.1 less
         | inr last ↦
             let all = by_latest start (rise + width + 1000) (Hear port rise width ∷ (y ++ done)) (latest_by start (rise + width + 1000) (Hear port rise width) (y ++ done) turn.0 (omega arith)) in
             let here : AreInOrder start new.clock.redundancy (Tick (rise + width + 1000) ∷ (Hear port rise width ∷ (y ++ done))) = (all.1, omega (arith, order.1, last.most, behind), all.0, order.3) in
-            let ends = ends_whole new.limits new.rules t d edges m (pulses_on port (Hear port rise width ∷ (y ++ done))) quartz last.whole in
-            let place = place_is t d edges quartz new start begun port last.small m done told risen past port rise width (y ++ done) (rise + width + 1000) here last.narrow (eq-eqb port port refl) last.whole ends in
+            let ends = ends_whole new.clock.within new.limits new.rules t new.clock.drift_us edges m (pulses_on port (Hear port rise width ∷ (y ++ done))) quartz last.whole in
+            let place = place_is t new.clock.drift_us edges quartz new start begun port last.small m done told risen past port rise width (y ++ done) (rise + width + 1000) here last.narrow (eq-eqb port port refl) last.whole ends in
             by_named (Hear port rise width ∷ y) (rise + width) (rise + width + 1000) here none (omega (arith, last.most)) (omega arith) (inr last.least) come (soon.0 place)
       ]
 
@@ -279,7 +296,7 @@ module _ (IsTrue : ℕ → List Pulse → Type 0) (t : TimelineValue) (d : ℕ) 
       let ordered = subst (AreInOrder start r) joined on.order in
       let here = order_before start r first.x (z ++ done) ordered in
       let in_time = told_in_turn start first.x (z ++ done) waits.0.0 in
-      let told = told_before t d edges quartz new m start r first.x (z ++ done) ordered first.come in_time (subst (ComesWhole t edges new m) joined come) in
+      let told = told_before t new.clock.drift_us edges quartz new m start r first.x (z ++ done) ordered first.come in_time (subst (ComesWhole t edges new m) joined come) in
       elim (find m some done on.told on.risen on.ticked on.past first.y) [
         | inl none ↦
             let behind : ComesWhole t edges new m (first.y ++ done) = record { whole = told.whole; many = told.many; frames = told.frames } in
@@ -322,18 +339,18 @@ module _ (IsTrue : ℕ → List Pulse → Type 0) (t : TimelineValue) (d : ℕ) 
             }
       ]
 
-pub waiting_announces : (t : TimelineValue) (edges : ℕ → ℕ) (made : Made) (start m late : ℕ) (calls before : List Call) (u : UtcSecond) → ComeInARow IsTrueLately t edges made start m calls before → late ≤ 96000 → GoesByWait late (device_of made) calls before → AreMadeInTurn start calls before
+pub waiting_announces : (t : TimelineValue) (edges : ℕ → ℕ) (made : Made) (start m late : ℕ) (calls before : List Call) (u : UtcSecond) → ComeInARow (IsTrueLately made.clock.within.us) t edges made start m calls before → late ≤ 96000 → GoesByWait late (device_of made) calls before → AreMadeInTurn start calls before
     → IsSecond t (m + 1 + made.clock.reader_rules.lock_after) u → Announces edges (device_of made) (m + 1 + made.clock.reader_rules.lock_after) u (calls ++ before)
 waiting_announces t edges made start m late calls before u come few goes turn second =
     let quartz = come.is.steady in
     let new = device_of made in
     let begun = begins made.limits made.rules made.clock made.table made.lines start made.fresh in
-    let truly : TellAlwaysTruly (IsTrueLately made.rules t edges) made.rules t edges 549 549 =
-    λ now end pulses claim is_true frame soon. true_lately made.rules t made.clock.drift_us edges now end pulses claim quartz is_true frame soon in
-    loop_announces (IsTrueLately made.rules t edges) t made.clock.drift_us edges quartz new start
-    (Waits (IsTrueLately made.rules t edges) t made.clock.drift_us edges quartz new start begun truly late few)
-    (waits_split (IsTrueLately made.rules t edges) t made.clock.drift_us edges quartz new start begun truly late few)
-    (waits_serve (IsTrueLately made.rules t edges) t made.clock.drift_us edges quartz new start begun truly late few)
+    let truly : TellAlwaysTruly (IsTrueLately made.clock.within.us made.rules t edges) made.clock.within.us made.clock.drift_us made.rules t edges 0 0 =
+    λ now end pulses claim is_true frame soon. true_lately made.clock.within made.rules t made.clock.drift_us edges now end pulses claim quartz is_true frame soon in
+    loop_announces (IsTrueLately made.clock.within.us made.rules t edges) t made.clock.drift_us edges quartz new start
+    (Waits (IsTrueLately made.clock.within.us made.rules t edges) t edges new quartz start begun late few)
+    (waits_split (IsTrueLately made.clock.within.us made.rules t edges) t edges new quartz start begun late few)
+    (waits_serve (IsTrueLately made.clock.within.us made.rules t edges) t edges new quartz start begun late few)
     begun come.is truly refl m come.some come.locks calls before
     (record { told = come.told; risen = come.risen; ticked = come.ticked; past = come.past; order = come.order; truth = come.truth; loop = (turn, goes) })
     come.whole come.last u second

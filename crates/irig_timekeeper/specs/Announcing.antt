@@ -20,17 +20,18 @@ use Rattle.irig_timekeeper.specs.declared.clock.Beat.{Beat}
 use Rattle.irig_timekeeper.specs.Keeping.{Keeping, answer_at}
 use Rattle.irig_timekeeper.specs.Life.{Call, after_calls, pulses_on, last_tick, AreTrueOver}
 use Rattle.irig_timekeeper.specs.Life.Call.{Tick}
-use Rattle.irig_timekeeper.specs.Exactness.{within_us, vote_late_us}
+use Rattle.irig_timekeeper.specs.Exactness.{vote_us}
 
 -- what came before the frame that begins then does not hide its first pulse: nothing, a marker, or
--- what rose 11.45 ms before it or longer
-abbrev pub LeavesTheFirst : ℕ → List Pulse → Type 0
-LeavesTheFirst begin [] = ⊤
-LeavesTheFirst begin (q ∷ qs) = (is_marker q.width ≡ true) ⊎ (q.rise + 11000 + within_us ≤ begin)
+-- what rose 11 ms and `within` us before it or longer
+abbrev pub LeavesTheFirst : (within begin : ℕ) → List Pulse → Type 0
+LeavesTheFirst within begin [] = ⊤
+LeavesTheFirst within begin (q ∷ qs) =
+    (is_marker q.width ≡ true) ⊎ (q.rise + 11000 + within ≤ begin)
 
 -- the newest hundred of these pulses are the whole frame that ends at the m-th edge, each less than
--- 450 us off, and tell the true claim of the second before it
-pub record IsWhole (limits : Option Limits) (rules : Rules) (t : TimelineValue) (edges : ℕ → ℕ)
+-- `within` us off, and tell the true claim of the second before it
+pub record IsWhole (within : ℕ) (limits : Option Limits) (rules : Rules) (t : TimelineValue) (edges : ℕ → ℕ)
     (m : ℕ) (pulses : List Pulse) : Type 0 where
   pub line : ℕ → Symbol
   pub right : IsTrueLine line
@@ -40,8 +41,8 @@ pub record IsWhole (limits : Option Limits) (rules : Rules) (t : TimelineValue) 
   pub earlier : List Pulse
   pub parts : pulses ≡ frame ++ earlier
   pub hundred : length frame ≡ 100
-  pub are : ArePulsesBefore line edges within_us (100 * f + 100) frame
-  pub first : LeavesTheFirst (edges f) earlier
+  pub are : ArePulsesBefore line edges within (100 * f + 100) frame
+  pub first : LeavesTheFirst within (edges f) earlier
   pub claim : Claim
   pub tells : told_within limits rules (symbols_of_last 100 pulses) ≡ tells.Claim claim
   pub truth : IsTrueClaim t m claim
@@ -53,10 +54,12 @@ pub record ComesWhole (t : TimelineValue) (edges : ℕ → ℕ) (new : Keeping) 
   pub whole : ℕ → Bool
   pub many : f_of new.clock.redundancy < count_by whole (range_with_len 0 5)
   pub frames : (i : ℕ) → i < 5 → whole i ≡ true
-      → (late : ℕ) × IsWhole new.limits new.rules t edges m (drop late (pulses_on i calls))
+      → (late : ℕ)
+      × IsWhole new.clock.within.us new.limits new.rules t edges m (drop late (pulses_on i calls))
 
--- the calls of the m-th second, behind others: the last of them is a tick from 549 us to 98 ms behind
--- the edge, by which more than f lines have told the frame whole that ends there. Any tick before it
+-- the calls of the m-th second, behind others: the last of them is a tick behind the edge, by the
+-- bound of a vote at least and 98 ms at most, by which more than f lines have told the frame whole
+-- that ends there. Any tick before it
 -- comes at most 3 ms behind the edge, when the own counter has not yet counted it. At each tick at
 -- most f lines are not such true lines
 pub record IsWellHeard (IsTrue : ℕ → List Pulse → Type 0) (t : TimelineValue) (edges : ℕ → ℕ)
@@ -66,7 +69,7 @@ pub record IsWellHeard (IsTrue : ℕ → List Pulse → Type 0) (t : TimelineVal
   pub others : List Call
   pub are : calls ≡ Tick now ∷ others
   pub early : last_tick start (others ++ before) ≤ edges m + 3000
-  pub come : edges m + vote_late_us ≤ now
+  pub come : edges m + vote_us new.clock.within.us new.clock.drift_us ≤ now
   pub soon : now ≤ edges m + 98000
   pub frames : ComesWhole t edges new m (others ++ before)
   pub truth : AreTrueOver IsTrue (f_of new.clock.redundancy) calls before

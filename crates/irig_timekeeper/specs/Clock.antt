@@ -6,21 +6,19 @@ use Rattle.irig_time.specs.declared.second.UtcSecond.{UtcSecond}
 use Rattle.irig_time.specs.declared.claim.Claim.{Claim}
 use Rattle.irig_time.specs.Seconds.{IsValid}
 use Rattle.irig_time.specs.Tables.{TableValue}
-use Rattle.irig_vote.specs.Vote.{f_of}
 use Rattle.irig_reader.specs.declared.report.Lock.{Lock}
 use Rattle.irig_reader.specs.declared.report.Lock.TheVariants as lock
 use Rattle.irig_reader.specs.declared.report.Report.{Report}
 use Rattle.irig_reader.specs.declared.rule.Step.{Step}
-use Rattle.irig_timekeeper.specs.declared.lines.KeptClaim.{KeptClaim}
 use Rattle.irig_timekeeper.specs.declared.lines.Lines.{Lines}
+use Rattle.irig_timekeeper.specs.declared.lines.Vote.{Vote}
 use Rattle.irig_timekeeper.specs.declared.stamp.Announced.{Announced}
 use Rattle.irig_timekeeper.specs.declared.clock.Beat.{Beat}
-use Rattle.irig_timekeeper.specs.declared.clock.ClockRules.{ClockRules}
+use Rattle.irig_timekeeper.specs.declared.setup.ClockRules.{ClockRules}
 use Rattle.irig_timekeeper.specs.declared.clock.ClockState.{ClockState}
 use Rattle.irig_timekeeper.specs.Counting.{edges_to_vote, edges_own, edge_behind}
 use Rattle.irig_timekeeper.specs.Steps.{settled, taken, tells_of, agreed, if_come, wait_by}
 use Rattle.irig_timekeeper.specs.Rule.{step_behind}
-use Rattle.irig_timekeeper.specs.Exactness.{vote_early_us}
 
 -- ---- a second that is announced
 
@@ -31,9 +29,9 @@ lasted (lock.Acquiring count) = 0
 lasted lock.Locked = 0
 lasted (lock.Holdover edges) = edges
 
--- its edge lies at most as far off as a vote's, and the drift of each second since the last vote
-abbrev pub bound_of : ℕ → Lock → ℕ
-bound_of drift lock = vote_early_us + lasted lock * drift
+-- its edge lies at most as far off as that of the last vote, and the drift of each second since
+abbrev pub bound_of : (drift voted : ℕ) → Lock → ℕ
+bound_of drift voted lock = voted + lasted lock * drift
 
 -- what is kept of it
 abbrev pub announced_at : ℕ → ℕ → Option UtcSecond → Option Announced
@@ -41,8 +39,9 @@ announced_at edge bound None = None
 announced_at edge bound (Some u) = Some (record { second = u; edge_us = edge; bound_us = bound })
 
 -- what is kept of the second that a report announces at an edge
-abbrev pub announced : ℕ → Report → ℕ → Option Announced
-announced drift report edge = announced_at edge (bound_of drift report.lock) report.announce
+abbrev pub announced : (drift voted : ℕ) → Report → ℕ → Option Announced
+announced drift voted report edge =
+    announced_at edge (bound_of drift voted report.lock) report.announce
 
 -- what was announced before an edge serves on, unless a vote announces nothing there, as at a jump
 abbrev pub still_serves : Option Claim → Option UtcSecond → Option Announced → Option Announced
@@ -52,24 +51,28 @@ still_serves (Some vote) (Some u) last = last
 
 -- ---- an edge
 
--- what is said of an edge by a step of the reader's rule, behind so many that were missed
-abbrev pub beat_by : ClockState → Step → ℕ → ℕ → Beat
-beat_by s step missed edge = record {
+-- what is said of an edge by a step of the reader's rule, behind so many that were missed; that of
+-- the last vote lay at most so far off
+abbrev pub beat_by : ClockRules → ClockState → Step → (missed edge voted : ℕ) → Beat
+beat_by c s step missed edge voted = record {
   report = step.report;
   told = tells_of s.lines;
   edge_us = edge;
+  bound_us = bound_of c.drift_us voted step.report.lock;
   missed = missed;
   moved = s.moved;
 }
 
 -- where the clock then stands, with these lines, by this vote if there is one
-abbrev pub beaten : ClockRules → ClockState → Lines → Option Claim → Step → ℕ → ClockState
-beaten c s lines vote step edge = record {
+abbrev pub beaten : ClockRules → ClockState → Lines → Option Claim → Step → (edge voted : ℕ)
+    → ClockState
+beaten c s lines vote step edge voted = record {
   lines = lines;
   reader = step.state;
   edge_us = Some edge;
+  bound_us = voted;
   moved = 0;
-  last = announced c.drift_us step.report edge;
+  last = announced c.drift_us voted step.report edge;
   before = still_serves vote step.report.announce s.last;
 }
 
@@ -80,22 +83,24 @@ step_to c table s edges vote = step_behind c.reader_rules table (edges - 1) s.re
 -- ---- lines agree on an edge
 
 -- so many have come since the last; if none has, that one is set right
-abbrev pub after_vote : ClockRules → TableValue → ClockState → KeptClaim → ℕ → ClockState
+abbrev pub after_vote : ClockRules → TableValue → ClockState → Vote → ℕ → ClockState
 after_vote c table s vote edges =
     if edges == 0
     then record s {
       lines = taken s.lines;
-      edge_us = Some vote.end_us;
+      edge_us = Some vote.edge_us;
+      bound_us = vote.bound_us;
       moved = (s.moved + 1) % 2 ^ 32;
     }
     else beaten c s (taken s.lines) (Some vote.claim) (step_to c table s edges (Some vote.claim))
-    vote.end_us
+    vote.edge_us vote.bound_us
 
 -- what a tick answers to a vote
-abbrev pub answer_to_vote : ClockRules → TableValue → ClockState → KeptClaim → ℕ → Option Beat
+abbrev pub answer_to_vote : ClockRules → TableValue → ClockState → Vote → ℕ → Option Beat
 answer_to_vote c table s vote edges =
     if edges == 0 then None
-    else Some (beat_by s (step_to c table s edges (Some vote.claim)) (edges - 1) vote.end_us)
+    else Some (beat_by c s (step_to c table s edges (Some vote.claim)) (edges - 1) vote.edge_us
+    vote.bound_us)
 
 -- ---- they do not: so many have come by the own counter
 
@@ -108,34 +113,35 @@ own_edge (Some edge) edges = edge_behind edge edges
 abbrev pub after_own : ClockRules → TableValue → ClockState → ℕ → ClockState
 after_own c table s edges =
     if edges == 0 then s
-    else beaten c s s.lines None (step_to c table s edges None) (own_edge s.edge_us edges)
+    else beaten c s s.lines None (step_to c table s edges None) (own_edge s.edge_us edges) s.bound_us
 
 -- what a tick answers without a vote
 abbrev pub answer_alone : ClockRules → TableValue → ClockState → ℕ → Option Beat
 answer_alone c table s edges =
     if edges == 0 then None
-    else Some (beat_by s (step_to c table s edges None) (edges - 1) (own_edge s.edge_us edges))
+    else Some (beat_by c s (step_to c table s edges None) (edges - 1) (own_edge s.edge_us edges)
+    s.bound_us)
 
 -- ---- a tick
 
--- by the frame on which lines agree, if they do; the lines are settled
-abbrev pub clock_by : ClockRules → TableValue → ClockState → ℕ → Option KeptClaim → ClockState
+-- by the edge on which lines agree, if they do; the lines are settled
+abbrev pub clock_by : ClockRules → TableValue → ClockState → ℕ → Option Vote → ClockState
 clock_by c table s now None = after_own c table s (edges_own s.edge_us now)
-clock_by c table s now (Some vote) = after_vote c table s vote (edges_to_vote s.edge_us vote.end_us)
+clock_by c table s now (Some vote) = after_vote c table s vote (edges_to_vote s.edge_us vote.edge_us)
 
--- what it answers, by the frame on which lines agree, if they do
-abbrev pub answer_by : ClockRules → TableValue → ClockState → ℕ → Option KeptClaim → Option Beat
+-- what it answers, by the edge on which lines agree, if they do
+abbrev pub answer_by : ClockRules → TableValue → ClockState → ℕ → Option Vote → Option Beat
 answer_by c table s now None = answer_alone c table s (edges_own s.edge_us now)
 answer_by c table s now (Some vote) =
-    answer_to_vote c table s vote (edges_to_vote s.edge_us vote.end_us)
+    answer_to_vote c table s vote (edges_to_vote s.edge_us vote.edge_us)
 
 -- the clock with its lines settled
 abbrev pub settled_at : ClockState → ℕ → ClockState
 settled_at s now = record s { lines = settled now s.lines }
 
--- the frame on which lines agree, if its end has come
-abbrev pub vote_of_lines : ClockRules → ClockState → ℕ → Option KeptClaim
-vote_of_lines c s now = if_come now (agreed (f_of c.redundancy) (settled now s.lines))
+-- the edge on which lines agree, if it has come
+abbrev pub vote_of_lines : ClockRules → ClockState → ℕ → Option Vote
+vote_of_lines c s now = if_come now (agreed c (settled now s.lines))
 
 -- what a tick leaves
 abbrev pub clock_after : ClockRules → TableValue → ClockState → ℕ → ClockState
@@ -146,11 +152,11 @@ abbrev pub clock_answer : ClockRules → TableValue → ClockState → ℕ → O
 clock_answer c table s now = answer_by c table (settled_at s now) now (vote_of_lines c s now)
 
 -- the claim on which lines agree, if they do
-abbrev pub claim_voted : Option KeptClaim → Option Claim
+abbrev pub claim_voted : Option Vote → Option Claim
 claim_voted None = None
 claim_voted (Some vote) = Some vote.claim
 
--- the claim of the frame that has the vote at a tick
+-- the claim that has the vote at a tick
 abbrev pub clock_vote : ClockRules → ClockState → ℕ → Option Claim
 clock_vote c s now = claim_voted (vote_of_lines c s now)
 
@@ -165,4 +171,4 @@ pub record AnnouncedOfUtc (s : ClockState) : Type 0 where
 
 -- how long until a tick has something to do, if no call comes before it
 abbrev pub clock_wait : ClockRules → ClockState → ℕ → ℕ
-clock_wait c s now = wait_by now s.edge_us (agreed (f_of c.redundancy) (settled now s.lines))
+clock_wait c s now = wait_by now s.edge_us (agreed c (settled now s.lines))

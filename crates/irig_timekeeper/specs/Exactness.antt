@@ -1,26 +1,35 @@
 -- How exact the lines and the counter of a device are, and how exact it is by them, in microseconds.
 -- Source: this project's profile.
-use Rattle.std.specs.Prelude.{ℕ, ◌+◌, ◌-◌}
+use Rattle.std.specs.Prelude.{ℕ, ◌+◌, ◌-◌, ◌*◌}
+use Rattle.irig_sync.specs.Edges.{element_drift}
 
--- a pulse of a true line rises less than this from its place
-abbrev pub within_us : ℕ
-within_us = 450
+-- the most that a setup may say of its lines: a pulse of a true line rises less than this from its
+-- place
+abbrev pub most_within_us : ℕ
+most_within_us = 450
 
 -- a counter runs at most this wrong in a second
 abbrev pub most_drift_us : ℕ
 most_drift_us = 100
 
--- frames agree that claim the same and end no further apart than this
-abbrev pub window_us : ℕ
-window_us = 1000
+-- frames agree that claim the same and end no further apart than this, by lines that are so exact:
+-- less than `within` us
+abbrev pub window_us : ℕ → ℕ
+window_us within = 2 * (within - 1)
 
--- the edge of a vote lies at most this behind the true one
-abbrev pub vote_late_us : ℕ
-vote_late_us = within_us - 1 + most_drift_us
+-- the frame of a true line ends at most this far from its edge, by a counter that runs d us a second
+-- wrong: it is told an element before it ends
+abbrev pub end_off_us : ℕ → ℕ → ℕ
+end_off_us within d = within - 1 + element_drift d
 
--- and at most this before it, as a frame agrees that ends so much earlier than a true one
-abbrev pub vote_early_us : ℕ
-vote_early_us = window_us + vote_late_us
+-- the edge on which lines agree lies at most this far from the true one: lines that agree leave
+-- an interval twice as long as a true line's, of which it is the middle
+abbrev pub vote_us : ℕ → ℕ → ℕ
+vote_us within d = window_us within + element_drift d
+
+-- so far at most, whatever the setup
+abbrev pub most_vote_us : ℕ
+most_vote_us = vote_us most_within_us most_drift_us
 
 -- the drift of a holdover and of two seconds more comes to no more than this
 abbrev pub most_held_us : ℕ

@@ -9,10 +9,10 @@ use Rattle.irig_port.specs.declared.limits.Limits.{Limits}
 use Rattle.irig_port.specs.Limits.{told_within}
 use Rattle.irig_port.specs.Hearing.{heard_at}
 use Rattle.irig_reader.specs.declared.rule.State.TheVariants.{Idle}
-use Rattle.irig_timekeeper.specs.declared.lines.KeptClaim.{KeptClaim}
+use Rattle.irig_timekeeper.specs.declared.lines.Vote.{Vote}
 use Rattle.irig_timekeeper.specs.declared.lines.Lines.{Lines}
 use Rattle.irig_timekeeper.specs.declared.clock.Beat.{Beat}
-use Rattle.irig_timekeeper.specs.declared.clock.ClockRules.{ClockRules}
+use Rattle.irig_timekeeper.specs.declared.setup.ClockRules.{ClockRules}
 use Rattle.irig_timekeeper.specs.declared.clock.ClockState.{ClockState}
 use Rattle.irig_timekeeper.specs.declared.stamp.Stamp.{Stamp}
 use Rattle.irig_timekeeper.specs.Steps.{is_pulse, line_heard, line_at, with_line}
@@ -64,6 +64,7 @@ new_state lines = record {
   lines = lines;
   reader = Idle;
   edge_us = None;
+  bound_us = 0;
   moved = 0;
   last = None;
   before = None;
@@ -111,8 +112,8 @@ after_pulse k port rise width = if is_pulse width then one_pulse_more k port ris
 
 -- ---- a tick
 
--- the frame on which lines agree, if its end has come
-abbrev pub vote_at : Keeping → ℕ → Option KeptClaim
+-- the edge on which lines agree, if it has come
+abbrev pub vote_at : Keeping → ℕ → Option Vote
 vote_at k now = vote_of_lines k.clock k.state now
 
 -- what a tick leaves

@@ -1,7 +1,7 @@
 -- What it is for a line to be true of late: each frame begins at its own edge, so that the
 -- device's counter may drift.
 -- Source: IRIG Standard 200-16, format B: an element each 10 ms; this project's profile.
-use Rattle.std.specs.Prelude.{◌≡◌, ℕ, ◌+◌, ◌*◌, ◌/◌, ◌%◌, ◌^◌, ◌<◌, ◌≤◌, ◌⊎◌, nat_lt, if◌then◌else◌, List, [], ◌∷◌, Option, Some, None, take, drop, slice_get, get_or, ⊤}
+use Rattle.std.specs.Prelude.{◌≡◌, ℕ, ◌+◌, ◌-◌, ◌*◌, ◌/◌, ◌%◌, ◌^◌, ◌<◌, ◌≤◌, ◌⊎◌, nat_lt, if◌then◌else◌, List, [], ◌∷◌, Option, Some, None, take, drop, slice_get, get_or, ⊤}
 use Rattle.irig_frame.specs.declared.symbol.Symbol.{Symbol}
 use Rattle.irig_frame.specs.declared.symbol.Symbol.TheVariants.{One, Marker, Bad}
 use Rattle.irig_frame.specs.FieldTable.{is_marker_place}
@@ -13,15 +13,15 @@ use Rattle.irig_time.specs.declared.claim.Claim.{Claim}
 use Rattle.irig_time.specs.Carries.{Carries}
 use Rattle.irig_time.specs.Timelines.{TimelineValue, IsTrueClaim}
 use Rattle.irig_timekeeper.specs.declared.lines.KeptClaim.{KeptClaim}
-use Rattle.irig_timekeeper.specs.Exactness.{within_us}
 
 -- of these pulses, the newest first, those that rose within 1.2 s before now, or later, are those of
--- some elements before the k-th, each less than 450 us off, in order: any others were lost
-abbrev pub ArePulsesLately : (ℕ → Symbol) → (ℕ → ℕ) → ℕ → ℕ → List Pulse → Type 0
-ArePulsesLately line edges now k [] = ⊤
-ArePulsesLately line edges now k (p ∷ ps) =
-    ((p.rise + 1200000 < now) × ArePulsesLately line edges now k ps)
-    ⊎ ((j : ℕ) × (j < k) × IsPulseOf line edges within_us j p × ArePulsesLately line edges now j ps)
+-- some elements before the k-th, each less than `within` us off, in order: any others were lost
+abbrev pub ArePulsesLately : (within : ℕ) → (ℕ → Symbol) → (ℕ → ℕ) → ℕ → ℕ → List Pulse → Type 0
+ArePulsesLately within line edges now k [] = ⊤
+ArePulsesLately within line edges now k (p ∷ ps) =
+    ((p.rise + 1200000 < now) × ArePulsesLately within line edges now k ps)
+    ⊎ ((j : ℕ) × (j < k) × IsPulseOf line edges within j p
+    × ArePulsesLately within line edges now j ps)
 
 -- a line of frames whose f-th, if it carries a claim, carries the true one of T(f)
 pub record IsLineOf (rules : Rules) (t : TimelineValue) (line : ℕ → Symbol) : Type 0 where
@@ -29,13 +29,14 @@ pub record IsLineOf (rules : Rules) (t : TimelineValue) (line : ℕ → Symbol) 
   pub truth : (f : ℕ) (s : List Symbol) (c : Claim) → StandAt line (100 * f) s
       → Carries rules s c → IsTrueClaim t (f + 1) c
 
--- the line was true for the last 1.2 s, whatever it was before
-pub record IsTrueLately (rules : Rules) (t : TimelineValue) (edges : ℕ → ℕ) (now : ℕ)
+-- the line was true for the last 1.2 s, each of its pulses less than `within` us off, whatever it was
+-- before
+pub record IsTrueLately (within : ℕ) (rules : Rules) (t : TimelineValue) (edges : ℕ → ℕ) (now : ℕ)
     (pulses : List Pulse) : Type 0 where
   pub line : ℕ → Symbol
   pub next : ℕ
   pub is_line : IsLineOf rules t line
-  pub are : ArePulsesLately line edges now next pulses
+  pub are : ArePulsesLately within line edges now next pulses
 
 -- ---- a frame that was heard whole
 
@@ -67,9 +68,10 @@ IsInTurnOf now end = (end ≤ now + 10000) × (now + 10000 < end + 2 ^ 32)
 abbrev pub IsAnyEnd : ℕ → Type 0
 IsAnyEnd end = ⊤
 
--- the end has come, at most 99 ms ago
-abbrev pub HasJustCome : ℕ → ℕ → Type 0
-HasJustCome now end = (end ≤ now) × (now ≤ end + 99000)
+-- the end has come, so long ago that an edge has too that lies between it and the end of another line
+-- of so exact ones, and at most 99 ms ago
+abbrev pub HasJustCome : (within now end : ℕ) → Type 0
+HasJustCome within now end = (end + (within - 1) ≤ now) × (now ≤ end + 99000)
 
 -- ---- a line with faults
 
@@ -101,10 +103,10 @@ RoseBefore time (p ∷ ps) = p.rise < time
 -- of these pulses, the newest first, at most one is at fault, and what came in its place rose
 -- before the next element's time was past: what rises later stands behind the next pulse, or that
 -- one is lost too
-pub record HasOneFaultInPlace (line : ℕ → Symbol) (edges : ℕ → ℕ) (pulses : List Pulse)
+pub record HasOneFaultInPlace (within : ℕ) (line : ℕ → Symbol) (edges : ℕ → ℕ) (pulses : List Pulse)
     : Type 0 where
-  pub one : HasOneFault line edges within_us pulses
-  pub in_place : RoseBefore (element_at edges (one.element + 1) + within_us) one.fault
+  pub one : HasOneFault line edges within pulses
+  pub in_place : RoseBefore (element_at edges (one.element + 1) + within) one.fault
 
 -- these pulses rose within 1.2 s before now, or later
 abbrev pub RoseLately : ℕ → List Pulse → Type 0
@@ -113,14 +115,14 @@ RoseLately now (p ∷ ps) = (now ≤ p.rise + 1200000) × RoseLately now ps
 
 -- the line was true for the last 1.2 s, but for one fault in each hundred pulses in a row, whatever
 -- it was before
-pub record IsTrueButForFaults (rules : Rules) (t : TimelineValue) (edges : ℕ → ℕ) (now : ℕ)
+pub record IsTrueButForFaults (within : ℕ) (rules : Rules) (t : TimelineValue) (edges : ℕ → ℕ) (now : ℕ)
     (pulses : List Pulse) : Type 0 where
   pub line : ℕ → Symbol
   pub is_line : IsCheckedLineOf rules t line
   pub few : (n : ℕ) → RoseLately now (take 100 (drop n pulses))
-      → HasOneFaultInPlace line edges (take 100 (drop n pulses))
+      → HasOneFaultInPlace within line edges (take 100 (drop n pulses))
 
 -- the line was true for the last 1.2 s but for any lost pulses, or but for faults
-abbrev pub IsTrueOrFaulty : Rules → TimelineValue → (ℕ → ℕ) → ℕ → List Pulse → Type 0
-IsTrueOrFaulty rules t edges now pulses =
-    IsTrueLately rules t edges now pulses ⊎ IsTrueButForFaults rules t edges now pulses
+abbrev pub IsTrueOrFaulty : (within : ℕ) → Rules → TimelineValue → (ℕ → ℕ) → ℕ → List Pulse → Type 0
+IsTrueOrFaulty within rules t edges now pulses =
+    IsTrueLately within rules t edges now pulses ⊎ IsTrueButForFaults within rules t edges now pulses

@@ -1,10 +1,20 @@
--- What is refused of a setup.
+-- What is refused of a setup, and the nearest that is not.
 -- Source: this project's profile.
-use Rattle.std.specs.Prelude.{ℕ, ◌+◌, ◌*◌, nat_lt, if◌then◌else◌, Option, Some, None}
+use Rattle.std.specs.Prelude.{ℕ, ◌+◌, ◌-◌, ◌*◌, nat_lt, if◌then◌else◌, Option, Some, None}
+use Rattle.std.proofs.Common.{arith}
 use Rattle.irig_reader.specs.declared.rules.ReaderRules.{ReaderRules}
 use Rattle.irig_timekeeper.specs.declared.setup.ClockFault.{ClockFault}
 use Rattle.irig_timekeeper.specs.declared.setup.ClockFault.TheVariants.{Drift, Holdover}
-use Rattle.irig_timekeeper.specs.Exactness.{most_drift_us, most_held_us}
+use Rattle.irig_timekeeper.specs.declared.within.Within.{Within}
+use Rattle.irig_timekeeper.specs.Exactness.{most_within_us, most_drift_us, most_held_us}
+
+-- lines that are so exact, or as near that as a setup may say
+abbrev pub within_of : ℕ → Within
+within_of us = record {
+  us = most_within_us - (most_within_us - 1 - (us - 1));
+  some = omega arith;
+  few = omega arith;
+}
 
 -- the counter is more than 100 us a second wrong, or so much that it could be half a second wrong
 -- when the holdover ends

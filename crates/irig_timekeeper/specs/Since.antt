@@ -1,6 +1,6 @@
 -- The seconds since a device's last vote, by what its ticks answered, and the bound of its stamps.
 -- Source: this project's profile.
-use Rattle.std.specs.Prelude.{◌≡◌, ℕ, ◌+◌, ◌*◌, ◌%◌, ◌^◌, List, [], ◌∷◌, ◌++◌, Option, Some, None}
+use Rattle.std.specs.Prelude.{◌≡◌, ℕ, ◌≤◌, ◌+◌, ◌*◌, ◌%◌, ◌^◌, List, [], ◌∷◌, ◌++◌, Option, Some, None}
 use Rattle.irig_reader.specs.declared.report.Cause.{Cause}
 use Rattle.irig_reader.specs.declared.report.Cause.TheVariants as cause
 use Rattle.irig_timekeeper.specs.declared.clock.Beat.{Beat}
@@ -8,7 +8,7 @@ use Rattle.irig_timekeeper.specs.declared.stamp.Stamp.{Stamp}
 use Rattle.irig_timekeeper.specs.Keeping.{Keeping, answer_at}
 use Rattle.irig_timekeeper.specs.Life.{Call, Made, after_calls, device_of, life_of}
 use Rattle.irig_timekeeper.specs.Life.Call.{Tick}
-use Rattle.irig_timekeeper.specs.Exactness.{vote_early_us}
+use Rattle.irig_timekeeper.specs.Exactness.{vote_us}
 
 -- none, if the cause is a vote; else so many
 abbrev pub unless_voted : Cause → ℕ → ℕ
@@ -27,8 +27,8 @@ since_vote new (Tick now ∷ calls) =
     since_answer (answer_at (after_calls new calls) (now % 2 ^ 32)) (since_vote new calls)
 since_vote new (_ ∷ calls) = since_vote new calls
 
--- a tick announced the second of the stamp, whose bound is a vote's and the drift of each second
--- that had been counted by then since the last vote
+-- a tick announced the second of the stamp, whose bound is at most a vote's and the drift of each
+-- second that had been counted by then since the last vote
 pub record HasItsBound (made : Made) (calls : List Call) (stamp : Stamp) : Type 0 where
   pub later : List Call
   pub now : ℕ
@@ -38,4 +38,5 @@ pub record HasItsBound (made : Made) (calls : List Call) (stamp : Stamp) : Type 
   pub answer : answer_at (life_of made earlier) (now % 2 ^ 32) ≡ Some beat
   pub says : beat.report.announce ≡ Some stamp.second
   pub bound : stamp.bound_us
-      ≡ vote_early_us + since_vote (device_of made) (Tick now ∷ earlier) * made.clock.drift_us
+      ≤ vote_us made.clock.within.us made.clock.drift_us
+      + since_vote (device_of made) (Tick now ∷ earlier) * made.clock.drift_us

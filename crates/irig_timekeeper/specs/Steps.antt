@@ -1,6 +1,6 @@
 -- What becomes of a device's lines by a pulse and at a tick, and on which edge they agree.
 -- Source: this project's profile.
-use Rattle.std.specs.Prelude.{◌≡◌, ℕ, ◌+◌, ◌%◌, ◌^◌, ◌==◌, Bool, false, ◌&&◌, nat_lt, nat_le, if◌then◌else◌, List, [], ◌∷◌, count_by, Option, Some, None, IfSome}
+use Rattle.std.specs.Prelude.{◌≡◌, ℕ, ◌+◌, ◌-◌, ◌/◌, ◌%◌, ◌^◌, ◌==◌, min, max, Bool, false, ◌&&◌, nat_lt, nat_le, if◌then◌else◌, List, [], ◌∷◌, count_by, Option, Some, None, IfSome}
 use Rattle.irig_sync.specs.Sync.{clock_gap, place_of, pulse_of, idle_of}
 use Rattle.irig_sync.specs.Lines.{IsSyncOf}
 use Rattle.irig_time.specs.Claims.{same_claim}
@@ -13,8 +13,11 @@ use Rattle.irig_timekeeper.specs.declared.lines.KeptFrame.{KeptFrame}
 use Rattle.irig_timekeeper.specs.declared.lines.KeptClaim.{KeptClaim}
 use Rattle.irig_timekeeper.specs.declared.lines.Line.{Line}
 use Rattle.irig_timekeeper.specs.declared.lines.Lines.{Lines}
+use Rattle.irig_timekeeper.specs.declared.lines.Vote.{Vote}
+use Rattle.irig_timekeeper.specs.declared.setup.ClockRules.{ClockRules}
+use Rattle.irig_vote.specs.Vote.{f_of}
 use Rattle.irig_timekeeper.specs.Counting.{is_late, has_come}
-use Rattle.irig_timekeeper.specs.Exactness.{window_us}
+use Rattle.irig_timekeeper.specs.Exactness.{window_us, end_off_us}
 
 -- ---- a pulse
 
@@ -130,35 +133,109 @@ all_kept lines =
     ∷ claim_kept lines.e.frame
     ∷ []
 
--- a frame of the same claim that ends with this one, or less than 1,001 us behind it
-abbrev pub agrees : KeptClaim → Option KeptClaim → Bool
-agrees x None = false
-agrees x (Some y) = same_claim x.claim y.claim && nat_le (clock_gap x.end_us y.end_us) window_us
+-- a frame of the same claim that ends with this one, or so little behind it
+abbrev pub agrees : ℕ → KeptClaim → Option KeptClaim → Bool
+agrees window x None = false
+agrees window x (Some y) = same_claim x.claim y.claim && nat_le (clock_gap x.end_us y.end_us) window
 
 -- more than f frames, itself among them, agree with this one
-abbrev pub is_candidate : ℕ → KeptClaim → List (Option KeptClaim) → Bool
-is_candidate f x all = nat_lt f (count_by (agrees x) all)
+abbrev pub is_candidate : ℕ → ℕ → KeptClaim → List (Option KeptClaim) → Bool
+is_candidate window f x all = nat_lt f (count_by (agrees window x) all)
 
--- of two candidates the one that ends later
-abbrev pub later : Option KeptClaim → KeptClaim → Option KeptClaim
-later None x = Some x
-later (Some y) x = if nat_le (clock_gap y.end_us x.end_us) window_us then Some x else Some y
+-- of two candidates the one that ends first
+abbrev pub earlier : ℕ → Option KeptClaim → KeptClaim → Option KeptClaim
+earlier window None x = Some x
+earlier window (Some y) x = if nat_le (clock_gap y.end_us x.end_us) window then Some y else Some x
 
--- of these frames the candidate that ends last, or the one so far
-abbrev pub last_candidate : ℕ → List (Option KeptClaim) → List (Option KeptClaim) → Option KeptClaim → Option KeptClaim
-last_candidate f all [] so_far = so_far
-last_candidate f all (None ∷ xs) so_far = last_candidate f all xs so_far
-last_candidate f all (Some x ∷ xs) so_far =
-    last_candidate f all xs (if is_candidate f x all then later so_far x else so_far)
+-- of these frames the candidate that ends first, or the one so far
+abbrev pub first_candidate : ℕ → ℕ → List (Option KeptClaim) → List (Option KeptClaim)
+    → Option KeptClaim → Option KeptClaim
+first_candidate window f all [] so_far = so_far
+first_candidate window f all (None ∷ xs) so_far = first_candidate window f all xs so_far
+first_candidate window f all (Some x ∷ xs) so_far =
+    first_candidate window f all xs
+    (if is_candidate window f x all then earlier window so_far x else so_far)
 
--- the candidate that ends last of all kept frames, if there is one
-abbrev pub agreed : ℕ → Lines → Option KeptClaim
-agreed f lines = last_candidate f (all_kept lines) (all_kept lines) None
+-- ---- where that edge lies, of the frames of a claim that end at most 1 ms before this one, or later
 
--- the same, if its end has come
-abbrev pub if_come : ℕ → Option KeptClaim → Option KeptClaim
+-- how far behind 1 ms before this one a frame ends
+abbrev pub place_behind : KeptClaim → KeptClaim → ℕ
+place_behind x y = (clock_gap x.end_us y.end_us + 1000) % 2 ^ 32
+
+-- such a frame ends so far behind this one, or before that
+abbrev pub ends_by : KeptClaim → ℕ → Option KeptClaim → Bool
+ends_by x behind None = false
+ends_by x behind (Some y) = same_claim x.claim y.claim && nat_le (place_behind x y) (behind + 1000)
+
+-- such a frame ends so far behind this one, or later
+abbrev pub ends_from : KeptClaim → ℕ → Option KeptClaim → Bool
+ends_from x behind None = false
+ends_from x behind (Some y) =
+    same_claim x.claim y.claim
+    && (nat_le (behind + 1000) (place_behind x y) && nat_lt (place_behind x y) (2 ^ 31))
+
+-- how far behind this one a frame ends
+abbrev pub end_behind : KeptClaim → Option KeptClaim → ℕ
+end_behind x None = 0
+end_behind x (Some y) = clock_gap x.end_us y.end_us
+
+-- the end of a frame, if it agrees with this one and more than f frames end by then; or the one so far,
+-- if that comes before
+abbrev pub earlier_end : (window f : ℕ) → KeptClaim → List (Option KeptClaim) → Option KeptClaim
+    → (so_far : ℕ) → ℕ
+earlier_end window f x all y so_far =
+    if agrees window x y && nat_lt f (count_by (ends_by x (end_behind x y)) all)
+    then min (end_behind x y) so_far
+    else so_far
+
+-- of the ends of these frames the first such one, or the one so far
+abbrev pub ended_by : (window f : ℕ) → KeptClaim → (all ys : List (Option KeptClaim)) → (so_far : ℕ) → ℕ
+ended_by window f x all [] so_far = so_far
+ended_by window f x all (y ∷ ys) so_far = ended_by window f x all ys (earlier_end window f x all y so_far)
+
+-- the end of a frame, if it agrees with this one and more than f frames end from then on; or the one so
+-- far, if that comes behind
+abbrev pub later_end : (window f : ℕ) → KeptClaim → List (Option KeptClaim) → Option KeptClaim
+    → (so_far : ℕ) → ℕ
+later_end window f x all y so_far =
+    if agrees window x y && nat_lt f (count_by (ends_from x (end_behind x y)) all)
+    then max (end_behind x y) so_far
+    else so_far
+
+-- of the ends of these frames the last such one, or the one so far
+abbrev pub ending_from : (window f : ℕ) → KeptClaim → (all ys : List (Option KeptClaim)) → (so_far : ℕ)
+    → ℕ
+ending_from window f x all [] so_far = so_far
+ending_from window f x all (y ∷ ys) so_far =
+    ending_from window f x all ys (later_end window f x all y so_far)
+
+-- an edge that lies in the middle of these two times behind this frame's end, each of which at most
+-- f untrue lines can have moved off by more than a true line is
+abbrev pub vote_between : (within d : ℕ) → KeptClaim → (from by : ℕ) → Vote
+vote_between within d x from by = record {
+  claim = x.claim;
+  edge_us = (x.end_us + (from + by) / 2) % 2 ^ 32;
+  bound_us = end_off_us within d + (by - from + 1) / 2;
+}
+
+-- the edge on which more than f of these frames agree, by the first that agrees with so many
+abbrev pub vote_with : (within d f : ℕ) → List (Option KeptClaim) → Option KeptClaim → Option Vote
+vote_with within d f all None = None
+vote_with within d f all (Some x) =
+    Some (vote_between within d x (ending_from (window_us within) f x all all 0)
+    (ended_by (window_us within) f x all all (window_us within)))
+
+-- the edge on which the kept frames of lines agree, if they do
+abbrev pub agreed : ClockRules → Lines → Option Vote
+agreed c lines =
+    vote_with c.within.us c.drift_us (f_of c.redundancy) (all_kept lines)
+    (first_candidate (window_us c.within.us) (f_of c.redundancy) (all_kept lines) (all_kept lines)
+    None)
+
+-- the same, if it has come
+abbrev pub if_come : ℕ → Option Vote → Option Vote
 if_come now None = None
-if_come now (Some x) = if has_come x.end_us now then Some x else None
+if_come now (Some vote) = if has_come vote.edge_us now then Some vote else None
 
 -- ---- what is claimed is of UTC
 
@@ -195,8 +272,8 @@ pub record AreNewLines (lines : Lines) : Type 0 where
 abbrev pub until : ℕ → ℕ → ℕ
 until now time = if nat_lt (clock_gap now time) (2 ^ 31) then clock_gap now time else 0
 
--- to the end of the frame on which lines agree; else to when the own counter counts an edge
-abbrev pub wait_by : ℕ → Option ℕ → Option KeptClaim → ℕ
-wait_by now edge (Some vote) = until now vote.end_us
+-- to the edge on which lines agree; else to when the own counter counts one
+abbrev pub wait_by : ℕ → Option ℕ → Option Vote → ℕ
+wait_by now edge (Some vote) = until now vote.edge_us
 wait_by now (Some edge) None = until now ((edge + 1005000) % 2 ^ 32)
 wait_by now None None = 1000000

@@ -17,14 +17,14 @@ use Rattle.irig_reader.specs.declared.rule.State.{State}
 use Rattle.irig_reader.specs.declared.rule.State.TheVariants.{Idle, Acquiring, Locked}
 use Rattle.irig_reader.specs.Lives.{KnowsMonthEnds}
 use Rattle.irig_timekeeper.specs.declared.clock.Beat.{Beat}
-use Rattle.irig_timekeeper.specs.declared.lines.KeptClaim.{KeptClaim}
+use Rattle.irig_timekeeper.specs.declared.lines.Vote.{Vote}
 use Rattle.irig_timekeeper.specs.declared.lines.Lines.{Lines}
 use Rattle.irig_timekeeper.specs.declared.stamp.Stamp.{Stamp}
 use Rattle.irig_timekeeper.specs.Clock.{lasted}
 use Rattle.irig_timekeeper.specs.Edges.{IsQuartz, IsNear, IsTrueNear}
 use Rattle.irig_timekeeper.specs.Lines.{IfKept, IsInTurnOf}
 use Rattle.irig_timekeeper.specs.Steps.{line_at, claim_kept}
-use Rattle.irig_timekeeper.specs.Exactness.{vote_early_us, most_held_us}
+use Rattle.irig_timekeeper.specs.Exactness.{vote_us, most_vote_us, most_held_us}
 
 -- the lines keep frames of these pulses, and all but at most f of the five are such true lines; a
 -- line that is not there brought no pulse
@@ -37,15 +37,16 @@ pub record AreHeardTruly (IsTrue : List Pulse → Type 0) (rules : Rules) (f now
   pub kept : (i : ℕ) → i < 5
       → IfKept (IsInTurnOf now) rules (claim_kept (line_at lines i).frame) (pulses i)
 
--- the frame claims the true second before an edge, ends at most so long before that edge and behind
--- it, and at most 100 ms ago
-pub record IsTrueVote (t : TimelineValue) (edges : ℕ → ℕ) (early late now : ℕ) (vote : KeptClaim)
+-- lines claim the true second before an edge, and the edge on which they agree lies no further from it
+-- than its bound, and so much more before it and behind it; it has come, at most 100 ms ago
+pub record IsTrueVote (t : TimelineValue) (edges : ℕ → ℕ) (early late now : ℕ) (vote : Vote)
     : Type 0 where
-  pub end : ℕ
-  pub clock : vote.end_us ≡ end % 2 ^ 32
-  pub truth : IsTrueNear t edges early late end vote.claim
-  pub come : end ≤ now
-  pub soon : now ≤ end + 100000
+  pub edge : ℕ
+  pub clock : vote.edge_us ≡ edge % 2 ^ 32
+  pub truth : IsTrueNear t edges (early + vote.bound_us) (late + vote.bound_us) edge vote.claim
+  pub small : vote.bound_us ≤ most_vote_us
+  pub come : edge ≤ now
+  pub soon : now ≤ edge + 100000
 
 -- ---- where a device stands
 
@@ -81,28 +82,29 @@ StandsSurely t table n Idle = ⊤
 StandsSurely t table n (Acquiring h count) = IsSureAt t table n h
 StandsSurely t table n (Locked h) = IsSureAt t table n h
 
--- the reader stands at T(w), as which its edge is right but for the drift of a edges; what was
--- announced last was T(last) at most
+-- the reader stands at T(w), as which its edge is right but for the bound of the last vote and the
+-- drift of a edges; what was announced last was T(last) at most
 pub record StandsAt (t : TimelineValue) (edges : ℕ → ℕ) (early late d last : ℕ)
-    (rules : ReaderRules) (table : TableValue) (tick : ℕ) (stands : State) (e w a : ℕ)
+    (rules : ReaderRules) (table : TableValue) (tick : ℕ) (stands : State) (voted e w a : ℕ)
     : Type 0 where
   pub edge : ℕ
   pub at : IsEdgeAt e edge tick
-  pub near : IsNear edges (early + a * d) (late + a * d) w edge
+  pub near : IsNear edges (early + voted + a * d) (late + voted + a * d) w edge
+  pub small : voted ≤ most_vote_us
   pub truth : StandsSurely t table w stands
   pub young : a ≤ age_of stands
   pub few : a ≤ rules.holdover
   pub behind : last ≤ w
 
--- a device has nothing to go on, or stands at the truth; its votes lie at most so long before their
--- edges and behind them
+-- a device has nothing to go on, or stands at the truth; its votes lie no further from their edges than
+-- their bounds, that of the last one `voted`, and so much more before them and behind them
 abbrev pub IsOnTrack : TimelineValue → (ℕ → ℕ) → (early late d last : ℕ) → ReaderRules → TableValue
-    → ℕ → State → Option ℕ → Type 0
-IsOnTrack t edges early late d last rules table tick state None = (state ≡ Idle) × (last ≡ 0)
-IsOnTrack t edges early late d last rules table tick state (Some e) =
+    → ℕ → State → (voted : ℕ) → Option ℕ → Type 0
+IsOnTrack t edges early late d last rules table tick state voted None = (state ≡ Idle) × (last ≡ 0)
+IsOnTrack t edges early late d last rules table tick state voted (Some e) =
     ((state ≡ Idle)
-    × ((edge : ℕ) × IsEdgeAt e edge tick × (edges last + late < edge + 500000)))
-    ⊎ ((w : ℕ) × (a : ℕ) × StandsAt t edges early late d last rules table tick state e w a)
+    × ((edge : ℕ) × IsEdgeAt e edge tick × (edges last + late + most_vote_us < edge + 500000)))
+    ⊎ ((w : ℕ) × (a : ℕ) × StandsAt t edges early late d last rules table tick state voted e w a)
 
 -- ---- what a device tells
 
@@ -118,13 +120,14 @@ pub record IsToldTruly (t : TimelineValue) (edges : ℕ → ℕ) (before behind 
   pub soon : now < edge + 1005000
   pub truth : IsSecond t m u
 
--- the same, off by the drift of so many edges more as the holdover has lasted by the report
-pub record IsToldInHoldover (t : TimelineValue) (edges : ℕ → ℕ) (early late d holdover now : ℕ)
-    (beat : Beat) (u : UtcSecond) : Type 0 where
-  pub far : ℕ
-  pub held : far ≤ lasted beat.report.lock
-  pub few : far ≤ holdover
-  pub told : IsToldTruly t edges (early + far * d) (late + far * d) now beat u
+-- the same, no further from the edge than the bound that is told, and so much more before it and
+-- behind it; the bound is at most that of a vote and the drift of as many edges as the holdover has
+-- lasted
+pub record IsToldInHoldover (t : TimelineValue) (edges : ℕ → ℕ)
+    (early late within d holdover now : ℕ) (beat : Beat) (u : UtcSecond) : Type 0 where
+  pub told : IsToldTruly t edges (early + beat.bound_us) (late + beat.bound_us) now beat u
+  pub bound : beat.bound_us ≤ vote_us within d + lasted beat.report.lock * d
+  pub few : lasted beat.report.lock ≤ holdover
 
 -- what is true of a device: its counter, the timeline, its leap table if it needs one, and its setup
 -- is not refused
@@ -159,7 +162,7 @@ pub record IsStampedTruly (t : TimelineValue) (edges : ℕ → ℕ) (more time :
   pub truth : IsSecond t m stamp.second
   pub early : edges m + stamp.offset_us ≤ time + stamp.bound_us + more
   pub late : time ≤ edges m + stamp.offset_us + stamp.bound_us + more
-  pub small : stamp.bound_us ≤ vote_early_us + most_held_us
+  pub small : stamp.bound_us ≤ most_vote_us + most_held_us
   pub behind : stamp.offset_us ≤ 1000000 + stamp.bound_us
 
 -- by a counter that is at most d us a second wrong the time is that of the instant tau us behind

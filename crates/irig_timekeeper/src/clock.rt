@@ -7,32 +7,19 @@ ghost use Rattle.irig_timekeeper.specs.Counting.{edges_to_vote, edges_own};
 ghost use Rattle.irig_timekeeper.specs.Rule.{missed, step_behind};
 ghost use Rattle.irig_timekeeper.specs.Steps.{AreKeptOfUtc, AreNewLines};
 ghost use Rattle.irig_timekeeper.specs.Keeping.{new_state};
-ghost use Rattle.irig_timekeeper.specs.Clock.{lasted, bound_of, announced, still_serves, beat_by, beaten, step_to, after_vote, answer_to_vote, after_own, answer_alone, clock_after, clock_answer, clock_vote, clock_wait, SaysOfUtc, AnnouncedOfUtc};
-ghost use Rattle.irig_timekeeper.specs.Exactness.{most_held_us};
+ghost use Rattle.irig_timekeeper.specs.Clock.{lasted, bound_of, announced_at, still_serves, beat_by, beaten, step_to, after_vote, answer_to_vote, after_own, answer_alone, clock_after, clock_answer, clock_vote, clock_wait, SaysOfUtc, AnnouncedOfUtc};
+ghost use Rattle.irig_timekeeper.specs.Exactness.{most_drift_us, most_vote_us, most_held_us};
 
 use crate::counting::{edge_behind, edges_own, edges_to_vote};
 use crate::lines::{
-    KeptClaim, Lines, agreed, if_come, lines_of_nothing, settle, take, tells_of, wait_by,
+    Lines, Vote, agreed, if_come, lines_of_nothing, settle, take, tells_of, wait_by,
 };
+use crate::setup::ClockRules;
 use crate::stamp::Announced;
 use irig_reader::{Lock, ReaderRules, Report, State, Step, step_of};
 use irig_time::{Claim, Leaps, UtcSecond};
-use irig_vote::{Redundancy, Tells};
+use irig_vote::Tells;
 use std::mem;
-
-/// How far from its edge the end of a frame may lie on which lines agree.
-const VOTE_US: u32 = 1_549;
-
-/// The rules of a device's clock.
-#[derive(Clone, Copy, PartialEq, Eq)]
-pub struct ClockRules {
-    /// When it locks, and how long it holds over.
-    pub reader_rules: ReaderRules,
-    /// How many lines it has.
-    pub redundancy: Redundancy,
-    /// How many microseconds a second the device's counter may be wrong, 0 to 100.
-    pub drift_us: u32,
-}
 
 /// Where a device's clock stands between two calls.
 #[derive(Drop)]
@@ -43,6 +30,8 @@ pub struct ClockState {
     pub reader: State,
     /// The local time at which the last second began that was counted, if there was one.
     pub edge_us: Option<u32>,
+    /// How far from its true edge that of the last vote may lie, at most 899 us.
+    pub bound_us: u32,
     /// How often lines set that edge right since.
     pub moved: u32,
     /// The last second that was counted, if it was announced.
@@ -60,6 +49,8 @@ pub struct Beat {
     pub told: Tells,
     /// The local time at which the second begins.
     pub edge_us: u32,
+    /// How far from its true edge that may lie, if the second is announced: at most 490,899 us.
+    pub bound_us: u32,
     /// The seconds that passed untold before it.
     pub missed: u32,
     /// How often lines set the edge right since the one that was told before.
@@ -83,6 +74,7 @@ pub fn clock_of_nothing() -> ClockState
         lines: lines_of_nothing(),
         reader: State::Idle,
         edge_us: None,
+        bound_us: 0,
         moved: 0,
         last: None,
         before: None,
@@ -93,11 +85,13 @@ pub fn clock_of_nothing() -> ClockState
 /// time.
 ///
 /// The rules have no [`fault`](crate::clock_fault), each claim that a line keeps is of a
-/// [`valid`](irig_time::valid) second, and a reader that is acquiring had fewer votes than it locks
-/// after.
+/// [`valid`](irig_time::valid) second, a reader that is acquiring had fewer votes than it locks
+/// after, and the bound of the last vote is at most 899 us.
 pub fn tick<T: Leaps>(rules: &ClockRules, table: &T, state: &mut ClockState, now_us: u32) -> Ticked
+    requires steady { rules.now.drift_us ≤ most_drift_us }
     requires short { (rules.now.reader_rules.holdover + 2) * rules.now.drift_us ≤ most_held_us }
     requires counting { count_of state.old.reader < rules.now.reader_rules.lock_after }
+    requires small { state.old.bound_us ≤ most_vote_us }
     requires valid { AreKeptOfUtc state.old.lines }
     ensures answer { result.beat ≡ clock_answer rules.now (T.says table.now) state.old now_us }
     ensures after { state.new ≡ clock_after rules.now (T.says table.now) state.old now_us }
@@ -105,10 +99,11 @@ pub fn tick<T: Leaps>(rules: &ClockRules, table: &T, state: &mut ClockState, now
     ensures counting { count_of state.new.reader < rules.now.reader_rules.lock_after }
     ensures valid { AreKeptOfUtc state.new.lines }
     ensures said { SaysOfUtc result.beat }
+    ensures small { state.new.bound_us ≤ most_vote_us }
     ensures announced { AnnouncedOfUtc state.old → AnnouncedOfUtc state.new }
 {
     settle(&mut state.lines, now_us);
-    match if_come(now_us, agreed(rules.redundancy, &state.lines)) {
+    match if_come(now_us, agreed(rules, &state.lines)) {
         Some(vote) => tick_by_vote(rules, table, state, vote),
         None => tick_alone(rules, table, state, now_us),
     }
@@ -119,26 +114,29 @@ fn tick_by_vote<T: Leaps>(
     rules: &ClockRules,
     table: &T,
     state: &mut ClockState,
-    vote: KeptClaim,
+    vote: Vote,
 ) -> Ticked
     requires short { (rules.now.reader_rules.holdover + 2) * rules.now.drift_us ≤ most_held_us }
+    requires small { vote.bound_us ≤ most_vote_us }
     requires counting { count_of state.old.reader < rules.now.reader_rules.lock_after }
     requires valid { IsValid vote.claim.at }
     ensures answer { result.beat ≡ answer_to_vote rules.now (T.says table.now) state.old vote
-        (edges_to_vote state.old.edge_us vote.end_us) }
+        (edges_to_vote state.old.edge_us vote.edge_us) }
     ensures after { state.new ≡ after_vote rules.now (T.says table.now) state.old vote
-        (edges_to_vote state.old.edge_us vote.end_us) }
+        (edges_to_vote state.old.edge_us vote.edge_us) }
     ensures vote { result.vote ≡ Some vote.claim }
     ensures counting { count_of state.new.reader < rules.now.reader_rules.lock_after }
     ensures valid { AreKeptOfUtc state.new.lines }
     ensures said { SaysOfUtc result.beat }
+    ensures small { state.new.bound_us ≤ most_vote_us }
     ensures announced { AnnouncedOfUtc state.old → AnnouncedOfUtc state.new }
 {
-    let edges = edges_to_vote(state.edge_us, vote.end_us);
+    let edges = edges_to_vote(state.edge_us, vote.edge_us);
+    state.bound_us = vote.bound_us;
     let beat = if edges > 0 {
-        Some(beat_at(rules, table, state, edges, Some(vote.claim), vote.end_us))
+        Some(beat_at(rules, table, state, edges, Some(vote.claim), vote.edge_us))
     } else {
-        state.edge_us = Some(vote.end_us);
+        state.edge_us = Some(vote.edge_us);
         state.moved = state.moved.wrapping_add(1);
         None
     };
@@ -158,6 +156,7 @@ fn tick_alone<T: Leaps>(
 ) -> Ticked
     requires short { (rules.now.reader_rules.holdover + 2) * rules.now.drift_us ≤ most_held_us }
     requires counting { count_of state.old.reader < rules.now.reader_rules.lock_after }
+    requires small { state.old.bound_us ≤ most_vote_us }
     requires valid { AreKeptOfUtc state.old.lines }
     ensures answer { result.beat ≡ answer_alone rules.now (T.says table.now) state.old
         (edges_own state.old.edge_us now_us) }
@@ -167,6 +166,7 @@ fn tick_alone<T: Leaps>(
     ensures counting { count_of state.new.reader < rules.now.reader_rules.lock_after }
     ensures valid { AreKeptOfUtc state.new.lines }
     ensures said { SaysOfUtc result.beat }
+    ensures small { state.new.bound_us ≤ most_vote_us }
     ensures announced { AnnouncedOfUtc state.old → AnnouncedOfUtc state.new }
 {
     let edges = edges_own(state.edge_us, now_us);
@@ -191,12 +191,14 @@ fn beat_at<T: Leaps>(
 ) -> Beat
     requires short { (rules.now.reader_rules.holdover + 2) * rules.now.drift_us ≤ most_held_us }
     requires counting { count_of state.old.reader < rules.now.reader_rules.lock_after }
+    requires small { state.old.bound_us ≤ most_vote_us }
     requires valid { IfSome vote (λ claim. IsValid claim.at) }
     requires some { 1 ≤ edges }
-    ensures answer { result ≡ beat_by state.old
-        (step_to rules.now (T.says table.now) state.old edges vote) (edges - 1) edge_us }
+    ensures answer { result ≡ beat_by rules.now state.old
+        (step_to rules.now (T.says table.now) state.old edges vote) (edges - 1) edge_us
+        state.old.bound_us }
     ensures after { state.new ≡ beaten rules.now state.old state.old.lines vote
-        (step_to rules.now (T.says table.now) state.old edges vote) edge_us }
+        (step_to rules.now (T.says table.now) state.old edges vote) edge_us state.old.bound_us }
     ensures counting { count_of state.new.reader < rules.now.reader_rules.lock_after }
     ensures said { IfSome result.report.announce IsValid }
     ensures announced { AnnouncedOfUtc state.old → AnnouncedOfUtc state.new }
@@ -207,6 +209,7 @@ fn beat_at<T: Leaps>(
         report: step.report,
         told: tells_of(&state.lines),
         edge_us,
+        bound_us: bound_of(rules, state.bound_us, step.report.lock),
         missed: edges - 1,
         moved: state.moved,
     };
@@ -214,7 +217,7 @@ fn beat_at<T: Leaps>(
     state.edge_us = Some(edge_us);
     state.moved = 0;
     state.before = still_serves(vote, beat.report.announce, state.last);
-    state.last = announced(rules, &beat.report, edge_us);
+    state.last = announced(beat.report.announce, edge_us, beat.bound_us);
     beat
 }
 
@@ -256,16 +259,23 @@ fn still_serves(
     }
 }
 
-// What is kept of a second that is announced.
-fn announced(rules: &ClockRules, report: &Report, edge_us: u32) -> Option<Announced>
+// How far an edge may lie off, if that of the last vote lay so far off at most.
+fn bound_of(rules: &ClockRules, voted_us: u32, lock: Lock) -> u32
     requires short { (rules.now.reader_rules.holdover + 2) * rules.now.drift_us ≤ most_held_us }
-    requires lasted { lasted report.now.lock ≤ rules.now.reader_rules.holdover }
-    ensures value { result ≡ announced rules.now.drift_us report.now edge_us }
-    ensures valid { IfSome report.now.announce IsValid
+    requires small { voted_us ≤ most_vote_us }
+    requires lasted { lasted lock ≤ rules.now.reader_rules.holdover }
+    ensures { result ≡ bound_of rules.now.drift_us voted_us lock }
+{
+    voted_us + lasted(lock) * rules.drift_us
+}
+
+// What is kept of a second that is announced.
+fn announced(announce: Option<UtcSecond>, edge_us: u32, bound_us: u32) -> Option<Announced>
+    ensures value { result ≡ announced_at edge_us bound_us announce }
+    ensures valid { IfSome announce IsValid
         → IfSome result (λ announced. IsValid announced.second) }
 {
-    let bound_us = VOTE_US + lasted(report.lock) * rules.drift_us;
-    match report.announce {
+    match announce {
         Some(second) => Some(Announced {
             second,
             edge_us,
@@ -289,9 +299,10 @@ fn lasted(lock: Lock) -> u32
 
 /// How long until a tick has something to do, if no call comes before it, in microseconds.
 pub fn wait_of(rules: &ClockRules, state: &ClockState, now_us: u32) -> u32
+    requires { rules.now.drift_us ≤ most_drift_us }
     ensures { result ≡ clock_wait rules.now state.now now_us }
 {
     let mut lines = state.lines;
     settle(&mut lines, now_us);
-    wait_by(now_us, state.edge_us, agreed(rules.redundancy, &lines))
+    wait_by(now_us, state.edge_us, agreed(rules, &lines))
 }

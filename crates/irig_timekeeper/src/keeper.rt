@@ -12,12 +12,13 @@ ghost use Rattle.irig_vote.specs.Vote.{ports_in};
 ghost use Rattle.irig_reader.specs.Rule.{count_of};
 ghost use Rattle.irig_reader.specs.Rules.{IsReaderRules};
 ghost use Rattle.irig_timekeeper.specs.Steps.{line_at, line_heard, AreKeptOfUtc, IsKeptOfUtc, AreNewLines};
-ghost use Rattle.irig_timekeeper.specs.Exactness.{vote_late_us, vote_early_us, most_held_us};
+ghost use Rattle.irig_timekeeper.specs.Exactness.{most_drift_us, most_vote_us, most_held_us};
 
-use crate::clock::{Beat, ClockRules, ClockState, clock_of_nothing, tick, wait_of};
+use crate::clock::{Beat, ClockState, clock_of_nothing, tick, wait_of};
 use crate::lines::{KeptFrame, Line, is_pulse, line_at, with_line};
-use crate::setup::{ClockFault, clock_fault};
+use crate::setup::{ClockFault, ClockRules, clock_fault};
 use crate::stamp::{Stamp, stamp_of};
+use crate::within::Within;
 use irig_port::{Limits, Port, Told, edge_within, hear};
 use irig_reader::ReaderRules;
 use irig_time::{LeapTable, Rules};
@@ -38,8 +39,10 @@ pub struct Timekeeper<P: Port> {
     pub(crate) clock: ClockRules,
     pub(crate) table: LeapTable,
     pub(crate) state: ClockState,
+    ghost steady: { clock.drift_us ≤ most_drift_us },
     ghost short: { (clock.reader_rules.holdover + 2) * clock.drift_us ≤ most_held_us },
     ghost counting: { count_of state.reader < clock.reader_rules.lock_after },
+    ghost small: { state.bound_us ≤ most_vote_us },
     ghost valid: { ∥ AreKeptOfUtc state.lines ∥₁ },
 }
 
@@ -63,6 +66,7 @@ impl<P: Port> Timekeeper<P> {
         reader_rules: ReaderRules,
         table: LeapTable,
         redundancy: Redundancy,
+        within: Within,
         drift_us: u32,
     ) -> Result<Self, ClockFault>
         requires { IsReaderRules reader_rules }
@@ -71,6 +75,7 @@ impl<P: Port> Timekeeper<P> {
             × IsNew keeper None rules (record {
               reader_rules = reader_rules;
               redundancy = redundancy;
+              within = within;
               drift_us = drift_us;
             }) table)
             (λ fault. clock_fault reader_rules drift_us ≡ Some fault) }
@@ -80,12 +85,21 @@ impl<P: Port> Timekeeper<P> {
           clock = record {
             reader_rules = reader_rules;
             redundancy = redundancy;
+            within = within;
             drift_us = drift_us;
           };
           table = table;
         }) []) }
     {
-        Timekeeper::new_within(rules, reader_rules, table, redundancy, drift_us, None)
+        Timekeeper::new_within(
+            rules,
+            reader_rules,
+            table,
+            redundancy,
+            within,
+            drift_us,
+            None,
+        )
     }
 
     /// The same, whose lines give no frame a vote that does not lie within the limits, if there are
@@ -95,6 +109,7 @@ impl<P: Port> Timekeeper<P> {
         reader_rules: ReaderRules,
         table: LeapTable,
         redundancy: Redundancy,
+        within: Within,
         drift_us: u32,
         limits: Option<Limits>,
     ) -> Result<Self, ClockFault>
@@ -104,6 +119,7 @@ impl<P: Port> Timekeeper<P> {
             × IsNew keeper limits rules (record {
               reader_rules = reader_rules;
               redundancy = redundancy;
+              within = within;
               drift_us = drift_us;
             }) table)
             (λ fault. clock_fault reader_rules drift_us ≡ Some fault) }
@@ -113,6 +129,7 @@ impl<P: Port> Timekeeper<P> {
           clock = record {
             reader_rules = reader_rules;
             redundancy = redundancy;
+            within = within;
             drift_us = drift_us;
           };
           table = table;
@@ -132,6 +149,7 @@ impl<P: Port> Timekeeper<P> {
             clock: ClockRules {
                 reader_rules,
                 redundancy,
+                within,
                 drift_us,
             },
             table,
@@ -243,9 +261,10 @@ impl<P: Port> Timekeeper<P> {
         ensures life { (t : TimelineValue) (edges : ℕ → ℕ) (made : MadeOf) (start now : ℕ)
             (calls : List Call) (beat : Beat) (u : UtcSecond) → HasLived self.old made calls
             → now_us ≡ now % 2 ^ 32
-            → LivesWell IsTrueLately t edges made start (Tick now ∷ calls)
-            → result ≡ Some beat → beat.report.announce ≡ Some u → IsToldInHoldover t edges vote_early_us
-            vote_late_us made.clock.drift_us made.clock.reader_rules.holdover now beat u }
+            → LivesWell (IsTrueLately made.clock.within.us) t edges made start (Tick now ∷ calls)
+            → result ≡ Some beat → beat.report.announce ≡ Some u
+            → IsToldInHoldover t edges 0 0 made.clock.within.us made.clock.drift_us
+            made.clock.reader_rules.holdover now beat u }
         ensures lines { self.new.clock ≡ self.old.clock }
     {
         tick(&self.clock, &self.table, &mut self.state, now_us).beat
@@ -271,7 +290,7 @@ impl<P: Port> Timekeeper<P> {
         // the law `stamps_are_true`
         ensures truth { (t : TimelineValue) (edges : ℕ → ℕ) (made : MadeOf) (start time now : ℕ)
             (calls : List Call) (stamp : Stamp) → HasLived self.now made calls
-            → time_us ≡ time % 2 ^ 32 → LivesWell IsTrueLately t edges made start calls
+            → time_us ≡ time % 2 ^ 32 → LivesWell (IsTrueLately made.clock.within.us) t edges made start calls
             → AreInOrder start made.clock.redundancy (Tick now ∷ calls)
             → time ≤ now → now ≤ time + 1800000000 → result ≡ Some stamp
             → IsStampedTruly t edges 0 time stamp }

@@ -12,9 +12,11 @@ mod keeper;
 mod lines;
 mod setup;
 mod stamp;
+mod within;
 
-pub use clock::{Beat, ClockRules, ClockState, Ticked, clock_of_nothing, tick, wait_of};
+pub use clock::{Beat, ClockState, Ticked, clock_of_nothing, tick, wait_of};
 pub use keeper::Timekeeper;
-pub use lines::{KeptClaim, KeptFrame, Line, Lines, is_pulse};
-pub use setup::{ClockFault, clock_fault};
+pub use lines::{KeptClaim, KeptFrame, Line, Lines, Vote, is_pulse};
+pub use setup::{ClockFault, ClockRules, clock_fault, nearest_within};
 pub use stamp::{Announced, Stamp, stamp_of};
+pub use within::Within;

@@ -1,17 +1,19 @@
 //! Where a device's lines stand, and the edge on which they agree.
 
-ghost use Rattle.std.specs.Prelude.{◌≡◌, None, count_by};
+ghost use Rattle.std.specs.Prelude.{◌≡◌, ◌≤◌, ◌<◌, ◌-◌, None, IfSome, count_by};
 ghost use Rattle.irig_vote.specs.Vote.{f_of};
-ghost use Rattle.irig_timekeeper.specs.Steps.{is_pulse, line_at, with_line, still_kept, line_settled, settled, taken, frame_tells, tells_of, claim_kept, agrees, is_candidate, later, last_candidate, agreed, if_come, IsNewLine, AreNewLines, until, wait_by};
+ghost use Rattle.irig_timekeeper.specs.Exactness.{most_drift_us, most_vote_us, window_us};
+ghost use Rattle.irig_timekeeper.specs.Steps.{is_pulse, line_at, with_line, still_kept, line_settled, settled, taken, frame_tells, tells_of, claim_kept, all_kept, agrees, is_candidate, earlier, first_candidate, place_behind, ends_by, ends_from, end_behind, earlier_end, ended_by, later_end, ending_from, vote_between, agreed, if_come, IsNewLine, AreNewLines, until, wait_by};
 
 use crate::counting::{has_come, is_late};
+use crate::setup::ClockRules;
 use irig_port::Told;
 use irig_sync::Sync;
 use irig_time::Claim;
-use irig_vote::{Redundancy, Tells};
+use irig_vote::Tells;
 
-/// How far the ends of frames may lie apart that agree.
-const AGREE_US: u32 = 1_000;
+/// What ends longer before the first frame that agrees with enough others has no part in a vote.
+const BEFORE_US: u32 = 1_000;
 
 /// What is as wide as this, in microseconds, is no pulse: the line is stuck.
 const STUCK_US: u32 = 500_000;
@@ -32,6 +34,17 @@ pub struct KeptClaim {
     pub claim: Claim,
     /// The local time at which it ends.
     pub end_us: u32,
+}
+
+/// An edge on which lines agree.
+#[derive(Clone, Copy, PartialEq, Eq)]
+pub struct Vote {
+    /// What they claim of the second before it.
+    pub claim: Claim,
+    /// The local time at which it lies.
+    pub edge_us: u32,
+    /// How far from the true edge that may be, in microseconds, at most 899.
+    pub bound_us: u32,
 }
 
 /// Where a line stands.
@@ -187,82 +200,229 @@ fn claim_kept(frame: Option<KeptFrame>) -> Option<KeptClaim>
     }
 }
 
-/// The frame on which f + 1 lines agree; of several the one that ends last.
-pub fn agreed(redundancy: Redundancy, lines: &Lines) -> Option<KeptClaim>
-    ensures { result ≡ agreed (f_of redundancy) lines.now }
+/// The edge on which f + 1 lines agree: the middle of the interval in which it lies, if at most f
+/// are untrue.
+pub fn agreed(rules: &ClockRules, lines: &Lines) -> Option<Vote>
+    requires { rules.now.drift_us ≤ most_drift_us }
+    ensures value { result ≡ agreed rules.now lines.now }
+    ensures small { IfSome result (λ vote. vote.bound_us ≤ most_vote_us) }
 {
-    last_candidate(
-        redundancy.f(),
-        &[
-            claim_kept(lines.a.frame),
-            claim_kept(lines.b.frame),
-            claim_kept(lines.c.frame),
-            claim_kept(lines.d.frame),
-            claim_kept(lines.e.frame),
-        ],
-    )
+    let all = [
+        claim_kept(lines.a.frame),
+        claim_kept(lines.b.frame),
+        claim_kept(lines.c.frame),
+        claim_kept(lines.d.frame),
+        claim_kept(lines.e.frame),
+    ];
+    let window_us = 2 * (rules.within.us() - 1);
+    let f = rules.redundancy.f();
+    match first_candidate(window_us, f, &all) {
+        Some(first) => Some(vote_between(
+            rules,
+            first,
+            ending_from(window_us, f, first, &all),
+            ended_by(window_us, f, first, &all),
+        )),
+        None => None,
+    }
 }
 
-fn last_candidate(f: u8, all: &[Option<KeptClaim>]) -> Option<KeptClaim>
-    ensures { result ≡ last_candidate f all.now all.now None }
+// The edge in the middle of these two times behind the end of a frame.
+fn vote_between(rules: &ClockRules, first: KeptClaim, from_us: u32, by_us: u32) -> Vote
+    requires steady { rules.now.drift_us ≤ most_drift_us }
+    requires from { from_us ≤ window_us rules.now.within.us }
+    requires by { by_us ≤ window_us rules.now.within.us }
+    ensures value { result ≡ vote_between rules.now.within.us rules.now.drift_us first from_us by_us }
+    ensures small { result.bound_us ≤ most_vote_us }
+{
+    Vote {
+        claim: first.claim,
+        edge_us: first.end_us.wrapping_add((from_us + by_us) / 2),
+        bound_us: rules.within.us() - 1
+            + rules.drift_us.div_ceil(100)
+            + by_us.saturating_sub(from_us).div_ceil(2),
+    }
+}
+
+// The frame with which f + 1 lines agree; of several the one that ends first.
+fn first_candidate(window_us: u32, f: u8, all: &[Option<KeptClaim>]) -> Option<KeptClaim>
+    ensures { result ≡ first_candidate window_us f all.now all.now None }
 {
     let mut so_far = None;
     for x in all {
         let Some(frame) = x else {
             continue;
         };
-        if is_candidate(f, *frame, all) {
-            so_far = later(so_far, *frame);
+        if is_candidate(window_us, f, *frame, all) {
+            so_far = earlier(window_us, so_far, *frame);
         }
     }
     so_far
 }
 
-fn is_candidate(f: u8, x: KeptClaim, all: &[Option<KeptClaim>]) -> bool
-    ensures { result ≡ is_candidate f x all.now }
+fn is_candidate(window_us: u32, f: u8, x: KeptClaim, all: &[Option<KeptClaim>]) -> bool
+    ensures { result ≡ is_candidate window_us f x all.now }
 {
-    usize::from(f) < agreeing(x, all)
+    usize::from(f) < agreeing(window_us, x, all)
 }
 
-fn agreeing(x: KeptClaim, all: &[Option<KeptClaim>]) -> usize
-    ensures { result ≡ count_by (agrees x) all.now }
+fn agreeing(window_us: u32, x: KeptClaim, all: &[Option<KeptClaim>]) -> usize
+    ensures { result ≡ count_by (agrees window_us x) all.now }
 {
-    all.iter().filter(|y| agrees(x, **y)).count()
+    all.iter().filter(|y| agrees(window_us, x, **y)).count()
 }
 
-fn agrees(x: KeptClaim, y: Option<KeptClaim>) -> bool
-    ensures { result ≡ agrees x y }
+fn agrees(window_us: u32, x: KeptClaim, y: Option<KeptClaim>) -> bool
+    ensures { result ≡ agrees window_us x y }
 {
     match y {
-        Some(y) => x.claim == y.claim && y.end_us.wrapping_sub(x.end_us) <= AGREE_US,
+        Some(y) => x.claim == y.claim && y.end_us.wrapping_sub(x.end_us) <= window_us,
         None => false,
     }
 }
 
-fn later(so_far: Option<KeptClaim>, x: KeptClaim) -> Option<KeptClaim>
-    ensures { result ≡ later so_far x }
+fn earlier(window_us: u32, so_far: Option<KeptClaim>, x: KeptClaim) -> Option<KeptClaim>
+    ensures { result ≡ earlier window_us so_far x }
 {
     match so_far {
         Some(y) => {
-            if x.end_us.wrapping_sub(y.end_us) <= AGREE_US {
-                Some(x)
-            } else {
+            if x.end_us.wrapping_sub(y.end_us) <= window_us {
                 Some(y)
+            } else {
+                Some(x)
             }
         }
         None => Some(x),
     }
 }
 
-/// The same, if its end has come.
-pub fn if_come(now_us: u32, kept: Option<KeptClaim>) -> Option<KeptClaim>
-    ensures { result ≡ if_come now_us kept }
+// Of the ends of frames that agree with this one the first by which f + 1 frames end, behind this
+// one's.
+fn ended_by(window_us: u32, f: u8, x: KeptClaim, all: &[Option<KeptClaim>]) -> u32
+    ensures value { result ≡ ended_by window_us f x all.now all.now window_us }
+    ensures most { result ≤ window_us }
 {
-    let Some(frame) = kept else {
+    let mut so_far = window_us;
+    for y in all {
+        so_far = earlier_end(window_us, f, x, all, *y, so_far);
+    }
+    so_far
+}
+
+fn earlier_end(
+    window_us: u32,
+    f: u8,
+    x: KeptClaim,
+    all: &[Option<KeptClaim>],
+    y: Option<KeptClaim>,
+    so_far: u32,
+) -> u32
+    requires { so_far ≤ window_us }
+    ensures value { result ≡ earlier_end window_us f x all.now y so_far }
+    ensures most { result ≤ window_us }
+{
+    let behind_us = end_behind(x, y);
+    if agrees(window_us, x, y) && usize::from(f) < ending_by(x, behind_us, all) {
+        behind_us.min(so_far)
+    } else {
+        so_far
+    }
+}
+
+// The last from which on f + 1 frames end.
+fn ending_from(window_us: u32, f: u8, x: KeptClaim, all: &[Option<KeptClaim>]) -> u32
+    ensures value { result ≡ ending_from window_us f x all.now all.now 0 }
+    ensures most { result ≤ window_us }
+{
+    let mut so_far = 0;
+    for y in all {
+        so_far = later_end(window_us, f, x, all, *y, so_far);
+    }
+    so_far
+}
+
+fn later_end(
+    window_us: u32,
+    f: u8,
+    x: KeptClaim,
+    all: &[Option<KeptClaim>],
+    y: Option<KeptClaim>,
+    so_far: u32,
+) -> u32
+    requires { so_far ≤ window_us }
+    ensures value { result ≡ later_end window_us f x all.now y so_far }
+    ensures most { result ≤ window_us }
+{
+    let behind_us = end_behind(x, y);
+    if agrees(window_us, x, y) && usize::from(f) < ending_since(x, behind_us, all) {
+        behind_us.max(so_far)
+    } else {
+        so_far
+    }
+}
+
+fn ending_by(x: KeptClaim, behind_us: u32, all: &[Option<KeptClaim>]) -> usize
+    ensures { result ≡ count_by (ends_by x behind_us) all.now }
+{
+    all.iter().filter(|y| ends_by(x, behind_us, **y)).count()
+}
+
+fn ending_since(x: KeptClaim, behind_us: u32, all: &[Option<KeptClaim>]) -> usize
+    ensures { result ≡ count_by (ends_from x behind_us) all.now }
+{
+    all.iter().filter(|y| ends_from(x, behind_us, **y)).count()
+}
+
+fn end_behind(x: KeptClaim, y: Option<KeptClaim>) -> u32
+    ensures { result ≡ end_behind x y }
+{
+    match y {
+        Some(y) => y.end_us.wrapping_sub(x.end_us),
+        None => 0,
+    }
+}
+
+fn place_behind(x: KeptClaim, y: KeptClaim) -> u32
+    ensures { result ≡ place_behind x y }
+{
+    y.end_us.wrapping_sub(x.end_us).wrapping_add(BEFORE_US)
+}
+
+fn ends_by(x: KeptClaim, behind_us: u32, y: Option<KeptClaim>) -> bool
+    ensures { result ≡ ends_by x behind_us y }
+{
+    match y {
+        Some(y) => {
+            x.claim == y.claim && u64::from(place_behind(x, y)) <= u64::from(behind_us) + 1_000
+        }
+        None => false,
+    }
+}
+
+fn ends_from(x: KeptClaim, behind_us: u32, y: Option<KeptClaim>) -> bool
+    ensures { result ≡ ends_from x behind_us y }
+{
+    match y {
+        Some(y) => {
+            x.claim == y.claim
+                && u64::from(behind_us) + 1_000 <= u64::from(place_behind(x, y))
+                && place_behind(x, y) < 1 << 31
+        }
+        None => false,
+    }
+}
+
+/// The same, if it has come.
+pub fn if_come(now_us: u32, agreed: Option<Vote>) -> Option<Vote>
+    ensures value { result ≡ if_come now_us agreed }
+    ensures small { IfSome agreed (λ vote. vote.bound_us ≤ most_vote_us)
+        → IfSome result (λ vote. vote.bound_us ≤ most_vote_us) }
+{
+    let Some(vote) = agreed else {
         return None;
     };
-    if has_come(frame.end_us, now_us) {
-        Some(frame)
+    if has_come(vote.edge_us, now_us) {
+        Some(vote)
     } else {
         None
     }
@@ -276,11 +436,11 @@ fn until(now_us: u32, time_us: u32) -> u32
 }
 
 /// How long until a tick has something to do.
-pub fn wait_by(now_us: u32, edge_us: Option<u32>, vote: Option<KeptClaim>) -> u32
+pub fn wait_by(now_us: u32, edge_us: Option<u32>, vote: Option<Vote>) -> u32
     ensures { result ≡ wait_by now_us edge_us vote }
 {
     match (vote, edge_us) {
-        (Some(frame), _) => until(now_us, frame.end_us),
+        (Some(vote), _) => until(now_us, vote.edge_us),
         (None, Some(edge)) => until(now_us, edge.wrapping_add(1_005_000)),
         (None, None) => 1_000_000,
     }

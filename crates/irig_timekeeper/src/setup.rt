@@ -1,9 +1,25 @@
-//! What is refused of a timekeeper's setup.
+//! A timekeeper's setup, and what is refused of it.
 
-ghost use Rattle.std.specs.Prelude.{◌≡◌};
-ghost use Rattle.irig_timekeeper.specs.Refusals.{clock_fault};
+ghost use Rattle.std.specs.Prelude.{◌≡◌, ◌≤◌};
+ghost use Rattle.irig_timekeeper.specs.Exactness.{most_within_us};
+ghost use Rattle.irig_timekeeper.specs.Refusals.{clock_fault, within_of};
 
+use crate::within::Within;
 use irig_reader::ReaderRules;
+use irig_vote::Redundancy;
+
+/// The rules of a device's clock.
+#[derive(Clone, Copy, PartialEq, Eq)]
+pub struct ClockRules {
+    /// When it locks, and how long it holds over.
+    pub reader_rules: ReaderRules,
+    /// How many lines it has.
+    pub redundancy: Redundancy,
+    /// How exact they are.
+    pub within: Within,
+    /// How many microseconds a second the device's counter may be wrong, 0 to 100.
+    pub drift_us: u32,
+}
 
 /// Why there is no timekeeper of such a setup, in the order in which faults are answered.
 #[derive(Clone, Copy, PartialEq, Eq)]
@@ -26,4 +42,14 @@ pub fn clock_fault(rules: ReaderRules, drift_us: u32) -> Option<ClockFault>
         return Some(ClockFault::Holdover);
     }
     None
+}
+
+/// Lines that are so exact, or as near that as a setup may say.
+pub fn nearest_within(us: u32) -> Within
+    ensures value { result ≡ within_of us }
+    ensures same { 1 ≤ us → us ≤ most_within_us → result.us ≡ us }
+{
+    Within {
+        us: us.clamp(1, 450),
+    }
 }

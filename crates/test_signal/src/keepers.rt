@@ -9,7 +9,7 @@ use irig_gen::{Generator, Zone};
 use irig_port::FlowPort;
 use irig_reader::{Cause, ReaderRules};
 use irig_time::{LeapTable, Rules, Timeline, UtcSecond};
-use irig_timekeeper::{Beat, ClockFault, Timekeeper, clock_fault};
+use irig_timekeeper::{Beat, ClockFault, Timekeeper, Within, clock_fault, nearest_within};
 use irig_vote::Redundancy;
 use std::test::Fail;
 
@@ -31,7 +31,7 @@ fn tell_frame(keeper: &mut Timekeeper<FlowPort>, frame: [Symbol; 100], edge_us: 
     for symbol in frame {
         keeper.hear(0, rise_us.wrapping_add(400), symbol.width_us());
         keeper.hear(1, rise_us.wrapping_sub(400), symbol.width_us());
-        rise_us = rise_us.wrapping_add(10_000);
+        rise_us = rise_us.wrapping_add(SECOND_US / 100);
     }
 }
 
@@ -48,30 +48,32 @@ fn poll(keeper: &mut Timekeeper<FlowPort>, edge_us: u32) -> Option<Beat>
     told
 }
 
-/// What is told of an edge: how many seconds behind the start, whether by a vote, and how far behind
-/// it the stamp puts an event half a second behind the true edge.
-fn row(keeper: &Timekeeper<FlowPort>, beat: &Beat, edge_us: u32) -> (u32, bool, u32) {
+/// What is told of an edge: how many seconds behind the start, whether by a vote, how far behind it the
+/// stamp puts an event half a second behind the true edge, and how far off that may be.
+fn row(keeper: &Timekeeper<FlowPort>, beat: &Beat, edge_us: u32) -> (u32, bool, u32, u32) {
     let second = match beat.report.announce {
         Some(utc) => utc.sod.wrapping_sub(START.sod),
         None => 0,
     };
-    let offset_us = match keeper.stamp(edge_us.wrapping_add(500_000)) {
-        Some(stamp) => stamp.offset_us,
-        None => 0,
+    let (offset_us, bound_us) = match keeper.stamp(edge_us.wrapping_add(500_000)) {
+        Some(stamp) => (stamp.offset_us, stamp.bound_us),
+        None => (0, 0),
     };
-    (second, beat.report.cause == Cause::Voted, offset_us)
+    let is_voted = beat.report.cause == Cause::Voted;
+    (second, is_voted, offset_us, bound_us)
 }
 
-/// Frames end 0.5 ms before their edge by the earlier line. From the 9th edge to the 12th none comes,
-/// and the counter falls behind by 0.1 ms each.
-fn expected(edge: u32) -> (u32, bool, u32) {
+/// Frames end 0.401 ms before their edge by the earlier line and 0.399 ms behind it by the later one,
+/// since their last element is 1 us longer than 10 ms: the edge is told 1 us before it. From the 9th
+/// edge to the 12th no frame comes, and the counter falls behind by 0.1 ms each.
+fn expected(edge: u32) -> (u32, bool, u32, u32) {
     match edge {
-        1 | 2 => (0, false, 0),
-        9 => (9, false, 500_600),
-        10 => (10, false, 500_700),
-        11 => (11, false, 500_800),
-        12 => (12, false, 500_900),
-        _ => (edge, true, 500_500),
+        1 | 2 => (0, false, 0, 0),
+        9 => (9, false, 500_101, 950),
+        10 => (10, false, 500_201, 1_050),
+        11 => (11, false, 500_301, 1_150),
+        12 => (12, false, 500_401, 1_250),
+        _ => (edge, true, 500_001, 850),
     }
 }
 
@@ -96,6 +98,7 @@ fn it_locks_holds_and_comes_back(rt: HostRuntime) -> Result<(), Fail> {
         rules,
         LeapTable::empty(),
         Redundancy::Three,
+        nearest_within(450),
         100,
     ) else {
         return Err(Fail::from("no timekeeper"));
@@ -119,6 +122,18 @@ fn it_locks_holds_and_comes_back(rt: HostRuntime) -> Result<(), Fail> {
     keeper.restart();
     assert!(rt; keeper.tick(BEGIN_US).is_none() && keeper.stamp(BEGIN_US).is_none());
     Ok(())
+}
+
+#[test]
+fn lines_are_within_1_to_450_us(rt: HostRuntime) {
+    for us in [0, 451, u32::MAX] {
+        assert!(rt; Within::new(us).is_none());
+    }
+    for us in [1, 10, 450] {
+        assert!(rt; nearest_within(us).us() == us);
+        assert!(rt; Within::new(us).is_some());
+    }
+    assert!(rt; nearest_within(0).us() == 1 && nearest_within(451).us() == 450);
 }
 
 #[test]

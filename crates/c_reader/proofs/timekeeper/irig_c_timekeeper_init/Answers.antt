@@ -1,4 +1,4 @@
-use Rattle.std.proofs.Common.{rules, ◌≡◌, ◌∙◌, ℕ, None, sym, ap, subst, refl, inl}
+use Rattle.std.proofs.Common.{rules, ◌≡◌, ◌∙◌, ℕ, ◌+◌, None, sym, ap, subst, refl, arith, inl}
 use Rattle.irig_timekeeper.specs.Keeping.{new_state}
 use Rattle.irig_timekeeper.specs.Refusals.{clock_fault}
 use Rattle.c_numbers.specs.declared.setup.IrigSetup.{IrigSetup}
@@ -9,7 +9,8 @@ use Rattle.c_numbers.specs.Setups.{limits_in, rules_in, reader_rules_in, IsSetup
 use Rattle.c_keeper.specs.CheckWord.{check_of}
 use Rattle.c_keeper.specs.Lines.{lines_in}
 use Rattle.c_keeper.specs.Lives.{made_in}
-use Rattle.c_keeper.specs.Timekeepers.{clock_in}
+use Rattle.c_keeper.specs.declared.timekeeper.IrigWires.{IrigWires}
+use Rattle.c_keeper.specs.Timekeepers.{clock_in, AreWires}
 use Rattle.c_keeper.proofs.LivedLaws.{lived_new}
 use Rattle.c_keeper.proofs.ValueLaws.{none_announced}
 use Rattle.c_reader.proofs.timekeeper.irig_c_timekeeper_init.Goals as goal
@@ -20,7 +21,8 @@ returns-clause-fresh c done =
     let q = c.forget.new.timekeeper in
     let new = c.forget.ensures in
     let is_setup : IsSetup c.args.setup.now = search rules in
-    let steady : clock_fault (reader_rules_in c.args.setup.now) c.args.drift_us ≡ None = search rules in
+    let wires : AreWires c.args.wires.now = search rules in
+    let steady : clock_fault (reader_rules_in c.args.setup.now) c.args.wires.now.drift_us ≡ None = search rules in
     record {
       rules = ap (λ (s : IrigSetup). rules_in s) new.setup;
       limits = ap (λ (s : IrigSetup). limits_in s) new.setup;
@@ -30,8 +32,10 @@ returns-clause-fresh c done =
       state = new.state ∙ ap (λ (s : IrigSetup). new_state (lines_in (limits_in s) (rules_in s) q.lines)) new.setup;
       accepted = record {
         setup = subst (λ (s : IrigSetup). IsSetup s) (sym new.setup) is_setup;
-        steady = ap (λ (s : IrigSetup). clock_fault (reader_rules_in s) q.drift_us) new.setup
-            ∙ (ap (λ (d : ℕ). clock_fault (reader_rules_in c.args.setup.now) d) new.drift ∙ steady);
+        wires = subst AreWires (sym new.wires) wires;
+        steady = ap (λ (s : IrigSetup). clock_fault (reader_rules_in s) q.wires.drift_us) new.setup
+            ∙ (ap (λ (w : IrigWires). clock_fault (reader_rules_in c.args.setup.now) w.drift_us) new.wires ∙ steady);
+        bound = omega (arith, new.bound);
         is_state = inl (ap (λ (s : IrigState). s.kind) new.is_state);
         last = none_announced q.last new.last;
         before = none_announced q.before new.before;
@@ -44,6 +48,6 @@ pub returns-clause-lived : goal.returns-clause-lived
 returns-clause-lived c done =
     let q = c.forget.new.timekeeper in
     let new = c.forget.ensures in
-    let made = made_in c.args.setup.now c.args.table.now c.args.drift_us in
+    let made = made_in c.args.setup.now c.args.table.now c.args.wires.now in
     let clock : clock_in (record q { check = c.check_of-timekeeper.result }) ≡ made.clock = search rules in
     lived_new _ made _ new.lines clock (returns-clause-fresh c done)

@@ -1,4 +1,4 @@
-use Rattle.std.proofs.Common.{◌≡◌, ◌∙◌, ◌∷◌, ◌++◌, ℕ, Bool, true, false, List, Option, sym, ap, subst, refl}
+use Rattle.std.proofs.Common.{◌≡◌, ◌∙◌, ◌∷◌, ◌++◌, ℕ, Bool, true, false, List, Option, sym, ap, subst, refl, arith, ◌+◌}
 use Rattle.irig_sync.specs.Lines.{Pulse}
 use Rattle.irig_reader.specs.declared.report.Report.{Report}
 use Rattle.irig_timekeeper.specs.declared.clock.Beat.{Beat}
@@ -15,7 +15,7 @@ use Rattle.c_keeper.specs.CheckWord.{check_of}
 use Rattle.c_keeper.specs.Lines.{frames_in}
 use Rattle.c_keeper.specs.Lives.Moment.{Ticked}
 use Rattle.c_keeper.specs.Seconds.{IsSecondOf}
-use Rattle.c_keeper.specs.Timekeepers.{answer_in, clock_in, clock_state_in}
+use Rattle.c_keeper.specs.Timekeepers.{answer_in, clock_in, clock_state_in, AreWires}
 use Rattle.c_keeper.proofs.AbsentLaws.{all_heard, pulses_there}
 use Rattle.c_keeper.proofs.AnnouncedLaws.{has_announced, has_announced_by_wait}
 use Rattle.c_keeper.proofs.LivedLaws.{lived_tick}
@@ -55,13 +55,15 @@ returns-clause-after c k h =
     record {
       rules = ap (λ (s : IrigSetup). rules_in s) new.setup ∙ h.rules;
       limits = ap (λ (s : IrigSetup). limits_in s) new.setup ∙ h.limits;
-      clock = clock_as t q new.setup new.drift ∙ h.clock;
+      clock = clock_as t q new.setup new.wires ∙ h.clock;
       table = ap (λ (x : IrigTable). table_in x) new.table ∙ h.table;
       heard = new.heard k.heard h.heard;
       state = new.stands ∙ stands_as t k c.args.now_us h;
       accepted = record {
         setup = subst (λ (s : IrigSetup). IsSetup s) (sym new.setup) h.accepted.setup;
-        steady = steady_as t q new.setup new.drift h.accepted.steady;
+        wires = subst AreWires (sym new.wires) h.accepted.wires;
+        steady = steady_as t q new.setup new.wires h.accepted.steady;
+        bound = new.bound;
         is_state = new.is_state;
         last = new.last;
         before = new.before;
@@ -71,19 +73,31 @@ returns-clause-after c k h =
     }
 
 pub returns-clause-truth : goal.returns-clause-truth
-returns-clause-truth c t d edges now pulses u done clock steady sound some told voted says =
+returns-clause-truth c t edges now pulses u done clock steady sound some told voted says =
     let numbers = c.args.timekeeper.now in
-    let IsTrue : List Pulse → Type 0 = IsTrueLately (rules_in numbers.setup) t edges now in
-    let heard = all_heard IsTrue numbers now pulses (λ ps is. record { line = is.line; next = is.next; is_line = is.is_line; are = tt }) (c.is_accepted.ensures.0 c.if-not-is_accepted.false).absent some in
+    let accepted = c.is_accepted.ensures.0 c.if-not-is_accepted.false in
+    let exact : numbers.wires.within_us ≡ (clock_in numbers).within.us = omega (arith, accepted.wires.0, accepted.wires.1.0) in
+    let IsTrue : List Pulse → Type 0 = IsTrueLately numbers.wires.within_us (rules_in numbers.setup) t edges now in
+    let heard = all_heard IsTrue numbers now pulses (λ ps is. record { line = is.line; next = is.next; is_line = is.is_line; are = tt }) accepted.absent some in
     let k : Keeping = record { rules = rules_in numbers.setup; limits = limits_in numbers.setup; clock = clock_in numbers; table = table_in numbers.table; heard = nothing_heard; state = clock_state_in numbers } in
     let found = beat_of c.tick_accepted.result (answer_in numbers c.args.now_us) c.tick_accepted.ensures.said told in
-    let beat = found.0 in (
+    let beat = found.0 in
+    let is_told = tick_voted IsTrue t edges k 0 0 (omega arith) now (pulses_there (redundancy_in numbers.setup) pulses) beat u steady
+    (λ end ps claim is frame soon. true_lately k.clock.within k.rules t k.clock.drift_us edges now end ps claim steady (subst (λ (w : ℕ). IsTrueLately w (rules_in numbers.setup) t edges now ps) exact is) frame soon) sound heard
+    (ap (λ (x : ℕ). answer_in numbers x) (sym clock) ∙ found.1.is)
+    (ap (λ (r : Report). r.cause) (sym found.1.told.report) ∙ voted)
+    (ap (λ (r : Report). r.announce) (sym found.1.told.report) ∙ says) in (
       beat,
       found.1.told,
-      tick_voted (IsTrueLately k.rules t edges now) t edges 549 549 k now (pulses_there (redundancy_in numbers.setup) pulses) beat u (λ end ps claim is frame soon. true_lately k.rules t d edges now end ps claim steady is frame soon) sound heard
-          (ap (λ (x : ℕ). answer_in numbers x) (sym clock) ∙ found.1.is)
-          (ap (λ (r : Report). r.cause) (sym found.1.told.report) ∙ voted)
-          (ap (λ (r : Report). r.announce) (sym found.1.told.report) ∙ says),
+      record {
+        m = is_told.m;
+        edge = is_told.edge;
+        clock = is_told.clock;
+        near = record { least = omega (arith, is_told.near.least, found.1.told.bound_us); most = omega (arith, is_told.near.most, found.1.told.bound_us) };
+        come = is_told.come;
+        soon = is_told.soon;
+        truth = is_told.truth;
+      },
     )
 
 pub returns-then-not-is_accepted-clause-lived : goal.returns-then-not-is_accepted-clause-lived
@@ -108,14 +122,14 @@ returns-clause-lived c made past now h clock =
     c.tick_accepted.ensures.said c.tick_accepted.ensures.voices (returns-clause-second c) (returns-clause-after c) h clock
 
 pub returns-clause-life : goal.returns-clause-life
-returns-clause-life c t edges made start now past u h clock = tells_truly IsTrueLately 549 549 whole_lines _ t edges made start now past c.tick_accepted.result u (returns-clause-lived c made past now h clock)
+returns-clause-life c t edges made start now past u h clock = tells_truly (IsTrueLately made.clock.within.us) 0 0 _ t edges made (whole_lines made.clock.within) start now past c.tick_accepted.result u (returns-clause-lived c made past now h clock)
 
 pub returns-clause-order : goal.returns-clause-order
 returns-clause-order c t edges made start before now earlier later first u v h clock =
-    tells_in_order IsTrueLately 549 549 whole_lines _ t edges made start before now earlier later first c.tick_accepted.result u v (returns-clause-lived c made (later ++ (Ticked before first ∷ earlier)) now h clock)
+    tells_in_order (IsTrueLately made.clock.within.us) 0 0 _ t edges made (whole_lines made.clock.within) start before now earlier later first c.tick_accepted.result u v (returns-clause-lived c made (later ++ (Ticked before first ∷ earlier)) now h clock)
 
 pub returns-clause-calm : goal.returns-clause-calm
-returns-clause-calm c t edges made start now past h clock = tells_calmly IsTrueLately 549 549 whole_lines _ t edges made start now past c.tick_accepted.result (returns-clause-lived c made past now h clock)
+returns-clause-calm c t edges made start now past h clock = tells_calmly (IsTrueLately made.clock.within.us) 0 0 _ t edges made (whole_lines made.clock.within) start now past c.tick_accepted.result (returns-clause-lived c made past now h clock)
 
 pub returns-clause-apart : goal.returns-clause-apart
 returns-clause-apart c made start before now earlier later first h clock =
@@ -148,15 +162,15 @@ returns-then-not-is_accepted-clause-announces_by_wait c t edges made start m lat
 
 pub returns-clause-faulty : goal.returns-clause-faulty
 returns-clause-faulty c t edges made start now past u h clock =
-    tells_truly IsTrueOrFaulty 2549 1549 faulty_lines _ t edges made start now past c.tick_accepted.result u (returns-clause-lived c made past now h clock)
+    tells_truly (IsTrueOrFaulty made.clock.within.us) 2002 1000 _ t edges made (faulty_lines made.clock.within) start now past c.tick_accepted.result u (returns-clause-lived c made past now h clock)
 
 pub returns-clause-faulty_order : goal.returns-clause-faulty_order
 returns-clause-faulty_order c t edges made start before now earlier later first u v h clock =
-    tells_in_order IsTrueOrFaulty 2549 1549 faulty_lines _ t edges made start before now earlier later first c.tick_accepted.result u v (returns-clause-lived c made (later ++ (Ticked before first ∷ earlier)) now h clock)
+    tells_in_order (IsTrueOrFaulty made.clock.within.us) 2002 1000 _ t edges made (faulty_lines made.clock.within) start before now earlier later first c.tick_accepted.result u v (returns-clause-lived c made (later ++ (Ticked before first ∷ earlier)) now h clock)
 
 pub returns-clause-faulty_calm : goal.returns-clause-faulty_calm
 returns-clause-faulty_calm c t edges made start now past h clock =
-    tells_calmly IsTrueOrFaulty 2549 1549 faulty_lines _ t edges made start now past c.tick_accepted.result (returns-clause-lived c made past now h clock)
+    tells_calmly (IsTrueOrFaulty made.clock.within.us) 2002 1000 _ t edges made (faulty_lines made.clock.within) start now past c.tick_accepted.result (returns-clause-lived c made past now h clock)
 
 pub returns-clause-announces_by_wait : goal.returns-clause-announces_by_wait
 returns-clause-announces_by_wait c t edges made start m late now moments before u h clock =

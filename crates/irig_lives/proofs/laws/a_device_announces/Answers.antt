@@ -8,6 +8,6 @@ use Rattle.irig_lives.proofs.laws.a_device_announces.Goals as goal
 
 pub returns : goal.returns
 returns _ t edges made start m told calls before u is order some enough risen past heard second =
-    announces (IsTrueLately made.rules t edges) t edges (device_of made) start (begins made.limits made.rules made.clock made.table made.lines start made.fresh) is
-    (λ now end pulses claim is_true frame soon. true_lately made.rules t made.clock.drift_us edges now end pulses claim is.steady is_true frame soon)
+    announces (IsTrueLately made.clock.within.us made.rules t edges) t edges (device_of made) start (begins made.limits made.rules made.clock made.table made.lines start made.fresh) is
+    (λ now end pulses claim is_true frame soon. true_lately made.clock.within made.rules t made.clock.drift_us edges now end pulses claim is.steady is_true frame soon)
     refl m some enough before told risen past calls heard order u second

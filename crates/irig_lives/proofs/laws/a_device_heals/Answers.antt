@@ -10,25 +10,25 @@ use Rattle.irig_lives.proofs.laws.a_device_heals.Goals as goal
 
 pub returns-clause-life : goal.returns-clause-life
 returns-clause-life _ t edges made start mend now earlier later vote beat then u is order lately truth voted answer answers says =
-    healed (IsTrueLately made.rules t edges) t edges 549 549 (device_of made) start (begins made.limits made.rules made.clock made.table made.lines start made.fresh) tt is (omega arith)
-    (λ now end pulses claim is_true frame soon. true_lately made.rules t made.clock.drift_us edges now end pulses claim is.steady is_true frame soon)
-    earlier later mend now vote beat then u order lately truth voted answer answers says
+    healed (IsTrueLately made.clock.within.us made.rules t edges) t edges 0 0 (device_of made) start (begins made.limits made.rules made.clock made.table made.lines start made.fresh) tt is (omega arith)
+    (λ now end pulses claim is_true frame soon. true_lately made.clock.within made.rules t made.clock.drift_us edges now end pulses claim is.steady is_true frame soon)
+    (omega arith) earlier later mend now vote beat then u order lately truth voted answer answers says
 
 pub returns-clause-order : goal.returns-clause-order
 returns-clause-order _ t edges made start before now earlier later beat then u v h order since answer says answers again =
-    in_order (IsTrueLately made.rules t edges) t edges 549 549 (device_of made) start (begins made.limits made.rules made.clock made.table made.lines start made.fresh) tt h.is (omega arith)
-    (λ now end pulses claim is_true frame soon. true_lately made.rules t made.clock.drift_us edges now end pulses claim h.is.steady is_true frame soon)
+    in_order (IsTrueLately made.clock.within.us made.rules t edges) t edges 0 0 (device_of made) start (begins made.limits made.rules made.clock made.table made.lines start made.fresh) tt h.is (omega arith)
+    (λ now end pulses claim is_true frame soon. true_lately made.clock.within made.rules t made.clock.drift_us edges now end pulses claim h.is.steady is_true frame soon)
     h.earlier h.mend h.vote h.beat h.truth h.voted h.answer h.later before earlier later now beat then u v h.are h.since order since answer says answers again
 
 pub returns-clause-calm : goal.returns-clause-calm
 returns-clause-calm _ t edges made start now calls beat h order here answer =
-    calm_since (IsTrueLately made.rules t edges) t edges 549 549 (device_of made) start (begins made.limits made.rules made.clock made.table made.lines start made.fresh) tt h.is (omega arith)
-    (λ now end pulses claim is_true frame soon. true_lately made.rules t made.clock.drift_us edges now end pulses claim h.is.steady is_true frame soon)
+    calm_since (IsTrueLately made.clock.within.us made.rules t edges) t edges 0 0 (device_of made) start (begins made.limits made.rules made.clock made.table made.lines start made.fresh) tt h.is (omega arith)
+    (λ now end pulses claim is_true frame soon. true_lately made.clock.within made.rules t made.clock.drift_us edges now end pulses claim h.is.steady is_true frame soon)
     h.earlier h.mend h.vote h.beat h.truth h.voted h.answer h.later calls now h.are h.since order here beat answer
 
 pub returns-clause-stamps : goal.returns-clause-stamps
 returns-clause-stamps _ t edges made start edge time now calls stamp h at when order past young e =
     let ordered = order_before start made.clock.redundancy h.later (Tick h.mend ∷ h.earlier) (subst (AreInOrder start made.clock.redundancy) h.are h.order) in
-    stamped_since made.limits made.rules made.clock made.table made.lines start made.fresh (IsTrueLately made.rules t edges) t edges 549 549 0 h.is (omega arith) (omega arith) (omega arith)
-    (λ now end pulses claim is_true frame soon. true_lately made.rules t made.clock.drift_us edges now end pulses claim h.is.steady is_true frame soon)
+    stamped_since made.limits made.rules made.clock made.table made.lines start made.fresh (IsTrueLately made.clock.within.us made.rules t edges) t edges 0 0 0 h.is (omega arith) (omega arith) (omega arith)
+    (λ now end pulses claim is_true frame soon. true_lately made.clock.within made.rules t made.clock.drift_us edges now end pulses claim h.is.steady is_true frame soon)
     h.earlier h.mend h.vote h.beat h.truth ordered h.voted h.answer edge time now at when past young h.later calls h.are order h.since stamp e

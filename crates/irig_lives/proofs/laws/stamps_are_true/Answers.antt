@@ -7,8 +7,8 @@ use Rattle.irig_lives.proofs.laws.stamps_are_true.Goals as goal
 
 pub returns-clause-stamp : goal.returns-clause-stamp
 returns-clause-stamp _ t edges made start time now calls stamp is order truth past young e =
-    stamped made.limits made.rules made.clock made.table made.lines start made.fresh t edges 549 549 0 is (omega arith) (omega arith) (IsTrueLately made.rules t edges) (omega arith)
-    (λ now end pulses claim is_true frame soon. true_lately made.rules t made.clock.drift_us edges now end pulses claim is.steady is_true frame soon)
+    stamped made.limits made.rules made.clock made.table made.lines start made.fresh t edges 0 0 0 is (omega arith) (omega arith) (IsTrueLately made.clock.within.us made.rules t edges) (omega arith)
+    (λ now end pulses claim is_true frame soon. true_lately made.clock.within made.rules t made.clock.drift_us edges now end pulses claim is.steady is_true frame soon)
     calls time now order truth past young stamp e
 
 pub returns-clause-bound : goal.returns-clause-bound

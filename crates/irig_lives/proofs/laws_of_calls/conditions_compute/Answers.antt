@@ -8,10 +8,10 @@ pub returns-clause-line : goal.returns-clause-line
 returns-clause-line _ = lately_decided
 
 pub returns-clause-lines : goal.returns-clause-lines
-returns-clause-lines _ line edges next f now calls = lines_decided _ _ f (λ at pulses. lately_decided line edges at next pulses) now calls
+returns-clause-lines _ within line edges next f now calls = lines_decided _ _ f (λ at pulses. lately_decided within line edges at next pulses) now calls
 
 pub returns-clause-ticks : goal.returns-clause-ticks
-returns-clause-ticks _ line edges next f calls = ticks_decided _ _ f (λ at pulses. lately_decided line edges at next pulses) calls
+returns-clause-ticks _ within line edges next f calls = ticks_decided _ _ f (λ at pulses. lately_decided within line edges at next pulses) calls
 
 pub returns-clause-over : goal.returns-clause-over
-returns-clause-over _ line edges next f calls before = over_decided _ _ f (λ at pulses. lately_decided line edges at next pulses) calls before
+returns-clause-over _ within line edges next f calls before = over_decided _ _ f (λ at pulses. lately_decided within line edges at next pulses) calls before

@@ -9,28 +9,28 @@ use Rattle.irig_timekeeper.proofs.StampLaws.{stamped}
 use Rattle.irig_lives.proofs.laws_of_faults.lines_with_faults_tell_truly.Goals as goal
 
 pub returns-clause-kept : goal.returns-clause-kept
-returns-clause-kept _ rules t d now end edges pulses claim steady is frame soon = faults_are_true rules t d edges steady now end pulses claim is frame soon
+returns-clause-kept _ within rules t d now end edges pulses claim steady is frame soon = faults_are_true within rules t d edges steady now end pulses claim is frame soon
 
 pub returns-clause-life : goal.returns-clause-life
 returns-clause-life _ t edges made start now calls beat u lives answer says =
-    device_true made.limits made.rules made.clock made.table made.lines start made.fresh (IsTrueButForFaults made.rules t edges) t edges 2549 1549 lives.is (omega arith) (faults_tell_truly made.rules t made.clock.drift_us edges lives.is.steady) calls now beat u lives.order lives.truth answer says
+    device_true made.limits made.rules made.clock made.table made.lines start made.fresh (IsTrueButForFaults made.clock.within.us made.rules t edges) t edges 2002 1000 lives.is (omega arith) (faults_tell_truly made.clock.within made.rules t made.clock.drift_us edges lives.is.steady) calls now beat u lives.order lives.truth answer says
 
 pub returns-clause-either : goal.returns-clause-either
 returns-clause-either _ t edges made start now calls beat u lives answer says =
-    device_true made.limits made.rules made.clock made.table made.lines start made.fresh (IsTrueOrFaulty made.rules t edges) t edges 2549 1549 lives.is (omega arith) (either_tells_truly made.rules t made.clock.drift_us edges lives.is.steady) calls now beat u lives.order lives.truth answer says
+    device_true made.limits made.rules made.clock made.table made.lines start made.fresh (IsTrueOrFaulty made.clock.within.us made.rules t edges) t edges 2002 1000 lives.is (omega arith) (either_tells_truly made.clock.within made.rules t made.clock.drift_us edges lives.is.steady) calls now beat u lives.order lives.truth answer says
 
 pub returns-clause-order : goal.returns-clause-order
 returns-clause-order _ t edges made start before now earlier later beat then u v lives answer says answers again =
-    device_in_order made.limits made.rules made.clock made.table made.lines start made.fresh (IsTrueButForFaults made.rules t edges) t edges 2549 1549 lives.is (omega arith) (faults_tell_truly made.rules t made.clock.drift_us edges lives.is.steady) earlier later before now beat then u v lives.order lives.truth answer says answers again
+    device_in_order made.limits made.rules made.clock made.table made.lines start made.fresh (IsTrueButForFaults made.clock.within.us made.rules t edges) t edges 2002 1000 lives.is (omega arith) (faults_tell_truly made.clock.within made.rules t made.clock.drift_us edges lives.is.steady) earlier later before now beat then u v lives.order lives.truth answer says answers again
 
 pub returns-clause-calm : goal.returns-clause-calm
 returns-clause-calm _ t edges made start now calls beat lives answer =
-    device_calm made.limits made.rules made.clock made.table made.lines start made.fresh (IsTrueButForFaults made.rules t edges) t edges 2549 1549 lives.is (omega arith) (faults_tell_truly made.rules t made.clock.drift_us edges lives.is.steady) calls now beat lives.order lives.truth answer
+    device_calm made.limits made.rules made.clock made.table made.lines start made.fresh (IsTrueButForFaults made.clock.within.us made.rules t edges) t edges 2002 1000 lives.is (omega arith) (faults_tell_truly made.clock.within made.rules t made.clock.drift_us edges lives.is.steady) calls now beat lives.order lives.truth answer
 
 pub returns-clause-stamps : goal.returns-clause-stamps
 returns-clause-stamps _ t edges made start time now calls stamp is order truth past young e =
-    stamped made.limits made.rules made.clock made.table made.lines start made.fresh t edges 2549 1549 2000 is (omega arith) (omega arith) (IsTrueOrFaulty made.rules t edges) (omega arith)
-    (either_tells_truly made.rules t made.clock.drift_us edges is.steady) calls time now order truth past young stamp e
+    stamped made.limits made.rules made.clock made.table made.lines start made.fresh t edges 2002 1000 2002 is (omega arith) (omega arith) (IsTrueOrFaulty made.clock.within.us made.rules t edges) (omega arith)
+    (either_tells_truly made.clock.within made.rules t made.clock.drift_us edges is.steady) calls time now order truth past young stamp e
 
 pub returns-clause-half : goal.returns-clause-half
 returns-clause-half _ t d edges rules table far is few =
@@ -47,4 +47,4 @@ pub returns-clause-lossy : goal.returns-clause-lossy
 returns-clause-lossy _ = checked_is_line
 
 pub returns-clause-whole : goal.returns-clause-whole
-returns-clause-whole _ rules t line edges now k pulses checked are = whole_is_true line edges rules t now k pulses checked are
+returns-clause-whole _ within rules t line edges now k pulses checked are = whole_is_true within line edges rules t now k pulses checked are

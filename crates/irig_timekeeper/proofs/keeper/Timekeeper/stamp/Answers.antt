@@ -13,6 +13,6 @@ pub returns-clause-truth : goal.returns-clause-truth
 returns-clause-truth g c t edges made start time now calls stamp h clock well order past young told =
     let k : Keeping = life_of (made_with made h.lines h.fresh) calls in
     let value = c.stamp_of.ensures.value ∙ (ap (λ (s : ClockState). stamp_of s.last s.before c.args.time_us) h.is.state ∙ ap (stamp_at k) clock) in
-    stamped made.limits made.rules made.clock made.table h.lines start h.fresh t edges 549 549 0 well.is (omega arith) (omega arith) (IsTrueLately made.rules t edges) (omega arith)
-    (λ now end pulses claim is frame soon. true_lately made.rules t made.clock.drift_us edges now end pulses claim well.is.steady is frame soon)
+    stamped made.limits made.rules made.clock made.table h.lines start h.fresh t edges 0 0 0 well.is (omega arith) (omega arith) (IsTrueLately made.clock.within.us made.rules t edges) (omega arith)
+    (λ now end pulses claim is frame soon. true_lately made.clock.within made.rules t made.clock.drift_us edges now end pulses claim well.is.steady is frame soon)
     calls time now order well.truth past young stamp (sym value ∙ told)

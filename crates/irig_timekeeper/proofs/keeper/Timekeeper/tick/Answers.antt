@@ -1,6 +1,6 @@
 use Rattle.std.proofs.Common.{◌∙◌, sym, ap, arith}
 use Rattle.irig_time.specs.Tables.{TableValue}
-use Rattle.irig_timekeeper.specs.declared.clock.ClockRules.{ClockRules}
+use Rattle.irig_timekeeper.specs.declared.setup.ClockRules.{ClockRules}
 use Rattle.irig_timekeeper.specs.declared.clock.ClockState.{ClockState}
 use Rattle.irig_timekeeper.specs.Clock.{clock_answer}
 use Rattle.irig_timekeeper.specs.Keeping.{Keeping, answer_at}
@@ -23,6 +23,6 @@ returns-clause-life g c t edges made start now calls beat u h clock well told sa
     ∙ (ap (λ (rules : ClockRules). clock_answer rules self.table self.state c.args.now_us) h.is.clock
     ∙ (ap (λ (table : TableValue). clock_answer k.clock table self.state c.args.now_us) h.is.table
     ∙ (ap (λ (s : ClockState). clock_answer k.clock k.table s c.args.now_us) h.is.state ∙ ap (answer_at k) clock))) in
-    device_true made.limits made.rules made.clock made.table h.lines start h.fresh (IsTrueLately made.rules t edges) t edges 549 549 well.is (omega arith)
-    (λ now end pulses claim is frame soon. true_lately made.rules t made.clock.drift_us edges now end pulses claim well.is.steady is frame soon)
+    device_true made.limits made.rules made.clock made.table h.lines start h.fresh (IsTrueLately made.clock.within.us made.rules t edges) t edges 0 0 well.is (omega arith)
+    (λ now end pulses claim is frame soon. true_lately made.clock.within made.rules t made.clock.drift_us edges now end pulses claim well.is.steady is frame soon)
     calls now beat u well.order well.truth (sym value ∙ told) says

@@ -1,0 +1,111 @@
+-- How far off an edge may lie that a device tells, by what it says, whatever lines carry.
+use Rattle.std.specs.Prelude.{◌==◌, ◌&&◌, count_by, nat_lt, min}
+use Rattle.std.proofs.Common.{◌≡◌, ◌∙◌, ℕ, ◌+◌, ◌-◌, ◌*◌, ◌%◌, ◌^◌, ◌≤◌, Bool, true, false, cond, List, [], ◌∷◌, Option, Some, None, refl, sym, ap, subst, arith, inl, inr}
+use Rattle.std.proofs.lemmas.Bool.{cases_Bool, cases_lt}
+use Rattle.irig_reader.specs.declared.rule.Step.{Step}
+use Rattle.irig_timekeeper.specs.declared.lines.KeptClaim.{KeptClaim}
+use Rattle.irig_timekeeper.specs.declared.lines.Lines.{Lines}
+use Rattle.irig_timekeeper.specs.declared.lines.Vote.{Vote}
+use Rattle.irig_timekeeper.specs.declared.clock.Beat.{Beat}
+use Rattle.irig_timekeeper.specs.declared.setup.ClockRules.{ClockRules}
+use Rattle.irig_timekeeper.specs.declared.clock.ClockState.{ClockState}
+use Rattle.irig_vote.specs.Vote.{f_of}
+use Rattle.irig_timekeeper.specs.Exactness.{window_us, vote_us}
+use Rattle.irig_timekeeper.specs.Counting.{edges_to_vote, edges_own}
+use Rattle.irig_timekeeper.specs.Rule.{missed}
+use Rattle.irig_timekeeper.specs.Steps.{is_pulse, all_kept, agrees, ends_by, end_behind, ended_by, agreed, settled}
+use Rattle.irig_timekeeper.specs.Clock.{lasted, bound_of, own_edge, beat_by, step_to, clock_by, answer_by, settled_at}
+use Rattle.irig_timekeeper.specs.Keeping.{Keeping, vote_at, after_tick, answer_at}
+use Rattle.irig_timekeeper.specs.Life.{Call, after_calls}
+use Rattle.irig_timekeeper.specs.Life.Call.{Hear, Tick}
+use Rattle.irig_timekeeper.proofs.AgeLaws.{step_lasts}
+use Rattle.irig_timekeeper.proofs.PartLaws.{agreed_first}
+use Rattle.irig_timekeeper.proofs.VoteLaws.{come}
+
+-- ---- a vote
+
+ended_low : (window f : ℕ) (x : KeptClaim) (all ys : List (Option KeptClaim)) (so_far : ℕ) → ended_by window f x all ys so_far ≤ so_far
+ended_low window f x all [] so_far = omega arith
+ended_low window f x all (y ∷ ys) so_far =
+    let rest = ended_low window f x all ys (cond (agrees window x y && nat_lt f (count_by (ends_by x (end_behind x y)) all)) (min (end_behind x y) so_far) so_far) in
+    let one = either (agrees window x y && nat_lt f (count_by (ends_by x (end_behind x y)) all)) (end_behind x y) in
+    omega (arith, rest, one)
+  where
+    either : (b : Bool) (p : ℕ) → cond b (min p so_far) so_far ≤ so_far
+    either true p = elim (cases_lt p so_far) [
+      | inl less ↦ let is : min p so_far ≡ p = grind (arith, less) in omega (arith, is, less)
+      | inr more ↦ let is : min p so_far ≡ so_far = grind (arith, more) in omega (arith, is)
+    ]
+    either false p = omega arith
+
+pub vote_bound : (c : ClockRules) (lines : Lines) (v : Vote) → agreed c lines ≡ Some v → v.bound_us ≤ vote_us c.within.us c.drift_us
+vote_bound c lines v e =
+    let first = agreed_first c lines v e in
+    let low = ended_low (window_us c.within.us) (f_of c.redundancy) first.0 (all_kept lines) (all_kept lines) (window_us c.within.us) in
+    let bound = ap (λ (x : Vote). x.bound_us) first.2 in
+    omega (arith, bound, low)
+
+-- ---- a tick
+
+-- the last vote's bound is no more than a vote's, and so is what is told, but for the drift of the edges
+-- that the holdover has lasted
+pub record HasBound (c : ClockRules) (new : ClockState) (answer : Option Beat) : Type 0 where
+  pub voted : new.bound_us ≤ vote_us c.within.us c.drift_us
+  pub bound : (b : Beat) → answer ≡ Some b → b.bound_us ≤ vote_us c.within.us c.drift_us + lasted b.report.lock * c.drift_us
+  pub few : (b : Beat) → answer ≡ Some b → lasted b.report.lock ≤ c.reader_rules.holdover
+
+module _ (k : Keeping) (clock : ℕ) where
+  abbrev s : ClockState
+  s = settled_at k.state clock
+
+  abbrev most : ℕ
+  most = vote_us k.clock.within.us k.clock.drift_us
+
+  -- whether it tells an edge or not
+  either : (test : Bool) (waits tells : ClockState) (step : Step) (n edge voted : ℕ) → voted ≤ most → waits.bound_us ≡ voted → tells.bound_us ≡ voted → lasted step.report.lock ≤ k.clock.reader_rules.holdover
+      → HasBound k.clock (cond test waits tells) (cond test None (Some (beat_by k.clock s step n edge voted)))
+  either true waits tells step n edge voted low same then few = record { voted = omega (arith, same, low); bound = λ b e. absurd cc; few = λ b e. absurd cc }
+  either false waits tells step n edge voted low same then few = record {
+    voted = omega (arith, then, low);
+    bound = λ b e.
+        let beat : beat_by k.clock s step n edge voted ≡ b = cc in
+        let bound : b.bound_us ≡ bound_of k.clock.drift_us voted b.report.lock = ap (λ (x : Beat). x.bound_us) (sym beat) ∙ ap (λ (x : Beat). bound_of k.clock.drift_us voted x.report.lock) beat in
+        omega (arith, bound, low);
+    few = λ b e. let beat : beat_by k.clock s step n edge voted ≡ b = cc in subst (λ (x : Beat). lasted x.report.lock ≤ k.clock.reader_rules.holdover) beat few;
+  }
+
+  pub tick_bound : k.state.bound_us ≤ most → HasBound k.clock (after_tick k clock).state (answer_at k clock)
+  tick_bound low = of (vote_at k clock) refl
+    where
+      of : (o : Option Vote) → vote_at k clock ≡ o → HasBound k.clock (clock_by k.clock k.table s clock o) (answer_by k.clock k.table s clock o)
+      of None e =
+          let n = edges_own k.state.edge_us clock in
+          either (n == 0) _ _ (step_to k.clock k.table s n None) (n - 1) (own_edge k.state.edge_us n) k.state.bound_us low refl refl
+          (step_lasts k.clock.reader_rules k.table (missed k.clock.reader_rules k.table (n - 1) k.state.reader) None)
+      of (Some v) e =
+          let n = edges_to_vote k.state.edge_us v.edge_us in
+          either (n == 0) _ _ (step_to k.clock k.table s n (Some v.claim)) (n - 1) v.edge_us v.bound_us
+          (vote_bound k.clock (settled clock k.state.lines) v (come clock (agreed k.clock (settled clock k.state.lines)) v e).0) refl refl
+          (step_lasts k.clock.reader_rules k.table (missed k.clock.reader_rules k.table (n - 1) k.state.reader) (Some v.claim))
+
+-- ---- a life
+
+module _ (new : Keeping) (begins : new.state.bound_us ≤ vote_us new.clock.within.us new.clock.drift_us) where
+  same_clock : (calls : List Call) → (after_calls new calls).clock ≡ new.clock
+  same_clock [] = refl
+  same_clock (Hear port rise width ∷ calls) = elim (cases_Bool (is_pulse width)) [ inl narrow ↦ rw narrow (same_clock calls) | inr wide ↦ rw wide (same_clock calls) ]
+  same_clock (Tick now ∷ calls) = same_clock calls
+
+  -- what a tick behind such calls leaves, if the last vote's bound was no more
+  tick_so : (calls : List Call) (clock : ℕ) → (after_calls new calls).state.bound_us ≤ vote_us new.clock.within.us new.clock.drift_us → HasBound new.clock (after_tick (after_calls new calls) clock).state (answer_at (after_calls new calls) clock)
+  tick_so calls clock =
+      subst (λ (c : ClockRules). (after_calls new calls).state.bound_us ≤ vote_us c.within.us c.drift_us → HasBound c (after_tick (after_calls new calls) clock).state (answer_at (after_calls new calls) clock)) (same_clock calls)
+      (tick_bound (after_calls new calls) clock)
+
+  pub life_bound : (calls : List Call) → (after_calls new calls).state.bound_us ≤ vote_us new.clock.within.us new.clock.drift_us
+  life_bound [] = begins
+  life_bound (Hear port rise width ∷ calls) = elim (cases_Bool (is_pulse width)) [ inl narrow ↦ rw narrow (life_bound calls) | inr wide ↦ rw wide (life_bound calls) ]
+  life_bound (Tick now ∷ calls) = (tick_so calls (now % 2 ^ 32) (life_bound calls)).voted
+
+  pub answer_bound : (calls : List Call) (clock : ℕ) → HasBound new.clock (after_tick (after_calls new calls) clock).state (answer_at (after_calls new calls) clock)
+  answer_bound calls clock = tick_so calls clock (life_bound calls)
