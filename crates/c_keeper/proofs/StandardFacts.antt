@@ -20,9 +20,9 @@ abbrev all_silent : IrigLines
 all_silent = record { a = silent; b = silent; c = silent; d = silent; e = silent }
 
 -- the weights of the first number of the first line, of the last one of the last, and of a second's
-pub known_weights : (weighted 323 (lines_numbers (record all_silent { a = record silent { sync = record { rise_us = 1000; place = 0; was_marker = 0 } } })) ≡ 323000)
-    × (weighted 323 (lines_numbers (record all_silent { e = record silent { has_frame = 1 } })) ≡ 471)
-    × (weighted 303 (announced_numbers (record { day = 1; sod = 0; edge_us = 0; bound_us = 0; is_told = 1000 })) ≡ 311303)
+pub known_weights : (weighted 331 (lines_numbers (record all_silent { a = record silent { sync = record { rise_us = 1000; place = 0; was_marker = 0 } } })) ≡ 331000)
+    × (weighted 331 (lines_numbers (record all_silent { e = record silent { has_frame = 1 } })) ≡ 479)
+    × (weighted 311 (announced_numbers (record { day = 1; sod = 0; edge_us = 0; bound_us = 0; is_told = 1000 })) ≡ 319311)
 known_weights = (refl, refl, refl)
 
 -- the line of port 3, and the last one for a port that is not there

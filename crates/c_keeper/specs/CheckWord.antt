@@ -15,6 +15,7 @@ announced_numbers a = a.day ∷ a.sod ∷ a.edge_us ∷ a.bound_us ∷ a.is_told
 abbrev pub clock_numbers : IrigTimekeeper → List ℕ
 clock_numbers t =
     t.wires.within_us ∷ t.wires.drift_us ∷ t.edge_us ∷ t.moved ∷ t.has_edge ∷ t.bound_us
+    ∷ t.begin_us ∷ t.long_us ∷ t.strays ∷ t.has_interval
     ∷ announced_numbers t.last ++ announced_numbers t.before
 
 -- the numbers of a line

@@ -47,6 +47,7 @@ nothing_told = record {
   bound_us = 0;
   missed = 0;
   moved = 0;
+  strays = 0;
   report = nothing_reported;
 }
 

@@ -1,5 +1,5 @@
 -- What it is for the numbers that C holds to be those of a timekeeper.
-use Rattle.std.specs.Prelude.{◌≡◌, ℕ, ◌<◌, ◌≤◌, ◌==◌, if◌then◌else◌, Bool, false, List, count_by, Option, Some, None, IfSome}
+use Rattle.std.specs.Prelude.{◌≡◌, ◌⊎◌, ℕ, ◌<◌, ◌≤◌, ◌*◌, ◌==◌, if◌then◌else◌, Bool, false, List, count_by, Option, Some, None, IfSome}
 use Rattle.std.specs.List.{range_with_len}
 use Rattle.irig_sync.specs.Lines.{Pulse}
 use Rattle.irig_time.specs.declared.claim.Claim.{Claim}
@@ -8,12 +8,13 @@ use Rattle.irig_vote.specs.Vote.{f_of, ports_in}
 use Rattle.irig_timekeeper.specs.declared.clock.Beat.{Beat}
 use Rattle.irig_timekeeper.specs.declared.setup.ClockRules.{ClockRules}
 use Rattle.irig_timekeeper.specs.declared.clock.ClockState.{ClockState}
+use Rattle.irig_timekeeper.specs.declared.interval.Interval.{Interval}
 use Rattle.irig_timekeeper.specs.declared.stamp.Announced.{Announced}
 use Rattle.irig_timekeeper.specs.declared.stamp.Stamp.{Stamp}
 use Rattle.irig_timekeeper.specs.Clock.{clock_after, clock_answer, clock_vote, clock_wait}
 use Rattle.irig_timekeeper.specs.Keeping.{Keeping}
 use Rattle.irig_timekeeper.specs.Refusals.{clock_fault, within_of}
-use Rattle.irig_timekeeper.specs.Exactness.{most_within_us, most_drift_us, most_vote_us}
+use Rattle.irig_timekeeper.specs.Exactness.{most_within_us, most_drift_us, most_vote_us, most_held_us}
 use Rattle.irig_timekeeper.specs.Stamps.{stamp_of}
 use Rattle.irig_timekeeper.specs.Lines.{IfKept, IsInTurnOf}
 use Rattle.irig_timekeeper.specs.Steps.{claim_kept, line_at}
@@ -53,6 +54,12 @@ clock_in t = record {
 abbrev pub edge_in : IrigTimekeeper → Option ℕ
 edge_in t = if t.has_edge == 0 then None else Some t.edge_us
 
+-- in which the true edge lies by all votes, if that is known
+abbrev pub interval_in : IrigTimekeeper → Option Interval
+interval_in t =
+    if t.has_interval == 0 then None
+    else Some (record { begin_us = t.begin_us; long_us = t.long_us })
+
 -- where its clock stands
 abbrev pub clock_state_in : IrigTimekeeper → ClockState
 clock_state_in t = record {
@@ -60,6 +67,8 @@ clock_state_in t = record {
   reader = state_in t.state;
   edge_us = edge_in t;
   bound_us = t.bound_us;
+  interval = interval_in t;
+  strays = t.strays;
   moved = t.moved;
   last = announced_in t.last;
   before = announced_in t.before;
@@ -69,12 +78,17 @@ clock_state_in t = record {
 abbrev pub AreWires : IrigWires → Type 0
 AreWires w = (1 ≤ w.within_us) × ((w.within_us ≤ most_within_us) × (w.drift_us ≤ most_drift_us))
 
+-- there is no such interval, or it is so short that seconds can be counted by it
+abbrev pub HasShortInterval : IrigTimekeeper → Type 0
+HasShortInterval t = (t.has_interval ≡ 0) ⊎ (t.long_us ≤ 2 * most_held_us)
+
 -- its calls accept the numbers
 pub record IsAccepted (t : IrigTimekeeper) : Type 0 where
   pub setup : IsSetup t.setup
   pub wires : AreWires t.wires
   pub steady : clock_fault (reader_rules_in t.setup) t.wires.drift_us ≡ None
   pub bound : t.bound_us ≤ most_vote_us
+  pub known : HasShortInterval t
   pub is_state : IsState t.setup.lock_after t.state
   pub last : IsAnnounced t.last
   pub before : IsAnnounced t.before

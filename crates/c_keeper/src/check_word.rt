@@ -32,8 +32,12 @@ fn clock_sum(timekeeper: &IrigTimekeeper) -> u64
         + 297 * u64::from(timekeeper.moved)
         + 299 * u64::from(timekeeper.has_edge)
         + 301 * u64::from(timekeeper.bound_us)
-        + announced_sum(303, &timekeeper.last)
-        + announced_sum(313, &timekeeper.before)
+        + 303 * u64::from(timekeeper.begin_us)
+        + 305 * u64::from(timekeeper.long_us)
+        + 307 * u64::from(timekeeper.strays)
+        + 309 * u64::from(timekeeper.has_interval)
+        + announced_sum(311, &timekeeper.last)
+        + announced_sum(321, &timekeeper.before)
 }
 
 // The numbers of a line weigh a first weight and 0, 2, 4 .. more: so many times their sum, and what
@@ -82,9 +86,9 @@ fn slope(line: &IrigLine) -> u64
 #[inline(never)]
 fn line_sum(port: u8, line: &IrigLine) -> u64
     requires { port < 5 }
-    ensures { result ≡ weighted (323 + 30 * port) (line_numbers line.now) % 2 ^ 64 }
+    ensures { result ≡ weighted (331 + 30 * port) (line_numbers line.now) % 2 ^ 64 }
 {
-    let weight = 323 + 30 * u64::from(port);
+    let weight = 331 + 30 * u64::from(port);
     weight
         .wrapping_mul(plain_sum(line))
         .wrapping_add(slope(line))
@@ -95,17 +99,17 @@ fn line_sum(port: u8, line: &IrigLine) -> u64
 #[inline]
 fn line_change(port: u8, before: &IrigLine, after: &IrigLine) -> u64
     requires { port < 5 }
-    ensures { (weighted (323 + 30 * port) (line_numbers before.now) + result) % 2 ^ 64
-        ≡ weighted (323 + 30 * port) (line_numbers after.now) % 2 ^ 64 }
+    ensures { (weighted (331 + 30 * port) (line_numbers before.now) + result) % 2 ^ 64
+        ≡ weighted (331 + 30 * port) (line_numbers after.now) % 2 ^ 64 }
 {
-    let weight = 323 + 30 * u64::from(port);
+    let weight = 331 + 30 * u64::from(port);
     let all = plain_sum(after).wrapping_sub(plain_sum(before));
     let more = slope(after).wrapping_sub(slope(before));
     weight.wrapping_mul(all).wrapping_add(more)
 }
 
 fn lines_sum(lines: &IrigLines) -> u64
-    ensures { result ≡ weighted 323 (lines_numbers lines.now) % 2 ^ 64 }
+    ensures { result ≡ weighted 331 (lines_numbers lines.now) % 2 ^ 64 }
 {
     line_sum(0, &lines.a)
         .wrapping_add(line_sum(1, &lines.b))

@@ -1,6 +1,6 @@
 //! What a timekeeper says at a tick, in numbers.
 
-ghost use Rattle.std.specs.Prelude.{◌≡◌, Some};
+ghost use Rattle.std.specs.Prelude.{◌≡◌, ◌==◌, if◌then◌else◌, Some};
 ghost use Rattle.c_numbers.specs.Numbers.{sense_in};
 ghost use Rattle.c_numbers.specs.Reports.{report_in, voices_in};
 ghost use Rattle.c_numbers.specs.Setups.{redundancy_in};
@@ -32,6 +32,8 @@ pub struct IrigSecond {
     pub missed: u32,
     /// How often lines moved the edge since the second that was told before.
     pub moved: u32,
+    /// How many votes contradicted those before them since the timekeeper was made or restarted.
+    pub strays: u32,
     /// What is said of it.
     pub report: IrigReport,
 }
@@ -60,6 +62,7 @@ const NOTHING_TOLD: IrigSecond = IrigSecond {
     bound_us: 0,
     missed: 0,
     moved: 0,
+    strays: 0,
     report: NOTHING_REPORTED,
 };
 
@@ -69,7 +72,9 @@ pub fn second_of(
     timekeeper: &IrigTimekeeper,
     ticked: &Ticked,
     held: Option<UtcSecond>,
+    strays: u32,
 ) -> IrigSecond
+    ensures strays { result.strays ≡ (if result.is_told == 0 then 0 else strays) }
     ensures told { IsSecondOf result ticked.now.beat }
     ensures against { (beat : Beat) → ticked.now.beat ≡ Some beat → result.report.against_hold
         ≡ against_at held beat (redundancy_in timekeeper.now.setup) }
@@ -88,7 +93,7 @@ pub fn second_of(
         &frames_of(&timekeeper.lines),
     );
     let against = against_at(held, &beat, redundancy_of(&timekeeper.setup));
-    second_for_c(&beat, &voices, against)
+    second_for_c(&beat, &voices, against, strays)
 }
 
 // Behind seconds that were missed nothing is said of what was held before them.
@@ -102,7 +107,8 @@ fn against_at(held: Option<UtcSecond>, beat: &Beat, redundancy: Redundancy) -> u
     }
 }
 
-fn second_for_c(beat: &Beat, voices: &Voices, against: u8) -> IrigSecond
+fn second_for_c(beat: &Beat, voices: &Voices, against: u8, strays: u32) -> IrigSecond
+    ensures strays { result.strays ≡ strays }
     ensures told { IsToldOf result beat.now }
     ensures voices { voices_in result.report ≡ voices.now }
     ensures against { result.report.against_hold ≡ against }
@@ -113,6 +119,7 @@ fn second_for_c(beat: &Beat, voices: &Voices, against: u8) -> IrigSecond
         bound_us: beat.bound_us,
         missed: beat.missed,
         moved: beat.moved,
+        strays,
         report: report_for_c(&beat.report, voices, against),
     }
 }

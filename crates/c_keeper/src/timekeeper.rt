@@ -17,8 +17,9 @@ ghost use Rattle.c_keeper.specs.Lines.{lines_in, AreKeptFrom, HaveHeard, KeepNoM
 ghost use Rattle.c_numbers.specs.declared.state.TheConstants.{IDLE};
 ghost use Rattle.c_keeper.specs.CheckWord.{IsSealed};
 ghost use Rattle.irig_timekeeper.specs.Exactness.{most_vote_us};
+ghost use Rattle.irig_timekeeper.specs.Intervals.{IsShort};
 ghost use Rattle.irig_timekeeper.specs.Refusals.{clock_fault};
-ghost use Rattle.c_keeper.specs.Timekeepers.{announced_in, clock_in, clock_state_in, edge_in, AreWires, IsAccepted, IsAnnounced};
+ghost use Rattle.c_keeper.specs.Timekeepers.{announced_in, clock_in, clock_state_in, edge_in, interval_in, AreWires, HasShortInterval, IsAccepted, IsAnnounced};
 
 use crate::announced::{
     IrigAnnounced, NOTHING_ANNOUNCED, announced_for_c, announced_of, is_announced,
@@ -30,7 +31,9 @@ use c_numbers::{
     rules_of, state_for_c, state_of,
 };
 use irig_reader::State;
-use irig_timekeeper::{ClockRules, ClockState, Stamp, clock_fault, nearest_within, stamp_of};
+use irig_timekeeper::{
+    ClockRules, ClockState, Interval, Stamp, clock_fault, nearest_within, stamp_of,
+};
 
 /// How exact a timekeeper's lines and its counter are.
 #[repr(C)]
@@ -68,6 +71,14 @@ pub struct IrigTimekeeper {
     pub last: IrigAnnounced,
     /// The one counted before it, if it was announced.
     pub before: IrigAnnounced,
+    /// Where the interval begins in which the true edge lies by all votes.
+    pub begin_us: u32,
+    /// How long that is, at most 980,000 us.
+    pub long_us: u32,
+    /// How many votes contradicted those before them.
+    pub strays: u32,
+    /// 0 if there is no such interval; any other, if there is.
+    pub has_interval: u8,
     /// What all other numbers add up to, each times a weight of its own: it tells if one of them is
     /// changed by anything but the calls of the library.
     pub check: u64,
@@ -100,10 +111,10 @@ fn is_sound(fixed: u64, timekeeper: &IrigTimekeeper) -> bool
     ensures { IsTrue result ↔ (IsSetup timekeeper.now.setup × (AreWires timekeeper.now.wires
         × ((clock_fault (reader_rules_in timekeeper.now.setup) timekeeper.now.wires.drift_us
         ≡ None)
-        × ((timekeeper.now.bound_us ≤ most_vote_us)
+        × ((timekeeper.now.bound_us ≤ most_vote_us) × (HasShortInterval timekeeper.now
         × (IsAnnounced timekeeper.now.last × (IsAnnounced timekeeper.now.before
         × (KeepNoMore (ports_in (redundancy_in timekeeper.now.setup)) timekeeper.now.lines
-        × IsSealed timekeeper.now))))))) }
+        × IsSealed timekeeper.now)))))))) }
 {
     is_setup(&timekeeper.setup)
         && are_wires(&timekeeper.wires)
@@ -113,6 +124,7 @@ fn is_sound(fixed: u64, timekeeper: &IrigTimekeeper) -> bool
         )
         .is_none()
         && timekeeper.bound_us <= 899
+        && is_short(timekeeper)
         && is_announced(&timekeeper.last)
         && is_announced(&timekeeper.before)
         && keep_no_more(redundancy_of(&timekeeper.setup).ports(), &timekeeper.lines)
@@ -135,6 +147,7 @@ pub fn clock_state_of(timekeeper: &IrigTimekeeper) -> ClockState
     ensures is { result ≡ clock_state_in timekeeper.now }
     ensures counting { count_of result.reader < timekeeper.now.setup.lock_after }
     ensures small { result.bound_us ≤ most_vote_us }
+    ensures known { IsShort result.interval }
     ensures valid { AreKeptOfUtc result.lines }
     ensures announced { AnnouncedOfUtc result }
 {
@@ -147,6 +160,8 @@ pub fn clock_state_of(timekeeper: &IrigTimekeeper) -> ClockState
         reader: reader_of(timekeeper),
         edge_us: edge_of(timekeeper),
         bound_us: u32::from(timekeeper.bound_us),
+        interval: interval_of(timekeeper),
+        strays: timekeeper.strays,
         moved: timekeeper.moved,
         last: announced_of(&timekeeper.last),
         before: announced_of(&timekeeper.before),
@@ -162,6 +177,47 @@ fn reader_of(timekeeper: &IrigTimekeeper) -> State
         Some(state) => state,
         // Numbers that are accepted have one.
         None => State::Idle,
+    }
+}
+
+fn is_short(timekeeper: &IrigTimekeeper) -> bool
+    ensures { IsTrue result ↔ HasShortInterval timekeeper.now }
+{
+    timekeeper.has_interval == 0 || timekeeper.long_us <= 980_000
+}
+
+fn interval_of(timekeeper: &IrigTimekeeper) -> Option<Interval>
+    ensures { result ≡ interval_in timekeeper.now }
+{
+    if timekeeper.has_interval == 0 {
+        None
+    } else {
+        Some(Interval {
+            begin_us: timekeeper.begin_us,
+            long_us: timekeeper.long_us,
+        })
+    }
+}
+
+fn set_interval(timekeeper: &mut IrigTimekeeper, interval: Option<Interval>)
+    ensures interval { interval_in timekeeper.new ≡ interval }
+    ensures others { timekeeper.new ≡ record timekeeper.old {
+      begin_us = timekeeper.new.begin_us;
+      long_us = timekeeper.new.long_us;
+      has_interval = timekeeper.new.has_interval;
+    } }
+{
+    match interval {
+        Some(known) => {
+            timekeeper.begin_us = known.begin_us;
+            timekeeper.long_us = known.long_us;
+            timekeeper.has_interval = 1;
+        }
+        None => {
+            timekeeper.begin_us = 0;
+            timekeeper.long_us = 0;
+            timekeeper.has_interval = 0;
+        }
     }
 }
 
@@ -230,6 +286,8 @@ pub fn keep(timekeeper: &mut IrigTimekeeper, state: &ClockState)
     timekeeper.state = state_for_c(&state.reader);
     set_edge(timekeeper, state.edge_us);
     timekeeper.bound_us = state.bound_us as u16;
+    set_interval(timekeeper, state.interval);
+    timekeeper.strays = state.strays;
     timekeeper.moved = state.moved;
     timekeeper.last = announced_for_c(&state.last);
     timekeeper.before = announced_for_c(&state.before);
@@ -247,6 +305,7 @@ pub fn forget(timekeeper: &mut IrigTimekeeper)
     ensures last { timekeeper.new.last.is_told ≡ 0 }
     ensures before { timekeeper.new.before.is_told ≡ 0 }
     ensures bound { timekeeper.new.bound_us ≡ 0 }
+    ensures interval { timekeeper.new.has_interval ≡ 0 }
     ensures absent { (ports : ℕ) → KeepNoMore ports timekeeper.new.lines }
     ensures setup { timekeeper.new.setup ≡ timekeeper.old.setup }
     ensures table { timekeeper.new.table ≡ timekeeper.old.table }
@@ -257,6 +316,8 @@ pub fn forget(timekeeper: &mut IrigTimekeeper)
     timekeeper.state = IDLE;
     set_edge(timekeeper, None);
     timekeeper.bound_us = 0;
+    set_interval(timekeeper, None);
+    timekeeper.strays = 0;
     timekeeper.moved = 0;
     timekeeper.last = NOTHING_ANNOUNCED;
     timekeeper.before = NOTHING_ANNOUNCED;
@@ -274,6 +335,7 @@ pub fn restart(timekeeper: &mut IrigTimekeeper)
     ensures last { timekeeper.new.last.is_told ≡ 0 }
     ensures before { timekeeper.new.before.is_told ≡ 0 }
     ensures bound { timekeeper.new.bound_us ≡ 0 }
+    ensures interval { timekeeper.new.has_interval ≡ 0 }
     ensures absent { (ports : ℕ) → KeepNoMore ports timekeeper.new.lines }
     ensures setup { timekeeper.new.setup ≡ timekeeper.old.setup }
     ensures table { timekeeper.new.table ≡ timekeeper.old.table }

@@ -1,6 +1,6 @@
 //! A timekeeper that C holds.
 
-ghost use Rattle.std.specs.Prelude.{◌≡◌, ◌↔◌, ◌%◌, ◌^◌, ◌<◌, ◌≤◌, ◌+◌, ◌*◌, ◌⊎◌, if◌then◌else◌, ℕ, List, [], ◌∷◌, ◌++◌, IfSome, IsTrue, Option, None, Some, is_some};
+ghost use Rattle.std.specs.Prelude.{◌==◌, ◌≡◌, ◌↔◌, ◌%◌, ◌^◌, ◌<◌, ◌≤◌, ◌+◌, ◌*◌, ◌⊎◌, if◌then◌else◌, ℕ, List, [], ◌∷◌, ◌++◌, IfSome, IsTrue, Option, None, Some, is_some};
 ghost use Rattle.irig_sync.specs.Lines.{Pulse};
 ghost use Rattle.irig_sync.specs.Sync.{place_of};
 ghost use Rattle.irig_time.specs.declared.rules.Rules.{Rules};
@@ -41,7 +41,7 @@ ghost use Rattle.c_keeper.specs.Lines.{frames_in, lines_in, numbers_at, HaveHear
 ghost use Rattle.c_keeper.specs.Lives.{Moment, AreTogether, HasLived, HasHealed, HasItsBound, GoesOnTruly, StampsTruly, agreed_in, beat_in, calls_of, made_in, since_vote};
 ghost use Rattle.c_keeper.specs.Lives.Moment.{Pulsed, Ticked, Waited};
 ghost use Rattle.c_keeper.specs.Seconds.{against_at, stamp_in, IsSecondOf, IsToldOf};
-ghost use Rattle.c_keeper.specs.Timekeepers.{answer_in, clock_in, clock_state_in, edge_in, stamp_for, state_behind, vote_in, wait_in, AreWires, HeardTruly, IsAccepted, IsAnnounced, IsTimekeeperOf};
+ghost use Rattle.c_keeper.specs.Timekeepers.{answer_in, clock_in, clock_state_in, edge_in, stamp_for, state_behind, vote_in, wait_in, AreWires, HasShortInterval, HeardTruly, IsAccepted, IsAnnounced, IsTimekeeperOf};
 
 use crate::line::NO_PORT;
 use c_keeper::{
@@ -238,6 +238,14 @@ pub extern "C" fn irig_c_timekeeper_tick(
         → HasLived timekeeper.old made past → now_us ≡ now % 2 ^ 32
         → (report_in second.new.report).announce ≡ Some u
         → lasted (report_in second.new.report).lock ≡ since_vote (Ticked now second.new ∷ past) }
+    // How many votes contradicted those before them: none, if all lines but f were true at each tick
+    // (irig_lives, the law `votes_do_not_stray`).
+    ensures strayed { result ≡ 0 → second.new.strays
+        ≡ (if second.new.is_told == 0 then 0 else (clock_state_in timekeeper.new).strays) }
+    ensures strays { (t : TimelineValue) (edges : ℕ → ℕ) (made : MadeOf) (start now : ℕ)
+        (past : List Moment) → HasLived timekeeper.old made past → now_us ≡ now % 2 ^ 32
+        → LivesWell (IsTrueLately made.clock.within.us) t edges made start
+        (Tick now ∷ calls_of past) → second.new.strays ≡ 0 }
     // The cause is never `Jump`.
     ensures calm { (t : TimelineValue) (edges : ℕ → ℕ) (made : MadeOf) (start now : ℕ)
         (past : List Moment) → HasLived timekeeper.old made past → now_us ≡ now % 2 ^ 32
@@ -329,12 +337,14 @@ fn tick_accepted(timekeeper: &mut IrigTimekeeper, now_us: u32) -> IrigSecond
     ensures table { timekeeper.new.table ≡ timekeeper.old.table }
     ensures wires { timekeeper.new.wires ≡ timekeeper.old.wires }
     ensures bound { timekeeper.new.bound_us ≤ most_vote_us }
+    ensures known { HasShortInterval timekeeper.new }
+    ensures strays { result.strays ≡ (if result.is_told == 0 then 0 else timekeeper.new.strays) }
 {
     let rules = clock_rules_of(timekeeper);
     let mut state = clock_state_of(timekeeper);
     let held = held_by(&state.reader);
     let ticked = tick(&rules, &timekeeper.table, &mut state, now_us);
-    let second = second_of(timekeeper, &ticked, held);
+    let second = second_of(timekeeper, &ticked, held, state.strays);
     keep(timekeeper, &state);
     second
 }

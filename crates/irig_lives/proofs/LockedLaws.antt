@@ -125,8 +125,12 @@ left_by k clock u beat answer says = of (vote_at k clock) answer
     s = settled_at k.state clock
 
     of : (o : Option Vote) → answer_by k.clock k.table s clock o ≡ Some beat → IsLeft u beat (clock_by k.clock k.table s clock o)
-    of None e = left_alone k.clock k.table s u beat says (edges_own k.state.edge_us clock) e
-    of (Some v) e = left_voted k.clock k.table s u beat says v (edges_to_vote k.state.edge_us v.edge_us) e
+    of None e =
+        let l = left_alone k.clock k.table s u beat says (edges_own k.state.edge_us clock) e in
+        record { h = l.h; reader = l.reader; last = l.last; age = l.age; edge = l.edge; bound = l.bound; lines = l.lines; dark = l.dark }
+    of (Some v) e =
+        let l = left_voted k.clock k.table s u beat says v (edges_to_vote k.state.edge_us v.edge_us) e in
+        record { h = l.h; reader = l.reader; last = l.last; age = l.age; edge = l.edge; bound = l.bound; lines = l.lines; dark = l.dark }
 
 -- ---- a tick of dark lines, so many seconds later
 

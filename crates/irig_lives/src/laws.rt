@@ -1,7 +1,7 @@
 //! Laws of a timekeeper over its definitions. They have no code, and speak of values: no call of a
 //! timekeeper takes a timeline.
 
-ghost use Rattle.std.specs.Prelude.{◌≡◌, ◌+◌, ◌-◌, ◌*◌, ◌%◌, ◌^◌, ◌<◌, ◌≤◌, ◌⊎◌, ℕ, suc, List, ◌∷◌, ◌++◌, Option, Some, None, count_by, false};
+ghost use Rattle.std.specs.Prelude.{◌≡◌, ◌+◌, ◌-◌, ◌*◌, ◌%◌, ◌^◌, ◌<◌, ◌≤◌, ◌⊎◌, ℕ, suc, List, ◌∷◌, ◌++◌, Option, Some, None, count_by, true, false};
 ghost use Rattle.irig_frame.specs.declared.symbol.Symbol.{Symbol};
 ghost use Rattle.irig_sync.specs.declared.sync.Sync.{Sync};
 ghost use Rattle.irig_sync.specs.Sync.{place_of};
@@ -30,12 +30,13 @@ ghost use Rattle.irig_timekeeper.specs.Life.{Call, Made, AreInOrder, AreTrueLate
 ghost use Rattle.irig_timekeeper.specs.Life.Call.{Tick};
 ghost use Rattle.irig_timekeeper.specs.Since.{since_vote, HasItsBound};
 ghost use Rattle.irig_timekeeper.specs.Healing.{HasHealed};
+ghost use Rattle.irig_timekeeper.specs.Intervals.{by_vote, carried, cut, contradicts, LiesBetween, AreNear};
 ghost use Rattle.irig_timekeeper.specs.Exactness.{most_drift_us, end_off_us, window_us, most_vote_us, most_held_us};
 
 use irig_port::Limits;
 use irig_reader::{Cause, ReaderRules};
 use irig_time::{Claim, Rules, UtcSecond};
-use irig_timekeeper::{Beat, ClockRules, KeptClaim, KeptFrame, Lines, Stamp, Vote, Within};
+use irig_timekeeper::{Beat, ClockRules, Interval, KeptClaim, KeptFrame, Lines, Stamp, Vote, Within};
 
 /// Counting is right while a device's own edge is: let its last edge lie at most b1 before and b2
 /// behind T(w), and the edge that lines agree on at most c1 before and c2 behind T(w + k). If
@@ -148,6 +149,39 @@ pub fn a_device_tells_the_truth()
         → IsOnTrack t edges 0 0 k.clock.drift_us last k.clock.reader_rules k.table now
         (after_tick k (now % 2 ^ 32)).state.reader (after_tick k (now % 2 ^ 32)).state.bound_us
         (after_tick k (now % 2 ^ 32)).state.edge_us }
+{}
+
+/// Votes do not stray: in every life in which at each tick all but at most f lines were true in the
+/// last 1.2 s, and the counter is as steady as its setup says, no vote contradicts those before it:
+/// the edge lies in the interval that they leave, carried on by the drift from second to second.
+pub fn votes_do_not_stray()
+    ensures { (t : TimelineValue) (edges : ℕ → ℕ) (made : Made) (start : ℕ) (calls : List Call)
+        → LivesTruly (IsTrueLately made.clock.within.us) t edges made start calls
+        → (life_of made calls).state.strays ≡ 0 }
+{}
+
+/// What strays is seen, whatever lines carry: as long as no vote contradicted those before it and none
+/// is forgotten, the interval lies in that of each vote since, carried on by the drift, so that a
+/// vote contradicts it that differs from any of them by more than their bounds and the drift between.
+pub fn what_strays_is_seen()
+    // The edge of a vote lies no further off than its bound.
+    ensures vote { (vote : Vote) (edge : ℕ) → vote.edge_us ≡ edge % 2 ^ 32 → vote.bound_us ≤ edge
+        → vote.bound_us ≤ most_vote_us
+        → LiesBetween (edge - vote.bound_us) (edge + vote.bound_us) (by_vote vote) }
+    // So many seconds later it lies as much further off as the counter drifts.
+    ensures carried { (d seconds from to : ℕ) (x y : Interval) → d ≤ most_drift_us
+        → LiesBetween from to x → carried d seconds x ≡ Some y
+        → LiesBetween (from + (seconds * 1000000 - seconds * d))
+        (to + seconds * 1000000 + seconds * d) y }
+    // What a vote leaves lies where both lie.
+    ensures cut { (x y : Interval) (from to others others_to : ℕ) → LiesBetween from to x
+        → LiesBetween others others_to y → AreNear from to others others_to
+        → contradicts (Some x) y ≡ false
+        → LiesBetween from to (cut (Some x) y) × LiesBetween others others_to (cut (Some x) y) }
+    // A vote that lies apart contradicts.
+    ensures apart { (x y : Interval) (from to others others_to : ℕ) → LiesBetween from to x
+        → LiesBetween others others_to y → AreNear from to others others_to
+        → (to < others) ⊎ (others_to < from) → contradicts (Some x) y ≡ true }
 {}
 
 /// In order, whatever lines carry and however the counter drifts: the edges that are told lie half

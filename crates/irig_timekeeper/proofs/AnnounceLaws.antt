@@ -24,7 +24,7 @@ use Rattle.irig_timekeeper.specs.Exactness.{vote_us, most_vote_us}
 use Rattle.irig_timekeeper.specs.Counting.{edges_to_vote, edges_own}
 use Rattle.irig_timekeeper.specs.Rule.{missed}
 use Rattle.irig_timekeeper.specs.Steps.{is_pulse, settled, agreed, if_come}
-use Rattle.irig_timekeeper.specs.Clock.{step_to, beat_by, after_vote, answer_to_vote, after_own, clock_by, answer_by, settled_at}
+use Rattle.irig_timekeeper.specs.Clock.{knowing_vote, step_to, beat_by, after_vote, answer_to_vote, after_own, clock_by, answer_by, settled_at}
 use Rattle.irig_timekeeper.specs.Keeping.{Keeping, vote_at, after_pulse, after_tick, answer_at}
 use Rattle.irig_timekeeper.specs.Truth.{IsEdgeAt, IsDevice}
 use Rattle.irig_timekeeper.specs.Life.{Call, after_calls, pulses_on, last_tick, HaveRisen, AreInOrder, AreTrueLately, AreTrueOver}
@@ -57,7 +57,7 @@ quiet k clock none nothing = of (vote_at k clock) none
 
     of : (o : Option Vote) → o ≡ None → IsQuiet k.state (clock_by k.clock k.table s clock o)
     of (Some v) e = absurd cc
-    of None e = by (edges_own k.state.edge_us clock) nothing
+    of None e = let q = by (edges_own k.state.edge_us clock) nothing in record { edge = q.edge; reader = q.reader }
 
 -- with one, by the edges that it counts
 record IsVoted (c : ClockRules) (table : TableValue) (s : ClockState) (v : Vote) (n : ℕ) (new : ClockState) (answer : Option Beat) : Type 0 where
@@ -86,8 +86,10 @@ voted k clock v e = of (vote_at k clock) e
     of None e = absurd cc
     of (Some x) e =
         let same : v ≡ x = cc in
-        subst (λ (y : Vote). IsVoted k.clock k.table s y (edges_to_vote k.state.edge_us y.edge_us) (after_vote k.clock k.table s x (edges_to_vote k.state.edge_us x.edge_us)) (answer_to_vote k.clock k.table s x (edges_to_vote k.state.edge_us x.edge_us))) (sym same)
-        (voted_by k.clock k.table s x (edges_to_vote k.state.edge_us x.edge_us))
+        let n = edges_to_vote k.state.edge_us x.edge_us in
+        let h = voted_by k.clock k.table s x n in
+        let knows : IsVoted k.clock k.table s x n (knowing_vote k.clock s x n (after_vote k.clock k.table s x n)) (answer_to_vote k.clock k.table s x n) = record { edge = h.edge; none = h.none; some = h.some; tells = h.tells } in
+        subst (λ (y : Vote). IsVoted k.clock k.table s y (edges_to_vote k.state.edge_us y.edge_us) (knowing_vote k.clock s x n (after_vote k.clock k.table s x n)) (answer_to_vote k.clock k.table s x (edges_to_vote k.state.edge_us x.edge_us))) (sym same) knows
 
 -- a tick leaves the reader, or steps on by some edges and a vote, or none
 abbrev Stepped : ClockRules → TableValue → State → State → Type 0

@@ -14,7 +14,7 @@ use Rattle.irig_timekeeper.specs.Exactness.{window_us, vote_us}
 use Rattle.irig_timekeeper.specs.Counting.{edges_to_vote, edges_own}
 use Rattle.irig_timekeeper.specs.Rule.{missed}
 use Rattle.irig_timekeeper.specs.Steps.{is_pulse, all_kept, agrees, ends_by, end_behind, ended_by, agreed, settled}
-use Rattle.irig_timekeeper.specs.Clock.{lasted, bound_of, own_edge, beat_by, step_to, clock_by, answer_by, settled_at}
+use Rattle.irig_timekeeper.specs.Clock.{after_own, after_vote, answer_alone, answer_to_vote, lasted, bound_of, own_edge, beat_by, step_to, clock_by, answer_by, settled_at}
 use Rattle.irig_timekeeper.specs.Keeping.{Keeping, vote_at, after_tick, answer_at}
 use Rattle.irig_timekeeper.specs.Life.{Call, after_calls}
 use Rattle.irig_timekeeper.specs.Life.Call.{Hear, Tick}
@@ -80,13 +80,17 @@ module _ (k : Keeping) (clock : ℕ) where
       of : (o : Option Vote) → vote_at k clock ≡ o → HasBound k.clock (clock_by k.clock k.table s clock o) (answer_by k.clock k.table s clock o)
       of None e =
           let n = edges_own k.state.edge_us clock in
+          let h : HasBound k.clock (after_own k.clock k.table s n) (answer_alone k.clock k.table s n) =
           either (n == 0) _ _ (step_to k.clock k.table s n None) (n - 1) (own_edge k.state.edge_us n) k.state.bound_us low refl refl
-          (step_lasts k.clock.reader_rules k.table (missed k.clock.reader_rules k.table (n - 1) k.state.reader) None)
+          (step_lasts k.clock.reader_rules k.table (missed k.clock.reader_rules k.table (n - 1) k.state.reader) None) in
+          record { voted = h.voted; bound = h.bound; few = h.few }
       of (Some v) e =
           let n = edges_to_vote k.state.edge_us v.edge_us in
+          let h : HasBound k.clock (after_vote k.clock k.table s v n) (answer_to_vote k.clock k.table s v n) =
           either (n == 0) _ _ (step_to k.clock k.table s n (Some v.claim)) (n - 1) v.edge_us v.bound_us
           (vote_bound k.clock (settled clock k.state.lines) v (come clock (agreed k.clock (settled clock k.state.lines)) v e).0) refl refl
-          (step_lasts k.clock.reader_rules k.table (missed k.clock.reader_rules k.table (n - 1) k.state.reader) (Some v.claim))
+          (step_lasts k.clock.reader_rules k.table (missed k.clock.reader_rules k.table (n - 1) k.state.reader) (Some v.claim)) in
+          record { voted = h.voted; bound = h.bound; few = h.few }
 
 -- ---- a life
 

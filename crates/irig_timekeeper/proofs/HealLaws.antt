@@ -195,7 +195,8 @@ module _ (t : TimelineValue) (edges : ℕ → ℕ) (early late : ℕ) (k : Keepi
       of None e answer = absurd cc
       of (Some x) e answer =
           let same : v ≡ x = cc in
-          heals_by t edges early late k.clock k.table s is heard now x (subst (λ (y : Vote). IsTrueVote t edges early late now y) same vote) (edges_to_vote s.edge_us x.edge_us) b answer
+          let h = heals_by t edges early late k.clock k.table s is heard now x (subst (λ (y : Vote). IsTrueVote t edges early late now y) same vote) (edges_to_vote s.edge_us x.edge_us) b answer in
+          record { track = h.track; told = h.told }
 
   heals : (new : Keeping) → IsSameSetup new k → IfHold k.state.reader HasHeardLate → IsTrueVote t edges early late now v → vote_at k (now % 2 ^ 32) ≡ Some v → answer_at k (now % 2 ^ 32) ≡ Some b → Heals new.clock new.table
   heals new same heard vote voted answer =

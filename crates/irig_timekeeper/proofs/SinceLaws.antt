@@ -147,8 +147,8 @@ since_tick k clock since aged = of (vote_at k clock)
     s = settled_at k.state clock
 
     of : (o : Option Vote) → IsSinceTick since (clock_by k.clock k.table s clock o) (answer_by k.clock k.table s clock o)
-    of None = since_own k.clock k.table s since aged (edges_own k.state.edge_us clock)
-    of (Some v) = since_voted k.clock k.table s since aged v (edges_to_vote k.state.edge_us v.edge_us)
+    of None = let h = since_own k.clock k.table s since aged (edges_own k.state.edge_us clock) in record { aged = h.aged; lasts = h.lasts }
+    of (Some v) = let h = since_voted k.clock k.table s since aged v (edges_to_vote k.state.edge_us v.edge_us) in record { aged = h.aged; lasts = h.lasts }
 
 -- ---- a life
 

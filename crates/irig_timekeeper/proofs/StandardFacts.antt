@@ -5,6 +5,8 @@ use Rattle.irig_time.specs.declared.claim.Claim.{Claim}
 use Rattle.irig_reader.specs.declared.rules.ReaderRules.{ReaderRules}
 use Rattle.irig_timekeeper.specs.declared.lines.KeptClaim.{KeptClaim}
 use Rattle.irig_timekeeper.specs.declared.lines.Vote.{Vote}
+use Rattle.irig_timekeeper.specs.declared.interval.Interval.{Interval}
+use Rattle.irig_timekeeper.specs.Intervals.{by_vote, carried, cut, contradicts}
 use Rattle.irig_timekeeper.specs.Exactness.{window_us}
 use Rattle.irig_timekeeper.specs.Counting.{edges_to, edges_to_vote, edges_own, edge_behind, is_late, has_come}
 use Rattle.irig_timekeeper.specs.Refusals.{clock_fault}
@@ -63,6 +65,20 @@ known_agreed = (refl, refl, refl, refl, refl)
 -- first
 pub known_exact : (vote_in 10 1 1 (two 4294967290 12) ≡ edge_of 3 19) × (vote_in 10 1 1 (two 4294967290 13) ≡ None) × (vote_in 10 1 1 (three 4294967290 4294967295 12) ≡ edge_of 4294967295 10) × (vote_in 10 1 1 (two 7 8) ≡ edge_of 7 11)
 known_exact = (refl, refl, refl, refl)
+
+-- a vote 450 us exact; a second later, by a counter that runs 100 us a second wrong, its edge lies 550 us
+-- off at most, so that one that is told 1,000 us late is cut, and one 1,001 us late contradicts; over the
+-- wrap too
+abbrev interval_of : (begin long : ℕ) → Interval
+interval_of begin long = record { begin_us = begin; long_us = long }
+
+abbrev voted_at : ℕ → Interval
+voted_at edge = by_vote (record { claim = claim_of 7; edge_us = edge; bound_us = 450 })
+
+pub known_intervals : (voted_at 4294967200 ≡ interval_of 4294966750 900) × (carried 100 1 (voted_at 4294967200) ≡ Some (interval_of 999354 1100)) × (cut (carried 100 1 (voted_at 4294967200)) (voted_at 1000904) ≡ interval_of 1000454 0)
+    × (contradicts (carried 100 1 (voted_at 4294967200)) (voted_at 1000904) ≡ false) × (contradicts (carried 100 1 (voted_at 4294967200)) (voted_at 1000905) ≡ true) × (cut (carried 100 1 (voted_at 4294967200)) (voted_at 1000905) ≡ voted_at 1000905)
+    × (contradicts (carried 100 1 (voted_at 4294967200)) (voted_at 998904) ≡ false) × (contradicts (carried 100 1 (voted_at 4294967200)) (voted_at 998903) ≡ true) × (carried 100 4895 (voted_at 7) ≡ Some (interval_of 599542761 979900)) × (carried 100 4896 (voted_at 7) ≡ None)
+known_intervals = (refl, refl, refl, refl, refl, refl, refl, refl, refl, refl)
 
 -- to wait
 pub known_wait : (until 4294967000 704 ≡ 1000) × (until 704 4294967000 ≡ 0) × (wait_by 4294000000 (Some 4294000000) None ≡ 1005000) × (wait_by 37704 (Some 4294000000) None ≡ 0) × (wait_by 5 None None ≡ 1000000)

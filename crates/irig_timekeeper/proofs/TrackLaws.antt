@@ -467,7 +467,10 @@ tick_true IsTrue t edges early late k M tick now pulses room truly is order soon
     s = settled_at k.state (now % 2 ^ 32)
 
     of : (v : Option Vote) → vote_at k (now % 2 ^ 32) ≡ v → KeepsTrue t k.clock.drift_us edges early late M k.clock.reader_rules k.table now (clock_by k.clock k.table s (now % 2 ^ 32) v) (answer_by k.clock k.table s (now % 2 ^ 32) v)
-    of None e = alone t edges early late k.clock k.table s is room M tick now order soon on _ refl
+    of None e =
+        let h = alone t edges early late k.clock k.table s is room M tick now order soon on (edges_own s.edge_us (now % 2 ^ 32)) refl in
+        record { track = h.track; told = h.told; calm = h.calm }
     of (Some v) e =
         let vote = vote_is_true IsTrue k.rules t k.clock edges is.steady early late room now k.state.lines pulses truly heard v e in
-        by_vote t edges early late k.clock k.table s is room M tick now order soon on v vote _ refl
+        let h = by_vote t edges early late k.clock k.table s is room M tick now order soon on v vote (edges_to_vote s.edge_us v.edge_us) refl in
+        record { track = h.track; told = h.told; calm = h.calm }

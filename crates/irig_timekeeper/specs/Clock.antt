@@ -18,6 +18,8 @@ use Rattle.irig_timekeeper.specs.declared.setup.ClockRules.{ClockRules}
 use Rattle.irig_timekeeper.specs.declared.clock.ClockState.{ClockState}
 use Rattle.irig_timekeeper.specs.Counting.{edges_to_vote, edges_own, edge_behind}
 use Rattle.irig_timekeeper.specs.Steps.{settled, taken, tells_of, agreed, if_come, wait_by}
+use Rattle.irig_timekeeper.specs.declared.interval.Interval.{Interval}
+use Rattle.irig_timekeeper.specs.Intervals.{by_vote, carried_on, cut, contradicts}
 use Rattle.irig_timekeeper.specs.Rule.{step_behind}
 
 -- ---- a second that is announced
@@ -71,6 +73,8 @@ beaten c s lines vote step edge voted = record {
   reader = step.state;
   edge_us = Some edge;
   bound_us = voted;
+  interval = s.interval;
+  strays = s.strays;
   moved = 0;
   last = announced c.drift_us voted step.report edge;
   before = still_serves vote step.report.announce s.last;
@@ -122,12 +126,33 @@ answer_alone c table s edges =
     else Some (beat_by c s (step_to c table s edges None) (edges - 1) (own_edge s.edge_us edges)
     s.bound_us)
 
+-- ---- what is known of the edge by all votes
+
+-- so many seconds behind the last edge, by what a clock knew then
+abbrev pub known_then : ClockRules → ClockState → ℕ → Option Interval
+known_then c s seconds = carried_on c.drift_us seconds s.interval
+
+-- a clock that then knows it by its own counter
+abbrev pub knowing : ClockRules → ClockState → ℕ → ClockState → ClockState
+knowing c s seconds next = record next { interval = known_then c s seconds }
+
+-- a clock that then knows it by a vote too, and counts the votes that contradict what it knew
+abbrev pub knowing_vote : ClockRules → ClockState → Vote → ℕ → ClockState → ClockState
+knowing_vote c s vote seconds next = record next {
+  interval = Some (cut (known_then c s seconds) (by_vote vote));
+  strays = (s.strays + (if contradicts (known_then c s seconds) (by_vote vote) then 1 else 0))
+      % 2 ^ 32;
+}
+
 -- ---- a tick
 
 -- by the edge on which lines agree, if they do; the lines are settled
 abbrev pub clock_by : ClockRules → TableValue → ClockState → ℕ → Option Vote → ClockState
-clock_by c table s now None = after_own c table s (edges_own s.edge_us now)
-clock_by c table s now (Some vote) = after_vote c table s vote (edges_to_vote s.edge_us vote.edge_us)
+clock_by c table s now None =
+    knowing c s (edges_own s.edge_us now) (after_own c table s (edges_own s.edge_us now))
+clock_by c table s now (Some vote) =
+    knowing_vote c s vote (edges_to_vote s.edge_us vote.edge_us)
+    (after_vote c table s vote (edges_to_vote s.edge_us vote.edge_us))
 
 -- what it answers, by the edge on which lines agree, if they do
 abbrev pub answer_by : ClockRules → TableValue → ClockState → ℕ → Option Vote → Option Beat

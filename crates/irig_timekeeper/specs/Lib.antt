@@ -15,4 +15,5 @@ pub mod Announcing
 pub mod Loops
 pub mod Since
 pub mod Healing
+pub mod Intervals
 pub mod Lived

@@ -7,10 +7,12 @@ ghost use Rattle.irig_timekeeper.specs.Counting.{edges_to_vote, edges_own};
 ghost use Rattle.irig_timekeeper.specs.Rule.{missed, step_behind};
 ghost use Rattle.irig_timekeeper.specs.Steps.{AreKeptOfUtc, AreNewLines};
 ghost use Rattle.irig_timekeeper.specs.Keeping.{new_state};
-ghost use Rattle.irig_timekeeper.specs.Clock.{lasted, bound_of, announced_at, still_serves, beat_by, beaten, step_to, after_vote, answer_to_vote, after_own, answer_alone, clock_after, clock_answer, clock_vote, clock_wait, SaysOfUtc, AnnouncedOfUtc};
+ghost use Rattle.irig_timekeeper.specs.Intervals.{IsShort};
+ghost use Rattle.irig_timekeeper.specs.Clock.{knowing, knowing_vote, lasted, bound_of, announced_at, still_serves, beat_by, beaten, step_to, after_vote, answer_to_vote, after_own, answer_alone, clock_after, clock_answer, clock_vote, clock_wait, SaysOfUtc, AnnouncedOfUtc};
 ghost use Rattle.irig_timekeeper.specs.Exactness.{most_drift_us, most_vote_us, most_held_us};
 
 use crate::counting::{edge_behind, edges_own, edges_to_vote};
+use crate::interval::{Interval, by_vote, carried_on, contradicts, cut};
 use crate::lines::{
     Lines, Vote, agreed, if_come, lines_of_nothing, settle, take, tells_of, wait_by,
 };
@@ -32,6 +34,11 @@ pub struct ClockState {
     pub edge_us: Option<u32>,
     /// How far from its true edge that of the last vote may lie, at most 899 us.
     pub bound_us: u32,
+    /// In which the true edge lies by all votes since one that contradicted those before it, if it
+    /// is known so well that seconds can be counted by it: at most 980,000 us.
+    pub interval: Option<Interval>,
+    /// How many votes contradicted those before them.
+    pub strays: u32,
     /// How often lines set that edge right since.
     pub moved: u32,
     /// The last second that was counted, if it was announced.
@@ -75,6 +82,8 @@ pub fn clock_of_nothing() -> ClockState
         reader: State::Idle,
         edge_us: None,
         bound_us: 0,
+        interval: None,
+        strays: 0,
         moved: 0,
         last: None,
         before: None,
@@ -86,12 +95,13 @@ pub fn clock_of_nothing() -> ClockState
 ///
 /// The rules have no [`fault`](crate::clock_fault), each claim that a line keeps is of a
 /// [`valid`](irig_time::valid) second, a reader that is acquiring had fewer votes than it locks
-/// after, and the bound of the last vote is at most 899 us.
+/// after, the bound of the last vote is at most 899 us, and the interval at most 980,000 us long.
 pub fn tick<T: Leaps>(rules: &ClockRules, table: &T, state: &mut ClockState, now_us: u32) -> Ticked
     requires steady { rules.now.drift_us ≤ most_drift_us }
     requires short { (rules.now.reader_rules.holdover + 2) * rules.now.drift_us ≤ most_held_us }
     requires counting { count_of state.old.reader < rules.now.reader_rules.lock_after }
     requires small { state.old.bound_us ≤ most_vote_us }
+    requires known { IsShort state.old.interval }
     requires valid { AreKeptOfUtc state.old.lines }
     ensures answer { result.beat ≡ clock_answer rules.now (T.says table.now) state.old now_us }
     ensures after { state.new ≡ clock_after rules.now (T.says table.now) state.old now_us }
@@ -100,6 +110,7 @@ pub fn tick<T: Leaps>(rules: &ClockRules, table: &T, state: &mut ClockState, now
     ensures valid { AreKeptOfUtc state.new.lines }
     ensures said { SaysOfUtc result.beat }
     ensures small { state.new.bound_us ≤ most_vote_us }
+    ensures known { IsShort state.new.interval }
     ensures announced { AnnouncedOfUtc state.old → AnnouncedOfUtc state.new }
 {
     settle(&mut state.lines, now_us);
@@ -116,14 +127,19 @@ fn tick_by_vote<T: Leaps>(
     state: &mut ClockState,
     vote: Vote,
 ) -> Ticked
+    requires steady { rules.now.drift_us ≤ most_drift_us }
+    requires known { IsShort state.old.interval }
     requires short { (rules.now.reader_rules.holdover + 2) * rules.now.drift_us ≤ most_held_us }
     requires small { vote.bound_us ≤ most_vote_us }
     requires counting { count_of state.old.reader < rules.now.reader_rules.lock_after }
     requires valid { IsValid vote.claim.at }
     ensures answer { result.beat ≡ answer_to_vote rules.now (T.says table.now) state.old vote
         (edges_to_vote state.old.edge_us vote.edge_us) }
-    ensures after { state.new ≡ after_vote rules.now (T.says table.now) state.old vote
-        (edges_to_vote state.old.edge_us vote.edge_us) }
+    ensures after { state.new ≡ knowing_vote rules.now state.old vote
+        (edges_to_vote state.old.edge_us vote.edge_us)
+        (after_vote rules.now (T.says table.now) state.old vote
+        (edges_to_vote state.old.edge_us vote.edge_us)) }
+    ensures known { IsShort state.new.interval }
     ensures vote { result.vote ≡ Some vote.claim }
     ensures counting { count_of state.new.reader < rules.now.reader_rules.lock_after }
     ensures valid { AreKeptOfUtc state.new.lines }
@@ -132,6 +148,7 @@ fn tick_by_vote<T: Leaps>(
     ensures announced { AnnouncedOfUtc state.old → AnnouncedOfUtc state.new }
 {
     let edges = edges_to_vote(state.edge_us, vote.edge_us);
+    know_vote(rules, state, vote, edges);
     state.bound_us = vote.bound_us;
     let beat = if edges > 0 {
         Some(beat_at(rules, table, state, edges, Some(vote.claim), vote.edge_us))
@@ -154,14 +171,17 @@ fn tick_alone<T: Leaps>(
     state: &mut ClockState,
     now_us: u32,
 ) -> Ticked
+    requires steady { rules.now.drift_us ≤ most_drift_us }
+    requires known { IsShort state.old.interval }
     requires short { (rules.now.reader_rules.holdover + 2) * rules.now.drift_us ≤ most_held_us }
     requires counting { count_of state.old.reader < rules.now.reader_rules.lock_after }
     requires small { state.old.bound_us ≤ most_vote_us }
     requires valid { AreKeptOfUtc state.old.lines }
     ensures answer { result.beat ≡ answer_alone rules.now (T.says table.now) state.old
         (edges_own state.old.edge_us now_us) }
-    ensures after { state.new ≡ after_own rules.now (T.says table.now) state.old
-        (edges_own state.old.edge_us now_us) }
+    ensures after { state.new ≡ knowing rules.now state.old (edges_own state.old.edge_us now_us)
+        (after_own rules.now (T.says table.now) state.old (edges_own state.old.edge_us now_us)) }
+    ensures known { IsShort state.new.interval }
     ensures vote { result.vote ≡ None }
     ensures counting { count_of state.new.reader < rules.now.reader_rules.lock_after }
     ensures valid { AreKeptOfUtc state.new.lines }
@@ -170,6 +190,7 @@ fn tick_alone<T: Leaps>(
     ensures announced { AnnouncedOfUtc state.old → AnnouncedOfUtc state.new }
 {
     let edges = edges_own(state.edge_us, now_us);
+    state.interval = carried_on(rules.drift_us, edges, state.interval);
     let beat = match state.edge_us {
         Some(edge) if edges > 0 => {
             let edge_us = edge_behind(edge, edges);
@@ -178,6 +199,22 @@ fn tick_alone<T: Leaps>(
         _ => None,
     };
     Ticked { beat, vote: None }
+}
+
+// What is then known of the edge by all votes, and whether this one contradicts it.
+fn know_vote(rules: &ClockRules, state: &mut ClockState, vote: Vote, edges: u32)
+    requires steady { rules.now.drift_us ≤ most_drift_us }
+    requires few { edges ≤ 4294 }
+    requires small { vote.bound_us ≤ most_vote_us }
+    requires short { IsShort state.old.interval }
+    ensures after { state.new ≡ knowing_vote rules.now state.old vote edges state.old }
+    ensures short { IsShort state.new.interval }
+{
+    let known = carried_on(rules.drift_us, edges, state.interval);
+    let voted = by_vote(vote);
+    let strays = u32::from(contradicts(known, voted));
+    state.interval = Some(cut(known, voted));
+    state.strays = state.strays.wrapping_add(strays);
 }
 
 // An edge to which so many seconds were counted, with the vote on it, if there is one.

@@ -12,6 +12,7 @@ ghost use Rattle.irig_vote.specs.Vote.{ports_in};
 ghost use Rattle.irig_reader.specs.Rule.{count_of};
 ghost use Rattle.irig_reader.specs.Rules.{IsReaderRules};
 ghost use Rattle.irig_timekeeper.specs.Steps.{line_at, line_heard, AreKeptOfUtc, IsKeptOfUtc, AreNewLines};
+ghost use Rattle.irig_timekeeper.specs.Intervals.{IsShort};
 ghost use Rattle.irig_timekeeper.specs.Exactness.{most_drift_us, most_vote_us, most_held_us};
 
 use crate::clock::{Beat, ClockState, clock_of_nothing, tick, wait_of};
@@ -43,6 +44,7 @@ pub struct Timekeeper<P: Port> {
     ghost short: { (clock.reader_rules.holdover + 2) * clock.drift_us ≤ most_held_us },
     ghost counting: { count_of state.reader < clock.reader_rules.lock_after },
     ghost small: { state.bound_us ≤ most_vote_us },
+    ghost known: { IsShort state.interval },
     ghost valid: { ∥ AreKeptOfUtc state.lines ∥₁ },
 }
 
@@ -279,6 +281,20 @@ impl<P: Port> Timekeeper<P> {
             → AreInOrder start made.clock.redundancy (Tick now ∷ calls) → result ≤ 1005000 }
     {
         wait_of(&self.clock, &self.state, now_us)
+    }
+
+    /// How many votes contradicted what all votes before them had said, since it was made or
+    /// restarted: the interval in which the edge lay by those, carried on by the drift, had nothing
+    /// in common with that of the vote. None does while all lines but f are true and the counter is
+    /// as steady as the setup says. It turns over at 2^32.
+    pub fn strays(&self) -> u32
+        ensures value { ForKeeping self.now (λ k. result ≡ k.state.strays) }
+        // the law `votes_do_not_stray`
+        ensures none { (t : TimelineValue) (edges : ℕ → ℕ) (made : MadeOf) (start : ℕ)
+            (calls : List Call) → HasLived self.now made calls
+            → LivesWell (IsTrueLately made.clock.within.us) t edges made start calls → result ≡ 0 }
+    {
+        self.state.strays
     }
 
     /// The time of an event, if it lies behind the edge of the last second that was told, or behind

@@ -8,6 +8,7 @@
 
 mod clock;
 mod counting;
+mod interval;
 mod keeper;
 mod lines;
 mod setup;
@@ -15,6 +16,7 @@ mod stamp;
 mod within;
 
 pub use clock::{Beat, ClockState, Ticked, clock_of_nothing, tick, wait_of};
+pub use interval::Interval;
 pub use keeper::Timekeeper;
 pub use lines::{KeptClaim, KeptFrame, Line, Lines, Vote, is_pulse};
 pub use setup::{ClockFault, ClockRules, clock_fault, nearest_within};

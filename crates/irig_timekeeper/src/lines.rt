@@ -220,27 +220,37 @@ pub fn agreed(rules: &ClockRules, lines: &Lines) -> Option<Vote>
         Some(first) => Some(vote_between(
             rules,
             first,
-            ending_from(window_us, f, first, &all),
-            ended_by(window_us, f, first, &all),
+            narrowed_by_all(window_us, f, &first, &all),
         )),
         None => None,
     }
 }
 
-// The edge in the middle of these two times behind the end of a frame.
-fn vote_between(rules: &ClockRules, first: KeptClaim, from_us: u32, by_us: u32) -> Vote
+// Two times behind the end of a frame: the last from which on f + 1 frames end, and the first by which
+// they do, of those of the frames that agree with it.
+#[derive(Clone, Copy)]
+struct Between {
+    from_us: u32,
+    by_us: u32,
+}
+
+// The edge in the middle of two times behind the end of a frame.
+fn vote_between(rules: &ClockRules, first: KeptClaim, between: Between) -> Vote
     requires steady { rules.now.drift_us ≤ most_drift_us }
-    requires from { from_us ≤ window_us rules.now.within.us }
-    requires by { by_us ≤ window_us rules.now.within.us }
-    ensures value { result ≡ vote_between rules.now.within.us rules.now.drift_us first from_us by_us }
+    requires from { between.from_us ≤ window_us rules.now.within.us }
+    requires by { between.by_us ≤ window_us rules.now.within.us }
+    ensures value { result ≡ vote_between rules.now.within.us rules.now.drift_us first
+        between.from_us between.by_us }
     ensures small { result.bound_us ≤ most_vote_us }
 {
     Vote {
         claim: first.claim,
-        edge_us: first.end_us.wrapping_add((from_us + by_us) / 2),
+        edge_us: first
+            .end_us
+            .wrapping_add((between.from_us + between.by_us) / 2),
         bound_us: rules.within.us() - 1
             + rules.drift_us.div_ceil(100)
-            + by_us.saturating_sub(from_us).div_ceil(2),
+            + between.by_us.saturating_sub(between.from_us).div_ceil(2),
     }
 }
 
@@ -253,27 +263,27 @@ fn first_candidate(window_us: u32, f: u8, all: &[Option<KeptClaim>]) -> Option<K
         let Some(frame) = x else {
             continue;
         };
-        if is_candidate(window_us, f, *frame, all) {
+        if is_candidate(window_us, f, frame, all) {
             so_far = earlier(window_us, so_far, *frame);
         }
     }
     so_far
 }
 
-fn is_candidate(window_us: u32, f: u8, x: KeptClaim, all: &[Option<KeptClaim>]) -> bool
-    ensures { result ≡ is_candidate window_us f x all.now }
+fn is_candidate(window_us: u32, f: u8, x: &KeptClaim, all: &[Option<KeptClaim>]) -> bool
+    ensures { result ≡ is_candidate window_us f x.now all.now }
 {
     usize::from(f) < agreeing(window_us, x, all)
 }
 
-fn agreeing(window_us: u32, x: KeptClaim, all: &[Option<KeptClaim>]) -> usize
-    ensures { result ≡ count_by (agrees window_us x) all.now }
+fn agreeing(window_us: u32, x: &KeptClaim, all: &[Option<KeptClaim>]) -> usize
+    ensures { result ≡ count_by (agrees window_us x.now) all.now }
 {
-    all.iter().filter(|y| agrees(window_us, x, **y)).count()
+    all.iter().filter(|y| agrees(window_us, x, y)).count()
 }
 
-fn agrees(window_us: u32, x: KeptClaim, y: Option<KeptClaim>) -> bool
-    ensures { result ≡ agrees window_us x y }
+fn agrees(window_us: u32, x: &KeptClaim, y: &Option<KeptClaim>) -> bool
+    ensures { result ≡ agrees window_us x.now y.now }
 {
     match y {
         Some(y) => x.claim == y.claim && y.end_us.wrapping_sub(x.end_us) <= window_us,
@@ -296,85 +306,67 @@ fn earlier(window_us: u32, so_far: Option<KeptClaim>, x: KeptClaim) -> Option<Ke
     }
 }
 
-// Of the ends of frames that agree with this one the first by which f + 1 frames end, behind this
-// one's.
-fn ended_by(window_us: u32, f: u8, x: KeptClaim, all: &[Option<KeptClaim>]) -> u32
-    ensures value { result ≡ ended_by window_us f x all.now all.now window_us }
-    ensures most { result ≤ window_us }
+// The two times by all frames.
+fn narrowed_by_all(window_us: u32, f: u8, x: &KeptClaim, all: &[Option<KeptClaim>]) -> Between
+    ensures from { result.from_us ≡ ending_from window_us f x.now all.now all.now 0 }
+    ensures by { result.by_us ≡ ended_by window_us f x.now all.now all.now window_us }
+    ensures from_most { result.from_us ≤ window_us }
+    ensures by_most { result.by_us ≤ window_us }
 {
-    let mut so_far = window_us;
+    let mut so_far = Between {
+        from_us: 0,
+        by_us: window_us,
+    };
     for y in all {
-        so_far = earlier_end(window_us, f, x, all, *y, so_far);
+        so_far = narrowed(window_us, f, x, all, y, so_far);
     }
     so_far
 }
 
-fn earlier_end(
+// The two times by one frame more.
+fn narrowed(
     window_us: u32,
     f: u8,
-    x: KeptClaim,
+    x: &KeptClaim,
     all: &[Option<KeptClaim>],
-    y: Option<KeptClaim>,
-    so_far: u32,
-) -> u32
-    requires { so_far ≤ window_us }
-    ensures value { result ≡ earlier_end window_us f x all.now y so_far }
-    ensures most { result ≤ window_us }
+    y: &Option<KeptClaim>,
+    so_far: Between,
+) -> Between
+    requires from { so_far.from_us ≤ window_us }
+    requires by { so_far.by_us ≤ window_us }
+    ensures from { result.from_us ≡ later_end window_us f x.now all.now y.now so_far.from_us }
+    ensures by { result.by_us ≡ earlier_end window_us f x.now all.now y.now so_far.by_us }
+    ensures from_most { result.from_us ≤ window_us }
+    ensures by_most { result.by_us ≤ window_us }
 {
+    if !agrees(window_us, x, y) {
+        return so_far;
+    }
     let behind_us = end_behind(x, y);
-    if agrees(window_us, x, y) && usize::from(f) < ending_by(x, behind_us, all) {
-        behind_us.min(so_far)
-    } else {
-        so_far
+    let mut between = so_far;
+    if usize::from(f) < ending_by(x, behind_us, all) {
+        between.by_us = behind_us.min(between.by_us);
     }
-}
-
-// The last from which on f + 1 frames end.
-fn ending_from(window_us: u32, f: u8, x: KeptClaim, all: &[Option<KeptClaim>]) -> u32
-    ensures value { result ≡ ending_from window_us f x all.now all.now 0 }
-    ensures most { result ≤ window_us }
-{
-    let mut so_far = 0;
-    for y in all {
-        so_far = later_end(window_us, f, x, all, *y, so_far);
+    if usize::from(f) < ending_since(x, behind_us, all) {
+        between.from_us = behind_us.max(between.from_us);
     }
-    so_far
+    between
 }
 
-fn later_end(
-    window_us: u32,
-    f: u8,
-    x: KeptClaim,
-    all: &[Option<KeptClaim>],
-    y: Option<KeptClaim>,
-    so_far: u32,
-) -> u32
-    requires { so_far ≤ window_us }
-    ensures value { result ≡ later_end window_us f x all.now y so_far }
-    ensures most { result ≤ window_us }
+fn ending_by(x: &KeptClaim, behind_us: u32, all: &[Option<KeptClaim>]) -> usize
+    ensures { result ≡ count_by (ends_by x.now behind_us) all.now }
 {
-    let behind_us = end_behind(x, y);
-    if agrees(window_us, x, y) && usize::from(f) < ending_since(x, behind_us, all) {
-        behind_us.max(so_far)
-    } else {
-        so_far
-    }
+    all.iter().filter(|y| ends_by(x, behind_us, y)).count()
 }
 
-fn ending_by(x: KeptClaim, behind_us: u32, all: &[Option<KeptClaim>]) -> usize
-    ensures { result ≡ count_by (ends_by x behind_us) all.now }
+fn ending_since(x: &KeptClaim, behind_us: u32, all: &[Option<KeptClaim>]) -> usize
+    ensures { result ≡ count_by (ends_from x.now behind_us) all.now }
 {
-    all.iter().filter(|y| ends_by(x, behind_us, **y)).count()
+    all.iter().filter(|y| ends_from(x, behind_us, y)).count()
 }
 
-fn ending_since(x: KeptClaim, behind_us: u32, all: &[Option<KeptClaim>]) -> usize
-    ensures { result ≡ count_by (ends_from x behind_us) all.now }
-{
-    all.iter().filter(|y| ends_from(x, behind_us, **y)).count()
-}
-
-fn end_behind(x: KeptClaim, y: Option<KeptClaim>) -> u32
-    ensures { result ≡ end_behind x y }
+fn end_behind(x: &KeptClaim, y: &Option<KeptClaim>) -> u32
+    ensures { result ≡ end_behind x.now y.now }
 {
     match y {
         Some(y) => y.end_us.wrapping_sub(x.end_us),
@@ -382,31 +374,34 @@ fn end_behind(x: KeptClaim, y: Option<KeptClaim>) -> u32
     }
 }
 
-fn place_behind(x: KeptClaim, y: KeptClaim) -> u32
-    ensures { result ≡ place_behind x y }
+// How far behind 1 ms before a frame another one ends.
+fn place_behind(x: &KeptClaim, y: &KeptClaim) -> u32
+    ensures { result ≡ place_behind x.now y.now }
 {
     y.end_us.wrapping_sub(x.end_us).wrapping_add(BEFORE_US)
 }
 
-fn ends_by(x: KeptClaim, behind_us: u32, y: Option<KeptClaim>) -> bool
-    ensures { result ≡ ends_by x behind_us y }
+fn ends_by(x: &KeptClaim, behind_us: u32, y: &Option<KeptClaim>) -> bool
+    ensures { result ≡ ends_by x.now behind_us y.now }
 {
     match y {
         Some(y) => {
-            x.claim == y.claim && u64::from(place_behind(x, y)) <= u64::from(behind_us) + 1_000
+            place_behind(x, y).saturating_sub(BEFORE_US) <= behind_us && x.claim == y.claim
         }
         None => false,
     }
 }
 
-fn ends_from(x: KeptClaim, behind_us: u32, y: Option<KeptClaim>) -> bool
-    ensures { result ≡ ends_from x behind_us y }
+fn ends_from(x: &KeptClaim, behind_us: u32, y: &Option<KeptClaim>) -> bool
+    ensures { result ≡ ends_from x.now behind_us y.now }
 {
     match y {
         Some(y) => {
-            x.claim == y.claim
-                && u64::from(behind_us) + 1_000 <= u64::from(place_behind(x, y))
-                && place_behind(x, y) < 1 << 31
+            let place_us = place_behind(x, y);
+            BEFORE_US <= place_us
+                && place_us < 1 << 31
+                && behind_us <= place_us - BEFORE_US
+                && x.claim == y.claim
         }
         None => false,
     }

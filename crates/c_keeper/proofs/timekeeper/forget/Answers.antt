@@ -1,4 +1,4 @@
-use Rattle.std.proofs.Common.{sym, ap, subst}
+use Rattle.std.proofs.Common.{◌∙◌, sym, ap, subst}
 use Rattle.irig_timekeeper.specs.Steps.{AreNewLines}
 use Rattle.c_keeper.specs.declared.line.IrigLines.{IrigLines}
 use Rattle.c_keeper.specs.declared.timekeeper.IrigTimekeeper.{IrigTimekeeper}
@@ -7,10 +7,10 @@ use Rattle.c_keeper.proofs.timekeeper.forget.Goals as goal
 
 pub returns-clause-lines : goal.returns-clause-lines
 returns-clause-lines c limits rules =
-    subst (λ (ls : IrigLines). AreNewLines (lines_in limits rules ls)) (sym (ap (λ (t : IrigTimekeeper). t.lines) c.set_edge.ensures.others))
+    subst (λ (ls : IrigLines). AreNewLines (lines_in limits rules ls)) (sym (ap (λ (t : IrigTimekeeper). t.lines) c.set_interval.ensures.others ∙ ap (λ (t : IrigTimekeeper). t.lines) c.set_edge.ensures.others))
     (c.lines_of_nothing-timekeeper.ensures.new limits rules)
 
 pub returns-clause-absent : goal.returns-clause-absent
 returns-clause-absent c ports =
-    subst (λ (ls : IrigLines). KeepNoMore ports ls) (sym (ap (λ (t : IrigTimekeeper). t.lines) c.set_edge.ensures.others))
+    subst (λ (ls : IrigLines). KeepNoMore ports ls) (sym (ap (λ (t : IrigTimekeeper). t.lines) c.set_interval.ensures.others ∙ ap (λ (t : IrigTimekeeper). t.lines) c.set_edge.ensures.others))
     (c.lines_of_nothing-timekeeper.ensures.absent ports)

@@ -1,10 +1,15 @@
-use Rattle.std.proofs.Common.{◌≡◌, ◌∙◌, ◌∷◌, ◌++◌, ℕ, Bool, true, false, List, Option, sym, ap, subst, refl, arith, ◌+◌}
+use Rattle.std.specs.Prelude.{◌==◌}
+use Rattle.std.proofs.Common.{cond, ◌≡◌, ◌∙◌, ◌∷◌, ◌++◌, ℕ, Bool, true, false, List, Option, sym, ap, subst, refl, arith, ◌+◌}
 use Rattle.irig_sync.specs.Lines.{Pulse}
 use Rattle.irig_reader.specs.declared.report.Report.{Report}
 use Rattle.irig_timekeeper.specs.declared.clock.Beat.{Beat}
 use Rattle.irig_timekeeper.specs.Keeping.{Keeping, nothing_heard}
 use Rattle.irig_timekeeper.specs.Lines.{IsTrueLately, IsTrueOrFaulty}
+use Rattle.irig_timekeeper.specs.declared.clock.ClockState.{ClockState}
+use Rattle.irig_timekeeper.specs.Life.Call.{Tick}
+use Rattle.irig_timekeeper.specs.Lived.{made_with}
 use Rattle.irig_timekeeper.proofs.LineLaws.{true_lately}
+use Rattle.irig_timekeeper.proofs.StrayLaws.{never_strays}
 use Rattle.irig_timekeeper.proofs.VotedLaws.{tick_voted}
 use Rattle.c_numbers.specs.declared.setup.IrigSetup.{IrigSetup}
 use Rattle.c_numbers.specs.declared.table.IrigTable.{IrigTable}
@@ -13,6 +18,7 @@ use Rattle.c_numbers.specs.Numbers.{sense_in}
 use Rattle.c_numbers.specs.Setups.{limits_in, redundancy_in, rules_in, IsSetup}
 use Rattle.c_keeper.specs.CheckWord.{check_of}
 use Rattle.c_keeper.specs.Lines.{frames_in}
+use Rattle.c_keeper.specs.Lives.{calls_of}
 use Rattle.c_keeper.specs.Lives.Moment.{Ticked}
 use Rattle.c_keeper.specs.Seconds.{IsSecondOf}
 use Rattle.c_keeper.specs.Timekeepers.{answer_in, clock_in, clock_state_in, AreWires}
@@ -64,6 +70,7 @@ returns-clause-after c k h =
         wires = subst AreWires (sym new.wires) h.accepted.wires;
         steady = steady_as t q new.setup new.wires h.accepted.steady;
         bound = new.bound;
+        known = new.known;
         is_state = new.is_state;
         last = new.last;
         before = new.before;
@@ -175,3 +182,18 @@ returns-clause-faulty_calm c t edges made start now past h clock =
 pub returns-clause-announces_by_wait : goal.returns-clause-announces_by_wait
 returns-clause-announces_by_wait c t edges made start m late now moments before u h clock =
     has_announced_by_wait _ t edges made start m late now c.tick_accepted.result moments before u (returns-clause-lived c made (moments ++ before) now h clock)
+
+pub returns-then-not-is_accepted-clause-strays : goal.returns-then-not-is_accepted-clause-strays
+returns-then-not-is_accepted-clause-strays c t edges made start now past h clock = absurd (never (sym c.if-not-is_accepted.true ∙ c.is_accepted.ensures.1 h.is.accepted))
+
+pub returns-clause-strays : goal.returns-clause-strays
+returns-clause-strays c t edges made start now past h clock well =
+    let lived = returns-clause-lived c made past now h clock in
+    c.tick_accepted.ensures.strays ∙ of (c.tick_accepted.result.is_told == 0)
+    (ap (λ (s : ClockState). s.strays) lived.is.state
+    ∙ never_strays (IsTrueLately made.clock.within.us) t edges (made_with made lived.lines lived.fresh) start (Tick now ∷ calls_of past) (record { is = well.is; order = well.order; truth = well.truth })
+    (λ now end pulses claim is frame soon. true_lately made.clock.within made.rules t made.clock.drift_us edges now end pulses claim well.is.steady is frame soon))
+  where
+    of : {n : ℕ} (b : Bool) → n ≡ 0 → cond b 0 n ≡ 0
+    of true same = refl
+    of false same = same

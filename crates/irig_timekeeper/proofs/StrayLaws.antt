@@ -1,0 +1,489 @@
+-- While lines are true and the counter keeps its setting, the true edge lies in the interval that all
+-- votes leave, and no vote contradicts it.
+use Rattle.std.specs.Prelude.{◌==◌, nat_le, nat_lt, min}
+use Rattle.std.proofs.Common.{◌≡◌, ◌∙◌, ◌⊎◌, ℕ, zero, suc, ◌+◌, ◌-◌, ◌*◌, ◌/◌, ◌%◌, ◌^◌, ◌<◌, ◌≤◌, Bool, true, false, cond, List, [], ◌∷◌, Option, Some, None, refl, sym, ap, subst, arith, inl, inr}
+use Rattle.std.specs.Option.{ForSome}
+use Rattle.std.proofs.Math.Nat.{mul-le-mul_left}
+use Rattle.std.proofs.lemmas.Bool.{cases_Bool, cases_lt, eqb-true, eqb-false, ltb-true, ltb-false, leb-true, leb-false, lt-ltb}
+use Rattle.irig_sync.specs.Sync.{clock_gap}
+use Rattle.irig_timekeeper.specs.declared.interval.Interval.{Interval}
+use Rattle.irig_timekeeper.specs.declared.lines.Vote.{Vote}
+use Rattle.irig_timekeeper.specs.Edges.{IsQuartz, IsNear}
+use Rattle.irig_timekeeper.specs.Counting.{edges_between, edges_to_vote, edges_own}
+use Rattle.irig_time.specs.Timelines.{TimelineValue}
+use Rattle.irig_timekeeper.specs.Intervals.{LiesBetween, AreNear, by_vote, carried, carried_on, common_from, common, or_alone, cut, is_nothing, contradicts}
+use Rattle.irig_timekeeper.specs.Truth.{IsTrueVote, IsEdgeAt, IsDevice}
+use Rattle.irig_time.specs.Tables.{TableValue}
+use Rattle.irig_timekeeper.specs.declared.clock.ClockState.{ClockState}
+use Rattle.irig_timekeeper.specs.declared.setup.ClockRules.{ClockRules}
+use Rattle.irig_sync.specs.Lines.{Pulse}
+use Rattle.irig_time.specs.declared.rules.Rules.{Rules}
+use Rattle.irig_vote.specs.Vote.{f_of}
+use Rattle.irig_timekeeper.specs.Clock.{own_edge, after_own, after_vote, knowing, knowing_vote, clock_by, settled_at}
+use Rattle.irig_timekeeper.specs.Steps.{is_pulse, settled, agreed, if_come}
+use Rattle.irig_timekeeper.specs.Keeping.{Keeping, vote_at, after_pulse, after_tick}
+use Rattle.irig_timekeeper.specs.Life.{Call, Made, after_calls, device_of, life_of, last_tick, pulses_on, AreInOrder, AreTrueLately, AreTrueAtTicks, LivesTruly}
+use Rattle.irig_timekeeper.specs.Life.Call.{Hear, Tick}
+use Rattle.irig_timekeeper.proofs.VoteLaws.{vote_is_true}
+use Rattle.irig_timekeeper.proofs.LifeLaws.{AreLinesAt, TellAlwaysTruly, begins, heard_truly, lines_after}
+use Rattle.irig_timekeeper.proofs.TimeLaws.{own_come, own_count, still_edge, own_edge_at, voted_count}
+use Rattle.irig_timekeeper.proofs.CountingLaws.{apart, counts, rises}
+
+low_is : (g w : ℕ) → g ≤ w → nat_le g w ≡ true
+low_is g w h = grind (arith, h)
+
+less_is : (g w : ℕ) → g < w → nat_lt g w ≡ true
+less_is g w h = grind (arith, h)
+
+not_less : (g w : ℕ) → w ≤ g → nat_lt g w ≡ false
+not_less g w h = grind (arith, h)
+
+-- ---- an interval, by a clock that does not wrap
+
+-- it begins at this time, and the time of an edge lies in it
+pub record IsAround (x : Interval) (begin edge : ℕ) : Type 0 where
+  pub clock : x.begin_us ≡ begin % 2 ^ 32
+  pub least : begin ≤ edge
+  pub most : edge ≤ begin + x.long_us
+
+-- what is common to two of them lies round the edge, too, and in the second one
+pub record IsCommon (x y : Interval) (bx by edge : ℕ) (both : Interval) : Type 0 where
+  pub begin : ℕ
+  pub around : IsAround both begin edge
+  pub behind : by ≤ begin
+  pub before : begin + both.long_us ≤ by + y.long_us
+  pub short : both.long_us ≤ x.long_us
+
+least_low : (p q : ℕ) → (min p q ≤ p) × (min p q ≤ q)
+least_low p q = elim (cases_lt p q) [
+  | inl less ↦ let is : min p q ≡ p = grind (arith, less) in (omega (arith, is), omega (arith, is, less))
+  | inr more ↦ let is : min p q ≡ q = grind (arith, more) in (omega (arith, is, more), omega (arith, is))
+]
+
+least_high : (p q k : ℕ) → k ≤ p → k ≤ q → k ≤ min p q
+least_high p q k one other = elim (cases_lt p q) [
+  | inl less ↦ let is : min p q ≡ p = grind (arith, less) in omega (arith, is, one)
+  | inr more ↦ let is : min p q ≡ q = grind (arith, more) in omega (arith, is, other)
+]
+
+module _ (x y : Interval) (bx by edge : ℕ) (px : IsAround x bx edge) (py : IsAround y by edge) (short : x.long_us ≤ 980000) (few : y.long_us ≤ 980000) where
+  gap_behind : bx ≤ by → clock_gap x.begin_us y.begin_us ≡ by - bx
+  gap_behind order = of x.begin_us y.begin_us px.clock py.clock (omega (arith, px.most, py.least, short))
+    where
+      of : (e f : ℕ) → e ≡ bx % 2 ^ 32 → f ≡ by % 2 ^ 32 → by ≤ bx + 980000 → clock_gap e f ≡ by - bx
+      of e f p q near = omega (arith, p, q, near, order)
+
+  gap_before : by < bx → (2 ^ 31 ≤ clock_gap x.begin_us y.begin_us) × (clock_gap y.begin_us x.begin_us ≡ bx - by)
+  gap_before order = of x.begin_us y.begin_us px.clock py.clock (omega (arith, py.most, px.least, few))
+    where
+      of : (e f : ℕ) → e ≡ bx % 2 ^ 32 → f ≡ by % 2 ^ 32 → bx ≤ by + 980000 → (2 ^ 31 ≤ clock_gap e f) × (clock_gap f e ≡ bx - by)
+      of e f p q near = (omega (arith, p, q, near, order), omega (arith, p, q, near, order))
+
+  pub meets : (both : Interval) × (common x y ≡ Some both) × IsCommon x y bx by edge both
+  meets = elim (cases_lt by bx) [
+    | inr behind ↦
+        let gap = gap_behind behind in
+        let low : nat_lt (by - bx) (2 ^ 31) ≡ true = less_is (by - bx) (2 ^ 31) (omega (arith, px.most, py.least, short)) in
+        let inside : nat_le (by - bx) x.long_us ≡ true = low_is (by - bx) x.long_us (omega (arith, px.most, py.least)) in
+        let both : Interval = record { begin_us = y.begin_us; long_us = min (x.long_us - (by - bx)) y.long_us } in
+        let least = least_low (x.long_us - (by - bx)) y.long_us in
+        let high = least_high (x.long_us - (by - bx)) y.long_us (edge - by) (omega (arith, px.most, behind)) (omega (arith, py.most)) in (
+          both,
+          rw (gap, low, inside) refl,
+          record {
+            begin = by;
+            around = record { clock = py.clock; least = py.least; most = omega (arith, high, py.least) };
+            behind = omega arith;
+            before = omega (arith, least.1);
+            short = omega (arith, least.0);
+          },
+        )
+    | inl before ↦
+        let gap = gap_before before in
+        let high : nat_lt (clock_gap x.begin_us y.begin_us) (2 ^ 31) ≡ false = not_less (clock_gap x.begin_us y.begin_us) (2 ^ 31) gap.0 in
+        let inside : nat_le (bx - by) y.long_us ≡ true = low_is (bx - by) y.long_us (omega (arith, py.most, px.least)) in
+        let both : Interval = record { begin_us = x.begin_us; long_us = min (y.long_us - (bx - by)) x.long_us } in
+        let least = least_low (y.long_us - (bx - by)) x.long_us in
+        let most = least_high (y.long_us - (bx - by)) x.long_us (edge - bx) (omega (arith, py.most, before)) (omega (arith, px.most)) in (
+          both,
+          rw (high, gap.1, inside) refl,
+          record {
+            begin = bx;
+            around = record { clock = px.clock; least = px.least; most = omega (arith, most, px.least) };
+            behind = omega (arith, before);
+            before = omega (arith, least.0, py.most, px.least);
+            short = omega (arith, least.1);
+          },
+        )
+  ]
+
+wraps : (e begin more : ℕ) → e ≡ begin % 2 ^ 32 → (e + more) % 2 ^ 32 ≡ (begin + more) % 2 ^ 32
+wraps e begin more is = omega (arith, is)
+
+-- ---- what lies apart contradicts, and what is cut lies in both
+
+module _ (x y : Interval) (b e b' e' : ℕ) (px : LiesBetween b e x) (py : LiesBetween b' e' y) (near : AreNear b e b' e') where
+  behind_is : px.begin ≤ py.begin → clock_gap x.begin_us y.begin_us ≡ py.begin - px.begin
+  behind_is order = of x.begin_us y.begin_us px.clock py.clock (omega (arith, py.most, px.least, near.behind))
+    where
+      of : (u v : ℕ) → u ≡ px.begin % 2 ^ 32 → v ≡ py.begin % 2 ^ 32 → py.begin < px.begin + 2 ^ 31 → clock_gap u v ≡ py.begin - px.begin
+      of u v p q close = omega (arith, p, q, close, order)
+
+  before_is : py.begin < px.begin → (2 ^ 31 ≤ clock_gap x.begin_us y.begin_us) × (clock_gap y.begin_us x.begin_us ≡ px.begin - py.begin)
+  before_is order = of x.begin_us y.begin_us px.clock py.clock (omega (arith, px.most, py.least, near.before))
+    where
+      of : (u v : ℕ) → u ≡ px.begin % 2 ^ 32 → v ≡ py.begin % 2 ^ 32 → px.begin < py.begin + 2 ^ 31 → (2 ^ 31 ≤ clock_gap u v) × (clock_gap v u ≡ px.begin - py.begin)
+      of u v p q close = (omega (arith, p, q, close, order), omega (arith, p, q, close, order))
+
+  small_gap : px.begin ≤ py.begin → py.begin - px.begin < 2 ^ 31
+  small_gap order = omega (arith, py.most, px.least, near.behind)
+
+  -- what both have in common
+  by_gap : (gap : ℕ) (first second : Interval) (z : Interval) → common_from gap first second ≡ Some z → (gap ≤ first.long_us) × (z.begin_us ≡ second.begin_us) × (z.long_us + gap ≤ first.long_us) × (z.long_us ≤ second.long_us)
+  by_gap gap first second z is = of (nat_le gap first.long_us) refl is
+    where
+      of : (test : Bool) → nat_le gap first.long_us ≡ test → cond test (Some (record { begin_us = second.begin_us; long_us = min (first.long_us - gap) second.long_us })) None ≡ Some z
+          → (gap ≤ first.long_us) × (z.begin_us ≡ second.begin_us) × (z.long_us + gap ≤ first.long_us) × (z.long_us ≤ second.long_us)
+      of false t is = absurd cc
+      of true t is =
+          let low = leb-true gap first.long_us t in
+          let begin : z.begin_us ≡ second.begin_us = cc in
+          let long : z.long_us ≡ min (first.long_us - gap) second.long_us = cc in
+          let least = least_low (first.long_us - gap) second.long_us in
+          (low, begin, omega (arith, long, least.0, low), omega (arith, long, least.1))
+
+  pub lies_in_both : (z : Interval) → common x y ≡ Some z → LiesBetween b e z × LiesBetween b' e' z
+  lies_in_both z is = elim (cases_lt py.begin px.begin) [
+    | inr behind ↦
+        let gap = behind_is behind in
+        let low : nat_lt (py.begin - px.begin) (2 ^ 31) ≡ true = less_is (py.begin - px.begin) (2 ^ 31) (small_gap behind) in
+        let from : common_from (py.begin - px.begin) x y ≡ Some z = rw (gap, low) at is in
+        let parts = by_gap (py.begin - px.begin) x y z from in (
+          record { begin = py.begin; clock = parts.1 ∙ py.clock; least = omega (arith, px.least, behind); most = omega (arith, parts.2, px.most, behind) },
+          record { begin = py.begin; clock = parts.1 ∙ py.clock; least = py.least; most = omega (arith, parts.3, py.most) },
+        )
+    | inl before ↦
+        let gap = before_is before in
+        let high : nat_lt (clock_gap x.begin_us y.begin_us) (2 ^ 31) ≡ false = not_less (clock_gap x.begin_us y.begin_us) (2 ^ 31) gap.0 in
+        let from : common_from (px.begin - py.begin) y x ≡ Some z = rw (high, gap.1) at is in
+        let parts = by_gap (px.begin - py.begin) y x z from in (
+          record { begin = px.begin; clock = parts.1 ∙ px.clock; least = px.least; most = omega (arith, parts.3, px.most) },
+          record { begin = px.begin; clock = parts.1 ∙ px.clock; least = omega (arith, py.least, before); most = omega (arith, parts.2, py.most, before) },
+        )
+  ]
+
+  pub apart_contradicts : (e < b') ⊎ (e' < b) → contradicts (Some x) y ≡ true
+  apart_contradicts far = of (common x y) refl
+    where
+      of : (o : Option Interval) → common x y ≡ o → is_nothing o ≡ true
+      of None is = refl
+      of (Some z) is =
+          let both = lies_in_both z is in
+          let one = both.0 in
+          let other = both.1 in
+          let same = near_begin z one other in
+          elim far [
+            | inl behind ↦ absurd (omega (arith, behind, one.most, other.least, same))
+            | inr before ↦ absurd (omega (arith, before, other.most, one.least, same))
+          ]
+        where
+          by : (u p q : ℕ) → u ≡ p % 2 ^ 32 → u ≡ q % 2 ^ 32 → p < q + 2 ^ 31 → q < p + 2 ^ 31 → p ≡ q
+          by u p q is is' close close' = omega (arith, is, is', close, close')
+
+          near_begin : (z : Interval) (one : LiesBetween b e z) (other : LiesBetween b' e' z) → one.begin ≡ other.begin
+          near_begin z one other = by z.begin_us one.begin other.begin one.clock other.clock (omega (arith, one.most, other.least, near.before)) (omega (arith, other.most, one.least, near.behind))
+
+pub vote_lies : (v : Vote) (edge : ℕ) → v.edge_us ≡ edge % 2 ^ 32 → v.bound_us ≤ edge → v.bound_us ≤ 899 → LiesBetween (edge - v.bound_us) (edge + v.bound_us) (by_vote v)
+vote_lies v edge clock late small = record { begin = edge - v.bound_us; clock = of v.edge_us edge v.bound_us clock late small; least = omega arith; most = omega (arith, late) }
+  where
+    of : (e edge bound : ℕ) → e ≡ edge % 2 ^ 32 → bound ≤ edge → bound ≤ 899 → (e + 2 ^ 32 - bound) % 2 ^ 32 ≡ (edge - bound) % 2 ^ 32
+    of e edge bound is low few = omega (arith, is, low, few)
+
+pub carried_lies : (d n from to : ℕ) (x y : Interval) → d ≤ 100 → LiesBetween from to x → carried d n x ≡ Some y → LiesBetween (from + (n * 1000000 - n * d)) (to + n * 1000000 + n * d) y
+carried_lies d n from to x y few h is = of (nat_lt (2 * 490000) (x.long_us + 2 * (n * d))) is
+  where
+    of : (test : Bool) → cond test None (Some (record { begin_us = (x.begin_us + (n * 1000000 - n * d)) % 2 ^ 32; long_us = x.long_us + 2 * (n * d) })) ≡ Some y → LiesBetween (from + (n * 1000000 - n * d)) (to + n * 1000000 + n * d) y
+    of true is = absurd cc
+    of false is =
+        let begin : y.begin_us ≡ (x.begin_us + (n * 1000000 - n * d)) % 2 ^ 32 = cc in
+        let long : y.long_us ≡ x.long_us + 2 * (n * d) = cc in
+        let slow = mul-le-mul_left n few in
+        record {
+          begin = h.begin + (n * 1000000 - n * d);
+          clock = begin ∙ wraps x.begin_us h.begin (n * 1000000 - n * d) h.clock;
+          least = omega (arith, h.least);
+          most = omega (arith, h.most, long, slow);
+        }
+
+-- ---- what is known of an edge
+
+-- T(w) begins in the interval, and the edge of a device lies near that: the drift since the last vote was
+-- half of what the interval grew by, at most
+pub record KnowsEdge (edges : ℕ → ℕ) (edge w : ℕ) (x : Interval) : Type 0 where
+  pub begin : ℕ
+  pub around : IsAround x begin (edges w)
+  pub drift : ℕ
+  pub grown : 2 * drift ≤ x.long_us
+  pub before : edge ≤ begin + 899 + drift
+  pub behind : begin + x.long_us ≤ edge + 899 + drift
+  pub short : x.long_us ≤ 980000
+
+-- so it does if anything is known
+abbrev pub IfKnown : (ℕ → ℕ) → (edge w : ℕ) → Option Interval → Type 0
+IfKnown edges edge w None = Unit {0}
+IfKnown edges edge w (Some x) = KnowsEdge edges edge w x
+
+module _ (d : ℕ) (edges : ℕ → ℕ) (quartz : IsQuartz d edges) where
+  -- so many seconds later
+  carries : (edge w n : ℕ) (x : Interval) → KnowsEdge edges edge w x → IfKnown edges (edge + n * 1000000) (w + n) (carried d n x)
+  carries edge w n x h = elim (cases_lt (2 * 490000) (x.long_us + 2 * (n * d))) [
+    | inl long ↦ rw (less_is (2 * 490000) (x.long_us + 2 * (n * d)) long) tt
+    | inr short ↦
+        let far = apart d edges quartz w n in
+        let slow = mul-le-mul_left n (let few : d ≤ 100 = omega (arith, quartz.few) in few) in
+        rw (not_less (2 * 490000) (x.long_us + 2 * (n * d)) short) (record {
+          begin = h.begin + (n * 1000000 - n * d);
+          around = record {
+            clock = wraps x.begin_us h.begin (n * 1000000 - n * d) h.around.clock;
+            least = omega (arith, h.around.least, far.least, slow);
+            most = omega (arith, h.around.most, far.most, slow);
+          };
+          drift = h.drift + n * d;
+          grown = omega (arith, h.grown);
+          before = omega (arith, h.before, slow);
+          behind = omega (arith, h.behind, slow);
+          short = omega (arith, short);
+        })
+  ]
+
+  pub carries_on : (edge w n : ℕ) (o : Option Interval) → IfKnown edges edge w o → IfKnown edges (edge + n * 1000000) (w + n) (carried_on d n o)
+  carries_on edge w n None h = tt
+  carries_on edge w n (Some x) h = carries edge w n x h
+
+  -- ---- a true vote
+
+  module _ (t : TimelineValue) (now : ℕ) (v : Vote) (vote : IsTrueVote t edges 0 0 now v) where
+    abbrev m : ℕ
+    m = vote.truth.second + 1
+
+    late : 999001 ≤ vote.edge
+    late =
+        let rise = rises d edges quartz 0 (vote.truth.second + 1) in
+        let there : 0 + (vote.truth.second + 1) ≡ vote.truth.second + 1 = omega arith in
+        let at : edges (0 + (vote.truth.second + 1)) ≡ edges (vote.truth.second + 1) = ap edges there in
+        omega (arith, rise, at, vote.truth.near.least, vote.small)
+
+    -- by itself
+    alone : IsAround (by_vote v) (vote.edge - v.bound_us) (edges (vote.truth.second + 1))
+    alone = record {
+      clock = of v.edge_us vote.edge v.bound_us vote.clock (omega (arith, late, vote.small)) (omega (arith, vote.small));
+      least = omega (arith, vote.truth.near.most);
+      most = omega (arith, vote.truth.near.least, late, vote.small);
+    }
+      where
+        of : (e edge bound : ℕ) → e ≡ edge % 2 ^ 32 → bound ≤ edge → bound ≤ 899 → (e + 2 ^ 32 - bound) % 2 ^ 32 ≡ (edge - bound) % 2 ^ 32
+        of e edge bound is low few = omega (arith, is, low, few)
+
+    pub knows_alone : KnowsEdge edges vote.edge (vote.truth.second + 1) (by_vote v)
+    knows_alone = record {
+      begin = vote.edge - v.bound_us;
+      around = alone;
+      drift = 0;
+      grown = omega arith;
+      before = omega (arith, vote.small);
+      behind = omega (arith, late, vote.small);
+      short = omega (arith, vote.small);
+    }
+
+    -- the seconds from an edge whose time is known are counted right, if it still is known then
+    module _ (tick : ℕ) (order : tick ≤ now) (soon : now ≤ tick + 1800000000) (edge w : ℕ) (come : edge ≤ tick) (near : tick < edge + 1005000) (x : Interval) (h : KnowsEdge edges edge w x) (n : ℕ) (same : n ≡ edges_between edge vote.edge)
+        (short : x.long_us + 2 * (n * d) ≤ 980000) where
+      low : edges w ≤ edge + (899 + h.drift)
+      low = omega (arith, h.around.most, h.behind)
+
+      high : edge ≤ edges w + (899 + h.drift)
+      high = omega (arith, h.around.least, h.before)
+
+      few : 2 * h.drift + 2 * (n * d) ≤ 980000
+      few = omega (arith, h.grown, short)
+
+      not_before : w ≤ vote.truth.second + 1
+      not_before = elim (cases_lt (vote.truth.second + 1) w) [
+        | inr later ↦ later
+        | inl before ↦
+            let k : ℕ = w - (vote.truth.second + 1) in
+            let there : vote.truth.second + 1 + k ≡ w = omega (arith, before) in
+            let rise = subst (λ (i : ℕ). edges (vote.truth.second + 1) + k * 999900 ≤ edges i) there (rises d edges quartz (vote.truth.second + 1) k) in
+            let one : 1 ≤ k = omega (arith, before) in
+            absurd (omega (arith, rise, one, few, low, vote.truth.near.most, vote.small, vote.soon, come, order))
+      ]
+
+      k : ℕ
+      k = vote.truth.second + 1 - w
+
+      there : w + k ≡ vote.truth.second + 1
+      unfolding k
+      there = omega (arith, not_before)
+
+      one_more : k ≤ n + 1
+      one_more =
+          let far = apart d edges quartz w k in
+          let upto = subst (λ (i : ℕ). edges w + k * 1000000 ≤ edges i + k * d) there far.least in
+          let slow = mul-le-mul_left k (let few : d ≤ 100 = omega (arith, quartz.few) in few) in
+          let most : n ≤ 1803 = omega (arith, same, vote.come, soon, near) in
+          omega (arith, upto, slow, most, same, few, low, high, vote.truth.near.least, vote.small)
+
+      pub right : w + n ≡ vote.truth.second + 1
+      right =
+          let drifts = mul-le-mul_left d one_more in
+          let here = subst (λ (i : ℕ). IsNear edges v.bound_us v.bound_us i vote.edge) (sym there) (record { least = omega (arith, vote.truth.near.least); most = omega (arith, vote.truth.near.most) }) in
+          let count = counts d (899 + h.drift) (899 + h.drift) v.bound_us v.bound_us w k edge vote.edge edges quartz (record { least = low; most = high }) here
+          (omega (arith, drifts, few, quartz.few, vote.small)) (omega (arith, drifts, few, quartz.few, vote.small)) in
+          omega (arith, same, count, there)
+
+    -- by what was known too, which it does not contradict
+    pub record KnowsOn (o : Option Interval) : Type 0 where
+      pub knows : KnowsEdge edges vote.edge (vote.truth.second + 1) (cut o (by_vote v))
+      pub agrees : contradicts o (by_vote v) ≡ false
+
+    pub cuts : (edge w : ℕ) (o : Option Interval) → IfKnown edges edge w o → (ForSome o (λ x. w ≡ vote.truth.second + 1)) → KnowsOn o
+    cuts edge w None h at = record { knows = knows_alone; agrees = refl }
+    cuts edge w (Some x) h at =
+        let same : w ≡ vote.truth.second + 1 = at x refl in
+        let around : IsAround x h.begin (edges (vote.truth.second + 1)) = subst (λ (i : ℕ). IsAround x h.begin (edges i)) same h.around in
+        let both = meets x (by_vote v) h.begin (vote.edge - v.bound_us) (edges (vote.truth.second + 1)) around alone h.short (omega (arith, vote.small)) in
+        let is = both.1 in
+        let c = both.2 in
+        let around_both : IsAround both.0 c.begin (edges (vote.truth.second + 1)) = c.around in
+        let known : KnowsEdge edges vote.edge (vote.truth.second + 1) both.0 = record {
+          begin = c.begin;
+          around = around_both;
+          drift = 0;
+          grown = omega arith;
+          before = omega (arith, c.behind, vote.small);
+          behind = omega (arith, c.before, late, vote.small);
+          short = omega (arith, c.short, h.short);
+        } in
+        record {
+          knows = subst (λ (r : Option Interval). KnowsEdge edges vote.edge (vote.truth.second + 1) (or_alone r (by_vote v))) (sym is) known;
+          agrees = ap is_nothing is;
+        }
+
+-- ---- a clock
+
+-- nothing is known before the first edge
+abbrev pub IfEdge : (ℕ → ℕ) → ℕ → Option ℕ → Option Interval → Type 0
+IfEdge edges tick None known = known ≡ None
+IfEdge edges tick (Some e) known = (edge : ℕ) × (w : ℕ) × IsEdgeAt e edge tick × IfKnown edges edge w known
+
+-- its last edge is that of a tick, in what is known lies a true one, and no vote contradicted it
+pub record KnowsTruly (edges : ℕ → ℕ) (tick : ℕ) (s : ClockState) : Type 0 where
+  pub strays : s.strays ≡ 0
+  pub known : IfEdge edges tick s.edge_us s.interval
+
+module _ (d : ℕ) (edges : ℕ → ℕ) (quartz : IsQuartz d edges) (tick now : ℕ) (order : tick ≤ now) (soon : now ≤ tick + 1800000000) where
+  -- without a vote
+  own_edge_known : (o : Option ℕ) (known : Option Interval) → IfEdge edges tick o known → (n : ℕ) → n ≡ edges_own o (now % 2 ^ 32) → IfEdge edges now (cond (n == 0) o (Some (own_edge o n))) (carried_on d n known)
+  own_edge_known None known none n same = rw (same, none) refl
+  own_edge_known (Some e) known h n same =
+      let edge = h.0 in
+      let at = h.2 in
+      let count : n ≡ own_come edge now = same ∙ own_count tick now order soon e edge at in
+      elim (cases_Bool (n == 0)) [
+        | inl none ↦
+            let nothing : n ≡ 0 = eqb-true n 0 none in
+            let there : edge + n * 1000000 ≡ edge = omega (arith, nothing) in
+            let here : h.1 + n ≡ h.1 = omega (arith, nothing) in
+            let carried = subst (λ (x : ℕ). IfKnown edges x h.1 (carried_on d n known)) there (subst (λ (w : ℕ). IfKnown edges (edge + n * 1000000) w (carried_on d n known)) here (carries_on d edges quartz edge h.1 n known h.3)) in
+            rw none (edge, h.1, still_edge tick now order soon e edge at (sym count ∙ nothing), carried)
+        | inr some ↦
+            let one : 1 ≤ n = omega (arith, eqb-false n 0 some) in
+            rw some (edge + n * 1000000, h.1 + n, own_edge_at tick now order soon e edge at n count one, carries_on d edges quartz edge h.1 n known h.3)
+      ]
+
+  -- with a true one
+  module _ (t : TimelineValue) (v : Vote) (vote : IsTrueVote t edges 0 0 now v) where
+    edge_now : IsEdgeAt v.edge_us vote.edge now
+    edge_now = record { clock = vote.clock; come = vote.come; soon = omega (arith, vote.soon) }
+
+    voted : (o : Option ℕ) (known : Option Interval) → IfEdge edges tick o known → (n : ℕ) → n ≡ edges_to_vote o v.edge_us → KnowsOn d edges quartz t now v vote (carried_on d n known)
+    voted None known none n same = rw none (record { knows = knows_alone d edges quartz t now v vote; agrees = refl })
+    voted (Some e) None h n same = record { knows = knows_alone d edges quartz t now v vote; agrees = refl }
+    voted (Some e) (Some x) h n same =
+        let edge = h.0 in
+        let at = h.2 in
+        let count : n ≡ edges_between edge vote.edge = same ∙ voted_count tick now order soon e edge at v.edge_us vote.edge edge_now vote.soon in
+        elim (cases_lt (2 * 490000) (x.long_us + 2 * (n * d))) [
+          | inl long ↦ rw (less_is (2 * 490000) (x.long_us + 2 * (n * d)) long) (record { knows = knows_alone d edges quartz t now v vote; agrees = refl })
+          | inr short ↦
+              let right_count = right d edges quartz t now v vote tick order soon edge h.1 at.come at.soon x h.3 n count (omega (arith, short)) in
+              cuts d edges quartz t now v vote (edge + n * 1000000) (h.1 + n) (carried d n x) (carries d edges quartz edge h.1 n x h.3) (λ y e. right_count)
+        ]
+
+-- ---- a life
+
+module _ (IsTrue : ℕ → List Pulse → Type 0) (t : TimelineValue) (edges : ℕ → ℕ) (new : Keeping) (start : ℕ) (begins : AreLinesAt new new (λ i. []) start start) (is : IsDevice t new.clock.drift_us edges new.clock.reader_rules new.table)
+    (truly : TellAlwaysTruly IsTrue new.clock.within.us new.clock.drift_us new.rules t edges 0 0) where
+  knows_tick : (calls : List Call) (now : ℕ) → AreInOrder start new.clock.redundancy (Tick now ∷ calls) → AreTrueLately IsTrue (f_of new.clock.redundancy) now calls → KnowsTruly edges (last_tick start calls) (after_calls new calls).state
+      → KnowsTruly edges now (after_tick (after_calls new calls) (now % 2 ^ 32)).state
+  knows_tick calls now order lately h = of (vote_at k (now % 2 ^ 32)) refl
+    where
+      k : Keeping
+      k = after_calls new calls
+
+      s : ClockState
+      s = settled_at k.state (now % 2 ^ 32)
+
+      same : k.clock ≡ new.clock
+      same = (lines_after new start begins calls now order).same.clock
+
+      quartz : IsQuartz k.clock.drift_us edges
+      quartz = subst (λ (c : ClockRules). IsQuartz c.drift_us edges) (sym same) is.steady
+
+      soon : now ≤ last_tick start calls + 1800000000
+      soon = omega (arith, order.1)
+
+      true_vote : (v : Vote) → vote_at k (now % 2 ^ 32) ≡ Some v → IsTrueVote t edges 0 0 now v
+      true_vote v e =
+          vote_is_true (IsTrue now) new.rules t new.clock edges is.steady 0 0 (omega arith) now k.state.lines (λ i. pulses_on i calls) (truly now) (heard_truly IsTrue t edges 0 0 new start begins calls now order lately) v
+          (ap (λ (c : ClockRules). if_come (now % 2 ^ 32) (agreed c (settled (now % 2 ^ 32) k.state.lines))) (sym same) ∙ e)
+
+      own : (n : ℕ) → n ≡ edges_own k.state.edge_us (now % 2 ^ 32) → KnowsTruly edges now (knowing k.clock s n (after_own k.clock k.table s n))
+      own n count =
+          let known = own_edge_known k.clock.drift_us edges quartz (last_tick start calls) now order.0 soon k.state.edge_us k.state.interval h.known n count in
+          by (n == 0) refl known
+        where
+          by : (test : Bool) → (n == 0) ≡ test → IfEdge edges now (cond test k.state.edge_us (Some (own_edge k.state.edge_us n))) (carried_on k.clock.drift_us n k.state.interval) → KnowsTruly edges now (knowing k.clock s n (after_own k.clock k.table s n))
+          by true e known = rw e (record { strays = h.strays; known = known })
+          by false e known = rw e (record { strays = h.strays; known = known })
+
+      no_more : (strays : ℕ) (more : Bool) → strays ≡ 0 → more ≡ false → (strays + cond more 1 0) % 2 ^ 32 ≡ 0
+      no_more strays more none same = rw (none, same) refl
+
+      by_true : (v : Vote) (vote : IsTrueVote t edges 0 0 now v) (n : ℕ) → n ≡ edges_to_vote k.state.edge_us v.edge_us → KnowsTruly edges now (knowing_vote k.clock s v n (after_vote k.clock k.table s v n))
+      by_true v vote n count =
+          let on = voted k.clock.drift_us edges quartz (last_tick start calls) now order.0 soon t v vote k.state.edge_us k.state.interval h.known n count in
+          let known : IfEdge edges now (Some v.edge_us) (Some (cut (carried_on k.clock.drift_us n k.state.interval) (by_vote v))) = (vote.edge, vote.truth.second + 1, record { clock = vote.clock; come = vote.come; soon = omega (arith, vote.soon) }, on.knows) in
+          let none = no_more k.state.strays (contradicts (carried_on k.clock.drift_us n k.state.interval) (by_vote v)) h.strays on.agrees in
+          elim (cases_Bool (n == 0)) [
+            | inl waits ↦ rw waits (record { strays = none; known = known })
+            | inr more ↦ rw more (record { strays = none; known = known })
+          ]
+
+      of : (o : Option Vote) → vote_at k (now % 2 ^ 32) ≡ o → KnowsTruly edges now (clock_by k.clock k.table s (now % 2 ^ 32) o)
+      of None e = own (edges_own k.state.edge_us (now % 2 ^ 32)) refl
+      of (Some v) e = by_true v (true_vote v e) (edges_to_vote k.state.edge_us v.edge_us) refl
+
+  hears_on : (tick port rise width : ℕ) (k : Keeping) → KnowsTruly edges tick k.state → KnowsTruly edges tick (after_pulse k port (rise % 2 ^ 32) width).state
+  hears_on tick port rise width k h = elim (cases_Bool (is_pulse width)) [ inl narrow ↦ rw narrow (record { strays = h.strays; known = h.known }) | inr wide ↦ rw wide h ]
+
+  pub knows_on : KnowsTruly edges start new.state → (calls : List Call) → AreInOrder start new.clock.redundancy calls → AreTrueAtTicks IsTrue (f_of new.clock.redundancy) calls → KnowsTruly edges (last_tick start calls) (after_calls new calls).state
+  knows_on from [] order truth = from
+  knows_on from (Hear port rise width ∷ calls) order truth = hears_on (last_tick start calls) port rise width (after_calls new calls) (knows_on from calls order.2 truth)
+  knows_on from (Tick now ∷ calls) order truth = knows_tick calls now order truth.0 (knows_on from calls order.3 truth.1)
+
+-- from the beginning: no vote ever contradicts those before it
+pub never_strays : (IsTrue : Rules → TimelineValue → (ℕ → ℕ) → ℕ → List Pulse → Type 0) (t : TimelineValue) (edges : ℕ → ℕ) (made : Made) (start : ℕ) (calls : List Call) → LivesTruly IsTrue t edges made start calls
+    → TellAlwaysTruly (IsTrue made.rules t edges) made.clock.within.us made.clock.drift_us made.rules t edges 0 0 → (life_of made calls).state.strays ≡ 0
+never_strays IsTrue t edges made start calls lives truly =
+    (knows_on (IsTrue made.rules t edges) t edges (device_of made) start (begins made.limits made.rules made.clock made.table made.lines start made.fresh) lives.is truly (record { strays = refl; known = refl }) calls lives.order lives.truth).strays
