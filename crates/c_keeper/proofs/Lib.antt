@@ -9,5 +9,6 @@ pub mod AbsentLaws
 pub mod LivedLaws
 pub mod LivesLaws
 pub mod StampedLaws
+pub mod RowLaws
 pub mod WaitedLaws
 pub mod AnnouncedLaws

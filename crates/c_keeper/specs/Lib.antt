@@ -4,3 +4,4 @@ pub mod CheckWord
 pub mod Seconds
 pub mod Lives
 pub mod Announcing
+pub mod Rows

@@ -11,6 +11,7 @@
 mod control;
 mod frame;
 mod line;
+mod quality;
 mod reader;
 mod second;
 mod symbols;

@@ -40,6 +40,7 @@ ghost use Rattle.c_keeper.specs.CheckWord.{IsSealed};
 ghost use Rattle.c_keeper.specs.Lines.{frames_in, lines_in, numbers_at, HaveHeard, KeepNoMore};
 ghost use Rattle.c_keeper.specs.Lives.{Moment, AreTogether, HasLived, HasHealed, HasItsBound, GoesOnTruly, StampsTruly, agreed_in, beat_in, calls_of, made_in, since_vote};
 ghost use Rattle.c_keeper.specs.Lives.Moment.{Pulsed, Ticked, Waited};
+ghost use Rattle.c_keeper.specs.Rows.{AreGivenLast};
 ghost use Rattle.c_keeper.specs.Seconds.{against_at, stamp_in, IsSecondOf, IsToldOf};
 ghost use Rattle.c_keeper.specs.Timekeepers.{answer_in, clock_in, clock_state_in, edge_in, stamp_for, state_behind, vote_in, wait_in, AreWires, HasShortInterval, HeardTruly, IsAccepted, IsAnnounced, IsTimekeeperOf};
 
@@ -395,8 +396,9 @@ pub extern "C" fn irig_c_timekeeper_wait(timekeeper: &IrigTimekeeper, now_us: u3
     wait_of(&clock_rules_of(timekeeper), &state, now_us)
 }
 
-/// The time of an event, by the seconds that were announced last. 26 if there is none, or a tick would
-/// be refused.
+/// The time of an event, by the seconds that were announced last: the last one, from its edge on for a
+/// second and its error, or the one before, as far, and up to the last one's edge, if there is no
+/// second between. 26 if there is none, or a tick would be refused.
 #[unsafe(no_mangle)]
 pub extern "C" fn irig_c_timekeeper_stamp(
     timekeeper: &IrigTimekeeper,
@@ -452,6 +454,29 @@ pub extern "C" fn irig_c_timekeeper_stamp(
         → IsStampedTruly t others 0 there other
         → AreTogether t (found.bound_us + other.bound_us + 2 * made.clock.drift_us + 2 * e) found
         other }
+    // Of either life: between the two seconds that were given last no event is without a stamp, if both
+    // were announced and none was missed between, nor up to a second and its error behind the last (the
+    // law `stamps_are_true`, clauses `none_lost` and `row`).
+    ensures none_lost { (t : TimelineValue) (edges : ℕ → ℕ) (made : MadeOf)
+        (start time edge next : ℕ) (past : List Moment) (one other : IrigSecond)
+        (u v : UtcSecond) → HasLived timekeeper.now made past → time_us ≡ time % 2 ^ 32
+        → (row : AreGivenLast past one other edge next)
+        → GoesOnTruly (IsTrueLately made.clock.within.us) t edges made start row.now row.between
+        (Ticked row.before one ∷ row.earlier)
+        → (report_in one.report).announce ≡ Some u → (report_in other.report).announce ≡ Some v
+        → other.missed ≡ 0 → edge ≤ time → time ≤ next + 1000000 + other.bound_us
+        → (found : Stamp) × (stamp_in result stamp.new ≡ Some found) }
+    // So it is if a line counts as true that lost any pulses, or had one fault of any kind in each
+    // hundred of them, in the last 1.2 s.
+    ensures none_lost_faulty { (t : TimelineValue) (edges : ℕ → ℕ) (made : MadeOf)
+        (start time edge next : ℕ) (past : List Moment) (one other : IrigSecond)
+        (u v : UtcSecond) → HasLived timekeeper.now made past → time_us ≡ time % 2 ^ 32
+        → (row : AreGivenLast past one other edge next)
+        → GoesOnTruly (IsTrueOrFaulty made.clock.within.us) t edges made start row.now row.between
+        (Ticked row.before one ∷ row.earlier)
+        → (report_in one.report).announce ≡ Some u → (report_in other.report).announce ≡ Some v
+        → other.missed ≡ 0 → edge ≤ time → time ≤ next + 1000000 + other.bound_us
+        → (found : Stamp) × (stamp_in result stamp.new ≡ Some found) }
     // Whatever lines carry, the bound is at most a vote's and the drift of each second since one.
     ensures bound { (made : MadeOf) (past : List Moment) (found : Stamp)
         → HasLived timekeeper.now made past → stamp_in result stamp.new ≡ Some found

@@ -1,6 +1,7 @@
 -- Two devices of one line, by a counter that is 100 us a second fast, and by one that is as slow: they
--- stamp one instant, a quarter of a second behind 12:00:02.
-use Rattle.std.proofs.Common.{◌≡◌, ℕ, zero, suc, ◌+◌, ◌*◌, ◌<◌, ◌≤◌, List, [], ◌∷◌, Some, None, refl, arith}
+-- stamp one instant, a quarter of a second behind 12:00:02. And one of a line that is less than 10 us
+-- off, by the fast counter: each event between two of its seconds has a stamp.
+use Rattle.std.proofs.Common.{◌≡◌, ℕ, zero, suc, ◌+◌, ◌*◌, ◌%◌, ◌^◌, ◌<◌, ◌≤◌, List, [], ◌∷◌, ◌++◌, Option, Some, None, refl, arith}
 use Rattle.irig_frame.specs.declared.symbol.Symbol.{Symbol}
 use Rattle.irig_frame.specs.Faults.{values_of, field_at}
 use Rattle.irig_control.specs.Parity.{ones}
@@ -11,23 +12,29 @@ use Rattle.irig_time.specs.Carries.{Carries}
 use Rattle.irig_time.specs.Claims.{utc_minute}
 use Rattle.irig_time.specs.Days.{is_month_end, four_years}
 use Rattle.irig_time.specs.Timelines.{IsTrueClaim}
+use Rattle.irig_port.specs.declared.told.Told.TheVariants as tells
 use Rattle.irig_port.specs.Told.{told_of, frame_told, coded_told}
 use Rattle.irig_port.proofs.CarriesLaws.{carries_is_told}
 use Rattle.irig_vote.specs.declared.redundancy.Redundancy.TheVariants as of
+use Rattle.irig_reader.specs.declared.report.Lock.TheVariants as lock
+use Rattle.irig_reader.specs.declared.report.Cause.TheVariants as cause
 use Rattle.irig_reader.specs.Rule.{step_of}
+use Rattle.irig_timekeeper.specs.declared.clock.Beat.{Beat}
 use Rattle.irig_timekeeper.specs.declared.setup.ClockRules.{ClockRules}
 use Rattle.irig_timekeeper.specs.Refusals.{within_of}
 use Rattle.irig_timekeeper.specs.declared.stamp.Stamp.{Stamp}
 use Rattle.irig_timekeeper.specs.Edges.{IsQuartz}
 use Rattle.irig_timekeeper.specs.Lines.{IsLineOf, IsTrueLately, line_of}
-use Rattle.irig_timekeeper.specs.Keeping.{Keeping, new_keeping, stamp_at}
+use Rattle.irig_timekeeper.specs.Keeping.{Keeping, new_keeping, answer_at, stamp_at}
 use Rattle.irig_timekeeper.specs.Truth.{IsDevice, IsStampedTruly, IsInstant}
 use Rattle.irig_timekeeper.specs.Life.{Call, AreInOrder, AreTrueAtTicks, after_calls}
 use Rattle.irig_timekeeper.specs.Life.Call.{Hear, Tick}
+use Rattle.irig_timekeeper.specs.Rows.{AreToldLast}
 use Rattle.irig_timekeeper.proofs.LineLaws.{true_lately}
+use Rattle.irig_timekeeper.proofs.RowLaws.{in_a_row, none_lost}
 use Rattle.irig_timekeeper.proofs.StampLaws.{stamped, near_instant}
 use Rattle.irig_lives.proofs.SentLines.{sent_is_checked, checked_is_line}
-use Rattle.irig_lives.proofs.LifeFacts.{at, noon, no_table, is_device, rules, claim_of, new_lines, are_new, frame_0, frame_1, told_0, told_1, true_claim, width_of}
+use Rattle.irig_lives.proofs.LifeFacts.{at, noon, no_table, is_device, rules, claim_of, new_lines, are_new, silence, frame_0, frame_1, told_0, told_1, true_claim, width_of}
 use Rattle.irig_lives.specs.Decided.{is_after, have_risen, in_order, is_same, is_pulse_of, last_before, are_lately, are_true_lately, are_true_at_ticks}
 use Rattle.irig_lives.proofs.DecidedLaws.{order_is, truly_is}
 
@@ -146,3 +153,103 @@ together =
     let p = near_instant noon 100 fast fast_steady 2 250000 3250225 instants.0 fast_stamp fast_true in
     let q = near_instant noon 100 slow slow_steady 2 250000 3249775 instants.1 slow_stamp slow_true in
     (omega (arith, p.1, q.0), omega (arith, q.1, p.0))
+
+-- ---- seconds in a row. By the fast counter they lie 1,000,100 us apart, which is more than a second and
+-- their bound, 10 us: that of a true line's frame, 9 us and 1 us for the drift of an element
+
+abbrev exact : ClockRules
+exact = record { reader_rules = record { lock_after = 1; holdover = 100 }; redundancy = of.One; within = within_of 10; drift_us = 100 }
+
+abbrev exact_device : Keeping
+exact_device = new_keeping None rules exact no_table new_lines
+
+-- a tick 3 ms behind each edge
+abbrev first_now : ℕ
+first_now = 2003100
+
+abbrev then_now : ℕ
+then_now = 3003200
+
+pulses_from : ℕ → ℕ → List Call
+pulses_from first zero = []
+pulses_from first (suc k) = Hear 0 (element_at fast (first + k)) (width_of (line (first + k))) ∷ pulses_from first k
+
+unfoldable first_calls : List Call
+first_calls = pulses_from 0 100
+
+unfoldable between : List Call
+between = pulses_from 100 100
+
+abbrev calls : List Call
+calls = Tick then_now ∷ (between ++ (Tick first_now ∷ first_calls))
+
+calls_in_order : AreInOrder 900000 of.One calls
+unfolding first_calls between pulses_from width_of frames in_order have_risen is_after
+calls_in_order = order_is 900000 of.One calls refl
+
+calls_truth : AreTrueAtTicks (IsTrueLately 10 rules noon fast) 0 calls
+unfolding first_calls between pulses_from width_of frames are_true_at_ticks are_true_lately are_lately last_before is_pulse_of is_same
+calls_truth = truly_is 10 rules noon fast line is_line 200 0 calls refl
+
+-- a frame ends 10 ms behind its last pulse, by this counter 1 us before its edge
+abbrev first_beat : Beat
+first_beat = record {
+  report = record { announce = Some (at 43201); lock = lock.Locked; cause = cause.Voted };
+  told = record silence { a = tells.Claim (claim_of 43200) };
+  edge_us = 2000099;
+  bound_us = 10;
+  missed = 0;
+  moved = 0;
+}
+
+abbrev then_beat : Beat
+then_beat = record {
+  report = record { announce = Some (at 43202); lock = lock.Locked; cause = cause.Voted };
+  told = record silence { a = tells.Claim (claim_of 43201) };
+  edge_us = 3000199;
+  bound_us = 10;
+  missed = 0;
+  moved = 0;
+}
+
+answers : (answer_at (after_calls exact_device first_calls) (first_now % 2 ^ 32) ≡ Some first_beat) × (answer_at (after_calls exact_device (between ++ (Tick first_now ∷ first_calls))) (then_now % 2 ^ 32) ≡ Some then_beat)
+unfolding first_calls between pulses_from width_of frames step_of told_of frame_told coded_told ones values_of field_at control_of offset_in utc_minute is_month_end four_years
+answers = (refl, refl)
+
+row : AreToldLast exact_device calls first_beat then_beat 2000099 3000199
+unfolding between pulses_from
+row = record {
+  later = [];
+  now = then_now;
+  between = between;
+  before = first_now;
+  earlier = first_calls;
+  are = refl;
+  told = answers.0;
+  silent = tt;
+  told_then = answers.1;
+  silent_since = tt;
+  at = record { clock = omega arith; come = omega arith; soon = omega arith };
+  at_then = record { clock = omega arith; come = omega arith; soon = omega arith };
+}
+
+-- an event more than a second and 10 us behind the first edge, the last one before the next edge, one on
+-- it, the last that has a stamp by it, and one behind that
+abbrev stamp_of_row : ℕ → Option Stamp
+stamp_of_row time = stamp_at (after_calls exact_device calls) time
+
+abbrev named : (sod offset : ℕ) → Option Stamp
+named sod offset = Some (record { second = at sod; offset_us = offset; bound_us = 10 })
+
+stamps_of_row : (stamp_of_row 3000149 ≡ named 43201 1000050) × (stamp_of_row 3000198 ≡ named 43201 1000099) × (stamp_of_row 3000199 ≡ named 43202 0) × (stamp_of_row 4000209 ≡ named 43202 1000010) × (stamp_of_row 4000210 ≡ None)
+unfolding first_calls between pulses_from width_of frames step_of told_of frame_told coded_told ones values_of field_at control_of offset_in utc_minute is_month_end four_years
+stamps_of_row = (refl, refl, refl, refl, refl)
+
+-- by the laws each has one from the first edge on to that last time
+near : 3000199 < 2000099 + 1500000
+near =
+    in_a_row None rules exact no_table new_lines 900000 are_new (IsTrueLately 10 rules noon fast) noon fast 0 0 (by_counter fast fast_steady) (omega arith)
+    (λ time end pulses c is f soon. true_lately (within_of 10) rules noon 100 fast time end pulses c fast_steady is f soon) calls first_beat then_beat 2000099 3000199 (at 43201) calls_in_order calls_truth row refl refl
+
+each_has_one : (time : ℕ) → 2000099 ≤ time → time ≤ 4000209 → (stamp : Stamp) × (stamp_at (after_calls exact_device calls) (time % 2 ^ 32) ≡ Some stamp)
+each_has_one time from upto = none_lost exact_device calls first_beat then_beat 2000099 3000199 (at 43201) (at 43202) row refl refl time near from (omega (arith, upto))

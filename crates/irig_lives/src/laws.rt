@@ -28,6 +28,7 @@ ghost use Rattle.irig_timekeeper.specs.Truth.{AreHeardTruly, IsTrueVote, IsOnTra
 ghost use Rattle.irig_timekeeper.specs.Announcing.{AreWellHeard, Announces};
 ghost use Rattle.irig_timekeeper.specs.Life.{Call, Made, AreInOrder, AreTrueLately, AreTrueAtTicks, AreTrueOver, LivesTruly, device_of, life_of, HaveRisen};
 ghost use Rattle.irig_timekeeper.specs.Life.Call.{Tick};
+ghost use Rattle.irig_timekeeper.specs.Rows.{AreToldLast};
 ghost use Rattle.irig_timekeeper.specs.Since.{since_vote, HasItsBound};
 ghost use Rattle.irig_timekeeper.specs.Healing.{HasHealed};
 ghost use Rattle.irig_timekeeper.specs.Intervals.{by_vote, carried, cut, contradicts, LiesBetween, AreNear};
@@ -36,7 +37,9 @@ ghost use Rattle.irig_timekeeper.specs.Exactness.{most_drift_us, end_off_us, win
 use irig_port::Limits;
 use irig_reader::{Cause, ReaderRules};
 use irig_time::{Claim, Rules, UtcSecond};
-use irig_timekeeper::{Beat, ClockRules, Interval, KeptClaim, KeptFrame, Lines, Stamp, Vote, Within};
+use irig_timekeeper::{
+    Beat, ClockRules, Interval, KeptClaim, KeptFrame, Lines, Stamp, Vote, Within,
+};
 
 /// Counting is right while a device's own edge is: let its last edge lie at most b1 before and b2
 /// behind T(w), and the edge that lines agree on at most c1 before and c2 behind T(w + k). If
@@ -242,6 +245,17 @@ pub fn a_device_heals()
         → time ≤ now → now ≤ time + 1800000000
         → stamp_at (life_of made calls) (time % 2 ^ 32) ≡ Some stamp
         → IsStampedTruly t edges 0 time stamp }
+    // Of two seconds that are told in a row from then on the edges lie less than a second and a half
+    // apart, if none was missed between, so that no event between them is without a stamp.
+    ensures row { (t : TimelineValue) (edges : ℕ → ℕ) (made : Made) (start edge next : ℕ)
+        (calls : List Call) (beat then : Beat) (u : UtcSecond)
+        → (row : AreToldLast (device_of made) calls beat then edge next)
+        → HasHealed (IsTrueLately made.clock.within.us) t edges made start
+        (Tick row.before ∷ row.earlier)
+        → AreInOrder start made.clock.redundancy calls
+        → AreTrueOver (IsTrueLately made.clock.within.us made.rules t edges)
+        (f_of made.clock.redundancy) (Tick row.now ∷ row.between) (Tick row.before ∷ row.earlier)
+        → beat.report.announce ≡ Some u → then.missed ≡ 0 → next < edge + 1500000 }
 {}
 
 /// No f lines can keep a device from a vote: if more than f lines keep frames of one claim that end
@@ -338,6 +352,20 @@ pub fn stamps_are_true()
         → (two : IsStampedTruly t others 0 other y)
         → one.m * 1000000 + x.offset_us
         ≤ two.m * 1000000 + y.offset_us + x.bound_us + y.bound_us + 2 * d + 2 * e }
+    // No event is without one between the two seconds that were told last, if both were announced
+    // and their edges lie less than a second and a half apart, nor up to a second and its error
+    // behind the last, whatever lines carry.
+    ensures none_lost { (made : Made) (edge next time : ℕ) (calls : List Call) (beat then : Beat)
+        (u v : UtcSecond) → AreToldLast (device_of made) calls beat then edge next
+        → beat.report.announce ≡ Some u → then.report.announce ≡ Some v → next < edge + 1500000
+        → edge ≤ time → time ≤ next + 1000000 + then.bound_us
+        → (stamp : Stamp) × (stamp_at (life_of made calls) (time % 2 ^ 32) ≡ Some stamp) }
+    // So near they lie in such a life, if no second was missed between.
+    ensures row { (t : TimelineValue) (edges : ℕ → ℕ) (made : Made) (start edge next : ℕ)
+        (calls : List Call) (beat then : Beat) (u : UtcSecond)
+        → LivesTruly (IsTrueLately made.clock.within.us) t edges made start calls
+        → AreToldLast (device_of made) calls beat then edge next
+        → beat.report.announce ≡ Some u → then.missed ≡ 0 → next < edge + 1500000 }
 {}
 
 /// A device announces, and f lines cannot stop it: wherever it stands, let there be seconds in a

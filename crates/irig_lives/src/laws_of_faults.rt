@@ -16,8 +16,9 @@ ghost use Rattle.irig_timekeeper.specs.Edges.{IsQuartz, IsTrueNear};
 ghost use Rattle.irig_timekeeper.specs.Lines.{IsFrameOf, IsLineOf, line_of, IsCheckedLineOf, IsTrueButForFaults, IsTrueOrFaulty};
 ghost use Rattle.irig_timekeeper.specs.Keeping.{answer_at, stamp_at};
 ghost use Rattle.irig_timekeeper.specs.Truth.{IsToldInHoldover, IsLaterSecond, IsDevice, IsStampedTruly};
-ghost use Rattle.irig_timekeeper.specs.Life.{Call, Made, AreInOrder, AreTrueAtTicks, LivesTruly, life_of};
+ghost use Rattle.irig_timekeeper.specs.Life.{Call, Made, AreInOrder, AreTrueAtTicks, LivesTruly, device_of, life_of};
 ghost use Rattle.irig_timekeeper.specs.Life.Call.{Tick};
+ghost use Rattle.irig_timekeeper.specs.Rows.{AreToldLast};
 ghost use Rattle.irig_timekeeper.specs.Exactness.{most_vote_us};
 
 use irig_reader::{Cause, ReaderRules};
@@ -80,6 +81,13 @@ pub fn lines_with_faults_tell_truly()
         → time ≤ now → now ≤ time + 1800000000
         → stamp_at (life_of made calls) (time % 2 ^ 32) ≡ Some stamp
         → IsStampedTruly t edges 2002 time stamp }
+    // Of two seconds that are told in a row the edges lie less than a second and a half apart, if none
+    // was missed between, so that no event between them is without a stamp.
+    ensures row { (t : TimelineValue) (edges : ℕ → ℕ) (made : Made) (start edge next : ℕ)
+        (calls : List Call) (beat then : Beat) (u : UtcSecond)
+        → LivesTruly (IsTrueOrFaulty made.clock.within.us) t edges made start calls
+        → AreToldLast (device_of made) calls beat then edge next
+        → beat.report.announce ≡ Some u → then.missed ≡ 0 → next < edge + 1500000 }
     // The bound is less than half a second.
     ensures half { (t : TimelineValue) (d : ℕ) (edges : ℕ → ℕ) (rules : ReaderRules)
         (table : TableValue) (far : ℕ) → IsDevice t d edges rules table → far ≤ rules.holdover

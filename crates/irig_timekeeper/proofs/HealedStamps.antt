@@ -1,7 +1,7 @@
 -- Since a vote that heals a device its stamps are true.
-use Rattle.std.specs.Prelude.{◌==◌, nat_le}
-use Rattle.std.proofs.Common.{◌≡◌, ◌∙◌, ◌⊎◌, ℕ, ◌+◌, ◌-◌, ◌%◌, ◌^◌, ◌<◌, ◌≤◌, Bool, true, false, cond, List, [], ◌∷◌, ◌++◌, Option, Some, None, refl, sym, ap, subst, arith, inl, inr}
-use Rattle.std.proofs.lemmas.Bool.{cases_Bool, leb-true, leb-false}
+use Rattle.std.specs.Prelude.{◌==◌}
+use Rattle.std.proofs.Common.{◌≡◌, ◌∙◌, ◌⊎◌, ℕ, ◌+◌, ◌-◌, ◌%◌, ◌^◌, ◌<◌, ◌≤◌, List, [], ◌∷◌, ◌++◌, Option, Some, None, refl, sym, ap, subst, arith, inl, inr}
+use Rattle.std.proofs.lemmas.Bool.{cases_Bool}
 use Rattle.irig_sync.specs.Lines.{Pulse}
 use Rattle.irig_sync.specs.Sync.{clock_gap}
 use Rattle.irig_time.specs.declared.second.UtcSecond.{UtcSecond}
@@ -21,14 +21,15 @@ use Rattle.irig_timekeeper.specs.Exactness.{most_held_us, most_vote_us}
 use Rattle.irig_timekeeper.specs.Counting.{edges_to_vote}
 use Rattle.irig_timekeeper.specs.Steps.{AreNewLines}
 use Rattle.irig_timekeeper.specs.Clock.{announced_at, still_serves, beat_by, step_to, after_vote, answer_to_vote, clock_by, answer_by, settled_at}
-use Rattle.irig_timekeeper.specs.Stamps.{stamp_by}
+use Rattle.irig_timekeeper.specs.Stamps.{next_us, stamp_by}
 use Rattle.irig_timekeeper.specs.Keeping.{Keeping, new_keeping, vote_at, after_tick, answer_at, stamp_at}
 use Rattle.irig_timekeeper.specs.Truth.{IsEdgeAt, IsDevice, IsStampedTruly}
 use Rattle.irig_timekeeper.specs.Life.{Call, after_calls, last_tick, AreInOrder, AreTrueLately, AreTrueOver}
 use Rattle.irig_timekeeper.specs.Life.Call.{Hear, Tick}
 use Rattle.irig_timekeeper.proofs.TimeLaws.{same_edge}
 use Rattle.irig_timekeeper.proofs.LifeLaws.{begins, TellAlwaysTruly}
-use Rattle.irig_timekeeper.proofs.StampLaws.{leaves_told, IsToldAnyhow, IsToldSo, IsToldBefore, state, IfStamps, TellSo, TellsSo, beat_stamps, stamps, stamps_on, tell_anyhow, tells_truly, stamped_by, by_earlier}
+use Rattle.irig_timekeeper.proofs.StampLaws.{AnyEdge, not_served, puts_truly, served_by, leaves_told, IsToldAnyhow, IsToldSo, IsToldBefore, state, IfStamps, TellSo, TellsSo, beat_stamps, stamps, stamps_on, tell_anyhow, tells_truly, stamped_by, by_earlier}
+use Rattle.irig_timekeeper.proofs.ReachLaws.{IsPut}
 use Rattle.irig_timekeeper.proofs.HealLaws.{mended, tick_since}
 
 -- ---- what serves on behind a vote
@@ -76,33 +77,36 @@ module _ (limits : Option Limits) (rules : Rules) (clock : ClockRules) (table : 
   base = Tick mend ∷ earlier
 
   abbrev Told : ℕ → Announced → Type 0
-  Told edge a = IsToldSo t edges more edge a
+  Told edge a = IsToldSo t edges early late clock.drift_us edge a
+
+  abbrev Put : ℕ → Type 0
+  Put = IsPut edges early late
 
   -- what was announced before the vote stays only beside what the vote announces
   record IsOld (last : Option Announced) (A : ℕ) (a : Announced) : Type 0 where
-    old : IsToldBefore IsToldAnyhow A a
+    old : IsToldBefore AnyEdge IsToldAnyhow A a
     at : IsEdgeAt b.edge_us A mend
     said : (u : UtcSecond) × (b.report.announce ≡ Some u)
     beside : (x : Announced) × (last ≡ Some x)
 
   Before : Option Announced → ℕ → Announced → Type 0
-  Before last A a = IsToldBefore Told A a ⊎ IsOld last A a
+  Before last A a = IsToldBefore Put Told A a ⊎ IsOld last A a
 
-  made : (last : Option Announced) (edge : ℕ) (a : Announced) → IsToldBefore Told edge a → Before last edge a
+  made : (last : Option Announced) (edge : ℕ) (a : Announced) → IsToldBefore Put Told edge a → Before last edge a
   unfolding Before
   made last edge a told = inl told
 
-  split : (last : Option Announced) (A : ℕ) (a : Announced) → Before last A a → IsToldBefore Told A a ⊎ IsOld last A a
+  split : (last : Option Announced) (A : ℕ) (a : Announced) → Before last A a → IsToldBefore Put Told A a ⊎ IsOld last A a
   unfolding Before
   split last A a was = was
 
   module _ (order : AreInOrder start clock.redundancy (Tick mend ∷ earlier)) (voted : vote_at (after_calls new earlier) (mend % 2 ^ 32) ≡ Some v) (answer : answer_at (after_calls new earlier) (mend % 2 ^ 32) ≡ Some b) where
     tells_mend : TellsSo limits rules clock table lines start fresh Told earlier mend
     tells_mend =
-        tells_truly limits rules clock table lines start fresh t edges early late more is low high earlier mend
+        tells_truly limits rules clock table lines start fresh t edges early late is earlier mend
         (λ x u told announces. ((mended IsTrue t edges early late new start (begins limits rules clock table lines start fresh) tt is room truly earlier mend v x order lately voted told).told u announces).told)
 
-    turns_old : (edge : ℕ) → IsEdgeAt b.edge_us edge mend → (a : Announced) → (state limits rules clock table lines start fresh base).before ≡ Some a → IsToldBefore IsToldAnyhow edge a → Before (state limits rules clock table lines start fresh base).last edge a
+    turns_old : (edge : ℕ) → IsEdgeAt b.edge_us edge mend → (a : Announced) → (state limits rules clock table lines start fresh base).before ≡ Some a → IsToldBefore AnyEdge IsToldAnyhow edge a → Before (state limits rules clock table lines start fresh base).last edge a
     unfolding Before
     turns_old edge at a kept was =
         let k : Keeping = after_calls new earlier in
@@ -111,59 +115,43 @@ module _ (limits : Option Limits) (rules : Rules) (clock : ClockRules) (table : 
         let last = says_last b.edge_us b.bound_us b.report.announce said.0 said.1 in
         inr (record { old = was; at = at; said = said; beside = (last.0, left.0 ∙ last.1) })
 
-    at_mend : IfStamps limits rules clock table lines start fresh Told Before base (state limits rules clock table lines start fresh base).edge_us
+    at_mend : IfStamps limits rules clock table lines start fresh Put Told Before base (state limits rules clock table lines start fresh base).edge_us
     at_mend =
         let any : Option Announced → ℕ → Announced → Type 0 = λ last A a. Unit {0} in
-        let were = stamps limits rules clock table lines start fresh IsToldAnyhow any (λ last edge a was. tt) earlier order.3 (tell_anyhow limits rules clock table lines start fresh t edges is earlier) in
-        beat_stamps limits rules clock table lines start fresh Told Before earlier mend order IsToldAnyhow any b answer tells_mend turns_old were
+        let were = stamps limits rules clock table lines start fresh AnyEdge IsToldAnyhow any (λ last edge a was. tt) earlier order.3 (tell_anyhow limits rules clock table lines start fresh t edges is earlier) in
+        beat_stamps limits rules clock table lines start fresh Put Told Before earlier mend order AnyEdge (λ x e V at. tt) IsToldAnyhow any b answer tells_mend turns_old were
 
-    tell_since : (later : List Call) → AreInOrder start clock.redundancy (later ++ base) → AreTrueOver IsTrue (f_of clock.redundancy) later base → TellSo limits rules clock table lines start fresh Told later base
+    tell_since : (later : List Call) → AreInOrder start clock.redundancy (later ++ base) → AreTrueOver IsTrue (f_of clock.redundancy) later base → TellSo limits rules clock table lines start fresh Put Told later base
     tell_since [] ordered truth = tt
     tell_since (Hear port rise width ∷ later) ordered truth = tell_since later ordered.2 truth
     tell_since (Tick now ∷ later) ordered truth = (
-      tells_truly limits rules clock table lines start fresh t edges early late more is low high (later ++ base) now
+      tells_truly limits rules clock table lines start fresh t edges early late is (later ++ base) now
           (λ x u told announces. ((tick_since IsTrue t edges early late new start (begins limits rules clock table lines start fresh) tt is room truly earlier mend v b lately voted answer later now ordered truth.0 truth.1).told x u told announces).told),
+      puts_truly limits rules clock table lines start fresh t edges early late is IsTrue room truly (later ++ base) now ordered truth.0,
       tell_since later ordered.3 truth.1,
     )
 
     module _ (V time now : ℕ) (at : IsEdgeAt b.edge_us V mend) (when : (V ≤ time) ⊎ (b.report.announce ≡ None)) (past : time ≤ now) (young : now ≤ time + 1800000000) where
       -- an event that comes behind the vote's edge is no longer stamped by what came before
-      gone : (last : Option Announced) (A tick : ℕ) (a : Announced) → now < tick + 1800000000 → tick < A + 1505000 → ((x : Announced) → last ≡ Some x → Told A x) → IsOld last A a → (stamp : Stamp) → stamp_by last (time % 2 ^ 32) ≡ None → ¬ (stamp_by (Some a) (time % 2 ^ 32) ≡ Some stamp)
+      gone : (last : Option Announced) (A tick : ℕ) (a : Announced) → now < tick + 1800000000 → tick < A + 1505000 → ((x : Announced) → last ≡ Some x → Told A x) → IsOld last A a → (stamp : Stamp) → stamp_by last 0 (time % 2 ^ 32) ≡ None → ¬ (stamp_by (Some a) (next_us last (Some a)) (time % 2 ^ 32) ≡ Some stamp)
       gone last A tick a soon near tells old stamp none says = elim when [
         | inr silent ↦ let both : None ≡ Some old.said.0 = sym silent ∙ old.said.1 in cc
         | inl behind ↦
             let same : A ≡ V = same_edge b.edge_us A V mend old.at at in
             let x : Announced = old.beside.0 in
             let told = tells x old.beside.1 in
-            let nothing : stamp_by (Some x) (time % 2 ^ 32) ≡ None = ap (λ (o : Option Announced). stamp_by o (time % 2 ^ 32)) (sym old.beside.1) ∙ none in
-            let far = is_far x nothing in
-            let few = is_near says in
-            two_ways x.edge_us x.bound_us A V a.edge_us a.bound_us old.old.edge tick soon near same behind told.clock old.old.told.clock old.old.told.small old.old.order old.old.soon far few
+            let far = not_served x 0 (time % 2 ^ 32) (ap (λ (o : Option Announced). stamp_by o 0 (time % 2 ^ 32)) (sym old.beside.1) ∙ none) in
+            let serves = served_by a (next_us (Some x) (Some a)) (time % 2 ^ 32) stamp (ap (λ (o : Option Announced). stamp_by (Some a) (next_us o (Some a)) (time % 2 ^ 32)) (sym old.beside.1) ∙ says) in
+            two_ways x.edge_us x.bound_us A V a.edge_us a.bound_us old.old.edge tick soon near same behind told.clock old.old.told.clock old.old.told.small old.old.order old.old.soon far serves.near
       ]
         where
-          so : Announced → Option Stamp
-          so x = Some (record { second = x.second; offset_us = clock_gap x.edge_us (time % 2 ^ 32); bound_us = x.bound_us })
-
-          is_far : (x : Announced) → stamp_by (Some x) (time % 2 ^ 32) ≡ None → 1000000 + x.bound_us < clock_gap x.edge_us (time % 2 ^ 32)
-          is_far x nothing = of (nat_le (clock_gap x.edge_us (time % 2 ^ 32)) (1000000 + x.bound_us)) refl nothing
-            where
-              of : (test : Bool) → nat_le (clock_gap x.edge_us (time % 2 ^ 32)) (1000000 + x.bound_us) ≡ test → cond test (so x) None ≡ None → 1000000 + x.bound_us < clock_gap x.edge_us (time % 2 ^ 32)
-              of true few e = absurd cc
-              of false far e = leb-false (clock_gap x.edge_us (time % 2 ^ 32)) (1000000 + x.bound_us) far
-
-          is_near : stamp_by (Some a) (time % 2 ^ 32) ≡ Some stamp → clock_gap a.edge_us (time % 2 ^ 32) ≤ 1000000 + a.bound_us
-          is_near says = of (nat_le (clock_gap a.edge_us (time % 2 ^ 32)) (1000000 + a.bound_us)) refl says
-            where
-              of : (test : Bool) → nat_le (clock_gap a.edge_us (time % 2 ^ 32)) (1000000 + a.bound_us) ≡ test → cond test (so a) None ≡ Some stamp → clock_gap a.edge_us (time % 2 ^ 32) ≤ 1000000 + a.bound_us
-              of false far e = absurd cc
-              of true few e = leb-true (clock_gap a.edge_us (time % 2 ^ 32)) (1000000 + a.bound_us) few
-
           two_ways : (x bound A V y small old tick : ℕ) → now < tick + 1800000000 → tick < A + 1505000 → A ≡ V → V ≤ time → x ≡ A % 2 ^ 32 → y ≡ old % 2 ^ 32 → small ≤ most_vote_us + most_held_us → old + 500000 ≤ A → A < old + 1802000000
-              → 1000000 + bound < clock_gap x (time % 2 ^ 32) → clock_gap y (time % 2 ^ 32) ≤ 1000000 + small → ⊥
+              → 1000000 + bound < clock_gap x (time % 2 ^ 32) → (clock_gap y (time % 2 ^ 32) ≤ 1000000 + small) ⊎ ((clock_gap y (time % 2 ^ 32) < clock_gap y x) × (clock_gap y x < 1500000)) → ⊥
           two_ways x bound A V y small old tick soon near same behind at_x at_y few apart later far close =
               let gap : clock_gap x (time % 2 ^ 32) + A ≡ time = omega (arith, soon, near, same, behind, at_x, past) in
               let other : clock_gap y (time % 2 ^ 32) + old ≡ time = omega (arith, soon, near, same, behind, at_y, past, apart, later) in
-              omega (arith, gap, other, far, close, few, apart)
+              let next : clock_gap y x + old ≡ A = omega (arith, at_x, at_y, apart, later) in
+              elim close [ inl upto ↦ omega (arith, gap, other, far, upto, few, apart) | inr before ↦ omega (arith, other, next, before.0, same, behind) ]
 
       pub stamped_since : (later calls : List Call) → calls ≡ later ++ base → AreInOrder start clock.redundancy (Tick now ∷ calls) → AreTrueOver IsTrue (f_of clock.redundancy) later base → (stamp : Stamp) → stamp_at (after_calls new calls) (time % 2 ^ 32) ≡ Some stamp → IsStampedTruly t edges more time stamp
       stamped_since later calls are ordered truth = subst Stamps (sym are) from_base ordered
@@ -176,10 +164,10 @@ module _ (limits : Option Limits) (rules : Rules) (clock : ClockRules) (table : 
               let calls : List Call = later ++ base in
               let ahead : last_tick start calls ≤ now = ordered.0 in
               let soon : now < last_tick start calls + 1800000000 = omega (arith, ordered.1) in
-              let are = stamps_on limits rules clock table lines start fresh Told Before made base at_mend later ordered.3 (tell_since later ordered.3 truth) in
-              stamped_by limits rules clock table lines start fresh t edges early late more is low high calls time now ahead soon past young Before
+              let are = stamps_on limits rules clock table lines start fresh Put Told Before made base at_mend later ordered.3 (tell_since later ordered.3 truth) in
+              stamped_by limits rules clock table lines start fresh t edges early late is more low high calls time now ahead soon past young Before
               (λ A a come near last was stamp none says. elim (split (state limits rules clock table lines start fresh calls).last A a was) [
-                | inl told ↦ by_earlier limits rules clock table lines start fresh t edges early late more is low high calls time now ahead soon past young A a come near told stamp says
+                | inl told ↦ by_earlier limits rules clock table lines start fresh t edges early late is more low high calls time now ahead soon past young room A a come near (state limits rules clock table lines start fresh calls).last last told stamp says
                 | inr old ↦ absurd (gone _ A (last_tick start calls) a soon near last old stamp none says)
               ])
               (state limits rules clock table lines start fresh calls).edge_us are stamp e

@@ -1,8 +1,7 @@
 -- A holdover has lasted for the seconds since the last vote, and a stamp's bound counts them.
 use Rattle.std.specs.Prelude.{◌==◌, ◌&&◌, nat_le}
-use Rattle.std.proofs.Common.{◌≡◌, ◌∙◌, ℕ, zero, suc, ◌+◌, ◌-◌, ◌*◌, ◌%◌, ◌^◌, ◌≤◌, Bool, true, false, cond, List, [], ◌∷◌, ◌++◌, Option, Some, None, refl, sym, ap, subst, arith, inl, inr}
+use Rattle.std.proofs.Common.{◌≡◌, ◌∙◌, ℕ, zero, suc, ◌+◌, ◌-◌, ◌*◌, ◌%◌, ◌^◌, ◌≤◌, List, [], ◌∷◌, ◌++◌, Option, Some, None, refl, sym, ap, subst, arith, inl, inr}
 use Rattle.std.proofs.lemmas.Bool.{cases_Bool}
-use Rattle.irig_sync.specs.Sync.{clock_gap}
 use Rattle.irig_time.specs.declared.second.UtcSecond.{UtcSecond}
 use Rattle.irig_time.specs.declared.mark.Mark.{Mark}
 use Rattle.irig_time.specs.declared.claim.Claim.{Claim}
@@ -29,13 +28,13 @@ use Rattle.irig_timekeeper.specs.Counting.{edges_to_vote, edges_own}
 use Rattle.irig_timekeeper.specs.Rule.{missed, step_behind}
 use Rattle.irig_timekeeper.specs.Steps.{is_pulse}
 use Rattle.irig_timekeeper.specs.Clock.{lasted, beat_by, step_to, after_vote, answer_to_vote, after_own, answer_alone, own_edge, clock_by, answer_by, settled_at}
-use Rattle.irig_timekeeper.specs.Stamps.{stamp_by, first_stamp}
+use Rattle.irig_timekeeper.specs.Stamps.{next_us, stamp_by, first_stamp}
 use Rattle.irig_timekeeper.specs.Keeping.{Keeping, vote_at, after_tick, answer_at, stamp_at}
 use Rattle.irig_timekeeper.specs.Life.{Call, Made, after_calls, device_of, life_of}
 use Rattle.irig_timekeeper.specs.Life.Call.{Hear, Tick}
 use Rattle.irig_timekeeper.specs.Since.{unless_voted, since_answer, since_vote, HasItsBound}
 use Rattle.irig_timekeeper.proofs.BoundLaws.{answer_bound}
-use Rattle.irig_timekeeper.proofs.StampLaws.{leaves_told, stays_behind, kept_second}
+use Rattle.irig_timekeeper.proofs.StampLaws.{leaves_told, served_by, stays_behind, kept_second}
 
 -- ---- the age of a hold
 
@@ -233,28 +232,24 @@ module _ (made : Made) where
 
   -- ---- a stamp
 
-  stamped_by : (time : ℕ) (calls : List Call) (o : Option Announced) (stamp : Stamp) → ((a : Announced) → o ≡ Some a → IsBounded calls a) → stamp_by o time ≡ Some stamp → HasItsBound made calls stamp
-  stamped_by time calls None stamp are e = absurd cc
-  stamped_by time calls (Some a) stamp are e = of (nat_le (clock_gap a.edge_us time) (1000000 + a.bound_us)) e
-    where
-      of : (test : Bool) → cond test (Some (record { second = a.second; offset_us = clock_gap a.edge_us time; bound_us = a.bound_us })) None ≡ Some stamp → HasItsBound made calls stamp
-      of false e = absurd cc
-      of true e =
-          let is = are a refl in
-          let same : record { second = a.second; offset_us = clock_gap a.edge_us time; bound_us = a.bound_us } ≡ stamp = cc in
-          record {
-            later = is.later;
-            now = is.now;
-            earlier = is.earlier;
-            are = is.are;
-            beat = is.beat;
-            answer = is.answer;
-            says = is.says ∙ ap (λ (x : Stamp). Some x.second) same;
-            bound = subst (λ (x : Stamp). x.bound_us ≤ vote_us made.clock.within.us made.clock.drift_us + since_vote new (Tick is.now ∷ is.earlier) * made.clock.drift_us) same is.bound;
-          }
+  stamped_by : (next time : ℕ) (calls : List Call) (o : Option Announced) (stamp : Stamp) → ((a : Announced) → o ≡ Some a → IsBounded calls a) → stamp_by o next time ≡ Some stamp → HasItsBound made calls stamp
+  stamped_by next time calls None stamp are e = absurd cc
+  stamped_by next time calls (Some a) stamp are e =
+      let is = are a refl in
+      let same = (served_by a next time stamp e).same in
+      record {
+        later = is.later;
+        now = is.now;
+        earlier = is.earlier;
+        are = is.are;
+        beat = is.beat;
+        answer = is.answer;
+        says = is.says ∙ ap (λ (x : Stamp). Some x.second) same;
+        bound = subst (λ (x : Stamp). x.bound_us ≤ vote_us made.clock.within.us made.clock.drift_us + since_vote new (Tick is.now ∷ is.earlier) * made.clock.drift_us) same is.bound;
+      }
 
   pub has_its_bound : (time : ℕ) (calls : List Call) (stamp : Stamp) → stamp_at (life_of made calls) (time % 2 ^ 32) ≡ Some stamp → HasItsBound made calls stamp
-  has_its_bound time calls stamp e = of (stamp_by s.last (time % 2 ^ 32)) refl e
+  has_its_bound time calls stamp e = of (stamp_by s.last 0 (time % 2 ^ 32)) refl e
     where
       s : ClockState
       s = (life_of made calls).state
@@ -262,6 +257,6 @@ module _ (made : Made) where
       are : AreBounded calls s
       are = bounded calls
 
-      of : (o : Option Stamp) → stamp_by s.last (time % 2 ^ 32) ≡ o → first_stamp o (stamp_by s.before (time % 2 ^ 32)) ≡ Some stamp → HasItsBound made calls stamp
-      of (Some x) here e = stamped_by (time % 2 ^ 32) calls s.last stamp are.last (here ∙ e)
-      of None here e = stamped_by (time % 2 ^ 32) calls s.before stamp are.before e
+      of : (o : Option Stamp) → stamp_by s.last 0 (time % 2 ^ 32) ≡ o → first_stamp o (stamp_by s.before (next_us s.last s.before) (time % 2 ^ 32)) ≡ Some stamp → HasItsBound made calls stamp
+      of (Some x) here e = stamped_by 0 (time % 2 ^ 32) calls s.last stamp are.last (here ∙ e)
+      of None here e = stamped_by (next_us s.last s.before) (time % 2 ^ 32) calls s.before stamp are.before e

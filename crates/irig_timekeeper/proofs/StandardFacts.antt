@@ -11,6 +11,9 @@ use Rattle.irig_timekeeper.specs.Exactness.{window_us}
 use Rattle.irig_timekeeper.specs.Counting.{edges_to, edges_to_vote, edges_own, edge_behind, is_late, has_come}
 use Rattle.irig_timekeeper.specs.Refusals.{clock_fault}
 use Rattle.irig_timekeeper.specs.declared.setup.ClockFault.TheVariants.{Drift, Holdover}
+use Rattle.irig_timekeeper.specs.declared.stamp.Announced.{Announced}
+use Rattle.irig_timekeeper.specs.Stamps.{next_us, serves}
+use Rattle.irig_timekeeper.specs.Quality.{quality_of}
 use Rattle.irig_timekeeper.specs.Steps.{first_candidate, vote_with, until, wait_by}
 
 -- by the own counter a second is counted 5 ms after it should have come, over the wrap too; an edge
@@ -83,3 +86,21 @@ known_intervals = (refl, refl, refl, refl, refl, refl, refl, refl, refl, refl)
 -- to wait
 pub known_wait : (until 4294967000 704 ≡ 1000) × (until 704 4294967000 ≡ 0) × (wait_by 4294000000 (Some 4294000000) None ≡ 1005000) × (wait_by 37704 (Some 4294000000) None ≡ 0) × (wait_by 5 None None ≡ 1000000)
 known_wait = (refl, refl, refl, refl, refl)
+
+-- a second serves an event a second and its error behind it, and one before the next edge, but not if that
+-- lies a second and a half behind, or more
+pub known_serves : (serves 10 0 1000010 ≡ true) × (serves 10 0 1000011 ≡ false) × (serves 10 1000100 1000099 ≡ true) × (serves 10 1000100 1000100 ≡ false) × (serves 10 1499999 1499998 ≡ true) × (serves 10 1500000 1000010 ≡ true)
+    × (serves 10 1500000 1000011 ≡ false)
+known_serves = (refl, refl, refl, refl, refl, refl, refl)
+
+abbrev second_at : ℕ → Option Announced
+second_at edge = Some (record { second = record { day = 6209; sod = 7 }; edge_us = edge; bound_us = 10 })
+
+-- the next edge, over the wrap too
+pub known_next : (next_us (second_at 700) (second_at 4294000000) ≡ 967996) × (next_us (second_at 700) None ≡ 0) × (next_us None (second_at 700) ≡ 0)
+known_next = (refl, refl, refl)
+
+-- each code at the least and the most of its bounds
+pub known_qualities : (quality_of 0 ≡ 4) × (quality_of 1 ≡ 4) × (quality_of 2 ≡ 5) × (quality_of 10 ≡ 5) × (quality_of 11 ≡ 6) × (quality_of 100 ≡ 6) × (quality_of 101 ≡ 7) × (quality_of 1000 ≡ 7) × (quality_of 1001 ≡ 8) × (quality_of 10000 ≡ 8) × (quality_of 10001 ≡ 9)
+    × (quality_of 100000 ≡ 9) × (quality_of 100001 ≡ 10) × (quality_of 1000000 ≡ 10) × (quality_of 1000001 ≡ 15)
+known_qualities = (refl, refl, refl, refl, refl, refl, refl, refl, refl, refl, refl, refl, refl, refl, refl)

@@ -14,6 +14,8 @@ pub mod Life
 pub mod Announcing
 pub mod Loops
 pub mod Since
+pub mod Rows
+pub mod Quality
 pub mod Healing
 pub mod Intervals
 pub mod Lived

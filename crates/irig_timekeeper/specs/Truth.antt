@@ -24,7 +24,7 @@ use Rattle.irig_timekeeper.specs.Clock.{lasted}
 use Rattle.irig_timekeeper.specs.Edges.{IsQuartz, IsNear, IsTrueNear}
 use Rattle.irig_timekeeper.specs.Lines.{IfKept, IsInTurnOf}
 use Rattle.irig_timekeeper.specs.Steps.{line_at, claim_kept}
-use Rattle.irig_timekeeper.specs.Exactness.{vote_us, most_vote_us, most_held_us}
+use Rattle.irig_timekeeper.specs.Exactness.{vote_us, most_drift_us, most_vote_us, most_held_us}
 
 -- the lines keep frames of these pulses, and all but at most f of the five are such true lines; a
 -- line that is not there brought no pulse
@@ -163,7 +163,8 @@ pub record IsStampedTruly (t : TimelineValue) (edges : ℕ → ℕ) (more time :
   pub early : edges m + stamp.offset_us ≤ time + stamp.bound_us + more
   pub late : time ≤ edges m + stamp.offset_us + stamp.bound_us + more
   pub small : stamp.bound_us ≤ most_vote_us + most_held_us
-  pub behind : stamp.offset_us ≤ 1000000 + stamp.bound_us
+  pub behind : stamp.offset_us
+      ≤ 1000000 + stamp.bound_us + most_vote_us + most_drift_us + 2 * more
 
 -- by a counter that is at most d us a second wrong the time is that of the instant tau us behind
 -- T(n), before the next second begins

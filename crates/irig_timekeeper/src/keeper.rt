@@ -52,9 +52,10 @@ impl<P: Port> Timekeeper<P> {
     ghost use Rattle.irig_timekeeper.specs.Refusals.{clock_fault};
     ghost use Rattle.irig_timekeeper.specs.Keeping.{place_told, one_pulse_more, after_pulse, after_tick, answer_at, restarted, heard_by, with_heard, wait_at, stamp_at};
     ghost use Rattle.irig_timekeeper.specs.Keepers.{IsKeeping, IsNew, ForKeeping, Goes};
-    ghost use Rattle.irig_timekeeper.specs.Life.{Call, AreInOrder};
+    ghost use Rattle.irig_timekeeper.specs.Life.{Call, AreInOrder, device_of};
     ghost use Rattle.irig_timekeeper.specs.Life.Call.{Hear, Tick};
-    ghost use Rattle.irig_timekeeper.specs.Lived.{MadeOf, HasLived, LivesWell};
+    ghost use Rattle.irig_timekeeper.specs.Lived.{MadeOf, HasLived, LivesWell, made_with};
+    ghost use Rattle.irig_timekeeper.specs.Rows.{AreToldLast};
     ghost use Rattle.irig_timekeeper.specs.Lines.{IsTrueLately};
     ghost use Rattle.irig_timekeeper.specs.Truth.{IsToldInHoldover, IsStampedTruly};
     ghost use Rattle.irig_time.specs.Timelines.{TimelineValue};
@@ -300,7 +301,8 @@ impl<P: Port> Timekeeper<P> {
     /// The time of an event, if it lies behind the edge of the last second that was told, or behind
     /// that of the one before, and these were announced. The one before no longer serves if a vote
     /// then announced nothing, as at a jump. None, if the event lies more than a second and the
-    /// error of the edge behind it.
+    /// error of the edge behind it; but the one before serves up to the last one's edge, if there is
+    /// no second between.
     pub fn stamp(&self, time_us: u32) -> Option<Stamp>
         ensures value { ForKeeping self.now (λ k. result ≡ stamp_at k time_us) }
         // the law `stamps_are_true`
@@ -310,6 +312,16 @@ impl<P: Port> Timekeeper<P> {
             → AreInOrder start made.clock.redundancy (Tick now ∷ calls)
             → time ≤ now → now ≤ time + 1800000000 → result ≡ Some stamp
             → IsStampedTruly t edges 0 time stamp }
+        // Between the two seconds that were told last no event is without a stamp, if both were
+        // announced and none was missed between, nor up to a second and its error behind the last.
+        ensures none_lost { (t : TimelineValue) (edges : ℕ → ℕ) (made : MadeOf)
+            (start time edge next : ℕ) (calls : List Call) (beat then : Beat) (u v : UtcSecond)
+            → (lived : HasLived self.now made calls) → time_us ≡ time % 2 ^ 32
+            → LivesWell (IsTrueLately made.clock.within.us) t edges made start calls
+            → AreToldLast (device_of (made_with made lived.lines lived.fresh)) calls beat then edge next
+            → beat.report.announce ≡ Some u → then.report.announce ≡ Some v → then.missed ≡ 0
+            → edge ≤ time → time ≤ next + 1000000 + then.bound_us
+            → (stamp : Stamp) × (result ≡ Some stamp) }
     {
         stamp_of(self.state.last, self.state.before, time_us)
     }

@@ -1,4 +1,4 @@
-use Rattle.std.proofs.Common.{◌∷◌, subst, arith}
+use Rattle.std.proofs.Common.{◌∷◌, ◌++◌, subst, arith}
 use Rattle.irig_timekeeper.specs.Lines.{IsTrueLately}
 use Rattle.irig_timekeeper.proofs.LineLaws.{true_lately}
 use Rattle.irig_timekeeper.specs.Life.{AreInOrder, device_of}
@@ -6,6 +6,7 @@ use Rattle.irig_timekeeper.specs.Life.Call.{Tick}
 use Rattle.irig_timekeeper.proofs.LifeLaws.{begins, order_before}
 use Rattle.irig_timekeeper.proofs.HealLaws.{healed, in_order, calm_since}
 use Rattle.irig_timekeeper.proofs.HealedStamps.{stamped_since}
+use Rattle.irig_timekeeper.proofs.RowLaws.{in_a_row_since}
 use Rattle.irig_lives.proofs.laws.a_device_heals.Goals as goal
 
 pub returns-clause-life : goal.returns-clause-life
@@ -32,3 +33,10 @@ returns-clause-stamps _ t edges made start edge time now calls stamp h at when o
     stamped_since made.limits made.rules made.clock made.table made.lines start made.fresh (IsTrueLately made.clock.within.us made.rules t edges) t edges 0 0 0 h.is (omega arith) (omega arith) (omega arith)
     (λ now end pulses claim is_true frame soon. true_lately made.clock.within made.rules t made.clock.drift_us edges now end pulses claim h.is.steady is_true frame soon)
     h.earlier h.mend h.vote h.beat h.truth ordered h.voted h.answer edge time now at when past young h.later calls h.are order h.since stamp e
+
+pub returns-clause-row : goal.returns-clause-row
+returns-clause-row _ t edges made start edge next calls beat then u row h order truth says none =
+    let ordered = order_before start made.clock.redundancy row.later (Tick row.now ∷ (row.between ++ (Tick row.before ∷ row.earlier))) (subst (AreInOrder start made.clock.redundancy) row.are order) in
+    in_a_row_since made.limits made.rules made.clock made.table made.lines start made.fresh (IsTrueLately made.clock.within.us made.rules t edges) t edges 0 0 h.is (omega arith)
+    (λ now end pulses claim is_true frame soon. true_lately made.clock.within made.rules t made.clock.drift_us edges now end pulses claim h.is.steady is_true frame soon)
+    calls beat then edge next u row h.earlier h.later h.mend h.vote h.beat h.truth h.voted h.answer h.are h.since ordered truth says none

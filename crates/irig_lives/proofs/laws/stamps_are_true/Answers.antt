@@ -2,6 +2,7 @@ use Rattle.std.proofs.Common.{arith}
 use Rattle.irig_timekeeper.specs.Lines.{IsTrueLately}
 use Rattle.irig_timekeeper.proofs.LineLaws.{true_lately}
 use Rattle.irig_timekeeper.proofs.StampLaws.{stamped, near_instant}
+use Rattle.irig_timekeeper.proofs.RowLaws.{in_a_row, none_lost}
 use Rattle.irig_timekeeper.proofs.SinceLaws.{has_its_bound}
 use Rattle.irig_lives.proofs.laws.stamps_are_true.Goals as goal
 
@@ -19,3 +20,12 @@ returns-clause-together _ t d e n tau time other edges others x y quartz quartz'
     let p = near_instant t d edges quartz n tau time at x one in
     let q = near_instant t e others quartz' n tau other at' y two in
     omega (arith, p.1, q.0)
+
+pub returns-clause-none_lost : goal.returns-clause-none_lost
+returns-clause-none_lost _ made edge next time calls beat then u v row says says_then near from upto = none_lost _ calls beat then edge next u v row says says_then time near from upto
+
+pub returns-clause-row : goal.returns-clause-row
+returns-clause-row _ t edges made start edge next calls beat then u lives row says none =
+    in_a_row made.limits made.rules made.clock made.table made.lines start made.fresh (IsTrueLately made.clock.within.us made.rules t edges) t edges 0 0 lives.is (omega arith)
+    (λ now end pulses claim is_true frame soon. true_lately made.clock.within made.rules t made.clock.drift_us edges now end pulses claim lives.is.steady is_true frame soon)
+    calls beat then edge next u lives.order lives.truth row says none

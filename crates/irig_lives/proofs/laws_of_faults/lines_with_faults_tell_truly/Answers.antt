@@ -5,6 +5,7 @@ use Rattle.irig_timekeeper.proofs.LifeLaws.{device_true, device_calm, device_in_
 use Rattle.irig_timekeeper.proofs.FaultLines.{faults_are_true, faults_tell_truly, either_tells_truly, whole_is_true}
 use Rattle.irig_gen.proofs.GenLaws.{true_frames}
 use Rattle.irig_lives.proofs.SentLines.{sent_is_checked, checked_is_line}
+use Rattle.irig_timekeeper.proofs.RowLaws.{in_a_row}
 use Rattle.irig_timekeeper.proofs.StampLaws.{stamped}
 use Rattle.irig_lives.proofs.laws_of_faults.lines_with_faults_tell_truly.Goals as goal
 
@@ -31,6 +32,11 @@ pub returns-clause-stamps : goal.returns-clause-stamps
 returns-clause-stamps _ t edges made start time now calls stamp is order truth past young e =
     stamped made.limits made.rules made.clock made.table made.lines start made.fresh t edges 2002 1000 2002 is (omega arith) (omega arith) (IsTrueOrFaulty made.clock.within.us made.rules t edges) (omega arith)
     (either_tells_truly made.clock.within made.rules t made.clock.drift_us edges is.steady) calls time now order truth past young stamp e
+
+pub returns-clause-row : goal.returns-clause-row
+returns-clause-row _ t edges made start edge next calls beat then u lives row says none =
+    in_a_row made.limits made.rules made.clock made.table made.lines start made.fresh (IsTrueOrFaulty made.clock.within.us made.rules t edges) t edges 2002 1000 lives.is (omega arith)
+    (either_tells_truly made.clock.within made.rules t made.clock.drift_us edges lives.is.steady) calls beat then edge next u lives.order lives.truth row says none
 
 pub returns-clause-half : goal.returns-clause-half
 returns-clause-half _ t d edges rules table far is few =

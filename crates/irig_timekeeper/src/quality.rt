@@ -1,0 +1,34 @@
+//! The time quality that a device may send on.
+
+ghost use Rattle.std.specs.Prelude.{◌≡◌, ◌<◌, ◌≤◌, ◌-◌, ◌^◌};
+ghost use Rattle.irig_timekeeper.specs.Quality.{quality_of};
+
+/// The time quality of a second or a stamp that lies so far off at most, as IEEE 1344 codes it: 4
+/// within 1 us, each code more within ten times that, up to 10 within 1 s, and 15 beyond. It is
+/// never less, as a device that goes by lines is not locked to its source itself.
+pub fn quality_of(bound_us: u32) -> u8
+    ensures value { result ≡ quality_of bound_us }
+    // A code promises no less than is true, and no more is true by the next better one.
+    ensures within { result ≤ 10 → bound_us ≤ 10 ^ (result - 4) }
+    ensures exact { 4 < result → result ≤ 10 → 10 ^ (result - 5) < bound_us }
+    ensures least { 4 ≤ result }
+    ensures failed { 10 < result → 1000000 < bound_us }
+{
+    if bound_us <= 1 {
+        4
+    } else if bound_us <= 10 {
+        5
+    } else if bound_us <= 100 {
+        6
+    } else if bound_us <= 1_000 {
+        7
+    } else if bound_us <= 10_000 {
+        8
+    } else if bound_us <= 100_000 {
+        9
+    } else if bound_us <= 1_000_000 {
+        10
+    } else {
+        15
+    }
+}
