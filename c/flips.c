@@ -109,7 +109,8 @@ static bool is_padding_of_timekeeper(size_t byte) {
         return of_line == 6 || of_line == 7 || of_line == 14 || of_line == 15 || of_line == 38 ||
                of_line == 39 || of_line > 60;
     if (byte < last_at) return byte == offsetof(irig_timekeeper, has_edge) + 1;
-    return byte < offsetof(irig_timekeeper, check) && of_second > 16;
+    if (byte < offsetof(irig_timekeeper, begin_us)) return of_second > 16;
+    return byte > offsetof(irig_timekeeper, has_interval) && byte < offsetof(irig_timekeeper, check);
 }
 
 static const kind kinds[] = {

@@ -39,6 +39,7 @@ uint32_t irig_c_timekeeper_wait(const irig_timekeeper *timekeeper, uint32_t now_
 uint32_t irig_c_timekeeper_stamp(const irig_timekeeper *timekeeper, uint32_t time_us,
                                  irig_stamp *stamp);
 void irig_c_timekeeper_restart(irig_timekeeper *timekeeper);
+uint8_t irig_c_quality_of(uint32_t bound_us);
 void irig_c_sync_init(irig_sync *sync);
 uint8_t irig_c_sync_pulse(irig_sync *sync, uint32_t rise_us, uint32_t width_us);
 void irig_c_sync_idle(irig_sync *sync, uint32_t now_us);
@@ -212,6 +213,8 @@ void irig_timekeeper_restart(irig_timekeeper *timekeeper) {
         irig_c_timekeeper_restart(timekeeper);
     }
 }
+
+uint8_t irig_quality_of(uint32_t bound_us) { return irig_c_quality_of(bound_us); }
 
 /* ---- lines */
 

@@ -368,16 +368,23 @@ typedef struct irig_timekeeper {
     uint16_t bound_us;     /* how far from its true edge that of the last vote may lie, 899 at most */
     irig_announced last;   /* that second, if it was announced */
     irig_announced before; /* the one counted before it, if it was */
+    uint32_t begin_us;     /* where the interval begins in which the true edge lies by all votes, */
+    uint32_t long_us;      /* and how long it is, 980,000 at most */
+    uint32_t strays;       /* how many votes contradicted those before them */
+    uint8_t has_interval;  /* 0 if there is no such interval */
     uint64_t check;
 } irig_timekeeper;
-IRIG_ASSERT((sizeof(irig_timekeeper) == 936u) && (offsetof(irig_timekeeper, state) == 536u) &&
+IRIG_ASSERT((sizeof(irig_timekeeper) == 952u) && (offsetof(irig_timekeeper, state) == 536u) &&
             (offsetof(irig_timekeeper, lines) == 552u) &&
             (offsetof(irig_timekeeper, wires) == 872u) &&
             (offsetof(irig_timekeeper, has_edge) == 884u) &&
             (offsetof(irig_timekeeper, bound_us) == 886u) &&
             (offsetof(irig_timekeeper, last) == 888u) &&
             (offsetof(irig_timekeeper, before) == 908u) &&
-            (offsetof(irig_timekeeper, check) == 928u));
+            (offsetof(irig_timekeeper, begin_us) == 928u) &&
+            (offsetof(irig_timekeeper, strays) == 936u) &&
+            (offsetof(irig_timekeeper, has_interval) == 940u) &&
+            (offsetof(irig_timekeeper, check) == 944u));
 
 /* What a tick of a timekeeper says. */
 typedef struct irig_second {
@@ -387,14 +394,18 @@ typedef struct irig_second {
                          * irig_timekeeper_tick says, 490,899 at most */
     uint32_t missed;    /* seconds that passed untold before it, as no tick came */
     uint32_t moved;     /* how often lines moved the edge since the second that was told before */
+    uint32_t strays;    /* how many votes contradicted those before them, since it was made or
+                         * restarted: above 0 something is not as it was set up
+                         * (irig_timekeeper_tick) */
     irig_report report; /* masks, quality and zone by the last whole frame of each line */
 } irig_second;
-IRIG_ASSERT((sizeof(irig_second) == 44u) && (offsetof(irig_second, edge_us) == 4u) &&
-            (offsetof(irig_second, bound_us) == 8u) && (offsetof(irig_second, report) == 20u));
+IRIG_ASSERT((sizeof(irig_second) == 48u) && (offsetof(irig_second, edge_us) == 4u) &&
+            (offsetof(irig_second, bound_us) == 8u) && (offsetof(irig_second, strays) == 20u) &&
+            (offsetof(irig_second, report) == 24u));
 
-/* The time of an event: a second, and how long behind its beginning. By the error of that edge the
- * offset may reach 1,000,000 and `bound_us` more, when the next second had begun: it is no fraction
- * to print behind a point. */
+/* The time of an event: a second, and how long behind its beginning. By the error of its edge, and of
+ * the next one, the offset may reach 1,000,000 and more, below 1,500,000, when the next second had
+ * begun: it is no fraction to print behind a point. */
 typedef struct irig_stamp {
     uint32_t day;
     uint32_t sod;
@@ -444,6 +455,7 @@ IRIG_ASSERT((sizeof(irig_stamp) == 16u) && (offsetof(irig_stamp, bound_us) == 12
 #define irig_timekeeper_wait IRIG_NAME(irig_timekeeper_wait, IRIG_LAYOUT)
 #define irig_timekeeper_stamp IRIG_NAME(irig_timekeeper_stamp, IRIG_LAYOUT)
 #define irig_timekeeper_restart IRIG_NAME(irig_timekeeper_restart, IRIG_LAYOUT)
+#define irig_quality_of IRIG_NAME(irig_quality_of, IRIG_LAYOUT)
 
 /* The version of the library, as IRIG_VERSION. */
 const char *irig_version(void);
@@ -626,7 +638,19 @@ uint8_t irig_timekeeper_hear(irig_timekeeper *timekeeper, uint8_t line, uint32_t
  * and 2,002 us before to `bound_us` and 1,000 us after the true ones, also if a line counts as true
  * that had one fault of any kind in each hundred pulses (docs/WIRES.md). Whatever lines carry, edges
  * that are told lie at least half a second apart if calls were in order. docs/WIRES.md also says when
- * it announces. */
+ * it announces.
+ *
+ * `strays` tells if votes contradict one another. By a vote the true edge lies no more than its bound
+ * from the edge that it tells; a second later it lies in an interval that is `drift_us` longer at each
+ * end; and each vote cuts that interval by its own. If the two have nothing in common, that vote
+ * contradicts those before it: `strays` is 1 more, and the interval begins anew with that vote. So
+ * two votes do if they differ from whole seconds by more than both bounds and the drift of the seconds
+ * between. An interval longer than 980,000 us is forgotten, and a step of whole seconds is none. While at
+ * each tick no two of three lines (three of five; not the one line) were untrue in the last 1.2 s,
+ * the counter is as steady as `drift_us` says, and calls were in order, `strays` stays 0. A device
+ * whose `strays` rise should be looked at: its lines, their delays, or the drift of its counter are
+ * not what it was told. Its seconds are announced as before, and those that it holds may then lie
+ * further off than their `bound_us`. */
 uint32_t irig_timekeeper_tick(irig_timekeeper *timekeeper, uint32_t now_us, irig_second *second);
 
 /* How long until a tick has something to do, in microseconds, if no call comes before it: 0 if it has
@@ -637,11 +661,16 @@ uint32_t irig_timekeeper_tick(irig_timekeeper *timekeeper, uint32_t now_us, irig
 uint32_t irig_timekeeper_wait(const irig_timekeeper *timekeeper, uint32_t now_us);
 
 /* The time of an event, by the second that was told last if it lies after that one's edge, as it was
- * told, else by the one before; these have to be announced, and the event at most a second and the
- * error of the edge after them. Where a vote announces nothing, as at a jump, the one before is
+ * told, else by the one before. These have to be announced, and the event comes at most a second
+ * and the error of the edge after them; or before the edge that was told last, if that is less than
+ * 1.5 s after the one before. Where a vote announces nothing, as at a jump, the one before is
  * forgotten: it may be false. Ask 5 ms to half a second after the event, when all ticks that were
  * due are told: its own second is told then, and no two after it. IRIG_FAULT_VALUE, also where a tick
  * would be refused.
+ *
+ * In a timekeeper of which irig_timekeeper_tick's held seconds are true no event between the two
+ * edges that were told last is without a stamp, if both seconds were announced and none was missed
+ * between; nor one up to a second and the error of its edge after the last.
  *
  * In a timekeeper of which irig_timekeeper_tick's held seconds are true the second began `offset_us`
  * before the event, to within `bound_us`, if a tick may come now and the event lies at most half an
@@ -654,6 +683,12 @@ uint32_t irig_timekeeper_stamp(const irig_timekeeper *timekeeper, uint32_t time_
 
 /* Forgets all that was heard and counted. A timekeeper that a tick refuses stays so. */
 void irig_timekeeper_restart(irig_timekeeper *timekeeper);
+
+/* The time quality that a device may send on of what lies off by so many microseconds at most, the
+ * `bound_us` of a second that is announced or of a stamp, as IEEE 1344 and C37.118 number it: 4 of
+ * 1 us, 5 of 10, 6 of 100, 7 of 1,000, 8 of 10,000, 9 of 100,000, 10 of 1,000,000, and 15 of more. It
+ * is never 0 to 3: 0 says that a clock is locked to its source, which nobody knows by lines. */
+uint8_t irig_quality_of(uint32_t bound_us);
 
 #ifdef __cplusplus
 }

@@ -164,7 +164,9 @@ static void log_lines(const char *what, uint8_t mask) {
 }
 
 /* As `1234567 2016-12-31T23:59:60Z locked voted agree:AC differ:B`: the count at which it begins, the
- * second, how and why, and which lines said so. One that differs, or is against what is held, lies. */
+ * second, how and why, and which lines said so. One that differs, or is against what is held, lies. An
+ * alarm is `strays:1`: votes contradict one another, so lines, their delays or the crystal are not as
+ * they should be. */
 void on_second(const irig_second *second) {
     const irig_report *report = &second->report;
     char text[21] = "-";
@@ -184,6 +186,10 @@ void on_second(const irig_second *second) {
     if (report->agreed) log_lines(" differ:", report->differed);
     else log_lines(" against:", report->against_hold);
     log_lines(" fault:", report->faulty);
+    if (second->strays > 0) {
+        log_text(" strays:");
+        log_number(second->strays);
+    }
     log_text("\n");
 }
 

@@ -9,6 +9,7 @@ codec, the proved reader, and the proved runner of scenarios.
     Reader                      a reader with three ports, five, or one
     Sync                        which element of a frame a pulse on a line is
     Timekeeper                  a device that keeps time by lines and a counter of its own
+    quality_of                  the time quality that it may send on
     run, Log                    scenarios to logs; `Log.blame`: who lied, and what it cost
     irig.scenarios              builds scenarios
     irig.logs                   reads logs
@@ -32,7 +33,7 @@ from .readers import Faulty, Poor, Reader, Report, Silence, Told, Zone, read
 from .scenes import run
 from .seconds import Claim, Leap, Second
 from .stretches import Stretch
-from .timekeepers import Beat, Stamp, Timekeeper
+from .timekeepers import Beat, Stamp, Timekeeper, quality_of
 
 __version__ = "2.0.0"
 
@@ -41,6 +42,6 @@ __all__ = [
     "Poor", "PortWord", "Ports", "PremiseBroken", "PremisesKept", "Reader", "Refused", "Report",
     "Second", "Silence", "Silent", "Stamp", "Stretch", "Sync", "TableBroken", "Timekeeper",
     "Told", "Verdict", "Zone", "claim", "classify", "coded", "decode", "encode", "frame",
-    "has_parity", "logs", "read", "read_log", "run", "scenarios", "symbols", "widths",
-    "with_parity",
+    "has_parity", "logs", "quality_of", "read", "read_log", "run", "scenarios", "symbols",
+    "widths", "with_parity",
 ]

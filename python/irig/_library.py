@@ -105,13 +105,14 @@ class Timekeeper(Structure):
     _fields_ = [
         ("setup", Setup), ("table", Table), ("state", State), ("lines", Line * 5), ("wires", Wires),
         *_of(c_uint32, "edge_us moved"), ("has_edge", c_uint8), ("bound_us", c_uint16),
-        *_of(Announced, "last before"), ("check", c_uint64),
+        *_of(Announced, "last before"), *_of(c_uint32, "begin_us long_us strays"),
+        ("has_interval", c_uint8), ("check", c_uint64),
     ]
 
 
 class Second(Structure):
     _fields_ = [
-        ("is_told", c_uint8), *_of(c_uint32, "edge_us bound_us missed moved"), ("report", Report),
+        ("is_told", c_uint8), *_of(c_uint32, "edge_us bound_us missed moved strays"), ("report", Report),
     ]
 
 
@@ -199,6 +200,7 @@ CALLS: Dict[str, Tuple[Any, ...]] = {
     "timekeeper_wait": (IRIG, c_uint32, _to(Timekeeper), c_uint32),
     "timekeeper_stamp": (IRIG, c_uint32, _to(Timekeeper), c_uint32, _to(Stamp)),
     "timekeeper_restart": (IRIG, None, _to(Timekeeper)),
+    "quality_of": (IRIG, c_uint8, c_uint32),
     "run_entries": (
         SCENE, c_uint8, c_char_p, c_size_t, _to(Entry), c_size_t, _to(c_size_t), _to(Verdict),
         _to(c_uint8), c_size_t, _to(Refusal),

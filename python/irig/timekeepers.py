@@ -21,6 +21,7 @@ class Beat:
     bound_us: how far from its true edge that may lie, if the second is announced
     missed: the seconds that passed untold before it, as no tick came
     moved: how often lines set the edge right since the second that was told before
+    strays: how many votes contradicted those before them since the timekeeper was made or restarted
     """
 
     report: Report
@@ -28,6 +29,7 @@ class Beat:
     bound_us: int
     missed: int
     moved: int
+    strays: int
 
     def __str__(self) -> str:
         return str(self.report)
@@ -46,6 +48,13 @@ class Stamp:
     second: Second
     offset_us: int
     bound_us: int
+
+
+def quality_of(bound_us: int) -> int:
+    """The time quality that a device may send on of what lies off by so many microseconds at most, the
+    `bound_us` of an announced second or of a stamp: 4 of 1, 5 of 10, 6 of 100, 7 of 1,000, 8 of
+    10,000, 9 of 100,000, 10 of 1,000,000, and 15 of more."""
+    return int(c.quality_of(within("bound_us", bound_us, 0, MOST)))
 
 
 def _time(what: str, time_us: int) -> int:
@@ -75,6 +84,13 @@ class Timekeeper(Ruled):
     at most 57. The `bound_us` of a vote is `within_us` if all lines claim the second, or enough of
     them end together, and less than twice that else: by 450 it is 450 to 899 us, by 10 it is 10 to
     19; 1 less if `drift_us` is 0. For each second since the last vote it is `drift_us` more.
+
+    Votes contradict one another if they differ from whole seconds by more than the sum of their
+    bounds and the drift of the seconds between. `strays` counts those that contradict the ones before
+    them, and stays 0 if at each tick no two of its three lines were untrue and the counter is as
+    steady as `drift_us` says. A device whose `strays` rise should be looked at: its lines, their
+    delays, or its counter are not what it was told, and what it holds may lie further off than
+    `bound_us`.
 
     within_us: how exact lines are that are true: each of their pulses rises less than so many
         microseconds from its place, by the counter, 1 to 450. Enough lines have to end within
@@ -129,7 +145,9 @@ class Timekeeper(Ruled):
         if not held.is_told:
             return None
         report = report_held(held.report)
-        return Beat(report, held.edge_us, held.bound_us, held.missed, held.moved)
+        return Beat(
+            report, held.edge_us, held.bound_us, held.missed, held.moved, held.strays
+        )
 
     def wait(self, now_us: int) -> int:
         """How long until a tick has something to do, in microseconds, if no call comes before it.
@@ -159,6 +177,11 @@ class Timekeeper(Ruled):
     def within_us(self) -> int:
         """How exact its lines are: pulses rise less than so many microseconds from their places."""
         return int(self._held.wires.within_us)
+
+    @property
+    def strays(self) -> int:
+        """How many votes contradicted those before them."""
+        return int(self._held.strays)
 
     def _refuse(self, held: c.Timekeeper) -> None:
         _tick(held, 0)

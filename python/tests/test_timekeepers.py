@@ -156,6 +156,37 @@ class Ticks(unittest.TestCase):
         stamp = Stamp(Second.read("2016-12-31T23:59:60Z"), 500_000, VOTE_US + 60 * 7)
         self.assertEqual(keeper.stamp(61_500_000), stamp)
 
+    def test_stamps_between_two_edges(self) -> None:
+        """A second that is longer by the counter than its bound says has a stamp up to the next one."""
+        keeper = Timekeeper(1, 20, drift_us=50, within_us=10)
+        hear_frame(keeper, FRAME, -1_000_000, 0, 1, 2)
+        told(keeper, 0)
+        hear_frame(keeper, irig.frame("2017-01-01T00:00:00Z"), 60, 0, 1, 2)
+        first, second = (Second.read(f"2017-01-01T00:00:0{place}Z") for place in range(2))
+        self.assertIsNone(keeper.stamp(1_000_011))
+        self.assertEqual(told(keeper, 1_000_060).strays, 0)
+        self.assertEqual(keeper.stamp(1_000_059), Stamp(first, 1_000_059, 10))
+        self.assertEqual(keeper.stamp(1_000_060), Stamp(second, 0, 10))
+
+    def test_strays(self) -> None:
+        """Votes that differ from whole seconds by more than both bounds and the drift between."""
+        for late_us, strays in ((950, 0), (951, 1), (-950, 0), (-951, 1), (300_000, 1)):
+            keeper = self.voted()
+            hear_frame(keeper, irig.frame("2017-01-01T00:00:00Z"), late_us, 0, 1, 2)
+            keeper.tick(1_000_000 + late_us)
+            self.assertEqual(keeper.strays, strays)
+            self.assertEqual(told(keeper, 2_006_000 + late_us).strays, strays)
+            keeper.restart()
+            self.assertEqual(keeper.strays, 0)
+
+    def test_qualities(self) -> None:
+        for bound_us, quality in (
+            (0, 4), (1, 4), (2, 5), (10, 5), (11, 6), (449, 7), (899, 7), (1_000, 7), (1_001, 8),
+            (490_899, 10), (1_000_000, 10), (1_000_001, 15), (WRAP - 1, 15),
+        ):  # fmt: skip
+            self.assertEqual(irig.quality_of(bound_us), quality)
+        self.assertRaisesRegex(irig.Fault, "bound_us is -1; 0 to", irig.quality_of, -1)
+
     def test_nothing_was_heard(self) -> None:
         keeper = Timekeeper(drift_us=100)
         self.assertEqual(keeper.wait(77), 1_000_000)

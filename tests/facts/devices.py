@@ -187,17 +187,17 @@ def made(device: Device) -> Antt:
 
 
 # A life in parts, each of calls, the newest first, with a tick behind them and an event: what the tick answers, how
-# long a device would have waited then, and the stamp of the event behind the tick. Each step is a function of its
-# own, so that the checker computes once what becomes of the device.
+# long a device would have waited then, and behind the tick the stamp of the event, and how many votes strayed. Each
+# step is a function of its own, so that the checker computes once what becomes of the device.
 WALK = """use Rattle.irig_lives.proofs.LifeFacts.{new_lines, are_new}
 use Rattle.irig_timekeeper.specs.Refusals.{within_of}
 use Rattle.irig_timekeeper.specs.Life.{after_calls}
 use Rattle.irig_timekeeper.specs.Life.Call.{Hear, Tick}
 use Rattle.irig_timekeeper.specs.Keeping.{after_tick}
 """, """abbrev Said : Type 0
-Said = Option Beat × ℕ × Option Stamp
+Said = Option Beat × ℕ × Option Stamp × ℕ
 """, """abbrev behind : Option Beat → ℕ → Keeping → ℕ → (Keeping → List Said) → List Said
-behind beat wait k event rest = (beat, wait, stamp_at k event) ∷ rest k
+behind beat wait k event rest = (beat, wait, stamp_at k event, k.state.strays) ∷ rest k
 """, """abbrev ticked : Keeping → ℕ → ℕ → (Keeping → List Said) → List Said
 ticked k now event rest = behind (answer_at k now) (wait_at k now) (after_tick k now) event rest
 """, """abbrev asked : List (List Call × ℕ × ℕ) → Keeping → List Said
@@ -208,7 +208,7 @@ asked ((calls, now, event) ∷ parts) k = ticked (after_calls k calls) now event
 
 def parts_of(random: Random, device: Device, calls: list[Call]) -> Iterator[tuple[tuple, tuple]]:
     """The pulses between ticks, each tick, and an event behind it or before; and what the model answers: at the tick,
-    for how long to wait before it, and of the event."""
+    for how long to wait before it, of the event, and how many votes strayed."""
     heard = []
     for one in calls:
         if isinstance(one, int):
@@ -216,7 +216,7 @@ def parts_of(random: Random, device: Device, calls: list[Call]) -> Iterator[tupl
             ends = (last.edge + SECOND + last.bound, last.edge + SECOND + last.bound + 1, last.edge - 1) if last else ()
             event = random.choice((one, one - SECOND, one + random.randint(-1_200_000, 1_200_000), *ends)) % WRAP
             asked = [call(pulse) for pulse in reversed(heard)], one % WRAP, event
-            yield asked, (beat(said), wait, stamp(device.stamp(event)))
+            yield asked, (beat(said), wait, stamp(device.stamp(event)), device.strays)
             heard = []
         else:
             device.hear(one.line, one.rise % WRAP, one.width)
@@ -242,6 +242,15 @@ def refused_clocks(random: Random) -> Iterator[tuple]:
         is_long = (holdover + 2) * drift > 490_000
         fault = "Drift" if drift > 100 else "Holdover" if is_long else None
         yield (ReaderRules(1, max(0, holdover)), drift), some(fault and Antt(f"ClockFault.{fault}"))
+
+
+@question("model", "irig_timekeeper.quality_of")
+def qualities(random: Random) -> Iterator[tuple]:
+    """By powers of ten: 4 within 1 us, 10 within a second, 15 beyond."""
+    tens = [10**place + more for place in range(8) for more in (-1, 0, 1)]
+    for bound in (*tens, *(random.randrange(10 ** random.randint(1, 9)) for _ in range(20))):
+        digits = len(str(bound - 1)) if bound > 1 else 0
+        yield (bound,), 4 + digits if digits < 7 else 15
 
 
 # ---- the conditions of a device's laws

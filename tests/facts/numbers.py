@@ -69,7 +69,8 @@ def random_report(random: Random) -> Report:
 
 
 def second_of(random: Random, report: Report, beside: dict[str, int], told: int = 1) -> Antt:
-    """A second of C, with these numbers beside its report; what that says of its ports has no meaning here."""
+    """A second of C, with these numbers beside its report. What it says of its ports has no meaning here, and none have
+    its strays."""
     second = report.second or Second(0, 0)
     ports = {name: random.randrange(16) for name in ("agreed", "differed", "faulty", "poor", "quality", "against_hold")}
     numbers = record(
@@ -77,7 +78,7 @@ def second_of(random: Random, report: Report, beside: dict[str, int], told: int 
         cause=number_of("CAUSE", report.cause.value), lock_count=report.count or 0, day=second.day, sod=second.of_day,
         has_local=1, local_half_hours=integer(random.randint(-31, 31)), dst=1, **ports,
     )  # fmt: skip
-    return record(is_told=told, **beside, report=numbers)
+    return record(is_told=told, **beside, strays=random.choice((0, 1, random.randrange(2**32))), report=numbers)
 
 
 @question("header", "c_keeper.beat_in")

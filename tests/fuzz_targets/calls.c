@@ -145,6 +145,8 @@ static void try_texts(uint32_t number) {
                            irig_lock_text(byte), irig_cause_name(byte), irig_cause_text(byte)};
     for (int i = 0; i < 6; i++) require((*texts[i] == 0) == (*texts[i ^ 1] == 0), "a text");
     require(irig_classify(number) == symbol_of(number), "a symbol");
+    uint8_t quality = irig_quality_of(number);
+    require(quality == 15 ? number > 1000000 : quality >= 4 && quality <= 10, "a quality");
 }
 
 /* The frame of a second, or of none, made in one call and in four. */

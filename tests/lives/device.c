@@ -88,8 +88,8 @@ static void say(const life *l, const irig_second *s) {
            (double)(l->device.now_us - l->world.edge_us[0]) / 1e6, (unsigned)edge,
            (long long)(l->judge.edge_us - l->world.edge_us[edge]), (unsigned)r->day,
            (unsigned)r->sod, r->lock, (unsigned)r->lock_count, r->cause, r->agreed);
-    printf("%u missed, moved %u times, within %u us\n", (unsigned)s->missed, (unsigned)s->moved,
-           (unsigned)s->bound_us);
+    printf("%u missed, moved %u times, within %u us, %u strays\n", (unsigned)s->missed,
+           (unsigned)s->moved, (unsigned)s->bound_us, (unsigned)s->strays);
 }
 
 static void keep(life *l, const irig_second *s) {

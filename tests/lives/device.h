@@ -51,6 +51,7 @@ typedef struct life {
     judge judge;
     uint64_t kinds;           /* what kinds of settings, lines, lies and ticks it has, a bit for each */
     bool is_told_aloud;       /* each second is printed */
+    uint32_t only_within_us;  /* how exact lines are in each that is planned; 0 any */
     entry told[MOST_ENTRIES]; /* the first of them */
     int tolds;
 } life;

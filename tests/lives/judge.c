@@ -40,8 +40,8 @@ static void forget(judge *j) {
         j->sent[i].run = 0;
         j->sent[i].whole = -1;
     }
-    j->has_told = false;
-    j->bound_us = 0;
+    j->has_told = j->is_row = false;
+    j->bound_us = j->strays = 0;
     j->announced = j->voted = j->asked = j->moved = -1;
     j->row = j->moves = 0;
 }
@@ -197,6 +197,7 @@ static void judge_report(judge *j, const irig_second *s, uint64_t edge_us) {
     j->counts[ENDED] += r->cause == IRIG_CAUSE_RANGE_END;
     if (!j->has_told && r->agreed == 0) fail(j, "it begins with no vote");
     if (s->moved < j->moves) fail(j, "its edge was moved, and it tells of none");
+    if (s->strays > 0) fail(j, "it counts %u strays", s->strays);
     if (r->agreed != 0) judge_vote(j, s, edge_us);
     else j->row = 0;
     if (r->announces) judge_announced(j, s, edge_us);
@@ -213,11 +214,16 @@ static void judge_told(judge *j, const irig_second *s) {
     }
     if (j->has_told && edge_us < j->edge_us + SECOND_US / 2)
         fail(j, "an edge %lld us behind the last", (long long)(edge_us - j->edge_us));
+    if (s->strays < j->strays) fail(j, "%u strays behind %u", s->strays, j->strays);
     if (!j->is_beyond) judge_report(j, s, edge_us);
+    bool announce = j->has_told && j->report.announces && s->report.announces;
+    j->before_us = announce ? j->edge_us : edge_us;
+    j->is_row = announce && s->missed == 0;
     j->has_told = true;
     j->moves = 0;
     j->edge_us = edge_us;
     j->bound_us = s->bound_us;
+    j->strays = s->strays;
     j->report = s->report;
 }
 
@@ -293,10 +299,14 @@ void judge_stamp(judge *j, uint64_t time_us) {
     int64_t m, most_us = vote_us(j) + (int64_t)j->setup.holdover * j->world->drift_us;
     uint32_t answer = j->subject->stamp((uint32_t)time_us, &s);
     bool is_behind = j->has_told && j->report.announces && time_us >= j->edge_us;
+    bool is_between = j->has_told && time_us >= j->before_us && time_us < j->edge_us;
+    uint32_t offset_us = SECOND_US + s.bound_us;
+    if (is_between && offset_us < SECOND_US + SECOND_US / 2) offset_us = SECOND_US + SECOND_US / 2 - 1;
     if (answer != IRIG_DONE) {
         if (answer != IRIG_FAULT_VALUE) fail(j, "a stamp answers %u", answer);
         if (is_behind && time_us <= j->edge_us + SECOND_US + j->bound_us)
             fail(j, "no stamp of the last second");
+        if (is_between && j->is_row) fail(j, "no stamp between two seconds");
         return;
     }
     if (!find_second(j->world, (utc){s.day, s.sod}, &m) || m > (int64_t)j->come + 1 ||
@@ -306,7 +316,7 @@ void judge_stamp(judge *j, uint64_t time_us) {
     }
     int64_t off_us = off(j, time_us - s.offset_us, (uint32_t)m);
     if (off_us > s.bound_us || off_us < -(int64_t)s.bound_us || s.bound_us > most_us ||
-        s.offset_us > SECOND_US + s.bound_us)
+        s.offset_us > offset_us)
         fail(j, "a stamp %u us behind T(%lld), within %u us, and %lld us off", s.offset_us,
              (long long)m, s.bound_us, (long long)off_us);
     j->counts[STAMPS]++;

@@ -50,7 +50,10 @@ typedef struct judge {
     uint32_t come;    /* the last edge that has come */
     bool has_told;    /* a second, since it began or was restarted: of the last one */
     uint64_t edge_us; /* its edge, */
+    uint64_t before_us; /* that of the one before, if both announce, or the same, */
+    bool is_row;        /* whether no second was missed between these, */
     uint32_t bound_us; /* how far off that may be, as it is told, */
+    uint32_t strays;   /* how many votes contradicted others, as it is told, */
     irig_report report;
     int64_t announced; /* the last second announced, or -1 */
     int64_t voted;     /* the edge of the last second with a vote, or -1 */

@@ -49,7 +49,7 @@ static uint8_t hear_both(uint8_t line, uint32_t rise_us, uint32_t width_us) {
 bool are_alike(const irig_second *a, const irig_second *b) {
     if (!a->is_told || !b->is_told) return a->is_told == b->is_told;
     return a->edge_us == b->edge_us && a->bound_us == b->bound_us && a->missed == b->missed &&
-           a->moved == b->moved &&
+           a->moved == b->moved && a->strays == b->strays &&
            memcmp(&a->report, &b->report, offsetof(irig_report, dst) + 1) == 0;
 }
 

@@ -6,6 +6,7 @@
  *     --seed N         of all chance; 1 without it
  *     --seconds N      plays so many in which a line sends; 10,000 without it
  *     --life N         that life alone
+ *     --within N       lives whose lines are all so exact, 1 to 450 us
  *     --kinds          of the first 1,000 lives those that have what none had that was played before
  *     --wrong NAME     what is wrong with the model
  *     --overrun        one liar more than may be, so that lives have to fail
@@ -152,6 +153,7 @@ static void take_value(const char *word, const char *value) {
     else if (are_same(word, "--seed")) options.seed = strtoull(value, NULL, 10);
     else if (are_same(word, "--seconds")) options.seconds = strtoull(value, NULL, 10);
     else if (are_same(word, "--life")) options.life = strtoull(value, NULL, 10);
+    else if (are_same(word, "--within")) one.only_within_us = (uint32_t)strtoul(value, NULL, 10);
     else refuse("option", word);
     options.has_life |= are_same(word, "--life");
 }

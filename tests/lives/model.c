@@ -11,6 +11,7 @@ wrong model_wrong;
 
 static const uint32_t AHEAD_US = 10000;
 static const int32_t BEFORE_US = 1000; /* what ends longer before the first on which lines agree */
+static const int32_t LONGEST_US = 980000; /* what is longer is not known */
 static const uint32_t HALF_TURN = UINT32_C(1) << 31;
 enum { NO_VOTE = MOST_LINES + 1 }; /* more than there are */
 
@@ -29,6 +30,10 @@ static struct {
     heard_line line[5];
     bool has_edge;
     uint32_t edge_us, moved, bound_us; /* the last is of the last vote */
+    /* By all votes the true edge lies so far behind that one, or before it. */
+    bool is_known;
+    int32_t least_us, most_us;
+    uint32_t strays;
     irig_wires wires;
     irig_second last, before; /* what was told last, as far as it announces */
 } k;
@@ -155,6 +160,28 @@ static void forget_ends(void) {
     for (int i = 0; i < k.lines; i++) k.line[i].has_end = false;
 }
 
+/* What is known of the edge by all votes, so many seconds later, if the own edge goes on by as many
+ * and so much more. */
+static void carry(uint32_t seconds, int32_t more_us) {
+    if (!k.is_known) return;
+    int32_t drift_us = is(KNOWS_STEADILY) ? 0 : (int32_t)(seconds * k.wires.drift_us);
+    k.least_us -= drift_us + more_us;
+    k.most_us += drift_us - more_us;
+    if (k.most_us - k.least_us > LONGEST_US) k.is_known = false;
+}
+
+/* A vote on the own edge, to which so much is known. */
+static void know_vote(void) {
+    int32_t bound_us = (int32_t)k.bound_us;
+    bool strays = k.is_known && (k.least_us > bound_us || k.most_us < -bound_us);
+    k.strays += strays;
+    if (k.is_known && (is(CUTS_NEVER) ? !strays : strays && is(STRAYS_FOREVER))) return;
+    bool is_new = !k.is_known || strays || is(KNOWS_THE_LAST);
+    k.least_us = is_new || k.least_us < -bound_us ? -bound_us : k.least_us;
+    k.most_us = is_new || k.most_us > bound_us ? bound_us : k.most_us;
+    k.is_known = true;
+}
+
 /* A second that begins at an edge, behind so many that were missed, by a vote of enough lines. */
 static void tell(irig_second *s, uint32_t now_us, uint32_t edge_us, uint32_t missed, int enough) {
     voice voices[MOST_LINES];
@@ -169,6 +196,7 @@ static void tell(irig_second *s, uint32_t now_us, uint32_t edge_us, uint32_t mis
     s->bound_us = k.bound_us + (is(BOUNDS_FOREVER) ? 0 : age * k.wires.drift_us);
     s->missed = missed;
     s->moved = k.moved;
+    s->strays = k.strays;
     k.has_edge = true;
     k.moved = 0;
     bool is_over = voted >= 0 && !s->report.announces && !is(SERVES_ON);
@@ -184,6 +212,8 @@ static void tell_by_lines(irig_second *s, uint32_t now_us, const agreed_edge *by
     uint32_t half_us = is(ROUNDS_LOW) ? 400000 : 500000;
     uint32_t count = k.has_edge ? (to_us + half_us - k.edge_us) / SECOND_US : 1;
     uint32_t edge_us = is(CALL_IS_EDGE) ? now_us : end_us;
+    carry(count, (int32_t)(edge_us - k.edge_us - count * SECOND_US));
+    know_vote();
     if (count == 0 && is(MOVES_NEVER)) count = 1;
     if (count == 0) {
         k.edge_us = edge_us;
@@ -201,6 +231,7 @@ static void tell_alone(irig_second *s, uint32_t now_us) {
     if (!k.has_edge || gap_us < SECOND_US + patience_us) return;
     if (gap_us >= HALF_TURN && !is(GUARDS_NOT)) return;
     uint32_t count = (gap_us - patience_us) / SECOND_US;
+    carry(count, 0);
     tell(s, now_us, k.edge_us + count * SECOND_US, count - 1, NO_VOTE);
 }
 
@@ -231,17 +262,22 @@ static uint32_t wait(uint32_t now_us) {
     return k.has_edge ? until(k.edge_us + SECOND_US + patience_us, now_us) : SECOND_US;
 }
 
-/* A stamp by a second, of what came behind its edge, by a second and the edge's error at most. */
-static bool stamp_by(const irig_second *s, uint32_t time_us, irig_stamp *stamp) {
+/* A stamp by a second, of what came behind its edge, by a second and the edge's error at most, or
+ * before the next edge, which lies so far behind its own, 0 if there is none. */
+static bool stamp_by(const irig_second *s, uint32_t next_us, uint32_t time_us, irig_stamp *stamp) {
     const irig_report *r = &s->report;
     uint32_t offset_us = time_us - s->edge_us;
-    if (!r->announces || offset_us > SECOND_US + s->bound_us) return false;
+    bool is_row = next_us < SECOND_US + SECOND_US / 2 || is(SERVES_MISSED);
+    bool is_between = is_row && offset_us < next_us && !is(LEAVES_HOLES);
+    if (!r->announces || (!is_between && offset_us > SECOND_US + s->bound_us)) return false;
     *stamp = (irig_stamp){r->day, r->sod, offset_us, s->bound_us};
     return true;
 }
 
 static uint32_t stamp(uint32_t time_us, irig_stamp *stamp) {
-    bool is_there = stamp_by(&k.last, time_us, stamp) || stamp_by(&k.before, time_us, stamp);
+    uint32_t next_us = k.last.report.announces ? k.last.edge_us - k.before.edge_us : 0;
+    bool is_there =
+        stamp_by(&k.last, 0, time_us, stamp) || stamp_by(&k.before, next_us, time_us, stamp);
     return is_there ? IRIG_DONE : IRIG_FAULT_VALUE;
 }
 
@@ -252,7 +288,8 @@ static void restart(void) {
     memset(&k.reader.state, 0, sizeof k.reader.state);
     for (int i = 0; i < 5; i++) k.line[i].sync.was_marker = 1;
     k.has_edge = k.has_edge && is(KEEPS_ITS_EDGE);
-    k.moved = k.bound_us = 0;
+    k.moved = k.bound_us = k.strays = 0;
+    k.is_known = false;
     memset(&k.last, 0, sizeof k.last);
     memset(&k.before, 0, sizeof k.before);
 }

@@ -25,6 +25,7 @@ static void plan_setup(life *l, chance *luck) {
     l->sky.lines = kind == 0 ? 3 : kind == 1 ? 5 : 1;
     l->world.within_us = (uint32_t)ONE_OF(luck, 450, 450, 450, 50, 10, 1);
     if (is_once_in(luck, 8)) l->world.within_us = 1 + below(luck, 450);
+    if (l->only_within_us > 0) l->world.within_us = l->only_within_us;
     l->world.drift_us = (uint32_t)ONE_OF(luck, 0, 1, 10, 100, 100);
     uint32_t most = l->world.drift_us ? 490000 / l->world.drift_us - 2 : 1000000;
     uint32_t holdover = (uint32_t)ONE_OF(luck, 0, 1, 5, 20, 60, 300, 1000000);

@@ -447,6 +447,135 @@ static bool heals_by_a_jump(life *l, const subject *s) {
                           s->stamp(edge_us + 1000, &at) == IRIG_FAULT_VALUE));
 }
 
+/* ---- votes that contradict those before them, since something is not as the device was told */
+
+enum { CHANGES = 40 }; /* the edge from which on it is not */
+
+/* Three lines within 1 us of their time, and more of this world than order is not judged. */
+static void begin_straying(life *l, uint32_t seconds, uint32_t drift_us) {
+    begin_drifting(l, CHANGES + seconds, drift_us);
+    l->judge.is_beyond = true;
+    for (uint8_t line = 1; line <= 2 && jitter > 0; line++) send(l, line, line == 1 ? -1 : 1, NOMINAL);
+}
+
+/* How many strays are told at an edge; more than there can be, if nothing is. */
+static uint32_t strays_at(const life *l, uint32_t edge) {
+    const entry *e = entry_at(l, edge);
+    return e ? e->second.strays : UINT32_MAX;
+}
+
+/* Plays it. None are told up to the change, and some so many seconds later. */
+static bool strays_within(life *l, const subject *s, uint32_t seconds) {
+    return goes_right(l, s) && strays_at(l, CHANGES) == 0 && has_vote(l, CHANGES) &&
+           strays_at(l, CHANGES + seconds) > 0 && strays_at(l, CHANGES + seconds) < UINT32_MAX;
+}
+
+/* Votes of lines that end together are told within so much of their true edge, and a little less if
+ * nothing drifts. */
+static uint32_t together_us(void) { return (uint32_t)jitter + 1; }
+
+/* The counter runs so much faster than it may, from an edge on: two votes lie that much apart in each
+ * second between. */
+static bool drifts_too_fast(life *l, const subject *s, uint32_t drift_us, uint32_t more_us) {
+    uint32_t seconds = 2 * together_us() / more_us + 1, rate_us = drift_us + more_us;
+    for (int32_t sign = -1; sign <= 1; sign += 2) {
+        begin_straying(l, seconds + 1, drift_us);
+        for (uint32_t n = 0; n <= l->world.seconds + 2; n++)
+            set_edge(&l->world, n, n > CHANGES ? sign * (int64_t)((n - CHANGES) * rate_us) : 0);
+        if (!strays_within(l, s, seconds) || strays_at(l, CHANGES + seconds - 1) != 0) return false;
+    }
+    return true;
+}
+
+/* By 150 millionths where 100 may be: within 60 s at 450 us, and 5 s at 50. */
+static bool counter_of_another_kind(life *l, const subject *s) {
+    return 2 * together_us() / 50 + 1 <= (jitter > 49 ? 60 : 5) && drifts_too_fast(l, s, 100, 50);
+}
+
+/* By 20 where 1 may be: within 60 s at 450 us, and 5 s at 10. */
+static bool counter_that_was_good(life *l, const subject *s) {
+    return 2 * together_us() / 19 + 1 <= (jitter > 49 ? 60 : jitter > 9 ? 10 : 5) &&
+           drifts_too_fast(l, s, 1, 19);
+}
+
+/* Two of three lines tell the truth, but from just behind an edge on they are so far off, or further
+ * in each second. */
+static void two_go_astray(life *l, aim aim, int32_t by_us) {
+    for (uint8_t line = 1; line <= 2; line++) {
+        lie *told = add_lie(l, line, CHANGES, l->world.seconds, 0);
+        told->aim = aim;
+        told->shift_us = aim == SHIFTED ? by_us : 0;
+        told->rate_us = by_us;
+        told->from_us = l->world.edge_us[CHANGES] + 9000;
+        told->to_us += 400000;
+    }
+}
+
+/* They step by 300 ms at once: the next vote contradicts those before it, and those behind it do
+ * not. Where they are late, it moves the edge that was told without them. */
+static bool lines_step(life *l, const subject *s) {
+    for (int32_t by_us = -300000; by_us <= 300000; by_us += 600000) {
+        begin_straying(l, 9, 100);
+        two_go_astray(l, SHIFTED, by_us);
+        if (!goes_right(l, s)) return false;
+        uint32_t votes = 0, moves = 0;
+        for (int i = CHANGES; i < l->tolds; i++) {
+            const irig_second *told = &l->told[i].second;
+            moves += told->moved;
+            votes += told->report.agreed != 0 || told->moved > 0;
+            if (told->strays != (votes > 0)) return false;
+        }
+        if (votes < 5 || moves != (by_us > 0)) return false;
+    }
+    return true;
+}
+
+/* They walk by 900 us a second, so that no step is larger than lines of 450 us may lie apart. */
+static bool lines_walk(life *l, const subject *s) {
+    begin_straying(l, 9, 100);
+    two_go_astray(l, WALKING, 900);
+    if (!goes_right(l, s) || strays_at(l, CHANGES) != 0) return false;
+    for (int i = CHANGES; i < CHANGES + 5 && i < l->tolds; i++)
+        if (l->told[i].second.strays > 0) return true;
+    return false;
+}
+
+/* A turn of a timer of 16 bits is lost, in a second in which no frame is heard: of the next vote. */
+static bool counter_loses_a_turn(life *l, const subject *s) {
+    begin_straying(l, 9, 100);
+    for (uint32_t n = CHANGES + 1; n <= l->world.seconds + 2; n++)
+        set_edge(&l->world, n, -(INT64_C(1) << 16));
+    darken(l, CHANGES, CHANGES + 1, ALL);
+    return goes_right(l, s) && has_vote(l, CHANGES) && strays_at(l, CHANGES) == 0 &&
+           has_vote(l, CHANGES + 2) && strays_at(l, CHANGES + 2) == 1 &&
+           strays_at(l, CHANGES + 9) == 1;
+}
+
+/* All lines go to another second at once: where seconds begin, they agree with all votes before. That is
+ * a jump, and no stray. */
+static bool lines_step_by_a_second(life *l, const subject *s) {
+    begin_straying(l, 9, 100);
+    for (uint8_t line = 0; line < 3; line++)
+        add_lie(l, line, CHANGES, CHANGES + 9, 1)->to_us += 40000;
+    if (!goes_right(l, s)) return false;
+    const entry *last = entry_at(l, CHANGES + 9), *jump = entry_at(l, CHANGES + 1);
+    return jump && jump->second.report.cause == IRIG_CAUSE_JUMP && last &&
+           last->second.report.announces && last->second.strays == 0;
+}
+
+/* The quality of a bound, by tens: of the library, for whichever subject. */
+static bool quality_of_a_bound(life *l, const subject *s) {
+    static const uint8_t QUALITIES[] = {4, 5, 6, 7, 8, 9, 10, 15};
+    uint32_t most_us = 1;
+    (void)s;
+    begin_row(l, 1);
+    for (size_t i = 0; i + 1 < sizeof QUALITIES; i++, most_us *= 10)
+        if (irig_quality_of(most_us) != QUALITIES[i] ||
+            irig_quality_of(most_us + 1) != QUALITIES[i + 1])
+            return false;
+    return irig_quality_of(0) == 4 && irig_quality_of(UINT32_MAX) == 15;
+}
+
 /* A device of one line is switched on in the middle of a frame, and the first pulses that it hears
  * are false. A hundred places later no frame has ended. */
 static bool switched_on_in_a_frame(life *l, const subject *s) {
@@ -620,10 +749,10 @@ static bool stamps_last(const life *l, const subject *s) {
     if (!s->stamp) return true;
     bool is_stamped = s->stamp(edge_us + 250000, &at) == IRIG_DONE && at.day == 6210 &&
                       at.sod == 249 && at.offset_us == 250000 && at.bound_us == voted_us();
-    /* Of the second before it, which is 100 us longer than a million. */
+    /* Of the second before it, which is 100 us longer than a million, whatever its bound. */
     bool is_before = s->stamp(edge_us - 1, &before) == IRIG_DONE && before.sod == 248 &&
                      before.offset_us == 1000099 && before.bound_us == voted_us();
-    return is_stamped && is_before == (voted_us() >= 99) &&
+    return is_stamped && is_before &&
            s->stamp(last_us, &last) == IRIG_DONE && last.sod == 249 &&
            s->stamp(last_us + 1, &behind) == IRIG_FAULT_VALUE;
 }
@@ -688,6 +817,13 @@ static const struct {
     {"half a second off", half_a_second_off, 0, OF_ALL},
     {"a liar beside a late clock", liar_beside_a_late_clock, 0, OF_ALL},
     {"heals by a jump", heals_by_a_jump, 0, OF_ALL},
+    {"a counter of another kind", counter_of_another_kind, 0, OF_ALL},
+    {"a counter that was good", counter_that_was_good, 0, OF_ALL},
+    {"lines step", lines_step, 0, OF_ALL},
+    {"lines walk", lines_walk, 0, OF_ALL},
+    {"a counter loses a turn", counter_loses_a_turn, 0, OF_ALL},
+    {"lines step by a second", lines_step_by_a_second, 0, OF_ALL},
+    {"the quality of a bound", quality_of_a_bound, 0, OF_ALL},
     {"switched on in a frame", switched_on_in_a_frame, 0, OF_ALL},
     {"a frame of a turn ago", frame_of_a_turn_ago, 0, OF_ALL},
     {"halves a turn apart", halves_a_turn_apart, 0, OF_ALL},

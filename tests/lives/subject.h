@@ -50,7 +50,13 @@ enum { DIFFERS = 200 }; /* what a subject answers where two have to answer alike
     X(BOUNDS_LITTLE)   /* its bound leaves out how far the ends lie apart, */                      \
     X(BOUNDS_STEADILY) /* or the drift in an element, */                                           \
     X(BOUNDS_FOREVER)  /* or that of the seconds since a vote */                                   \
-    X(SERVES_ON)       /* what was announced before a jump is still stamped by */
+    X(SERVES_ON)       /* what was announced before a jump is still stamped by, */                 \
+    X(SERVES_MISSED)   /* or what was, behind which seconds were missed */                         \
+    X(LEAVES_HOLES)    /* an event just before the edge told last may have no stamp */             \
+    X(CUTS_NEVER)      /* what it knows by all votes is not cut by the next one, */                \
+    X(KNOWS_THE_LAST)  /* or is forgotten at the next one, */                                      \
+    X(KNOWS_STEADILY)  /* or does not grow by the drift */                                         \
+    X(STRAYS_FOREVER)  /* or does not begin anew with a vote that contradicts it */
 
 #define NUMBER_OF(wrong) wrong,
 typedef enum wrong { EACH_WRONG(NUMBER_OF) WRONGS } wrong;

@@ -14,6 +14,7 @@ STUCK = 500_000  # what is as wide is no pulse
 BEFORE = 1_000  # what ends longer before the first of those that agree has no part in a vote
 KEPT = 100_000  # how long a line keeps a frame behind its end
 COUNTED = 5_000  # how long behind its edge the counter alone counts a second
+LONGEST = 980_000  # what is known of an edge is forgotten if it is longer
 
 
 def since(earlier: int, later: int) -> int:
@@ -142,6 +143,7 @@ class Device:
         self.lines = [Line() for _ in range(self.redundancy)]
         self.reader, self.edge, self.voted, self.moved = IDLE, None, 0, 0  # `voted` is the bound of the last vote
         self.last, self.before = None, None  # what was announced at the last told edge, and at the one before
+        self.known, self.strays = None, 0  # how far behind `edge` the true one lies by all votes: at least, at most
 
     def hear(self, line: int, rise: int, width: int) -> int:
         """The place of a pulse in its frame."""
@@ -178,10 +180,33 @@ class Device:
         for line in self.lines:
             line.frame = None
         self.voted = agreed.bound
-        if seconds := 1 if self.edge is None else (since(self.edge, agreed.edge) + SECOND // 2) % WRAP // SECOND:
+        self.know(agreed)
+        if seconds := self.seconds_to(agreed):
             return self.count(seconds, agreed, told)
         self.edge, self.moved = agreed.edge, self.moved + 1
         return None
+
+    def seconds_to(self, vote: Vote) -> int:
+        """How many seconds have come by the edge of a vote."""
+        return 1 if self.edge is None else (since(self.edge, vote.edge) + SECOND // 2) % WRAP // SECOND
+
+    def carry(self, seconds: int, shift: int) -> None:
+        """What is known so many seconds later, of an edge so much further behind than by these seconds."""
+        if self.known:
+            drift, (least, most) = self.drift * seconds, self.known
+            self.known = least - drift - shift, most + drift - shift
+            if self.known[1] - self.known[0] > LONGEST:
+                self.known = None
+
+    def know(self, vote: Vote) -> None:
+        """A vote cuts what is known, or contradicts it: then what it says is all that is known."""
+        if self.edge is not None:
+            seconds = self.seconds_to(vote)
+            self.carry(seconds, off(vote.edge, self.edge + SECOND * seconds))
+        least, most = self.known or (-vote.bound, vote.bound)
+        self.known = max(least, -vote.bound), min(most, vote.bound)
+        if self.known[0] > self.known[1]:
+            self.known, self.strays = (-vote.bound, vote.bound), self.strays + 1
 
     def seconds_alone(self, now: int) -> int:
         """How many seconds have come by the counter alone."""
@@ -193,6 +218,8 @@ class Device:
         """The rule of the reader over the seconds that were missed, and one more."""
         if seconds == 0:
             return None
+        if agreed is None:
+            self.carry(seconds, 0)
         for _ in range(seconds - 1):
             self.reader, _ = after_tick(self.reader_rules, self.table, self.reader, None)
         vote = agreed and agreed.claim
@@ -219,8 +246,10 @@ class Device:
         return since(now, due) if lies_ahead(due, now) else 0
 
     def stamp(self, time: int) -> Stamp | None:
-        """The time of an event, by the last told edge or the one before, if that second was announced."""
-        for known in (self.last, self.before):
-            if known and since(known.edge, time) <= SECOND + known.bound:
-                return Stamp(known.second, since(known.edge, time), known.bound)
+        """The time of an event, by the last told edge or the one before, if that second was announced. The one before
+        serves up to the last one's edge, if there is no second between."""
+        row = since(self.before.edge, self.last.edge) if self.last and self.before else 0
+        for known, next_edge in ((self.last, 0), (self.before, row if row < SECOND + SECOND // 2 else 0)):
+            if known and ((offset := since(known.edge, time)) <= SECOND + known.bound or offset < next_edge):
+                return Stamp(known.second, offset, known.bound)
         return None

@@ -30,11 +30,12 @@ use Rattle.irig_timekeeper.specs.Edges.{IsQuartz}
 use Rattle.irig_timekeeper.specs.Lines.{IsLineOf, IsTrueLately, line_of}
 use Rattle.irig_timekeeper.specs.Keeping.{Keeping, new_keeping, vote_at, answer_at, stamp_at}
 use Rattle.irig_timekeeper.specs.Truth.{IsDevice, IsToldInHoldover, IsStampedTruly}
-use Rattle.irig_timekeeper.specs.Life.{Call, AreInOrder, AreTrueAtTicks, after_calls}
+use Rattle.irig_timekeeper.specs.Life.{Call, Made, life_of, AreInOrder, AreTrueAtTicks, after_calls}
 use Rattle.irig_timekeeper.specs.Life.Call.{Hear, Tick}
 use Rattle.irig_timekeeper.proofs.LineLaws.{true_lately}
 use Rattle.irig_timekeeper.proofs.LifeLaws.{TellAlwaysTruly, device_true}
 use Rattle.irig_timekeeper.proofs.StampLaws.{stamped}
+use Rattle.irig_timekeeper.proofs.StrayLaws.{never_strays}
 use Rattle.irig_lives.proofs.SentLines.{sent_is_checked, checked_is_line}
 use Rattle.irig_lives.proofs.LifeFacts.{at, noon, no_table, is_device, rules, claim_of, new_lines, are_new, silence, frame_0, frame_1, frame_2, told_0, told_1, true_claim, width_of}
 use Rattle.irig_lives.specs.Decided.{is_after, have_risen, in_order, is_same, is_pulse_of, last_before, are_lately, are_true_lately, are_true_at_ticks}
@@ -180,6 +181,19 @@ stamp_true : IsStampedTruly noon edges 0 3250001 stamp
 stamp_true =
     stamped None rules clock no_table new_lines 900000 are_new noon edges 0 0 0 by_counter (omega arith) (omega arith) (IsTrueLately 10 rules noon edges) (omega arith) truly
     (Tick now_2 ∷ calls_2) 3250001 asked order.1 truth.1 (omega arith) (omega arith) stamp stamp_is
+
+-- the first vote leaves 20 us, from 1,999,990 on; a second later, by a counter that runs 1 us a second
+-- wrong, 22 us from 2,999,989 on, of which the second vote, with 38 us from 2,999,982 on, cuts nothing
+known : (after_calls (device clock) (Tick now_2 ∷ calls_2)).state.interval ≡ Some (record { begin_us = 2999989; long_us = 22 })
+unfolding calls_2 elements with_element with_tick width_of frames lies lie step_of told_of frame_told coded_told ones values_of field_at control_of offset_in utc_minute is_month_end four_years
+known = refl
+
+made : Made
+made = record { limits = None; rules = rules; clock = clock; table = no_table; lines = new_lines; fresh = are_new }
+
+no_stray : (life_of made (Tick now_2 ∷ calls_2)).state.strays ≡ 0
+unfolding made
+no_stray = never_strays (IsTrueLately 10) noon edges made 900000 (Tick now_2 ∷ calls_2) (record { is = by_counter; order = order.1.3; truth = truth.1 }) truly
 
 -- ---- what that exactness asks
 

@@ -49,11 +49,12 @@ use Rattle.irig_timekeeper.specs.Lines.{IsLineOf, IsTrueLately}
 use Rattle.irig_timekeeper.specs.Steps.{IsNewLine, AreNewLines}
 use Rattle.irig_timekeeper.specs.Keeping.{Keeping, new_keeping, restarted, after_pulse, after_tick, vote_at, answer_at, stamp_at}
 use Rattle.irig_timekeeper.specs.Truth.{IsDevice, IsToldInHoldover, IsLaterSecond}
-use Rattle.irig_timekeeper.specs.Life.{Call, Made, AreTrueLately, last_tick, AreInOrder, AreTrueAtTicks, after_calls}
+use Rattle.irig_timekeeper.specs.Life.{Made, life_of, Call, Made, AreTrueLately, last_tick, AreInOrder, AreTrueAtTicks, after_calls}
 use Rattle.irig_timekeeper.specs.Life.Call.{Hear, Tick}
 use Rattle.irig_timekeeper.specs.Healing.{HasHealed}
 use Rattle.irig_timekeeper.proofs.LineLaws.{true_lately}
 use Rattle.irig_timekeeper.proofs.LifeLaws.{TellAlwaysTruly, device_true, device_in_order}
+use Rattle.irig_timekeeper.proofs.StrayLaws.{never_strays}
 use Rattle.irig_lives.specs.Decided.{is_after, have_risen, in_order, is_same, is_pulse_of, last_before, are_lately, are_true_lately, are_true_at_ticks}
 use Rattle.irig_lives.proofs.DecidedLaws.{both, order_is, truly_is}
 
@@ -334,6 +335,15 @@ truly_told now end pulses claim is frame soon = true_lately (within_of 450) rule
 
 told_4 : IsToldInHoldover noon edges 0 0 450 100 100 now_4 beat_4 (at 43204)
 told_4 = device_true None rules clock no_table new_lines 4293400000 are_new (IsTrueLately 450 rules noon edges) noon edges 0 0 is_device (omega arith) truly_told (Tick now_3 ∷ calls_3) now_4 beat_4 (at 43204) order_4 truth_4 answer_4 refl
+
+-- the vote of the tick before leaves 1,700 us, from 851 us before the edge on, and a second later the
+-- counter's drift 100 us more at each end; no vote contradicted another
+made_450 : Made
+made_450 = record { limits = None; rules = rules; clock = clock; table = no_table; lines = new_lines; fresh = are_new }
+
+no_stray : (life_of made_450 (Tick now_4 ∷ (Tick now_3 ∷ calls_3))).state.strays ≡ 0
+unfolding made_450
+no_stray = never_strays (IsTrueLately 450) noon edges made_450 4293400000 (Tick now_4 ∷ (Tick now_3 ∷ calls_3)) (record { is = is_device; order = order_4; truth = truth_4 }) truly_told
 
 later_4 : IsLaterSecond noon (at 43203) (at 43204)
 later_4 = device_in_order None rules clock no_table new_lines 4293400000 are_new (IsTrueLately 450 rules noon edges) noon edges 0 0 is_device (omega arith) truly_told calls_3 [] now_3 now_4 beat_3 beat_4 (at 43203) (at 43204) order_4 truth_4 answer_3 refl answer_4 refl

@@ -18,7 +18,7 @@ abbrev pub window_us : ℕ → ℕ
 window_us within = 2 * (within - 1)
 
 -- the frame of a true line ends at most this far from its edge, by a counter that runs d us a second
--- wrong: it is told an element before it ends
+-- wrong: its end is 10 ms behind its last pulse, and the last element may be longer or shorter
 abbrev pub end_off_us : ℕ → ℕ → ℕ
 end_off_us within d = within - 1 + element_drift d
 

@@ -209,8 +209,8 @@ ending_from window f x all [] so_far = so_far
 ending_from window f x all (y ∷ ys) so_far =
     ending_from window f x all ys (later_end window f x all y so_far)
 
--- an edge that lies in the middle of these two times behind this frame's end, each of which at most
--- f untrue lines can have moved off by more than a true line is
+-- the edge in the middle of these two times behind this frame's end: it lies no further behind the one,
+-- nor before the other, than the frame of a true line may end off its edge
 abbrev pub vote_between : (within d : ℕ) → KeptClaim → (from by : ℕ) → Vote
 vote_between within d x from by = record {
   claim = x.claim;

@@ -3,7 +3,7 @@
 ghost use Rattle.std.specs.Prelude.{◌≡◌, ◌≤◌, ◌<◌, ◌-◌, None, IfSome, count_by};
 ghost use Rattle.irig_vote.specs.Vote.{f_of};
 ghost use Rattle.irig_timekeeper.specs.Exactness.{most_drift_us, most_vote_us, window_us};
-ghost use Rattle.irig_timekeeper.specs.Steps.{is_pulse, line_at, with_line, still_kept, line_settled, settled, taken, frame_tells, tells_of, claim_kept, all_kept, agrees, is_candidate, earlier, first_candidate, place_behind, ends_by, ends_from, end_behind, earlier_end, ended_by, later_end, ending_from, vote_between, agreed, if_come, IsNewLine, AreNewLines, until, wait_by};
+ghost use Rattle.irig_timekeeper.specs.Steps.{is_pulse, line_at, with_line, still_kept, line_settled, settled, taken, frame_tells, tells_of, claim_kept, all_kept, agrees, is_candidate, earlier, first_candidate, place_behind, ends_by, ends_from, end_behind, earlier_end, ended_by, later_end, ending_from, vote_between, vote_with, agreed, if_come, IsNewLine, AreNewLines, until, wait_by};
 
 use crate::counting::{has_come, is_late};
 use crate::setup::ClockRules;
@@ -207,21 +207,30 @@ pub fn agreed(rules: &ClockRules, lines: &Lines) -> Option<Vote>
     ensures value { result ≡ agreed rules.now lines.now }
     ensures small { IfSome result (λ vote. vote.bound_us ≤ most_vote_us) }
 {
-    let all = [
-        claim_kept(lines.a.frame),
-        claim_kept(lines.b.frame),
-        claim_kept(lines.c.frame),
-        claim_kept(lines.d.frame),
-        claim_kept(lines.e.frame),
-    ];
+    vote_of(
+        rules,
+        &[
+            claim_kept(lines.a.frame),
+            claim_kept(lines.b.frame),
+            claim_kept(lines.c.frame),
+            claim_kept(lines.d.frame),
+            claim_kept(lines.e.frame),
+        ],
+    )
+}
+
+// The edge on which f + 1 of these frames agree.
+fn vote_of(rules: &ClockRules, all: &[Option<KeptClaim>]) -> Option<Vote>
+    requires { rules.now.drift_us ≤ most_drift_us }
+    ensures value { result ≡ vote_with rules.now.within.us rules.now.drift_us
+        (f_of rules.now.redundancy) all.now (first_candidate (window_us rules.now.within.us)
+        (f_of rules.now.redundancy) all.now all.now None) }
+    ensures small { IfSome result (λ vote. vote.bound_us ≤ most_vote_us) }
+{
     let window_us = 2 * (rules.within.us() - 1);
     let f = rules.redundancy.f();
-    match first_candidate(window_us, f, &all) {
-        Some(first) => Some(vote_between(
-            rules,
-            first,
-            narrowed_by_all(window_us, f, &first, &all),
-        )),
+    match first_candidate(window_us, f, all) {
+        Some(first) => Some(vote_between(rules, first, narrowed_by_all(window_us, f, &first, all))),
         None => None,
     }
 }
